@@ -1,0 +1,4 @@
+pub mod Cuts
+pub mod LinesRead
+pub mod Places
+pub mod Tallies

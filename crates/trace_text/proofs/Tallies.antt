@@ -1,0 +1,109 @@
+-- What a pass over the commands counts.
+use Rattle.std.proofs.Common.{Bool, true, false, cond, ◌≡◌, ℕ, ◌+◌, ◌*◌, ◌<◌, ◌≤◌, ◌==◌, ◌&&◌, max, if◌then◌else◌, List, [], ◌∷◌, ◌++◌, length, take, drop, get_or, length-append, arith, refl, ap, ◌∙◌}
+use Rattle.std.specs.List.{All, count_by, sum_by, fold}
+use Rattle.std.proofs.lemmas.List.{length-take-le, length-drop, map-append, take_more}
+use Rattle.std.proofs.lemmas.List.Sums.{sum_by-append, fold-append}
+use mir.Val.{bool_byte}
+use Rattle.std.proofs.lemmas.Bool.Decides.{nat_tests}
+use Rattle.std.specs.Ordering.{nat_cmp, ord_max}
+use native.Mathlib.Nat.{mul-add}
+use Rattle.trace_text.specs.declared.command.Command.{Command}
+use Rattle.trace_text.specs.Found.{LiesWithin}
+use Rattle.trace_text.specs.Operation.{Operation, operation, operations, part}
+use Rattle.trace_text.specs.Parts.{is_scan, is_put, is_get, owner, origin, has_part, own_parts, here_parts, here_puts, greatest_value}
+
+-- what a pass over these operations counts, with bounds
+pub record Tallied (trace : List Operation) (n s own here puts gets scans greatest : ℕ) : Type 0 where
+  pub own_is : own ≡ own_parts trace n s
+  pub here_is : here ≡ here_parts trace n s
+  pub puts_is : puts ≡ here_puts trace n s
+  pub gets_is : gets ≡ count_by (λ operation. is_get operation.kind && origin operation.number n == s) trace
+  pub scans_is : scans ≡ count_by (λ operation. is_scan operation.kind && origin operation.number n == s) trace
+  pub greatest_is : greatest ≡ greatest_value trace
+  pub own_most : own ≤ n * length trace
+  pub here_most : here ≤ length trace
+  pub puts_most : puts ≤ length trace
+  pub gets_most : gets ≤ length trace
+  pub scans_most : scans ≤ length trace
+  pub greatest_most : greatest ≤ 12000
+
+-- the share of one operation in the parts that a shard issues
+abbrev pub own_share : Operation → ℕ → ℕ → ℕ
+own_share operation n s = if origin operation.number n == s then (if is_scan operation.kind then n else 1) else 0
+
+abbrev pub one_if : Bool → ℕ
+one_if b = if b then 1 else 0
+
+sum_by-push : (f : Operation → ℕ) (trace : List Operation) (operation : Operation)
+    → sum_by f trace + f operation ≡ sum_by f (trace ++ operation ∷ [])
+sum_by-push f trace operation = rw (sum_by-append f trace (operation ∷ [])) (omega arith)
+
+count_by-push : (p : Operation → Bool) (trace : List Operation) (operation : Operation)
+    → count_by p trace + one_if (p operation) ≡ count_by p (trace ++ operation ∷ [])
+count_by-push p trace operation = sum_by-push (λ o. cond (p o) 1 0) trace operation
+
+one_if-le : (b : Bool) → one_if b ≤ 1
+one_if-le true = omega arith
+one_if-le false = omega arith
+
+own_share-le : (a b : Bool) (n : ℕ) → 1 ≤ n → cond a (cond b n 1) 0 ≤ n
+own_share-le true true n h = omega arith
+own_share-le true false n h = h
+own_share-le false b n h = omega arith
+
+pub bool_byte-one_if : (b : Bool) → bool_byte b ≡ one_if b
+bool_byte-one_if true = refl
+bool_byte-one_if false = refl
+
+pub ord_max-max : (m n : ℕ) → ord_max nat_cmp m n ≡ max m n
+ord_max-max m n = grind (arith, nat_tests)
+
+-- one operation more
+pub tallied_more : (trace : List Operation) (n s own here puts gets scans greatest : ℕ) (operation : Operation)
+    → 1 ≤ n → length operation.value ≤ 12000 → Tallied trace n s own here puts gets scans greatest
+    → Tallied (trace ++ operation ∷ []) n s
+    (own + own_share operation n s)
+    (here + one_if (has_part n s operation))
+    (puts + one_if (is_put operation.kind && owner operation.key n == s))
+    (gets + one_if (is_get operation.kind && origin operation.number n == s))
+    (scans + one_if (is_scan operation.kind && origin operation.number n == s))
+    (max greatest (length operation.value))
+tallied_more trace n s own here puts gets scans greatest operation some small so_far =
+    let longer : length (trace ++ operation ∷ []) ≡ length trace + 1 = rw length-append refl in
+    let is_own = origin operation.number n == s in
+    record {
+      own_is = rw so_far.own_is (sum_by-push (λ o. own_share o n s) trace operation);
+      here_is = rw so_far.here_is (count_by-push (has_part n s) trace operation);
+      puts_is = rw so_far.puts_is (count_by-push (λ o. is_put o.kind && owner o.key n == s) trace operation);
+      gets_is = rw so_far.gets_is (count_by-push (λ o. is_get o.kind && origin o.number n == s) trace operation);
+      scans_is = rw so_far.scans_is (count_by-push (λ o. is_scan o.kind && origin o.number n == s) trace operation);
+      greatest_is = rw fold-append (rw so_far.greatest_is refl);
+      own_most = rw (longer, mul-add) (omega (arith, own_share-le is_own (is_scan operation.kind) n some));
+      here_most = omega (arith, one_if-le (has_part n s operation));
+      puts_most = omega (arith, one_if-le (is_put operation.kind && owner operation.key n == s));
+      gets_most = omega (arith, one_if-le (is_get operation.kind && is_own));
+      scans_most = omega (arith, one_if-le (is_scan operation.kind && is_own));
+      greatest_most = omega arith;
+    }
+
+-- one command of the list more
+pub tallied_at : (bytes : List ℕ) (commands : List Command) (i : ℕ) (d : Command) (n s own here puts gets scans greatest : ℕ)
+    (a b c e f g : ℕ) → i < length commands → 1 ≤ n → All (LiesWithin bytes) commands
+    → Tallied (operations bytes (take i commands)) n s own here puts gets scans greatest
+    → a ≡ own_share (operation bytes (get_or commands i d)) n s
+    → b ≡ one_if (has_part n s (operation bytes (get_or commands i d)))
+    → c ≡ one_if (is_put (get_or commands i d).kind && owner (part bytes (get_or commands i d).key) n == s)
+    → e ≡ one_if (is_get (get_or commands i d).kind && origin (get_or commands i d).number n == s)
+    → f ≡ one_if (is_scan (get_or commands i d).kind && origin (get_or commands i d).number n == s)
+    → g ≡ max greatest (get_or commands i d).value.len
+    → Tallied (operations bytes (take (i + 1) commands)) n s (own + a) (here + b) (puts + c) (gets + e) (scans + f) g
+tallied_at bytes commands i d n s own here puts gets scans greatest a b c e f g within some lie so_far a_is b_is c_is e_is f_is g_is =
+    let command = get_or commands i d in
+    let lies : LiesWithin bytes command = lie i d within in
+    let room : command.value.len ≤ length (drop command.value.start bytes) = rw length-drop (let within = lies.value in omega arith) in
+    let len : length (part bytes command.value) ≡ command.value.len = length-take-le command.value.len (drop command.value.start bytes) room in
+    let small : length (part bytes command.value) ≤ 12000 = rw len lies.value_len in
+    let more : operations bytes (take (i + 1) commands) ≡ operations bytes (take i commands) ++ operation bytes command ∷ [] =
+    ap (operations bytes) (take_more commands i d within) ∙ map-append (operation bytes) (take i commands) (command ∷ []) in
+    rw (more, a_is, b_is, c_is, e_is, f_is, g_is)
+    (rw len at (tallied_more (operations bytes (take i commands)) n s own here puts gets scans greatest (operation bytes command) some small so_far))

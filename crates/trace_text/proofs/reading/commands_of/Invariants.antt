@@ -1,0 +1,11 @@
+-- The commands so far, and the lines that are left, are those of the whole.
+use Rattle.std.proofs.Common.{ℕ, length}
+use Rattle.trace_text.specs.Found.{IsRestOf}
+use Rattle.trace_text.proofs.LinesRead.{Reads}
+use Rattle.trace_text.proofs.reading.commands_of.Given as goal
+
+abbrev pub invariant-loop-rest : goal.invariant-loop-rest
+invariant-loop-rest l = Reads l.bytes l.commands.items l.rest l.line
+
+abbrev pub decreases-loop-rest : goal.decreases-loop-rest
+decreases-loop-rest l = length l.rest

@@ -1,0 +1,32 @@
+-- What contracts see of a trace that was read.
+use Rattle.std.specs.Prelude.{◌≡◌, ℕ, ◌+◌, ◌<◌, ◌≤◌, List, length, slice_index_or, Ok, All}
+use Rattle.trace_text.specs.declared.command.Command.{Command}
+use Rattle.trace_text.specs.Found.{LiesWithin}
+use Rattle.trace_text.specs.Operation.{Operation, operations}
+use Rattle.trace_text.specs.Reading.{trace_of}
+
+pub record Parsed : Type 0 where
+  pub bytes : List ℕ
+  pub commands : List Command
+  -- the number of shards that the trace was parsed for
+  pub shards : ℕ
+
+-- what the commands of a trace ask, in order
+abbrev pub trace_in : Parsed → List Operation
+trace_in trace = operations trace.bytes trace.commands
+
+-- commands are numbered from 1, in order
+abbrev pub AreNumbered : List Command → Type 0
+AreNumbered commands = (k : ℕ) (d : Command) → k < length commands → (slice_index_or commands k d).number ≡ k + 1
+
+-- the commands are those that the bytes spell
+pub record AreRead (bytes : List ℕ) (commands : List Command) : Type 0 where
+  pub read : trace_of bytes ≡ Ok (operations bytes commands)
+  pub numbered : AreNumbered commands
+  pub within : All (LiesWithin bytes) commands
+  pub few : length commands ≤ length bytes
+
+pub record IsParsed (trace : Parsed) : Type 0 where
+  pub read : AreRead trace.bytes trace.commands
+  pub short : length trace.bytes ≤ 65536
+  pub one_shard : trace.shards ≡ 1

@@ -1,0 +1,67 @@
+-- Where the parts of a command are done, and how many there are.
+use Rattle.std.specs.Prelude.{ℕ, ◌==◌, ◌+◌, ◌-◌, ◌*◌, ◌%◌, ◌^◌, ◌&&◌, Bool, true, false, List, map, filter, count_by, sum_by, fold, length, bit_xor, max, if◌then◌else◌}
+use Rattle.trace_text.specs.declared.command.Kind.{Kind}
+use Rattle.trace_text.specs.declared.command.Kind.TheVariants.{Put, Get, Erase, Scan}
+use Rattle.trace_text.specs.Operation.{Operation}
+
+-- FNV-1a of 64 bits: exclusive-or with the byte, then multiply
+abbrev pub hash : List ℕ → ℕ
+hash key = fold (λ h b. (bit_xor h b * 1099511628211) % 2 ^ 64) 14695981039346656037 key
+
+-- the shard that owns a key, of n shards
+abbrev pub owner : List ℕ → ℕ → ℕ
+owner key n = hash key % n
+
+-- the shard at which command number i is issued, of n shards
+abbrev pub origin : ℕ → ℕ → ℕ
+origin i n = (i - 1) % n
+
+-- a scan is done everywhere, another command at its key's owner
+abbrev pub is_scan : Kind → Bool
+is_scan Scan = true
+is_scan Put = false
+is_scan Get = false
+is_scan Erase = false
+
+abbrev pub is_put : Kind → Bool
+is_put Put = true
+is_put Get = false
+is_put Erase = false
+is_put Scan = false
+
+abbrev pub is_get : Kind → Bool
+is_get Get = true
+is_get Put = false
+is_get Erase = false
+is_get Scan = false
+
+abbrev pub has_part : ℕ → ℕ → Operation → Bool
+has_part n s operation = if is_scan operation.kind then true else owner operation.key n == s
+
+-- the numbers of the commands of origin o that have a part at shard s, rising
+abbrev pub parts : List Operation → ℕ → ℕ → ℕ → List ℕ
+parts trace n o s = map (λ operation. operation.number)
+    (filter (λ operation. origin operation.number n == o && has_part n s operation) trace)
+
+-- the parts that shard s issues: one for a command that it issues, and one for each shard where that is a scan
+abbrev pub own_parts : List Operation → ℕ → ℕ → ℕ
+own_parts trace n s = sum_by
+    (λ operation. if origin operation.number n == s then (if is_scan operation.kind then n else 1) else 0) trace
+
+-- the parts that are done at shard s
+abbrev pub here_parts : List Operation → ℕ → ℕ → ℕ
+here_parts trace n s = count_by (has_part n s) trace
+
+-- the puts whose key shard s owns
+abbrev pub here_puts : List Operation → ℕ → ℕ → ℕ
+here_puts trace n s = count_by (λ operation. is_put operation.kind && owner operation.key n == s) trace
+
+-- the greatest length of a put's value
+abbrev pub greatest_value : List Operation → ℕ
+greatest_value trace = fold (λ most operation. max most (length operation.value)) 0 trace
+
+-- room for the replies of what shard s issues: the greatest value for each get, and 8,272 bytes for each part of a scan
+abbrev pub reply_bytes : List Operation → ℕ → ℕ → ℕ
+reply_bytes trace n s =
+    count_by (λ operation. is_get operation.kind && origin operation.number n == s) trace * greatest_value trace
+    + count_by (λ operation. is_scan operation.kind && origin operation.number n == s) trace * (n * 8272)

@@ -1,0 +1,60 @@
+//! A trace that was read.
+ghost use Rattle.std.specs.Prelude.{◌≡◌, ◌≤◌, length, All, Ok, Contains};
+ghost use Rattle.trace_text.specs.Found.{LiesWithin};
+ghost use Rattle.trace_text.specs.Operation.{part};
+ghost use Rattle.trace_text.specs.Parsed.{trace_in, AreNumbered};
+ghost use Rattle.trace_text.specs.Reading.{trace_of};
+
+use crate::command::Command;
+use std::marker::Model;
+
+/// The commands of a trace, with its bytes. Contracts see the bytes, the commands, and the number of
+/// shards that the trace was parsed for.
+#[derive(Drop)]
+pub struct Trace {
+    pub(crate) bytes: Vec<u8>,
+    pub(crate) commands: Vec<Command>,
+    pub(crate) shards: u32,
+}
+
+impl Model for Trace {
+    ghost use Rattle.trace_text.specs.Parsed.{Parsed, IsParsed};
+
+    ghost Value = { Parsed };
+
+    ghost view = { λ t. record { bytes = t.bytes.items; commands = t.commands.items; shards = t.shards } };
+
+    ghost invariant = { λ t. IsParsed (record { bytes = t.bytes.items; commands = t.commands.items; shards = t.shards }) };
+}
+
+impl Trace {
+    /// The commands, in order.
+    pub fn commands(&self) -> &[Command]
+        ensures value { result.now ≡ self.now.commands }
+        ensures read { trace_of self.now.bytes ≡ Ok (trace_in self.now) }
+        ensures numbered { AreNumbered result.now }
+        ensures lie { All (LiesWithin self.now.bytes) result.now }
+        ensures few { length result.now ≤ 65536 }
+        ensures one_shard { self.now.shards ≡ 1 }
+    {
+        self.commands.as_slice()
+    }
+
+    /// The bytes of a command's key. The command is of this trace.
+    pub fn key(&self, command: &Command) -> &[u8]
+        requires { Contains self.now.commands command.now }
+        ensures { result.now ≡ part self.now.bytes command.now.key }
+    {
+        let start = command.key.start as usize;
+        &self.bytes[start..start + command.key.len as usize]
+    }
+
+    /// The bytes of a command's value: of a put; else none. The command is of this trace.
+    pub fn value(&self, command: &Command) -> &[u8]
+        requires { Contains self.now.commands command.now }
+        ensures { result.now ≡ part self.now.bytes command.now.value }
+    {
+        let start = command.value.start as usize;
+        &self.bytes[start..start + command.value.len as usize]
+    }
+}

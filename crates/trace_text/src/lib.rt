@@ -1,0 +1,18 @@
+//! The trace: its bytes, the commands that they spell, and where the parts of a command are done.
+//!
+//! A trace is read once, by [`parse`]. A [`Trace`] keeps its bytes, and each [`Command`] says where its
+//! key and its value stand in them; no text is copied.
+#![tactic(auto)]
+
+mod command;
+mod held;
+mod line;
+mod parts;
+mod reading;
+mod refusal;
+
+pub use command::{Command, Kind, Span};
+pub use held::Trace;
+pub use parts::{Needs, origin_of, owner_of};
+pub use reading::parse;
+pub use refusal::{Cause, ParseRefusal};
