@@ -1,0 +1,76 @@
+-- Journals: which are legal, which are complete, and what was replied in them.
+use Rattle.std.specs.Prelude.{◌≡◌, ℕ, ◌==◌, ◌-◌, ◌<◌, ◌&&◌, nat_lt, Bool, true, false, List, [], ◌∷◌, ◌++◌, length, take, filter, find, filter_map, if◌then◌else◌, Option, Some, None, IsSome}
+use Rattle.std.specs.List.{list_any, before_first, last_or}
+use Rattle.std.specs.Option.{option_map, option_and_then}
+use Rattle.trace_text.specs.Operation.{Operation}
+use Rattle.trace_text.specs.Parts.{origin, parts}
+use Rattle.plain_cache.specs.declared.journal.Entry.{Entry}
+use Rattle.plain_cache.specs.declared.journal.Entry.TheVariants.{Done, Evicted}
+use Rattle.plain_cache.specs.Row.{Row, live, floor}
+use Rattle.plain_cache.specs.Apply.{Reply, apply}
+
+-- A journal is a list of entries: Done(i), a part of command i was done here; Evicted(q), the row of put q was
+-- evicted here. A trace is the list of its operations.
+
+abbrev pub command_of : List Operation → ℕ → Option Operation
+command_of trace i = find (λ operation. operation.number == i) trace
+
+-- the least recently used row is the last; it is the row of put q
+abbrev pub is_of_put : ℕ → Option Row → Bool
+is_of_put q None = false
+is_of_put q (Some row) = row.number == q
+
+-- Evicted(q) is possible exactly where the last row is that of put q and the live bytes exceed the floor
+abbrev pub can_evict : ℕ → ℕ → List Row → Bool
+can_evict pages q cache = is_of_put q (last_or None cache) && nat_lt (floor pages) (live cache)
+
+-- the cache behind an entry, where the entry is possible
+abbrev pub after : List Operation → ℕ → Entry → List Row → Option (List Row)
+after trace pages (Done i) cache = option_map (λ operation. (apply operation cache).0) (command_of trace i)
+after trace pages (Evicted q) cache = if can_evict pages q cache then Some (take (length cache - 1) cache) else None
+
+abbrev pub cache_from : List Operation → ℕ → List Row → List Entry → Option (List Row)
+cache_from trace pages cache [] = Some cache
+cache_from trace pages cache (entry ∷ entries) =
+    option_and_then (λ next. cache_from trace pages next entries) (after trace pages entry cache)
+
+-- the cache to which a journal leads, where each entry is possible in turn, from the empty cache on
+abbrev pub cache_after : List Operation → ℕ → List Entry → Option (List Row)
+cache_after trace pages journal = cache_from trace pages [] journal
+
+abbrev pub IsLegal : List Operation → ℕ → List Entry → Type 0
+IsLegal trace pages journal = IsSome (cache_after trace pages journal)
+
+-- the numbers of the Done entries, in order
+abbrev pub done_number : Entry → Option ℕ
+done_number (Done i) = Some i
+done_number (Evicted q) = None
+
+abbrev pub done : List Entry → List ℕ
+done journal = filter_map done_number journal
+
+-- A journal is complete for shard s of n where, for each origin, the parts done are exactly the parts that
+-- commands of this origin have at s, in their order.
+abbrev pub IsComplete : List Operation → ℕ → ℕ → List Entry → Type 0
+IsComplete trace n s journal = (o : ℕ) → o < n → filter (λ i. origin i n == o) (done journal) ≡ parts trace n o s
+
+-- each eviction stands where the live bytes exceed a bound
+abbrev pub EvictsAbove : List Operation → ℕ → ℕ → List Entry → Type 0
+EvictsAbove trace pages bound journal = (before later : List Entry) (q : ℕ) (cache : List Row)
+    → journal ≡ before ++ Evicted q ∷ later → cache_after trace pages before ≡ Some cache → bound < live cache
+
+-- the reply at the entry Done(i): that of command i on the cache to which the entries before it lead
+abbrev pub is_done : ℕ → Entry → Bool
+is_done i (Done j) = j == i
+is_done i (Evicted q) = false
+
+abbrev pub reply_on : Option Operation → Option (List Row) → Option Reply
+reply_on None cache = None
+reply_on (Some operation) None = None
+reply_on (Some operation) (Some cache) = Some (apply operation cache).1
+
+abbrev pub reply_at : List Operation → ℕ → List Entry → ℕ → Option Reply
+reply_at trace pages journal i =
+    if list_any (is_done i) journal
+    then reply_on (command_of trace i) (cache_after trace pages (before_first (is_done i) journal))
+    else None

@@ -1,0 +1,94 @@
+-- The report, and when bytes are a legal one.
+use Rattle.std.specs.Prelude.{◌≡◌, ℕ, ◌==◌, ◌+◌, ◌<◌, List, [], ◌∷◌, ◌++◌, length, map, flat_map, filter_map, sum_by, codes, decimal, if◌then◌else◌, Option, Some, None, unwrap_or}
+use Rattle.std.specs.List.{slice_get, slice_index_or, slice_split, enumerate_from, range_with_len}
+use Rattle.std.specs.Option.{option_map}
+use Rattle.trace_text.specs.Operation.{Operation}
+use Rattle.trace_text.specs.Parts.{parts}
+use Rattle.plain_cache.specs.declared.journal.Entry.{Entry}
+use Rattle.plain_cache.specs.declared.journal.Entry.TheVariants.{Done, Evicted}
+use Rattle.plain_cache.specs.Row.{Row, live}
+use Rattle.plain_cache.specs.Apply.{Reply, Stored, Replaced, Value, Missing, Erased, Keys}
+use Rattle.plain_cache.specs.Legal.{cache_after, IsLegal, IsComplete}
+use Rattle.plain_cache.specs.Answer.{answer}
+
+-- the text of a line, and its LF
+abbrev pub line : List ℕ → List ℕ
+line text = text ++ 10 ∷ []
+
+abbrev pub reply_text : Reply → List ℕ
+reply_text Stored = codes "stored"
+reply_text Replaced = codes "replaced"
+reply_text (Value value) = codes "value " ++ value
+reply_text Missing = codes "missing"
+reply_text Erased = codes "erased"
+reply_text (Keys keys) = codes "keys" ++ flat_map (λ key. 32 ∷ key) keys
+
+-- the number of a command and its answer
+abbrev pub answer_text : ℕ × Reply → List ℕ
+answer_text (number, reply) = decimal number ++ 32 ∷ reply_text reply
+
+abbrev pub entry_text : Entry → List ℕ
+entry_text (Done i) = decimal i
+entry_text (Evicted q) = codes "!" ++ decimal q
+
+abbrev pub journal_text : ℕ × List Entry → List ℕ
+journal_text (shard, journal) = codes "journal " ++ decimal shard ++ flat_map (λ entry. 32 ∷ entry_text entry) journal
+
+-- what a report says of a shard at the end
+pub record Occupancy : Type 0 where
+  pub rows : ℕ
+  pub live : ℕ
+  -- blocks lent, and taken back
+  pub lent : ℕ
+  pub back : ℕ
+
+abbrev pub occupancy_text : ℕ × Occupancy → List ℕ
+occupancy_text (shard, occupancy) =
+    codes "shard " ++ decimal shard ++ codes " rows " ++ decimal occupancy.rows ++ codes " live " ++ decimal occupancy.live
+    ++ codes " lent " ++ decimal occupancy.lent ++ codes " back " ++ decimal occupancy.back
+
+-- the text of a report: the answers, then the journals, then the occupancy of the shards
+abbrev pub report_of : List (ℕ × Reply) → List (List Entry) → List Occupancy → List ℕ
+report_of answers journals occupancies =
+    flat_map (λ answer. line (answer_text answer)) answers
+    ++ flat_map (λ journal. line (journal_text journal)) (enumerate_from 0 journals)
+    ++ flat_map (λ occupancy. line (occupancy_text occupancy)) (enumerate_from 0 occupancies)
+
+-- the answers to the commands, by number
+abbrev pub answers : List Operation → ℕ → ℕ → List (List Entry) → List (ℕ × Reply)
+answers trace n pages journals =
+    filter_map (λ operation. option_map (λ reply. (operation.number, reply)) (answer trace n pages journals operation)) trace
+
+-- the blocks that shard s lends: one for each part that it issues to another shard, and one for each part that
+-- it does for another shard
+abbrev pub lent : List Operation → ℕ → ℕ → ℕ
+lent trace n s =
+    sum_by (λ q. if q == s then 0 else length (parts trace n s q)) (range_with_len 0 n)
+    + sum_by (λ o. if o == s then 0 else length (parts trace n o s)) (range_with_len 0 n)
+
+abbrev pub occupancy : List Operation → ℕ → ℕ → ℕ × List Entry → Occupancy
+occupancy trace n pages (s, journal) =
+    let cache = unwrap_or (cache_after trace pages journal) [] in
+    record { rows = length cache; live = live cache; lent = lent trace n s; back = lent trace n s }
+
+-- the report of one journal per shard, n of them, each shard with so many pages
+abbrev pub report : List Operation → ℕ → ℕ → List (List Entry) → List ℕ
+report trace n pages journals = report_of (answers trace n pages journals) journals
+    (map (occupancy trace n pages) (enumerate_from 0 journals))
+
+abbrev pub text_lines : List ℕ → List (List ℕ)
+text_lines bytes = slice_split (λ b. b == 10) bytes
+
+-- The bytes are a legal report of the trace with these journals: behind the lines of the answers they spell
+-- the journals, one per shard; each is legal and complete for its shard; and the bytes are the report of
+-- these very journals.
+pub record IsReportOf (trace : List Operation) (n pages : ℕ) (bytes : List ℕ) (journals : List (List Entry)) : Type 0 where
+  pub shards : length journals ≡ n
+  pub spelled : (s : ℕ) → s < n →
+      slice_get (text_lines bytes) (length trace + s) ≡ option_map (λ journal. journal_text (s, journal)) (slice_get journals s)
+  pub legal : (s : ℕ) (d : List Entry) → s < n → IsLegal trace pages (slice_index_or journals s d)
+  pub complete : (s : ℕ) (d : List Entry) → s < n → IsComplete trace n s (slice_index_or journals s d)
+  pub text : bytes ≡ report trace n pages journals
+
+abbrev pub IsLegalReport : List Operation → ℕ → ℕ → List ℕ → Type 0
+IsLegalReport trace n pages bytes = (journals : List (List Entry)) × IsReportOf trace n pages bytes journals

@@ -1,0 +1,5 @@
+#![tactic(auto)]
+
+mod journal;
+
+pub use journal::{Entry, Journal};
