@@ -1,6 +1,9 @@
 pub mod Answer
 pub mod Apply
 pub mod Legal
+pub mod Recorded
+pub mod Replies
 pub mod Report
 pub mod Row
+pub mod Spelled
 pub mod Written
