@@ -1,0 +1,2 @@
+pub mod Rose
+pub mod Moves
