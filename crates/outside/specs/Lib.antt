@@ -1,2 +1,3 @@
 pub mod Rose
 pub mod Moves
+pub mod Memory

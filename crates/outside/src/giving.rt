@@ -19,7 +19,7 @@ pub trait Source {
         ensures fits { IfOk result (λ count. count ≤ length into.old) }
         ensures next { IfOk result (λ count. Consumes (left self.old) (left self.new) (take count into.new)) }
         ensures rest { IfOk result (λ count. OnSome (left self.old) (drop count into.new ≡ drop count into.old)) }
-        ensures end { IfOk result (λ count. count ≡ 0 → 0 < length into.old → IsAtEnd (left self.old)) }
+        ensures end { IfOk result (λ count. count ≡ 0 → 0 < length into.old → IsAtEnd (left self.new)) }
         ensures none_lost { OnErr result (Keeps (left self.old) (left self.new)) }
         ensures failed { OnErr result (Rose (faults self.old) (faults self.new)) }
         ensures never_falls { faults self.old ≤ faults self.new };

@@ -79,7 +79,7 @@ fn read_more<S: Source>(
     ensures bound { vec_len bytes.new ≤ most }
     ensures fits { IfOk result (λ count. filled + count ≤ vec_len bytes.new) }
     ensures next { IfOk result (λ count. Consumes (S.left source.old) (S.left source.new) (take count (drop filled bytes.new.items))) }
-    ensures end { IfOk result (λ count. count ≡ 0 → IsAtEnd (S.left source.old)) }
+    ensures end { IfOk result (λ count. count ≡ 0 → IsAtEnd (S.left source.new)) }
     ensures none_lost { OnErr result (Keeps (S.left source.old) (S.left source.new)) }
     ensures not_long { result ≢ Err ReadStop.TooLong }
     ensures fault { result ≡ Err ReadStop.Fault → Rose (S.faults source.old) (S.faults source.new) }
@@ -95,7 +95,7 @@ fn read_at<S: Source>(source: &mut S, bytes: &mut [u8], at: usize) -> Result<usi
     ensures front { take at bytes.new ≡ take at bytes.old }
     ensures fits { IfOk result (λ count. at + count ≤ length bytes.new) }
     ensures next { IfOk result (λ count. Consumes (S.left source.old) (S.left source.new) (take count (drop at bytes.new))) }
-    ensures end { IfOk result (λ count. count ≡ 0 → IsAtEnd (S.left source.old)) }
+    ensures end { IfOk result (λ count. count ≡ 0 → IsAtEnd (S.left source.new)) }
     ensures none_lost { OnErr result (Keeps (S.left source.old) (S.left source.new)) }
     ensures failed { OnErr result (Rose (S.faults source.old) (S.faults source.new)) }
     ensures never_falls { S.faults source.old ≤ S.faults source.new }
