@@ -1,6 +1,7 @@
 //! A sink that keeps its bytes in memory.
-ghost use Rattle.std.specs.Prelude.{◌≡◌, ◌≤◌, [], length, vec_len, vec_capacity, Some, IfOk};
-ghost use Rattle.outside.specs.Memory.{Held};
+ghost use Rattle.std.specs.Prelude.{◌≡◌, ◌≤◌, ◌<◌, ◌-◌, ◌↔◌, [], ◌++◌, min, take, length, vec_len, vec_capacity, Some, IsErr, IfOk, OnErr};
+ghost use Rattle.outside.specs.Memory.{Held, number_after};
+ghost use Rattle.outside.specs.Rose.{Rose};
 
 use crate::{Failed, Sink};
 use std::alloc::{AllocError, Global};
@@ -41,7 +42,8 @@ impl MemorySink {
 
     /// The bytes that were written.
     pub fn bytes(&self) -> &[u8]
-        ensures { result.now ≡ self.now.bytes }
+        ensures held { result.now ≡ self.now.bytes }
+        ensures within { length result.now ≤ self.now.room }
     {
         self.bytes.as_slice()
     }
@@ -52,7 +54,14 @@ impl Sink for MemorySink {
 
     ghost faults = { λ s. s.faults };
 
-    fn write(&mut self, from: &[u8]) -> Result<usize, Failed> {
+    fn write(&mut self, from: &[u8]) -> Result<usize, Failed>
+        ensures full { IsErr result ↔ ((0 < length from.now) × (self.old.room ≤ length self.old.bytes)) }
+        ensures count { IfOk result (λ count. count ≡ min (length from.now) (self.old.room - length self.old.bytes)) }
+        ensures taken { IfOk result (λ count. self.new ≡ record self.old { bytes = self.old.bytes ++ take count from.now }) }
+        ensures failed { OnErr result (self.new ≡ record self.old { faults = number_after self.old.faults }) }
+        ensures rose { OnErr result (Rose self.old.faults self.new.faults) }
+        ensures never_falls { self.old.faults ≤ self.new.faults }
+    {
         let count = from.len().min(self.room - self.bytes.len());
         if count == 0 && !from.is_empty() {
             self.faults = self.faults.saturating_add(1);

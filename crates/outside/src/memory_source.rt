@@ -1,7 +1,6 @@
 //! A source over bytes in memory.
-ghost use Rattle.std.specs.Prelude.{◌≡◌, ◌≤◌, ◌<◌, ◌+◌, ◌↔◌, min, drop, take, length, Some, Contains, IsErr, IfOk, OnOk, OnErr, OnSome};
-ghost use Rattle.std.specs.Io.KnownBytes.{Consumes, IsAtEnd, Keeps};
-ghost use Rattle.outside.specs.Memory.{Stored};
+ghost use Rattle.std.specs.Prelude.{◌≡◌, ◌≤◌, ◌<◌, ◌↔◌, [], ◌++◌, min, drop, take, length, Some, Contains, IsErr, IfOk, OnErr};
+ghost use Rattle.outside.specs.Memory.{Stored, number_after};
 ghost use Rattle.outside.specs.Rose.{Rose};
 
 use crate::{Failed, Source};
@@ -50,7 +49,18 @@ impl Source for MemorySource {
 
     ghost faults = { λ s. s.faults };
 
-    fn read(&mut self, into: &mut [u8]) -> Result<usize, Failed> {
+    fn read(&mut self, into: &mut [u8]) -> Result<usize, Failed>
+        ensures failing { IsErr result ↔ Contains self.old.failing self.old.next_call }
+        ensures count { IfOk result (λ count. count ≡ min (min self.old.most (length into.old)) (length self.old.left)) }
+        ensures end { IfOk result (λ count. count ≡ 0 → 0 < length into.old → self.new.left ≡ []) }
+        ensures into { IfOk result (λ count. into.new ≡ take count self.old.left ++ drop count into.old) }
+        ensures given { IfOk result (λ count. self.new ≡ record self.old {
+            left = drop count self.old.left; next_call = number_after self.old.next_call }) }
+        ensures failed { OnErr result (self.new ≡ record self.old {
+            next_call = number_after self.old.next_call; faults = number_after self.old.faults }) }
+        ensures rose { OnErr result (Rose self.old.faults self.new.faults) }
+        ensures never_falls { self.old.faults ≤ self.new.faults }
+    {
         let call = self.next_call;
         self.next_call = call.saturating_add(1);
         if self.failing.contains(&call) {
