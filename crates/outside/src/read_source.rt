@@ -1,8 +1,12 @@
 //! A source over a reader of std.
-ghost use Rattle.std.specs.Prelude.{None};
+ghost use Rattle.std.specs.Prelude.{◌≡◌, ◌≤◌, length, None, IfOk, OnErr};
+ghost use Rattle.std.specs.Io.KnownBytes.{ReadConsumes};
+ghost use Rattle.outside.specs.Counted.{Counted};
+ghost use Rattle.outside.specs.Rose.{Rose};
 
 use crate::{Failed, Source};
 use std::io::{ErrorKind, Read};
+use std::marker::Model;
 
 /// A source over a reader. It tells no bytes. A read that the system interrupts is tried again and
 /// is no fault; any other error is one.
@@ -12,9 +16,17 @@ pub struct ReadSource<R> {
     faults: u64,
 }
 
+impl<R> Model for ReadSource<R> {
+    ghost Value = { Counted R };
+
+    ghost view = { λ s. record { device = s.reader; faults = s.faults } };
+}
+
 impl<R> ReadSource<R> {
     /// A source of what `reader` reads.
-    pub fn new(reader: R) -> ReadSource<R> {
+    pub fn new(reader: R) -> ReadSource<R>
+        ensures { result ≡ record { device = reader; faults = 0 } }
+    {
         ReadSource { reader, faults: 0 }
     }
 }
@@ -24,7 +36,13 @@ impl<R: Read> Source for ReadSource<R> {
 
     ghost faults = { λ s. s.faults };
 
-    fn read(&mut self, into: &mut [u8]) -> Result<usize, Failed> {
+    // What the reader itself tells, it tells of each read here too.
+    fn read(&mut self, into: &mut [u8]) -> Result<usize, Failed>
+        ensures fits { IfOk result (λ count. count ≤ length into.old) }
+        ensures passed { ReadConsumes (R.remaining self.old.device) (R.remaining self.new.device) result into.new }
+        ensures failed { OnErr result (Rose self.old.faults self.new.faults) }
+        ensures never_falls { self.old.faults ≤ self.new.faults }
+    {
         for _ in 0..u64::MAX {
             match self.reader.read(into) {
                 Ok(count) => return Ok(count),

@@ -1,5 +1,5 @@
 //! All bytes of a source.
-ghost use Rattle.std.specs.Prelude.{◌≡◌, ◌≢◌, ◌+◌, ◌<◌, ◌≤◌, length, take, drop, vec_len, Err, OnOk, IfOk, OnErr, IfErr, IfSome};
+ghost use Rattle.std.specs.Prelude.{◌≡◌, ◌≢◌, ◌+◌, ◌^◌, ◌<◌, ◌≤◌, length, take, drop, vec_len, Err, OnOk, IfOk, OnErr, IfErr, IfSome};
 ghost use Rattle.std.specs.Io.KnownBytes.{Consumes, IsAtEnd, Keeps};
 ghost use Rattle.outside.specs.Moves.{ConsumesExactly, ConsumesUpTo};
 ghost use Rattle.outside.specs.Rose.{Rose};
@@ -73,7 +73,7 @@ fn read_more<S: Source>(
     requires within { filled ≤ vec_len bytes.old }
     requires bound { vec_len bytes.old ≤ most }
     requires more { filled < most }
-    requires small { most ≤ 67108865 }
+    requires small { most < 2 ^ 32 }
     ensures front { take filled bytes.new.items ≡ take filled bytes.old.items }
     ensures stays { filled ≤ vec_len bytes.new }
     ensures bound { vec_len bytes.new ≤ most }
@@ -109,7 +109,7 @@ fn make_room(bytes: &mut Vec<u8>, filled: usize, most: usize) -> Result<(), Allo
     requires within { filled ≤ vec_len bytes.old }
     requires bound { vec_len bytes.old ≤ most }
     requires more { filled < most }
-    requires small { most ≤ 67108865 }
+    requires small { most < 2 ^ 32 }
     ensures front { take filled bytes.new.items ≡ take filled bytes.old.items }
     ensures stays { filled ≤ vec_len bytes.new }
     ensures bound { vec_len bytes.new ≤ most }

@@ -1,5 +1,5 @@
 //! A whole piece into a sink.
-ghost use Rattle.std.specs.Prelude.{◌≤◌, OnOk, OnErr};
+ghost use Rattle.std.specs.Prelude.{◌≡◌, ◌≤◌, [], IsOk, OnOk, OnErr};
 ghost use Rattle.std.specs.Io.KnownBytes.{Appends};
 ghost use Rattle.outside.specs.Moves.{AppendsFront};
 ghost use Rattle.outside.specs.Rose.{Rose};
@@ -16,6 +16,7 @@ pub fn write_all<K: Sink>(sink: &mut K, piece: &[u8]) -> Result<(), Failed>
     ensures whole { OnOk result (Appends (K.written sink.old) (K.written sink.new) piece.now) }
     ensures front { OnErr result (AppendsFront (K.written sink.old) (K.written sink.new) piece.now) }
     ensures failed { OnErr result (Rose (K.faults sink.old) (K.faults sink.new)) }
+    ensures nothing { piece.now ≡ [] → IsOk result }
     ensures never_falls { K.faults sink.old ≤ K.faults sink.new }
 {
     let mut done = 0;
