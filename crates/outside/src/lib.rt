@@ -14,6 +14,8 @@ mod memory_source;
 mod read_source;
 mod reading;
 mod taking;
+#[cfg(test)]
+mod tests;
 mod write_sink;
 mod writing;
 

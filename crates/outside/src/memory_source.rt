@@ -55,9 +55,13 @@ impl Source for MemorySource {
         ensures end { IfOk result (λ count. count ≡ 0 → 0 < length into.old → self.new.left ≡ []) }
         ensures into { IfOk result (λ count. into.new ≡ take count self.old.left ++ drop count into.old) }
         ensures given { IfOk result (λ count. self.new ≡ record self.old {
-            left = drop count self.old.left; next_call = number_after self.old.next_call }) }
+          left = drop count self.old.left;
+          next_call = number_after self.old.next_call;
+        }) }
         ensures failed { OnErr result (self.new ≡ record self.old {
-            next_call = number_after self.old.next_call; faults = number_after self.old.faults }) }
+          next_call = number_after self.old.next_call;
+          faults = number_after self.old.faults;
+        }) }
         ensures rose { OnErr result (Rose self.old.faults self.new.faults) }
         ensures never_falls { self.old.faults ≤ self.new.faults }
     {

@@ -8,7 +8,7 @@ invariant-loop-filled g l = record {
   within : l.filled ≤ vec_len l.bytes;
   bound : vec_len l.bytes ≤ l.most;
   taken : Consumes (g.S.Source.left l.fn.source) (g.S.Source.left l.source) (take l.filled l.bytes.items);
-  later : g.S.Source.faults l.fn.source ≤ g.S.Source.faults l.source
+  later : g.S.Source.faults l.fn.source ≤ g.S.Source.faults l.source;
 }
 
 abbrev pub decreases-loop-filled : goal.decreases-loop-filled

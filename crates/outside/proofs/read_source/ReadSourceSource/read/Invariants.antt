@@ -7,5 +7,5 @@ abbrev pub invariant-loop : goal.invariant-loop
 invariant-loop g l = record {
   same_length : length l.into ≡ length l.fn.into;
   none_lost : Keeps (g.R.Read.remaining l.fn.self.device) (g.R.Read.remaining l.self-inside.reader);
-  no_fault : l.self-inside.faults ≡ l.fn.self.faults
+  no_fault : l.self-inside.faults ≡ l.fn.self.faults;
 }
