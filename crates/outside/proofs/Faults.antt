@@ -1,5 +1,5 @@
 -- A count of faults that rose in one call of several.
-use Rattle.std.proofs.Common.{◌≡◌, ℕ, ◌<◌, ◌≤◌, ◌⊎◌, arith, inl, inr}
+use Rattle.std.proofs.Common.{ℕ, ◌≤◌, arith}
 use Rattle.outside.specs.Rose.{Rose}
 
 -- it rose, and did not fall afterwards

@@ -1,5 +1,4 @@
-use Rattle.std.proofs.Common.{rules, arith}
-use Rattle.std.proofs.lemmas.Grind.{common_steps}
+use Rattle.std.proofs.Common.{arith}
 use Rattle.outside.proofs.Moved.{Consumes-grown}
 use Rattle.outside.proofs.reading.read_all.Goals as goal
 

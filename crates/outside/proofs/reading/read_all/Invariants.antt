@@ -1,5 +1,5 @@
 -- The first `filled` bytes are what was taken, and no more than `most` bytes have a place.
-use Rattle.std.proofs.Common.{◌≡◌, ◌+◌, ◌-◌, ◌≤◌, vec_len, take}
+use Rattle.std.proofs.Common.{◌-◌, ◌≤◌, vec_len, take}
 use Rattle.std.specs.Io.KnownBytes.{Consumes}
 use Rattle.outside.proofs.reading.read_all.Given as goal
 
