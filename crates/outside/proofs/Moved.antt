@@ -29,18 +29,29 @@ Appends-grown a b c piece n m first next =
 
 -- a whole piece is a front of itself
 pub AppendsFront-whole : (a b : Option (List ℕ)) (piece : List ℕ) → Appends a b piece → AppendsFront a b piece
-AppendsFront-whole a b piece all = (length piece, le_refl (length piece), subst (Appends a b) (sym (take-length piece)) all)
+AppendsFront-whole a b piece all =
+    record { count = length piece; within = le_refl (length piece); appended = subst (Appends a b) (sym (take-length piece)) all }
 
 -- nothing is a front of any piece
 pub AppendsFront-none : (a b : Option (List ℕ)) (piece : List ℕ) → Keeps a b → AppendsFront a b piece
-AppendsFront-none a b piece kept = (0, omega arith, Appends-kept a a b [] (Appends-nil a) kept)
+AppendsFront-none a b piece kept =
+    record { count = 0; within = omega arith; appended = Appends-kept a a b [] (Appends-nil a) kept }
 
 -- a front of one piece is a front of that piece and another
 pub AppendsFront-before : (a b : Option (List ℕ)) (piece next : List ℕ) → AppendsFront a b piece → AppendsFront a b (piece ++ next)
-AppendsFront-before a b piece next (n, within, front) =
-    (n, rw length-append (omega (arith, within)), subst (Appends a b) (sym (take-append-le n piece next within)) front)
+AppendsFront-before a b piece next front = record {
+  count = front.count;
+  within = rw length-append (omega (arith, front.within));
+  appended = subst (Appends a b) (sym (take-append-le front.count piece next front.within)) front.appended;
+}
 
 -- a whole piece, and then a front of another, is a front of the two
 pub AppendsFront-after : (a b c : Option (List ℕ)) (piece next : List ℕ) → Appends a b piece → AppendsFront b c next → AppendsFront a c (piece ++ next)
-AppendsFront-after a b c piece next all (n, within, front) =
-    (length piece + n, rw length-append (omega (arith, within)), subst (Appends a c) (sym (take-append-add piece next n)) (Appends-trans a b c piece (take n next) all front))
+AppendsFront-after a b c piece next all front = record {
+  count = length piece + front.count;
+  within = rw length-append (omega (arith, front.within));
+  appended = subst (Appends a c) (sym (take-append-add piece next front.count)) (Appends-trans a b c piece (take front.count next) all front.appended);
+}
+
+-- how what was written in several calls is written in one
+pub ruleset writes = (Appends-trans, AppendsFront-whole, AppendsFront-none, AppendsFront-before, AppendsFront-after)

@@ -3,8 +3,10 @@ use Rattle.std.specs.Prelude.{◌≡◌, ℕ, ◌≤◌, List, Option, length, t
 use Rattle.std.specs.Io.KnownBytes.{Appends, Consumes}
 
 -- a front of `piece`, of any length up to the whole, was appended
-abbrev pub AppendsFront : Option (List ℕ) → Option (List ℕ) → List ℕ → Type 0
-AppendsFront old new piece = (n : ℕ) × (n ≤ length piece) × Appends old new (take n piece)
+pub record AppendsFront (old new : Option (List ℕ)) (piece : List ℕ) : Type 0 where
+  pub count : ℕ
+  pub within : count ≤ length piece
+  pub appended : Appends old new (take count piece)
 
 -- exactly n bytes were taken
 abbrev pub ConsumesExactly : Option (List ℕ) → Option (List ℕ) → ℕ → Type 0
