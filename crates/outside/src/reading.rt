@@ -1,5 +1,5 @@
 //! All bytes of a source.
-ghost use Rattle.std.specs.Prelude.{◌≡◌, ◌≢◌, ◌+◌, ◌^◌, ◌<◌, ◌≤◌, length, take, drop, vec_len, Err, OnOk, IfOk, OnErr, IfErr, IfSome};
+ghost use Rattle.std.specs.Prelude.{◌≡◌, ◌≢◌, ◌+◌, ◌^◌, ◌<◌, ◌≤◌, length, take, drop, vec_len, Err, OnOk, IfOk, OnErr, IfSome};
 ghost use Rattle.std.specs.Io.KnownBytes.{Consumes, IsAtEnd, Keeps};
 ghost use Rattle.outside.specs.Moves.{ConsumesExactly, ConsumesUpTo};
 ghost use Rattle.outside.specs.Rose.{Rose};

@@ -12,7 +12,7 @@ use std::marker::Model;
 /// is no fault; any other error is one, and so is a write that takes nothing of a piece.
 ///
 /// Each piece is flushed as it is written, so a buffer in the writer keeps nothing back and its
-/// failures are counted here. Write large pieces.
+/// failures are counted here; a caller has nothing to flush at the end. Write large pieces.
 #[derive(Drop)]
 pub struct WriteSink<W> {
     writer: W,
