@@ -1,0 +1,4 @@
+pub mod Rose
+pub mod Moves
+pub mod Memory
+pub mod Counted

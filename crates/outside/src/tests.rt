@@ -1,0 +1,112 @@
+//! What no contract says: that memory is there, and that the devices of std are read and written.
+
+use crate::{
+    Failed, MemorySink, MemorySource, ReadSource, ReadStop, Source, WriteSink, read_all, write_all,
+};
+use std::io::{Error, ErrorKind, Read, Write};
+use std::test::Fail;
+
+#[test]
+fn reading_ends_at_the_end_or_the_limit_or_a_fault(rt: HostRuntime) -> Result<(), Fail> {
+    // Each source gives one byte a call, and the call that is named fails.
+    for (input, limit, failing, want) in [
+        ("", 0, 9, Ok("")),
+        ("abcd", 4, 9, Ok("abcd")),
+        ("abcde", 4, 9, Err(ReadStop::TooLong)),
+        ("a", 0, 9, Err(ReadStop::TooLong)),
+        ("abcd", 4, 1, Err(ReadStop::Fault)),
+        ("abcd", 4, 3, Err(ReadStop::Fault)),
+        ("abcd", 4, 5, Err(ReadStop::Fault)),
+        ("abcd", 4, 6, Ok("abcd")),
+        ("abcde", 4, 6, Err(ReadStop::TooLong)),
+    ] {
+        let bytes = input.as_bytes().to_vec(rt.alloc())?;
+        let mut source = MemorySource::new(bytes, 1, vec![in rt.alloc(); failing]?);
+        let got = read_all(rt.alloc(), &mut source, limit);
+        match want {
+            Ok(text) => assert_eq!(rt; got?.as_slice(), text.as_bytes(), "{input:?}"),
+            Err(stop) => assert!(rt; got.is_err_and(|met| met == stop), "{input:?}"),
+        }
+    }
+    Ok(())
+}
+
+#[test]
+fn a_full_sink_keeps_the_front_of_a_piece(rt: HostRuntime) -> Result<(), Fail> {
+    for (room, piece, want, held) in [
+        (0, "", Ok(()), ""),
+        (0, "a", Err(Failed), ""),
+        (3, "abc", Ok(()), "abc"),
+        (3, "abcde", Err(Failed), "abc"),
+    ] {
+        let mut sink = MemorySink::new(rt.alloc(), room)?;
+        assert!(rt;
+            write_all(&mut sink, piece.as_bytes()) == want,
+            "{piece:?} in {room}"
+        );
+        assert_eq!(rt; sink.bytes(), held.as_bytes(), "{piece:?} in {room}");
+    }
+    Ok(())
+}
+
+#[test]
+fn readers_and_writers_of_std_serve(rt: HostRuntime) -> Result<(), Fail> {
+    let input = vec![in rt.alloc(); 7u8; 200_000]?;
+    let mut source = ReadSource::new(input.as_slice());
+    let bytes = read_all(rt.alloc(), &mut source, 200_000)?;
+    assert!(rt; bytes.as_slice() == input.as_slice());
+
+    let mut output = Vec::new(rt.alloc());
+    let mut sink = WriteSink::new(&mut output);
+    write_all(&mut sink, bytes.as_slice())?;
+    assert!(rt; output.as_slice() == input.as_slice());
+    Ok(())
+}
+
+// A reader and a writer that the system interrupts once, and that then serves one byte and fails.
+#[derive(Drop)]
+struct Unsteady {
+    calls: u32,
+}
+
+impl Unsteady {
+    fn answer(&mut self) -> Result<usize, Error> {
+        self.calls = self.calls.saturating_add(1);
+        match self.calls {
+            1 => Err(Error::from(ErrorKind::Interrupted)),
+            2 => Ok(1),
+            _ => Err(Error::from(ErrorKind::BrokenPipe)),
+        }
+    }
+}
+
+impl Read for Unsteady {
+    fn read(&mut self, into: &mut [u8]) -> Result<usize, Error> {
+        let count = self.answer()?;
+        Ok(count.min(into.len()))
+    }
+}
+
+impl Write for Unsteady {
+    fn write(&mut self, from: &[u8]) -> Result<usize, Error> {
+        let count = self.answer()?;
+        Ok(count.min(from.len()))
+    }
+
+    fn flush(&mut self) -> Result<(), Error> {
+        Ok(())
+    }
+}
+
+#[test]
+fn an_interruption_is_no_fault(rt: HostRuntime) -> Result<(), Fail> {
+    let mut source = ReadSource::new(Unsteady { calls: 0 });
+    let mut place = [0; 9];
+    assert!(rt; source.read(&mut place) == Ok(1));
+    assert!(rt; source.read(&mut place) == Err(Failed));
+
+    let mut sink = WriteSink::new(Unsteady { calls: 0 });
+    assert!(rt; write_all(&mut sink, b"a") == Ok(()));
+    assert!(rt; write_all(&mut sink, b"b") == Err(Failed));
+    Ok(())
+}
