@@ -1,5 +1,5 @@
 -- The rows of a shard's cache.
-use Rattle.std.specs.Prelude.{ℕ, ◌+◌, ◌-◌, ◌*◌, ◌/◌, List, length, sum_by}
+use Rattle.std.specs.Prelude.{◌≡◌, ℕ, ◌+◌, ◌-◌, ◌*◌, ◌/◌, ◌%◌, ◌≤◌, List, length, sum_by}
 
 -- a row, with the number of the put that stored it
 pub record Row : Type 0 where
@@ -29,3 +29,7 @@ floor pages = (pages / 32 - 34) * dense
 -- what the live bytes exceed at an eviction while so many blocks are lent
 abbrev pub tight_floor : ℕ → ℕ → ℕ
 tight_floor pages lent = (pages / 32 - 2 - lent) * dense
+
+-- the pages of a shard: a multiple of 32, from 1,280 to 65,536
+abbrev pub ArePages : ℕ → Type 0
+ArePages pages = (1280 ≤ pages) × (pages ≤ 65536) × (pages % 32 ≡ 0)

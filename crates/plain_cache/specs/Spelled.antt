@@ -16,3 +16,7 @@ spelled (Value value) = (kinds.Value, value)
 spelled Missing = (kinds.Missing, [])
 spelled Erased = (kinds.Erased, [])
 spelled (Keys keys) = (kinds.Keys, flat_map key_field keys)
+
+-- a reply whose body is put behind these bytes
+abbrev pub with_body : List ℕ → ReplyKind × List ℕ → ReplyKind × List ℕ
+with_body front (kind, body) = (kind, front ++ body)

@@ -16,7 +16,7 @@ abbrev pub LiesAt : List ℕ → ℕ → List ℕ → Type 0
 LiesAt line at field = (at + length field ≤ length line) × (take (length field) (drop at line) ≡ field)
 
 abbrev pub LieIn : List ℕ → Found → Type 0
-LieIn line found = LiesAt line found.key_at found.key.now × LiesAt line found.value_at found.value.now × (length found.value.now ≤ 12000) × (found.kind ≢ Scan)
+LieIn line found = LiesAt line found.key_at found.key.now × LiesAt line found.value_at found.value.now × (length found.key.now ≤ 256) × (length found.value.now ≤ 12000) × (found.kind ≢ Scan)
 
 -- the rest is an end of the text
 abbrev pub IsRestOf : List ℕ → List ℕ → Type 0
@@ -26,6 +26,7 @@ IsRestOf text rest = (length rest ≤ length text) × (drop (length text - lengt
 pub record LiesWithin (bytes : List ℕ) (command : Command) : Type 0 where
   pub key : command.key.start + command.key.len ≤ length bytes
   pub value : command.value.start + command.value.len ≤ length bytes
+  pub key_len : command.key.len ≤ 256
   pub value_len : command.value.len ≤ 12000
   pub kind : command.kind ≢ Scan
 

@@ -43,7 +43,8 @@ impl Trace {
     /// The bytes of a command's key. The command is of this trace.
     pub fn key(&self, command: &Command) -> &[u8]
         requires { Contains self.now.commands command.now }
-        ensures { result.now ≡ part self.now.bytes command.now.key }
+        ensures value { result.now ≡ part self.now.bytes command.now.key }
+        ensures most { length result.now ≤ 256 }
     {
         let start = command.key.start as usize;
         &self.bytes[start..start + command.key.len as usize]
@@ -52,7 +53,8 @@ impl Trace {
     /// The bytes of a command's value: of a put; else none. The command is of this trace.
     pub fn value(&self, command: &Command) -> &[u8]
         requires { Contains self.now.commands command.now }
-        ensures { result.now ≡ part self.now.bytes command.now.value }
+        ensures value { result.now ≡ part self.now.bytes command.now.value }
+        ensures most { length result.now ≤ 12000 }
     {
         let start = command.value.start as usize;
         &self.bytes[start..start + command.value.len as usize]

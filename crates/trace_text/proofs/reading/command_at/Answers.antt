@@ -7,4 +7,4 @@ pub returns-clause-found : goal.returns-clause-found
 returns-clause-found c bytes lies =
     let key = lies_in_whole bytes c.args.text.now _ c.args.start _ lies c.in_ok-found.ensures.places.0 in
     let value = lies_in_whole bytes c.args.text.now _ c.args.start _ lies c.in_ok-found.ensures.places.1 in
-    (rw (← c.in_ok-found.ensures.asked, key.1, value.1) refl, record { key = key.0; value = value.0; value_len = c.in_ok-found.ensures.places.2; kind = c.in_ok-found.ensures.places.3 })
+    (rw (← c.in_ok-found.ensures.asked, key.1, value.1) refl, record { key = key.0; value = value.0; key_len = c.in_ok-found.ensures.places.2; value_len = c.in_ok-found.ensures.places.3; kind = c.in_ok-found.ensures.places.4 })

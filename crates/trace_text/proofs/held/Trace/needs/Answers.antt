@@ -10,7 +10,7 @@ loop-command-preserved c =
     let none : Command =
     record { number = 0; line = 0; kind = Put; key = record { start = 0; len = 0 }; value = record { start = 0; len = 0 }; count = 0 } in
     let some : 1 ≤ c.args.shards = omega arith in
-    let owns = rw c.key.ensures at c.owner_of.ensures in
+    let owns = rw c.key.ensures.value at c.owner_of.ensures in
     let has_part = rw owns at c.has_part.ensures in
     let own_parts = rw c.origin_of.ensures at c.own_parts_of-own_parts.ensures in
     let puts = rw (owns, c.is_put.ensures) at c.from-here_puts.ensures in

@@ -1,0 +1,8 @@
+-- The live bytes of the rows so far.
+use Rattle.std.proofs.Common.{◌≡◌, ◌*◌, ◌≤◌, map, take}
+use Rattle.plain_cache.specs.Kept.{row_in}
+use Rattle.plain_cache.specs.Row.{live}
+use Rattle.plain_cache.proofs.plain.Plain.live.Given as goal
+
+abbrev pub invariant-loop-row : goal.invariant-loop-row
+invariant-loop-row l = (l.live ≡ live (map row_in (take l.row-index l.row-items))) × (l.live ≤ 12296 * l.row-index)

@@ -1,0 +1,8 @@
+-- What contracts see of a plain cache.
+use Rattle.std.specs.Prelude.{ℕ, List}
+use Rattle.plain_cache.specs.Row.{Row}
+
+pub record Cache : Type 0 where
+  pub pages : ℕ
+  -- most recently used first
+  pub rows : List Row
