@@ -1,7 +1,13 @@
 -- A field's place in a part of a line, and in the line.
-use Rattle.std.proofs.Common.{◌≡◌, ℕ, ◌+◌, ◌-◌, ◌≤◌, List, length, take, drop, arith, refl, sym, ◌∙◌}
+use Rattle.std.proofs.Common.{◌≡◌, ℕ, ◌+◌, ◌-◌, ◌≤◌, List, length, take, drop, get_or, All, IsTrue, arith, refl, sym, ◌∙◌}
 use Rattle.std.proofs.lemmas.List.{drop-drop, drop-take, take-take}
-use Rattle.trace_text.specs.Found.{LiesAt, IsRestOf}
+use Rattle.std.proofs.lemmas.List.Elements.{All-map}
+use Rattle.std.proofs.lemmas.Bool.{and_parts, leb-true}
+use Rattle.trace_text.specs.declared.command.Command.{Command}
+use Rattle.trace_text.specs.Found.{LiesAt, LiesWithin, IsRestOf}
+use Rattle.trace_text.specs.Line.{is_key, is_value}
+use Rattle.trace_text.specs.Operation.{operation, operations}
+use Rattle.trace_text.specs.Parsed.{IsWellFormed}
 
 -- what lies in an end of the text lies so much further on in the text
 pub lies_within : (text rest field : List ℕ) (at : ℕ) → IsRestOf text rest → LiesAt rest at field
@@ -21,3 +27,16 @@ pub lies_in_whole : (whole text field : List ℕ) (start at : ℕ) → LiesAt wh
 lies_in_whole whole text field start at outer inner =
     let e : take (length field) (drop at (take (length text) (drop start whole))) ≡ field = rw outer.1 inner.1 in
     (omega arith, rw (← drop-drop at start whole) (sym (part_of_front (drop start whole) at (length field) (length text) inner.0) ∙ e))
+
+pub key-most : (key : List ℕ) → IsTrue (is_key key) → length key ≤ 256
+key-most key is = leb-true _ _ (and_parts _ _ (and_parts _ _ is).0).1
+
+pub value-most : (value : List ℕ) → IsTrue (is_value value) → length value ≤ 12000
+value-most value is = leb-true _ _ (and_parts _ _ is).0
+
+-- what is true of each command's fields is true of what the commands ask
+pub well_formed : (bytes : List ℕ) (commands : List Command) → All (LiesWithin bytes) commands → All IsWellFormed (operations bytes commands)
+well_formed bytes commands lie =
+    All-map IsWellFormed (operation bytes) commands (λ k d within.
+      let lies : LiesWithin bytes (get_or commands k d) = lie k d within in
+      record { key = lies.is_key; value = lies.is_value; kind = lies.kind })

@@ -1,11 +1,11 @@
 -- What the reader of a line found, with the places of its fields.
-use Rattle.std.specs.Prelude.{◌≡◌, ◌≢◌, ℕ, ◌+◌, ◌-◌, ◌≤◌, List, length, take, drop, Some}
+use Rattle.std.specs.Prelude.{◌≡◌, ◌≢◌, ℕ, ◌+◌, ◌-◌, ◌≤◌, List, length, take, drop, Some, IsTrue}
 use Rattle.trace_text.specs.declared.line.Found.{Found}
 use Rattle.std.specs.Option.{option_map}
 use Rattle.trace_text.specs.declared.command.Command.{Command}
 use Rattle.trace_text.specs.declared.command.Kind.TheVariants.{Scan}
-use Rattle.trace_text.specs.Line.{Asked, asked_in}
-use Rattle.trace_text.specs.Operation.{operation}
+use Rattle.trace_text.specs.Line.{Asked, asked_in, is_key, is_value}
+use Rattle.trace_text.specs.Operation.{operation, part}
 use Rattle.trace_text.specs.Reading.{numbered}
 
 abbrev pub asked_of : Found → Asked
@@ -16,7 +16,7 @@ abbrev pub LiesAt : List ℕ → ℕ → List ℕ → Type 0
 LiesAt line at field = (at + length field ≤ length line) × (take (length field) (drop at line) ≡ field)
 
 abbrev pub LieIn : List ℕ → Found → Type 0
-LieIn line found = LiesAt line found.key_at found.key.now × LiesAt line found.value_at found.value.now × (length found.key.now ≤ 256) × (length found.value.now ≤ 12000) × (found.kind ≢ Scan)
+LieIn line found = LiesAt line found.key_at found.key.now × LiesAt line found.value_at found.value.now × IsTrue (is_key found.key.now) × IsTrue (is_value found.value.now) × (found.kind ≢ Scan)
 
 -- the rest is an end of the text
 abbrev pub IsRestOf : List ℕ → List ℕ → Type 0
@@ -28,6 +28,8 @@ pub record LiesWithin (bytes : List ℕ) (command : Command) : Type 0 where
   pub value : command.value.start + command.value.len ≤ length bytes
   pub key_len : command.key.len ≤ 256
   pub value_len : command.value.len ≤ 12000
+  pub is_key : IsTrue (is_key (part bytes command.key))
+  pub is_value : IsTrue (is_value (part bytes command.value))
   pub kind : command.kind ≢ Scan
 
 -- a line's command, in whatever bytes the line stands at this place

@@ -1,7 +1,9 @@
 -- What contracts see of a trace that was read.
-use Rattle.std.specs.Prelude.{◌≡◌, ℕ, ◌+◌, ◌<◌, ◌≤◌, List, length, slice_index_or, Ok, All}
+use Rattle.std.specs.Prelude.{◌≡◌, ◌≢◌, ℕ, ◌+◌, ◌<◌, ◌≤◌, List, length, slice_index_or, Ok, All, IsTrue}
 use Rattle.trace_text.specs.declared.command.Command.{Command}
+use Rattle.trace_text.specs.declared.command.Kind.TheVariants.{Scan}
 use Rattle.trace_text.specs.Found.{LiesWithin}
+use Rattle.trace_text.specs.Line.{is_key, is_value}
 use Rattle.trace_text.specs.Operation.{Operation, operations}
 use Rattle.trace_text.specs.Reading.{trace_of}
 
@@ -14,6 +16,12 @@ pub record Parsed : Type 0 where
 -- what the commands of a trace ask, in order
 abbrev pub trace_in : Parsed → List Operation
 trace_in trace = operations trace.bytes trace.commands
+
+-- what a command of an accepted trace asks; scans are not read yet
+pub record IsWellFormed (operation : Operation) : Type 0 where
+  pub key : IsTrue (is_key operation.key)
+  pub value : IsTrue (is_value operation.value)
+  pub kind : operation.kind ≢ Scan
 
 -- commands are numbered from 1, in order
 abbrev pub AreNumbered : List Command → Type 0

@@ -2,7 +2,7 @@
 ghost use Rattle.std.specs.Prelude.{◌≡◌, ◌≤◌, length, All, Ok, Contains};
 ghost use Rattle.trace_text.specs.Found.{LiesWithin};
 ghost use Rattle.trace_text.specs.Operation.{part};
-ghost use Rattle.trace_text.specs.Parsed.{trace_in, AreNumbered};
+ghost use Rattle.trace_text.specs.Parsed.{trace_in, AreNumbered, IsWellFormed};
 ghost use Rattle.trace_text.specs.Reading.{trace_of};
 
 use crate::command::Command;
@@ -33,6 +33,7 @@ impl Trace {
         ensures value { result.now ≡ self.now.commands }
         ensures read { trace_of self.now.bytes ≡ Ok (trace_in self.now) }
         ensures numbered { AreNumbered result.now }
+        ensures well_formed { All IsWellFormed (trace_in self.now) }
         ensures lie { All (LiesWithin self.now.bytes) result.now }
         ensures few { length result.now ≤ 65536 }
         ensures one_shard { self.now.shards ≡ 1 }
