@@ -1,0 +1,2 @@
+pub mod OneShard
+pub mod Progress

@@ -1,0 +1,74 @@
+//! One shard does every command of a trace.
+ghost use Rattle.std.specs.Prelude.{◌≡◌, ◌≢◌, ◌+◌, ◌-◌, ◌<◌, ◌≤◌, ◌∷◌, ◌++◌, [], length, slice_set, Some, None, Contains, IfOk, OnOk};
+ghost use Rattle.std.specs.List.{slice_get};
+ghost use Rattle.trace_text.specs.Operation.{operation};
+ghost use Rattle.trace_text.specs.Parsed.{trace_in};
+ghost use Rattle.plain_cache.specs.Apply.{apply};
+ghost use Rattle.plain_cache.specs.Row.{ArePages};
+ghost use Rattle.plain_cache.specs.Spelled.{spelled};
+ghost use Rattle.shardcache.specs.Finished.{IsRunOf};
+
+use plain_cache::{Entry, Journal, Plain, ReplyLog};
+use std::alloc::{AllocError, Global};
+use trace_text::{Command, Kind, Trace};
+
+/// What a shard leaves when every command is done.
+#[derive(Drop)]
+pub struct Finished {
+    pub journal: Journal,
+    pub log: ReplyLog,
+    pub rows: u32,
+    pub live: u64,
+}
+
+/// Does one command: its reply goes into the log, and its number into the journal.
+fn do_command(
+    alloc: Global,
+    trace: &Trace,
+    command: &Command,
+    plain: &mut Plain,
+    log: &mut ReplyLog,
+    journal: &mut Journal,
+) -> Result<(), AllocError>
+    requires of_trace { Contains trace.now.commands command.now }
+    requires served { command.now.kind ≢ Kind.Scan }
+    requires number { 1 ≤ command.now.number }
+    requires room { length plain.old.rows < 4294967295 }
+    requires unanswered { slice_get log.old.replies (command.now.number - 1) ≡ Some None }
+    requires fits { length (spelled (apply (operation trace.now.bytes command.now) plain.old.rows).1).1 ≤ log.old.room }
+    requires spare { 1 ≤ journal.old.spare }
+    ensures applied { OnOk result (plain.new ≡ record plain.old { rows = (apply (operation trace.now.bytes command.now) plain.old.rows).0 }) }
+    ensures replied { OnOk result (log.new.replies ≡ slice_set log.old.replies (command.now.number - 1)
+        (Some (spelled (apply (operation trace.now.bytes command.now) plain.old.rows).1))) }
+    ensures room { OnOk result (log.new.room + length (spelled (apply (operation trace.now.bytes command.now) plain.old.rows).1).1 ≡ log.old.room) }
+    ensures done { OnOk result (journal.new.entries ≡ journal.old.entries ++ Entry.Done command.now.number ∷ []) }
+    ensures spare { OnOk result (journal.new.spare + 1 ≡ journal.old.spare) }
+{
+    let mut body = Vec::new(alloc);
+    let kind = plain.apply(alloc, trace, command, &mut body)?;
+    log.record(command.number - 1, kind, body.as_slice());
+    journal.add(Entry::Done(command.number));
+    Ok(())
+}
+
+/// Does every command of a trace in turn, on a cache of so many pages.
+pub fn do_all(alloc: Global, trace: &Trace, pages: u32) -> Result<Finished, AllocError>
+    requires { ArePages pages }
+    ensures { IfOk result (λ finished.
+        IsRunOf (trace_in trace.now) pages finished.journal.entries finished.log.replies finished.rows finished.live) }
+{
+    let commands = trace.commands();
+    let needs = trace.needs(0, 1);
+    let mut plain = Plain::new(alloc, pages)?;
+    let mut log = ReplyLog::new(alloc, needs.own_parts, needs.reply_bytes)?;
+    let mut journal = Journal::new(alloc, needs.here_parts + needs.here_puts)?;
+    for command in commands {
+        do_command(alloc, trace, command, &mut plain, &mut log, &mut journal)?;
+    }
+    Ok(Finished {
+        journal,
+        log,
+        rows: plain.rows(),
+        live: plain.live(),
+    })
+}
