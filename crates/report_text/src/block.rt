@@ -1,5 +1,5 @@
 //! Text on its way to a sink. It is laid into a block, and the sink is given whole blocks.
-ghost use Rattle.std.specs.Prelude.{◌≡◌, [], ◌++◌, decimal, OnOk};
+ghost use Rattle.std.specs.Prelude.{◌≡◌, true, false, [], ◌++◌, decimal, OnOk};
 ghost use Rattle.report_text.specs.Laid.{Wrote, stand};
 
 use arrayvec::ArrayVec;
@@ -19,16 +19,24 @@ pub(crate) fn flush<K: Sink>(sink: &mut K, block: &mut Block) -> Result<(), Fail
     Ok(())
 }
 
+/// Lays `text` into the block, and answers whether it fits there.
+fn lay(block: &mut Block, text: &[u8]) -> bool
+    ensures fits { result ≡ true → block.new.items ≡ block.old.items ++ text.now }
+    ensures full { result ≡ false → block.new.items ≡ block.old.items }
+{
+    block.try_extend_from_slice(text).is_ok()
+}
+
 /// Lays `text` behind what stands in the block. Where it does not fit, the sink is given the block
 /// first.
 pub(crate) fn put<K: Sink>(sink: &mut K, block: &mut Block, text: &[u8]) -> Result<(), Failed>
     ensures { Wrote result (stand (K.written sink.old) (K.faults sink.old) block.old.items) (stand (K.written sink.new) (K.faults sink.new) block.new.items) text.now }
 {
-    if block.try_extend_from_slice(text).is_ok() {
+    if lay(block, text) {
         return Ok(());
     }
     flush(sink, block)?;
-    if block.try_extend_from_slice(text).is_ok() {
+    if lay(block, text) {
         return Ok(());
     }
     write_all(sink, text)
