@@ -99,6 +99,14 @@ Wrote-broken {a = a} {c = c} f xs i d within p q =
     let so_far : flat_map f (take i xs) ++ f (get_or xs i d) ≡ flat_map f (take (i + 1) xs) = sym (flat_map-next f xs i d within) in
     subst (Wrote (Err _) a c) (ap (λ l. l ++ flat_map f (drop (i + 1) xs)) so_far ∙ sym (flat_map-split f xs (i + 1))) (Wrote-stop _ (Wrote-then p q))
 
+pub Wrote-next-at : {T E X : Type 0} {u v : T} {a b c : Stand} (f : X → List ℕ) (xs : List X) (i : ℕ) (x : X) → i < length xs → get_or xs i x ≡ x
+    → Wrote {T = T} {E = E} (Ok u) a b (flat_map f (take i xs)) → Wrote {T = T} {E = E} (Ok v) b c (f x) → Wrote {T = T} {E = E} (Ok v) a c (flat_map f (take (i + 1) xs))
+Wrote-next-at {T} {E} {v = v} {b = b} {c = c} f xs i x within is p q = Wrote-next f xs i x within p (subst (λ y. Wrote {T = T} {E = E} (Ok v) b c (f y)) (sym is) q)
+
+pub Wrote-broken-at : {T E X : Type 0} {u : T} {e : E} {a b c : Stand} (f : X → List ℕ) (xs : List X) (i : ℕ) (x : X) → i < length xs → get_or xs i x ≡ x
+    → Wrote {T = T} {E = E} (Ok u) a b (flat_map f (take i xs)) → Wrote {T = T} {E = E} (Err e) b c (f x) → Wrote {T = T} {E = E} (Err e) a c (flat_map f xs)
+Wrote-broken-at {T} {E} {e = e} {b = b} {c = c} f xs i x within is p q = Wrote-broken f xs i x within p (subst (λ y. Wrote {T = T} {E = E} (Err e) b c (f y)) (sym is) q)
+
 -- all texts were laid
 pub Wrote-all : {T E X : Type 0} {u : T} {a b : Stand} (f : X → List ℕ) (xs : List X) (n : ℕ) → length xs ≤ n → Wrote {T = T} {E = E} (Ok u) a b (flat_map f (take n xs))
     → Wrote {T = T} {E = E} (Ok u) a b (flat_map f xs)
@@ -114,14 +122,42 @@ numbered_at g xs i x within is =
 numbered_length : {X Y : Type 0} (g : X → Y) (xs : List X) → length (enumerate_from 0 (map g xs)) ≡ length xs
 numbered_length g xs = length-enumerate_from 0 (map g xs) ∙ simp length-map
 
+pub Wrote-all-numbered : {T E X Y : Type 0} {u : T} {a b : Stand} (f : ℕ × Y → List ℕ) (g : X → Y) (xs : List X) (n : ℕ) → length xs ≤ n
+    → Wrote {T = T} {E = E} (Ok u) a b (flat_map f (take n (enumerate_from 0 (map g xs)))) → Wrote {T = T} {E = E} (Ok u) a b (flat_map f (enumerate_from 0 (map g xs)))
+Wrote-all-numbered f g xs n past p = Wrote-all f (enumerate_from 0 (map g xs)) n (subst (λ m. m ≤ n) (sym (numbered_length g xs)) past) p
+
 pub Wrote-next-numbered : {T E X Y : Type 0} {u v : T} {a b c : Stand} (f : ℕ × Y → List ℕ) (g : X → Y) (xs : List X) (i : ℕ) (x : X) → i < length xs → get_or xs i x ≡ x
     → Wrote {T = T} {E = E} (Ok u) a b (flat_map f (take i (enumerate_from 0 (map g xs)))) → Wrote {T = T} {E = E} (Ok v) b c (f (i, g x))
     → Wrote {T = T} {E = E} (Ok v) a c (flat_map f (take (i + 1) (enumerate_from 0 (map g xs))))
-Wrote-next-numbered {T} {E} {v = v} {b = b} {c = c} f g xs i x within is p q =
-    Wrote-next f (enumerate_from 0 (map g xs)) i (i, g x) (subst (λ n. i < n) (sym (numbered_length g xs)) within) p (subst (λ y. Wrote {T = T} {E = E} (Ok v) b c (f y)) (sym (numbered_at g xs i x within is)) q)
+Wrote-next-numbered f g xs i x within is p q =
+    Wrote-next-at f (enumerate_from 0 (map g xs)) i (i, g x) (subst (λ n. i < n) (sym (numbered_length g xs)) within) (numbered_at g xs i x within is) p q
 
 pub Wrote-broken-numbered : {T E X Y : Type 0} {u : T} {e : E} {a b c : Stand} (f : ℕ × Y → List ℕ) (g : X → Y) (xs : List X) (i : ℕ) (x : X) → i < length xs → get_or xs i x ≡ x
     → Wrote {T = T} {E = E} (Ok u) a b (flat_map f (take i (enumerate_from 0 (map g xs)))) → Wrote {T = T} {E = E} (Err e) b c (f (i, g x))
     → Wrote {T = T} {E = E} (Err e) a c (flat_map f (enumerate_from 0 (map g xs)))
-Wrote-broken-numbered {T} {E} {e = e} {b = b} {c = c} f g xs i x within is p q =
-    Wrote-broken f (enumerate_from 0 (map g xs)) i (i, g x) (subst (λ n. i < n) (sym (numbered_length g xs)) within) p (subst (λ y. Wrote {T = T} {E = E} (Err e) b c (f y)) (sym (numbered_at g xs i x within is)) q)
+Wrote-broken-numbered f g xs i x within is p q =
+    Wrote-broken-at f (enumerate_from 0 (map g xs)) i (i, g x) (subst (λ n. i < n) (sym (numbered_length g xs)) within) (numbered_at g xs i x within is) p q
+
+-- ---- a whole text, from an empty block to an empty block
+
+pub record Sent {T E : Type 0} (result : Result T E) (a b : Stand) (text : List ℕ) : Type 0 where
+  pub whole : OnOk result (Appends a.written b.written text)
+  pub front : OnErr result (AppendsFront a.written b.written text)
+  pub failed : OnErr result (Rose a.faults b.faults)
+  pub never_falls : a.faults ≤ b.faults
+
+pub Sent-from : {T E : Type 0} (r : Result T E) (a b : Stand) (text : List ℕ) → a.block ≡ [] → OnOk r (b.block ≡ []) → Wrote r a b text → Sent r a b text
+Sent-from (Ok v) a b text before after p = record {
+  whole =
+      let same : p.outcome.sent ≡ text = sym (append-nil p.outcome.sent) ∙ ap (λ l. p.outcome.sent ++ l) (sym after) ∙ p.outcome.whole ∙ ap (λ l. l ++ text) before in
+      subst (Appends a.written b.written) same p.outcome.appended;
+  front = tt;
+  failed = tt;
+  never_falls = p.never_falls;
+}
+Sent-from (Err e) a b text before after p = record {
+  whole = tt;
+  front = subst (λ l. AppendsFront a.written b.written (l ++ text)) before p.outcome.front;
+  failed = p.outcome.rose;
+  never_falls = p.never_falls;
+}

@@ -6,6 +6,7 @@ use Rattle.plain_cache.specs.declared.replies.ReplyKind.{ReplyKind}
 use Rattle.plain_cache.specs.Apply.{Reply, Stored, Replaced, Value, Missing, Erased, Keys}
 use Rattle.plain_cache.specs.Report.{Occupancy, line, answer_text, entry_text, journal_text, reply_text, occupancy_text}
 use Rattle.plain_cache.specs.Spelled.{spelled}
+use Rattle.plain_cache.specs.Written.{Written}
 use Rattle.report_text.specs.Held.{IsKeyless}
 use Rattle.report_text.specs.Words.{word}
 
@@ -16,6 +17,9 @@ entry_piece entry = 32 ∷ entry_text entry
 
 abbrev pub answer_line : ℕ × Reply → List ℕ
 answer_line answer = line (answer_text answer)
+
+abbrev pub entries_of : Written → List Entry
+entries_of journal = journal.entries
 
 abbrev pub journal_line : ℕ × List Entry → List ℕ
 journal_line journal = line (journal_text journal)

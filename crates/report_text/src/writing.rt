@@ -1,5 +1,5 @@
 //! The whole report.
-ghost use Rattle.std.specs.Prelude.{◌≡◌, ℕ, ◌≤◌, List, [], ◌∷◌, length, flat_map, OnOk, OnErr};
+ghost use Rattle.std.specs.Prelude.{◌≡◌, ℕ, ◌≤◌, List, length, flat_map, OnOk, OnErr};
 ghost use Rattle.std.specs.List.{enumerate_from};
 ghost use Rattle.std.specs.Io.KnownBytes.{Appends};
 ghost use Rattle.outside.specs.Moves.{AppendsFront};
@@ -47,9 +47,8 @@ pub fn write_report<K: Sink>(
     ensures failed { OnErr result (Rose (K.faults sink.old) (K.faults sink.new)) }
     ensures never_falls { K.faults sink.old ≤ K.faults sink.new }
 {
-    let _ = shards;
     let mut block = Block::new();
-    put_answers(sink, &mut block, trace, &logs[0])?;
+    put_answers(sink, &mut block, trace, logs)?;
     put_journals(sink, &mut block, journals)?;
     put_shard_lines(sink, &mut block, lines)?;
     flush(sink, &mut block)
@@ -59,12 +58,15 @@ fn put_answers<K: Sink>(
     sink: &mut K,
     block: &mut Block,
     trace: &Trace,
-    log: &ReplyLog,
+    logs: &[ReplyLog],
 ) -> Result<(), Failed>
-    requires { (answers : List (ℕ × Reply)) × AreHeld (trace_in trace.now) (log.now ∷ []) answers }
-    ensures { (answers : List (ℕ × Reply)) → AreHeld (trace_in trace.now) (log.now ∷ []) answers → Wrote result (stand (K.written sink.old) (K.faults sink.old) block.old.items) (stand (K.written sink.new) (K.faults sink.new) block.new.items) (flat_map (λ answer. line (answer_text answer)) answers) }
+    requires one_log_each { length logs.now ≡ trace.now.shards }
+    requires answered { (answers : List (ℕ × Reply)) × AreHeld (trace_in trace.now) logs.now answers }
+    ensures { (answers : List (ℕ × Reply)) → AreHeld (trace_in trace.now) logs.now answers → Wrote result (stand (K.written sink.old) (K.faults sink.old) block.old.items) (stand (K.written sink.new) (K.faults sink.new) block.new.items) (flat_map (λ answer. line (answer_text answer)) answers) }
 {
-    for command in trace.commands() {
+    let commands = trace.commands();
+    let log = &logs[0];
+    for command in commands {
         put_answer(sink, block, command.number, log)?;
     }
     Ok(())
