@@ -137,27 +137,3 @@ pub Wrote-broken-numbered : {T E X Y : Type 0} {u : T} {e : E} {a b c : Stand} (
     → Wrote {T = T} {E = E} (Err e) a c (flat_map f (enumerate_from 0 (map g xs)))
 Wrote-broken-numbered f g xs i x within is p q =
     Wrote-broken-at f (enumerate_from 0 (map g xs)) i (i, g x) (subst (λ n. i < n) (sym (numbered_length g xs)) within) (numbered_at g xs i x within is) p q
-
--- ---- a whole text, from an empty block to an empty block
-
-pub record Sent {T E : Type 0} (result : Result T E) (a b : Stand) (text : List ℕ) : Type 0 where
-  pub whole : OnOk result (Appends a.written b.written text)
-  pub front : OnErr result (AppendsFront a.written b.written text)
-  pub failed : OnErr result (Rose a.faults b.faults)
-  pub never_falls : a.faults ≤ b.faults
-
-pub Sent-from : {T E : Type 0} (r : Result T E) (a b : Stand) (text : List ℕ) → a.block ≡ [] → OnOk r (b.block ≡ []) → Wrote r a b text → Sent r a b text
-Sent-from (Ok v) a b text before after p = record {
-  whole =
-      let same : p.outcome.sent ≡ text = sym (append-nil p.outcome.sent) ∙ ap (λ l. p.outcome.sent ++ l) (sym after) ∙ p.outcome.whole ∙ ap (λ l. l ++ text) before in
-      subst (Appends a.written b.written) same p.outcome.appended;
-  front = tt;
-  failed = tt;
-  never_falls = p.never_falls;
-}
-Sent-from (Err e) a b text before after p = record {
-  whole = tt;
-  front = subst (λ l. AppendsFront a.written b.written (l ++ text)) before p.outcome.front;
-  failed = p.outcome.rose;
-  never_falls = p.never_falls;
-}
