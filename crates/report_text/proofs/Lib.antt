@@ -1,0 +1,4 @@
+pub mod Answered
+pub mod Laid
+pub mod Sent
+pub mod Texts
