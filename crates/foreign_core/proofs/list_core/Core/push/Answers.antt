@@ -1,0 +1,35 @@
+-- There is room on the list for one ticket more, since the ticket wasn't on it.
+use Rattle.std.proofs.Common.{refl, ◌≡◌, ℕ, ◌+◌, ◌<◌, ◌≤◌, List, [], ◌∷◌, ◌++◌, length, reverse, IsOk, is_ok, true, arith, ap, ◌∙◌, sym, length-set, length-append, vec_len}
+use Rattle.std.proofs.lemmas.List.{reverse-append, length-reverse}
+use Rattle.std.specs.Vec.{vec_capacity}
+use Rattle.foreign_core.specs.Tickets.{Tickets, state_of, listed_first}
+use Rattle.foreign_core.specs.Histories.{InOnePlace, IsOff}
+use Rattle.foreign_core.specs.declared.ticket_state.TicketState.TheVariants.{Listed}
+use Rattle.foreign_core.proofs.Places.{listed_place, length-listed}
+use Rattle.foreign_core.proofs.list_core.Core.push.Goals as goal
+
+pub invariant_of-self : goal.invariant_of-self
+invariant_of-self c =
+    let s : Tickets = record { states = c.self.inside.states.items; listed = reverse c.self.inside.list.items; walk = reverse c.self.inside.walk.items } in
+    let from = rw (← c.self.view_is) at c.requires in
+    let place = listed_place s c.args.ticket c.self.invariant.0 from in
+    let room : vec_len c.self.inside.list < vec_capacity c.self.inside.list =
+      omega (arith, length-listed (listed_first s c.args.ticket) place, length-set c.self.inside.states.items c.args.ticket Listed, length-reverse c.self.inside.list.items, c.self.inside.list.ok.0, c.self.invariant.1) in
+    let pushed : is_ok c.push.result ≡ true = c.push.ensures.succeeds room in
+    let items : c.push.new.self.items ≡ c.self.inside.list.items ++ c.args.ticket ∷ [] = c.push.ensures.items ∙ (rw pushed refl) in
+    (
+      rw (items, reverse-append c.self.inside.list.items (c.args.ticket ∷ [])) place,
+      simp length-set (omega (arith, c.self.invariant.1, c.push.ensures.capacity)),
+      simp length-set c.self.invariant.2
+    )
+
+pub returns : goal.returns
+returns c =
+    let s : Tickets = record { states = c.self.inside.states.items; listed = reverse c.self.inside.list.items; walk = reverse c.self.inside.walk.items } in
+    let from = rw (← c.self.view_is) at c.requires in
+    let place = listed_place s c.args.ticket c.self.invariant.0 from in
+    let room : vec_len c.self.inside.list < vec_capacity c.self.inside.list =
+      omega (arith, length-listed (listed_first s c.args.ticket) place, length-set c.self.inside.states.items c.args.ticket Listed, length-reverse c.self.inside.list.items, c.self.inside.list.ok.0, c.self.invariant.1) in
+    let pushed : is_ok c.push.result ≡ true = c.push.ensures.succeeds room in
+    let items : c.push.new.self.items ≡ c.self.inside.list.items ++ c.args.ticket ∷ [] = c.push.ensures.items ∙ (rw pushed refl) in
+    rw (← c.self.view_is, items, reverse-append c.self.inside.list.items (c.args.ticket ∷ [])) refl

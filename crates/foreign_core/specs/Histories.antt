@@ -1,0 +1,152 @@
+-- Histories: events that come one after another, from tickets that are all idle.
+--
+-- A position in a history counts the events before it, so the first event has position 0.
+use Rattle.std.specs.Prelude.{◌≡◌, ℕ, ◌<◌, nat_eq, List, [], ◌∷◌, length, take, cond, ◌+◌, Option, Some, None, IsSome, IsSomeAnd, slice_get}
+use Rattle.std.specs.Option.{option_and_then}
+use Rattle.foreign_core.specs.Tickets.{Tickets, start, state_of, head_of, next_back, step}
+use Rattle.foreign_core.specs.declared.event.Event.{Event}
+use Rattle.foreign_core.specs.declared.event.Event.TheVariants.{Lend, Swing, TakeWhole, Back}
+use Rattle.foreign_core.specs.declared.ticket_state.TicketState.{TicketState}
+use Rattle.foreign_core.specs.declared.ticket_state.TicketState.TheVariants.{Idle, Carried, Looked, Linked, Listed, Walked}
+
+-- the tickets after these events, and none where one of them is not possible
+abbrev pub run : Tickets → List Event → Option Tickets
+run s [] = Some s
+run s (event ∷ events) = option_and_then (λ next. run next events) (step s event)
+
+-- each event of the history of so many tickets is possible when its turn comes
+abbrev pub IsPossible : ℕ → List Event → Type 0
+IsPossible tickets events = IsSome (run (start tickets) events)
+
+-- the tickets just before the event at a position
+abbrev pub before : ℕ → List Event → ℕ → Option Tickets
+before tickets events position = run (start tickets) (take position events)
+
+-- What happens at a position.
+
+abbrev pub Lends : List Event → ℕ → ℕ → Type 0
+Lends events t position = slice_get events position ≡ Some (Lend t)
+
+-- a swing that finds the head that its ticket expects
+abbrev pub Wins : ℕ → List Event → ℕ → ℕ → Type 0
+Wins tickets events t position =
+    (slice_get events position ≡ Some (Swing t))
+      × IsSomeAnd (before tickets events position) (λ s. state_of s t ≡ Some (Linked (head_of s)))
+
+abbrev pub TakesWhole : List Event → ℕ → Type 0
+TakesWhole events position = slice_get events position ≡ Some TakeWhole
+
+-- the ticket is the first of the walk, and comes back
+abbrev pub ComesBack : ℕ → List Event → ℕ → ℕ → Type 0
+ComesBack tickets events t position =
+    (slice_get events position ≡ Some Back)
+      × IsSomeAnd (before tickets events position) (λ s. next_back s ≡ Some t)
+
+-- Positions.
+
+abbrev pub IsBetween : ℕ → ℕ → ℕ → Type 0
+IsBetween low high position = (low < position) × (position < high)
+
+-- it is so at this position and at no other between the two
+pub record IsOnlyBetween (low high : ℕ) (P : ℕ → Type 0) (position : ℕ) : Type 0 where
+  pub between : IsBetween low high position
+  pub holds : P position
+  pub only : (other : ℕ) → IsBetween low high other → P other → other ≡ position
+
+abbrev pub ExactlyOneBetween : ℕ → ℕ → (ℕ → Type 0) → Type 0
+ExactlyOneBetween low high P = (position : ℕ) × IsOnlyBetween low high P position
+
+abbrev pub NoneBetween : ℕ → ℕ → (ℕ → Type 0) → Type 0
+NoneBetween low high P = (other : ℕ) → IsBetween low high other → P other → ⊥
+
+-- it is so at both positions and nowhere between them
+pub record AreSuccessive (P : ℕ → Type 0) (first second : ℕ) : Type 0 where
+  pub order : first < second
+  pub at_first : P first
+  pub at_second : P second
+  pub none_between : NoneBetween first second P
+
+-- the first position after another at which it is so
+pub record IsNextAfter (earlier : ℕ) (P : ℕ → Type 0) (position : ℕ) : Type 0 where
+  pub later : earlier < position
+  pub holds : P position
+  pub none_between : NoneBetween earlier position P
+
+-- Each ticket is in one state, and stands where its state says: on the list once if it is listed, on the walk once
+-- if it is walked, and nowhere else.
+
+-- how often a ticket stands on a list of tickets
+abbrev pub times_on : List ℕ → ℕ → ℕ
+times_on [] t = 0
+times_on (first ∷ rest) t = cond (nat_eq t first) 1 0 + times_on rest t
+
+abbrev pub listed_times : Option TicketState → ℕ
+listed_times (Some Listed) = 1
+listed_times (Some Idle) = 0
+listed_times (Some Carried) = 0
+listed_times (Some (Looked expected)) = 0
+listed_times (Some (Linked expected)) = 0
+listed_times (Some Walked) = 0
+listed_times None = 0
+
+abbrev pub walked_times : Option TicketState → ℕ
+walked_times (Some Walked) = 1
+walked_times (Some Idle) = 0
+walked_times (Some Carried) = 0
+walked_times (Some (Looked expected)) = 0
+walked_times (Some (Linked expected)) = 0
+walked_times (Some Listed) = 0
+walked_times None = 0
+
+-- a ticket of this state is there, and stands neither on the list nor on the walk
+abbrev pub IsOff : Option TicketState → Type 0
+IsOff (Some Idle) = Unit {0}
+IsOff (Some Carried) = Unit {0}
+IsOff (Some (Looked expected)) = Unit {0}
+IsOff (Some (Linked expected)) = Unit {0}
+IsOff (Some Listed) = ⊥
+IsOff (Some Walked) = ⊥
+IsOff None = ⊥
+
+pub record InOnePlace (s : Tickets) : Type 0 where
+  pub on_list : (t : ℕ) → times_on s.listed t ≡ listed_times (state_of s t)
+  pub on_walk : (t : ℕ) → times_on s.walk t ≡ walked_times (state_of s t)
+
+pub record InOneState (tickets : ℕ) (s : Tickets) : Type 0 where
+  pub number : length s.states ≡ tickets
+  pub place : InOnePlace s
+
+-- The laws.
+
+abbrev pub EachInOneState : Type 0
+EachInOneState =
+    (tickets : ℕ) (events : List Event) (s : Tickets) → run (start tickets) events ≡ Some s → InOneState tickets s
+
+-- from one lend of a ticket to the next: one swing of it wins, then one take-whole comes, and then the ticket comes back,
+-- once
+pub record ReturnsOnce (tickets : ℕ) (events : List Event) (t lent again : ℕ) : Type 0 where
+  pub won : ℕ
+  pub came_back : ℕ
+  pub one_win : IsOnlyBetween lent again (Wins tickets events t) won
+  pub one_return : IsOnlyBetween lent again (ComesBack tickets events t) came_back
+  pub win_first : won < came_back
+  pub one_taking : ExactlyOneBetween won came_back (TakesWhole events)
+
+abbrev pub EachReturnsOnce : Type 0
+EachReturnsOnce =
+    (tickets : ℕ) (events : List Event) → IsPossible tickets events → (t lent again : ℕ)
+      → AreSuccessive (Lends events t) lent again → ReturnsOnce tickets events t lent again
+
+-- the take-whole takes the ticket whose swing won at this position: it's the first after it
+pub record Takes (tickets : ℕ) (events : List Event) (t won taken : ℕ) : Type 0 where
+  pub win : Wins tickets events t won
+  pub next : IsNextAfter won (TakesWhole events) taken
+
+-- of two tickets that one take-whole took, that which won later comes back earlier
+abbrev pub NewestReturnsFirst : Type 0
+NewestReturnsFirst =
+    (tickets : ℕ) (events : List Event) → IsPossible tickets events
+      → (old new won_old won_new taken came_back : ℕ) → won_old < won_new
+      → Takes tickets events old won_old taken → Takes tickets events new won_new taken
+      → IsNextAfter taken (ComesBack tickets events old) came_back
+      → ExactlyOneBetween taken came_back (ComesBack tickets events new)

@@ -1,0 +1,31 @@
+ghost use Rattle.std.specs.Prelude.{◌≡◌, ◌≤◌, IfOk};
+ghost use Rattle.foreign_core.specs.Tickets.{start};
+ghost use Rattle.foreign_core.specs.Histories.{run, EachInOneState, EachReturnsOnce, NewestReturnsFirst};
+
+use std::alloc::{AllocError, Global};
+
+use crate::event::Event;
+use crate::list_core::Core;
+
+/// The core of so many tickets after these events, from all idle on. None exactly where some event is
+/// not possible when its turn comes.
+pub fn replay(alloc: Global, tickets: u32, events: &[Event]) -> Result<Option<Core>, AllocError>
+    requires { tickets ≤ 32 }
+    ensures { IfOk result (λ after. after ≡ run (start tickets) events.now) }
+{
+    let mut core = Core::new(alloc, tickets)?;
+    for event in events {
+        if !core.step(event) {
+            return Ok(None);
+        }
+    }
+    Ok(Some(core))
+}
+
+/// The law of every history, over all lists of events.
+pub fn law_of_histories()
+    ensures one_state { EachInOneState }
+    ensures once { EachReturnsOnce }
+    ensures newest_first { NewestReturnsFirst }
+{
+}

@@ -1,0 +1,180 @@
+ghost use Rattle.std.specs.Prelude.{◌≡◌, ◌<◌, ◌≤◌, ◌↔◌, length, IsTrue, IsSome, IfOk, Some, unwrap_or, map};
+ghost use Rattle.foreign_core.specs.Tickets.{start, state_of, head_of, step, lend, look, link, swing, take_whole, back, becomes, listed_first, taken};
+ghost use Rattle.foreign_core.specs.Histories.{IsOff};
+
+use std::alloc::{AllocError, Global};
+use std::marker::Model;
+use std::mem;
+
+use crate::event::Event;
+use crate::ticket_state::TicketState;
+
+/// The foreign free list of one owner, as the states of its tickets, the list and the walk.
+#[derive(Debug, Drop)]
+pub struct Core {
+    states: Vec<TicketState>,
+    // The tickets on the list, and those taken and not yet back, newest last.
+    list: Vec<u32>,
+    walk: Vec<u32>,
+}
+
+impl Model for Core {
+    ghost use Rattle.foreign_core.specs.Tickets.{Tickets};
+    ghost use Rattle.std.specs.Prelude.{reverse, length, vec_capacity, ◌≤◌};
+    ghost use Rattle.foreign_core.specs.Histories.{InOnePlace};
+
+    ghost Value = { Tickets };
+
+    ghost view = { λ c. record { states = c.states.items; listed = reverse c.list.items; walk = reverse c.walk.items } };
+
+    ghost invariant = { λ c. InOnePlace (record { states = c.states.items; listed = reverse c.list.items; walk = reverse c.walk.items }) × (length c.states.items ≤ vec_capacity c.list) × (length c.states.items ≤ vec_capacity c.walk) };
+}
+
+impl Core {
+    /// So many tickets, all of them idle. Takes all the memory that the core will need.
+    pub fn new(alloc: Global, tickets: u32) -> Result<Self, AllocError>
+        requires { tickets ≤ 32 }
+        ensures { IfOk result (λ core. core ≡ start tickets) }
+    {
+        let count = tickets as usize;
+        Ok(Core {
+            states: vec![in alloc; TicketState::Idle; count]?,
+            list: Vec::with_capacity(alloc, count)?,
+            walk: Vec::with_capacity(alloc, count)?,
+        })
+    }
+
+    /// The state of a ticket.
+    pub fn state(&self, ticket: u32) -> TicketState
+        requires { ticket < length self.now.states }
+        ensures { state_of self.now ticket ≡ Some result }
+    {
+        self.states[ticket as usize]
+    }
+
+    /// The newest ticket on the list.
+    pub fn head(&self) -> Option<u32>
+        ensures { result ≡ head_of self.now }
+    {
+        self.list.last().copied()
+    }
+
+    /// One event. False exactly where it is not possible, and then nothing changes.
+    pub fn step(&mut self, event: &Event) -> bool
+        ensures possible { IsTrue result ↔ IsSome (step self.old event.now) }
+        ensures after { self.new ≡ unwrap_or (step self.old event.now) self.old }
+    {
+        match *event {
+            Event::Lend(ticket) => self.lend(ticket),
+            Event::Look(ticket) => self.look(ticket),
+            Event::Link(ticket) => self.link(ticket),
+            Event::Swing(ticket) => self.swing(ticket),
+            Event::TakeWhole => self.take_whole(),
+            Event::Back => self.back(),
+        }
+    }
+
+    fn lend(&mut self, ticket: u32) -> bool
+        ensures possible { IsTrue result ↔ IsSome (lend self.old ticket (state_of self.old ticket)) }
+        ensures after { self.new ≡ unwrap_or (lend self.old ticket (state_of self.old ticket)) self.old }
+    {
+        let Some(TicketState::Idle) = self.find(ticket) else {
+            return false;
+        };
+        self.become_(ticket, TicketState::Carried);
+        true
+    }
+
+    fn look(&mut self, ticket: u32) -> bool
+        ensures possible { IsTrue result ↔ IsSome (look self.old ticket (state_of self.old ticket)) }
+        ensures after { self.new ≡ unwrap_or (look self.old ticket (state_of self.old ticket)) self.old }
+    {
+        let Some(TicketState::Carried) = self.find(ticket) else {
+            return false;
+        };
+        let head = self.head();
+        self.become_(ticket, TicketState::Looked(head));
+        true
+    }
+
+    fn link(&mut self, ticket: u32) -> bool
+        ensures possible { IsTrue result ↔ IsSome (link self.old ticket (state_of self.old ticket)) }
+        ensures after { self.new ≡ unwrap_or (link self.old ticket (state_of self.old ticket)) self.old }
+    {
+        let Some(TicketState::Looked(expected)) = self.find(ticket) else {
+            return false;
+        };
+        self.become_(ticket, TicketState::Linked(expected));
+        true
+    }
+
+    fn swing(&mut self, ticket: u32) -> bool
+        ensures possible { IsTrue result ↔ IsSome (swing self.old ticket (state_of self.old ticket)) }
+        ensures after { self.new ≡ unwrap_or (swing self.old ticket (state_of self.old ticket)) self.old }
+    {
+        let Some(TicketState::Linked(expected)) = self.find(ticket) else {
+            return false;
+        };
+        if self.head() == expected {
+            self.push(ticket);
+        } else {
+            self.become_(ticket, TicketState::Carried);
+        }
+        true
+    }
+
+    fn take_whole(&mut self) -> bool
+        ensures possible { IsTrue result ↔ IsSome (take_whole self.old self.old.walk) }
+        ensures after { self.new ≡ unwrap_or (take_whole self.old self.old.walk) self.old }
+    {
+        if !self.walk.is_empty() {
+            return false;
+        }
+        mem::swap(&mut self.list, &mut self.walk);
+        take_listed(&mut self.states);
+        true
+    }
+
+    fn back(&mut self) -> bool
+        ensures possible { IsTrue result ↔ IsSome (back self.old self.old.walk) }
+        ensures after { self.new ≡ unwrap_or (back self.old self.old.walk) self.old }
+    {
+        let Some(ticket) = self.walk.pop() else {
+            return false;
+        };
+        self.states[ticket as usize] = TicketState::Idle;
+        true
+    }
+
+    fn find(&self, ticket: u32) -> Option<TicketState>
+        ensures { result ≡ state_of self.now ticket }
+    {
+        self.states.get(ticket as usize).copied()
+    }
+
+    // A ticket that is on no list goes on to a state that is on none.
+    fn become_(&mut self, ticket: u32, state: TicketState)
+        requires from { IsOff (state_of self.old ticket) }
+        requires to { IsOff (Some state) }
+        ensures { self.new ≡ becomes self.old ticket state }
+    {
+        self.states[ticket as usize] = state;
+    }
+
+    fn push(&mut self, ticket: u32)
+        requires { IsOff (state_of self.old ticket) }
+        ensures { self.new ≡ listed_first self.old ticket }
+    {
+        self.states[ticket as usize] = TicketState::Listed;
+        let _ = self.list.push(ticket);
+    }
+}
+
+// What a take-whole makes of the states.
+fn take_listed(states: &mut [TicketState])
+    ensures { states.new ≡ map taken states.old }
+{
+    for state in states.iter_mut() {
+        *state = state.taken();
+    }
+}
