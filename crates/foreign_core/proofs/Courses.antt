@@ -7,8 +7,8 @@ use Rattle.foreign_core.specs.Histories.{IsPossible, before, Lends, Wins, TakesW
 use Rattle.foreign_core.specs.declared.event.Event.{Event}
 use Rattle.foreign_core.specs.declared.event.Event.TheVariants.{Lend, Swing, TakeWhole, Back}
 use Rattle.foreign_core.specs.declared.ticket_state.TicketState.TheVariants.{Linked}
-use Rattle.foreign_core.proofs.Steps.{phase_of, Moves, stays, lends, wins, takes, returns, step_moves, step_lends, step_wins, won_phases, step_returns, step_takes}
-use Rattle.foreign_core.proofs.Runs.{at_position, before_is, state_at, next_at, event_at, IfSome_at, IsSomeAnd_at, IsSomeAnd_from}
+use Rattle.foreign_core.proofs.StepLemmas.{phase_of, Moves, stays, lends, wins, takes, returns, step_moves, step_lends, step_wins, won_phases, step_returns, step_takes}
+use Rattle.foreign_core.proofs.RunLemmas.{at_position, before_is, state_at, next_at, event_at, IfSome_at, IsSomeAnd_at, IsSomeAnd_from}
 
 -- where a function of the position stops having a value
 pub record Change (f : ℕ → ℕ) (v low high : ℕ) : Type 0 where
@@ -170,13 +170,13 @@ record Course (n : ℕ) (events : List Event) (t lent again : ℕ) : Type 0 wher
   return : ComesBack n events t came_back
 
 course : (n : ℕ) (events : List Event) → IsPossible n events → (t lent again : ℕ) → AreSuccessive (Lends events t) lent again → Course n events t lent again
-course n events possible t lent again lends_ =
+course n events possible t lent again two_lends =
   let f : ℕ → ℕ = phase_at n events t in
-  let end : again < length events = slice_get_within events again (Lend t) lends_.at_second in
-  let order : lent < again = lends_.order in
-  let at_end : f again ≡ 0 = (lend_phases n events t again possible lends_.at_second).0 in
+  let end : again < length events = slice_get_within events again (Lend t) two_lends.at_second in
+  let order : lent < again = two_lends.order in
+  let at_end : f again ≡ 0 = (lend_phases n events t again possible two_lends.at_second).0 in
   let a : Change f 1 (suc lent) again =
-    first_change f 1 (again - suc lent) (suc lent) again (omega arith) (lend_phases n events t lent possible lends_.at_first).1 (λ e. omega arith) in
+    first_change f 1 (again - suc lent) (suc lent) again (omega arith) (lend_phases n events t lent possible two_lends.at_first).1 (λ e. omega arith) in
   let a_to : a.place < again = a.to_high in
   let win = leaves_carried n events t a.place possible (omega arith) (a.same a.place a.from_low (omega arith)) a.changed in
   let b : Change f 2 (suc a.place) again = first_change f 2 (again - suc a.place) (suc a.place) again (omega arith) win.1 (λ e. omega arith) in
@@ -191,7 +191,7 @@ course n events possible t lent again lends_ =
   let stay : (l : ℕ) → suc c.place ≤ l → l < suc c.place + (again - suc c.place) → f l ≡ 0 → f (suc l) ≡ 0 =
     λ l low high here. elim (cases_eq (f (suc l)) 0) [
         inl e ↦ e
-      | inr ne ↦ absurd (lends_.none_between l (omega arith, omega arith) (leaves_idle n events t l possible (omega arith) here ne))
+      | inr ne ↦ absurd (two_lends.none_between l (omega arith, omega arith) (leaves_idle n events t l possible (omega arith) here ne))
       ] in
   record {
     won = a.place;
@@ -264,8 +264,8 @@ at_idle n events t lent again c l low high here =
   ]
 
 pub each_returns_once : (n : ℕ) (events : List Event) → IsPossible n events → (t lent again : ℕ) → AreSuccessive (Lends events t) lent again → ReturnsOnce n events t lent again
-each_returns_once n events possible t lent again lends_ =
-  let c : Course n events t lent again = course n events possible t lent again lends_ in
+each_returns_once n events possible t lent again two_lends =
+  let c : Course n events t lent again = course n events possible t lent again two_lends in
   let lent_won : lent < c.won = c.lent_won in
   let won_taken : c.won < c.taken = c.won_taken in
   let taken_back : c.taken < c.came_back = c.taken_back in

@@ -1,5 +1,5 @@
-pub mod Places
-pub mod Steps
-pub mod Runs
+pub mod PlaceLemmas
+pub mod StepLemmas
+pub mod RunLemmas
 pub mod Courses
-pub mod Order
+pub mod ReturnOrder

@@ -1,13 +1,13 @@
 -- Histories: events that come one after another, from tickets that are all idle.
 --
 -- A position in a history counts the events before it, so the first event has position 0.
-use Rattle.std.specs.Prelude.{◌≡◌, ℕ, ◌<◌, nat_eq, List, [], ◌∷◌, length, take, cond, ◌+◌, Option, Some, None, IsSome, IsSomeAnd, slice_get}
+use Rattle.std.specs.Prelude.{◌≡◌, ℕ, ◌<◌, List, [], ◌∷◌, take, Option, Some, None, IsSome, IsSomeAnd, slice_get}
 use Rattle.std.specs.Option.{option_and_then}
+use Rattle.foreign_core.specs.Places.{InOneState}
 use Rattle.foreign_core.specs.Tickets.{Tickets, start, state_of, head_of, next_back, step}
 use Rattle.foreign_core.specs.declared.event.Event.{Event}
 use Rattle.foreign_core.specs.declared.event.Event.TheVariants.{Lend, Swing, TakeWhole, Back}
-use Rattle.foreign_core.specs.declared.ticket_state.TicketState.{TicketState}
-use Rattle.foreign_core.specs.declared.ticket_state.TicketState.TheVariants.{Idle, Carried, Looked, Linked, Listed, Walked}
+use Rattle.foreign_core.specs.declared.ticket_state.TicketState.TheVariants.{Linked}
 
 -- the tickets after these events, and none where one of them is not possible
 abbrev pub run : Tickets → List Event → Option Tickets
@@ -72,50 +72,6 @@ pub record IsNextAfter (earlier : ℕ) (P : ℕ → Type 0) (position : ℕ) : T
   pub holds : P position
   pub none_between : NoneBetween earlier position P
 
--- Each ticket is in one state, and stands where its state says: on the list once if it is listed, on the walk once
--- if it is walked, and nowhere else.
-
--- how often a ticket stands on a list of tickets
-abbrev pub times_on : List ℕ → ℕ → ℕ
-times_on [] t = 0
-times_on (first ∷ rest) t = cond (nat_eq t first) 1 0 + times_on rest t
-
-abbrev pub listed_times : Option TicketState → ℕ
-listed_times (Some Listed) = 1
-listed_times (Some Idle) = 0
-listed_times (Some Carried) = 0
-listed_times (Some (Looked expected)) = 0
-listed_times (Some (Linked expected)) = 0
-listed_times (Some Walked) = 0
-listed_times None = 0
-
-abbrev pub walked_times : Option TicketState → ℕ
-walked_times (Some Walked) = 1
-walked_times (Some Idle) = 0
-walked_times (Some Carried) = 0
-walked_times (Some (Looked expected)) = 0
-walked_times (Some (Linked expected)) = 0
-walked_times (Some Listed) = 0
-walked_times None = 0
-
--- a ticket of this state is there, and stands neither on the list nor on the walk
-abbrev pub IsOff : Option TicketState → Type 0
-IsOff (Some Idle) = Unit {0}
-IsOff (Some Carried) = Unit {0}
-IsOff (Some (Looked expected)) = Unit {0}
-IsOff (Some (Linked expected)) = Unit {0}
-IsOff (Some Listed) = ⊥
-IsOff (Some Walked) = ⊥
-IsOff None = ⊥
-
-pub record InOnePlace (s : Tickets) : Type 0 where
-  pub on_list : (t : ℕ) → times_on s.listed t ≡ listed_times (state_of s t)
-  pub on_walk : (t : ℕ) → times_on s.walk t ≡ walked_times (state_of s t)
-
-pub record InOneState (tickets : ℕ) (s : Tickets) : Type 0 where
-  pub number : length s.states ≡ tickets
-  pub place : InOnePlace s
-
 -- The laws.
 
 abbrev pub EachInOneState : Type 0
@@ -150,3 +106,10 @@ NewestReturnsFirst =
       → Takes tickets events old won_old taken → Takes tickets events new won_new taken
       → IsNextAfter taken (ComesBack tickets events old) came_back
       → ExactlyOneBetween taken came_back (ComesBack tickets events new)
+
+-- between a take-whole and the next, each ticket that the first took comes back, once
+abbrev pub EachTakenReturns : Type 0
+EachTakenReturns =
+    (tickets : ℕ) (events : List Event) → IsPossible tickets events → (t won taken next : ℕ)
+      → Takes tickets events t won taken → AreSuccessive (TakesWhole events) taken next
+      → ExactlyOneBetween taken next (ComesBack tickets events t)

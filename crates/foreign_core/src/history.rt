@@ -1,6 +1,6 @@
-ghost use Rattle.std.specs.Prelude.{◌≡◌, ◌≤◌, IfOk};
+ghost use Rattle.std.specs.Prelude.{◌≡◌, ◌≤◌, IfOk, IfSome, length};
 ghost use Rattle.foreign_core.specs.Tickets.{start};
-ghost use Rattle.foreign_core.specs.Histories.{run, EachInOneState, EachReturnsOnce, NewestReturnsFirst};
+ghost use Rattle.foreign_core.specs.Histories.{run, EachInOneState, EachReturnsOnce, NewestReturnsFirst, EachTakenReturns};
 
 use std::alloc::{AllocError, Global};
 
@@ -11,7 +11,8 @@ use crate::list_core::Core;
 /// not possible when its turn comes.
 pub fn replay(alloc: Global, tickets: u32, events: &[Event]) -> Result<Option<Core>, AllocError>
     requires { tickets ≤ 32 }
-    ensures { IfOk result (λ after. after ≡ run (start tickets) events.now) }
+    ensures run { IfOk result (λ after. after ≡ run (start tickets) events.now) }
+    ensures tickets { IfOk result (λ after. IfSome after (λ core. length core.states ≡ tickets)) }
 {
     let mut core = Core::new(alloc, tickets)?;
     for event in events {
@@ -27,5 +28,6 @@ pub fn law_of_histories()
     ensures one_state { EachInOneState }
     ensures once { EachReturnsOnce }
     ensures newest_first { NewestReturnsFirst }
+    ensures all_return { EachTakenReturns }
 {
 }

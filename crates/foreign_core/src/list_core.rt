@@ -1,6 +1,6 @@
 ghost use Rattle.std.specs.Prelude.{◌≡◌, ◌<◌, ◌≤◌, ◌↔◌, length, IsTrue, IsSome, IfOk, Some, unwrap_or, map};
 ghost use Rattle.foreign_core.specs.Tickets.{start, state_of, head_of, step, lend, look, link, swing, take_whole, back, becomes, listed_first, taken};
-ghost use Rattle.foreign_core.specs.Histories.{IsOff};
+ghost use Rattle.foreign_core.specs.Places.{IsOff};
 
 use std::alloc::{AllocError, Global};
 use std::marker::Model;
@@ -21,7 +21,7 @@ pub struct Core {
 impl Model for Core {
     ghost use Rattle.foreign_core.specs.Tickets.{Tickets};
     ghost use Rattle.std.specs.Prelude.{reverse, length, vec_capacity, ◌≤◌};
-    ghost use Rattle.foreign_core.specs.Histories.{InOnePlace};
+    ghost use Rattle.foreign_core.specs.Places.{InOnePlace};
 
     ghost Value = { Tickets };
 
@@ -60,9 +60,11 @@ impl Core {
     }
 
     /// One event. False exactly where it is not possible, and then nothing changes.
+    #[tactic(auto, using(crate::proofs::StepLemmas::step_number))]
     pub fn step(&mut self, event: &Event) -> bool
         ensures possible { IsTrue result ↔ IsSome (step self.old event.now) }
         ensures after { self.new ≡ unwrap_or (step self.old event.now) self.old }
+        ensures tickets { length self.new.states ≡ length self.old.states }
     {
         match *event {
             Event::Lend(ticket) => self.lend(ticket),
@@ -78,10 +80,10 @@ impl Core {
         ensures possible { IsTrue result ↔ IsSome (lend self.old ticket (state_of self.old ticket)) }
         ensures after { self.new ≡ unwrap_or (lend self.old ticket (state_of self.old ticket)) self.old }
     {
-        let Some(TicketState::Idle) = self.find(ticket) else {
+        let Some(TicketState::Idle) = self.get(ticket) else {
             return false;
         };
-        self.become_(ticket, TicketState::Carried);
+        self.set(ticket, TicketState::Carried);
         true
     }
 
@@ -89,11 +91,11 @@ impl Core {
         ensures possible { IsTrue result ↔ IsSome (look self.old ticket (state_of self.old ticket)) }
         ensures after { self.new ≡ unwrap_or (look self.old ticket (state_of self.old ticket)) self.old }
     {
-        let Some(TicketState::Carried) = self.find(ticket) else {
+        let Some(TicketState::Carried) = self.get(ticket) else {
             return false;
         };
         let head = self.head();
-        self.become_(ticket, TicketState::Looked(head));
+        self.set(ticket, TicketState::Looked(head));
         true
     }
 
@@ -101,10 +103,10 @@ impl Core {
         ensures possible { IsTrue result ↔ IsSome (link self.old ticket (state_of self.old ticket)) }
         ensures after { self.new ≡ unwrap_or (link self.old ticket (state_of self.old ticket)) self.old }
     {
-        let Some(TicketState::Looked(expected)) = self.find(ticket) else {
+        let Some(TicketState::Looked(expected)) = self.get(ticket) else {
             return false;
         };
-        self.become_(ticket, TicketState::Linked(expected));
+        self.set(ticket, TicketState::Linked(expected));
         true
     }
 
@@ -112,13 +114,13 @@ impl Core {
         ensures possible { IsTrue result ↔ IsSome (swing self.old ticket (state_of self.old ticket)) }
         ensures after { self.new ≡ unwrap_or (swing self.old ticket (state_of self.old ticket)) self.old }
     {
-        let Some(TicketState::Linked(expected)) = self.find(ticket) else {
+        let Some(TicketState::Linked(expected)) = self.get(ticket) else {
             return false;
         };
         if self.head() == expected {
-            self.push(ticket);
+            self.put_at_head(ticket);
         } else {
-            self.become_(ticket, TicketState::Carried);
+            self.set(ticket, TicketState::Carried);
         }
         true
     }
@@ -146,14 +148,14 @@ impl Core {
         true
     }
 
-    fn find(&self, ticket: u32) -> Option<TicketState>
+    fn get(&self, ticket: u32) -> Option<TicketState>
         ensures { result ≡ state_of self.now ticket }
     {
         self.states.get(ticket as usize).copied()
     }
 
-    // A ticket that is on no list goes on to a state that is on none.
-    fn become_(&mut self, ticket: u32, state: TicketState)
+    // A ticket that is neither listed nor walked changes its state, and still is neither.
+    fn set(&mut self, ticket: u32, state: TicketState)
         requires from { IsOff (state_of self.old ticket) }
         requires to { IsOff (Some state) }
         ensures { self.new ≡ becomes self.old ticket state }
@@ -161,7 +163,8 @@ impl Core {
         self.states[ticket as usize] = state;
     }
 
-    fn push(&mut self, ticket: u32)
+    // Such a ticket comes on the list.
+    fn put_at_head(&mut self, ticket: u32)
         requires { IsOff (state_of self.old ticket) }
         ensures { self.new ≡ listed_first self.old ticket }
     {
@@ -170,7 +173,7 @@ impl Core {
     }
 }
 
-// What a take-whole makes of the states.
+// Each ticket that is listed is walked now.
 fn take_listed(states: &mut [TicketState])
     ensures { states.new ≡ map taken states.old }
 {

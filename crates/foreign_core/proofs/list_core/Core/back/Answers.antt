@@ -2,7 +2,7 @@
 use Rattle.std.proofs.Common.{◌≡◌, ◌<◌, List, [], ◌∷◌, ◌++◌, length, reverse, arith, ap, ◌∙◌, length-set}
 use Rattle.std.proofs.lemmas.List.{reverse-append}
 use Rattle.std.proofs.lemmas.Option.{slice_get_within}
-use Rattle.foreign_core.proofs.Places.{back_place, first_walked}
+use Rattle.foreign_core.proofs.PlaceLemmas.{back_place, first_walked}
 use Rattle.foreign_core.proofs.list_core.Core.back.Goals as goal
 
 pub index_mut-requires : goal.index_mut-requires

@@ -3,7 +3,7 @@ use Rattle.std.proofs.Common.{◌≡◌, ◌++◌, List, [], length, take, drop,
 use Rattle.std.proofs.lemmas.Bool.{eqb-true}
 use Rattle.std.proofs.lemmas.List.{take_at, nil_from_length, length-map}
 use Rattle.foreign_core.specs.Tickets.{Tickets, taken}
-use Rattle.foreign_core.proofs.Places.{take_place}
+use Rattle.foreign_core.proofs.PlaceLemmas.{take_place}
 use Rattle.foreign_core.proofs.list_core.Core.take_whole.Goals as goal
 
 pub invariant_of-self : goal.invariant_of-self

@@ -1,14 +1,15 @@
--- What a take-whole took comes back newest first.
+-- What a take-whole took comes back before the next, newest first.
 use Rattle.std.proofs.Common.{◌≡◌, ℕ, zero, suc, ◌+◌, ◌-◌, ◌<◌, ◌≤◌, ◌⊎◌, List, [], ◌∷◌, length, Some, IfSome, slice_get, refl, sym, ◌∙◌, ap, subst, arith, inl, inr}
 use Rattle.std.proofs.lemmas.Bool.{cases_eq, cases_lt}
 use Rattle.std.proofs.lemmas.Option.{slice_get_within, same_Some}
 use Rattle.foreign_core.specs.Tickets.{Tickets, start, state_of, head_of, next_back, listed_first, step}
-use Rattle.foreign_core.specs.Histories.{IsPossible, before, Wins, TakesWhole, ComesBack, Takes, IsBetween, IsOnlyBetween, ExactlyOneBetween, NoneBetween, IsNextAfter, InOnePlace, times_on}
+use Rattle.foreign_core.specs.Places.{InOnePlace, times_on}
+use Rattle.foreign_core.specs.Histories.{IsPossible, before, Wins, TakesWhole, ComesBack, Takes, IsBetween, IsOnlyBetween, ExactlyOneBetween, NoneBetween, AreSuccessive, IsNextAfter}
 use Rattle.foreign_core.specs.declared.event.Event.{Event}
 use Rattle.foreign_core.specs.declared.event.Event.TheVariants.{Swing, TakeWhole, Back}
-use Rattle.foreign_core.proofs.Places.{times_on_first, times_on_other, first_not_again}
-use Rattle.foreign_core.proofs.Steps.{phase_of, Moves, stays, lends, wins, takes, returns, Shifts, keeps, lists, takes_all, gives, step_shifts, step_takes_list, listed_phase, first_is}
-use Rattle.foreign_core.proofs.Runs.{at_position, before_is, state_at, next_at, event_at, IfSome_at, IsSomeAnd_from}
+use Rattle.foreign_core.proofs.PlaceLemmas.{times_on_first, times_on_other, first_not_again}
+use Rattle.foreign_core.proofs.StepLemmas.{phase_of, Moves, stays, lends, wins, takes, returns, Shifts, keeps, lists, takes_all, gives, step_shifts, step_takes_list, listed_phase, first_is}
+use Rattle.foreign_core.proofs.RunLemmas.{at_position, before_is, state_at, next_at, event_at, IfSome_at, IsSomeAnd_from}
 use Rattle.foreign_core.proofs.Courses.{Change, first_change, along, phase_at, moves_at, win_next, win_phases, back_phases, back_first, take_phases, leaves_list, leaves_walk}
 
 -- new stands before old on a list
@@ -46,18 +47,44 @@ stays_walked n events t k possible within here none =
   | inr ne ↦ absurd (none (leaves_walk n events t k possible within here ne).0)
   ]
 
--- while one ticket is on the walk, no other comes there
-stays_off : (n : ℕ) (events : List Event) (t u k : ℕ) → IsPossible n events → k < length events
-  → phase_at n events u k ≡ 3 → (phase_at n events t k ≡ 3 → ⊥) → phase_at n events t (suc k) ≡ 3 → ⊥
-stays_off n events t u k possible within other off there =
+-- without a take-whole no ticket comes on the walk
+stays_untaken : (n : ℕ) (events : List Event) (t k : ℕ) → IsPossible n events → k < length events
+  → (TakesWhole events k → ⊥) → (phase_at n events t k ≡ 3 → ⊥) → phase_at n events t (suc k) ≡ 3 → ⊥
+stays_untaken n events t k possible within none off there =
   let event = event_at events k within in
   elim (moves_at n events t k event.0 possible event.1) [
     stays same ↦ off (sym same ∙ there)
   | lends e a b ↦ omega arith
   | wins e s a b ↦ omega arith
-  | takes e a b ↦ (take_phases n events u k possible (event.1 ∙ ap Some e)).0 other
+  | takes e a b ↦ none (event.1 ∙ ap Some e)
   | returns e s a b ↦ omega arith
   ]
+
+-- while one ticket is on the walk, no other comes there
+stays_off : (n : ℕ) (events : List Event) (t u k : ℕ) → IsPossible n events → k < length events
+  → phase_at n events u k ≡ 3 → (phase_at n events t k ≡ 3 → ⊥) → phase_at n events t (suc k) ≡ 3 → ⊥
+stays_off n events t u k possible within other off there =
+  stays_untaken n events t k possible within (λ take. (take_phases n events u k possible take).0 other) off there
+
+-- a ticket that is walked up to its return and not after it comes back once
+only_return : (n : ℕ) (events : List Event) (t low high place : ℕ) → IsPossible n events → IsBetween low high place → ComesBack n events t place
+  → ((l : ℕ) → low < l → l ≤ place → phase_at n events t l ≡ 3) → ((l : ℕ) → place < l → l ≤ high → phase_at n events t l ≡ 3 → ⊥)
+  → IsOnlyBetween low high (ComesBack n events t) place
+only_return n events t low high place possible between back walked off = record {
+  between = between;
+  holds = back;
+  only = λ other inside comes.
+    let phases = back_phases n events t other possible comes in
+    let above : low < other = inside.0 in
+    let below : other < high = inside.1 in
+    elim (cases_lt place other) [
+      inl late ↦ absurd (off other late (omega arith) phases.0)
+    | inr early ↦ elim (cases_eq other place) [
+        inl same ↦ same
+      | inr ne ↦ absurd (omega (arith, walked (suc other) (omega arith) (omega arith), phases.1))
+      ]
+    ];
+}
 
 -- the order on the list stays until a take-whole
 list_order : (n : ℕ) (events : List Event) (new old k : ℕ) → IsPossible n events → k < length events → (TakesWhole events k → ⊥)
@@ -162,18 +189,28 @@ newest_returns_first n events possible old new won_old won_new taken came_back n
     λ l a b. along (λ k. g k ≡ 3 → ⊥) (suc change.place) (came_back - suc change.place) (λ e. omega (arith, return.1))
       (λ k c d here. stays_off n events new old k possible (omega arith) (old_walked k (omega arith) (omega arith)) here)
       l (omega arith) (omega arith) in
-  (change.place, record {
-    between = (omega arith, high);
-    holds = return.0;
-    only = λ other between comes.
-      let phases = back_phases n events new other possible comes in
-      let other_low : taken < other = between.0 in
-      let other_high : other < came_back = between.1 in
-      elim (cases_lt change.place other) [
-        inl late ↦ absurd (after other late (omega arith) phases.0)
-      | inr early ↦ elim (cases_eq other change.place) [
-          inl same ↦ same
-        | inr ne ↦ absurd (omega (arith, change.same (suc other) (omega arith) (omega arith), phases.1))
-        ]
-      ];
-  })
+  (change.place, only_return n events new taken came_back change.place possible (omega arith, high) return.0 (λ l a b. change.same l (omega arith) b) after)
+
+pub each_taken_returns : (n : ℕ) (events : List Event) → IsPossible n events → (t won taken next : ℕ)
+  → Takes n events t won taken → AreSuccessive (TakesWhole events) taken next
+  → ExactlyOneBetween taken next (ComesBack n events t)
+each_taken_returns n events possible t won taken next took takings =
+  let f : ℕ → ℕ = phase_at n events t in
+  let end : next < length events = slice_get_within events next TakeWhole takings.at_second in
+  let order : taken < next = takings.order in
+  let won_taken : won < taken = took.next.later in
+  let listed : f taken ≡ 2 =
+    along (λ k. f k ≡ 2) (suc won) (taken - suc won) (win_phases n events t won possible took.win).1
+      (λ k a b here. stays_listed n events t k possible (omega arith) here (took.next.none_between k (omega arith, omega arith)))
+      taken (omega arith) (omega arith) in
+  let change : Change f 3 (suc taken) next =
+    first_change f 3 (next - suc taken) (suc taken) next (omega arith)
+      ((take_phases n events t taken possible takings.at_first).1 listed) (take_phases n events t next possible takings.at_second).0 in
+  let low : suc taken ≤ change.place = change.from_low in
+  let high : change.place < next = change.to_high in
+  let return = leaves_walk n events t change.place possible (omega arith) (change.same change.place low (omega arith)) change.changed in
+  let after : (l : ℕ) → change.place < l → l ≤ next → f l ≡ 3 → ⊥ =
+    λ l a b. along (λ k. f k ≡ 3 → ⊥) (suc change.place) (next - suc change.place) (λ e. omega (arith, return.1))
+      (λ k c d here. stays_untaken n events t k possible (omega arith) (takings.none_between k (omega arith, omega arith)) here)
+      l (omega arith) (omega arith) in
+  (change.place, only_return n events t taken next change.place possible (omega arith, high) return.0 (λ l a b. change.same l (omega arith) b) after)

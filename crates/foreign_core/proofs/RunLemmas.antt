@@ -4,10 +4,11 @@ use Rattle.std.proofs.lemmas.List.{length-replicate}
 use Rattle.std.specs.Option.{option_and_then}
 use Rattle.std.proofs.lemmas.Bool.{false≢true}
 use Rattle.foreign_core.specs.Tickets.{Tickets, start, step}
-use Rattle.foreign_core.specs.Histories.{run, IsPossible, before, InOneState}
+use Rattle.foreign_core.specs.Places.{InOneState}
+use Rattle.foreign_core.specs.Histories.{run, IsPossible, before}
 use Rattle.foreign_core.specs.declared.event.Event.{Event}
-use Rattle.foreign_core.proofs.Places.{start_place}
-use Rattle.foreign_core.proofs.Steps.{step_keeps}
+use Rattle.foreign_core.proofs.PlaceLemmas.{start_place}
+use Rattle.foreign_core.proofs.StepLemmas.{step_keeps}
 
 abbrev pub tickets_at : Tickets → ℕ → List Event → Tickets
 tickets_at s zero events = s
@@ -80,3 +81,11 @@ pub event_at : (events : List Event) (k : ℕ) → k < length events → (event 
 event_at [] k h = absurd (omega arith)
 event_at (event ∷ events) zero h = (event, refl)
 event_at (first ∷ events) (suc k) h = event_at events k (omega arith)
+
+-- the events after one that was possible
+pub run_more : (s : Tickets) (event : Event) (events : List Event) → IsSome (step s event) → run (unwrap_or (step s event) s) events ≡ run s (event ∷ events)
+run_more s event events possible =
+  (elim (step s event) as (λ o. IsSome o → run (unwrap_or o s) events ≡ option_and_then (λ next. run next events) o) [
+    None ↦ λ none. absurd (false≢true none)
+  | Some next ↦ λ some. refl
+  ]) possible

@@ -3,10 +3,10 @@ use Rattle.std.proofs.Common.{refl, ◌≡◌, ℕ, ◌+◌, ◌<◌, ◌≤◌,
 use Rattle.std.proofs.lemmas.List.{reverse-append, length-reverse}
 use Rattle.std.specs.Vec.{vec_capacity}
 use Rattle.foreign_core.specs.Tickets.{Tickets, state_of, listed_first}
-use Rattle.foreign_core.specs.Histories.{InOnePlace, IsOff}
+use Rattle.foreign_core.specs.Places.{InOnePlace, IsOff}
 use Rattle.foreign_core.specs.declared.ticket_state.TicketState.TheVariants.{Listed}
-use Rattle.foreign_core.proofs.Places.{listed_place, length-listed}
-use Rattle.foreign_core.proofs.list_core.Core.push.Goals as goal
+use Rattle.foreign_core.proofs.PlaceLemmas.{listed_place, length-listed}
+use Rattle.foreign_core.proofs.list_core.Core.put_at_head.Goals as goal
 
 pub invariant_of-self : goal.invariant_of-self
 invariant_of-self c =

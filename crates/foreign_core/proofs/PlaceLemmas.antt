@@ -6,7 +6,7 @@ use Rattle.std.proofs.lemmas.Bool.Decides.{nat_tests}
 use Rattle.std.proofs.lemmas.Option.{slice_get-map, slice_get_past, slice_get_within}
 use Rattle.std.proofs.lemmas.Grind.{common_steps}
 use Rattle.foreign_core.specs.Tickets.{Tickets, start, state_of, head_of, next_back, becomes, listed_first, taken}
-use Rattle.foreign_core.specs.Histories.{InOnePlace, IsOff, times_on, listed_times, walked_times}
+use Rattle.foreign_core.specs.Places.{InOnePlace, IsOff, times_on, listed_times, walked_times}
 use Rattle.foreign_core.specs.declared.ticket_state.TicketState.{TicketState}
 use Rattle.foreign_core.specs.declared.ticket_state.TicketState.TheVariants.{Idle, Carried, Looked, Linked, Listed, Walked}
 
@@ -42,22 +42,12 @@ off_within (x ∷ xs) zero off = omega arith
 off_within (x ∷ xs) (suc t) off = omega (arith, off_within xs t off)
 
 pub off_list : (o : Option TicketState) → IsOff o → listed_times o ≡ 0
-off_list (Some Idle) off = refl
-off_list (Some Carried) off = refl
-off_list (Some (Looked e)) off = refl
-off_list (Some (Linked e)) off = refl
 off_list (Some Listed) off = absurd off
-off_list (Some Walked) off = refl
-off_list None off = refl
+off_list _ off = refl
 
 pub off_walk : (o : Option TicketState) → IsOff o → walked_times o ≡ 0
-off_walk (Some Idle) off = refl
-off_walk (Some Carried) off = refl
-off_walk (Some (Looked e)) off = refl
-off_walk (Some (Linked e)) off = refl
-off_walk (Some Listed) off = refl
 off_walk (Some Walked) off = absurd off
-off_walk None off = refl
+off_walk _ off = refl
 
 -- where no ticket is lent, each is in one place
 pub start_place : (n : ℕ) → InOnePlace (start n)
@@ -95,22 +85,12 @@ listed_place s t p from =
   }
 
 listed-taken : (o : Option TicketState) → listed_times (option_map taken o) ≡ 0
-listed-taken (Some Idle) = refl
-listed-taken (Some Carried) = refl
-listed-taken (Some (Looked e)) = refl
-listed-taken (Some (Linked e)) = refl
 listed-taken (Some Listed) = refl
-listed-taken (Some Walked) = refl
-listed-taken None = refl
+listed-taken _ = refl
 
 walked-taken : (o : Option TicketState) → walked_times (option_map taken o) ≡ listed_times o + walked_times o
-walked-taken (Some Idle) = refl
-walked-taken (Some Carried) = refl
-walked-taken (Some (Looked e)) = refl
-walked-taken (Some (Linked e)) = refl
 walked-taken (Some Listed) = refl
-walked-taken (Some Walked) = refl
-walked-taken None = refl
+walked-taken _ = refl
 
 pub take_place : (s : Tickets) → InOnePlace s → s.walk ≡ [] → InOnePlace (record { states = map taken s.states; listed = []; walk = s.listed })
 take_place s p none = record {
@@ -126,13 +106,8 @@ walked_within (x ∷ xs) zero n e = omega arith
 walked_within (x ∷ xs) (suc t) n e = omega (arith, walked_within xs t n e)
 
 walked_once : (o : Option TicketState) (n : ℕ) → suc n ≡ walked_times o → (n ≡ 0) × (listed_times o ≡ 0) × (o ≡ Some Walked)
-walked_once (Some Idle) n e = absurd (omega arith)
-walked_once (Some Carried) n e = absurd (omega arith)
-walked_once (Some (Looked x)) n e = absurd (omega arith)
-walked_once (Some (Linked x)) n e = absurd (omega arith)
-walked_once (Some Listed) n e = absurd (omega arith)
 walked_once (Some Walked) n e = (omega arith, refl, refl)
-walked_once None n e = absurd (omega arith)
+walked_once _ n e = absurd (omega arith)
 
 -- the first of the walk is a ticket that is there, is walked and stands nowhere else
 pub first_walked : (s : Tickets) (t : ℕ) (rest : List ℕ) → InOnePlace s → s.walk ≡ t ∷ rest → state_of s t ≡ Some Walked
@@ -186,13 +161,8 @@ all_below n (x ∷ xs) none =
   rw (lt-ltb x n first) (omega (arith, all_below n xs rest))
 
 listed_at_most : (o : Option TicketState) → listed_times o ≤ 1
-listed_at_most (Some Idle) = omega arith
-listed_at_most (Some Carried) = omega arith
-listed_at_most (Some (Looked e)) = omega arith
-listed_at_most (Some (Linked e)) = omega arith
 listed_at_most (Some Listed) = omega arith
-listed_at_most (Some Walked) = omega arith
-listed_at_most None = omega arith
+listed_at_most _ = omega arith
 
 -- the list is no longer than there are tickets
 pub length-listed : (s : Tickets) → InOnePlace s → length s.listed ≤ length s.states

@@ -5,12 +5,12 @@ use Rattle.std.proofs.lemmas.Bool.{cases_eq, eqb-true, eq-eqb, cond_both, cond-t
 use Rattle.std.proofs.lemmas.List.{length-map}
 use Rattle.std.proofs.lemmas.Option.{slice_get-map, slice_get_within, same_Some}
 use Rattle.foreign_core.specs.Tickets.{Tickets, start, state_of, head_of, next_back, becomes, listed_first, taken, lend, look, link, swing, take_whole, back, step}
-use Rattle.foreign_core.specs.Histories.{InOnePlace, InOneState, IsOff, times_on, listed_times, walked_times}
+use Rattle.foreign_core.specs.Places.{InOnePlace, InOneState, IsOff, times_on, listed_times, walked_times}
 use Rattle.foreign_core.specs.declared.event.Event.{Event}
 use Rattle.foreign_core.specs.declared.event.Event.TheVariants.{Lend, Look, Link, Swing, TakeWhole, Back}
 use Rattle.foreign_core.specs.declared.ticket_state.TicketState.{TicketState}
 use Rattle.foreign_core.specs.declared.ticket_state.TicketState.TheVariants.{Idle, Carried, Looked, Linked, Listed, Walked}
-use Rattle.foreign_core.proofs.Places.{slice_get-set_same, slice_get-set_other, off_within, becomes_place, listed_place, take_place, back_place, first_walked}
+use Rattle.foreign_core.proofs.PlaceLemmas.{slice_get-set_same, slice_get-set_other, off_within, becomes_place, listed_place, take_place, back_place, first_walked}
 
 -- Each event keeps the number of the tickets, and each in one place.
 
@@ -25,42 +25,22 @@ becomes_state n s t x y p here from to = record {
 
 lend_keeps : (n : ℕ) (s : Tickets) (t : ℕ) (o : Option TicketState) → state_of s t ≡ o → InOneState n s → IfSome (lend s t o) (InOneState n)
 lend_keeps n s t (Some Idle) here p = becomes_state n s t Idle Carried p here tt tt
-lend_keeps n s t (Some Carried) here p = tt
-lend_keeps n s t (Some (Looked e)) here p = tt
-lend_keeps n s t (Some (Linked e)) here p = tt
-lend_keeps n s t (Some Listed) here p = tt
-lend_keeps n s t (Some Walked) here p = tt
-lend_keeps n s t None here p = tt
+lend_keeps n s t _ here p = tt
 
 look_keeps : (n : ℕ) (s : Tickets) (t : ℕ) (o : Option TicketState) → state_of s t ≡ o → InOneState n s → IfSome (look s t o) (InOneState n)
-look_keeps n s t (Some Idle) here p = tt
 look_keeps n s t (Some Carried) here p = becomes_state n s t Carried (Looked (head_of s)) p here tt tt
-look_keeps n s t (Some (Looked e)) here p = tt
-look_keeps n s t (Some (Linked e)) here p = tt
-look_keeps n s t (Some Listed) here p = tt
-look_keeps n s t (Some Walked) here p = tt
-look_keeps n s t None here p = tt
+look_keeps n s t _ here p = tt
 
 link_keeps : (n : ℕ) (s : Tickets) (t : ℕ) (o : Option TicketState) → state_of s t ≡ o → InOneState n s → IfSome (link s t o) (InOneState n)
-link_keeps n s t (Some Idle) here p = tt
-link_keeps n s t (Some Carried) here p = tt
 link_keeps n s t (Some (Looked e)) here p = becomes_state n s t (Looked e) (Linked e) p here tt tt
-link_keeps n s t (Some (Linked e)) here p = tt
-link_keeps n s t (Some Listed) here p = tt
-link_keeps n s t (Some Walked) here p = tt
-link_keeps n s t None here p = tt
+link_keeps n s t _ here p = tt
 
 swing_keeps : (n : ℕ) (s : Tickets) (t : ℕ) (o : Option TicketState) → state_of s t ≡ o → InOneState n s → IfSome (swing s t o) (InOneState n)
-swing_keeps n s t (Some Idle) here p = tt
-swing_keeps n s t (Some Carried) here p = tt
-swing_keeps n s t (Some (Looked e)) here p = tt
 swing_keeps n s t (Some (Linked e)) here p =
   cond_both (option_eq nat_eq (head_of s) e) (listed_first s t) (becomes s t Carried) (InOneState n)
     (λ won. record { number = length-set s.states t Listed ∙ p.number; place = listed_place s t p.place (off_here s t (Linked e) here tt) })
     (λ lost. becomes_state n s t (Linked e) Carried p here tt tt)
-swing_keeps n s t (Some Listed) here p = tt
-swing_keeps n s t (Some Walked) here p = tt
-swing_keeps n s t None here p = tt
+swing_keeps n s t _ here p = tt
 
 take_keeps : (n : ℕ) (s : Tickets) (walk : List ℕ) → s.walk ≡ walk → InOneState n s → IfSome (take_whole s walk) (InOneState n)
 take_keeps n s [] here p = record { number = length-map s.states taken ∙ p.number; place = take_place s p.place here }
@@ -77,6 +57,41 @@ step_keeps n s (Link t) p = link_keeps n s t (state_of s t) refl p
 step_keeps n s (Swing t) p = swing_keeps n s t (state_of s t) refl p
 step_keeps n s TakeWhole p = take_keeps n s s.walk refl p
 step_keeps n s Back p = back_keeps n s s.walk refl p
+
+-- an event keeps the number of the tickets
+lend_number : (s : Tickets) (t : ℕ) (o : Option TicketState) → length (unwrap_or (lend s t o) s).states ≡ length s.states
+lend_number s t (Some Idle) = length-set s.states t Carried
+lend_number s t _ = refl
+
+look_number : (s : Tickets) (t : ℕ) (o : Option TicketState) → length (unwrap_or (look s t o) s).states ≡ length s.states
+look_number s t (Some Carried) = length-set s.states t (Looked (head_of s))
+look_number s t _ = refl
+
+link_number : (s : Tickets) (t : ℕ) (o : Option TicketState) → length (unwrap_or (link s t o) s).states ≡ length s.states
+link_number s t (Some (Looked e)) = length-set s.states t (Linked e)
+link_number s t _ = refl
+
+swing_number : (s : Tickets) (t : ℕ) (o : Option TicketState) → length (unwrap_or (swing s t o) s).states ≡ length s.states
+swing_number s t (Some (Linked e)) =
+  cond_both (option_eq nat_eq (head_of s) e) (listed_first s t) (becomes s t Carried) (λ new. length new.states ≡ length s.states)
+    (λ won. length-set s.states t Listed) (λ lost. length-set s.states t Carried)
+swing_number s t _ = refl
+
+take_number : (s : Tickets) (walk : List ℕ) → length (unwrap_or (take_whole s walk) s).states ≡ length s.states
+take_number s [] = length-map s.states taken
+take_number s (t ∷ rest) = refl
+
+back_number : (s : Tickets) (walk : List ℕ) → length (unwrap_or (back s walk) s).states ≡ length s.states
+back_number s [] = refl
+back_number s (t ∷ rest) = length-set s.states t Idle
+
+pub step_number : (s : Tickets) (event : Event) → length (unwrap_or (step s event) s).states ≡ length s.states
+step_number s (Lend t) = lend_number s t (state_of s t)
+step_number s (Look t) = look_number s t (state_of s t)
+step_number s (Link t) = link_number s t (state_of s t)
+step_number s (Swing t) = swing_number s t (state_of s t)
+step_number s TakeWhole = take_number s s.walk
+step_number s Back = back_number s s.walk
 
 -- How far a ticket has come: with the owner, with a block, on the list, on the walk.
 abbrev pub phase : Option TicketState → ℕ
@@ -112,30 +127,15 @@ lend_moves s u t (Some Idle) here = elim (cases_eq t u) [
     inl e ↦ lends (ap Lend (sym e)) (rw (e, here) refl) (rw (e, slice_get-set_same s.states u Carried (slice_get_within s.states u Idle here)) refl)
   | inr ne ↦ stays (rw (slice_get-set_other s.states u t Carried ne) refl)
   ]
-lend_moves s u t (Some Carried) here = tt
-lend_moves s u t (Some (Looked e)) here = tt
-lend_moves s u t (Some (Linked e)) here = tt
-lend_moves s u t (Some Listed) here = tt
-lend_moves s u t (Some Walked) here = tt
-lend_moves s u t None here = tt
+lend_moves s u t _ here = tt
 
 look_moves : (s : Tickets) (u t : ℕ) (o : Option TicketState) → state_of s u ≡ o → IfSome (look s u o) (λ new. Moves s (Look u) t (phase_of s t) (phase_of new t))
-look_moves s u t (Some Idle) here = tt
 look_moves s u t (Some Carried) here = same_phase s (Look u) u t Carried (Looked (head_of s)) here refl
-look_moves s u t (Some (Looked e)) here = tt
-look_moves s u t (Some (Linked e)) here = tt
-look_moves s u t (Some Listed) here = tt
-look_moves s u t (Some Walked) here = tt
-look_moves s u t None here = tt
+look_moves s u t _ here = tt
 
 link_moves : (s : Tickets) (u t : ℕ) (o : Option TicketState) → state_of s u ≡ o → IfSome (link s u o) (λ new. Moves s (Link u) t (phase_of s t) (phase_of new t))
-link_moves s u t (Some Idle) here = tt
-link_moves s u t (Some Carried) here = tt
 link_moves s u t (Some (Looked e)) here = same_phase s (Link u) u t (Looked e) (Linked e) here refl
-link_moves s u t (Some (Linked e)) here = tt
-link_moves s u t (Some Listed) here = tt
-link_moves s u t (Some Walked) here = tt
-link_moves s u t None here = tt
+link_moves s u t _ here = tt
 
 same_head : (a b : Option ℕ) → option_eq nat_eq a b ≡ true → a ≡ b
 same_head None None e = refl
@@ -148,9 +148,6 @@ head_same None = refl
 head_same (Some x) = eq-eqb x x refl
 
 swing_moves : (s : Tickets) (u t : ℕ) (o : Option TicketState) → state_of s u ≡ o → IfSome (swing s u o) (λ new. Moves s (Swing u) t (phase_of s t) (phase_of new t))
-swing_moves s u t (Some Idle) here = tt
-swing_moves s u t (Some Carried) here = tt
-swing_moves s u t (Some (Looked e)) here = tt
 swing_moves s u t (Some (Linked expected)) here =
   cond_both (option_eq nat_eq (head_of s) expected) (listed_first s u) (becomes s u Carried) (λ new. Moves s (Swing u) t (phase_of s t) (phase_of new t))
     (λ won. elim (cases_eq t u) [
@@ -159,18 +156,11 @@ swing_moves s u t (Some (Linked expected)) here =
       | inr ne ↦ stays (rw (slice_get-set_other s.states u t Listed ne) refl)
       ])
     (λ lost. same_phase s (Swing u) u t (Linked expected) Carried here refl)
-swing_moves s u t (Some Listed) here = tt
-swing_moves s u t (Some Walked) here = tt
-swing_moves s u t None here = tt
+swing_moves s u t _ here = tt
 
 taken_moves : (s : Tickets) (t : ℕ) (o : Option TicketState) → Moves s TakeWhole t (phase o) (phase (option_map taken o))
-taken_moves s t (Some Idle) = stays refl
-taken_moves s t (Some Carried) = stays refl
-taken_moves s t (Some (Looked e)) = stays refl
-taken_moves s t (Some (Linked e)) = stays refl
 taken_moves s t (Some Listed) = takes refl refl refl
-taken_moves s t (Some Walked) = stays refl
-taken_moves s t None = stays refl
+taken_moves s t _ = stays refl
 
 take_moves : (s : Tickets) (t : ℕ) (walk : List ℕ) → IfSome (take_whole s walk) (λ new. Moves s TakeWhole t (phase_of s t) (phase_of new t))
 take_moves s t [] = rw (slice_get-map taken s.states t) (taken_moves s t (state_of s t))
@@ -197,12 +187,7 @@ step_moves s Back t p = back_moves s t s.walk refl p
 
 lend_does : (s : Tickets) (t : ℕ) (o : Option TicketState) → state_of s t ≡ o → IfSome (lend s t o) (λ new. (phase_of s t ≡ 0) × (phase_of new t ≡ 1))
 lend_does s t (Some Idle) here = (rw here refl, rw (slice_get-set_same s.states t Carried (slice_get_within s.states t Idle here)) refl)
-lend_does s t (Some Carried) here = tt
-lend_does s t (Some (Looked e)) here = tt
-lend_does s t (Some (Linked e)) here = tt
-lend_does s t (Some Listed) here = tt
-lend_does s t (Some Walked) here = tt
-lend_does s t None here = tt
+lend_does s t _ here = tt
 
 pub step_lends : (s : Tickets) (t : ℕ) → IfSome (step s (Lend t)) (λ new. (phase_of s t ≡ 0) × (phase_of new t ≡ 1))
 step_lends s t = lend_does s t (state_of s t) refl
@@ -227,31 +212,16 @@ step_returns s t p next =
 
 -- a take-whole finds no ticket walked, and takes each that is listed
 walked_phase : (o : Option TicketState) → phase o ≡ 3 → walked_times o ≡ 1
-walked_phase (Some Idle) e = absurd (omega arith)
-walked_phase (Some Carried) e = absurd (omega arith)
-walked_phase (Some (Looked x)) e = absurd (omega arith)
-walked_phase (Some (Linked x)) e = absurd (omega arith)
-walked_phase (Some Listed) e = absurd (omega arith)
 walked_phase (Some Walked) e = refl
-walked_phase None e = absurd (omega arith)
+walked_phase _ e = absurd (omega arith)
 
 pub listed_phase : (o : Option TicketState) → phase o ≡ 2 → listed_times o ≡ 1
-listed_phase (Some Idle) e = absurd (omega arith)
-listed_phase (Some Carried) e = absurd (omega arith)
-listed_phase (Some (Looked x)) e = absurd (omega arith)
-listed_phase (Some (Linked x)) e = absurd (omega arith)
 listed_phase (Some Listed) e = refl
-listed_phase (Some Walked) e = absurd (omega arith)
-listed_phase None e = absurd (omega arith)
+listed_phase _ e = absurd (omega arith)
 
 taken_phase : (o : Option TicketState) → phase o ≡ 2 → phase (option_map taken o) ≡ 3
-taken_phase (Some Idle) e = absurd (omega arith)
-taken_phase (Some Carried) e = absurd (omega arith)
-taken_phase (Some (Looked x)) e = absurd (omega arith)
-taken_phase (Some (Linked x)) e = absurd (omega arith)
 taken_phase (Some Listed) e = refl
-taken_phase (Some Walked) e = absurd (omega arith)
-taken_phase None e = absurd (omega arith)
+taken_phase _ e = absurd (omega arith)
 
 take_does : (s : Tickets) (t : ℕ) (walk : List ℕ) → s.walk ≡ walk → InOnePlace s
   → IfSome (take_whole s walk) (λ new. (phase_of s t ≡ 3 → ⊥) × (phase_of s t ≡ 2 → phase_of new t ≡ 3))
@@ -280,40 +250,20 @@ pub data Shifts (s : Tickets) (event : Event) (new : Tickets) : Type 0 where
 
 lend_shifts : (s : Tickets) (t : ℕ) (o : Option TicketState) → IfSome (lend s t o) (Shifts s (Lend t))
 lend_shifts s t (Some Idle) = keeps refl refl
-lend_shifts s t (Some Carried) = tt
-lend_shifts s t (Some (Looked e)) = tt
-lend_shifts s t (Some (Linked e)) = tt
-lend_shifts s t (Some Listed) = tt
-lend_shifts s t (Some Walked) = tt
-lend_shifts s t None = tt
+lend_shifts s t _ = tt
 
 look_shifts : (s : Tickets) (t : ℕ) (o : Option TicketState) → IfSome (look s t o) (Shifts s (Look t))
-look_shifts s t (Some Idle) = tt
 look_shifts s t (Some Carried) = keeps refl refl
-look_shifts s t (Some (Looked e)) = tt
-look_shifts s t (Some (Linked e)) = tt
-look_shifts s t (Some Listed) = tt
-look_shifts s t (Some Walked) = tt
-look_shifts s t None = tt
+look_shifts s t _ = tt
 
 link_shifts : (s : Tickets) (t : ℕ) (o : Option TicketState) → IfSome (link s t o) (Shifts s (Link t))
-link_shifts s t (Some Idle) = tt
-link_shifts s t (Some Carried) = tt
 link_shifts s t (Some (Looked e)) = keeps refl refl
-link_shifts s t (Some (Linked e)) = tt
-link_shifts s t (Some Listed) = tt
-link_shifts s t (Some Walked) = tt
-link_shifts s t None = tt
+link_shifts s t _ = tt
 
 swing_shifts : (s : Tickets) (t : ℕ) (o : Option TicketState) → IfSome (swing s t o) (Shifts s (Swing t))
-swing_shifts s t (Some Idle) = tt
-swing_shifts s t (Some Carried) = tt
-swing_shifts s t (Some (Looked e)) = tt
 swing_shifts s t (Some (Linked e)) =
   cond_both (option_eq nat_eq (head_of s) e) (listed_first s t) (becomes s t Carried) (Shifts s (Swing t)) (λ won. lists t refl refl) (λ lost. keeps refl refl)
-swing_shifts s t (Some Listed) = tt
-swing_shifts s t (Some Walked) = tt
-swing_shifts s t None = tt
+swing_shifts s t _ = tt
 
 take_shifts : (s : Tickets) (walk : List ℕ) → IfSome (take_whole s walk) (Shifts s TakeWhole)
 take_shifts s [] = takes_all refl refl
