@@ -7,8 +7,8 @@ use std::alloc::{AllocError, Global};
 use crate::event::Event;
 use crate::list_core::Core;
 
-/// The core of so many tickets after these events, from all idle on. None exactly where some event is
-/// not possible when its turn comes.
+/// The core of this many tickets after these events, begun with all tickets idle. None exactly where
+/// some event is not possible when its turn comes.
 pub fn replay(alloc: Global, tickets: u32, events: &[Event]) -> Result<Option<Core>, AllocError>
     requires { tickets ≤ 32 }
     ensures run { IfOk result (λ after. after ≡ run (start tickets) events.now) }
@@ -23,7 +23,11 @@ pub fn replay(alloc: Global, tickets: u32, events: &[Event]) -> Result<Option<Co
     Ok(Some(core))
 }
 
-/// The law of every history, over all lists of events.
+/// The law of every history, over all lists of possible events.
+///
+/// After each, every ticket is in one state and stands where its state says. From one lend of a ticket to
+/// the next, one swing of it wins, then one take-whole comes, and then the ticket comes back, once. What
+/// one take-whole took comes back newest first, and all of it before the next take-whole.
 pub fn law_of_histories()
     ensures one_state { EachInOneState }
     ensures once { EachReturnsOnce }

@@ -1,5 +1,5 @@
 ghost use Rattle.std.specs.Prelude.{◌≡◌, ◌<◌, ◌≤◌, ◌↔◌, length, IsTrue, IsSome, IfOk, Some, unwrap_or, map};
-ghost use Rattle.foreign_core.specs.Tickets.{start, state_of, head_of, step, lend, look, link, swing, take_whole, back, becomes, listed_first, taken};
+ghost use Rattle.foreign_core.specs.Tickets.{start, state_of, head_of, step, becomes, listed_first, taken};
 ghost use Rattle.foreign_core.specs.Places.{IsOff};
 
 use std::alloc::{AllocError, Global};
@@ -9,7 +9,8 @@ use std::mem;
 use crate::event::Event;
 use crate::ticket_state::TicketState;
 
-/// The foreign free list of one owner, as the states of its tickets, the list and the walk.
+/// The foreign free list of one owner: the state of each ticket, the list, newest first, and the walk,
+/// which is what the last take-whole took and is not yet back. Contracts see these three.
 #[derive(Debug, Drop)]
 pub struct Core {
     states: Vec<TicketState>,
@@ -27,11 +28,16 @@ impl Model for Core {
 
     ghost view = { λ c. record { states = c.states.items; listed = reverse c.list.items; walk = reverse c.walk.items } };
 
-    ghost invariant = { λ c. InOnePlace (record { states = c.states.items; listed = reverse c.list.items; walk = reverse c.walk.items }) × (length c.states.items ≤ vec_capacity c.list) × (length c.states.items ≤ vec_capacity c.walk) };
+    // Each ticket is in one place, and both lists have room for all tickets.
+    ghost invariant = { λ c. record {
+        place : InOnePlace (record { states = c.states.items; listed = reverse c.list.items; walk = reverse c.walk.items });
+        list_room : length c.states.items ≤ vec_capacity c.list;
+        walk_room : length c.states.items ≤ vec_capacity c.walk;
+    } };
 }
 
 impl Core {
-    /// So many tickets, all of them idle. Takes all the memory that the core will need.
+    /// This many tickets, all of them idle. All memory that the core needs is taken here.
     pub fn new(alloc: Global, tickets: u32) -> Result<Self, AllocError>
         requires { tickets ≤ 32 }
         ensures { IfOk result (λ core. core ≡ start tickets) }
@@ -44,7 +50,7 @@ impl Core {
         })
     }
 
-    /// The state of a ticket.
+    /// The state of the ticket.
     pub fn state(&self, ticket: u32) -> TicketState
         requires { ticket < length self.now.states }
         ensures { state_of self.now ticket ≡ Some result }
@@ -52,14 +58,15 @@ impl Core {
         self.states[ticket as usize]
     }
 
-    /// The newest ticket on the list.
+    /// The ticket at the head of the list, the newest.
     pub fn head(&self) -> Option<u32>
         ensures { result ≡ head_of self.now }
     {
         self.list.last().copied()
     }
 
-    /// One event. False exactly where it is not possible, and then nothing changes.
+    /// Makes one event. False exactly where it is not possible, and then nothing changes. An event of a
+    /// ticket that is not below the number of tickets is not possible.
     #[tactic(auto, using(crate::proofs::StepLemmas::step_number))]
     pub fn step(&mut self, event: &Event) -> bool
         ensures possible { IsTrue result ↔ IsSome (step self.old event.now) }
@@ -77,8 +84,8 @@ impl Core {
     }
 
     fn lend(&mut self, ticket: u32) -> bool
-        ensures possible { IsTrue result ↔ IsSome (lend self.old ticket (state_of self.old ticket)) }
-        ensures after { self.new ≡ unwrap_or (lend self.old ticket (state_of self.old ticket)) self.old }
+        ensures possible { IsTrue result ↔ IsSome (step self.old (Event.Lend ticket)) }
+        ensures after { self.new ≡ unwrap_or (step self.old (Event.Lend ticket)) self.old }
     {
         let Some(TicketState::Idle) = self.get(ticket) else {
             return false;
@@ -88,8 +95,8 @@ impl Core {
     }
 
     fn look(&mut self, ticket: u32) -> bool
-        ensures possible { IsTrue result ↔ IsSome (look self.old ticket (state_of self.old ticket)) }
-        ensures after { self.new ≡ unwrap_or (look self.old ticket (state_of self.old ticket)) self.old }
+        ensures possible { IsTrue result ↔ IsSome (step self.old (Event.Look ticket)) }
+        ensures after { self.new ≡ unwrap_or (step self.old (Event.Look ticket)) self.old }
     {
         let Some(TicketState::Carried) = self.get(ticket) else {
             return false;
@@ -100,8 +107,8 @@ impl Core {
     }
 
     fn link(&mut self, ticket: u32) -> bool
-        ensures possible { IsTrue result ↔ IsSome (link self.old ticket (state_of self.old ticket)) }
-        ensures after { self.new ≡ unwrap_or (link self.old ticket (state_of self.old ticket)) self.old }
+        ensures possible { IsTrue result ↔ IsSome (step self.old (Event.Link ticket)) }
+        ensures after { self.new ≡ unwrap_or (step self.old (Event.Link ticket)) self.old }
     {
         let Some(TicketState::Looked(expected)) = self.get(ticket) else {
             return false;
@@ -111,8 +118,8 @@ impl Core {
     }
 
     fn swing(&mut self, ticket: u32) -> bool
-        ensures possible { IsTrue result ↔ IsSome (swing self.old ticket (state_of self.old ticket)) }
-        ensures after { self.new ≡ unwrap_or (swing self.old ticket (state_of self.old ticket)) self.old }
+        ensures possible { IsTrue result ↔ IsSome (step self.old (Event.Swing ticket)) }
+        ensures after { self.new ≡ unwrap_or (step self.old (Event.Swing ticket)) self.old }
     {
         let Some(TicketState::Linked(expected)) = self.get(ticket) else {
             return false;
@@ -126,8 +133,8 @@ impl Core {
     }
 
     fn take_whole(&mut self) -> bool
-        ensures possible { IsTrue result ↔ IsSome (take_whole self.old self.old.walk) }
-        ensures after { self.new ≡ unwrap_or (take_whole self.old self.old.walk) self.old }
+        ensures possible { IsTrue result ↔ IsSome (step self.old Event.TakeWhole) }
+        ensures after { self.new ≡ unwrap_or (step self.old Event.TakeWhole) self.old }
     {
         if !self.walk.is_empty() {
             return false;
@@ -138,8 +145,8 @@ impl Core {
     }
 
     fn back(&mut self) -> bool
-        ensures possible { IsTrue result ↔ IsSome (back self.old self.old.walk) }
-        ensures after { self.new ≡ unwrap_or (back self.old self.old.walk) self.old }
+        ensures possible { IsTrue result ↔ IsSome (step self.old Event.Back) }
+        ensures after { self.new ≡ unwrap_or (step self.old Event.Back) self.old }
     {
         let Some(ticket) = self.walk.pop() else {
             return false;

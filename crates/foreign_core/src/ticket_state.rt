@@ -1,18 +1,18 @@
-/// What a ticket is about. Tickets are numbers, so an expected head is the ticket at the head, or none
-/// for an empty list.
+/// Where a ticket stands between the owner and the holder of a lent block. An expected head is the
+/// ticket that was at the head of the list when the holder looked, or none if the list was empty.
 #[derive(Clone, Copy, Debug, PartialEq, Eq)]
 pub enum TicketState {
-    /// With the owner, free to be lent.
+    /// With the owner, and may be lent.
     Idle,
-    /// With a lent block.
+    /// With the holder of a block.
     Carried,
-    /// With a lent block that has read this head.
+    /// With the holder, who expects this head.
     Looked(Option<u32>),
-    /// With a lent block that has stored this head as the ticket's next.
+    /// With the holder, who expects this head and has stored it as the ticket's next.
     Linked(Option<u32>),
     /// On the list.
     Listed,
-    /// Taken with the whole list, and not yet back.
+    /// Taken with the list, and not yet back.
     Walked,
 }
 

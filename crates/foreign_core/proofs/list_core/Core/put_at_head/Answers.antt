@@ -12,24 +12,24 @@ pub invariant_of-self : goal.invariant_of-self
 invariant_of-self c =
     let s : Tickets = record { states = c.self.inside.states.items; listed = reverse c.self.inside.list.items; walk = reverse c.self.inside.walk.items } in
     let from = rw (← c.self.view_is) at c.requires in
-    let place = listed_place s c.args.ticket c.self.invariant.0 from in
+    let place = listed_place s c.args.ticket c.self.invariant.place from in
     let room : vec_len c.self.inside.list < vec_capacity c.self.inside.list =
-      omega (arith, length-listed (listed_first s c.args.ticket) place, length-set c.self.inside.states.items c.args.ticket Listed, length-reverse c.self.inside.list.items, c.self.inside.list.ok.0, c.self.invariant.1) in
+      omega (arith, length-listed (listed_first s c.args.ticket) place, length-set c.self.inside.states.items c.args.ticket Listed, length-reverse c.self.inside.list.items, c.self.inside.list.ok.0, c.self.invariant.list_room) in
     let pushed : is_ok c.push.result ≡ true = c.push.ensures.succeeds room in
     let items : c.push.new.self.items ≡ c.self.inside.list.items ++ c.args.ticket ∷ [] = c.push.ensures.items ∙ (rw pushed refl) in
-    (
-      rw (items, reverse-append c.self.inside.list.items (c.args.ticket ∷ [])) place,
-      simp length-set (omega (arith, c.self.invariant.1, c.push.ensures.capacity)),
-      simp length-set c.self.invariant.2
-    )
+    record {
+      place = rw (items, reverse-append c.self.inside.list.items (c.args.ticket ∷ [])) place;
+      list_room = simp length-set (omega (arith, c.self.invariant.list_room, c.push.ensures.capacity));
+      walk_room = simp length-set c.self.invariant.walk_room;
+    }
 
 pub returns : goal.returns
 returns c =
     let s : Tickets = record { states = c.self.inside.states.items; listed = reverse c.self.inside.list.items; walk = reverse c.self.inside.walk.items } in
     let from = rw (← c.self.view_is) at c.requires in
-    let place = listed_place s c.args.ticket c.self.invariant.0 from in
+    let place = listed_place s c.args.ticket c.self.invariant.place from in
     let room : vec_len c.self.inside.list < vec_capacity c.self.inside.list =
-      omega (arith, length-listed (listed_first s c.args.ticket) place, length-set c.self.inside.states.items c.args.ticket Listed, length-reverse c.self.inside.list.items, c.self.inside.list.ok.0, c.self.invariant.1) in
+      omega (arith, length-listed (listed_first s c.args.ticket) place, length-set c.self.inside.states.items c.args.ticket Listed, length-reverse c.self.inside.list.items, c.self.inside.list.ok.0, c.self.invariant.list_room) in
     let pushed : is_ok c.push.result ≡ true = c.push.ensures.succeeds room in
     let items : c.push.new.self.items ≡ c.self.inside.list.items ++ c.args.ticket ∷ [] = c.push.ensures.items ∙ (rw pushed refl) in
     rw (← c.self.view_is, items, reverse-append c.self.inside.list.items (c.args.ticket ∷ [])) refl

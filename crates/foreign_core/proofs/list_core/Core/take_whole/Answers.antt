@@ -12,5 +12,9 @@ invariant_of-self c =
       rw (c.take_listed.ensures, c.deref_mut.ensures.value) (take_at (map taken c.self.inside.states.items) _ c.self.inside.states.len (length-map c.self.inside.states.items taken ∙ sym (c.self.inside.states.ok.0))) in
     let s : Tickets = record { states = c.self.inside.states.items; listed = reverse c.self.inside.list.items; walk = reverse c.self.inside.walk.items } in
     let none : c.self.inside.walk.items ≡ [] = nil_from_length c.self.inside.walk.items (sym (c.self.inside.walk.ok.0) ∙ eqb-true (vec_len c.self.inside.walk) 0 (sym c.if-not-is_empty.ensures)) in
-    let place = take_place s c.self.invariant.0 (ap reverse none) in
-    rw (states, c.swap.ensures.x_after, c.swap.ensures.y_after, none) (place, simp length-map c.self.invariant.2, simp length-map c.self.invariant.1)
+    let place = take_place s c.self.invariant.place (ap reverse none) in
+    rw (states, c.swap.ensures.x_after, c.swap.ensures.y_after, none) (record {
+      place = place;
+      list_room = simp length-map c.self.invariant.walk_room;
+      walk_room = simp length-map c.self.invariant.list_room;
+    })
