@@ -58,31 +58,31 @@ start_place n = record {
 
 pub becomes_place : (s : Tickets) (t : ℕ) (x : TicketState) → InOnePlace s → IsOff (state_of s t) → IsOff (Some x) → InOnePlace (becomes s t x)
 becomes_place s t x p from to =
-  let within : t < length s.states = off_within s.states t from in
-  record {
-    on_list = λ u. elim (cases_eq u t) [
-        inl e ↦ rw (e, slice_get-set_same s.states t x within, off_list (Some x) to) (rw (p.on_list t) (off_list (state_of s t) from))
-      | inr ne ↦ rw (slice_get-set_other s.states t u x ne) (p.on_list u)
+    let within : t < length s.states = off_within s.states t from in
+    record {
+      on_list = λ u. elim (cases_eq u t) [
+        | inl e ↦ rw (e, slice_get-set_same s.states t x within, off_list (Some x) to) (rw (p.on_list t) (off_list (state_of s t) from))
+        | inr ne ↦ rw (slice_get-set_other s.states t u x ne) (p.on_list u)
       ];
-    on_walk = λ u. elim (cases_eq u t) [
-        inl e ↦ rw (e, slice_get-set_same s.states t x within, off_walk (Some x) to) (rw (p.on_walk t) (off_walk (state_of s t) from))
-      | inr ne ↦ rw (slice_get-set_other s.states t u x ne) (p.on_walk u)
+      on_walk = λ u. elim (cases_eq u t) [
+        | inl e ↦ rw (e, slice_get-set_same s.states t x within, off_walk (Some x) to) (rw (p.on_walk t) (off_walk (state_of s t) from))
+        | inr ne ↦ rw (slice_get-set_other s.states t u x ne) (p.on_walk u)
       ];
-  }
+    }
 
 pub listed_place : (s : Tickets) (t : ℕ) → InOnePlace s → IsOff (state_of s t) → InOnePlace (listed_first s t)
 listed_place s t p from =
-  let within : t < length s.states = off_within s.states t from in
-  record {
-    on_list = λ u. elim (cases_eq u t) [
-        inl e ↦ rw (e, slice_get-set_same s.states t Listed within) (rw (times_on_first t s.listed) (ap suc (rw (p.on_list t) (off_list (state_of s t) from))))
-      | inr ne ↦ rw (slice_get-set_other s.states t u Listed ne, times_on_other t u s.listed ne) (p.on_list u)
+    let within : t < length s.states = off_within s.states t from in
+    record {
+      on_list = λ u. elim (cases_eq u t) [
+        | inl e ↦ rw (e, slice_get-set_same s.states t Listed within) (rw (times_on_first t s.listed) (ap suc (rw (p.on_list t) (off_list (state_of s t) from))))
+        | inr ne ↦ rw (slice_get-set_other s.states t u Listed ne, times_on_other t u s.listed ne) (p.on_list u)
       ];
-    on_walk = λ u. elim (cases_eq u t) [
-        inl e ↦ rw (e, slice_get-set_same s.states t Listed within) (rw (p.on_walk t) (off_walk (state_of s t) from))
-      | inr ne ↦ rw (slice_get-set_other s.states t u Listed ne) (p.on_walk u)
+      on_walk = λ u. elim (cases_eq u t) [
+        | inl e ↦ rw (e, slice_get-set_same s.states t Listed within) (rw (p.on_walk t) (off_walk (state_of s t) from))
+        | inr ne ↦ rw (slice_get-set_other s.states t u Listed ne) (p.on_walk u)
       ];
-  }
+    }
 
 listed-taken : (o : Option TicketState) → listed_times (option_map taken o) ≡ 0
 listed-taken (Some Listed) = refl
@@ -96,8 +96,8 @@ pub take_place : (s : Tickets) → InOnePlace s → s.walk ≡ [] → InOnePlace
 take_place s p none = record {
   on_list = λ u. rw (slice_get-map taken s.states u) (sym (listed-taken (state_of s u)));
   on_walk = λ u.
-    let no_walk : times_on s.walk u ≡ 0 = rw none refl in
-    rw (slice_get-map taken s.states u, walked-taken (state_of s u)) (omega (arith, p.on_list u, p.on_walk u, no_walk));
+      let no_walk : times_on s.walk u ≡ 0 = rw none refl in
+      rw (slice_get-map taken s.states u, walked-taken (state_of s u)) (omega (arith, p.on_list u, p.on_walk u, no_walk));
 }
 
 walked_within : (xs : List TicketState) (t n : ℕ) → suc n ≡ walked_times (slice_get xs t) → t < length xs
@@ -112,29 +112,29 @@ walked_once _ n e = absurd (omega arith)
 -- the first of the walk is a ticket that is there, is walked and stands nowhere else
 pub first_walked : (s : Tickets) (t : ℕ) (rest : List ℕ) → InOnePlace s → s.walk ≡ t ∷ rest → state_of s t ≡ Some Walked
 first_walked s t rest p w =
-  let e : suc (times_on rest t) ≡ walked_times (state_of s t) = sym (times_on_first t rest) ∙ (rw w at (p.on_walk t)) in
-  (walked_once (state_of s t) (times_on rest t) e).2
+    let e : suc (times_on rest t) ≡ walked_times (state_of s t) = sym (times_on_first t rest) ∙ (rw w at (p.on_walk t)) in
+    (walked_once (state_of s t) (times_on rest t) e).2
 
 pub first_not_again : (s : Tickets) (t : ℕ) (rest : List ℕ) → InOnePlace s → s.walk ≡ t ∷ rest → times_on rest t ≡ 0
 first_not_again s t rest p w =
-  let e : suc (times_on rest t) ≡ walked_times (state_of s t) = sym (times_on_first t rest) ∙ (rw w at (p.on_walk t)) in
-  (walked_once (state_of s t) (times_on rest t) e).0
+    let e : suc (times_on rest t) ≡ walked_times (state_of s t) = sym (times_on_first t rest) ∙ (rw w at (p.on_walk t)) in
+    (walked_once (state_of s t) (times_on rest t) e).0
 
 pub back_place : (s : Tickets) (t : ℕ) (rest : List ℕ) → InOnePlace s → s.walk ≡ t ∷ rest → InOnePlace (record { states = set s.states t Idle; listed = s.listed; walk = rest })
 back_place s t rest p w =
-  let e : suc (times_on rest t) ≡ walked_times (state_of s t) = sym (times_on_first t rest) ∙ (rw w at (p.on_walk t)) in
-  let within : t < length s.states = walked_within s.states t (times_on rest t) e in
-  let once : (times_on rest t ≡ 0) × (listed_times (state_of s t) ≡ 0) × (state_of s t ≡ Some Walked) = walked_once (state_of s t) (times_on rest t) e in
-  record {
-    on_list = λ u. elim (cases_eq u t) [
-        inl same ↦ rw (same, slice_get-set_same s.states t Idle within) (rw (p.on_list t) once.1)
-      | inr ne ↦ rw (slice_get-set_other s.states t u Idle ne) (p.on_list u)
+    let e : suc (times_on rest t) ≡ walked_times (state_of s t) = sym (times_on_first t rest) ∙ (rw w at (p.on_walk t)) in
+    let within : t < length s.states = walked_within s.states t (times_on rest t) e in
+    let once : (times_on rest t ≡ 0) × (listed_times (state_of s t) ≡ 0) × (state_of s t ≡ Some Walked) = walked_once (state_of s t) (times_on rest t) e in
+    record {
+      on_list = λ u. elim (cases_eq u t) [
+        | inl same ↦ rw (same, slice_get-set_same s.states t Idle within) (rw (p.on_list t) once.1)
+        | inr ne ↦ rw (slice_get-set_other s.states t u Idle ne) (p.on_list u)
       ];
-    on_walk = λ u. elim (cases_eq u t) [
-        inl same ↦ rw (same, slice_get-set_same s.states t Idle within) once.0
-      | inr ne ↦ rw (slice_get-set_other s.states t u Idle ne) (sym (times_on_other t u rest ne) ∙ (rw w at (p.on_walk u)))
+      on_walk = λ u. elim (cases_eq u t) [
+        | inl same ↦ rw (same, slice_get-set_same s.states t Idle within) once.0
+        | inr ne ↦ rw (slice_get-set_other s.states t u Idle ne) (sym (times_on_other t u rest ne) ∙ (rw w at (p.on_walk u)))
       ];
-  }
+    }
 
 -- A list that has each of n tickets at most once, and no other, is no longer than n.
 abbrev below : ℕ → List ℕ → ℕ
@@ -156,9 +156,9 @@ at_most_below (suc n) xs once = rw (below_more n xs) (omega (arith, at_most_belo
 all_below : (n : ℕ) (xs : List ℕ) → ((u : ℕ) → n ≤ u → times_on xs u ≡ 0) → length xs ≡ below n xs
 all_below n [] none = refl
 all_below n (x ∷ xs) none =
-  let first : x < n = elim (cases_lt x n) [ inl h ↦ h | inr h ↦ absurd (omega (arith, times_on_first x xs, none x h)) ] in
-  let rest : (u : ℕ) → n ≤ u → times_on xs u ≡ 0 = λ u h. omega (arith, none u h) in
-  rw (lt-ltb x n first) (omega (arith, all_below n xs rest))
+    let first : x < n = elim (cases_lt x n) [ inl h ↦ h | inr h ↦ absurd (omega (arith, times_on_first x xs, none x h)) ] in
+    let rest : (u : ℕ) → n ≤ u → times_on xs u ≡ 0 = λ u h. omega (arith, none u h) in
+    rw (lt-ltb x n first) (omega (arith, all_below n xs rest))
 
 listed_at_most : (o : Option TicketState) → listed_times o ≤ 1
 listed_at_most (Some Listed) = omega arith
@@ -167,6 +167,6 @@ listed_at_most _ = omega arith
 -- the list is no longer than there are tickets
 pub length-listed : (s : Tickets) → InOnePlace s → length s.listed ≤ length s.states
 length-listed s p =
-  let once : (u : ℕ) → times_on s.listed u ≤ 1 = λ u. rw (p.on_list u) (listed_at_most (state_of s u)) in
-  let none : (u : ℕ) → length s.states ≤ u → times_on s.listed u ≡ 0 = λ u h. p.on_list u ∙ (rw (slice_get_past s.states u h) refl) in
-  rw (all_below (length s.states) s.listed none) (at_most_below (length s.states) s.listed once)
+    let once : (u : ℕ) → times_on s.listed u ≤ 1 = λ u. rw (p.on_list u) (listed_at_most (state_of s u)) in
+    let none : (u : ℕ) → length s.states ≤ u → times_on s.listed u ≡ 0 = λ u h. p.on_list u ∙ (rw (slice_get_past s.states u h) refl) in
+    rw (all_below (length s.states) s.listed none) (at_most_below (length s.states) s.listed once)

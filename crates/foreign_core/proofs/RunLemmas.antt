@@ -19,32 +19,32 @@ run_before : (events : List Event) (s : Tickets) (k : ℕ) → IsSome (run s eve
 run_before events s zero possible = refl
 run_before [] s (suc k) possible = refl
 run_before (event ∷ events) s (suc k) possible =
-  (elim (step s event) as (λ o. IsSome (option_and_then (λ next. run next events) o) → option_and_then (λ next. run next (take k events)) o ≡ Some (tickets_at (unwrap_or o s) k events)) [
-    None ↦ λ none. absurd (false≢true none)
-  | Some next ↦ λ rest. run_before events next k rest
-  ]) possible
+    (elim (step s event) as (λ o. IsSome (option_and_then (λ next. run next events) o) → option_and_then (λ next. run next (take k events)) o ≡ Some (tickets_at (unwrap_or o s) k events)) [
+      | None ↦ λ none. absurd (false≢true none)
+      | Some next ↦ λ rest. run_before events next k rest
+    ]) possible
 
 step_at : (events : List Event) (s : Tickets) (k : ℕ) (event : Event) → IsSome (run s events) → slice_get events k ≡ Some event
-  → step (tickets_at s k events) event ≡ Some (tickets_at s (suc k) events)
+    → step (tickets_at s k events) event ≡ Some (tickets_at s (suc k) events)
 step_at [] s k event possible here = absurd cc
 step_at (first ∷ events) s zero event possible here =
-  (elim (step s first) as (λ o. step s first ≡ o → IsSome (option_and_then (λ next. run next events) o) → step s event ≡ Some (unwrap_or o s)) [
-    None ↦ λ e none. absurd (false≢true none)
-  | Some next ↦ λ e rest. let same : first ≡ event = cc in rw (← same) e
-  ]) refl possible
+    (elim (step s first) as (λ o. step s first ≡ o → IsSome (option_and_then (λ next. run next events) o) → step s event ≡ Some (unwrap_or o s)) [
+      | None ↦ λ e none. absurd (false≢true none)
+      | Some next ↦ λ e rest. let same : first ≡ event = cc in rw (← same) e
+    ]) refl possible
 step_at (first ∷ events) s (suc k) event possible here =
-  (elim (step s first) as (λ o. IsSome (option_and_then (λ next. run next events) o) → step (tickets_at (unwrap_or o s) k events) event ≡ Some (tickets_at (unwrap_or o s) (suc k) events)) [
-    None ↦ λ none. absurd (false≢true none)
-  | Some next ↦ λ rest. step_at events next k event rest here
-  ]) possible
+    (elim (step s first) as (λ o. IsSome (option_and_then (λ next. run next events) o) → step (tickets_at (unwrap_or o s) k events) event ≡ Some (tickets_at (unwrap_or o s) (suc k) events)) [
+      | None ↦ λ none. absurd (false≢true none)
+      | Some next ↦ λ rest. step_at events next k event rest here
+    ]) possible
 
 run_keeps : (n : ℕ) (events : List Event) (s : Tickets) → InOneState n s → IfSome (run s events) (InOneState n)
 run_keeps n [] s p = p
 run_keeps n (event ∷ events) s p =
-  (elim (step s event) as (λ o. IfSome o (InOneState n) → IfSome (option_and_then (λ next. run next events) o) (InOneState n)) [
-    None ↦ λ none. tt
-  | Some next ↦ λ q. run_keeps n events next q
-  ]) (step_keeps n s event p)
+    (elim (step s event) as (λ o. IfSome o (InOneState n) → IfSome (option_and_then (λ next. run next events) o) (InOneState n)) [
+      | None ↦ λ none. tt
+      | Some next ↦ λ q. run_keeps n events next q
+    ]) (step_keeps n s event p)
 
 -- What is so in each case, is so in this one.
 pub IfSome_at : {A : Type 0} (o : Option A) (x : A) (P : A → Type 0) → o ≡ Some x → IfSome o P → P x
@@ -74,7 +74,7 @@ pub state_at : (n : ℕ) (events : List Event) (k : ℕ) → IsPossible n events
 state_at n events k possible = each_in_one_state n (take k events) (at_position n events k) (before_is n events k possible)
 
 pub next_at : (n : ℕ) (events : List Event) (k : ℕ) (event : Event) → IsPossible n events → slice_get events k ≡ Some event
-  → step (at_position n events k) event ≡ Some (at_position n events (suc k))
+    → step (at_position n events k) event ≡ Some (at_position n events (suc k))
 next_at n events k event possible here = step_at events (start n) k event possible here
 
 pub event_at : (events : List Event) (k : ℕ) → k < length events → (event : Event) × (slice_get events k ≡ Some event)
@@ -85,7 +85,7 @@ event_at (first ∷ events) (suc k) h = event_at events k (omega arith)
 -- the events after one that was possible
 pub run_more : (s : Tickets) (event : Event) (events : List Event) → IsSome (step s event) → run (unwrap_or (step s event) s) events ≡ run s (event ∷ events)
 run_more s event events possible =
-  (elim (step s event) as (λ o. IsSome o → run (unwrap_or o s) events ≡ option_and_then (λ next. run next events) o) [
-    None ↦ λ none. absurd (false≢true none)
-  | Some next ↦ λ some. refl
-  ]) possible
+    (elim (step s event) as (λ o. IsSome o → run (unwrap_or o s) events ≡ option_and_then (λ next. run next events) o) [
+      | None ↦ λ none. absurd (false≢true none)
+      | Some next ↦ λ some. refl
+    ]) possible

@@ -37,7 +37,7 @@ link_keeps n s t _ here p = tt
 
 swing_keeps : (n : ℕ) (s : Tickets) (t : ℕ) (o : Option TicketState) → state_of s t ≡ o → InOneState n s → IfSome (swing s t o) (InOneState n)
 swing_keeps n s t (Some (Linked e)) here p =
-  cond_both (option_eq nat_eq (head_of s) e) (listed_first s t) (becomes s t Carried) (InOneState n)
+    cond_both (option_eq nat_eq (head_of s) e) (listed_first s t) (becomes s t Carried) (InOneState n)
     (λ won. record { number = length-set s.states t Listed ∙ p.number; place = listed_place s t p.place (off_here s t (Linked e) here tt) })
     (λ lost. becomes_state n s t (Linked e) Carried p here tt tt)
 swing_keeps n s t _ here p = tt
@@ -73,7 +73,7 @@ link_number s t _ = refl
 
 swing_number : (s : Tickets) (t : ℕ) (o : Option TicketState) → length (unwrap_or (swing s t o) s).states ≡ length s.states
 swing_number s t (Some (Linked e)) =
-  cond_both (option_eq nat_eq (head_of s) e) (listed_first s t) (becomes s t Carried) (λ new. length new.states ≡ length s.states)
+    cond_both (option_eq nat_eq (head_of s) e) (listed_first s t) (becomes s t Carried) (λ new. length new.states ≡ length s.states)
     (λ won. length-set s.states t Listed) (λ lost. length-set s.states t Carried)
 swing_number s t _ = refl
 
@@ -116,17 +116,17 @@ pub data Moves (s : Tickets) (event : Event) (t old new : ℕ) : Type 0 where
 
 -- a ticket that goes from one state to another of the same phase
 same_phase : (s : Tickets) (event : Event) (u t : ℕ) (x y : TicketState) → state_of s u ≡ Some x → phase (Some x) ≡ phase (Some y)
-  → Moves s event t (phase_of s t) (phase_of (becomes s u y) t)
+    → Moves s event t (phase_of s t) (phase_of (becomes s u y) t)
 same_phase s event u t x y here same = elim (cases_eq t u) [
-    inl e ↦ stays (rw (e, slice_get-set_same s.states u y (slice_get_within s.states u x here), here) (sym same))
+  | inl e ↦ stays (rw (e, slice_get-set_same s.states u y (slice_get_within s.states u x here), here) (sym same))
   | inr ne ↦ stays (rw (slice_get-set_other s.states u t y ne) refl)
-  ]
+]
 
 lend_moves : (s : Tickets) (u t : ℕ) (o : Option TicketState) → state_of s u ≡ o → IfSome (lend s u o) (λ new. Moves s (Lend u) t (phase_of s t) (phase_of new t))
 lend_moves s u t (Some Idle) here = elim (cases_eq t u) [
-    inl e ↦ lends (ap Lend (sym e)) (rw (e, here) refl) (rw (e, slice_get-set_same s.states u Carried (slice_get_within s.states u Idle here)) refl)
+  | inl e ↦ lends (ap Lend (sym e)) (rw (e, here) refl) (rw (e, slice_get-set_same s.states u Carried (slice_get_within s.states u Idle here)) refl)
   | inr ne ↦ stays (rw (slice_get-set_other s.states u t Carried ne) refl)
-  ]
+]
 lend_moves s u t _ here = tt
 
 look_moves : (s : Tickets) (u t : ℕ) (o : Option TicketState) → state_of s u ≡ o → IfSome (look s u o) (λ new. Moves s (Look u) t (phase_of s t) (phase_of new t))
@@ -149,12 +149,12 @@ head_same (Some x) = eq-eqb x x refl
 
 swing_moves : (s : Tickets) (u t : ℕ) (o : Option TicketState) → state_of s u ≡ o → IfSome (swing s u o) (λ new. Moves s (Swing u) t (phase_of s t) (phase_of new t))
 swing_moves s u t (Some (Linked expected)) here =
-  cond_both (option_eq nat_eq (head_of s) expected) (listed_first s u) (becomes s u Carried) (λ new. Moves s (Swing u) t (phase_of s t) (phase_of new t))
+    cond_both (option_eq nat_eq (head_of s) expected) (listed_first s u) (becomes s u Carried) (λ new. Moves s (Swing u) t (phase_of s t) (phase_of new t))
     (λ won. elim (cases_eq t u) [
-        inl e ↦ wins (ap Swing (sym e)) (rw e here ∙ ap (λ h. Some (Linked h)) (sym (same_head (head_of s) expected won))) (rw (e, here) refl)
+      | inl e ↦ wins (ap Swing (sym e)) (rw e here ∙ ap (λ h. Some (Linked h)) (sym (same_head (head_of s) expected won))) (rw (e, here) refl)
           (rw (e, slice_get-set_same s.states u Listed (slice_get_within s.states u (Linked expected) here)) refl)
       | inr ne ↦ stays (rw (slice_get-set_other s.states u t Listed ne) refl)
-      ])
+    ])
     (λ lost. same_phase s (Swing u) u t (Linked expected) Carried here refl)
 swing_moves s u t _ here = tt
 
@@ -169,11 +169,11 @@ take_moves s t (u ∷ rest) = tt
 back_moves : (s : Tickets) (t : ℕ) (walk : List ℕ) → s.walk ≡ walk → InOnePlace s → IfSome (back s walk) (λ new. Moves s Back t (phase_of s t) (phase_of new t))
 back_moves s t [] here p = tt
 back_moves s t (u ∷ rest) here p =
-  let walked = first_walked s u rest p here in
-  elim (cases_eq t u) [
-    inl e ↦ returns refl (rw here (ap Some (sym e))) (rw (e, walked) refl) (rw (e, slice_get-set_same s.states u Idle (slice_get_within s.states u Walked walked)) refl)
-  | inr ne ↦ stays (rw (slice_get-set_other s.states u t Idle ne) refl)
-  ]
+    let walked = first_walked s u rest p here in
+    elim (cases_eq t u) [
+      | inl e ↦ returns refl (rw here (ap Some (sym e))) (rw (e, walked) refl) (rw (e, slice_get-set_same s.states u Idle (slice_get_within s.states u Walked walked)) refl)
+      | inr ne ↦ stays (rw (slice_get-set_other s.states u t Idle ne) refl)
+    ]
 
 pub step_moves : (s : Tickets) (event : Event) (t : ℕ) → InOnePlace s → IfSome (step s event) (λ new. Moves s event t (phase_of s t) (phase_of new t))
 step_moves s (Lend u) t p = lend_moves s u t (state_of s u) refl
@@ -206,9 +206,9 @@ first_is (u ∷ rest) t e = (rest, ap (λ x. x ∷ rest) (same_Some u t e))
 
 pub step_returns : (s : Tickets) (t : ℕ) → InOnePlace s → next_back s ≡ Some t → IfSome (step s Back) (λ new. (phase_of s t ≡ 3) × (phase_of new t ≡ 0))
 step_returns s t p next =
-  let first = first_is s.walk t next in
-  let walked = first_walked s t first.0 p first.1 in
-  rw (first.1) (rw walked refl, rw (slice_get-set_same s.states t Idle (slice_get_within s.states t Walked walked)) refl)
+    let first = first_is s.walk t next in
+    let walked = first_walked s t first.0 p first.1 in
+    rw (first.1) (rw walked refl, rw (slice_get-set_same s.states t Idle (slice_get_within s.states t Walked walked)) refl)
 
 -- a take-whole finds no ticket walked, and takes each that is listed
 walked_phase : (o : Option TicketState) → phase o ≡ 3 → walked_times o ≡ 1
@@ -224,10 +224,10 @@ taken_phase (Some Listed) e = refl
 taken_phase _ e = absurd (omega arith)
 
 take_does : (s : Tickets) (t : ℕ) (walk : List ℕ) → s.walk ≡ walk → InOnePlace s
-  → IfSome (take_whole s walk) (λ new. (phase_of s t ≡ 3 → ⊥) × (phase_of s t ≡ 2 → phase_of new t ≡ 3))
+    → IfSome (take_whole s walk) (λ new. (phase_of s t ≡ 3 → ⊥) × (phase_of s t ≡ 2 → phase_of new t ≡ 3))
 take_does s t [] here p =
-  let none : times_on s.walk t ≡ 0 = rw here refl in
-  (λ e. omega (arith, p.on_walk t, none, walked_phase (state_of s t) e), λ e. rw (slice_get-map taken s.states t) (taken_phase (state_of s t) e))
+    let none : times_on s.walk t ≡ 0 = rw here refl in
+    (λ e. omega (arith, p.on_walk t, none, walked_phase (state_of s t) e), λ e. rw (slice_get-map taken s.states t) (taken_phase (state_of s t) e))
 take_does s t (u ∷ rest) here p = tt
 
 pub step_takes : (s : Tickets) (t : ℕ) → InOnePlace s → IfSome (step s TakeWhole) (λ new. (phase_of s t ≡ 3 → ⊥) × (phase_of s t ≡ 2 → phase_of new t ≡ 3))
@@ -262,7 +262,7 @@ link_shifts s t _ = tt
 
 swing_shifts : (s : Tickets) (t : ℕ) (o : Option TicketState) → IfSome (swing s t o) (Shifts s (Swing t))
 swing_shifts s t (Some (Linked e)) =
-  cond_both (option_eq nat_eq (head_of s) e) (listed_first s t) (becomes s t Carried) (Shifts s (Swing t)) (λ won. lists t refl refl) (λ lost. keeps refl refl)
+    cond_both (option_eq nat_eq (head_of s) e) (listed_first s t) (becomes s t Carried) (Shifts s (Swing t)) (λ won. lists t refl refl) (λ lost. keeps refl refl)
 swing_shifts s t _ = tt
 
 take_shifts : (s : Tickets) (walk : List ℕ) → IfSome (take_whole s walk) (Shifts s TakeWhole)

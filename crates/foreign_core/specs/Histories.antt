@@ -31,7 +31,7 @@ Lends events t position = slice_get events position ≡ Some (Lend t)
 abbrev pub Wins : ℕ → List Event → ℕ → ℕ → Type 0
 Wins tickets events t position =
     (slice_get events position ≡ Some (Swing t))
-      × IsSomeAnd (before tickets events position) (λ s. state_of s t ≡ Some (Linked (head_of s)))
+    × IsSomeAnd (before tickets events position) (λ s. state_of s t ≡ Some (Linked (head_of s)))
 
 abbrev pub TakesWhole : List Event → ℕ → Type 0
 TakesWhole events position = slice_get events position ≡ Some TakeWhole
@@ -40,7 +40,7 @@ TakesWhole events position = slice_get events position ≡ Some TakeWhole
 abbrev pub ComesBack : ℕ → List Event → ℕ → ℕ → Type 0
 ComesBack tickets events t position =
     (slice_get events position ≡ Some Back)
-      × IsSomeAnd (before tickets events position) (λ s. next_back s ≡ Some t)
+    × IsSomeAnd (before tickets events position) (λ s. next_back s ≡ Some t)
 
 -- Positions.
 
@@ -91,7 +91,7 @@ pub record ReturnsOnce (tickets : ℕ) (events : List Event) (t lent again : ℕ
 abbrev pub EachReturnsOnce : Type 0
 EachReturnsOnce =
     (tickets : ℕ) (events : List Event) → IsPossible tickets events → (t lent again : ℕ)
-      → AreSuccessive (Lends events t) lent again → ReturnsOnce tickets events t lent again
+    → AreSuccessive (Lends events t) lent again → ReturnsOnce tickets events t lent again
 
 -- the take-whole takes the ticket whose swing won at this position: it's the first after it
 pub record Takes (tickets : ℕ) (events : List Event) (t won taken : ℕ) : Type 0 where
@@ -102,14 +102,14 @@ pub record Takes (tickets : ℕ) (events : List Event) (t won taken : ℕ) : Typ
 abbrev pub NewestReturnsFirst : Type 0
 NewestReturnsFirst =
     (tickets : ℕ) (events : List Event) → IsPossible tickets events
-      → (old new won_old won_new taken came_back : ℕ) → won_old < won_new
-      → Takes tickets events old won_old taken → Takes tickets events new won_new taken
-      → IsNextAfter taken (ComesBack tickets events old) came_back
-      → ExactlyOneBetween taken came_back (ComesBack tickets events new)
+    → (old new won_old won_new taken came_back : ℕ) → won_old < won_new
+    → Takes tickets events old won_old taken → Takes tickets events new won_new taken
+    → IsNextAfter taken (ComesBack tickets events old) came_back
+    → ExactlyOneBetween taken came_back (ComesBack tickets events new)
 
 -- between a take-whole and the next, each ticket that the first took comes back, once
 abbrev pub EachTakenReturns : Type 0
 EachTakenReturns =
     (tickets : ℕ) (events : List Event) → IsPossible tickets events → (t won taken next : ℕ)
-      → Takes tickets events t won taken → AreSuccessive (TakesWhole events) taken next
-      → ExactlyOneBetween taken next (ComesBack tickets events t)
+    → Takes tickets events t won taken → AreSuccessive (TakesWhole events) taken next
+    → ExactlyOneBetween taken next (ComesBack tickets events t)

@@ -2,10 +2,9 @@ ghost use Rattle.std.specs.Prelude.{◌≡◌, ◌≤◌, IfOk, IfSome, length};
 ghost use Rattle.foreign_core.specs.Tickets.{start};
 ghost use Rattle.foreign_core.specs.Histories.{run, EachInOneState, EachReturnsOnce, NewestReturnsFirst, EachTakenReturns};
 
-use std::alloc::{AllocError, Global};
-
 use crate::event::Event;
 use crate::list_core::Core;
+use std::alloc::{AllocError, Global};
 
 /// The core of this many tickets after these events, begun with all tickets idle. None exactly where
 /// some event is not possible when its turn comes.
@@ -33,5 +32,4 @@ pub fn law_of_histories()
     ensures once { EachReturnsOnce }
     ensures newest_first { NewestReturnsFirst }
     ensures all_return { EachTakenReturns }
-{
-}
+{}

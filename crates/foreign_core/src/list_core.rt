@@ -2,12 +2,11 @@ ghost use Rattle.std.specs.Prelude.{◌≡◌, ◌<◌, ◌≤◌, ◌↔◌, le
 ghost use Rattle.foreign_core.specs.Tickets.{start, state_of, head_of, step, becomes, listed_first, taken};
 ghost use Rattle.foreign_core.specs.Places.{IsOff};
 
+use crate::event::Event;
+use crate::ticket_state::TicketState;
 use std::alloc::{AllocError, Global};
 use std::marker::Model;
 use std::mem;
-
-use crate::event::Event;
-use crate::ticket_state::TicketState;
 
 /// The foreign free list of one owner: the state of each ticket, the list, newest first, and the walk,
 /// which is what the last take-whole took and is not yet back. Contracts see these three.
@@ -30,9 +29,9 @@ impl Model for Core {
 
     // Each ticket is in one place, and both lists have room for all tickets.
     ghost invariant = { λ c. record {
-        place : InOnePlace (record { states = c.states.items; listed = reverse c.list.items; walk = reverse c.walk.items });
-        list_room : length c.states.items ≤ vec_capacity c.list;
-        walk_room : length c.states.items ≤ vec_capacity c.walk;
+      place : InOnePlace (record { states = c.states.items; listed = reverse c.list.items; walk = reverse c.walk.items });
+      list_room : length c.states.items ≤ vec_capacity c.list;
+      walk_room : length c.states.items ≤ vec_capacity c.walk;
     } };
 }
 

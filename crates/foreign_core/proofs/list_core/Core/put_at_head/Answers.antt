@@ -14,7 +14,7 @@ invariant_of-self c =
     let from = rw (← c.self.view_is) at c.requires in
     let place = listed_place s c.args.ticket c.self.invariant.place from in
     let room : vec_len c.self.inside.list < vec_capacity c.self.inside.list =
-      omega (arith, length-listed (listed_first s c.args.ticket) place, length-set c.self.inside.states.items c.args.ticket Listed, length-reverse c.self.inside.list.items, c.self.inside.list.ok.0, c.self.invariant.list_room) in
+    omega (arith, length-listed (listed_first s c.args.ticket) place, length-set c.self.inside.states.items c.args.ticket Listed, length-reverse c.self.inside.list.items, c.self.inside.list.ok.0, c.self.invariant.list_room) in
     let pushed : is_ok c.push.result ≡ true = c.push.ensures.succeeds room in
     let items : c.push.new.self.items ≡ c.self.inside.list.items ++ c.args.ticket ∷ [] = c.push.ensures.items ∙ (rw pushed refl) in
     record {
@@ -29,7 +29,7 @@ returns c =
     let from = rw (← c.self.view_is) at c.requires in
     let place = listed_place s c.args.ticket c.self.invariant.place from in
     let room : vec_len c.self.inside.list < vec_capacity c.self.inside.list =
-      omega (arith, length-listed (listed_first s c.args.ticket) place, length-set c.self.inside.states.items c.args.ticket Listed, length-reverse c.self.inside.list.items, c.self.inside.list.ok.0, c.self.invariant.list_room) in
+    omega (arith, length-listed (listed_first s c.args.ticket) place, length-set c.self.inside.states.items c.args.ticket Listed, length-reverse c.self.inside.list.items, c.self.inside.list.ok.0, c.self.invariant.list_room) in
     let pushed : is_ok c.push.result ≡ true = c.push.ensures.succeeds room in
     let items : c.push.new.self.items ≡ c.self.inside.list.items ++ c.args.ticket ∷ [] = c.push.ensures.items ∙ (rw pushed refl) in
     rw (← c.self.view_is, items, reverse-append c.self.inside.list.items (c.args.ticket ∷ [])) refl
