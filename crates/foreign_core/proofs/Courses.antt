@@ -1,9 +1,9 @@
 -- The course of one ticket from a lend of it to the next.
-use Rattle.std.proofs.Common.{◌≡◌, ℕ, zero, suc, ◌+◌, ◌-◌, ◌<◌, ◌≤◌, ◌⊎◌, List, length, Some, IfSome, slice_get, refl, sym, ◌∙◌, ap, subst, arith, inl, inr}
+use Rattle.std.proofs.Common.{◌≡◌, ℕ, zero, suc, ◌+◌, ◌-◌, ◌<◌, ◌≤◌, List, length, Some, slice_get, ◌∙◌, ap, subst, arith, inl, inr}
 use Rattle.std.proofs.lemmas.Bool.{cases_eq, cases_lt}
 use Rattle.std.proofs.lemmas.Option.{slice_get_within}
-use Rattle.foreign_core.specs.Tickets.{Tickets, start, state_of, head_of, next_back, listed_first, step}
-use Rattle.foreign_core.specs.Histories.{IsPossible, before, Lends, Wins, TakesWhole, ComesBack, IsBetween, IsOnlyBetween, ExactlyOneBetween, NoneBetween, AreSuccessive, ReturnsOnce}
+use Rattle.foreign_core.specs.Tickets.{state_of, head_of, next_back, listed_first, step}
+use Rattle.foreign_core.specs.Histories.{IsPossible, before, Lends, Wins, TakesWhole, ComesBack, AreSuccessive, ReturnsOnce}
 use Rattle.foreign_core.specs.declared.event.Event.{Event}
 use Rattle.foreign_core.specs.declared.event.Event.TheVariants.{Lend, Swing, TakeWhole, Back}
 use Rattle.foreign_core.specs.declared.ticket_state.TicketState.TheVariants.{Linked}

@@ -1,14 +1,13 @@
 -- Each event keeps each ticket in one place.
-use Rattle.std.proofs.Common.{◌≡◌, ℕ, zero, suc, ◌+◌, ◌<◌, ◌≤◌, ◌⊎◌, Bool, true, false, cond, nat_eq, nat_lt, List, [], ◌∷◌, length, map, replicate, set, Option, Some, None, slice_get, refl, sym, ◌∙◌, ap, subst, arith, inl, inr}
+use Rattle.std.proofs.Common.{◌≡◌, ℕ, zero, suc, ◌+◌, ◌<◌, ◌≤◌, ◌⊎◌, cond, nat_lt, List, [], ◌∷◌, length, map, replicate, set, Option, Some, None, slice_get, refl, sym, ◌∙◌, ap, arith, inl, inr}
 use Rattle.std.specs.Option.{option_map}
-use Rattle.std.proofs.lemmas.Bool.{cases_eq, eqb-true, eqb-false, eq-eqb, ne_eqb, lt-ltb, cases_lt}
+use Rattle.std.proofs.lemmas.Bool.{cases_eq, eq-eqb, ne_eqb, lt-ltb, cases_lt}
 use Rattle.std.proofs.lemmas.Bool.Decides.{nat_tests}
-use Rattle.std.proofs.lemmas.Option.{slice_get-map, slice_get_past, slice_get_within}
-use Rattle.std.proofs.lemmas.Grind.{common_steps}
-use Rattle.foreign_core.specs.Tickets.{Tickets, start, state_of, head_of, next_back, becomes, listed_first, taken}
+use Rattle.std.proofs.lemmas.Option.{slice_get-map, slice_get_past}
+use Rattle.foreign_core.specs.Tickets.{Tickets, start, state_of, becomes, listed_first, taken}
 use Rattle.foreign_core.specs.Places.{InOnePlace, IsOff, times_on, listed_times, walked_times}
 use Rattle.foreign_core.specs.declared.ticket_state.TicketState.{TicketState}
-use Rattle.foreign_core.specs.declared.ticket_state.TicketState.TheVariants.{Idle, Carried, Looked, Linked, Listed, Walked}
+use Rattle.foreign_core.specs.declared.ticket_state.TicketState.TheVariants.{Idle, Listed, Walked}
 
 -- an element that was written, and one beside it
 pub slice_get-set_same : {X : Type 0} (xs : List X) (i : ℕ) (x : X) → i < length xs → slice_get (set xs i x) i ≡ Some x

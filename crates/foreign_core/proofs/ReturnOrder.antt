@@ -1,14 +1,14 @@
 -- What a take-whole took comes back before the next, newest first.
-use Rattle.std.proofs.Common.{◌≡◌, ℕ, zero, suc, ◌+◌, ◌-◌, ◌<◌, ◌≤◌, ◌⊎◌, List, [], ◌∷◌, length, Some, IfSome, slice_get, refl, sym, ◌∙◌, ap, subst, arith, inl, inr}
+use Rattle.std.proofs.Common.{◌≡◌, ℕ, suc, ◌-◌, ◌<◌, ◌≤◌, ◌⊎◌, List, [], ◌∷◌, length, Some, slice_get, refl, sym, ◌∙◌, ap, subst, arith, inl, inr}
 use Rattle.std.proofs.lemmas.Bool.{cases_eq, cases_lt}
-use Rattle.std.proofs.lemmas.Option.{slice_get_within, same_Some}
-use Rattle.foreign_core.specs.Tickets.{Tickets, start, state_of, head_of, next_back, listed_first, step}
-use Rattle.foreign_core.specs.Places.{InOnePlace, times_on}
-use Rattle.foreign_core.specs.Histories.{IsPossible, before, Wins, TakesWhole, ComesBack, Takes, IsBetween, IsOnlyBetween, ExactlyOneBetween, NoneBetween, AreSuccessive, IsNextAfter}
+use Rattle.std.proofs.lemmas.Option.{slice_get_within}
+use Rattle.foreign_core.specs.Tickets.{Tickets, state_of, next_back}
+use Rattle.foreign_core.specs.Places.{times_on}
+use Rattle.foreign_core.specs.Histories.{IsPossible, before, Wins, TakesWhole, ComesBack, Takes, IsBetween, IsOnlyBetween, ExactlyOneBetween, AreSuccessive, IsNextAfter}
 use Rattle.foreign_core.specs.declared.event.Event.{Event}
-use Rattle.foreign_core.specs.declared.event.Event.TheVariants.{Swing, TakeWhole, Back}
-use Rattle.foreign_core.proofs.PlaceLemmas.{times_on_first, times_on_other, first_not_again}
-use Rattle.foreign_core.proofs.StepLemmas.{phase_of, Moves, stays, lends, wins, takes, returns, Shifts, keeps, lists, takes_all, gives, step_shifts, step_takes_list, listed_phase, first_is}
+use Rattle.foreign_core.specs.declared.event.Event.TheVariants.{TakeWhole, Back}
+use Rattle.foreign_core.proofs.PlaceLemmas.{first_not_again}
+use Rattle.foreign_core.proofs.StepLemmas.{stays, lends, wins, takes, returns, Shifts, keeps, lists, takes_all, gives, step_shifts, step_takes_list, listed_phase, first_is}
 use Rattle.foreign_core.proofs.RunLemmas.{at_position, before_is, state_at, next_at, event_at, IfSome_at, IsSomeAnd_from}
 use Rattle.foreign_core.proofs.Courses.{Change, first_change, along, phase_at, moves_at, win_next, win_phases, back_phases, back_first, take_phases, leaves_list, leaves_walk}
 

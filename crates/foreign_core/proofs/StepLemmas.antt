@@ -1,16 +1,16 @@
 -- What one event does to one ticket, and to the list and the walk.
-use Rattle.std.proofs.Common.{◌≡◌, ℕ, zero, suc, ◌+◌, ◌<◌, ◌≤◌, ◌⊎◌, Bool, true, false, cond, nat_eq, List, [], ◌∷◌, length, map, set, Option, Some, None, slice_get, length-set, IfSome, unwrap_or, refl, sym, ◌∙◌, ap, subst, arith, inl, inr}
+use Rattle.std.proofs.Common.{◌≡◌, ℕ, true, nat_eq, List, [], ◌∷◌, length, Option, Some, None, slice_get, length-set, IfSome, unwrap_or, refl, sym, ◌∙◌, ap, arith, inl, inr}
 use Rattle.std.specs.Option.{option_map, option_eq}
-use Rattle.std.proofs.lemmas.Bool.{cases_eq, eqb-true, eq-eqb, cond_both, cond-true}
+use Rattle.std.proofs.lemmas.Bool.{cases_eq, eqb-true, eq-eqb, cond_both}
 use Rattle.std.proofs.lemmas.List.{length-map}
 use Rattle.std.proofs.lemmas.Option.{slice_get-map, slice_get_within, same_Some}
-use Rattle.foreign_core.specs.Tickets.{Tickets, start, state_of, head_of, next_back, becomes, listed_first, taken, lend, look, link, swing, take_whole, back, step}
+use Rattle.foreign_core.specs.Tickets.{Tickets, state_of, head_of, next_back, becomes, listed_first, taken, lend, look, link, swing, take_whole, back, step}
 use Rattle.foreign_core.specs.Places.{InOnePlace, InOneState, IsOff, times_on, listed_times, walked_times}
 use Rattle.foreign_core.specs.declared.event.Event.{Event}
 use Rattle.foreign_core.specs.declared.event.Event.TheVariants.{Lend, Look, Link, Swing, TakeWhole, Back}
 use Rattle.foreign_core.specs.declared.ticket_state.TicketState.{TicketState}
 use Rattle.foreign_core.specs.declared.ticket_state.TicketState.TheVariants.{Idle, Carried, Looked, Linked, Listed, Walked}
-use Rattle.foreign_core.proofs.PlaceLemmas.{slice_get-set_same, slice_get-set_other, off_within, becomes_place, listed_place, take_place, back_place, first_walked}
+use Rattle.foreign_core.proofs.PlaceLemmas.{slice_get-set_same, slice_get-set_other, becomes_place, listed_place, take_place, back_place, first_walked}
 
 -- Each event keeps the number of the tickets, and each in one place.
 

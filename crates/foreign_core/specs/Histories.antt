@@ -1,7 +1,7 @@
--- Histories: events that come one after another, from tickets that are all idle.
+-- Histories: events one after another, begun with all tickets idle.
 --
 -- A position in a history counts the events before it, so the first event has position 0.
-use Rattle.std.specs.Prelude.{◌≡◌, ℕ, ◌<◌, List, [], ◌∷◌, take, Option, Some, None, IsSome, IsSomeAnd, slice_get}
+use Rattle.std.specs.Prelude.{◌≡◌, ℕ, ◌<◌, List, [], ◌∷◌, take, Option, Some, IsSome, IsSomeAnd, slice_get}
 use Rattle.std.specs.Option.{option_and_then}
 use Rattle.foreign_core.specs.Places.{InOneState}
 use Rattle.foreign_core.specs.Tickets.{Tickets, start, state_of, head_of, next_back, step}
@@ -47,7 +47,7 @@ ComesBack tickets events t position =
 abbrev pub IsBetween : ℕ → ℕ → ℕ → Type 0
 IsBetween low high position = (low < position) × (position < high)
 
--- it is so at this position and at no other between the two
+-- it is so at this position, and at no other between the two
 pub record IsOnlyBetween (low high : ℕ) (P : ℕ → Type 0) (position : ℕ) : Type 0 where
   pub between : IsBetween low high position
   pub holds : P position
@@ -74,12 +74,13 @@ pub record IsNextAfter (earlier : ℕ) (P : ℕ → Type 0) (position : ℕ) : T
 
 -- The laws.
 
+-- after every possible history each ticket is in one state, and stands where its state says
 abbrev pub EachInOneState : Type 0
 EachInOneState =
     (tickets : ℕ) (events : List Event) (s : Tickets) → run (start tickets) events ≡ Some s → InOneState tickets s
 
--- from one lend of a ticket to the next: one swing of it wins, then one take-whole comes, and then the ticket comes back,
--- once
+-- between the two positions one swing of the ticket wins, and after it the ticket comes back, once, with one take-whole
+-- between the two
 pub record ReturnsOnce (tickets : ℕ) (events : List Event) (t lent again : ℕ) : Type 0 where
   pub won : ℕ
   pub came_back : ℕ
@@ -88,12 +89,13 @@ pub record ReturnsOnce (tickets : ℕ) (events : List Event) (t lent again : ℕ
   pub win_first : won < came_back
   pub one_taking : ExactlyOneBetween won came_back (TakesWhole events)
 
+-- so it is between two successive lends of a ticket
 abbrev pub EachReturnsOnce : Type 0
 EachReturnsOnce =
     (tickets : ℕ) (events : List Event) → IsPossible tickets events → (t lent again : ℕ)
     → AreSuccessive (Lends events t) lent again → ReturnsOnce tickets events t lent again
 
--- the take-whole takes the ticket whose swing won at this position: it's the first after it
+-- the take-whole at the second position takes the ticket whose swing won at the first: no other comes between
 pub record Takes (tickets : ℕ) (events : List Event) (t won taken : ℕ) : Type 0 where
   pub win : Wins tickets events t won
   pub next : IsNextAfter won (TakesWhole events) taken

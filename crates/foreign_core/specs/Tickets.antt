@@ -1,5 +1,5 @@
 -- The foreign free list at one moment, and what each event makes of it.
-use Rattle.std.specs.Prelude.{ℕ, Bool, true, false, cond, nat_eq, List, [], ◌∷◌, map, replicate, Option, Some, None, slice_get, slice_set}
+use Rattle.std.specs.Prelude.{ℕ, cond, nat_eq, List, [], ◌∷◌, map, replicate, Option, Some, None, slice_get, slice_set}
 use Rattle.std.specs.Option.{option_eq}
 use Rattle.foreign_core.specs.declared.event.Event.{Event}
 use Rattle.foreign_core.specs.declared.event.Event.TheVariants.{Lend, Look, Link, Swing, TakeWhole, Back}
@@ -13,7 +13,7 @@ pub record Tickets : Type 0 where
   pub listed : List ℕ
   pub walk : List ℕ
 
--- so many tickets, all of them idle
+-- this many tickets, all of them idle
 abbrev pub start : ℕ → Tickets
 start n = record { states = replicate n Idle; listed = []; walk = [] }
 
@@ -21,7 +21,7 @@ start n = record { states = replicate n Idle; listed = []; walk = [] }
 abbrev pub state_of : Tickets → ℕ → Option TicketState
 state_of s t = slice_get s.states t
 
--- the ticket at the head of the list, and the next to come back
+-- the ticket at the head of the list, and the next to come back, if there is one
 abbrev pub head_of : Tickets → Option ℕ
 head_of s = slice_get s.listed 0
 

@@ -24,9 +24,12 @@ pub fn replay(alloc: Global, tickets: u32, events: &[Event]) -> Result<Option<Co
 
 /// The law of every history, over all lists of possible events.
 ///
-/// After each, every ticket is in one state and stands where its state says. From one lend of a ticket to
+/// After each, every ticket is in one state and stands where its state says. Between a lend of a ticket and
 /// the next, one swing of it wins, then one take-whole comes, and then the ticket comes back, once. What
 /// one take-whole took comes back newest first, and all of it before the next take-whole.
+///
+/// A swing wins where it finds the head that its ticket expects, and the ticket of a `Back` is the first
+/// of the walk.
 pub fn law_of_histories()
     ensures one_state { EachInOneState }
     ensures once { EachReturnsOnce }

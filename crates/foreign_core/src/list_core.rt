@@ -36,7 +36,7 @@ impl Model for Core {
 }
 
 impl Core {
-    /// This many tickets, all of them idle. All memory that the core needs is taken here.
+    /// A core with this many tickets, 32 at most, all of them idle. It takes all of its memory here.
     pub fn new(alloc: Global, tickets: u32) -> Result<Self, AllocError>
         requires { tickets ≤ 32 }
         ensures { IfOk result (λ core. core ≡ start tickets) }

@@ -1,5 +1,5 @@
 -- The ticket is the first of the walk, so it is there, and then on no list.
-use Rattle.std.proofs.Common.{◌≡◌, ◌<◌, List, [], ◌∷◌, ◌++◌, length, reverse, arith, ap, ◌∙◌, length-set}
+use Rattle.std.proofs.Common.{[], ◌∷◌, reverse, ap, ◌∙◌, length-set}
 use Rattle.std.proofs.lemmas.List.{reverse-append}
 use Rattle.std.proofs.lemmas.Option.{slice_get_within}
 use Rattle.foreign_core.proofs.PlaceLemmas.{back_place, first_walked}

@@ -1,9 +1,8 @@
 -- There is room on the list for one ticket more, since the ticket wasn't on it.
-use Rattle.std.proofs.Common.{refl, ◌≡◌, ℕ, ◌+◌, ◌<◌, ◌≤◌, List, [], ◌∷◌, ◌++◌, length, reverse, IsOk, is_ok, true, arith, ap, ◌∙◌, sym, length-set, length-append, vec_len}
+use Rattle.std.proofs.Common.{refl, ◌≡◌, ◌<◌, [], ◌∷◌, ◌++◌, reverse, is_ok, true, arith, ◌∙◌, length-set, vec_len}
 use Rattle.std.proofs.lemmas.List.{reverse-append, length-reverse}
 use Rattle.std.specs.Vec.{vec_capacity}
-use Rattle.foreign_core.specs.Tickets.{Tickets, state_of, listed_first}
-use Rattle.foreign_core.specs.Places.{InOnePlace, IsOff}
+use Rattle.foreign_core.specs.Tickets.{Tickets, listed_first}
 use Rattle.foreign_core.specs.declared.ticket_state.TicketState.TheVariants.{Listed}
 use Rattle.foreign_core.proofs.PlaceLemmas.{listed_place, length-listed}
 use Rattle.foreign_core.proofs.list_core.Core.put_at_head.Goals as goal

@@ -1,6 +1,5 @@
 -- The ticket was on no list, and is on none.
 use Rattle.std.proofs.Common.{length-set}
-use Rattle.std.proofs.lemmas.Grind.{common_steps}
 use Rattle.foreign_core.proofs.PlaceLemmas.{becomes_place}
 use Rattle.foreign_core.proofs.list_core.Core.set.Goals as goal
 

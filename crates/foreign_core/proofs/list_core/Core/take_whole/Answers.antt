@@ -1,5 +1,5 @@
 -- The walk was empty, and has the list now.
-use Rattle.std.proofs.Common.{◌≡◌, ◌++◌, List, [], length, take, drop, map, reverse, refl, sym, ap, ◌∙◌, vec_len}
+use Rattle.std.proofs.Common.{◌≡◌, ◌++◌, [], length, take, drop, map, reverse, sym, ap, ◌∙◌, vec_len}
 use Rattle.std.proofs.lemmas.Bool.{eqb-true}
 use Rattle.std.proofs.lemmas.List.{take_at, nil_from_length, length-map}
 use Rattle.foreign_core.specs.Tickets.{Tickets, taken}
