@@ -1,5 +1,5 @@
 -- Each event keeps each ticket in one place.
-use Rattle.std.proofs.Common.{◌≡◌, ℕ, zero, suc, ◌+◌, ◌<◌, ◌≤◌, ◌⊎◌, cond, nat_lt, List, [], ◌∷◌, length, map, replicate, set, Option, Some, None, slice_get, refl, sym, ◌∙◌, ap, arith, inl, inr}
+use Rattle.std.proofs.Common.{length-set, ◌≡◌, ℕ, zero, suc, ◌+◌, ◌<◌, ◌≤◌, ◌⊎◌, cond, nat_lt, List, [], ◌∷◌, length, map, replicate, set, Option, Some, None, slice_get, refl, sym, ◌∙◌, ap, arith, inl, inr}
 use Rattle.std.specs.Option.{option_map}
 use Rattle.std.proofs.lemmas.Bool.{cases_eq, eq-eqb, ne_eqb, lt-ltb, cases_lt}
 use Rattle.std.proofs.lemmas.Bool.Decides.{nat_tests}
@@ -169,3 +169,8 @@ length-listed s p =
     let once : (u : ℕ) → times_on s.listed u ≤ 1 = λ u. rw (p.on_list u) (listed_at_most (state_of s u)) in
     let none : (u : ℕ) → length s.states ≤ u → times_on s.listed u ≡ 0 = λ u h. p.on_list u ∙ (rw (slice_get_past s.states u h) refl) in
     rw (all_below (length s.states) s.listed none) (at_most_below (length s.states) s.listed once)
+
+-- a list with room for all tickets has room for one that isn't on it
+pub room_for : (s : Tickets) (t room : ℕ) → InOnePlace s → IsOff (state_of s t) → length s.states ≤ room → length s.listed < room
+room_for s t room p from all =
+    omega (arith, length-listed (listed_first s t) (listed_place s t p from), length-set s.states t Listed)
