@@ -1,0 +1,5 @@
+pub mod PlaceLemmas
+pub mod StepLemmas
+pub mod RunLemmas
+pub mod Courses
+pub mod ReturnOrder
