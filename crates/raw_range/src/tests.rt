@@ -1,0 +1,2 @@
+use crate::Range;
+use std::alloc::Global;
