@@ -1,3 +1,4 @@
+pub mod Calls
 pub mod Crosses
 pub mod Lodging
 pub mod Places

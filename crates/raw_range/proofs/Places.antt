@@ -1,12 +1,12 @@
 -- Which bytes are out, as places come and go.
-use Rattle.std.proofs.Common.{◌≡◌, ℕ, ◌+◌, ◌-◌, ◌<◌, ◌≤◌, Bool, true, false, cond, not, ◌==◌, ◌&&◌, ◌||◌, List, [], ◌∷◌, ◌++◌, length, take, drop, refl, sym, ap, ◌∙◌, subst, ◌⊎◌, inl, inr, arith, take-append-drop, leb, ltb, eqb, eq-eqb}
-use Rattle.std.specs.Prelude.{All, AllPairs, Contains, filter, slice_index_or}
+use Rattle.std.proofs.Common.{◌≡◌, ℕ, ◌+◌, ◌<◌, ◌≤◌, Bool, true, false, cond, not, ◌==◌, ◌&&◌, ◌||◌, List, [], ◌∷◌, ◌++◌, length, take, drop, refl, sym, ap, ◌∙◌, subst, ◌⊎◌, inl, inr, arith, take-append-drop, length-take-le, length-drop, length-append, leb, ltb, eqb, eq-eqb}
+use Rattle.std.specs.Prelude.{All, Contains, filter, slice_index_or}
 use Rattle.std.specs.List.{list_any}
 use Rattle.std.proofs.Math.Nat.{eq-or-lt_of_le}
 use Rattle.std.proofs.lemmas.List.{get_or_default}
 use Rattle.std.proofs.lemmas.Bool.Decides.{leb_tells}
 use Rattle.std.proofs.lemmas.Bool.{le-leb, lt-leb, lt-ltb, le-ltb, ne_eqb}
-use Rattle.std.proofs.lemmas.List.Elements.{All-head, All-tail, All-filter, All-contains}
+use Rattle.std.proofs.lemmas.List.Elements.{All-cons, All-head, All-tail, All-filter, All-contains}
 use Rattle.std.proofs.lemmas.List.Kept.{AllPairs-cons, AllPairs-filter}
 use Rattle.std.proofs.lemmas.List.Folds.{list_any_none, list_any_at}
 use Rattle.raw_range.specs.Places.{Place, Apart, IsWithin, AreBlocks, without, covers, is_out, written}
@@ -52,8 +52,8 @@ any-filter_same {X} t f (x ∷ xs) h =
     let P : X → Type 0 = λ y. (t y ≡ true) ⊎ (f y ≡ false) in
     let rest = any-filter_same t f xs (All-tail P x xs h) in
     elim (All-head P x xs h) [
-      inl e ↦ rw e (rw rest refl)
-    | inr e ↦ elim (t x) as (λ b. list_any f (cond b (x ∷ filter t xs) (filter t xs)) ≡ (f x || list_any f xs)) [ true ↦ rw rest refl | false ↦ rw (e, rest) refl ]
+      | inl e ↦ rw e (rw rest refl)
+      | inr e ↦ elim (t x) as (λ b. list_any f (cond b (x ∷ filter t xs) (filter t xs)) ≡ (f x || list_any f xs)) [ true ↦ rw rest refl | false ↦ rw (e, rest) refl ]
     ]
 
 any-filter_none : {X : Type 0} (t f : X → Bool) (xs : List X) → All (λ x. (t x ≡ false) ⊎ (f x ≡ false)) xs → list_any f (filter t xs) ≡ false
@@ -62,8 +62,8 @@ any-filter_none {X} t f (x ∷ xs) h =
     let P : X → Type 0 = λ y. (t y ≡ false) ⊎ (f y ≡ false) in
     let rest = any-filter_none t f xs (All-tail P x xs h) in
     elim (All-head P x xs h) [
-      inl e ↦ rw e rest
-    | inr e ↦ elim (t x) as (λ b. list_any f (cond b (x ∷ filter t xs) (filter t xs)) ≡ false) [ true ↦ rw e rest | false ↦ rest ]
+      | inl e ↦ rw e rest
+      | inr e ↦ elim (t x) as (λ b. list_any f (cond b (x ∷ filter t xs) (filter t xs)) ≡ false) [ true ↦ rw e rest | false ↦ rest ]
     ]
 
 -- two blocks that begin at one place are one, and others are apart
@@ -73,11 +73,11 @@ same_or_apart size out p blocks has i d w =
     let j = has.0 in
     let at_j : slice_index_or out j d ≡ p = get_or_default out j d p has.1 ∙ has.2 in
     elim (leb_tells i j) [
-      inl low ↦ elim (eq-or-lt_of_le low.1) [
-        inl e ↦ inl (ap (λ k. slice_index_or out k d) e ∙ at_j)
-      | inr below ↦ inr (apart-sym (slice_index_or out i d) p (subst (λ q. Apart (slice_index_or out i d) q) at_j (blocks.1 i j d below has.1)))
+      | inl low ↦ elim (eq-or-lt_of_le low.1) [
+        | inl e ↦ inl (ap (λ k. slice_index_or out k d) e ∙ at_j)
+        | inr below ↦ inr (apart-sym (slice_index_or out i d) p (subst (λ q. Apart (slice_index_or out i d) q) at_j (blocks.1 i j d below has.1)))
       ]
-    | inr high ↦ inr (subst (λ q. Apart q (slice_index_or out i d)) at_j (blocks.1 j i d high.1 w))
+      | inr high ↦ inr (subst (λ q. Apart q (slice_index_or out i d)) at_j (blocks.1 j i d high.1 w))
     ]
 
 -- a place that begins where p does is not apart from p
@@ -96,16 +96,16 @@ module _ (size : ℕ) (out : List Place) (p : Place) (blocks : AreBlocks size ou
   is_out-without_in k h =
       any-filter_none (λ q. not (q.at == p.at)) (λ q. covers q k) out (λ i d w.
       elim (same_or_apart size out p blocks has i d w) [
-        inl e ↦ inl (rw e (rw (eqb-same p.at) refl))
-      | inr a ↦ inr (covers-beside (slice_index_or out i d) k (beside-apart p (slice_index_or out i d) k a h))
+        | inl e ↦ inl (rw e (rw (eqb-same p.at) refl))
+        | inr a ↦ inr (covers-beside (slice_index_or out i d) k (beside-apart p (slice_index_or out i d) k a h))
       ])
 
   pub is_out-without_beside : (k : ℕ) → IsBeside p k → is_out out k ≡ is_out (without p out) k
   is_out-without_beside k h =
       sym (any-filter_same (λ q. not (q.at == p.at)) (λ q. covers q k) out (λ i d w.
       elim (same_or_apart size out p blocks has i d w) [
-        inl e ↦ inr (rw e (covers-beside p k h))
-      | inr a ↦ inl (rw (begins_elsewhere p (slice_index_or out i d) within_blocks.0 (blocks.0 i d w).0 a) refl)
+        | inl e ↦ inr (rw e (covers-beside p k h))
+        | inr a ↦ inl (rw (begins_elsewhere p (slice_index_or out i d) within_blocks.0 (blocks.0 i d w).0 a) refl)
       ]))
 
   pub AreBlocks-without : AreBlocks size (without p out)
@@ -121,3 +121,11 @@ in_place p k m l e f low high = (omega (arith, e, f, low), omega (arith, e, f, h
 pub beside_place : (p : Place) (k m l : ℕ) → m ≡ p.at → l ≡ p.len → (k < m) ⊎ (m + l ≤ k) → IsBeside p k
 beside_place p k m l e f (inl h) = inl (omega (arith, e, f, h))
 beside_place p k m l e f (inr h) = inr (omega (arith, e, f, h))
+
+pub AreBlocks-cons : (size : ℕ) (p : Place) (out : List Place) → IsWithin size p → All (Apart p) out → AreBlocks size out → AreBlocks size (p ∷ out)
+AreBlocks-cons size p out within apart blocks = (All-cons (IsWithin size) p out within blocks.0, AllPairs-cons Apart p out apart blocks.1)
+
+pub length-written : (bytes ws : List ℕ) (at : ℕ) → at + length ws ≤ length bytes → length (written bytes at ws) ≡ length bytes
+length-written bytes ws at h =
+    length-append (take at bytes) (ws ++ drop (at + length ws) bytes)
+    ∙ omega (arith, h, length-take-le at bytes (omega (arith, h)), length-append ws (drop (at + length ws) bytes), length-drop (at + length ws) bytes)

@@ -1,13 +1,11 @@
 -- The bytes that are not out, as places come and go. Assumes `Logic`.
-use Rattle.std.proofs.Common.{◌≡◌, ℕ, zero, suc, ◌+◌, ◌<◌, ◌≤◌, Bool, true, false, List, [], ◌∷◌, ◌++◌, length, take, drop, refl, sym, ap, ap₂, ◌∙◌, subst, ◌⊎◌, inl, inr, arith, add-zero}
+use Rattle.std.proofs.Common.{◌≡◌, ℕ, ◌+◌, ◌<◌, ◌≤◌, true, false, List, [], ◌∷◌, ◌++◌, length, refl, sym, ap, ap₂, ◌⊎◌, inl, inr, arith, add-zero}
 use seplogic.Ra.Ura.{Ura}
 use base.Fraction.{full_share}
 use base.Logic.{SProp, ent, sep, emp, guard, never_e, id⊢}
 use base.Fml.{Fml, ftrue, fsep, feq}
 use types.Logic.{Logic, sem}
-use types.Kit.{‵, ◌⊛◌, ◌$◌, ◌∵◌, !, qed, by, move, drop as skip, use0, use1, use2, split, fsplit, fjoin, feq_i, check, rewrite, done}
-use denote.Builtin.{u8}
-use denote.Memory.{part_at}
+use types.Kit.{‵, ◌⊛◌, ◌$◌, ◌∵◌, !, qed, move, drop as skip, use0, use1, use2, split, fsplit, fjoin, feq_i, check, rewrite, done}
 use denote.RawPtr.{Ptr, block_ptr, null_ptr, block_of, count_of}
 use denote.RawPtr.Bytes.{bytes, bytes_apart, bytes_whole}
 use denote.Steps.{nothing}

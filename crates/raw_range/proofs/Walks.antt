@@ -1,4 +1,4 @@
--- Steps that the walks of `src/memory.rt and src/parts.rt` share. Assumes `Logic`.
+-- Steps that the walks share. Assumes `Logic`.
 use Rattle.std.proofs.Common.{◌≡◌, List, [], ◌∷◌, refl}
 use lib.Dec.{T}
 use seplogic.Ra.Ura.{Ura}

@@ -68,6 +68,7 @@ impl Range {
         requires apart { All (Apart (place at len)) self.old.out }
         requires few { length self.old.out < 4096 }
         ensures piece { result ≡ record { home = self.old.home; owner = self.old.owner; at = at; bytes = take len (drop at self.old.bytes) } }
+        ensures place { place_of result ≡ place at len }
         ensures out { self.new ≡ with_out self.old (place at len ∷ self.old.out) self.old.bytes }
         ensures blocks { AreBlocks (4096 * self.new.pages) self.new.out }
     {

@@ -1,9 +1,8 @@
 -- Where no place is out, all bytes are held. Assumes `Logic`.
-use Rattle.std.proofs.Common.{◌≡◌, ℕ, ◌+◌, ◌<◌, ◌≤◌, List, [], ◌∷◌, ◌++◌, length, refl, sym, ap, ◌∙◌, subst, take, drop-drop, take-append-drop, length-take-le, length-drop, arith}
+use Rattle.std.proofs.Common.{◌≡◌, List, [], ◌∷◌, ◌++◌, refl, sym}
 use seplogic.Ra.Ura.{Ura}
-use mir.Syntax.{Fn, w64}
-use mir.Val.{Val, vint}
-use base.Fraction.{full_share}
+use mir.Syntax.{Fn}
+use mir.Val.{Val}
 use base.Logic.{SProp, ent}
 use prog.Memory.{Memory}
 use prog.Routine.{Routine}
@@ -12,13 +11,12 @@ use contract.Monad.{Fun, fact}
 use contract.Running.{tables, tables_of}
 use sound.WpLaws.{WpFn-mono}
 use types.Logic.{Logic}
-use types.Kit.{‵, raw, ◌⊛◌, prop, given, learn, ◌$◌, ◌∵◌, !, qed, move, keep, drop, use1, use2, split, fsplit, fjoin, feq_l, regoal, rewrite, suffices, done, flt_l}
+use types.Kit.{‵, raw, ◌⊛◌, prop, ◌$◌, ◌∵◌, !, qed, move, drop, use1, split, fsplit, fjoin, regoal, rewrite, suffices, done}
 use types.Part.{agg}
-use types.Run.{enter, returns, and_then, no_more}
-use types.ByLocal.{alloc_all, pass_all, free_all, look_at, get, sets}
+use types.Run.{enter, returns, no_more}
+use types.ByLocal.{alloc_all, pass_all, free_all, look_at, sets}
 use denote.Exit.{yes}
 use denote.RattleType.{owns}
-use denote.Builtin.{u8, usize}
 use denote.Signature.{plain, types_at}
 use denote.Steps.{nothing, heard}
 use denote.Triple.Clauses.{Clauses, Ended, closing}
@@ -27,15 +25,10 @@ use denote.Triple.Spec.{Meets, triple_of}
 use denote.Triple.Table.{entered}
 use denote.Triple.Walked.{says, Stays, stay_dropped, walk_of, ends_at, walk_Meets}
 use Rattle.std.proofs.alloc.Calls.{Goes-blank}
-use Rattle.std.specs.Prelude.{All, AllPairs, Contains}
-use lib.ListN.{drop as drop_l}
-use denote.RawPtr.{Ptr, block_ptr, block_of, count_of, ◌+ₚ◌}
-use denote.RawPtr.Bytes.{bytes}
-use Rattle.raw_range.specs.Places.{Place, place, Apart, IsWithin, AreBlocks, without, written, is_out}
+use denote.RawPtr.{block_ptr, block_of, count_of}
 use Rattle.raw_range.specs.Ownership.{IsPlaced, run_owns, rest_owns}
-use Rattle.raw_range.proofs.Places.{is_out-apart, is_out-cons_in, is_out-cons_beside, is_out-has, is_out-without_in, is_out-without_beside}
-use Rattle.raw_range.proofs.Rest.{rest-free, rest-lend, rest-regain, run-out, run-in}
-use Rattle.raw_range.proofs.Walks.{none, two, none_made, two_made, none_had}
+use Rattle.raw_range.proofs.Rest.{rest-free, run-in}
+use Rattle.raw_range.proofs.Walks.{none, none_made, none_had}
 use Rattle.raw_range.specs.contracts.memory.Held as Held
 use Rattle.raw_range.specs.contracts.memory.Run as Run
 use Rattle.raw_range.specs.contracts.memory.Held.into_run as F

@@ -1,5 +1,5 @@
 -- The bytes of one place part from the others. Assumes `Logic`.
-use Rattle.std.proofs.Common.{◌≡◌, ℕ, ◌+◌, ◌<◌, ◌≤◌, List, [], ◌∷◌, ◌++◌, length, refl, sym, ap, ◌∙◌, subst, take, drop-drop, take-append-drop, length-take-le, length-drop, arith}
+use Rattle.std.proofs.Common.{◌≡◌, ◌+◌, ◌≤◌, List, [], ◌∷◌, ◌++◌, length, refl, sym, ap, take, length-take-le, length-drop, arith}
 use seplogic.Ra.Ura.{Ura}
 use mir.Syntax.{Fn, w64}
 use mir.Val.{Val, vint}
@@ -12,13 +12,13 @@ use contract.Monad.{Fun, fact}
 use contract.Running.{tables, tables_of}
 use sound.WpLaws.{WpFn-mono}
 use types.Logic.{Logic}
-use types.Kit.{‵, raw, ◌⊛◌, prop, given, learn, ◌$◌, ◌∵◌, !, qed, move, keep, drop, use1, use2, split, fsplit, fjoin, feq_l, regoal, rewrite, suffices, done, flt_l}
+use types.Kit.{‵, raw, ◌⊛◌, prop, ◌$◌, ◌∵◌, !, qed, move, drop, use1, split, fsplit, fjoin, feq_l, regoal, rewrite, suffices, done, flt_l}
 use types.Part.{agg}
 use types.Run.{enter, returns, and_then, no_more}
 use types.ByLocal.{alloc_all, pass_all, free_all, look_at, get, sets}
 use denote.Exit.{yes}
 use denote.RattleType.{owns}
-use denote.Builtin.{u8, usize}
+use denote.Builtin.{usize}
 use denote.Signature.{plain, types_at}
 use denote.Steps.{nothing, heard}
 use denote.Triple.Clauses.{Clauses, Ended, closing}
@@ -27,14 +27,14 @@ use denote.Triple.Spec.{Meets, triple_of}
 use denote.Triple.Table.{entered}
 use denote.Triple.Walked.{says, Stays, stay_dropped, walk_of, ends_at, walk_Meets}
 use Rattle.std.proofs.alloc.Calls.{Goes-blank}
-use Rattle.std.specs.Prelude.{All, AllPairs, Contains}
+use Rattle.std.specs.Prelude.{All}
 use lib.ListN.{drop as drop_l}
-use denote.RawPtr.{Ptr, block_ptr, block_of, count_of, ◌+ₚ◌}
+use denote.RawPtr.{block_ptr, block_of, count_of, ◌+ₚ◌}
 use denote.RawPtr.Bytes.{bytes}
-use Rattle.raw_range.specs.Places.{Place, place, Apart, IsWithin, AreBlocks, without, written, is_out}
+use Rattle.raw_range.specs.Places.{place, Apart}
 use Rattle.raw_range.specs.Ownership.{IsPlaced, run_owns, rest_owns}
-use Rattle.raw_range.proofs.Places.{three_parts, in_place, beside_place, within_blocks, is_out-apart, is_out-cons_in, is_out-cons_beside, is_out-has, is_out-without_in, is_out-without_beside}
-use Rattle.raw_range.proofs.Rest.{rest-free, rest-lend, rest-regain, run-out, run-in}
+use Rattle.raw_range.proofs.Places.{three_parts, in_place, beside_place, is_out-apart, is_out-cons_in, is_out-cons_beside}
+use Rattle.raw_range.proofs.Rest.{rest-lend, run-in}
 use Rattle.raw_range.proofs.Walks.{none, two, none_made, two_made, none_had}
 use Rattle.raw_range.specs.contracts.memory.Held as Held
 use Rattle.raw_range.specs.contracts.memory.Run as Run
