@@ -1,10 +1,10 @@
 -- What a segment reads as once the state byte of an object is 2.
-use Rattle.std.proofs.Common.{◌≡◌, ℕ, zero, suc, ◌+◌, ◌<◌, ◌≤◌, ◌≢◌, Bool, true, false, ◌⊎◌, inl, inr, List, [], ◌∷◌, length, take, drop, map, refl, sym, ap, ap₂, ◌∙◌, subst, arith, eqb, eq-eqb}
-use Rattle.std.specs.Prelude.{slice_index, slice_set, if◌then◌else◌, ◌==◌, Any}
+use Rattle.std.proofs.Common.{◌≡◌, ℕ, ◌+◌, ◌<◌, ◌≤◌, ◌≢◌, ◌⊎◌, inl, inr, List, [], ◌∷◌, length, take, refl, sym, ap, ◌∙◌, subst, arith, eq-eqb}
+use Rattle.std.specs.Prelude.{slice_index, slice_set}
 use Rattle.std.proofs.lemmas.Bool.{ne_eqb}
 use Rattle.std.proofs.lemmas.List.{get_or-set_same, get_or-set_other, length-set, drop-set-lt}
-use Rattle.object_log.specs.Objects.{Object, object_at, objects_from, objects, IsObject, AreObjects, IsSegment, IsEnd, StandsAt, LivesAt, killed}
-use Rattle.object_log.proofs.Reading.{SameOn, objects-below, objects-are, objects-same, object-same, number-same, object-is, any-cases, any-none, stands-within}
+use Rattle.object_log.specs.Objects.{Object, object_at, objects, AreObjects, IsSegment, StandsAt, LivesAt, killed}
+use Rattle.object_log.proofs.Reading.{SameOn, objects-are, objects-same, object-same, number-same, object-is, any-cases, any-none, stands-within}
 
 -- what lives somewhere stands there
 pub stands : (at : ℕ) (os : List Object) → LivesAt at os → StandsAt at os
@@ -38,20 +38,20 @@ module _ (bytes : List ℕ) (at : ℕ) (inside : at < length bytes) where
   kills a used (o ∷ os) h lives =
       let here : o.at ≡ a = ap (λ p. p.at) h.0 in let some = h.1.4.0 in
       elim (any-cases (λ (p : Object). (p.at ≡ at) × (p.state ≡ 1)) o os lives) [
-        inl e ↦
-          let it : at ≡ a = sym e.0 ∙ here in
-          let o' : Object = record o { state = 2 } in
-          let is : o' ≡ object_at after a = subst (λ k. o' ≡ object_at after k) it (sym (dead ∙ ap (λ (p : Object). record p { state = 2 }) (sym (subst (λ k. o ≡ object_at bytes k) (sym it) h.0)))) in
-          let rest : AreObjects after (a + o.size) used os = objects-same (a + o.size) used bytes after os (beside (a + o.size) used (inl (omega (arith, it, some)))) h.2 in
-          let same : killed at os ≡ os = killed-behind bytes (a + o.size) used at os h.2 (omega (arith, it, some)) in
-          let two = beside (o.at + 1) (o.at + 8) (inl (omega (arith, e.0))) in
-          rw (eq-eqb o.at at e.0) (is, (inr refl, h.1.1, two (o.at + 2) (omega arith) (omega arith) ∙ h.1.2, two (o.at + 3) (omega arith) (omega arith) ∙ h.1.3, h.1.4), subst (AreObjects after (a + o.size) used) (sym same) rest)
-      | inr more ↦
-          let w = stands-within bytes (a + o.size) used at os h.2 (stands at os more) in
-          let front = beside a (a + 8) (inr (omega (arith, w.0, some))) in
-          let is : o ≡ object_at after a = h.0 ∙ sym (object-same a bytes after front) in
-          rw (ne_eqb o.at at (λ e. omega (arith, e, here, some, w.0)))
-          (is, (h.1.0, h.1.1, front (o.at + 2) (omega (arith, here)) (omega (arith, here)) ∙ h.1.2, front (o.at + 3) (omega (arith, here)) (omega (arith, here)) ∙ h.1.3, h.1.4), kills (a + o.size) used os h.2 more)
+        | inl e ↦
+            let it : at ≡ a = sym e.0 ∙ here in
+            let o' : Object = record o { state = 2 } in
+            let is : o' ≡ object_at after a = subst (λ k. o' ≡ object_at after k) it (sym (dead ∙ ap (λ (p : Object). record p { state = 2 }) (sym (subst (λ k. o ≡ object_at bytes k) (sym it) h.0)))) in
+            let rest : AreObjects after (a + o.size) used os = objects-same (a + o.size) used bytes after os (beside (a + o.size) used (inl (omega (arith, it, some)))) h.2 in
+            let same : killed at os ≡ os = killed-behind bytes (a + o.size) used at os h.2 (omega (arith, it, some)) in
+            let two = beside (o.at + 1) (o.at + 8) (inl (omega (arith, e.0))) in
+            rw (eq-eqb o.at at e.0) (is, (inr refl, h.1.1, two (o.at + 2) (omega arith) (omega arith) ∙ h.1.2, two (o.at + 3) (omega arith) (omega arith) ∙ h.1.3, h.1.4), subst (AreObjects after (a + o.size) used) (sym same) rest)
+        | inr more ↦
+            let w = stands-within bytes (a + o.size) used at os h.2 (stands at os more) in
+            let front = beside a (a + 8) (inr (omega (arith, w.0, some))) in
+            let is : o ≡ object_at after a = h.0 ∙ sym (object-same a bytes after front) in
+            rw (ne_eqb o.at at (λ e. omega (arith, e, here, some, w.0)))
+            (is, (h.1.0, h.1.1, front (o.at + 2) (omega (arith, here)) (omega (arith, here)) ∙ h.1.2, front (o.at + 3) (omega (arith, here)) (omega (arith, here)) ∙ h.1.3, h.1.4), kills (a + o.size) used os h.2 more)
       ]
 
 -- a live object has its place in the segment

@@ -1,10 +1,12 @@
 -- What the reading of a segment's objects rests on.
-use Rattle.std.proofs.Common.{◌≡◌, ℕ, zero, suc, ◌+◌, ◌-◌, ◌*◌, ◌%◌, ◌<◌, ◌≤◌, Bool, true, false, ◌⊎◌, inl, inr, List, [], ◌∷◌, ◌++◌, length, take, drop, replicate, map, refl, sym, ap, ap₂, ◌∙◌, subst, arith, ltb}
-use Rattle.std.specs.Prelude.{slice_index, if◌then◌else◌, ◌==◌, nat_lt, Any}
-use Rattle.std.proofs.lemmas.Bool.{lt-ltb, le-ltb, ne_eqb}
+use Rattle.std.proofs.Common.{◌≡◌, ℕ, zero, suc, ◌+◌, ◌-◌, ◌*◌, ◌<◌, ◌≤◌, ◌⊎◌, inl, inr, List, [], ◌∷◌, ◌++◌, drop, refl, sym, ap, ap₂, ◌∙◌, subst, arith}
+use Rattle.std.specs.Prelude.{slice_index, Any, All}
+use Rattle.std.specs.List.Sorted.{IsStrictlyIncreasing}
+use Rattle.std.proofs.lemmas.List.Elements.{All-cons}
+use Rattle.std.proofs.lemmas.Bool.{lt-ltb, le-ltb}
 use Rattle.std.proofs.lemmas.List.{get_or-drop}
 use Rattle.byteorder.specs.Endian.{little_number}
-use Rattle.object_log.specs.Objects.{Object, descriptor_at, object_at, objects_from, objects, IsObject, AreObjects, IsSize, StandsAt, LivesAt, killed}
+use Rattle.object_log.specs.Objects.{Object, object_at, objects_from, objects, IsObject, AreObjects, StandsAt, offsets}
 
 -- objects end where they end, and each has its descriptor before that
 pub objects-below : (bytes : List ℕ) (at used : ℕ) (os : List Object) → AreObjects bytes at used os → at ≤ used
@@ -54,10 +56,11 @@ pub objects-same : (at used : ℕ) (xs ys : List ℕ) (os : List Object) → Sam
 objects-same at used xs ys [] same h = h
 objects-same at used xs ys (o ∷ os) same h =
     let rest = objects-below xs (at + o.size) used os h.2 in let some = h.1.4.0 in
-    let here : o.at ≡ at = ap (λ p. p.at) h.0 in
-    (h.0 ∙ sym (object-same at xs ys (λ i low high. same i low (omega (arith, high, rest, some)))),
-    (h.1.0, h.1.1, same (o.at + 2) (omega (arith, here)) (omega (arith, here, rest, some)) ∙ h.1.2, same (o.at + 3) (omega (arith, here)) (omega (arith, here, rest, some)) ∙ h.1.3, h.1.4),
-    objects-same (at + o.size) used xs ys os (λ i low high. same i (omega (arith, low)) high) h.2)
+    let here : o.at ≡ at = ap (λ p. p.at) h.0 in (
+      h.0 ∙ sym (object-same at xs ys (λ i low high. same i low (omega (arith, high, rest, some)))),
+      (h.1.0, h.1.1, same (o.at + 2) (omega (arith, here)) (omega (arith, here, rest, some)) ∙ h.1.2, same (o.at + 3) (omega (arith, here)) (omega (arith, here, rest, some)) ∙ h.1.3, h.1.4),
+      objects-same (at + o.size) used xs ys os (λ i low high. same i (omega (arith, low)) high) h.2,
+    )
 
 pub objects-snoc : (bytes : List ℕ) (at used : ℕ) (os : List Object) (o : Object) → AreObjects bytes at used os → o ≡ object_at bytes used → IsObject bytes o → AreObjects bytes at (used + o.size) (os ++ o ∷ [])
 objects-snoc bytes at used [] o h e fits = (subst (λ k. o ≡ object_at bytes k) (sym h) e, fits, ap (λ k. k + o.size) h)
@@ -77,8 +80,8 @@ stands-within bytes a used at (o ∷ os) h stands =
     let rest = objects-below bytes (a + o.size) used os h.2 in let some = h.1.4.0 in
     let here : o.at ≡ a = ap (λ p. p.at) h.0 in
     elim (any-cases (λ (p : Object). p.at ≡ at) o os stands) [
-      inl e ↦ (omega (arith, e, here), omega (arith, e, here, rest, some))
-    | inr more ↦ let w = stands-within bytes (a + o.size) used at os h.2 more in (omega (arith, w.0), w.1)
+      | inl e ↦ (omega (arith, e, here), omega (arith, e, here, rest, some))
+      | inr more ↦ let w = stands-within bytes (a + o.size) used at os h.2 more in (omega (arith, w.0), w.1)
     ]
 
 -- the first of the objects, and the others
@@ -93,3 +96,45 @@ objects-step bytes at used (o ∷ os) e h more =
     let below = objects-below bytes next used os rest in
     let read : objects_from (used - next) bytes next used ≡ os = objects-read (used - next) bytes next used os rest (omega (arith, below)) in
     (e ∙ ap₂ (λ p ps. p ∷ ps) h.0 (sym read), subst (AreObjects bytes next used) (sym read) rest, omega (arith, below, size, some), below)
+
+-- objects stand one behind the other
+pub offsets-rise : (bytes : List ℕ) (at used : ℕ) (os : List Object) → AreObjects bytes at used os → IsStrictlyIncreasing (offsets os)
+offsets-rise bytes at used [] h k w = absurd (omega (arith, w))
+offsets-rise bytes at used (o ∷ []) h k w = absurd (omega (arith, w))
+offsets-rise bytes at used (o ∷ (p ∷ ps)) h zero w =
+    let here : o.at ≡ at = ap (λ x. x.at) h.0 in let next : p.at ≡ at + o.size = ap (λ x. x.at) h.2.0 in omega (arith, here, next, h.1.4.0)
+offsets-rise bytes at used (o ∷ (p ∷ ps)) h (suc k) w =
+    let e : suc (k + 1) ≡ suc k + 1 = omega arith in
+    let rest = offsets-rise bytes (at + o.size) used (p ∷ ps) h.2 k (omega (arith, w)) in
+    subst (λ n. slice_index (offsets (p ∷ ps)) k < slice_index (offsets (o ∷ (p ∷ ps))) n) e rest
+
+-- an object is what its descriptor says
+pub objects-told : (bytes : List ℕ) (a used at : ℕ) (os : List Object) → AreObjects bytes a used os → All (λ o. o.at ≡ at → o ≡ object_at bytes at) os
+objects-told bytes a used at [] h = λ k d w. absurd (omega (arith, w))
+objects-told bytes a used at (o ∷ os) h =
+    let P : Object → Type 0 = λ p. p.at ≡ at → p ≡ object_at bytes at in
+    let here : o.at ≡ a = ap (λ x. x.at) h.0 in
+    All-cons P o os (λ e. subst (λ k. o ≡ object_at bytes k) (sym here ∙ e) h.0) (objects-told bytes (a + o.size) used at os h.2)
+
+-- the bytes ys are those of xs but in the content of an object
+pub content-kept : (a used at size : ℕ) (xs ys : List ℕ) (os : List Object) → AreObjects xs a used os → Any (λ o. (o.at ≡ at) × (o.size ≡ size)) os
+    → ((i : ℕ) → (i < at + 8) ⊎ (at + size ≤ i) → slice_index ys i ≡ slice_index xs i) → AreObjects ys a used os
+content-kept a used at size xs ys [] h stands same = h
+content-kept a used at size xs ys (o ∷ os) h stands same =
+    let P : Object → Type 0 = λ p. (p.at ≡ at) × (p.size ≡ size) in
+    let here : o.at ≡ a = ap (λ p. p.at) h.0 in let some = h.1.4.0 in
+    elim (any-cases P o os stands) [
+      | inl e ↦
+          let front : SameOn a (a + 8) xs ys = λ i low high. same i (inl (omega (arith, high, here, e.0))) in (
+            h.0 ∙ sym (object-same a xs ys front),
+            (h.1.0, h.1.1, front (o.at + 2) (omega (arith, here)) (omega (arith, here)) ∙ h.1.2, front (o.at + 3) (omega (arith, here)) (omega (arith, here)) ∙ h.1.3, h.1.4),
+            objects-same (a + o.size) used xs ys os (λ i low high. same i (inr (omega (arith, low, here, e.0, e.1)))) h.2,
+          )
+      | inr more ↦
+          let w = stands-within xs (a + o.size) used at os h.2 (more.0, more.1, more.2, more.3, more.4.0) in
+          let front : SameOn a (a + 8) xs ys = λ i low high. same i (inl (omega (arith, high, w.0, some))) in (
+            h.0 ∙ sym (object-same a xs ys front),
+            (h.1.0, h.1.1, front (o.at + 2) (omega (arith, here)) (omega (arith, here)) ∙ h.1.2, front (o.at + 3) (omega (arith, here)) (omega (arith, here)) ∙ h.1.3, h.1.4),
+            content-kept (a + o.size) used at size xs ys os h.2 more same,
+          )
+    ]

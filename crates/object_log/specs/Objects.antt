@@ -17,10 +17,12 @@ pub record Object : Type 0 where
 abbrev pub descriptor_at : List ℕ → ℕ → Descriptor
 descriptor_at bytes at = record { state = slice_index bytes at; kind = slice_index bytes (at + 1); size = little_number 4 (drop (at + 4) bytes) }
 
+-- the object that a descriptor tells of
+abbrev pub told : ℕ → Descriptor → Object
+told at d = record { at = at; state = d.state; kind = d.kind; size = d.size }
+
 abbrev pub object_at : List ℕ → ℕ → Object
-object_at bytes at =
-    let d = descriptor_at bytes at in
-    record { at = at; state = d.state; kind = d.kind; size = d.size }
+object_at bytes at = told at (descriptor_at bytes at)
 
 -- at most n objects: the one at the offset `at`, then the one behind it, and so on up to `used`
 abbrev pub objects_from : ℕ → List ℕ → ℕ → ℕ → List Object

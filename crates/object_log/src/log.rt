@@ -6,7 +6,9 @@ use crate::descriptor::DESCRIPTOR;
 use byteorder::{ByteOrder, LittleEndian};
 
 const SEGMENT: usize = 131_072;
+
 const LIVE: u8 = 1;
+
 const DEAD: u8 = 2;
 
 /// Puts a live object behind the others, and answers the new `used`, in bytes. Its content is zero. An

@@ -1,5 +1,6 @@
 ghost use Rattle.std.specs.Prelude.{◌≡◌};
 ghost use Rattle.std.specs.Iterator.{YieldsFirst, item_count};
+ghost use Rattle.std.specs.List.Sorted.{IsStrictlyIncreasing};
 ghost use Rattle.object_log.specs.Objects.{objects, offsets, IsSegment};
 
 use crate::descriptor::descriptor_in;
@@ -29,7 +30,8 @@ impl<'a> Walk<'a> {
     /// Over the objects up to `used`.
     pub fn new(segment: &'a [u8], used: u32) -> Walk<'a>
         requires { IsSegment segment.now used }
-        ensures { result ≡ offsets (objects segment.now used) }
+        ensures all { result ≡ offsets (objects segment.now used) }
+        ensures rising { IsStrictlyIncreasing result }
     {
         Walk {
             segment,

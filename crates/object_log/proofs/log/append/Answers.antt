@@ -1,4 +1,4 @@
-use Rattle.std.proofs.Common.{arith, ◌≡◌, length, ◌∙◌}
+use Rattle.std.proofs.Common.{◌≡◌, length, ◌∙◌}
 use Rattle.object_log.proofs.Appending.{objects-added, IsSegment-added, content-zero, front-kept}
 use Rattle.object_log.proofs.log.append.Goals as goal
 

@@ -1,5 +1,5 @@
-use Rattle.std.proofs.Common.{◌≡◌, ℕ, ◌^◌, rules, ◌+◌, ◌-◌, ◌<◌, ◌≤◌, ◌∷◌, List, length, refl, sym, ap, ◌∙◌, subst, arith}
-use Rattle.object_log.specs.Objects.{Object, object_at, objects_from, AreObjects, offsets}
+use Rattle.std.proofs.Common.{◌≡◌, ◌^◌, rules, ◌+◌, ◌-◌, ◌<◌, ◌∷◌, length, refl, sym, ap, ◌∙◌, subst, arith}
+use Rattle.object_log.specs.Objects.{object_at, objects_from, AreObjects, offsets}
 use Rattle.object_log.proofs.Reading.{objects-step}
 use Rattle.object_log.proofs.walking.WalkIterator.next.Goals as goal
 
