@@ -1,0 +1,17 @@
+//! The objects of a segment, after ScyllaDB's `utils/logalloc`.
+//!
+//! A segment has 131,072 bytes. Objects stand in it from offset 0 on without gaps, each behind a
+//! descriptor of 8 bytes, little endian: the state (0 end, 1 live, 2 dead), the kind, two zero bytes and
+//! the size of the whole object. A size is a multiple of 8 from 16 to 12,296. Behind the last object stands an end
+//! descriptor of 8 zero bytes where it has room. A dead object stays until its segment is emptied.
+#![tactic(auto)]
+
+mod descriptor;
+mod log;
+#[cfg(test)]
+mod tests;
+mod walking;
+
+pub use descriptor::{Descriptor, read_descriptor};
+pub use log::{append, kill};
+pub use walking::Walk;

@@ -1,0 +1,55 @@
+-- What these types own and show names no thread.
+use Rattle.std.proofs.Common.{ℕ, ◌+◌, List, [], ◌∷◌, length, Bool, true, false}
+use base.Fraction.{full_share}
+use base.Shift.{Keyless}
+use denote.Builtin.{u8}
+use denote.Array.{Array}
+use denote.RawPtr.{Ptr, block_ptr, null_ptr, block_of, count_of}
+use denote.Param.Send.{IsSend, part_keyless, array_send, sendable, Frees, struct_send, owning_send}
+use denote.RattleType.{RattleType}
+use denote.Struct.Declared as declared
+use Rattle.std.specs.declared.alloc.Allocator.{Ghosts}
+use Rattle.std.specs.Vec.{with_items}
+use Rattle.std_alloc.proofs.SendSync.{Vec-send}
+use Rattle.raw_range.specs.contracts.memory.Held as Held
+use Rattle.raw_range.specs.contracts.memory.Run as Run
+use Rattle.raw_range.specs.contracts.memory.Sole as Sole
+use Rattle.raw_range.specs.contracts.memory.Sole.TheInside as Inside
+use Rattle.raw_range.specs.Places.{Place, is_out}
+use Rattle.raw_range.specs.Ownership.{run_owns, byte_owns, rest_owns}
+
+pub u8-send : IsSend u8
+u8-send = search sendable
+
+pub run_owns-keyless : (p : Ptr) (xs : List ℕ) → Keyless (run_owns p xs)
+run_owns-keyless (block_ptr b o) xs = part_keyless (Array u8 (length xs)) (array_send u8 (length xs) u8-send) full_share xs b o
+run_owns-keyless null_ptr xs = tt
+
+pub sole-send : (A : RattleType) (g : Ghosts A.Denot) → IsSend A → Frees g g.dealloc_token → IsSend (Sole.the_row A g)
+sole-send A g s f = record {
+  owned = λ e vs. (
+    (λ _. tt),
+    λ v. (
+      tt,
+      λ xs. (
+        (tt, run_owns-keyless e.ptr xs),
+        (struct_send (declared.shape (Inside.the_type A g)) (Vec-send u8 A g u8-send s f, tt)).owned (with_items v.vec xs, tt) vs,
+      ),
+    ),
+  );
+  leaving = λ k x w. tt;
+}
+
+byte_owns-keyless : (y : Bool) (b o x : ℕ) → Keyless (byte_owns y b o x)
+byte_owns-keyless true b o x = tt
+byte_owns-keyless false b o x = part_keyless u8 u8-send full_share x b o
+
+rest_owns-keyless : (out : List Place) (b o i : ℕ) (xs : List ℕ) → Keyless (rest_owns out b o i xs)
+rest_owns-keyless out b o i [] = tt
+rest_owns-keyless out b o i (x ∷ xs) = (byte_owns-keyless (is_out out i) b o x, rest_owns-keyless out b (o + 1) (i + 1) xs)
+
+pub run-send : IsSend Run.the_row
+run-send = owning_send Run.the_type tt (λ d. run_owns-keyless d.ptr d.items) (λ k x w. tt)
+
+pub held-send : IsSend Held.the_row
+held-send = owning_send Held.the_type tt (λ d. rest_owns-keyless d.out (block_of d.ptr) (count_of d.ptr) 0 d.bytes) (λ k x w. tt)

@@ -1,0 +1,7 @@
+pub mod Calls
+pub mod Crosses
+pub mod Lodging
+pub mod Places
+pub mod Rest
+pub mod Vecs
+pub mod Walks

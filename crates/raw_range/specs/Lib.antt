@@ -1,0 +1,4 @@
+pub mod Memory
+pub mod Ownership
+pub mod Places
+pub mod Writes

@@ -1,0 +1,13 @@
+//! The bytes of one shard: a range of pages, from which pieces are taken and to which they are put
+//! back. This is the one crate with raw memory, and few short functions of it touch that memory.
+#![tactic(auto)]
+
+mod memory;
+mod parts;
+mod piece;
+mod range;
+#[cfg(test)]
+mod tests;
+
+pub use piece::Piece;
+pub use range::Range;

@@ -1,0 +1,68 @@
+ghost use Rattle.std.specs.Prelude.{◌≡◌, length};
+ghost use Rattle.std.specs.Borrow.{sem};
+ghost use Rattle.raw_range.specs.Writes.{LendsBytes};
+
+use crate::memory::Base;
+use std::marker::Model;
+use std_alloc::vec::Lodged;
+
+/// Bytes of a `Range`, side by side, in the hands of whoever has the piece. No other piece of the range
+/// has one of them. It may go to another thread. One that is dropped stays out for good.
+#[derive(Drop)]
+pub struct Piece {
+    pub(crate) memory: Vec<u8, Lodged>,
+    pub(crate) base: Base,
+    pub(crate) at: u32,
+    pub(crate) owner: u32,
+}
+
+impl Model for Piece {
+    ghost use Rattle.std.specs.Prelude.{◌≡◌, ℕ, ◌<◌, ◌^◌, length};
+    ghost use denote.RawPtr.{◌+ₚ◌};
+    ghost use Rattle.raw_range.specs.Memory.{Lent, lent_code};
+
+    ghost Value = { Lent };
+
+    ghost coded = { lent_code };
+
+    ghost view = { λ p. record { home = p.base.ptr; owner = p.owner; at = p.at; bytes = p.memory.items } };
+
+    ghost invariant = { λ p. (0 < length p.memory.items) × (length p.memory.items < 2 ^ 32) × (p.memory.ptr ≡ p.base.ptr +ₚ p.at) };
+}
+
+impl Piece {
+    /// The number of its first byte in the range.
+    pub fn at(&self) -> u32
+        ensures { result ≡ self.now.at }
+    {
+        self.at
+    }
+
+    /// How many bytes it has.
+    pub fn len(&self) -> u32
+        ensures { result ≡ length self.now.bytes }
+    {
+        self.memory.len() as u32
+    }
+
+    /// The number of the shard that owns the range.
+    pub fn owner(&self) -> u32
+        ensures { result ≡ self.now.owner }
+    {
+        self.owner
+    }
+
+    pub fn bytes(&self) -> &[u8]
+        ensures { result.now ≡ self.now.bytes }
+    {
+        self.memory.as_slice()
+    }
+
+    pub fn bytes_mut(&mut self) -> &mut [u8]
+        ensures* lends { sem 𝓛 (LendsBytes self.entry result) }
+        ensures value { result.now ≡ self.old.bytes }
+    {
+        let len = self.memory.len();
+        self.memory.slice_mut(0..len)
+    }
+}
