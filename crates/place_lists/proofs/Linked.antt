@@ -7,7 +7,8 @@ use Rattle.std.specs.List.{range_with_len}
 use Rattle.std.proofs.lemmas.Bool.{cases_eq}
 use Rattle.place_lists.specs.Lists.{Lists, list_at, IsAbsent, times, without}
 use Rattle.place_lists.specs.Links.{Path, AreLinked, rings_from}
-use Rattle.place_lists.proofs.Paths.{times_here, times_there, times-without_same, times-without_other, length-without, keeps_path, front_path, next_on_path, prev_on_path, path-without, rings_of_paths, length_below}
+use Rattle.place_lists.proofs.Times.{absent_cons, times_here, times_there, times-without_same, times-without_other, length-without, length_below}
+use Rattle.place_lists.proofs.Paths.{keeps_path, front_path, next_on_path, prev_on_path, path-without, rings_of_paths}
 
 -- what holds at a place that is written and at each other one holds at each
 pub each_set : {A : Type 0} (P : ℕ → A → Type 0) (l : List A) (k : ℕ) (v d : A) → k < length l → P k v → ((j : ℕ) → j < length l → j ≢ k → P j (get_or l j d)) → (j : ℕ) → j < length (set l k v) → P j (get_or (set l k v) j d)

@@ -1,0 +1,5 @@
+pub mod Halves
+pub mod Cuts
+pub mod Outs
+pub mod Laid
+pub mod Views
