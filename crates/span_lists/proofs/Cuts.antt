@@ -11,9 +11,9 @@ some_is {a} {b} {o} p q = (let e : Some a ≡ Some b = sym p ∙ q in cc)
 -- orders that are the same at each page cut alike
 pub same_cut : (pages : ℕ) (at at' : ℕ → Option ℕ) → ((x : ℕ) → at' x ≡ at x) → IsCut pages at → IsCut pages at'
 same_cut pages at at' same h = record {
-    spans = λ x k e. (let s = h.spans x k (sym (same x) ∙ e) in record { order = s.order; aligned = s.aligned; within = s.within; alone = λ i low high. same i ∙ s.alone i low high });
-    covered = λ x inside. (let c = h.covered x inside in (c.0, c.1, same c.0 ∙ c.2, c.3, c.4));
-  }
+  spans = λ x k e. (let s = h.spans x k (sym (same x) ∙ e) in record { order = s.order; aligned = s.aligned; within = s.within; alone = λ i low high. same i ∙ s.alone i low high });
+  covered = λ x inside. (let c = h.covered x inside in (c.0, c.1, same c.0 ∙ c.2, c.3, c.4));
+}
 
 -- two spans of a cut that share a page are one
 pub shared_page : (pages : ℕ) (at : ℕ → Option ℕ) (p q j k x : ℕ) → IsCut pages at → at p ≡ Some j → at q ≡ Some k → p ≤ x → x < p + 2 ^ j → q ≤ x → x < q + 2 ^ k → p ≡ q
@@ -43,35 +43,47 @@ cut_halved pages at at' x k h was low high others =
     record {
       spans = λ y j e. elim (cases_eq y x) [
         | inl yx ↦
-          (let jk : k ≡ j = some_is (ap at' yx ∙ low) e in
-          let made : IsSpanAt pages at' x k = record { order = order; aligned = a_low; within = (omega (arith, within)); alone = alone_low } in
-          subst (λ z. IsSpanAt pages at' z j) (sym yx) (subst (λ z. IsSpanAt pages at' x z) jk made))
+            (let jk : k ≡ j = some_is (ap at' yx ∙ low) e in
+            let made : IsSpanAt pages at' x k = record { order = order; aligned = a_low; within = (omega (arith, within)); alone = alone_low } in
+            subst (λ z. IsSpanAt pages at' z j) (sym yx) (subst (λ z. IsSpanAt pages at' x z) jk made))
         | inr nx ↦ elim (cases_eq y (x + 2 ^ k)) [
           | inl yh ↦
-            (let jk : k ≡ j = some_is (ap at' yh ∙ high) e in
-            let made : IsSpanAt pages at' (x + 2 ^ k) k = record { order = order; aligned = a_high; within = (omega (arith, within)); alone = alone_high } in
-            subst (λ z. IsSpanAt pages at' z j) (sym yh) (subst (λ z. IsSpanAt pages at' (x + 2 ^ k) z) jk made))
+              (let jk : k ≡ j = some_is (ap at' yh ∙ high) e in
+              let made : IsSpanAt pages at' (x + 2 ^ k) k = record { order = order; aligned = a_high; within = (omega (arith, within)); alone = alone_high } in
+              subst (λ z. IsSpanAt pages at' z j) (sym yh) (subst (λ z. IsSpanAt pages at' (x + 2 ^ k) z) jk made))
           | inr nh ↦
-            (let was_y : at y ≡ Some j = sym (others y nx nh) ∙ e in
-            let t = h.spans y j was_y in
-            record { order = t.order; aligned = t.aligned; within = t.within; alone = λ i l u.
-              elim (cases_eq i x) [
-                | inl ix ↦ absurd (let none = t.alone i l u in let clash : Some (k + 1) ≡ None = sym was ∙ sym (ap at ix) ∙ none in cc)
-                | inr inx ↦ elim (cases_eq i (x + 2 ^ k)) [
-                  | inl ih ↦ absurd (nx (shared_page pages at y x j (k + 1) i h was_y was (omega arith) u (omega arith) (omega arith)))
-                  | inr inh ↦ others i inx inh ∙ t.alone i l u ] ] }) ] ];
+              (let was_y : at y ≡ Some j = sym (others y nx nh) ∙ e in
+              let t = h.spans y j was_y in
+              record {
+                order = t.order;
+                aligned = t.aligned;
+                within = t.within;
+                alone = λ i l u.
+                    elim (cases_eq i x) [
+                      | inl ix ↦ absurd (let none = t.alone i l u in let clash : Some (k + 1) ≡ None = sym was ∙ sym (ap at ix) ∙ none in cc)
+                      | inr inx ↦ elim (cases_eq i (x + 2 ^ k)) [
+                        | inl ih ↦ absurd (nx (shared_page pages at y x j (k + 1) i h was_y was (omega arith) u (omega arith) (omega arith)))
+                        | inr inh ↦ others i inx inh ∙ t.alone i l u
+                      ]
+                    ];
+              })
+        ]
+      ];
       covered = λ y inside. (let c = h.covered y inside in
-        elim (cases_eq c.0 x) [
-          | inl cx ↦
-            (let ck : c.1 ≡ k + 1 = some_is c.2 (ap at cx ∙ was) in
-            let upper : y < x + 2 ^ (k + 1) = subst (λ z. y < x + 2 ^ z) ck (subst (λ z. y < z + 2 ^ c.1) cx c.4) in
-            let lower : x ≤ y = subst (λ z. z ≤ y) cx c.3 in
-            elim (below_or y (x + 2 ^ k)) [
-              | inl l ↦ (x, k, low, lower, l)
-              | inr g ↦ (x + 2 ^ k, k, high, g, omega arith) ])
-          | inr ncx ↦ elim (cases_eq c.0 (x + 2 ^ k)) [
-            | inl ch ↦ absurd (let none = s.alone (x + 2 ^ k) (omega arith) (omega arith) in let clash : Some c.1 ≡ None = sym c.2 ∙ ap at ch ∙ none in cc)
-            | inr nch ↦ (c.0, c.1, others c.0 ncx nch ∙ c.2, c.3, c.4) ] ]);
+          elim (cases_eq c.0 x) [
+            | inl cx ↦
+                (let ck : c.1 ≡ k + 1 = some_is c.2 (ap at cx ∙ was) in
+                let upper : y < x + 2 ^ (k + 1) = subst (λ z. y < x + 2 ^ z) ck (subst (λ z. y < z + 2 ^ c.1) cx c.4) in
+                let lower : x ≤ y = subst (λ z. z ≤ y) cx c.3 in
+                elim (below_or y (x + 2 ^ k)) [
+                  | inl l ↦ (x, k, low, lower, l)
+                  | inr g ↦ (x + 2 ^ k, k, high, g, omega arith)
+                ])
+            | inr ncx ↦ elim (cases_eq c.0 (x + 2 ^ k)) [
+              | inl ch ↦ absurd (let none = s.alone (x + 2 ^ k) (omega arith) (omega arith) in let clash : Some c.1 ≡ None = sym c.2 ∙ ap at ch ∙ none in cc)
+              | inr nch ↦ (c.0, c.1, others c.0 ncx nch ∙ c.2, c.3, c.4)
+            ]
+          ]);
     }
   where
     below_or : (a b : ℕ) → (a < b) ⊎ (b ≤ a)
@@ -89,37 +101,54 @@ cut_joined pages at at' x k h small aligned was_low was_high low high others =
     record {
       spans = λ y j e. elim (cases_eq y x) [
         | inl yx ↦
-          (let jk : k + 1 ≡ j = some_is (ap at' yx ∙ low) e in
-          let made : IsSpanAt pages at' x (k + 1) = record { order = omega arith; aligned = aligned; within = (omega (arith, within)); alone = λ i l u.
-              elim (cases_eq i (x + 2 ^ k)) [
-                | inl ih ↦ ap at' ih ∙ high
-                | inr inh ↦ others i (λ z. absurd (omega arith)) inh ∙ (elim (below_or i (x + 2 ^ k)) [ inl b ↦ s.alone i l b | inr b ↦ t.alone i (omega arith) (omega arith) ]) ] } in
-          subst (λ z. IsSpanAt pages at' z j) (sym yx) (subst (λ z. IsSpanAt pages at' x z) jk made))
+            (let jk : k + 1 ≡ j = some_is (ap at' yx ∙ low) e in
+            let made : IsSpanAt pages at' x (k + 1) = record {
+              order = omega arith;
+              aligned = aligned;
+              within = (omega (arith, within));
+              alone = λ i l u.
+                  elim (cases_eq i (x + 2 ^ k)) [
+                    | inl ih ↦ ap at' ih ∙ high
+                    | inr inh ↦ others i (λ z. absurd (omega arith)) inh ∙ (elim (below_or i (x + 2 ^ k)) [ inl b ↦ s.alone i l b | inr b ↦ t.alone i (omega arith) (omega arith) ])
+                  ];
+            } in
+            subst (λ z. IsSpanAt pages at' z j) (sym yx) (subst (λ z. IsSpanAt pages at' x z) jk made))
         | inr nx ↦ elim (cases_eq y (x + 2 ^ k)) [
           | inl yh ↦ absurd (let clash : Some j ≡ None = sym e ∙ ap at' yh ∙ high in cc)
           | inr nh ↦
-            (let was_y : at y ≡ Some j = sym (others y nx nh) ∙ e in
-            let u = h.spans y j was_y in
-            record { order = u.order; aligned = u.aligned; within = u.within; alone = λ i l v.
-              elim (cases_eq i x) [
-                | inl ix ↦ absurd (let none = u.alone i l v in let clash : Some k ≡ None = sym was_low ∙ sym (ap at ix) ∙ none in cc)
-                | inr inx ↦ elim (cases_eq i (x + 2 ^ k)) [
-                  | inl ih ↦ ap at' ih ∙ high
-                  | inr inh ↦ others i inx inh ∙ u.alone i l v ] ] }) ] ];
+              (let was_y : at y ≡ Some j = sym (others y nx nh) ∙ e in
+              let u = h.spans y j was_y in
+              record {
+                order = u.order;
+                aligned = u.aligned;
+                within = u.within;
+                alone = λ i l v.
+                    elim (cases_eq i x) [
+                      | inl ix ↦ absurd (let none = u.alone i l v in let clash : Some k ≡ None = sym was_low ∙ sym (ap at ix) ∙ none in cc)
+                      | inr inx ↦ elim (cases_eq i (x + 2 ^ k)) [
+                        | inl ih ↦ ap at' ih ∙ high
+                        | inr inh ↦ others i inx inh ∙ u.alone i l v
+                      ]
+                    ];
+              })
+        ]
+      ];
       covered = λ y inside. (let c = h.covered y inside in
-        elim (cases_eq c.0 x) [
-          | inl cx ↦
-            (let ck : c.1 ≡ k = some_is c.2 (ap at cx ∙ was_low) in
-            let upper : y < x + 2 ^ k = subst (λ z. y < x + 2 ^ z) ck (subst (λ z. y < z + 2 ^ c.1) cx c.4) in
-            let lower : x ≤ y = subst (λ z. z ≤ y) cx c.3 in
-            (x, k + 1, low, lower, omega arith))
-          | inr ncx ↦ elim (cases_eq c.0 (x + 2 ^ k)) [
-            | inl ch ↦
-              (let ck : c.1 ≡ k = some_is c.2 (ap at ch ∙ was_high) in
-              let upper : y < x + 2 ^ k + 2 ^ k = subst (λ z. y < x + 2 ^ k + 2 ^ z) ck (subst (λ z. y < z + 2 ^ c.1) ch c.4) in
-              let lower : x + 2 ^ k ≤ y = subst (λ z. z ≤ y) ch c.3 in
-              (x, k + 1, low, omega arith, omega arith))
-            | inr nch ↦ (c.0, c.1, others c.0 ncx nch ∙ c.2, c.3, c.4) ] ]);
+          elim (cases_eq c.0 x) [
+            | inl cx ↦
+                (let ck : c.1 ≡ k = some_is c.2 (ap at cx ∙ was_low) in
+                let upper : y < x + 2 ^ k = subst (λ z. y < x + 2 ^ z) ck (subst (λ z. y < z + 2 ^ c.1) cx c.4) in
+                let lower : x ≤ y = subst (λ z. z ≤ y) cx c.3 in
+                (x, k + 1, low, lower, omega arith))
+            | inr ncx ↦ elim (cases_eq c.0 (x + 2 ^ k)) [
+              | inl ch ↦
+                  (let ck : c.1 ≡ k = some_is c.2 (ap at ch ∙ was_high) in
+                  let upper : y < x + 2 ^ k + 2 ^ k = subst (λ z. y < x + 2 ^ k + 2 ^ z) ck (subst (λ z. y < z + 2 ^ c.1) ch c.4) in
+                  let lower : x + 2 ^ k ≤ y = subst (λ z. z ≤ y) ch c.3 in
+                  (x, k + 1, low, omega arith, omega arith))
+              | inr nch ↦ (c.0, c.1, others c.0 ncx nch ∙ c.2, c.3, c.4)
+            ]
+          ]);
     }
   where
     below_or : (a b : ℕ) → (a < b) ⊎ (b ≤ a)

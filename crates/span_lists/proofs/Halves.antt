@@ -23,10 +23,10 @@ pow_twice k =
 
 pub pow_same : (j k : ℕ) → 2 ^ j ≡ 2 ^ k → j ≡ k
 pow_same j k e = elim (three j k) [
-      | inl h ↦ h
-      | inr (inl h) ↦ absurd (let l = pow_below j k h in omega (arith, l, e))
-      | inr (inr h) ↦ absurd (let l = pow_below k j h in omega (arith, l, e))
-    ]
+  | inl h ↦ h
+  | inr (inl h) ↦ absurd (let l = pow_below j k h in omega (arith, l, e))
+  | inr (inr h) ↦ absurd (let l = pow_below k j h in omega (arith, l, e))
+]
 
 -- one multiple below another is below it by a whole step
 pub aligned_step : (x y n : ℕ) → 0 < n → x % n ≡ 0 → y % n ≡ 0 → x < y → x + n ≤ y
@@ -34,8 +34,9 @@ aligned_step x y n pos ax ay h =
     let ex = div-add-mod' x n in
     let ey = div-add-mod' y n in
     let steps : x / n + 1 ≤ y / n = (elim (below_or (x / n) (y / n)) [
-          | inl l ↦ omega arith
-          | inr g ↦ absurd (let le = mul-le-mul_right n g in omega (arith, le, ex, ey)) ]) in
+      | inl l ↦ omega arith
+      | inr g ↦ absurd (let le = mul-le-mul_right n g in omega (arith, le, ex, ey))
+    ]) in
     let le : (x / n + 1) * n ≤ y / n * n = mul-le-mul_right n steps in
     omega (arith, le, ex, ey)
 
@@ -94,10 +95,10 @@ buddy_of_upper y k a = ap (λ n. buddy n k) (sym (buddy_of_lower y k a)) ∙ bud
 -- a span is the lower half or the upper half of the one that is twice as long, and its buddy the other
 pub buddy_cases : (x k : ℕ) → x % 2 ^ k ≡ 0 → ((x % 2 ^ (k + 1) ≡ 0) × (buddy x k ≡ x + 2 ^ k)) ⊎ ((buddy x k % 2 ^ (k + 1) ≡ 0) × (x ≡ buddy x k + 2 ^ k))
 buddy_cases x k a = elim (half_of x k a) [
-      | inl e ↦ inl (e, buddy_of_lower x k e)
-      | inr p ↦ inr (let b : buddy x k ≡ p.0 = ap (λ n. buddy n k) p.1 ∙ buddy_of_upper p.0 k p.2 in
-          (subst (λ n. n % 2 ^ (k + 1) ≡ 0) (sym b) p.2, p.1 ∙ ap (λ n. n + 2 ^ k) (sym b)))
-    ]
+  | inl e ↦ inl (e, buddy_of_lower x k e)
+  | inr p ↦ inr (let b : buddy x k ≡ p.0 = ap (λ n. buddy n k) p.1 ∙ buddy_of_upper p.0 k p.2 in
+      (subst (λ n. n % 2 ^ (k + 1) ≡ 0) (sym b) p.2, p.1 ∙ ap (λ n. n + 2 ^ k) (sym b)))
+]
 
 -- ---- the aligned span in which a page lies
 
@@ -127,8 +128,9 @@ start_of_start x k =
     let aw = start_aligned x (k + 1) in
     let an = start_aligned x k in
     let low : span_start x (k + 1) ≤ span_start x k = (elim (below_or (span_start x k) (span_start x (k + 1))) [
-          | inl l ↦ absurd (let t = aligned_step (span_start x k) (span_start x (k + 1)) (2 ^ k) (pow_pos k) an (coarser (span_start x (k + 1)) k (k + 1) (omega arith) aw) l in omega (arith, t, narrow.1, wide.0))
-          | inr g ↦ g ]) in
+      | inl l ↦ absurd (let t = aligned_step (span_start x k) (span_start x (k + 1)) (2 ^ k) (pow_pos k) an (coarser (span_start x (k + 1)) k (k + 1) (omega arith) aw) l in omega (arith, t, narrow.1, wide.0))
+      | inr g ↦ g
+    ]) in
     start_is (span_start x k) (span_start x (k + 1)) (k + 1) aw low (omega (arith, narrow.0, wide.1))
 
 -- the lower and the upper one of two buddies
@@ -138,13 +140,13 @@ buddy_ends x k a =
     let pos = pow_pos k in let two = pow_twice k in
     elim (buddy_cases x k a) [
       | inl h ↦
-        (let b = h.1 in
-        let low : min x (buddy x k) ≡ x = omega arith in
-        let high : max x (buddy x k) ≡ buddy x k = omega arith in
-        (subst (λ n. n % 2 ^ (k + 1) ≡ 0) (sym low) h.0, high ∙ b ∙ ap (λ n. n + 2 ^ k) (sym low), low ∙ sym (start_is x x (k + 1) h.0 (omega arith) (omega arith)), inl (low, high)))
+          (let b = h.1 in
+          let low : min x (buddy x k) ≡ x = omega arith in
+          let high : max x (buddy x k) ≡ buddy x k = omega arith in
+          (subst (λ n. n % 2 ^ (k + 1) ≡ 0) (sym low) h.0, high ∙ b ∙ ap (λ n. n + 2 ^ k) (sym low), low ∙ sym (start_is x x (k + 1) h.0 (omega arith) (omega arith)), inl (low, high)))
       | inr h ↦
-        (let b = h.1 in
-        let low : min x (buddy x k) ≡ buddy x k = omega arith in
-        let high : max x (buddy x k) ≡ x = omega arith in
-        (subst (λ n. n % 2 ^ (k + 1) ≡ 0) (sym low) h.0, high ∙ b ∙ ap (λ n. n + 2 ^ k) (sym low), low ∙ sym (start_is x (buddy x k) (k + 1) h.0 (omega arith) (omega arith)), inr (low, high)))
+          (let b = h.1 in
+          let low : min x (buddy x k) ≡ buddy x k = omega arith in
+          let high : max x (buddy x k) ≡ x = omega arith in
+          (subst (λ n. n % 2 ^ (k + 1) ≡ 0) (sym low) h.0, high ∙ b ∙ ap (λ n. n + 2 ^ k) (sym low), low ∙ sym (start_is x (buddy x k) (k + 1) h.0 (omega arith) (omega arith)), inr (low, high)))
     ]

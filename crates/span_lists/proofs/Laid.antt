@@ -61,16 +61,18 @@ listed_remove lists states states' k b len small listed was none others j x h =
     let held : times b (get_or lists k []) ≡ 1 = listed k b small ∙ ap (mark k) was ∙ mark_same k in
     elim (cases_eq j k) [
       | inl jk ↦
-        (let there : get_or (set lists k (without b (get_or lists k []))) j [] ≡ without b (get_or lists k []) = ap (λ z. get_or (set lists k (without b (get_or lists k []))) z []) jk ∙ get_or-set_same lists k _ [] (omega arith) in
-        ap (times x) there ∙
-        (elim (cases_eq x b) [
-          | inl e ↦ ap (λ z. times z (without b (get_or lists k []))) e ∙ (let w = times-without_same b (get_or lists k []) (omega arith) in let z : times b (without b (get_or lists k [])) ≡ 0 = omega arith in z) ∙ sym (ap (λ z. mark j (state_at states' z)) e ∙ none j)
-          | inr n ↦ times-without_other x b (get_or lists k []) n ∙ listed k x small ∙ sym (others x k n) ∙ ap (λ z. mark z (state_at states' x)) (sym jk) ]))
+          (let there : get_or (set lists k (without b (get_or lists k []))) j [] ≡ without b (get_or lists k []) = ap (λ z. get_or (set lists k (without b (get_or lists k []))) z []) jk ∙ get_or-set_same lists k _ [] (omega arith) in
+          ap (times x) there ∙
+          (elim (cases_eq x b) [
+            | inl e ↦ ap (λ z. times z (without b (get_or lists k []))) e ∙ (let w = times-without_same b (get_or lists k []) (omega arith) in let z : times b (without b (get_or lists k [])) ≡ 0 = omega arith in z) ∙ sym (ap (λ z. mark j (state_at states' z)) e ∙ none j)
+            | inr n ↦ times-without_other x b (get_or lists k []) n ∙ listed k x small ∙ sym (others x k n) ∙ ap (λ z. mark z (state_at states' x)) (sym jk)
+          ]))
       | inr jk ↦
-        (ap (times x) (get_or-set_other lists k j _ [] jk) ∙ listed j x h ∙
-        (elim (cases_eq x b) [
-          | inl e ↦ ap (λ z. mark j (state_at states z)) e ∙ ap (mark j) was ∙ mark_other j k (λ q. jk (sym q)) ∙ sym (ap (λ z. mark j (state_at states' z)) e ∙ none j)
-          | inr n ↦ sym (others x j n) ]))
+          (ap (times x) (get_or-set_other lists k j _ [] jk) ∙ listed j x h ∙
+          (elim (cases_eq x b) [
+            | inl e ↦ ap (λ z. mark j (state_at states z)) e ∙ ap (mark j) was ∙ mark_other j k (λ q. jk (sym q)) ∙ sym (ap (λ z. mark j (state_at states' z)) e ∙ none j)
+            | inr n ↦ sym (others x j n)
+          ]))
     ]
 
 listed_push : (lists : List (List ℕ)) (states states' : List PageState) (k b : ℕ) → length lists ≡ 17 → k < 17 → IsListed lists states → state_at states' b ≡ Free k
@@ -79,16 +81,18 @@ listed_push : (lists : List (List ℕ)) (states states' : List PageState) (k b :
 listed_push lists states states' k b len small listed now none others j x h =
     elim (cases_eq j k) [
       | inl jk ↦
-        (let there : get_or (set lists k (b ∷ get_or lists k [])) j [] ≡ b ∷ get_or lists k [] = ap (λ z. get_or (set lists k (b ∷ get_or lists k [])) z []) jk ∙ get_or-set_same lists k _ [] (omega arith) in
-        ap (times x) there ∙
-        (elim (cases_eq b x) [
-          | inl e ↦ ap (λ z. times z (b ∷ get_or lists k [])) (sym e) ∙ (let w = times_here b (get_or lists k []) in let l = listed k b small in let o = none k in let z : times b (b ∷ get_or lists k []) ≡ 1 = omega (arith, w, l, o) in z) ∙ sym (ap (λ z. mark z (state_at states' x)) jk ∙ ap (λ z. mark k (state_at states' z)) (sym e) ∙ ap (mark k) now ∙ mark_same k)
-          | inr n ↦ times_there x b (get_or lists k []) n ∙ listed k x small ∙ sym (others x k (λ q. n (sym q))) ∙ ap (λ z. mark z (state_at states' x)) (sym jk) ]))
+          (let there : get_or (set lists k (b ∷ get_or lists k [])) j [] ≡ b ∷ get_or lists k [] = ap (λ z. get_or (set lists k (b ∷ get_or lists k [])) z []) jk ∙ get_or-set_same lists k _ [] (omega arith) in
+          ap (times x) there ∙
+          (elim (cases_eq b x) [
+            | inl e ↦ ap (λ z. times z (b ∷ get_or lists k [])) (sym e) ∙ (let w = times_here b (get_or lists k []) in let l = listed k b small in let o = none k in let z : times b (b ∷ get_or lists k []) ≡ 1 = omega (arith, w, l, o) in z) ∙ sym (ap (λ z. mark z (state_at states' x)) jk ∙ ap (λ z. mark k (state_at states' z)) (sym e) ∙ ap (mark k) now ∙ mark_same k)
+            | inr n ↦ times_there x b (get_or lists k []) n ∙ listed k x small ∙ sym (others x k (λ q. n (sym q))) ∙ ap (λ z. mark z (state_at states' x)) (sym jk)
+          ]))
       | inr jk ↦
-        (ap (times x) (get_or-set_other lists k j _ [] jk) ∙ listed j x h ∙
-        (elim (cases_eq x b) [
-          | inl e ↦ ap (λ z. mark j (state_at states z)) e ∙ none j ∙ sym (ap (λ z. mark j (state_at states' z)) e ∙ ap (mark j) now ∙ mark_other j k (λ q. jk (sym q)))
-          | inr n ↦ sym (others x j n) ]))
+          (ap (times x) (get_or-set_other lists k j _ [] jk) ∙ listed j x h ∙
+          (elim (cases_eq x b) [
+            | inl e ↦ ap (λ z. mark j (state_at states z)) e ∙ none j ∙ sym (ap (λ z. mark j (state_at states' z)) e ∙ ap (mark j) now ∙ mark_other j k (λ q. jk (sym q)))
+            | inr n ↦ sym (others x j n)
+          ]))
     ]
 
 -- ---- the pages of the lists
@@ -131,8 +135,9 @@ laid_pull pages states lists free x k h small held =
     let now : state_at states' x ≡ Out k = state_same states x x (Out k) inside refl in
     let others : (y : ℕ) → y ≢ x → state_at states' y ≡ state_at states y = λ y n. state_other states x y (Out k) n in
     let back : (y j : ℕ) → state_at states' y ≡ Free j → state_at states y ≡ Free j = (λ y j e. elim (cases_eq y x) [
-          | inl q ↦ absurd (let clash : Out k ≡ Free j = sym now ∙ ap (state_at states') (sym q) ∙ e in cc)
-          | inr n ↦ sym (others y n) ∙ e ]) in
+      | inl q ↦ absurd (let clash : Out k ≡ Free j = sym now ∙ ap (state_at states') (sym q) ∙ e in cc)
+      | inr n ↦ sym (others y n) ∙ e
+    ]) in
     let len = h.orders in
     let at : 2 ^ (0 + k) ≡ 2 ^ k = ap (λ n. 2 ^ n) (zero-add k) in
     let less = pages_from-less 0 lists.lists k (without x (list_at lists k)) (omega arith) (length-without x (list_at lists k) held) in
@@ -140,20 +145,23 @@ laid_pull pages states lists free x k h small held =
     let none : out_pages_of (state_at states x) ≡ 0 = ap out_pages_of was in
     let c = h.count in
     let t = h.total in
-    let enough : 2 ^ k ≤ free = omega arith in
-    (enough, record {
-      small = h.small;
-      states_len = length-set states x (Out k) ∙ h.states_len;
-      places = h.places;
-      orders = length-set lists.lists k _ ∙ h.orders;
-      cut = same_cut pages _ _ (λ y. elim (cases_eq y x) [
+    let enough : 2 ^ k ≤ free = omega arith in (
+      enough,
+      record {
+        small = h.small;
+        states_len = length-set states x (Out k) ∙ h.states_len;
+        places = h.places;
+        orders = length-set lists.lists k _ ∙ h.orders;
+        cut = same_cut pages _ _ (λ y. elim (cases_eq y x) [
           | inl e ↦ ap (λ z. order_of (state_at states' z)) e ∙ ap order_of now ∙ sym (ap (λ z. order_of (state_at states z)) e ∙ ap order_of was)
-          | inr n ↦ ap order_of (others y n) ]) h.cut;
-      listed = listed_remove lists.lists states states' k x h.orders small h.listed was (λ j. ap (mark j) now) (λ z j n. ap (mark j) (others z n));
-      merged = λ y j b e d. h.merged y j b (back y j e) (back (buddy y j) j d);
-      count = omega arith;
-      total = omega arith;
-    })
+          | inr n ↦ ap order_of (others y n)
+        ]) h.cut;
+        listed = listed_remove lists.lists states states' k x h.orders small h.listed was (λ j. ap (mark j) now) (λ z j n. ap (mark j) (others z n));
+        merged = λ y j b e d. h.merged y j b (back y j e) (back (buddy y j) j d);
+        count = omega arith;
+        total = omega arith;
+      },
+    )
 
 -- a span that is out comes back, where its buddy is not free
 pub laid_release : (pages : ℕ) (states : List PageState) (lists : Lists) (free x k : ℕ) → IsLaid pages states lists free → k < 17 → state_at states x ≡ Out k
@@ -171,35 +179,41 @@ laid_release pages states lists free x k h small was apart =
     let some : out_pages_of (state_at states x) ≡ 2 ^ k = ap out_pages_of was in
     let c = h.count in
     let t = h.total in
-    let bound : free + 2 ^ k ≤ pages = omega arith in
-    (bound, record {
-      small = h.small;
-      states_len = length-set states x (Free k) ∙ h.states_len;
-      places = h.places;
-      orders = length-set lists.lists k _ ∙ h.orders;
-      cut = same_cut pages _ _ (λ y. elim (cases_eq y x) [
+    let bound : free + 2 ^ k ≤ pages = omega arith in (
+      bound,
+      record {
+        small = h.small;
+        states_len = length-set states x (Free k) ∙ h.states_len;
+        places = h.places;
+        orders = length-set lists.lists k _ ∙ h.orders;
+        cut = same_cut pages _ _ (λ y. elim (cases_eq y x) [
           | inl e ↦ ap (λ z. order_of (state_at states' z)) e ∙ ap order_of now ∙ sym (ap (λ z. order_of (state_at states z)) e ∙ ap order_of was)
-          | inr n ↦ ap order_of (others y n) ]) h.cut;
-      listed = listed_push lists.lists states states' k x h.orders small h.listed now (λ j. ap (mark j) was) (λ z j n. ap (mark j) (others z n));
-      merged = λ y j b e d.
-        elim (cases_eq y x) [
-          | inl yx ↦
-            (let jk : k ≡ j = (let s : Free k ≡ Free j = sym now ∙ ap (state_at states') (sym yx) ∙ e in cc) in
-            let d' : state_at states' (buddy x k) ≡ Free k = subst (λ z. state_at states' (buddy x z) ≡ Free z) (sym jk) (subst (λ z. state_at states' (buddy z j) ≡ Free j) yx d) in
-            let small_k : k < 16 = subst (λ z. z < 16) (sym jk) b in
-            elim (cases_eq (buddy x k) x) [
-              | inl bx ↦ (let alone = buddy_apart x k in alone bx)
-              | inr nb ↦ apart small_k (sym (others (buddy x k) nb) ∙ d') ])
-          | inr ny ↦ elim (cases_eq (buddy y j) x) [
-              | inl bx ↦
-                (let jk : k ≡ j = (let s : Free k ≡ Free j = sym now ∙ ap (state_at states') (sym bx) ∙ d in cc) in
-                let yb : y ≡ buddy x k = sym (buddy_twice y j) ∙ ap (λ z. buddy z j) bx ∙ ap (λ z. buddy x z) (sym jk) in
-                let small_k : k < 16 = subst (λ z. z < 16) (sym jk) b in
-                apart small_k (ap (state_at states) (sym yb) ∙ sym (others y ny) ∙ e ∙ ap (λ z. Free z) (sym jk)))
-              | inr nb ↦ h.merged y j b (sym (others y ny) ∙ e) (sym (others (buddy y j) nb) ∙ d) ] ];
-      count = omega arith;
-      total = omega arith;
-    })
+          | inr n ↦ ap order_of (others y n)
+        ]) h.cut;
+        listed = listed_push lists.lists states states' k x h.orders small h.listed now (λ j. ap (mark j) was) (λ z j n. ap (mark j) (others z n));
+        merged = λ y j b e d.
+            elim (cases_eq y x) [
+              | inl yx ↦
+                  (let jk : k ≡ j = (let s : Free k ≡ Free j = sym now ∙ ap (state_at states') (sym yx) ∙ e in cc) in
+                  let d' : state_at states' (buddy x k) ≡ Free k = subst (λ z. state_at states' (buddy x z) ≡ Free z) (sym jk) (subst (λ z. state_at states' (buddy z j) ≡ Free j) yx d) in
+                  let small_k : k < 16 = subst (λ z. z < 16) (sym jk) b in
+                  elim (cases_eq (buddy x k) x) [
+                    | inl bx ↦ (let alone = buddy_apart x k in alone bx)
+                    | inr nb ↦ apart small_k (sym (others (buddy x k) nb) ∙ d')
+                  ])
+              | inr ny ↦ elim (cases_eq (buddy y j) x) [
+                | inl bx ↦
+                    (let jk : k ≡ j = (let s : Free k ≡ Free j = sym now ∙ ap (state_at states') (sym bx) ∙ d in cc) in
+                    let yb : y ≡ buddy x k = sym (buddy_twice y j) ∙ ap (λ z. buddy z j) bx ∙ ap (λ z. buddy x z) (sym jk) in
+                    let small_k : k < 16 = subst (λ z. z < 16) (sym jk) b in
+                    apart small_k (ap (state_at states) (sym yb) ∙ sym (others y ny) ∙ e ∙ ap (λ z. Free z) (sym jk)))
+                | inr nb ↦ h.merged y j b (sym (others y ny) ∙ e) (sym (others (buddy y j) nb) ∙ d)
+              ]
+            ];
+        count = omega arith;
+        total = omega arith;
+      },
+    )
 
 -- a span that is out is halved, and its upper half is free
 pub laid_halve : (pages : ℕ) (states : List PageState) (lists : Lists) (free x k : ℕ) → IsLaid pages states lists free → state_at states x ≡ Out (k + 1)
@@ -232,36 +246,46 @@ laid_halve pages states lists free x k h was =
     let c = h.count in
     let t = h.total in
     let bound : free + 2 ^ k ≤ pages = omega arith in
-    let lower_buddy : buddy u k ≡ x = buddy_of_upper x k s.aligned in
-    (within, omega arith, bound, λ j q. h.listed j u q ∙ ap (mark j) empty, record {
-      small = h.small;
-      states_len = length-set mid u (Free k) ∙ mid_len ∙ states_len;
-      places = h.places;
-      orders = length-set lists.lists k _ ∙ h.orders;
-      cut = cut_halved pages _ _ x k h.cut (ap order_of was) (ap order_of now_x) (ap order_of now) (λ y nx nu. ap order_of (others y nx nu));
-      listed = listed_push lists.lists states states' k u h.orders (omega arith) h.listed now (λ j. ap (mark j) empty)
-        (λ z j nu. elim (cases_eq z x) [
-          | inl e ↦ ap (λ w. mark j (state_at states' w)) e ∙ ap (mark j) now_x ∙ sym (ap (λ w. mark j (state_at states w)) e ∙ ap (mark j) was)
-          | inr nx ↦ ap (mark j) (others z nx nu) ]);
-      merged = λ y j b e d.
-        elim (cases_eq y u) [
-          | inl yu ↦
-            (let jk : k ≡ j = (let q : Free k ≡ Free j = sym now ∙ ap (state_at states') (sym yu) ∙ e in cc) in
-            let by : buddy y j ≡ x = ap (λ z. buddy z j) yu ∙ ap (λ z. buddy u z) (sym jk) ∙ lower_buddy in
-            (let clash : Out k ≡ Free j = sym now_x ∙ ap (state_at states') (sym by) ∙ d in cc))
-          | inr ny ↦ elim (cases_eq y x) [
-              | inl yx ↦ (let clash : Out k ≡ Free j = sym now_x ∙ ap (state_at states') (sym yx) ∙ e in cc)
-              | inr nx ↦ elim (cases_eq (buddy y j) u) [
+    let lower_buddy : buddy u k ≡ x = buddy_of_upper x k s.aligned in (
+      within,
+      omega arith,
+      bound,
+      λ j q. h.listed j u q ∙ ap (mark j) empty,
+      record {
+        small = h.small;
+        states_len = length-set mid u (Free k) ∙ mid_len ∙ states_len;
+        places = h.places;
+        orders = length-set lists.lists k _ ∙ h.orders;
+        cut = cut_halved pages _ _ x k h.cut (ap order_of was) (ap order_of now_x) (ap order_of now) (λ y nx nu. ap order_of (others y nx nu));
+        listed = listed_push lists.lists states states' k u h.orders (omega arith) h.listed now (λ j. ap (mark j) empty)
+            (λ z j nu. elim (cases_eq z x) [
+              | inl e ↦ ap (λ w. mark j (state_at states' w)) e ∙ ap (mark j) now_x ∙ sym (ap (λ w. mark j (state_at states w)) e ∙ ap (mark j) was)
+              | inr nx ↦ ap (mark j) (others z nx nu)
+            ]);
+        merged = λ y j b e d.
+            elim (cases_eq y u) [
+              | inl yu ↦
+                  (let jk : k ≡ j = (let q : Free k ≡ Free j = sym now ∙ ap (state_at states') (sym yu) ∙ e in cc) in
+                  let by : buddy y j ≡ x = ap (λ z. buddy z j) yu ∙ ap (λ z. buddy u z) (sym jk) ∙ lower_buddy in
+                  (let clash : Out k ≡ Free j = sym now_x ∙ ap (state_at states') (sym by) ∙ d in cc))
+              | inr ny ↦ elim (cases_eq y x) [
+                | inl yx ↦ (let clash : Out k ≡ Free j = sym now_x ∙ ap (state_at states') (sym yx) ∙ e in cc)
+                | inr nx ↦ elim (cases_eq (buddy y j) u) [
                   | inl bu ↦
-                    (let jk : k ≡ j = (let q : Free k ≡ Free j = sym now ∙ ap (state_at states') (sym bu) ∙ d in cc) in
-                    let yb : y ≡ x = sym (buddy_twice y j) ∙ ap (λ z. buddy z j) bu ∙ ap (λ z. buddy u z) (sym jk) ∙ lower_buddy in
-                    nx yb)
+                      (let jk : k ≡ j = (let q : Free k ≡ Free j = sym now ∙ ap (state_at states') (sym bu) ∙ d in cc) in
+                      let yb : y ≡ x = sym (buddy_twice y j) ∙ ap (λ z. buddy z j) bu ∙ ap (λ z. buddy u z) (sym jk) ∙ lower_buddy in
+                      nx yb)
                   | inr nbu ↦ elim (cases_eq (buddy y j) x) [
-                      | inl bx ↦ (let clash : Out k ≡ Free j = sym now_x ∙ ap (state_at states') (sym bx) ∙ d in cc)
-                      | inr nbx ↦ h.merged y j b (sym (others y nx ny) ∙ e) (sym (others (buddy y j) nbx nbu) ∙ d) ] ] ] ];
-      count = omega arith;
-      total = omega arith;
-    })
+                    | inl bx ↦ (let clash : Out k ≡ Free j = sym now_x ∙ ap (state_at states') (sym bx) ∙ d in cc)
+                    | inr nbx ↦ h.merged y j b (sym (others y nx ny) ∙ e) (sym (others (buddy y j) nbx nbu) ∙ d)
+                  ]
+                ]
+              ]
+            ];
+        count = omega arith;
+        total = omega arith;
+      },
+    )
 
 -- two buddies that are out are joined
 pub laid_join : (pages : ℕ) (states : List PageState) (lists : Lists) (free x k : ℕ) → IsLaid pages states lists free → k < 16 → x % 2 ^ (k + 1) ≡ 0 → state_at states x ≡ Out k → state_at states (x + 2 ^ k) ≡ Out k
@@ -281,27 +305,33 @@ laid_join pages states lists free x k h small aligned was was_u =
     let now_u : state_at states' u ≡ Inside = state_other mid x u (Out (k + 1)) ux ∙ state_same states u u Inside (omega arith) refl in
     let others : (y : ℕ) → y ≢ x → y ≢ u → state_at states' y ≡ state_at states y = (λ y nx nu. state_other mid x y (Out (k + 1)) nx ∙ state_other states u y Inside nu) in
     let back : (y j : ℕ) → state_at states' y ≡ Free j → state_at states y ≡ Free j = (λ y j e. elim (cases_eq y x) [
-          | inl q ↦ absurd (let clash : Out (k + 1) ≡ Free j = sym now ∙ ap (state_at states') (sym q) ∙ e in cc)
-          | inr nx ↦ elim (cases_eq y u) [
-              | inl q ↦ absurd (let clash : Inside ≡ Free j = sym now_u ∙ ap (state_at states') (sym q) ∙ e in cc)
-              | inr nu ↦ sym (others y nx nu) ∙ e ] ]) in
+      | inl q ↦ absurd (let clash : Out (k + 1) ≡ Free j = sym now ∙ ap (state_at states') (sym q) ∙ e in cc)
+      | inr nx ↦ elim (cases_eq y u) [
+        | inl q ↦ absurd (let clash : Inside ≡ Free j = sym now_u ∙ ap (state_at states') (sym q) ∙ e in cc)
+        | inr nu ↦ sym (others y nx nu) ∙ e
+      ]
+    ]) in
     let sums = sum_by-set out_pages_of states u Inside Inside (omega arith) in
     let sums' = sum_by-set out_pages_of mid x (Out (k + 1)) Inside (omega arith) in
     let some : out_pages_of (state_at states u) ≡ 2 ^ k = ap out_pages_of was_u in
     let some' : out_pages_of (state_at mid x) ≡ 2 ^ k = ap out_pages_of (state_other states u x Inside (λ e. ux (sym e)) ∙ was) in
-    let t = h.total in
-    (omega arith, record {
-      small = h.small;
-      states_len = length-set mid x (Out (k + 1)) ∙ mid_len ∙ states_len;
-      places = h.places;
-      orders = h.orders;
-      cut = cut_joined pages _ _ x k h.cut small aligned (ap order_of was) (ap order_of was_u) (ap order_of now) (ap order_of now_u) (λ y nx nu. ap order_of (others y nx nu));
-      listed = λ j z q. h.listed j z q ∙ (elim (cases_eq z x) [
+    let t = h.total in (
+      omega arith,
+      record {
+        small = h.small;
+        states_len = length-set mid x (Out (k + 1)) ∙ mid_len ∙ states_len;
+        places = h.places;
+        orders = h.orders;
+        cut = cut_joined pages _ _ x k h.cut small aligned (ap order_of was) (ap order_of was_u) (ap order_of now) (ap order_of now_u) (λ y nx nu. ap order_of (others y nx nu));
+        listed = λ j z q. h.listed j z q ∙ (elim (cases_eq z x) [
           | inl e ↦ ap (λ w. mark j (state_at states w)) e ∙ ap (mark j) was ∙ sym (ap (λ w. mark j (state_at states' w)) e ∙ ap (mark j) now)
           | inr nx ↦ elim (cases_eq z u) [
-              | inl e ↦ ap (λ w. mark j (state_at states w)) e ∙ ap (mark j) was_u ∙ sym (ap (λ w. mark j (state_at states' w)) e ∙ ap (mark j) now_u)
-              | inr nu ↦ sym (ap (mark j) (others z nx nu)) ] ]);
-      merged = λ y j b e d. h.merged y j b (back y j e) (back (buddy y j) j d);
-      count = h.count;
-      total = omega arith;
-    })
+            | inl e ↦ ap (λ w. mark j (state_at states w)) e ∙ ap (mark j) was_u ∙ sym (ap (λ w. mark j (state_at states' w)) e ∙ ap (mark j) now_u)
+            | inr nu ↦ sym (ap (mark j) (others z nx nu))
+          ]
+        ]);
+        merged = λ y j b e d. h.merged y j b (back y j e) (back (buddy y j) j d);
+        count = h.count;
+        total = omega arith;
+      },
+    )

@@ -69,14 +69,16 @@ pub out_with : (states states' : List PageState) (x k : ℕ) → state_at states
 out_with states states' x k here others = maps_same _ _ (λ q. get-out_of states' q ∙
     (elim (cases_eq q x) [
       | inl e ↦ ap (λ z. out_order_of (state_at states' z)) e ∙ ap out_order_of here ∙ sym (get_inserted (out_of states) x k q e)
-      | inr n ↦ others q n ∙ sym (get-out_of states q) ∙ sym (get_past_insert (out_of states) x k q n) ]))
+      | inr n ↦ others q n ∙ sym (get-out_of states q) ∙ sym (get_past_insert (out_of states) x k q n)
+    ]))
 
 -- a span comes back
 pub out_without : (states states' : List PageState) (x : ℕ) → out_order_of (state_at states' x) ≡ None → ((y : ℕ) → y ≢ x → out_order_of (state_at states' y) ≡ out_order_of (state_at states y)) → out_of states' ≡ remove (out_of states) x
 out_without states states' x here others = maps_same _ _ (λ q. get-out_of states' q ∙
     (elim (cases_eq q x) [
       | inl e ↦ ap (λ z. out_order_of (state_at states' z)) e ∙ here ∙ sym (get_removed (out_of states) x q e)
-      | inr n ↦ others q n ∙ sym (get-out_of states q) ∙ sym (get_past_remove (out_of states) x q n) ]))
+      | inr n ↦ others q n ∙ sym (get-out_of states q) ∙ sym (get_past_remove (out_of states) x q n)
+    ]))
 
 -- the state of a span that is out
 pub state_of_out : (v : PageState) (k : ℕ) → out_order_of v ≡ Some k → v ≡ Out k

@@ -26,9 +26,9 @@ below_or a b = grind arith
 -- only an order has a list
 order_of_free : (pages : ℕ) (states : List PageState) (lists : Lists) (free p k : ℕ) → IsLaid pages states lists free → IsFree (layout_of pages states lists) p k → k < 17
 order_of_free pages states lists free p k h held = elim (below_or k 17) [
-      | inl l ↦ l
-      | inr g ↦ absurd (let o = h.orders in let none : times p (list_at lists k) ≡ 0 = ap (times p) (get_or_past lists.lists k [] (omega arith)) in omega (arith, none, held))
-    ]
+  | inl l ↦ l
+  | inr g ↦ absurd (let o = h.orders in let none : times p (list_at lists k) ≡ 0 = ap (times p) (get_or_past lists.lists k [] (omega arith)) in omega (arith, none, held))
+]
 
 pub state_of_free : (pages : ℕ) (states : List PageState) (lists : Lists) (free p k : ℕ) → IsLaid pages states lists free → IsFree (layout_of pages states lists) p k → state_at states p ≡ Free k
 state_of_free pages states lists free p k h held = free_of_mark k _ (subst (λ n. 1 ≤ n) (h.listed k p (order_of_free pages states lists free p k h held)) held)
@@ -67,9 +67,10 @@ pages_is (Some k) n e = (k, refl, (let s : Some (2 ^ k) ≡ Some n = e in cc))
 pub divides_of : (pages : ℕ) (states : List PageState) (lists : Lists) (free : ℕ) → IsLaid pages states lists free → Divides (layout_of pages states lists)
 divides_of pages states lists free h =
     let apart : (p q j k : ℕ) → order_of (state_at states p) ≡ Some j → order_of (state_at states q) ≡ Some k → p < q → p + 2 ^ j ≤ q = (λ p q j k ep eq l.
-          elim (below_or q (p + 2 ^ j)) [
-            | inl u ↦ absurd (let none = (h.cut.spans p j ep).alone q l u in let clash : Some k ≡ None = sym eq ∙ none in cc)
-            | inr g ↦ g ]) in
+    elim (below_or q (p + 2 ^ j)) [
+      | inl u ↦ absurd (let none = (h.cut.spans p j ep).alone q l u in let clash : Some k ≡ None = sym eq ∙ none in cc)
+      | inr g ↦ g
+    ]) in
     record {
       orders = h.orders;
       spans = λ p k s. (let a = h.cut.spans p k (order_at_span pages states lists free p k h s) in (a.order, a.aligned, a.within));
@@ -106,7 +107,7 @@ pulled pages states lists lists' free x k s h held e view =
     let inside = state_within states x (λ q. (let clash : Inside ≡ Free k = sym q ∙ was in cc)) in
     ap (λ l. layout_of pages (set states x (Out k)) l) e
     ∙ ap (λ o. let r : Layout = record { pages = pages; free = set lists.lists k (without x (list_at lists k)); out = o } in r)
-      (out_with states (set states x (Out k)) x k (state_same states x x (Out k) inside refl) (λ y n. ap out_order_of (state_other states x y (Out k) n)))
+    (out_with states (set states x (Out k)) x k (state_same states x x (Out k) inside refl) (λ y n. ap out_order_of (state_other states x y (Out k) n)))
     ∙ ap (λ (t : Layout). let r : Layout = record t { free = set t.free k (without x (free_at t k)); out = map.insert t.out x k } in r) view
 
 pub released : (pages : ℕ) (states : List PageState) (lists lists' : Lists) (x k : ℕ) (s : Layout) → IsOut (layout_of pages states lists) x k → lists' ≡ with_list lists k (x ∷ list_at lists k) → layout_of pages states lists ≡ s
@@ -116,7 +117,7 @@ released pages states lists lists' x k s out e view =
     let inside = state_within states x (λ q. (let clash : Inside ≡ Out k = sym q ∙ was in cc)) in
     ap (λ l. layout_of pages (set states x (Free k)) l) e
     ∙ ap (λ o. let r : Layout = record { pages = pages; free = set lists.lists k (x ∷ list_at lists k); out = o } in r)
-      (out_without states (set states x (Free k)) x (ap out_order_of (state_same states x x (Free k) inside refl)) (λ y n. ap out_order_of (state_other states x y (Free k) n)))
+    (out_without states (set states x (Free k)) x (ap out_order_of (state_same states x x (Free k) inside refl)) (λ y n. ap out_order_of (state_other states x y (Free k) n)))
     ∙ ap (λ (t : Layout). let r : Layout = record t { free = set t.free k (x ∷ free_at t k); out = map.remove t.out x } in r) view
 
 pub halved : (pages : ℕ) (states : List PageState) (lists lists' : Lists) (free x k u : ℕ) (s : Layout) → IsLaid pages states lists free → IsOut (layout_of pages states lists) x (k + 1) → u ≡ x + 2 ^ k → lists' ≡ with_list lists k (u ∷ list_at lists k) → layout_of pages states lists ≡ s
@@ -134,10 +135,11 @@ halved pages states lists lists' free x k u s h out ue e view =
     let mid_len : length (set states x (Out k)) ≡ length states = length-set states x (Out k) in
     ap (λ l. layout_of pages (set (set states x (Out k)) u (Free k)) l) e
     ∙ ap (λ o. let r : Layout = record { pages = pages; free = set lists.lists k (u ∷ list_at lists k); out = o } in r)
-      (out_with states (set (set states x (Out k)) u (Free k)) x k (state_other _ u x (Free k) (λ q. ux (sym q)) ∙ state_same states x x (Out k) inside refl)
-        (λ y n. elim (cases_eq y u) [
-          | inl yu ↦ ap out_order_of (state_same _ u y (Free k) (omega arith) yu) ∙ sym (ap (λ z. out_order_of (state_at states z)) yu ∙ none)
-          | inr nu ↦ ap out_order_of (state_other _ u y (Free k) nu ∙ state_other states x y (Out k) n) ]))
+    (out_with states (set (set states x (Out k)) u (Free k)) x k (state_other _ u x (Free k) (λ q. ux (sym q)) ∙ state_same states x x (Out k) inside refl)
+    (λ y n. elim (cases_eq y u) [
+      | inl yu ↦ ap out_order_of (state_same _ u y (Free k) (omega arith) yu) ∙ sym (ap (λ z. out_order_of (state_at states z)) yu ∙ none)
+      | inr nu ↦ ap out_order_of (state_other _ u y (Free k) nu ∙ state_other states x y (Out k) n)
+    ]))
     ∙ ap (λ (t : Layout). let r : Layout = record t { free = set t.free k (u ∷ free_at t k); out = map.insert t.out x k } in r) view
   where
     none_out : (v : PageState) → order_of v ≡ None → out_order_of v ≡ None
@@ -162,19 +164,22 @@ out_joined states states' x b lower upper k low up others ends = maps_same _ _ (
     (elim (cases_eq q lower) [
       | inl e ↦ ap (λ z. out_order_of (state_at states' z)) e ∙ ap out_order_of low ∙ sym (get_inserted _ lower k q e)
       | inr nl ↦ elim (cases_eq q upper) [
-          | inl e ↦ ap (λ z. out_order_of (state_at states' z)) e ∙ ap out_order_of up ∙ sym (get_past_insert _ lower k q nl ∙ gone q e)
-          | inr nu ↦ ap out_order_of (others q nl nu) ∙ sym (get-out_of states q) ∙ sym (get_past_insert _ lower k q nl ∙ stays q nl nu) ] ]))
+        | inl e ↦ ap (λ z. out_order_of (state_at states' z)) e ∙ ap out_order_of up ∙ sym (get_past_insert _ lower k q nl ∙ gone q e)
+        | inr nu ↦ ap out_order_of (others q nl nu) ∙ sym (get-out_of states q) ∙ sym (get_past_insert _ lower k q nl ∙ stays q nl nu)
+      ]
+    ]))
   where
     gone : (q : ℕ) → q ≡ upper → map.get (map.remove (map.remove (out_of states) x) b) q ≡ None
     gone q e = elim (cases_eq q b) [
       | inl qb ↦ get_removed (map.remove (out_of states) x) b q qb
       | inr nb ↦ get_past_remove (map.remove (out_of states) x) b q nb ∙ get_removed (out_of states) x q (elim ends [ inl p ↦ absurd (nb (e ∙ p.1)) | inr p ↦ e ∙ p.1 ])
-      ]
+    ]
+
     stays : (q : ℕ) → q ≢ lower → q ≢ upper → map.get (map.remove (map.remove (out_of states) x) b) q ≡ map.get (out_of states) q
     stays q nl nu =
-      let nb : q ≢ b = (λ e. elim ends [ inl p ↦ nu (e ∙ sym p.1) | inr p ↦ nl (e ∙ sym p.0) ]) in
-      let nx : q ≢ x = (λ e. elim ends [ inl p ↦ nl (e ∙ sym p.0) | inr p ↦ nu (e ∙ sym p.1) ]) in
-      get_past_remove (map.remove (out_of states) x) b q nb ∙ get_past_remove (out_of states) x q nx
+        let nb : q ≢ b = (λ e. elim ends [ inl p ↦ nu (e ∙ sym p.1) | inr p ↦ nl (e ∙ sym p.0) ]) in
+        let nx : q ≢ x = (λ e. elim ends [ inl p ↦ nl (e ∙ sym p.0) | inr p ↦ nu (e ∙ sym p.1) ]) in
+        get_past_remove (map.remove (out_of states) x) b q nb ∙ get_past_remove (out_of states) x q nx
 
 -- the pages after two buddies are joined, and the value that callers see
 pub joined : (pages : ℕ) (states : List PageState) (lists : Lists) (free x k other lower upper : ℕ) (s : Layout) → IsLaid pages states lists free → k < 16
@@ -198,21 +203,29 @@ joined pages states lists free x k other lower upper s h small ox ob oe le ue vi
     let apart : lower ≢ upper = (λ e. absurd (omega arith)) in
     let mid_len : length (set states upper Inside) ≡ length states = length-set states upper Inside in
     let now : state_at states' lower ≡ Out (k + 1) = state_same (set states upper Inside) lower lower (Out (k + 1)) (omega arith) refl in
-    let now_u : state_at states' upper ≡ Inside = state_other (set states upper Inside) lower upper (Out (k + 1)) (λ e. apart (sym e)) ∙ state_same states upper upper Inside (omega arith) refl in
-    (omega arith, omega arith, low ∙ ends.2, subst (λ u. IsLaid pages (set (set states u Inside) lower (Out (k + 1))) lists free) (sym step) after.1,
-     ap (λ o. let r : Layout = record { pages = pages; free = lists.lists; out = o } in r)
-      (out_joined states states' x (buddy x k) lower upper (k + 1) now now_u (λ y nl nu. state_other (set states upper Inside) lower y (Out (k + 1)) nl ∙ state_other states upper y Inside nu) which)
-     ∙ ap (λ (t : Layout). let r : Layout = record t { out = map.insert (map.remove (map.remove t.out x) (buddy x k)) lower (k + 1) } in r) view)
+    let now_u : state_at states' upper ≡ Inside = state_other (set states upper Inside) lower upper (Out (k + 1)) (λ e. apart (sym e)) ∙ state_same states upper upper Inside (omega arith) refl in (
+      omega arith,
+      omega arith,
+      low ∙ ends.2,
+      subst (λ u. IsLaid pages (set (set states u Inside) lower (Out (k + 1))) lists free) (sym step) after.1,
+      ap (λ o. let r : Layout = record { pages = pages; free = lists.lists; out = o } in r)
+          (out_joined states states' x (buddy x k) lower upper (k + 1) now now_u (λ y nl nu. state_other (set states upper Inside) lower y (Out (k + 1)) nl ∙ state_other states upper y Inside nu) which)
+          ∙ ap (λ (t : Layout). let r : Layout = record t { out = map.insert (map.remove (map.remove t.out x) (buddy x k)) lower (k + 1) } in r) view,
+    )
 
 -- a buddy goes out and the two are joined
 pub absorbed : (out : map.FinMap nat_cmp ℕ) (x b k to n : ℕ) → map.get out b ≡ None → map.insert (map.remove (map.remove (map.insert out b k) x) b) to n ≡ map.insert (map.remove out x) to n
 absorbed out x b k to n none = maps_same _ _ (λ q. elim (cases_eq q to) [
-      | inl e ↦ get_inserted _ to n q e ∙ sym (get_inserted _ to n q e)
-      | inr nt ↦ get_past_insert _ to n q nt ∙ (elim (cases_eq q b) [
-          | inl qb ↦ get_removed _ b q qb ∙ sym (elim (cases_eq q x) [
-              | inl qx ↦ get_removed out x q qx
-              | inr nx ↦ get_past_remove out x q nx ∙ ap (map.get out) qb ∙ none ])
-          | inr nb ↦ get_past_remove _ b q nb ∙ (elim (cases_eq q x) [
-              | inl qx ↦ get_removed _ x q qx ∙ sym (get_removed out x q qx)
-              | inr nx ↦ get_past_remove _ x q nx ∙ get_past_insert out b k q nb ∙ sym (get_past_remove out x q nx) ]) ])
-          ∙ sym (get_past_insert _ to n q nt) ])
+  | inl e ↦ get_inserted _ to n q e ∙ sym (get_inserted _ to n q e)
+  | inr nt ↦ get_past_insert _ to n q nt ∙ (elim (cases_eq q b) [
+    | inl qb ↦ get_removed _ b q qb ∙ sym (elim (cases_eq q x) [
+      | inl qx ↦ get_removed out x q qx
+      | inr nx ↦ get_past_remove out x q nx ∙ ap (map.get out) qb ∙ none
+    ])
+    | inr nb ↦ get_past_remove _ b q nb ∙ (elim (cases_eq q x) [
+      | inl qx ↦ get_removed _ x q qx ∙ sym (get_removed out x q qx)
+      | inr nx ↦ get_past_remove _ x q nx ∙ get_past_insert out b k q nb ∙ sym (get_past_remove out x q nx)
+    ])
+  ])
+      ∙ sym (get_past_insert _ to n q nt)
+])

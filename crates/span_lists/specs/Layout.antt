@@ -98,3 +98,18 @@ pub record IsFirstOf (s : Layout) (order first from : ℕ) : Type 0 where
   pub from_within : from < 17
   pub none_below : (k : ℕ) → order ≤ k → k < from → free_at s k ≡ []
   pub in_front : slice_get (free_at s from) 0 ≡ Some first
+
+-- a span of the order is free, and none of a greater one
+pub record IsLargest (s : Layout) (order : ℕ) : Type 0 where
+  pub within : order < 17
+  pub some : free_at s order ≢ []
+  pub none_above : HasNone s (order + 1)
+
+-- no longer span that is aligned begins there and fits
+abbrev pub IsGreatest : ℕ → ℕ → ℕ → Type 0
+IsGreatest pages first order = (k : ℕ) → order < k → k ≤ 16 → first % 2 ^ k ≡ 0 → ¬ (first + 2 ^ k ≤ pages)
+
+-- each aligned run of the order's length has a page of a span that is out
+abbrev pub IsBlocked : Layout → ℕ → Type 0
+IsBlocked s order = (start : ℕ) → start % 2 ^ order ≡ 0 → start + 2 ^ order ≤ s.pages
+    → (page : ℕ) × (first : ℕ) × (k : ℕ) × (start ≤ page) × (page < start + 2 ^ order) × IsOut s first k × (first ≤ page) × (page < first + 2 ^ k)

@@ -1,3 +1,4 @@
 pub mod Blocks
 pub mod Layout
 pub mod Pages
+pub mod Steps
