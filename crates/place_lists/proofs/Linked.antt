@@ -7,7 +7,7 @@ use Rattle.std.specs.List.{range_with_len}
 use Rattle.std.proofs.lemmas.Bool.{cases_eq}
 use Rattle.place_lists.specs.Lists.{Lists, list_at, IsAbsent, times, without}
 use Rattle.place_lists.specs.Links.{Path, AreLinked, rings_from}
-use Rattle.place_lists.proofs.Times.{absent_cons, times_here, times_there, times-without_same, times-without_other, length-without, length_below}
+use Rattle.place_lists.proofs.Times.{times_here, times_there, times-without_same, times-without_other, length-without, length_below}
 use Rattle.place_lists.proofs.Paths.{keeps_path, front_path, next_on_path, prev_on_path, path-without, rings_of_paths}
 
 -- what holds at a place that is written and at each other one holds at each

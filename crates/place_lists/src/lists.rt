@@ -119,3 +119,25 @@ fn zeros(alloc: Global, len: u32) -> Result<Vec<u32>, AllocError>
 {
     vec![in alloc; 0; len as usize]
 }
+
+#[cfg(test)]
+mod tests {
+    use super::*;
+    use std::test::Fail;
+
+    #[test]
+    fn the_place_put_last_comes_first(rt: HostRuntime) -> Result<(), Fail> {
+        let mut lists = PlaceLists::new(rt.alloc(), 4, 2)?;
+        assert_eq!(rt; lists.first(0), None);
+        lists.push(0, 2);
+        lists.push(0, 3);
+        lists.push(1, 0);
+        lists.push(0, 1);
+        assert_eq!(rt; lists.first(0), Some(1));
+        lists.remove(0, 3);
+        lists.remove(0, 1);
+        assert_eq!(rt; lists.first(0), Some(2));
+        assert_eq!(rt; lists.first(1), Some(0));
+        Ok(())
+    }
+}

@@ -1,9 +1,9 @@
 -- What a changed page leaves of a cut into spans.
-use Rattle.std.proofs.Common.{◌≡◌, ◌≢◌, ℕ, zero, suc, ◌+◌, ◌-◌, ◌*◌, ◌%◌, ◌^◌, ◌<◌, ◌≤◌, ◌⊎◌, inl, inr, Option, Some, None, refl, sym, ap, subst, ◌∙◌, arith}
+use Rattle.std.proofs.Common.{◌≡◌, ◌≢◌, ℕ, ◌+◌, ◌%◌, ◌^◌, ◌<◌, ◌≤◌, ◌⊎◌, inl, inr, Option, Some, None, sym, ap, subst, ◌∙◌, arith}
 use Rattle.std.proofs.lemmas.Nat.{pow_pos}
 use Rattle.std.proofs.lemmas.Bool.{cases_eq}
 use Rattle.span_lists.specs.Pages.{IsSpanAt, IsCut}
-use Rattle.span_lists.proofs.Halves.{pow_twice, coarser, ends_aligned, nested, aligned_step, aligned_add, aligned_pow}
+use Rattle.span_lists.proofs.Halves.{pow_twice, coarser, aligned_add, aligned_pow}
 
 pub some_is : {a b : ℕ} {o : Option ℕ} → o ≡ Some a → o ≡ Some b → a ≡ b
 some_is {a} {b} {o} p q = (let e : Some a ≡ Some b = sym p ∙ q in cc)

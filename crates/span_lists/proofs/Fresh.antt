@@ -1,15 +1,12 @@
 -- Pages that are all out, one by one.
-use Rattle.std.proofs.Common.{◌≡◌, ◌≢◌, ℕ, zero, suc, ◌+◌, ◌*◌, ◌%◌, ◌^◌, ◌<◌, ◌≤◌, ◌⊎◌, inl, inr, List, [], ◌∷◌, length, get_or, replicate, Option, Some, None, refl, sym, ap, subst, ◌∙◌, arith}
+use Rattle.std.proofs.Common.{◌≡◌, ◌≢◌, ℕ, zero, suc, ◌%◌, ◌^◌, ◌<◌, ◌≤◌, ◌⊎◌, inl, inr, List, [], get_or, replicate, Some, None, refl, sym, ap, subst, ◌∙◌, arith}
 use Rattle.std.proofs.lemmas.List.{get_or_past, get_or-replicate, length-replicate}
 use Rattle.std.proofs.lemmas.List.Folds.{sum_by-replicate}
-use Rattle.std.proofs.lemmas.Nat.{pow_pos}
-use Rattle.std.specs.List.{sum_by}
 use Rattle.std.specs.FinMap as map
 use Rattle.place_lists.specs.Lists.{Lists, times}
 use Rattle.span_lists.specs.declared.spans.PageState.{PageState}
 use Rattle.span_lists.specs.declared.spans.PageState.TheVariants.{Inside, Free, Out}
-use Rattle.span_lists.specs.Blocks.{buddy}
-use Rattle.span_lists.specs.Pages.{order_of, out_order_of, mark, out_pages_of, state_at, IsSpanAt, IsCut, IsLaid, out_of}
+use Rattle.span_lists.specs.Pages.{order_of, out_order_of, mark, out_pages_of, state_at, IsSpanAt, IsLaid, out_of}
 use Rattle.span_lists.proofs.Laid.{pages_from-replicate}
 use Rattle.span_lists.proofs.Outs.{get-out_of}
 use Rattle.span_lists.proofs.Cuts.{some_is}

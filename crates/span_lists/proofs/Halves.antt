@@ -1,5 +1,5 @@
 -- Powers of two, aligned pages and buddies.
-use Rattle.std.proofs.Common.{◌≡◌, ◌≢◌, ℕ, zero, suc, ◌+◌, ◌-◌, ◌*◌, ◌/◌, ◌%◌, ◌^◌, ◌<◌, ◌≤◌, ◌⊎◌, inl, inr, min, max, refl, sym, ap, subst, ◌∙◌, arith}
+use Rattle.std.proofs.Common.{◌≡◌, ℕ, suc, ◌+◌, ◌-◌, ◌*◌, ◌/◌, ◌%◌, ◌^◌, ◌<◌, ◌≤◌, ◌⊎◌, inl, inr, min, max, sym, ap, subst, ◌∙◌, arith}
 use Rattle.std.proofs.Math.Nat.{pow-suc, mul-le-mul_right, mul-mod_left, div-add-mod', dvd_of_mod-eq-zero, mod-eq-zero_of_dvd, dvd_trans, dvd-add, dvd-mul_left}
 use Rattle.std.proofs.lemmas.Nat.{pow_pos, pow-add, pow_below, mod_below}
 use Rattle.std.specs.Int.Bits.{bit_xor, xor_shifted, xor_assoc, xor_self, xor_zero_r}

@@ -1,19 +1,18 @@
 -- What each step leaves of pages that are laid out.
-use Rattle.std.proofs.Common.{◌≡◌, ◌≢◌, ℕ, zero, suc, ◌+◌, ◌-◌, ◌*◌, ◌%◌, ◌^◌, ◌<◌, ◌≤◌, ◌⊎◌, inl, inr, Bool, true, false, cond, eqb, List, [], ◌∷◌, length, get_or, set, replicate, Option, Some, None, refl, sym, ap, subst, ◌∙◌, arith, get_or-set_other, get_or-set_same, zero-add}
+use Rattle.std.proofs.Common.{◌≡◌, ◌≢◌, ℕ, zero, suc, ◌+◌, ◌-◌, ◌*◌, ◌%◌, ◌^◌, ◌<◌, ◌≤◌, ◌⊎◌, inl, inr, List, [], ◌∷◌, length, get_or, set, replicate, Some, None, refl, sym, ap, subst, ◌∙◌, arith, get_or-set_other, get_or-set_same, zero-add}
 use Rattle.std.proofs.Math.ListN.{length-set}
 use Rattle.std.proofs.lemmas.List.{get_or_past}
 use Rattle.std.proofs.lemmas.List.Sums.{sum_by-set}
 use Rattle.std.proofs.lemmas.Bool.{cases_eq}
-use Rattle.std.proofs.lemmas.Bool.Decides.{nat_tests, eqb_tells}
-use Rattle.std.specs.List.{sum_by}
+use Rattle.std.proofs.lemmas.Bool.Decides.{nat_tests}
 use Rattle.place_lists.specs.Lists.{Lists, list_at, with_list, times, without}
 use Rattle.place_lists.proofs.Times.{times_here, times_there, times-without_same, times-without_other, length-without}
 use Rattle.span_lists.specs.declared.spans.PageState.{PageState}
 use Rattle.span_lists.specs.declared.spans.PageState.TheVariants.{Inside, Free, Out}
 use Rattle.span_lists.specs.Blocks.{buddy}
 use Rattle.span_lists.specs.Layout.{pages_from}
-use Rattle.span_lists.specs.Pages.{order_of, mark, out_pages_of, state_at, IsSpanAt, IsCut, IsLaid}
-use Rattle.span_lists.proofs.Halves.{pow_twice, buddy_twice, buddy_of_lower, buddy_of_upper, coarser}
+use Rattle.span_lists.specs.Pages.{order_of, mark, out_pages_of, state_at, IsSpanAt, IsLaid}
+use Rattle.span_lists.proofs.Halves.{pow_twice, buddy_twice, buddy_of_upper}
 use Rattle.span_lists.proofs.Cuts.{same_cut, cut_halved, cut_joined}
 use Rattle.span_lists.proofs.Outs.{state_same, state_other}
 use Rattle.std.proofs.lemmas.Nat.{pow_pos}

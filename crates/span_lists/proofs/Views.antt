@@ -1,5 +1,5 @@
 -- What callers see of pages that are laid out.
-use Rattle.std.proofs.Common.{◌≡◌, ◌≢◌, ℕ, zero, suc, ◌+◌, ◌-◌, ◌*◌, ◌%◌, ◌^◌, ◌<◌, ◌≤◌, ◌⊎◌, inl, inr, Bool, true, false, cond, eqb, List, [], ◌∷◌, length, get_or, set, min, max, Option, Some, None, option_map, refl, sym, ap, subst, ◌∙◌, arith, get_or-set_other, get_or-set_same}
+use Rattle.std.proofs.Common.{◌≡◌, ◌≢◌, ℕ, ◌+◌, ◌%◌, ◌^◌, ◌<◌, ◌≤◌, ◌⊎◌, inl, inr, Bool, true, false, cond, eqb, List, [], ◌∷◌, length, set, min, max, Option, Some, None, option_map, refl, sym, ap, subst, ◌∙◌, arith}
 use Rattle.std.proofs.lemmas.List.{get_or_past}
 use Rattle.std.proofs.lemmas.Bool.{cases_eq}
 use Rattle.std.specs.Ordering.{nat_cmp}
@@ -7,9 +7,9 @@ use Rattle.std.specs.FinMap as map
 use Rattle.place_lists.specs.Lists.{Lists, list_at, with_list, times, without}
 use Rattle.span_lists.specs.declared.spans.PageState.{PageState}
 use Rattle.span_lists.specs.declared.spans.PageState.TheVariants.{Inside, Free, Out}
-use Rattle.span_lists.specs.Blocks.{Blocks, buddy}
-use Rattle.span_lists.specs.Layout.{Layout, free_at, IsFree, IsOut, IsSpan, out_pages, Divides, IsMerged, span_start}
-use Rattle.span_lists.specs.Pages.{order_of, out_order_of, mark, state_at, IsSpanAt, IsCut, IsLaid, out_of}
+use Rattle.span_lists.specs.Blocks.{buddy}
+use Rattle.span_lists.specs.Layout.{Layout, free_at, IsFree, IsOut, IsSpan, Divides, IsMerged, span_start}
+use Rattle.span_lists.specs.Pages.{order_of, out_order_of, mark, state_at, IsLaid, out_of}
 use Rattle.span_lists.proofs.Cuts.{some_is}
 use Rattle.span_lists.proofs.Outs.{get-out_of, state_of_out, out_with, out_without, state_same, state_other, maps_same, get_inserted, get_past_insert, get_removed, get_past_remove}
 use Rattle.span_lists.proofs.Laid.{mark_same, free_of_mark, state_within, laid_join}

@@ -1,11 +1,10 @@
 -- Where merging is complete, an aligned run of free pages lies in one free span.
-use Rattle.std.proofs.Common.{◌≡◌, ◌≢◌, ℕ, zero, suc, ◌+◌, ◌-◌, ◌%◌, ◌^◌, ◌<◌, ◌≤◌, ◌⊎◌, inl, inr, List, [], ◌∷◌, length, Option, Some, None, refl, sym, ap, subst, ◌∙◌, arith}
+use Rattle.std.proofs.Common.{◌≡◌, ℕ, zero, suc, ◌+◌, ◌%◌, ◌^◌, ◌<◌, ◌≤◌, ◌⊎◌, inl, inr, [], refl, sym, ap, subst, ◌∙◌, arith}
 use Rattle.std.proofs.lemmas.Nat.{pow_pos}
 use Rattle.std.proofs.lemmas.Bool.{cases_eq}
 use Rattle.place_lists.specs.Lists.{times}
-use Rattle.std.specs.FinMap as map
 use Rattle.span_lists.specs.Blocks.{buddy}
-use Rattle.span_lists.specs.Layout.{Layout, free_at, IsFree, IsOut, IsSpan, Divides, IsMerged, HasNone, IsGreatest, IsBlocked}
+use Rattle.span_lists.specs.Layout.{Layout, free_at, IsFree, IsOut, Divides, IsMerged, HasNone, IsGreatest, IsBlocked}
 use Rattle.span_lists.proofs.Halves.{pow_twice, coarser, ends_aligned, nested, aligned_step, buddy_of_lower}
 
 -- the page lies in a free span

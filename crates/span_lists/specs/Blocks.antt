@@ -1,5 +1,5 @@
 -- Blocks of memory: a map from place to length.
-use Rattle.std.specs.Prelude.{◌≡◌, ℕ, ◌+◌, ◌<◌, ◌≤◌, ◌%◌, ◌^◌, Option, Some}
+use Rattle.std.specs.Prelude.{◌≡◌, ℕ, ◌+◌, ◌<◌, ◌≤◌, ◌^◌, Option, Some}
 use Rattle.std.specs.Int.Bits.{bit_xor}
 
 -- each block lies inside the memory, and no two share a place

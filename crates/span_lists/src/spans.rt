@@ -358,3 +358,6 @@ fn single_pages(alloc: Global, pages: u32) -> Result<Vec<PageState>, AllocError>
     }
     Ok(states)
 }
+
+#[cfg(test)]
+mod tests;

@@ -1,8 +1,8 @@
-use Rattle.std.proofs.Common.{◌≡◌, ◌≢◌, ◌+◌, ◌<◌, ◌^◌, ℕ, Option, Some, None, refl, set, sym, subst, ap, ◌∙◌, arith}
+use Rattle.std.proofs.Common.{◌≡◌, ◌≢◌, ◌+◌, Some, None, set, sym, subst, ap, ◌∙◌}
 use Rattle.std.specs.FinMap as map
 use Rattle.place_lists.specs.Lists.{without}
 use Rattle.span_lists.specs.Blocks.{buddy}
-use Rattle.span_lists.specs.Layout.{Layout, IsOut, free_at}
+use Rattle.span_lists.specs.Layout.{Layout, free_at}
 use Rattle.span_lists.proofs.Outs.{get_inserted, get_past_insert}
 use Rattle.span_lists.proofs.Views.{absorbed}
 use Rattle.span_lists.proofs.spans.Spans.absorb.Goals as goal

@@ -1,4 +1,3 @@
-use Rattle.std.proofs.Common.{◌≡◌, sym, subst, ap, ◌∙◌, arith}
 use Rattle.span_lists.proofs.Fresh.{laid_new, each_out, none_beyond}
 use Rattle.span_lists.proofs.Views.{divides_of, merged_of}
 use Rattle.span_lists.proofs.spans.Spans.all_out.Goals as goal

@@ -1,6 +1,6 @@
-use Rattle.std.proofs.Common.{◌≡◌, ◌+◌, ◌<◌, ◌≤◌, ℕ, List, [], ◌∷◌, Option, Some, None, get_or, slice_get, inl, inr, refl, sym, subst, ap, ◌∙◌, arith}
+use Rattle.std.proofs.Common.{◌≡◌, ℕ, List, [], ◌∷◌, Some, None, get_or, slice_get, inl, inr, refl, sym, subst, ap, ◌∙◌, arith}
 use Rattle.std.proofs.lemmas.Bool.{cases_eq}
-use Rattle.span_lists.specs.Layout.{Layout, free_at, IsFirstOf, HasNone, IsBlocked, Divides, IsMerged}
+use Rattle.span_lists.specs.Layout.{IsFirstOf, HasNone, IsBlocked, Divides, IsMerged}
 use Rattle.span_lists.proofs.Whole.{blocked}
 use Rattle.span_lists.proofs.Views.{divides_of, merged_of}
 use Rattle.span_lists.proofs.spans.Spans.find.Goals as goal

@@ -1,9 +1,7 @@
-use Rattle.std.proofs.Common.{◌≡◌, ◌≢◌, ◌+◌, ◌-◌, ◌<◌, ◌≤◌, ◌^◌, ℕ, None, set, ◌∷◌, sym, subst, ap, ◌∙◌, arith}
+use Rattle.std.proofs.Common.{◌+◌, set, ◌∷◌, sym, subst, ap, ◌∙◌, arith}
 use Rattle.std.proofs.lemmas.Nat.{pow_pos}
 use Rattle.std.specs.FinMap as map
-use Rattle.place_lists.specs.Lists.{times, list_at}
-use Rattle.span_lists.specs.Layout.{Layout, IsFree, IsOut, free_at}
-use Rattle.span_lists.specs.Pages.{IsLaid, state_at}
+use Rattle.span_lists.specs.Layout.{Layout, IsOut, free_at}
 use Rattle.span_lists.proofs.Halves.{pow_twice}
 use Rattle.span_lists.proofs.Laid.{laid_halve}
 use Rattle.span_lists.proofs.Views.{halved, divides_of, merged_of, state_out}

@@ -1,6 +1,5 @@
-use Rattle.std.proofs.Common.{◌≡◌, ◌+◌, ◌-◌, ◌<◌, ◌≤◌, ◌^◌, ◌∷◌, ℕ, Some, set, sym, subst, ap, ◌∙◌, arith}
-use Rattle.std.specs.FinMap as map
-use Rattle.span_lists.specs.Layout.{Layout, free_at, IsOut}
+use Rattle.std.proofs.Common.{◌≡◌, ◌+◌, ◌-◌, sym, subst, arith}
+use Rattle.span_lists.specs.Layout.{IsOut}
 use Rattle.span_lists.specs.Steps.{IsHalvedTo}
 use Rattle.span_lists.proofs.Steps.{halved_none, halved_more, out_of_halved}
 use Rattle.span_lists.proofs.spans.Spans.halve_down.Goals as goal

@@ -1,6 +1,6 @@
-use Rattle.std.proofs.Common.{◌≡◌, ◌+◌, ◌<◌, ◌^◌, ℕ, sym, subst, ap, ◌∙◌, arith}
+use Rattle.std.proofs.Common.{sym, subst, arith}
 use Rattle.span_lists.specs.Blocks.{buddy}
-use Rattle.span_lists.specs.Layout.{Layout, IsOut}
+use Rattle.span_lists.specs.Layout.{IsOut}
 use Rattle.span_lists.proofs.Views.{joined, divides_of, merged_of}
 use Rattle.span_lists.proofs.spans.Spans.join.Goals as goal
 

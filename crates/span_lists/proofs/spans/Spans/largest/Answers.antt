@@ -1,6 +1,6 @@
-use Rattle.std.proofs.Common.{◌≡◌, ◌≢◌, ◌+◌, ◌-◌, ◌<◌, ◌≤◌, ℕ, Bool, true, false, List, [], ◌∷◌, Option, Some, None, is_some, get_or, slice_get, inl, inr, refl, sym, subst, ap, ◌∙◌, arith}
+use Rattle.std.proofs.Common.{◌≡◌, ◌≢◌, ◌-◌, ℕ, true, false, List, [], ◌∷◌, is_some, get_or, slice_get, inl, inr, refl, sym, subst, ap, ◌∙◌, arith}
 use Rattle.std.proofs.lemmas.Bool.{cases_eq}
-use Rattle.span_lists.specs.Layout.{Layout, free_at, HasNone, Divides, IsMerged, IsLargest}
+use Rattle.span_lists.specs.Layout.{HasNone, Divides, IsMerged, IsLargest}
 use Rattle.span_lists.proofs.Views.{divides_of, merged_of}
 use Rattle.span_lists.proofs.spans.Spans.largest.Goals as goal
 

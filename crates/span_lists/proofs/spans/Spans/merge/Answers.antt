@@ -1,4 +1,4 @@
-use Rattle.std.proofs.Common.{◌≡◌, ◌+◌, ◌<◌, ℕ, refl, sym, subst, ap, ◌∙◌, arith}
+use Rattle.std.proofs.Common.{refl}
 use Rattle.span_lists.proofs.Steps.{merged_none, merged_more, out_of_merged}
 use Rattle.span_lists.proofs.spans.Spans.merge.Goals as goal
 

@@ -1,6 +1,5 @@
-use Rattle.std.proofs.Common.{◌≡◌, ◌+◌, ◌<◌, ◌≤◌, ℕ, Some, None, sym, subst, ap, ◌∙◌, arith}
-use Rattle.std.specs.FinMap as map
-use Rattle.span_lists.specs.Layout.{IsOut, IsGreatest}
+use Rattle.std.proofs.Common.{◌≡◌, Some, None, sym, subst, ◌∙◌, arith}
+use Rattle.span_lists.specs.Layout.{IsGreatest}
 use Rattle.span_lists.proofs.Steps.{IsPutTo, put_more, none_left, empty_out}
 use Rattle.span_lists.proofs.Whole.{greatest}
 use Rattle.span_lists.proofs.spans.Spans.new.Goals as goal

@@ -1,7 +1,6 @@
-use Rattle.std.proofs.Common.{◌≡◌, ◌+◌, ◌-◌, ◌<◌, ◌≤◌, ◌^◌, ℕ, None, sym, subst, ap, ◌∙◌, arith}
+use Rattle.std.proofs.Common.{◌≡◌, None, sym, subst, arith}
 use Rattle.std.specs.FinMap as map
 use Rattle.span_lists.specs.Layout.{Layout, IsFree}
-use Rattle.span_lists.specs.Pages.{IsLaid}
 use Rattle.span_lists.proofs.Laid.{laid_pull}
 use Rattle.span_lists.proofs.Views.{pulled, divides_of, merged_of}
 use Rattle.span_lists.proofs.spans.Spans.pull.Goals as goal

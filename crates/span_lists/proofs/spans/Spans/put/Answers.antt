@@ -1,4 +1,4 @@
-use Rattle.std.proofs.Common.{◌≡◌, ◌+◌, ◌<◌, ℕ, sym, subst, ap, ◌∙◌, arith}
+use Rattle.std.proofs.Common.{subst}
 use Rattle.span_lists.specs.Layout.{Divides, IsMerged}
 use Rattle.span_lists.proofs.Views.{divides_of, merged_of}
 use Rattle.span_lists.proofs.Steps.{gave, out_of_merged}

@@ -1,10 +1,8 @@
-use Rattle.std.proofs.Common.{◌≡◌, ◌≢◌, ◌+◌, ◌-◌, ◌<◌, ◌≤◌, ◌^◌, ℕ, None, sym, subst, ap, ◌∙◌, arith}
-use Rattle.std.specs.FinMap as map
-use Rattle.place_lists.specs.Lists.{IsAbsent}
+use Rattle.std.proofs.Common.{◌≢◌, ◌<◌, sym, subst, arith}
 use Rattle.span_lists.specs.Blocks.{buddy}
-use Rattle.span_lists.specs.Layout.{Layout, IsFree, IsOut}
-use Rattle.span_lists.specs.Pages.{IsLaid, state_at}
-use Rattle.span_lists.specs.declared.spans.PageState.TheVariants.{Free, Out}
+use Rattle.span_lists.specs.Layout.{IsFree, IsOut}
+use Rattle.span_lists.specs.Pages.{state_at}
+use Rattle.span_lists.specs.declared.spans.PageState.TheVariants.{Free}
 use Rattle.span_lists.proofs.Laid.{laid_release}
 use Rattle.span_lists.proofs.Views.{released, divides_of, merged_of, state_out, is_free_of, none_listed, out_within}
 use Rattle.span_lists.proofs.spans.Spans.release.Goals as goal

@@ -1,8 +1,8 @@
-use Rattle.std.proofs.Common.{◌≡◌, ◌+◌, ◌-◌, ◌<◌, ◌≤◌, ◌^◌, ◌∷◌, ℕ, Some, refl, set, sym, subst, ap, ◌∙◌, arith}
+use Rattle.std.proofs.Common.{refl, ap, ◌∙◌}
 use Rattle.std.specs.FinMap as map
-use Rattle.span_lists.specs.Layout.{Layout, free_at, IsOut}
+use Rattle.span_lists.specs.Layout.{Layout}
 use Rattle.span_lists.proofs.Outs.{get_inserted}
-use Rattle.span_lists.proofs.Steps.{free_in_front, found_some, took}
+use Rattle.span_lists.proofs.Steps.{free_in_front, took}
 use Rattle.span_lists.proofs.spans.Spans.take.Goals as goal
 
 pub pull-requires-clause-free : goal.pull-requires-clause-free
