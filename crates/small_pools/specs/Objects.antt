@@ -1,0 +1,51 @@
+-- Small objects, and the spans that the pools hold for them.
+use Rattle.std.specs.Prelude.{◌≡◌, ◌≢◌, ℕ, ◌+◌, ◌*◌, ◌<◌, ◌≤◌, ◌^◌, Option, Some, None, refl}
+use Rattle.std.specs.Ordering.{nat_cmp}
+use Rattle.std.specs.FinMap as map
+use Rattle.std.specs.Coded.{Coded, code_by, coded×, coded_ℕ}
+use Rattle.span_lists.specs.Blocks.{Blocks}
+use Rattle.span_lists.specs.Layout.{Layout, IsOut}
+use Rattle.small_pools.specs.Classes.{size_of, order_of, capacity_of}
+
+-- held: the class of each span that the pools hold, by its first page. out: the size of each object that is out, by its first byte
+pub record Objects : Type 0 where
+  pub pages : ℕ
+  pub held : map.FinMap nat_cmp ℕ
+  pub out : map.FinMap nat_cmp ℕ
+
+-- objects are stored as the tuple of the fields
+abbrev pub objects_code : Coded Objects
+objects_code =
+    code_by (ℕ × (map.FinMap nat_cmp ℕ × map.FinMap nat_cmp ℕ)) (coded× coded_ℕ (coded× (map.code coded_ℕ coded_ℕ) (map.code coded_ℕ coded_ℕ)))
+    (λ s. (s.pages, (s.held, s.out))) (λ p. record { pages = p.0; held = p.1.0; out = p.1.1 }) (λ _. refl)
+
+-- a span of the class is held, and begins at the page
+abbrev pub IsHeld : Objects → ℕ → ℕ → Type 0
+IsHeld s first class = map.get s.held first ≡ Some class
+
+-- where the objects of a span stand
+abbrev pub slot_place : ℕ → ℕ → ℕ → ℕ
+slot_place first class slot = 4096 * first + slot * size_of class
+
+-- a span has an object out; a span has a free one
+abbrev pub HasObject : Objects → ℕ → ℕ → Type 0
+HasObject s first class = (slot : ℕ) × (slot < capacity_of class) × (map.get s.out (slot_place first class slot) ≡ Some (size_of class))
+
+abbrev pub HasRoom : Objects → ℕ → ℕ → Type 0
+HasRoom s first class = (slot : ℕ) × (slot < capacity_of class) × (map.get s.out (slot_place first class slot) ≡ None)
+
+-- the class has no free object
+abbrev pub IsUsedUp : Objects → ℕ → Type 0
+IsUsedUp s class = (first slot : ℕ) → IsHeld s first class → slot < capacity_of class → map.get s.out (slot_place first class slot) ≡ Some (size_of class)
+
+-- the objects out are disjoint, and each stands in a span of its class, in a slot of it; the spans are disjoint too
+pub record AreObjects (s : Objects) : Type 0 where
+  pub blocks : Blocks (4096 * s.pages) (map.get s.out)
+  pub slots : (place size : ℕ) → map.get s.out place ≡ Some size → (first : ℕ) × (class : ℕ) × (slot : ℕ) × IsHeld s first class × (slot < capacity_of class) × (place ≡ slot_place first class slot) × (size ≡ size_of class)
+  pub spans : (first class : ℕ) → IsHeld s first class → (class < 37) × (first + 2 ^ order_of class ≤ s.pages)
+  pub apart : (p q c d : ℕ) → IsHeld s p c → IsHeld s q d → p < q → p + 2 ^ order_of c ≤ q
+
+-- each span that the pools hold is out with its order
+pub record AreHeldIn (s : Objects) (spans : Layout) : Type 0 where
+  pub pages : spans.pages ≡ s.pages
+  pub out : (first class : ℕ) → IsHeld s first class → IsOut spans first (order_of class)

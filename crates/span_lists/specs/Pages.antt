@@ -1,0 +1,69 @@
+-- How the spans stand in a table of pages.
+use Rattle.std.specs.Prelude.{◌≡◌, ◌≢◌, ℕ, suc, ◌+◌, ◌<◌, ◌≤◌, ◌%◌, ◌^◌, ◌==◌, if◌then◌else◌, List, [], ◌∷◌, length, slice_index_or, Option, Some, None, sum_by}
+use Rattle.std.specs.Ordering.{nat_cmp}
+use Rattle.std.specs.FinMap as map
+use Rattle.place_lists.specs.Lists.{Lists, times}
+use Rattle.span_lists.specs.Blocks.{buddy}
+use Rattle.span_lists.specs.Layout.{pages_from}
+use Rattle.span_lists.specs.declared.spans.PageState.{PageState}
+use Rattle.span_lists.specs.declared.spans.PageState.TheVariants.{Inside, Free, Out}
+
+-- the order of the span that begins there
+abbrev pub order_of : PageState → Option ℕ
+order_of Inside = None
+order_of (Free k) = Some k
+order_of (Out k) = Some k
+
+abbrev pub out_order_of : PageState → Option ℕ
+out_order_of Inside = None
+out_order_of (Free k) = None
+out_order_of (Out k) = Some k
+
+-- how many times the list of an order has the page
+abbrev pub mark : ℕ → PageState → ℕ
+mark order Inside = 0
+mark order (Free k) = if k == order then 1 else 0
+mark order (Out k) = 0
+
+-- the pages of a span that is out
+abbrev pub out_pages_of : PageState → ℕ
+out_pages_of Inside = 0
+out_pages_of (Free k) = 0
+out_pages_of (Out k) = 2 ^ k
+
+abbrev pub state_at : List PageState → ℕ → PageState
+state_at states page = slice_index_or states page Inside
+
+-- the spans that are out, by their first pages, where the first of the states is of page p
+abbrev pub out_entries : ℕ → List PageState → List (ℕ × ℕ)
+out_entries p [] = []
+out_entries p (Inside ∷ states) = out_entries (suc p) states
+out_entries p (Free k ∷ states) = out_entries (suc p) states
+out_entries p (Out k ∷ states) = (p, k) ∷ out_entries (suc p) states
+
+unfoldable pub out_of : List PageState → map.FinMap nat_cmp ℕ
+out_of states = map.from_entries (out_entries 0 states)
+
+-- a span of the order begins at the page, and none within it
+pub record IsSpanAt (pages : ℕ) (at : ℕ → Option ℕ) (x k : ℕ) : Type 0 where
+  pub order : k ≤ 16
+  pub aligned : x % 2 ^ k ≡ 0
+  pub within : x + 2 ^ k ≤ pages
+  pub alone : (i : ℕ) → x < i → i < x + 2 ^ k → at i ≡ None
+
+-- the orders that stand at pages cut them into spans
+pub record IsCut (pages : ℕ) (at : ℕ → Option ℕ) : Type 0 where
+  pub spans : (x k : ℕ) → at x ≡ Some k → IsSpanAt pages at x k
+  pub covered : (x : ℕ) → x < pages → (p : ℕ) × (k : ℕ) × (at p ≡ Some k) × (p ≤ x) × (x < p + 2 ^ k)
+
+-- the states of the pages, the lists of the free spans and the count of the free pages go together
+pub record IsLaid (pages : ℕ) (states : List PageState) (lists : Lists) (free : ℕ) : Type 0 where
+  pub small : pages ≤ 65536
+  pub states_len : length states ≡ pages
+  pub places : lists.places ≡ pages
+  pub orders : length lists.lists ≡ 17
+  pub cut : IsCut pages (λ x. order_of (state_at states x))
+  pub listed : (k x : ℕ) → k < 17 → times x (slice_index_or lists.lists k []) ≡ mark k (state_at states x)
+  pub merged : (x k : ℕ) → k < 16 → state_at states x ≡ Free k → state_at states (buddy x k) ≢ Free k
+  pub count : free ≡ pages_from 0 lists.lists
+  pub total : free + sum_by out_pages_of states ≡ pages

@@ -1,0 +1,363 @@
+ghost use Rattle.std.specs.Prelude.{
+  ◌≡◌,
+  ℕ,
+  ◌+◌,
+  ◌-◌,
+  ◌%◌,
+  ◌<◌,
+  ◌≤◌,
+  ◌^◌,
+  ◌↔◌,
+  ◌∷◌,
+  [],
+  List,
+  length,
+  slice_set,
+  slice_get,
+  IfOk,
+  IfSome,
+  IfNone,
+  IsNone,
+  IsTrue,
+  Some,
+  None,
+  min,
+  replicate,
+};
+ghost use Rattle.std.specs.Ordering.{nat_cmp};
+ghost use Rattle.std.specs.FinMap as map;
+ghost use Rattle.place_lists.specs.Lists.{times, without};
+ghost use Rattle.span_lists.specs.Blocks.{buddy};
+ghost use Rattle.span_lists.specs.Layout.{
+  Layout,
+  free_at,
+  IsFree,
+  IsOut,
+  Divides,
+  IsMerged,
+  free_pages,
+  HasNone,
+  TakesFrom,
+  MergesInto,
+  span_start,
+  IsFirstOf,
+  IsLargest,
+  IsGreatest,
+  IsBlocked,
+};
+ghost use Rattle.span_lists.specs.Steps.{IsHalvedTo, IsMergedTo};
+
+use place_lists::PlaceLists;
+use std::alloc::{AllocError, Global};
+use std::marker::Model;
+
+/// A span of this order has 65,536 pages.
+const GREATEST_ORDER: u8 = 16;
+
+/// What begins at a page.
+#[derive(Clone, Copy, Debug, PartialEq, Eq)]
+pub enum PageState {
+    Inside,
+    Free(u8),
+    Out(u8),
+}
+
+/// The spans of a range of pages.
+#[derive(Drop)]
+pub struct Spans {
+    pages: u32,
+    states: Vec<PageState>,
+    lists: PlaceLists,
+    free: u32,
+}
+
+impl Model for Spans {
+    ghost use Rattle.span_lists.specs.Layout.{Layout, layout_code};
+
+    ghost Value = { Layout };
+
+    ghost coded = { layout_code };
+
+    ghost use Rattle.span_lists.specs.Pages.{out_of, IsLaid};
+
+    ghost view = { λ a. record { pages = a.pages; free = a.lists.lists; out = out_of a.states.items } };
+
+    ghost invariant = { λ a. IsLaid a.pages a.states.items a.lists a.free };
+}
+
+impl Spans {
+    /// The pages, cut into the greatest aligned spans that fit, from page 0 on. All of them are free.
+    pub fn new(alloc: Global, pages: u32) -> Result<Spans, AllocError>
+        requires whole { pages % 32 ≡ 0 }
+        requires least { 1280 ≤ pages }
+        requires most { pages ≤ 65536 }
+        ensures pages { IfOk result (λ spans. spans.pages ≡ pages) }
+        ensures none_out { IfOk result (λ spans. spans.out ≡ map.empty) }
+        ensures greatest { IfOk result (λ spans. (first order : ℕ) → IsFree spans first order → IsGreatest pages first order) }
+        ensures divided { IfOk result Divides }
+        ensures merged { IfOk result IsMerged }
+    {
+        let mut spans = Spans::all_out(alloc, pages)?;
+        for page in 0..pages {
+            spans.put(page, 0);
+        }
+        Ok(spans)
+    }
+
+    /// Takes a span of the order out, and answers its first page.
+    pub fn take(&mut self, order: u8) -> Option<u32>
+        requires { order ≤ 16 }
+        ensures none { IsNone result ↔ HasNone self.old order }
+        ensures unchanged { IfNone result (self.new ≡ self.old) }
+        ensures blocked { IfNone result (IsBlocked self.old order) }
+        ensures was_free { IfSome result (λ first. map.get self.old.out first ≡ None) }
+        ensures out { IfSome result (λ first. self.new.out ≡ map.insert self.old.out first order) }
+        ensures free { IfSome result (TakesFrom self.old self.new order) }
+        ensures pages { self.new.pages ≡ self.old.pages }
+        ensures divided { Divides self.new }
+        ensures merged { IsMerged self.new }
+    {
+        let (first, from) = self.find(order)?;
+        self.pull(first, from);
+        self.halve_down(first, from, order);
+        Some(first)
+    }
+
+    /// Gives a span back that is out.
+    pub fn put(&mut self, first: u32, order: u8)
+        requires { IsOut self.old first order }
+        ensures out { self.new.out ≡ map.remove self.old.out first }
+        ensures free { MergesInto self.old self.new first order }
+        ensures pages { self.new.pages ≡ self.old.pages }
+        ensures divided { Divides self.new }
+        ensures merged { IsMerged self.new }
+    {
+        let _open = &self.states;
+        let (at, to) = self.merge(first, order);
+        self.release(at, to);
+    }
+
+    /// The greatest order of which a span is free.
+    pub fn largest(&self) -> Option<u8>
+        ensures none { IsNone result ↔ HasNone self.now 0 }
+        ensures some { IfSome result (IsLargest self.now) }
+        ensures divided { Divides self.now }
+        ensures merged { IsMerged self.now }
+    {
+        let mut above = GREATEST_ORDER + 1;
+        while above > 0 {
+            let order = above - 1;
+            if self.lists.first(order as u32).is_some() {
+                return Some(order);
+            }
+            above = order;
+        }
+        None
+    }
+
+    /// The number of pages in free spans.
+    pub fn free_pages(&self) -> u32
+        ensures { result ≡ free_pages self.now }
+    {
+        self.free
+    }
+
+    /// Each page is a span that is out.
+    fn all_out(alloc: Global, pages: u32) -> Result<Spans, AllocError>
+        requires { pages ≤ 65536 }
+        ensures pages { IfOk result (λ spans. spans.pages ≡ pages) }
+        ensures each { IfOk result (λ spans. (page : ℕ) → page < pages → map.get spans.out page ≡ Some 0) }
+        ensures beyond { IfOk result (λ spans. (page : ℕ) → pages ≤ page → map.get spans.out page ≡ None) }
+        ensures divided { IfOk result Divides }
+        ensures merged { IfOk result IsMerged }
+    {
+        let states = single_pages(alloc, pages)?;
+        let lists = PlaceLists::new(alloc, pages, GREATEST_ORDER as u32 + 1)?;
+        Ok(Spans {
+            pages,
+            states,
+            lists,
+            free: 0,
+        })
+    }
+
+    /// Takes a free span out as it is.
+    fn pull(&mut self, first: u32, order: u8)
+        requires order { order < 17 }
+        requires free { IsFree self.old first order }
+        ensures moves { self.new ≡ record self.old {
+          free = slice_set self.old.free order (without first (free_at self.old order));
+          out = map.insert self.old.out first order;
+        } }
+        ensures was_free { map.get self.old.out first ≡ None }
+        ensures divided { Divides self.new }
+        ensures merged { IsMerged self.new }
+    {
+        self.lists.remove(order as u32, first);
+        self.states[first as usize] = PageState::Out(order);
+        self.free -= span_pages(order);
+    }
+
+    /// Makes a span that is out free, where its buddy is not.
+    fn release(&mut self, first: u32, order: u8)
+        requires order { order < 17 }
+        requires out { IsOut self.old first order }
+        requires alone { order < 16 → ¬ IsFree self.old (buddy first order) order }
+        ensures moves { self.new ≡ record self.old {
+          free = slice_set self.old.free order (first ∷ free_at self.old order);
+          out = map.remove self.old.out first;
+        } }
+        ensures divided { Divides self.new }
+        ensures merged { IsMerged self.new }
+    {
+        self.lists.push(order as u32, first);
+        self.states[first as usize] = PageState::Free(order);
+        self.free += span_pages(order);
+    }
+
+    /// Halves a span that is out, to one of the order, and makes its upper half free.
+    fn halve(&mut self, first: u32, order: u8)
+        requires { IsOut self.old first (order + 1) }
+        ensures moves { self.new ≡ record self.old {
+          free = slice_set self.old.free order ((first + 2 ^ order) ∷ free_at self.old order);
+          out = map.insert self.old.out first order;
+        } }
+        ensures divided { Divides self.new }
+        ensures merged { IsMerged self.new }
+    {
+        let _open = &self.states;
+        let upper = first + span_pages(order);
+        self.lists.push(order as u32, upper);
+        self.states[first as usize] = PageState::Out(order);
+        self.states[upper as usize] = PageState::Free(order);
+        self.free += span_pages(order);
+    }
+
+    /// Joins a span that is out with its buddy, which is out too, and answers the first page of both.
+    fn join(&mut self, first: u32, order: u8) -> u32
+        requires order { order < 16 }
+        requires out { IsOut self.old first order }
+        requires buddy { IsOut self.old (buddy first order) order }
+        ensures first { result ≡ span_start first (order + 1) }
+        ensures moves { self.new ≡ record self.old {
+          out = map.insert (map.remove (map.remove self.old.out first) (buddy first order)) result (order + 1);
+        } }
+        ensures divided { Divides self.new }
+        ensures merged { IsMerged self.new }
+    {
+        let other = buddy_of(first, order);
+        let lower = first.min(other);
+        let upper = first.max(other);
+        self.states[upper as usize] = PageState::Inside;
+        self.states[lower as usize] = PageState::Out(order + 1);
+        lower
+    }
+
+    /// Joins a span that is out with its buddy, which is free.
+    fn absorb(&mut self, first: u32, order: u8) -> u32
+        requires order { order < 16 }
+        requires out { IsOut self.old first order }
+        requires buddy { IsFree self.old (buddy first order) order }
+        ensures first { result ≡ span_start first (order + 1) }
+        ensures moves { self.new ≡ record self.old {
+          free = slice_set self.old.free order (without (buddy first order) (free_at self.old order));
+          out = map.insert (map.remove self.old.out first) result (order + 1);
+        } }
+        ensures was_free { map.get self.old.out (buddy first order) ≡ None }
+        ensures divided { Divides self.new }
+        ensures merged { IsMerged self.new }
+    {
+        self.pull(buddy_of(first, order), order);
+        self.join(first, order)
+    }
+
+    /// Whether a span has a free buddy to be merged with.
+    fn can_merge(&self, first: u32, order: u8) -> bool
+        requires { order < 17 }
+        ensures { IsTrue result ↔ ((order < 16) × IsFree self.now (buddy first order) order) }
+    {
+        if order == GREATEST_ORDER {
+            return false;
+        }
+        let other = buddy_of(first, order);
+        other < self.pages && self.states[other as usize] == PageState::Free(order)
+    }
+
+    /// The span that a request for the order is cut from, and its order.
+    fn find(&self, order: u8) -> Option<(u32, u8)>
+        requires { order ≤ 16 }
+        ensures none { IfNone result (HasNone self.now order) }
+        ensures blocked { IfNone result (IsBlocked self.now order) }
+        ensures found { IfSome result (λ span. IsFirstOf self.now order span.0 span.1) }
+        ensures divided { Divides self.now }
+        ensures merged { IsMerged self.now }
+    {
+        for from in order..=GREATEST_ORDER {
+            if let Some(first) = self.lists.first(from as u32) {
+                return Some((first, from));
+            }
+        }
+        None
+    }
+
+    /// Halves a span that is out until it has the order.
+    fn halve_down(&mut self, first: u32, from: u8, order: u8)
+        requires order { order ≤ from }
+        requires from { from < 17 }
+        requires out { IsOut self.old first from }
+        requires divided { Divides self.old }
+        requires merged { IsMerged self.old }
+        ensures { IsHalvedTo self.old self.new first from order }
+    {
+        let mut at = from;
+        while at > order {
+            at -= 1;
+            self.halve(first, at);
+        }
+    }
+
+    /// Merges a span that is out with its free buddies, as far as that goes, and answers the span that they make.
+    fn merge(&mut self, first: u32, order: u8) -> (u32, u8)
+        requires out { IsOut self.old first order }
+        requires divided { Divides self.old }
+        requires merged { IsMerged self.old }
+        ensures merges { IsMergedTo self.old self.new first order result.0 result.1 }
+        ensures alone { result.1 < 16 → ¬ IsFree self.new (buddy result.0 result.1) result.1 }
+    {
+        let mut at = first;
+        let mut to = order;
+        while self.can_merge(at, to) {
+            at = self.absorb(at, to);
+            to += 1;
+        }
+        (at, to)
+    }
+}
+
+fn span_pages(order: u8) -> u32
+    requires { order < 17 }
+    ensures value { result ≡ 2 ^ order }
+    ensures bound { result ≤ 65536 }
+{
+    1 << order
+}
+
+fn buddy_of(first: u32, order: u8) -> u32
+    requires { order < 17 }
+    ensures { result ≡ buddy first order }
+{
+    first ^ span_pages(order)
+}
+
+fn single_pages(alloc: Global, pages: u32) -> Result<Vec<PageState>, AllocError>
+    ensures { IfOk result (λ states. states.items ≡ replicate pages (PageState.Out 0)) }
+{
+    let mut states = Vec::with_capacity(alloc, pages as usize)?;
+    for _ in 0..pages {
+        states.push(PageState::Out(0))?;
+    }
+    Ok(states)
+}
+
+#[cfg(test)]
+mod tests;
