@@ -1,2 +1,4 @@
+pub mod Answered
 pub mod OneShard
 pub mod Progress
+pub mod TextLines

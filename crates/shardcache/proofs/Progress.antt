@@ -1,9 +1,10 @@
 -- The loop over the commands of one shard.
 use Rattle.std.proofs.Common.{◌≡◌, ◌≢◌, ℕ, ◌+◌, ◌-◌, ◌*◌, ◌<◌, ◌≤◌, suc, zero, Bool, true, false, eqb, ◌&&◌, not, cond, List, [], ◌∷◌, ◌++◌, length, take, drop, map, filter, get_or, append_assoc, replicate, length-append, Option, Some, None, arith, refl, sym, ap, ◌∙◌, add-one}
-use Rattle.std.specs.List.{All, count_by, slice_get, slice_set, sum_by}
+use Rattle.std.specs.List.{All, AllByRecursion as ByRecursion, count_by, enumerate_from, slice_get, slice_set, sum_by}
 use native.Mathlib.Nat.{add-mul}
 use Rattle.std.proofs.lemmas.List.{take_more, map-append, take_all, length-take-le}
 use Rattle.std.proofs.lemmas.List.Sums.{count_by-le-length, length-filter, sum_by-cons, sum_by-drop_more}
+use Rattle.std.proofs.lemmas.List.Elements.{All-from_recursion, All-head, All-tail}
 use Rattle.std.proofs.Math.Seq.{set-append_seam, get_or-append_seam}
 use Rattle.trace_text.specs.declared.command.Kind.{Kind}
 use Rattle.trace_text.specs.declared.command.Kind.TheVariants as kinds
@@ -21,9 +22,11 @@ use Rattle.plain_cache.specs.Replies.{Replies}
 use Rattle.plain_cache.specs.Row.{Row, live}
 use Rattle.plain_cache.specs.Spelled.{spelled}
 use Rattle.plain_cache.specs.Written.{Written}
-use Rattle.plain_cache.specs.Report.{answers}
+use Rattle.plain_cache.specs.Report.{IsReportOf, answers, occupancy, report}
+use Rattle.shardcache.proofs.TextLines.{Unbroken, journal_line, value-unbroken}
+use Rattle.report_text.specs.Held.{IsKeyless}
 use Rattle.shardcache.specs.Finished.{IsRunOf}
-use Rattle.shardcache.proofs.OneShard.{answers_run, cache_run, complete_run, evicts_none, numbers_run, Numbered, rows_from, replies_from, rows_from-append, journal_of, EachHolds, EachAsks, rows-hold, asks-take, asks-greatest, applied-holds, ReplyHolds, mod-one, at_origin, part_here}
+use Rattle.shardcache.proofs.OneShard.{answers_run, cache_run, complete_run, evicts_none, numbers_run, replies-hold, Numbered, rows_from, replies_from, rows_from-append, journal_of, EachHolds, EachAsks, rows-hold, asks-take, asks-greatest, applied-holds, ReplyHolds, mod-one, at_origin, part_here}
 
 -- a log with these answers in front, and room for so many more
 abbrev pub log_of : List (ℕ × Reply) → ℕ → List (Option (ReplyKind × List ℕ))
@@ -241,9 +244,55 @@ kind_of trace formed operation before later e =
     let is : IsWellFormed (get_or (before ++ operation ∷ later) (length before) operation) = rw e at formed (length before) operation lt in
     (rw (get_or-append_seam before operation later operation) at is).kind
 
+if-keyless : (b : Bool) (x y : Reply) → IsKeyless x → IsKeyless y → IsKeyless (cond b x y)
+if-keyless true x y p q = p
+if-keyless false x y p q = q
+
+got-keyless : (o : Option Row) (key : List ℕ) (cache : List Row) → IsKeyless (get_where o key cache).1
+got-keyless None key cache = tt
+got-keyless (Some row) key cache = tt
+
+kind-keyless : (kind : Kind) (operation : Operation) (cache : List Row) → kind ≢ kinds.Scan → IsKeyless (apply_kind kind operation cache).1
+kind-keyless kinds.Put operation cache plain = if-keyless (has operation.key cache) Replaced Stored tt tt
+kind-keyless kinds.Get operation cache plain = got-keyless (row_of operation.key cache) operation.key cache
+kind-keyless kinds.Erase operation cache plain = if-keyless (has operation.key cache) Erased Missing tt tt
+kind-keyless kinds.Scan operation cache plain = absurd (plain refl)
+
+-- no reply to a command of such a trace is of keys
+keyless-run : (trace : List Operation) (cache : List Row)
+    → ((operation : Operation) (before later : List Operation) → trace ≡ before ++ operation ∷ later → operation.kind ≢ kinds.Scan)
+    → ByRecursion (λ answer. IsKeyless answer.1) (replies_from trace cache)
+keyless-run [] cache served = tt
+keyless-run (operation ∷ trace) cache served =
+    (kind-keyless operation.kind operation cache (served operation [] trace refl),
+     keyless-run trace (apply operation cache).0 (λ o before later e. served o (operation ∷ before) later (ap (λ os. operation ∷ os) e)))
+
 append-nil' : {X : Type 0} (xs : List X) → xs ++ [] ≡ xs
 append-nil' [] = refl
 append-nil' (x ∷ xs) = ap (λ ys. x ∷ ys) (append-nil' xs)
+
+values-unbroken : (trace : List Operation) → All IsWellFormed trace → EachAsks Unbroken trace
+values-unbroken [] formed = tt
+values-unbroken (operation ∷ trace) formed =
+    (value-unbroken operation.value (All-head IsWellFormed operation trace formed).value, values-unbroken trace (All-tail IsWellFormed operation trace formed))
+
+-- the report of the one journal is legal
+report_run : (trace : List Operation) (pages : ℕ) → Numbered 1 trace → All IsWellFormed trace
+    → IsReportOf trace 1 pages (report trace 1 pages (journal_of trace ∷ [])) (journal_of trace ∷ [])
+report_run trace pages numbered formed =
+    let journal = journal_of trace in
+    let served : (operation : Operation) (before later : List Operation) → trace ≡ before ++ operation ∷ later → operation.kind ≢ kinds.Scan =
+        λ operation before later e. kind_of trace formed operation before later e in
+    let answered : answers trace 1 pages (journal ∷ []) ≡ replies_from trace [] = answers_run trace pages [] trace numbered refl served in
+    let legal = cache_run trace pages [] trace [] [] numbered (sym (append-nil' trace)) in
+    record {
+      shards = refl;
+      spelled = λ s below. rw answered (journal_line (replies_from trace []) journal (map (occupancy trace 1 pages) (enumerate_from 0 (journal ∷ []))) (length trace) s (keyless-run trace [] served)
+          (replies-hold Unbroken trace [] (values-unbroken trace formed) tt) (sym (length-replies_from trace [])) below);
+      legal = λ s d below. let zero_is : s ≡ 0 = omega arith in rw (zero_is, legal) refl;
+      complete = λ s d below. let zero_is : s ≡ 0 = omega arith in rw zero_is (complete_run trace);
+      text = refl;
+    }
 
 pub is_run : (trace : List Operation) (pages k held bytes : ℕ) (plain : Cache) (log : Replies) (journal : Written)
     → Numbered 1 trace → All IsWellFormed trace → HasDone trace pages k plain log journal → length trace ≤ k
@@ -262,10 +311,11 @@ is_run trace pages k held bytes plain log journal numbered formed has_done ended
     record {
       cache = rows_from trace [];
       legal = rw entries (cache_run trace pages [] trace [] [] numbered (sym (append-nil' trace)));
-      complete = rw entries (complete_run trace);
+      report = rw entries (report_run trace pages numbered formed);
       evicts = λ before later q cache e after. absurd (evicts_none trace before later q (sym entries ∙ e));
       numbers = rw (entries, answered) (numbers_run trace []);
       replies = rw (entries, answered) (sym replies);
+      keyless = rw (entries, answered) (All-from_recursion (λ answer. IsKeyless answer.1) (replies_from trace []) (keyless-run trace [] served));
       rows = held_is ∙ ap length rows;
       live = bytes_is ∙ ap live rows;
     }

@@ -1,3 +1,4 @@
+pub mod Codes
 pub mod Finished
 pub mod Settings
 pub mod Table

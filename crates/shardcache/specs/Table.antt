@@ -12,7 +12,7 @@ use Rattle.plain_cache.specs.Legal.{EvictsAbove}
 use Rattle.plain_cache.specs.Report.{line, IsReportOf}
 use Rattle.shardcache.specs.declared.status.Status.{Status}
 use Rattle.shardcache.specs.declared.status.Status.TheVariants as status
-use Rattle.shardcache.specs.Settings.{Settings, settings}
+use Rattle.shardcache.specs.Settings.{Settings, defaults, settings}
 
 abbrev pub cause_name : Cause → List ℕ
 cause_name NotYet = codes "NotYet"
@@ -68,7 +68,16 @@ pub record IsAnswered (answered : Status) (words : List (List ℕ)) (before left
   pub wrote : Appends before_sink after_sink text
   pub told : IsTold answered words bytes left text
 
--- A text was written whole, or the sink failed and a front of it was.
+-- A text was written whole with this status; or the sink failed, and a front of it was written; or memory ran out,
+-- and nothing was.
 abbrev pub IsSaid : Status → Status → Option (List ℕ) → Option (List ℕ) → List ℕ → Type 0
 IsSaid answered wanted before after text =
-    ((answered ≡ wanted) × Appends before after text) ⊎ ((answered ≡ status.WriteFault) × AppendsFront before after text)
+    ((answered ≡ wanted) × Appends before after text)
+    ⊎ (((answered ≡ status.WriteFault) × AppendsFront before after text) ⊎ ((answered ≡ status.Memory) × Appends before after []))
+
+-- A trace of these bytes was run and its report said, or it was refused and that was said.
+abbrev pub IsWorked : Status → List ℕ → Option (List ℕ) → Option (List ℕ) → Type 0
+IsWorked answered bytes before after =
+    ((trace : List Operation) × (trace_of bytes ≡ Ok trace) × (text : List ℕ) × Reports defaults bytes text × IsSaid answered status.Done before after text)
+    ⊎ (((number : ℕ) × (cause : Cause) × (trace_of bytes ≡ Err (AtLine number cause)) × IsSaid answered status.Refused before after (refusal_text (AtLine number cause)))
+    ⊎ ((answered ≡ status.Memory) × Appends before after []))

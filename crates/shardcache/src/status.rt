@@ -1,3 +1,6 @@
+ghost use Rattle.std.specs.Prelude.{◌≡◌};
+ghost use Rattle.shardcache.specs.Codes.{code_of};
+
 /// How a call of the program ended.
 #[derive(Clone, Copy, Debug, PartialEq, Eq)]
 pub enum Status {
@@ -13,4 +16,20 @@ pub enum Status {
     WriteFault,
     /// Memory ran out; nothing was written.
     Memory,
+}
+
+impl Status {
+    /// The number with which the program exits.
+    pub fn code(self) -> u8
+        ensures { result ≡ code_of self }
+    {
+        match self {
+            Status::Done => 0,
+            Status::Usage => 2,
+            Status::Refused => 3,
+            Status::ReadFault => 4,
+            Status::WriteFault => 5,
+            Status::Memory => 6,
+        }
+    }
 }
