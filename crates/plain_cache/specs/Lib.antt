@@ -8,4 +8,5 @@ pub mod Replies
 pub mod Report
 pub mod Row
 pub mod Spelled
+pub mod Worked
 pub mod Written

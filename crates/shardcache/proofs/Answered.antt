@@ -57,14 +57,17 @@ answered_worked answered words before left before_sink after_sink bytes asked to
     answered_said answered status.Done words before left before_sink after_sink bytes text took (defaults, asked, ended, reports) said
 answered_worked answered words before left before_sink after_sink bytes asked took ended (inr (inl (number, cause, read, said))) =
     let differs : AtLine number cause ≢ TooLong = λ e. cc in
-    answered_said answered status.Refused words before left before_sink after_sink bytes (refusal_text (AtLine number cause)) took
-        (defaults, asked, record {
-          refusal = AtLine number cause;
-          read = read;
-          written = refl;
-          taken = λ e. absurd (differs e);
-          ended = λ _. ended;
-        }) said
+    answered_said answered status.Refused words before left before_sink after_sink bytes (refusal_text (AtLine number cause)) took (
+      defaults,
+      asked,
+      record {
+        refusal = AtLine number cause;
+        read = read;
+        written = refl;
+        taken = λ e. absurd (differs e);
+        ended = λ _. ended;
+      },
+    ) said
 answered_worked answered words before left before_sink after_sink bytes asked took ended (inr (inr (is, wrote))) =
     rw is (answered_memory words before left before_sink after_sink bytes took wrote)
 

@@ -109,7 +109,7 @@ pub reply_run : (trace : List Operation) (pages : ℕ) (front : List Operation) 
 reply_run trace pages front operation back numbered e =
     let any : list_any (is_done operation.number) (journal_of trace) ≡ true = rw e (any_number front operation back) in
     let before : before_first (is_done operation.number) (journal_of trace) ≡ journal_of front =
-        rw e (before_number 1 front operation back (rw e at numbered)) in
+    rw e (before_number 1 front operation back (rw e at numbered)) in
     let found = command_at trace front operation back numbered e in
     let cache = cache_run trace pages [] front (operation ∷ back) [] numbered e in
     rw (any, found, before, cache) refl
@@ -147,7 +147,7 @@ answers_run trace pages front (operation ∷ rest) numbered e plain =
     let further : trace ≡ (front ++ operation ∷ []) ++ rest = e ∙ sym (append_assoc front (operation ∷ []) rest) in
     let later = answers_run trace pages (front ++ operation ∷ []) rest numbered further (λ o before after' e'. plain o (operation ∷ before) after' (ap (λ os. operation ∷ os) e')) in
     rw answered (ap (λ replies. (operation.number, (apply operation (rows_from front [])).1) ∷ replies)
-        (later ∙ ap (λ rows. replies_from rest rows) (rows_from-append front (operation ∷ []) [])))
+    (later ∙ ap (λ rows. replies_from rest rows) (rows_from-append front (operation ∷ []) [])))
 
 -- ---- complete
 
@@ -175,8 +175,8 @@ complete_run trace o below =
     filter-all (λ i. eqb (origin i 1) o) (done (journal_of trace)) (λ i. at_origin i o below)
     ∙ done_run trace
     ∙ sym (ap (λ operations. map (λ operation. operation.number) operations)
-        (filter-all (λ operation. eqb (origin operation.number 1) o && has_part 1 0 operation) trace
-            (λ operation. rw (at_origin operation.number o below) (part_here operation))))
+    (filter-all (λ operation. eqb (origin operation.number 1) o && has_part 1 0 operation) trace
+    (λ operation. rw (at_origin operation.number o below) (part_here operation))))
 
 -- ---- no eviction
 

@@ -74,10 +74,10 @@ next_unanswered trace pages k plain log journal has lt =
     let answers = replies_from (take k trace) [] in
     let some : 0 < length trace - k = omega arith in
     let len : length (map (λ answer. Some (spelled answer.1)) answers) ≡ k =
-        length-map' (λ answer. Some (spelled answer.1)) answers ∙ length-replies_from (take k trace) [] ∙ length-take-le k trace has.within in
+    length-map' (λ answer. Some (spelled answer.1)) answers ∙ length-replies_from (take k trace) [] ∙ length-take-le k trace has.within in
     rw (has.replies, open_log answers (length trace - k) some)
     (ap (λ at. slice_get (map (λ answer. Some (spelled answer.1)) answers ++ None ∷ replicate (length trace - k - 1) None) at) (sym len)
-        ∙ slice_get-seam (map (λ answer. Some (spelled answer.1)) answers) None (replicate (length trace - k - 1) None))
+    ∙ slice_get-seam (map (λ answer. Some (spelled answer.1)) answers) None (replicate (length trace - k - 1) None))
 
 one_if : Bool → ℕ
 one_if b = cond b 1 0
@@ -117,7 +117,7 @@ body-fits trace pages k d plain log journal has lt served =
     let now : EachHolds P plain.rows = rw has.rows rows in
     let operation = get_or trace k d in
     kind-fits operation.kind operation plain.rows (greatest_value trace) served
-        (applied-holds P operation.kind operation plain.rows (asks-at P trace k d lt (asks-greatest trace)) now).1
+    (applied-holds P operation.kind operation plain.rows (asks-at P trace k d lt (asks-greatest trace)) now).1
 
 times : (b : Bool) (n : ℕ) → cond b 1 0 * n ≡ cond b n 0
 times true n = omega arith
@@ -128,7 +128,7 @@ left-more : (trace : List Operation) (k : ℕ) (d : Operation) → k < length tr
     ≡ cond (is_get (get_or trace k d).kind) (greatest_value trace) 0 + count_by (λ operation. is_get operation.kind) (drop (k + 1) trace) * greatest_value trace
 left-more trace k d lt =
     rw (sum_by-drop_more (λ operation. cond (is_get operation.kind) 1 0) trace k d lt, add-mul) (ap (λ n. n + count_by (λ operation. is_get operation.kind) (drop (k + 1) trace) * greatest_value trace)
-        (times (is_get (get_or trace k d).kind) (greatest_value trace)))
+    (times (is_get (get_or trace k d).kind) (greatest_value trace)))
 
 pub next_fits : (trace : List Operation) (pages k : ℕ) (d : Operation) (plain : Cache) (log : Replies) (journal : Written)
     → HasDone trace pages k plain log journal → k < length trace → (get_or trace k d).kind ≢ kinds.Scan
@@ -156,8 +156,13 @@ log_of-more : (answers : List (ℕ × Reply)) (n k : ℕ) (answer : ℕ × Reply
 log_of-more answers n k answer some len =
     let shown = map (λ a. Some (spelled a.1)) answers in
     let at : length shown ≡ k = length-map' (λ a. Some (spelled a.1)) answers ∙ len in
-    rw (open_log answers n some, ← at, set-append_seam shown None (replicate (n - 1) None) (Some (spelled answer.1)),
-        map-append (λ a. Some (spelled a.1)) answers (answer ∷ []), append_assoc) refl
+    rw (
+      open_log answers n some,
+      ← at,
+      set-append_seam shown None (replicate (n - 1) None) (Some (spelled answer.1)),
+      map-append (λ a. Some (spelled a.1)) answers (answer ∷ []),
+      append_assoc,
+    ) refl
 
 pub has_done_more : (trace : List Operation) (pages k : ℕ) (d : Operation) (plain plain' : Cache) (log log' : Replies) (journal journal' : Written)
     → HasDone trace pages k plain log journal → k < length trace → (get_or trace k d).kind ≢ kinds.Scan
@@ -182,8 +187,8 @@ has_done_more trace pages k d plain plain' log log' journal journal' so_far lt s
       few = rw (ap (λ p. p.rows) rows') (omega (arith, kind-grows operation.kind operation plain.rows, so_far.few));
       entries = entries' ∙ rw (so_far.entries, taken, map-append (λ o. Done o.number) (take k trace) (operation ∷ [])) refl;
       replies = replies' ∙ ap (λ replies. slice_set replies k (Some (spelled answer.1))) so_far.replies
-        ∙ log_of-more (replies_from (take k trace) []) (length trace - k) k answer some len
-        ∙ rw (fewer, taken, replies_from-append (take k trace) operation [], ← so_far.rows) refl;
+          ∙ log_of-more (replies_from (take k trace) []) (length trace - k) k answer some len
+          ∙ rw (fewer, taken, replies_from-append (take k trace) operation [], ← so_far.rows) refl;
       room = omega (arith, so_far.room, left-more trace k d lt, body, room');
       spare = omega arith;
     }
@@ -263,9 +268,10 @@ keyless-run : (trace : List Operation) (cache : List Row)
     → ((operation : Operation) (before later : List Operation) → trace ≡ before ++ operation ∷ later → operation.kind ≢ kinds.Scan)
     → ByRecursion (λ answer. IsKeyless answer.1) (replies_from trace cache)
 keyless-run [] cache served = tt
-keyless-run (operation ∷ trace) cache served =
-    (kind-keyless operation.kind operation cache (served operation [] trace refl),
-     keyless-run trace (apply operation cache).0 (λ o before later e. served o (operation ∷ before) later (ap (λ os. operation ∷ os) e)))
+keyless-run (operation ∷ trace) cache served = (
+  kind-keyless operation.kind operation cache (served operation [] trace refl),
+  keyless-run trace (apply operation cache).0 (λ o before later e. served o (operation ∷ before) later (ap (λ os. operation ∷ os) e)),
+)
 
 append-nil' : {X : Type 0} (xs : List X) → xs ++ [] ≡ xs
 append-nil' [] = refl
@@ -282,7 +288,7 @@ report_run : (trace : List Operation) (pages : ℕ) → Numbered 1 trace → All
 report_run trace pages numbered formed =
     let journal = journal_of trace in
     let served : (operation : Operation) (before later : List Operation) → trace ≡ before ++ operation ∷ later → operation.kind ≢ kinds.Scan =
-        λ operation before later e. kind_of trace formed operation before later e in
+    λ operation before later e. kind_of trace formed operation before later e in
     let answered : answers trace 1 pages (journal ∷ []) ≡ replies_from trace [] = answers_run trace pages [] trace numbered refl served in
     let legal = cache_run trace pages [] trace [] [] numbered (sym (append-nil' trace)) in
     record {
@@ -304,9 +310,9 @@ is_run trace pages k held bytes plain log journal numbered formed has_done ended
     let entries : journal.entries ≡ journal_of trace = has_done.entries ∙ rw all refl in
     let none_left : length trace - k ≡ 0 = omega arith in
     let replies : log.replies ≡ map (λ answer. Some (spelled answer.1)) (replies_from trace []) =
-        has_done.replies ∙ rw (all, none_left) (append-nil' (map (λ answer. Some (spelled answer.1)) (replies_from trace []))) in
+    has_done.replies ∙ rw (all, none_left) (append-nil' (map (λ answer. Some (spelled answer.1)) (replies_from trace []))) in
     let served : (operation : Operation) (before later : List Operation) → trace ≡ before ++ operation ∷ later → operation.kind ≢ kinds.Scan =
-        λ operation before later e. kind_of trace formed operation before later e in
+    λ operation before later e. kind_of trace formed operation before later e in
     let answered : answers trace 1 pages (journal_of trace ∷ []) ≡ replies_from trace [] = answers_run trace pages [] trace numbered refl served in
     record {
       cache = rows_from trace [];
@@ -325,9 +331,10 @@ is_run trace pages k held bytes plain log journal numbered formed has_done ended
 numbered-from : (bytes : List ℕ) (n : ℕ) (commands : List Command)
     → ((k : ℕ) (d : Command) → k < length commands → (get_or commands k d).number ≡ n + k) → Numbered n (operations bytes commands)
 numbered-from bytes n [] numbered = tt
-numbered-from bytes n (command ∷ commands) numbered =
-    (numbered 0 command (omega arith) ∙ omega arith,
-     numbered-from bytes (n + 1) commands (λ k d lt. numbered (suc k) d (omega arith) ∙ omega arith))
+numbered-from bytes n (command ∷ commands) numbered = (
+  numbered 0 command (omega arith) ∙ omega arith,
+  numbered-from bytes (n + 1) commands (λ k d lt. numbered (suc k) d (omega arith) ∙ omega arith),
+)
 
 pub numbered : (bytes : List ℕ) (commands : List Command) → AreNumbered commands → Numbered 1 (operations bytes commands)
 numbered bytes commands are = numbered-from bytes 1 commands (λ k d lt. are k d lt ∙ omega arith)
@@ -360,7 +367,7 @@ pub fits_at : (bytes : List ℕ) (commands : List Command) (pages k : ℕ) (d : 
     → length (spelled (apply (operation bytes (get_or commands k d)) plain.rows).1).1 ≤ log.room
 fits_at bytes commands pages k d plain log journal so_far lt formed =
     rw (operation_at bytes commands k d) at
-        (next_fits (operations bytes commands) pages k (operation bytes d) plain log journal so_far (within_at bytes commands k lt) (served_at bytes commands k d lt formed))
+    (next_fits (operations bytes commands) pages k (operation bytes d) plain log journal so_far (within_at bytes commands k lt) (served_at bytes commands k d lt formed))
 
 pub more_at : (bytes : List ℕ) (commands : List Command) (pages k : ℕ) (d : Command) (plain plain' : Cache) (log log' : Replies) (journal journal' : Written)
     → HasDone (operations bytes commands) pages k plain log journal → k < length commands → AreNumbered commands → All IsWellFormed (operations bytes commands)
@@ -373,8 +380,8 @@ pub more_at : (bytes : List ℕ) (commands : List Command) (pages k : ℕ) (d : 
 more_at bytes commands pages k d plain plain' log log' journal journal' so_far lt are formed rows replies room entries spare =
     let is = operation_at bytes commands k d in
     has_done_more (operations bytes commands) pages k (operation bytes d) plain plain' log log' journal journal' so_far
-        (within_at bytes commands k lt) (served_at bytes commands k d lt formed)
-        (rw is rows) (rw is (rw (index_at commands k d lt are) at replies)) (rw is room) (rw is entries) spare
+    (within_at bytes commands k lt) (served_at bytes commands k d lt formed)
+    (rw is rows) (rw is (rw (index_at commands k d lt are) at replies)) (rw is room) (rw is entries) spare
 
 pub ended_at : (bytes : List ℕ) (commands : List Command) (k : ℕ) → length commands ≤ k → length (operations bytes commands) ≤ k
 ended_at bytes commands k ended = rw (length-map' (operation bytes) commands) ended

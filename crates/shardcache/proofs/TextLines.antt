@@ -48,7 +48,7 @@ digits_onto-unbroken zero n acc is = is
 digits_onto-unbroken (suc k) n acc is =
     let more : Unbroken (digit_glyph false (n % 10) ∷ acc) = unbroken-cons (digit_glyph false (n % 10)) acc (glyph (n % 10)) is in
     digits-cond (eqb (n / 10) 0) (digit_glyph false (n % 10) ∷ acc) (digits_onto k 10 false (n / 10) (digit_glyph false (n % 10) ∷ acc))
-        more (digits_onto-unbroken k (n / 10) (digit_glyph false (n % 10) ∷ acc) more)
+    more (digits_onto-unbroken k (n / 10) (digit_glyph false (n % 10) ∷ acc) more)
 
 pub decimal-unbroken : (n : ℕ) → Unbroken (decimal n)
 unfolding digits
@@ -78,7 +78,7 @@ reply-unbroken (Keys keys) keyless holds = absurd keyless
 answer-unbroken : (answer : ℕ × Reply) → IsKeyless answer.1 → ReplyHolds Unbroken answer.1 → Unbroken (answer_text answer)
 answer-unbroken (number, reply) keyless holds =
     unbroken-append (decimal number) (32 ∷ reply_text reply) (decimal-unbroken number)
-        (unbroken-cons 32 (reply_text reply) refl (reply-unbroken reply keyless holds))
+    (unbroken-cons 32 (reply_text reply) refl (reply-unbroken reply keyless holds))
 
 entry-unbroken : (entry : Entry) → Unbroken (entry_text entry)
 entry-unbroken (Done i) = decimal-unbroken i
@@ -88,12 +88,12 @@ entries-unbroken : (journal : List Entry) → Unbroken (flat_map (λ entry. 32 �
 entries-unbroken [] = refl
 entries-unbroken (entry ∷ journal) =
     unbroken-append (32 ∷ entry_text entry) (flat_map (λ e. 32 ∷ entry_text e) journal)
-        (unbroken-cons 32 (entry_text entry) refl (entry-unbroken entry)) (entries-unbroken journal)
+    (unbroken-cons 32 (entry_text entry) refl (entry-unbroken entry)) (entries-unbroken journal)
 
 journal-unbroken : (shard : ℕ) (journal : List Entry) → Unbroken (journal_text (shard, journal))
 journal-unbroken shard journal =
     unbroken-append (codes "journal " ++ decimal shard) (flat_map (λ entry. 32 ∷ entry_text entry) journal)
-        (unbroken-append (codes "journal ") (decimal shard) refl (decimal-unbroken shard)) (entries-unbroken journal)
+    (unbroken-append (codes "journal ") (decimal shard) refl (decimal-unbroken shard)) (entries-unbroken journal)
 
 -- ---- lines
 
@@ -105,7 +105,7 @@ first_line : (text rest : List ℕ) → Unbroken text → text_lines (line text 
 first_line text rest is =
     rw (append_assoc text (10 ∷ []) rest)
     (slice_split_at (λ b. eqb b 10) text 10 rest
-        (λ k d lt. not-not _ (AllPass-from_list_all (λ b. not (eqb b 10)) text is k d lt)) refl)
+    (λ k d lt. not-not _ (AllPass-from_list_all (λ b. not (eqb b 10)) text is k d lt)) refl)
 
 answer_lines : (answers : List (ℕ × Reply)) (rest : List ℕ) → ByRecursion (λ answer. IsKeyless answer.1) answers → EachReplies Unbroken answers
     → text_lines (flat_map (λ answer. line (answer_text answer)) answers ++ rest) ≡ map answer_text answers ++ text_lines rest
@@ -113,7 +113,7 @@ answer_lines [] rest keyless holds = refl
 answer_lines (answer ∷ answers) rest keyless holds =
     rw (append_assoc (line (answer_text answer)) (flat_map (λ a. line (answer_text a)) answers) rest)
     (first_line (answer_text answer) (flat_map (λ a. line (answer_text a)) answers ++ rest) (answer-unbroken answer keyless.0 holds.0)
-        ∙ ap (λ texts. answer_text answer ∷ texts) (answer_lines answers rest keyless.1 holds.1))
+    ∙ ap (λ texts. answer_text answer ∷ texts) (answer_lines answers rest keyless.1 holds.1))
 
 slice_get-behind : (xs : List (List ℕ)) (y : List ℕ) (ys : List (List ℕ)) (n s : ℕ) → n ≡ length xs → s ≡ 0
     → slice_get (xs ++ y ∷ ys) (n + s) ≡ Some y
@@ -137,8 +137,8 @@ journal_line answers journal occupancies n s keyless holds n_is below =
     let last = flat_map (λ occupancy. line (occupancy_text occupancy)) (enumerate_from 0 occupancies) in
     let here = line (journal_text (0, journal)) ++ [] in
     let lines : text_lines (report_of answers (journal ∷ []) occupancies) ≡ map answer_text answers ++ journal_text (0, journal) ∷ text_lines ([] ++ last) =
-        ap text_lines (append_assoc front here last)
-        ∙ answer_lines answers (here ++ last) keyless holds
-        ∙ ap (λ texts. map answer_text answers ++ texts)
-            (ap text_lines (append_assoc (line (journal_text (0, journal))) [] last) ∙ first_line (journal_text (0, journal)) ([] ++ last) (journal-unbroken 0 journal)) in
+    ap text_lines (append_assoc front here last)
+    ∙ answer_lines answers (here ++ last) keyless holds
+    ∙ ap (λ texts. map answer_text answers ++ texts)
+    (ap text_lines (append_assoc (line (journal_text (0, journal))) [] last) ∙ first_line (journal_text (0, journal)) ([] ++ last) (journal-unbroken 0 journal)) in
     rw (lines, zero_is) (slice_get-behind (map answer_text answers) (journal_text (0, journal)) (text_lines ([] ++ last)) n 0 (n_is ∙ sym (length-map answers)) refl)

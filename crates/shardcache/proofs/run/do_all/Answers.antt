@@ -7,28 +7,28 @@ use Rattle.shardcache.proofs.run.do_all.Goals as goal
 pub loop-command-init : goal.loop-command-init
 loop-command-init c =
     has_done_none (trace_in c.args.trace.now) c.args.pages _ _ _ _ _ _ c.needs-needs.ensures.own_parts c.needs-needs.ensures.reply_bytes
-        (omega (arith, c.needs-needs.ensures.here_parts)) c.in_ok-plain.ensures c.in_ok-log.ensures c.in_ok-journal.ensures
+    (omega (arith, c.needs-needs.ensures.here_parts)) c.in_ok-plain.ensures c.in_ok-log.ensures c.in_ok-journal.ensures
 
 pub do_command-requires-clause-unanswered : goal.do_command-requires-clause-unanswered
 do_command-requires-clause-unanswered c =
     let numbers = rw c.commands-commands.ensures.value at c.commands-commands.ensures.numbered in
     rw c.commands-commands.ensures.value
     (unanswered_at c.args.trace.now.bytes c.args.trace.now.commands c.args.pages c.loop-command.command-index _ _ _ _ c.loop-command.invariant
-        (rw c.commands-commands.ensures.value at c.loop-command-test.true) numbers)
+    (rw c.commands-commands.ensures.value at c.loop-command-test.true) numbers)
 
 pub do_command-requires-clause-fits : goal.do_command-requires-clause-fits
 do_command-requires-clause-fits c =
     rw c.commands-commands.ensures.value
     (fits_at c.args.trace.now.bytes c.args.trace.now.commands c.args.pages c.loop-command.command-index _ _ _ _ c.loop-command.invariant
-        (rw c.commands-commands.ensures.value at c.loop-command-test.true) c.commands-commands.ensures.well_formed)
+    (rw c.commands-commands.ensures.value at c.loop-command-test.true) c.commands-commands.ensures.well_formed)
 
 pub loop-command-preserved : goal.loop-command-preserved
 loop-command-preserved c =
     let is = c.commands-commands.ensures.value in
     let done = c.in_ok-do_command.ensures in
     more_at c.args.trace.now.bytes c.args.trace.now.commands c.args.pages c.loop-command.command-index _ _ _ _ _ _ _ c.loop-command.invariant
-        (rw is at c.loop-command-test.true) (rw is at c.commands-commands.ensures.numbered) c.commands-commands.ensures.well_formed
-        (rw is at done.applied) (rw is at done.replied) (rw is at done.room) (rw is at done.done) done.spare
+    (rw is at c.loop-command-test.true) (rw is at c.commands-commands.ensures.numbered) c.commands-commands.ensures.well_formed
+    (rw is at done.applied) (rw is at done.replied) (rw is at done.room) (rw is at done.done) done.spare
 
 pub returns : goal.returns
 returns c = is_run (trace_in c.args.trace.now) c.args.pages _ _ _ _ _ _ (numbered _ _ (rw c.commands-commands.ensures.value at c.commands-commands.ensures.numbered))

@@ -1,0 +1,50 @@
+-- The definitions compute on the worked trace.
+use Rattle.std.proofs.Common.{ℕ, ◌<◌, zero, suc, arith, refl, List}
+use Rattle.plain_cache.specs.declared.journal.Entry.{Entry}
+use Rattle.plain_cache.specs.Legal.{IsComplete}
+use Rattle.plain_cache.specs.Worked.{IsWorked, two_shards, first, second, second_merged, swapped, shortened, doubled}
+use Rattle.plain_cache.proofs.tests.two_shards.Goals as goal
+
+complete-first : IsComplete two_shards 2 0 first
+complete-first zero below = refl
+complete-first (suc zero) below = refl
+complete-first (suc (suc o)) below = absurd (omega arith)
+
+complete-second : IsComplete two_shards 2 1 second
+complete-second zero below = refl
+complete-second (suc zero) below = refl
+complete-second (suc (suc o)) below = absurd (omega arith)
+
+complete-merged : IsComplete two_shards 2 1 second_merged
+complete-merged zero below = refl
+complete-merged (suc zero) below = refl
+complete-merged (suc (suc o)) below = absurd (omega arith)
+
+wrong-shard : IsComplete two_shards 2 1 first → ⊥
+wrong-shard is = let e = is 0 (omega arith) in cc
+
+wrong-order : IsComplete two_shards 2 1 swapped → ⊥
+wrong-order is = let e = is 1 (omega arith) in cc
+
+left-out : IsComplete two_shards 2 1 shortened → ⊥
+left-out is = let e = is 1 (omega arith) in cc
+
+twice : IsComplete two_shards 2 1 doubled → ⊥
+twice is = let e = is 0 (omega arith) in cc
+
+pub returns : goal.returns
+returns c = record {
+  legal_first = refl;
+  legal_second = refl;
+  legal_merged = refl;
+  complete_first = complete-first;
+  complete_second = complete-second;
+  complete_merged = complete-merged;
+  wrong_shard = wrong-shard;
+  wrong_order = wrong-order;
+  left_out = left-out;
+  twice = twice;
+  below_floor = λ legal. cc;
+  missing = refl;
+  joined = refl;
+}

