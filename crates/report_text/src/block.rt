@@ -1,5 +1,5 @@
 //! Text on its way to a sink. It is laid into a block, and the sink is given whole blocks.
-ghost use Rattle.std.specs.Prelude.{◌≡◌, true, false, [], ◌++◌, decimal, OnOk};
+ghost use Rattle.std.specs.Prelude.{◌≡◌, true, false, [], ◌++◌, codes, decimal, OnOk};
 ghost use Rattle.report_text.specs.Laid.{Wrote, stand};
 
 use arrayvec::ArrayVec;
@@ -56,4 +56,11 @@ pub(crate) fn put_field<K: Sink>(sink: &mut K, block: &mut Block, name: &[u8], n
 {
     put(sink, block, name)?;
     put_number(sink, block, number)
+}
+
+/// The end of a line.
+pub(crate) fn end_line<K: Sink>(sink: &mut K, block: &mut Block) -> Result<(), Failed>
+    ensures { Wrote result (stand (K.written sink.old) (K.faults sink.old) block.old.items) (stand (K.written sink.new) (K.faults sink.new) block.new.items) (codes "\n") }
+{
+    put(sink, block, b"\n")
 }
