@@ -43,7 +43,11 @@ pub(crate) fn put<K: Sink>(sink: &mut K, block: &mut Block, text: &[u8]) -> Resu
 }
 
 /// A number in decimal.
-pub(crate) fn put_number<K: Sink>(sink: &mut K, block: &mut Block, number: u64) -> Result<(), Failed>
+pub(crate) fn put_number<K: Sink>(
+    sink: &mut K,
+    block: &mut Block,
+    number: u64,
+) -> Result<(), Failed>
     ensures { Wrote result (stand (K.written sink.old) (K.faults sink.old) block.old.items) (stand (K.written sink.new) (K.faults sink.new) block.new.items) (decimal number) }
 {
     let mut buffer = Buffer::new();
@@ -51,7 +55,12 @@ pub(crate) fn put_number<K: Sink>(sink: &mut K, block: &mut Block, number: u64) 
 }
 
 /// Some text and a number.
-pub(crate) fn put_field<K: Sink>(sink: &mut K, block: &mut Block, name: &[u8], number: u64) -> Result<(), Failed>
+pub(crate) fn put_field<K: Sink>(
+    sink: &mut K,
+    block: &mut Block,
+    name: &[u8],
+    number: u64,
+) -> Result<(), Failed>
     ensures { Wrote result (stand (K.written sink.old) (K.faults sink.old) block.old.items) (stand (K.written sink.new) (K.faults sink.new) block.new.items) (name.now ++ decimal number) }
 {
     put(sink, block, name)?;
