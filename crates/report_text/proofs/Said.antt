@@ -1,5 +1,5 @@
 -- A log whose first parts were answered in turn.
-use Rattle.std.proofs.Common.{◌≡◌, ℕ, ◌+◌, ◌-◌, ◌<◌, ◌≤◌, zero, suc, List, [], ◌∷◌, ◌++◌, length, map, get_or, replicate, slice_set, Option, Some, None, sym, ap, ◌∙◌, subst, refl, arith, append_assoc, append-nil, add_comm, length-append}
+use Rattle.std.proofs.Common.{◌≡◌, ℕ, ◌+◌, ◌<◌, suc, List, [], ◌∷◌, ◌++◌, length, map, replicate, slice_set, Option, Some, None, sym, ap, ◌∙◌, subst, refl, arith, append_assoc, append-nil, add_comm, length-append}
 use Rattle.std.specs.Prelude.{All}
 use Rattle.std.specs.List.{slice_get, enumerate_from}
 use Rattle.std.proofs.lemmas.List.{ext_get_or, get_or-map, length-map, map-append}
@@ -66,17 +66,19 @@ held_when_said trace commands log d value numbered p =
     let long : length answers ≡ length commands = length-enumerate_from 1 p.said ∙ p.many in
     let same : first answers ≡ numbers (map op commands) =
     ext_get_or 0 (first answers) (numbers (map op commands)) (simp length-map long)
-      (λ i within.
-        let below : i < length answers = simp length-map at within in
-        let here : i < length commands = omega (arith, below, long) in
-        let there : i < length p.said = omega (arith, here, p.many) in
-        get_or-map (λ answer. answer.0) answers i (0, Stored) 0 below ∙ ap (λ answer. answer.0) (get_or-enumerate_from 1 p.said i (0, Stored) there)
-        ∙ add_comm 1 i ∙ sym (numbered i d here)
-        ∙ sym (get_or-map (λ o. o.number) (map op commands) i (op d) 0 (simp length-map here) ∙ ap (λ o. o.number) (get_or-map op commands i d (op d) here))) in
-    (answers, record {
-      numbers = same ∙ ap (λ cs. numbers (map op cs)) value;
-      replies = parts_numbered 1 p.said ∙ sym (p.parts_are ∙ append-nil (map part_of p.said));
-      keyless = λ k e below.
-        let there : k < length p.said = omega (arith, below, length-enumerate_from 1 p.said) in
-        subst (λ answer. IsKeyless answer.1) (sym (get_or-enumerate_from 1 p.said k e there)) (p.keyless k e.1 there);
-    })
+    (λ i within.
+    let below : i < length answers = simp length-map at within in
+    let here : i < length commands = omega (arith, below, long) in
+    let there : i < length p.said = omega (arith, here, p.many) in
+    get_or-map (λ answer. answer.0) answers i (0, Stored) 0 below ∙ ap (λ answer. answer.0) (get_or-enumerate_from 1 p.said i (0, Stored) there)
+    ∙ add_comm 1 i ∙ sym (numbered i d here)
+    ∙ sym (get_or-map (λ o. o.number) (map op commands) i (op d) 0 (simp length-map here) ∙ ap (λ o. o.number) (get_or-map op commands i d (op d) here))) in (
+      answers,
+      record {
+        numbers = same ∙ ap (λ cs. numbers (map op cs)) value;
+        replies = parts_numbered 1 p.said ∙ sym (p.parts_are ∙ append-nil (map part_of p.said));
+        keyless = λ k e below.
+            let there : k < length p.said = omega (arith, below, length-enumerate_from 1 p.said) in
+            subst (λ answer. IsKeyless answer.1) (sym (get_or-enumerate_from 1 p.said k e there)) (p.keyless k e.1 there);
+      },
+    )

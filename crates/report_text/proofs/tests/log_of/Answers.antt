@@ -1,4 +1,4 @@
-use Rattle.std.proofs.Common.{◌≡◌, ℕ, ◌+◌, ◌-◌, ◌∙◌, suc, Some, length, slice_set, ap, sym, subst, arith}
+use Rattle.std.proofs.Common.{◌≡◌, ◌+◌, ◌-◌, ◌∙◌, suc, Some, length, slice_set, ap, sym, subst, arith}
 use Rattle.trace_text.specs.declared.command.Command.{Command}
 use Rattle.trace_text.specs.declared.command.Kind.TheVariants.{Put}
 use Rattle.report_text.proofs.Said.{IsSaid, one_more_said, held_when_said}
@@ -27,4 +27,4 @@ returns g c =
     let many : part ≡ length k.result.now = omega arith in
     let over : length c.args.kinds.now - part ≡ 0 = omega arith in
     held_when_said c.args.trace.now k.result.now c.loop-part.log none k.ensures.value k.ensures.numbered
-        (subst (λ n. IsSaid c.loop-part.log.replies n 0) many (subst (IsSaid c.loop-part.log.replies part) over c.loop-part.invariant.said))
+    (subst (λ n. IsSaid c.loop-part.log.replies n 0) many (subst (IsSaid c.loop-part.log.replies part) over c.loop-part.invariant.said))

@@ -1,5 +1,5 @@
 -- So many parts were answered, without keys, and there is room for the other bodies.
-use Rattle.std.proofs.Common.{◌≡◌, ◌+◌, ◌-◌, ◌*◌, ◌≤◌, length}
+use Rattle.std.proofs.Common.{◌+◌, ◌-◌, ◌*◌, ◌≤◌, length}
 use Rattle.report_text.proofs.Said.{IsSaid}
 use Rattle.report_text.proofs.tests.log_of.Given as goal
 
