@@ -1,12 +1,12 @@
 -- The answer to one command, among those that the logs hold.
-use Rattle.std.proofs.Common.{◌≡◌, ℕ, ◌+◌, ◌-◌, ◌<◌, ◌≤◌, List, [], ◌∷◌, length, map, get_or, Option, Some, None, sym, ap, ◌∙◌, subst, refl, arith}
+use Rattle.std.proofs.Common.{◌≡◌, ℕ, ◌+◌, ◌-◌, ◌<◌, ◌≤◌, List, [], ◌∷◌, length, map, get_or, Some, sym, ap, ◌∙◌, arith}
 use Rattle.std.specs.List.{slice_get}
 use Rattle.std.specs.Option.{option_map}
 use Rattle.std.proofs.lemmas.List.{get_or-map, get_or_default, length-map}
 use Rattle.std.proofs.lemmas.Option.{slice_get-get_or, slice_get-map}
 use Rattle.std.proofs.Math.Nat.{add-sub_cancel}
 use Rattle.trace_text.specs.declared.command.Command.{Command}
-use Rattle.trace_text.specs.Operation.{Operation, operation, operations}
+use Rattle.trace_text.specs.Operation.{operation}
 use Rattle.trace_text.specs.Parsed.{Parsed, trace_in, AreNumbered}
 use Rattle.plain_cache.specs.Apply.{Reply, Stored}
 use Rattle.plain_cache.specs.Replies.{Replies}

@@ -1,5 +1,5 @@
 -- What several texts that were laid one behind another are together.
-use Rattle.std.proofs.Common.{◌≡◌, ℕ, ◌+◌, ◌<◌, ◌≤◌, List, [], ◌∷◌, ◌++◌, length, take, drop, get_or, map, Option, Result, Ok, Err, sym, ap, ◌∙◌, subst, refl, zero-add, arith, le_refl, append_assoc, append-nil}
+use Rattle.std.proofs.Common.{◌≡◌, ℕ, ◌+◌, ◌<◌, ◌≤◌, List, [], ◌++◌, length, take, drop, get_or, map, Result, Ok, Err, sym, ap, ◌∙◌, subst, zero-add, arith, le_refl, append_assoc, append-nil}
 use Rattle.std.specs.List.{flat_map, enumerate_from}
 use Rattle.std.specs.Result.{IsErrAnd, OnOk, OnErr}
 use Rattle.std.proofs.lemmas.List.{flat_map_more, take_more, take-append-drop, get_or-map, length-map, take_all}

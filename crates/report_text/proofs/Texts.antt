@@ -1,5 +1,5 @@
 -- The lines of a report as they are laid, piece by piece.
-use Rattle.std.proofs.Common.{◌≡◌, ℕ, List, [], ◌∷◌, ◌++◌, refl, ap, ◌∙◌, sym, append_assoc}
+use Rattle.std.proofs.Common.{◌≡◌, ℕ, List, ◌∷◌, ◌++◌, refl, ap, ◌∙◌, append_assoc}
 use Rattle.std.specs.Prelude.{codes, decimal}
 use Rattle.plain_cache.specs.declared.journal.Entry.{Entry}
 use Rattle.plain_cache.specs.declared.replies.ReplyKind.{ReplyKind}
@@ -34,7 +34,7 @@ regroup a x b y c z d w e v n = simp append_assoc
 
 pub shard_line_is : (shard : ℕ) (o : Occupancy)
     → (codes "shard " ++ decimal shard) ++ (codes " rows " ++ decimal o.rows) ++ (codes " live " ++ decimal o.live) ++ (codes " lent " ++ decimal o.lent) ++ (codes " back " ++ decimal o.back) ++ codes "\n"
-        ≡ line (occupancy_text (shard, o))
+    ≡ line (occupancy_text (shard, o))
 shard_line_is shard o =
     regroup (codes "shard ") (decimal shard) (codes " rows ") (decimal o.rows) (codes " live ") (decimal o.live) (codes " lent ") (decimal o.lent) (codes " back ") (decimal o.back) (codes "\n")
 

@@ -1,8 +1,7 @@
 -- How a report says a reply: a word, and the reply's body behind it.
-use Rattle.std.specs.Prelude.{ℕ, List, [], ◌++◌, codes, decimal, Option}
+use Rattle.std.specs.Prelude.{ℕ, List, codes}
 use Rattle.plain_cache.specs.declared.replies.ReplyKind.{ReplyKind}
 use Rattle.plain_cache.specs.declared.replies.ReplyKind.TheVariants as kinds
-use Rattle.plain_cache.specs.Report.{Occupancy}
 
 abbrev pub word : ReplyKind → List ℕ
 word kinds.Stored = codes "stored"

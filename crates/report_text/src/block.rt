@@ -1,5 +1,5 @@
 //! Text on its way to a sink. It is laid into a block, and the sink is given whole blocks.
-ghost use Rattle.std.specs.Prelude.{◌≡◌, true, false, [], ◌++◌, decimal, OnOk};
+ghost use Rattle.std.specs.Prelude.{◌≡◌, true, false, [], ◌++◌, codes, decimal, OnOk};
 ghost use Rattle.report_text.specs.Laid.{Wrote, stand};
 
 use arrayvec::ArrayVec;
@@ -43,7 +43,11 @@ pub(crate) fn put<K: Sink>(sink: &mut K, block: &mut Block, text: &[u8]) -> Resu
 }
 
 /// A number in decimal.
-pub(crate) fn put_number<K: Sink>(sink: &mut K, block: &mut Block, number: u64) -> Result<(), Failed>
+pub(crate) fn put_number<K: Sink>(
+    sink: &mut K,
+    block: &mut Block,
+    number: u64,
+) -> Result<(), Failed>
     ensures { Wrote result (stand (K.written sink.old) (K.faults sink.old) block.old.items) (stand (K.written sink.new) (K.faults sink.new) block.new.items) (decimal number) }
 {
     let mut buffer = Buffer::new();
@@ -51,9 +55,21 @@ pub(crate) fn put_number<K: Sink>(sink: &mut K, block: &mut Block, number: u64) 
 }
 
 /// Some text and a number.
-pub(crate) fn put_field<K: Sink>(sink: &mut K, block: &mut Block, name: &[u8], number: u64) -> Result<(), Failed>
+pub(crate) fn put_field<K: Sink>(
+    sink: &mut K,
+    block: &mut Block,
+    name: &[u8],
+    number: u64,
+) -> Result<(), Failed>
     ensures { Wrote result (stand (K.written sink.old) (K.faults sink.old) block.old.items) (stand (K.written sink.new) (K.faults sink.new) block.new.items) (name.now ++ decimal number) }
 {
     put(sink, block, name)?;
     put_number(sink, block, number)
+}
+
+/// The end of a line.
+pub(crate) fn end_line<K: Sink>(sink: &mut K, block: &mut Block) -> Result<(), Failed>
+    ensures { Wrote result (stand (K.written sink.old) (K.faults sink.old) block.old.items) (stand (K.written sink.new) (K.faults sink.new) block.new.items) (codes "\n") }
+{
+    put(sink, block, b"\n")
 }

@@ -5,6 +5,8 @@
 mod block;
 mod lines;
 mod shard_line;
+#[cfg(test)]
+mod tests;
 mod writing;
 
 pub use shard_line::ShardLine;

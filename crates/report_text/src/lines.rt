@@ -9,7 +9,7 @@ ghost use Rattle.report_text.specs.Laid.{Wrote, stand};
 ghost use Rattle.report_text.specs.Words.{word};
 
 use crate::ShardLine;
-use crate::block::{Block, put, put_field, put_number};
+use crate::block::{Block, end_line, put, put_field, put_number};
 use outside::{Failed, Sink};
 use plain_cache::{Entry, Journal, ReplyKind, ReplyLog};
 
@@ -40,7 +40,7 @@ fn put_reply<K: Sink>(
     put(sink, block, b" ")?;
     put(sink, block, word(kind))?;
     put(sink, block, body)?;
-    put(sink, block, b"\n")
+    end_line(sink, block)
 }
 
 /// The line of the answer to the command with this number, of a log whose parts are numbered as the
@@ -88,7 +88,7 @@ pub(crate) fn put_journal<K: Sink>(
 {
     put_field(sink, block, b"journal ", shard)?;
     put_entries(sink, block, journal.entries())?;
-    put(sink, block, b"\n")
+    end_line(sink, block)
 }
 
 /// The line of what a shard holds.
@@ -105,5 +105,5 @@ pub(crate) fn put_shard_line<K: Sink>(
     put_field(sink, block, b" live ", held.live)?;
     put_field(sink, block, b" lent ", held.lent)?;
     put_field(sink, block, b" back ", held.back)?;
-    put(sink, block, b"\n")
+    end_line(sink, block)
 }

@@ -72,7 +72,11 @@ fn put_answers<K: Sink>(
     Ok(())
 }
 
-fn put_journals<K: Sink>(sink: &mut K, block: &mut Block, journals: &[Journal]) -> Result<(), Failed>
+fn put_journals<K: Sink>(
+    sink: &mut K,
+    block: &mut Block,
+    journals: &[Journal],
+) -> Result<(), Failed>
     ensures { Wrote result (stand (K.written sink.old) (K.faults sink.old) block.old.items) (stand (K.written sink.new) (K.faults sink.new) block.new.items) (flat_map (λ journal. line (journal_text journal)) (enumerate_from 0 (journals_in journals.now))) }
 {
     for (shard, journal) in journals.iter().enumerate() {
@@ -81,7 +85,11 @@ fn put_journals<K: Sink>(sink: &mut K, block: &mut Block, journals: &[Journal]) 
     Ok(())
 }
 
-fn put_shard_lines<K: Sink>(sink: &mut K, block: &mut Block, lines: &[ShardLine]) -> Result<(), Failed>
+fn put_shard_lines<K: Sink>(
+    sink: &mut K,
+    block: &mut Block,
+    lines: &[ShardLine],
+) -> Result<(), Failed>
     ensures { Wrote result (stand (K.written sink.old) (K.faults sink.old) block.old.items) (stand (K.written sink.new) (K.faults sink.new) block.new.items) (flat_map (λ occupancy. line (occupancy_text occupancy)) (enumerate_from 0 (occupancies_in lines.now))) }
 {
     for (shard, line) in lines.iter().enumerate() {

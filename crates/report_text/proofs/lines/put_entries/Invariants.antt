@@ -9,4 +9,4 @@ use Rattle.report_text.proofs.lines.put_entries.Given as goal
 abbrev pub invariant-loop-entry : goal.invariant-loop-entry
 invariant-loop-entry g l =
     Laid (stand (g.K.Sink.written l.fn.sink) (g.K.Sink.faults l.fn.sink) l.fn.block.items) (stand (g.K.Sink.written l.sink) (g.K.Sink.faults l.sink) l.block.items)
-        (flat_map (λ entry. 32 ∷ entry_text entry) (take l.entry-index l.entries))
+    (flat_map (λ entry. 32 ∷ entry_text entry) (take l.entry-index l.entries))

@@ -12,4 +12,4 @@ returns-in_err-put_entries g c =
 pub returns : goal.returns
 returns g c =
     let entries = rw c.entries.ensures at c.in_ok-put_entries.ensures in
-    Wrote-then (Wrote-then c.in_ok-put_field.ensures entries) c.put.ensures
+    Wrote-then (Wrote-then c.in_ok-put_field.ensures entries) c.end_line.ensures

@@ -22,4 +22,4 @@ pub returns : goal.returns
 returns g c =
     let number = rw c.from.ensures at c.in_ok-put_number.ensures in
     let word = rw c.word.ensures at c.in_ok-put-2.ensures in
-    Wrote-then (Wrote-then (Wrote-then (Wrote-then number c.in_ok-put.ensures) word) c.in_ok-put-3.ensures) c.put-4.ensures
+    Wrote-then (Wrote-then (Wrote-then (Wrote-then number c.in_ok-put.ensures) word) c.in_ok-put-3.ensures) c.end_line.ensures

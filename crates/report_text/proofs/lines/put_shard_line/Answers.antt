@@ -32,4 +32,4 @@ returns-in_err-put_field-5 g c =
 pub returns : goal.returns
 returns g c =
     let rows = rw c.from.ensures at c.in_ok-put_field-2.ensures in
-    subst (Wrote _ _ _) (shard_line_is c.args.shard (occupancy_in c.args.held.now)) (Wrote-then (Wrote-then (Wrote-then (Wrote-then (Wrote-then c.in_ok-put_field.ensures rows) c.in_ok-put_field-3.ensures) c.in_ok-put_field-4.ensures) c.in_ok-put_field-5.ensures) c.put.ensures)
+    subst (Wrote _ _ _) (shard_line_is c.args.shard (occupancy_in c.args.held.now)) (Wrote-then (Wrote-then (Wrote-then (Wrote-then (Wrote-then c.in_ok-put_field.ensures rows) c.in_ok-put_field-3.ensures) c.in_ok-put_field-4.ensures) c.in_ok-put_field-5.ensures) c.end_line.ensures)

@@ -1,11 +1,8 @@
-use Rattle.std.proofs.Common.{ℕ, List, sym, get_or, subst}
+use Rattle.std.proofs.Common.{get_or}
 use Rattle.trace_text.specs.declared.command.Command.{Command}
 use Rattle.trace_text.specs.declared.command.Kind.TheVariants.{Put}
-use Rattle.trace_text.specs.Parsed.{trace_in}
-use Rattle.plain_cache.specs.Apply.{Reply, Stored}
-use Rattle.report_text.specs.Held.{AreHeld}
-use Rattle.report_text.specs.Laid.{Wrote, stand}
-use Rattle.report_text.proofs.Answered.{IsAnswered, answered_at}
+use Rattle.plain_cache.specs.Apply.{Stored}
+use Rattle.report_text.proofs.Answered.{answered_at}
 use Rattle.report_text.proofs.Laid.{Wrote-next-at, Wrote-broken-at, Wrote-exit}
 use Rattle.report_text.proofs.Texts.{answer_line}
 use Rattle.report_text.proofs.writing.put_answers.Goals as goal
@@ -19,7 +16,7 @@ put_answer-requires-clause-answered g c =
     let all = c.requires.answered in
     let i = c.loop-command.command-index in
     let p = answered_at c.args.trace.now k.result.now c.args.logs.now c.index-logs-0.result all.0 i none k.ensures.value k.ensures.numbered c.requires.one_log_each k.ensures.one_shard
-        c.index-logs-0.is all.1 c.loop-command-test.true in
+    c.index-logs-0.is all.1 c.loop-command-test.true in
     ((get_or all.0 i (0, Stored)).1, p.recorded)
 
 pub loop-command-preserved : goal.loop-command-preserved
@@ -27,7 +24,7 @@ loop-command-preserved g c = λ answers held.
     let k = c.commands-commands in
     let i = c.loop-command.command-index in
     let p = answered_at c.args.trace.now k.result.now c.args.logs.now c.index-logs-0.result answers i none k.ensures.value k.ensures.numbered c.requires.one_log_each k.ensures.one_shard
-        c.index-logs-0.is held c.loop-command-test.true in
+    c.index-logs-0.is held c.loop-command-test.true in
     Wrote-next-at answer_line answers i _ p.within p.at (c.loop-command.invariant answers held) (c.in_ok-put_answer.ensures _ p.recorded p.keyless)
 
 pub returns-in_err-put_answer : goal.returns-in_err-put_answer
@@ -35,5 +32,5 @@ returns-in_err-put_answer g c = λ answers held.
     let k = c.commands-commands in
     let i = c.loop-command.command-index in
     let p = answered_at c.args.trace.now k.result.now c.args.logs.now c.index-logs-0.result answers i none k.ensures.value k.ensures.numbered c.requires.one_log_each k.ensures.one_shard
-        c.index-logs-0.is held c.loop-command-test.true in
+    c.index-logs-0.is held c.loop-command-test.true in
     Wrote-exit _ c.from_residual.ensures.1 (Wrote-broken-at answer_line answers i _ p.within p.at (c.loop-command.invariant answers held) (c.in_err-put_answer.ensures _ p.recorded p.keyless))

@@ -12,4 +12,4 @@ use Rattle.report_text.proofs.writing.put_answers.Given as goal
 abbrev pub invariant-loop-command : goal.invariant-loop-command
 invariant-loop-command g l = (answers : List (ℕ × Reply)) → AreHeld (trace_in l.trace) l.logs answers →
     Laid (stand (g.K.Sink.written l.fn.sink) (g.K.Sink.faults l.fn.sink) l.fn.block.items) (stand (g.K.Sink.written l.sink) (g.K.Sink.faults l.sink) l.block.items)
-        (flat_map (λ answer. line (answer_text answer)) (take l.command-index answers))
+    (flat_map (λ answer. line (answer_text answer)) (take l.command-index answers))

@@ -10,4 +10,4 @@ use Rattle.report_text.proofs.writing.put_journals.Given as goal
 abbrev pub invariant-loop-shard : goal.invariant-loop-shard
 invariant-loop-shard g l =
     Laid (stand (g.K.Sink.written l.fn.sink) (g.K.Sink.faults l.fn.sink) l.fn.block.items) (stand (g.K.Sink.written l.sink) (g.K.Sink.faults l.sink) l.block.items)
-        (flat_map (λ journal. line (journal_text journal)) (take l.shard (enumerate_from 0 (journals_in l.journals))))
+    (flat_map (λ journal. line (journal_text journal)) (take l.shard (enumerate_from 0 (journals_in l.journals))))

@@ -1,4 +1,4 @@
-use Rattle.std.proofs.Common.{◌≡◌, get_or}
+use Rattle.std.proofs.Common.{get_or}
 use Rattle.std.proofs.lemmas.List.{get_or_default}
 use Rattle.report_text.specs.Held.{occupancy_in}
 use Rattle.report_text.specs.declared.shard_line.ShardLine.{ShardLine}
@@ -20,7 +20,7 @@ returns-in_err-put_shard_line g c =
     let held = get_or c.args.lines.now c.loop-shard.shard none in
     let is = get_or_default c.args.lines.now c.loop-shard.shard held none c.loop-shard-test.true in
     Wrote-exit _ c.from_residual.ensures.1
-        (Wrote-broken-numbered occupancy_line occupancy_in c.args.lines.now c.loop-shard.shard held c.loop-shard-test.true is c.loop-shard.invariant c.in_err-put_shard_line.ensures)
+    (Wrote-broken-numbered occupancy_line occupancy_in c.args.lines.now c.loop-shard.shard held c.loop-shard-test.true is c.loop-shard.invariant c.in_err-put_shard_line.ensures)
 
 pub returns : goal.returns
 returns g c = Wrote-all-numbered occupancy_line occupancy_in c.args.lines.now c.loop-shard.shard c.loop-shard-test.false c.loop-shard.invariant
