@@ -5,3 +5,4 @@ pub mod Stored
 pub mod Found
 pub mod Lists
 pub mod Steps
+pub mod Fresh

@@ -1,8 +1,9 @@
 -- What each call of the pools reads and leaves.
-use Rattle.std.proofs.Common.{◌≡◌, ◌≢◌, ℕ, zero, suc, ◌+◌, ◌-◌, ◌*◌, ◌/◌, ◌^◌, ◌<◌, ◌≤◌, ◌⊎◌, inl, inr, List, [], ◌∷◌, ◌++◌, length, get_or, set, take, Option, Some, None, IsSome, true, false, refl, sym, ap, subst, ◌∙◌, arith}
+use Rattle.std.proofs.Common.{◌≡◌, ◌≢◌, ℕ, zero, suc, ◌+◌, ◌-◌, ◌*◌, ◌/◌, ◌%◌, ◌^◌, ◌<◌, ◌≤◌, ◌⊎◌, inl, inr, List, [], ◌∷◌, ◌++◌, length, get_or, set, take, Option, Some, None, IsSome, true, false, refl, sym, ap, subst, ◌∙◌, arith}
 use Rattle.std.proofs.lemmas.List.{get_or_read, length_push, get_or_past, take_at}
 use Rattle.std.proofs.lemmas.Bool.{cases_eq}
-use Rattle.std.proofs.lemmas.Nat.{pow_pos, div_below}
+use Rattle.std.proofs.lemmas.Nat.{pow_pos, div_below, one_shl}
+use Rattle.std.proofs.lemmas.List.FromFn.{length-range_with_len}
 use Rattle.std.specs.List.{range_with_len}
 use Rattle.std.specs.Ordering.{nat_cmp}
 use Rattle.std.specs.FinMap as map
@@ -13,7 +14,7 @@ use Rattle.small_pools.specs.Objects.{Objects, slot_place, IsHeld, HasObject, Ha
 use Rattle.small_pools.specs.Slots.{class_at, free_slots, object_at, list_of, stands_on, map_below, IsStored}
 use Rattle.small_pools.proofs.ClassFacts.{sound}
 use Rattle.small_pools.proofs.Places.{none_of, object_is, slot_within, slot_back}
-use Rattle.small_pools.proofs.Stored.{objects_of, get_held, get_out, are_objects, first_within, stored_free, stored_remove, slot_taken, slot_given, times-push_same, times-push_other, times-append, all_below}
+use Rattle.small_pools.proofs.Stored.{objects_of, get_held, get_out, are_objects, first_within, stored_free, stored_remove, stored_add, slot_taken, slot_given, times-push_same, times-push_other, times-append, all_below}
 use Rattle.small_pools.proofs.Found.{free_of_room, full_of_none, stands_before}
 
 -- how the lists change where one place moves
@@ -129,3 +130,26 @@ pub not_listed : (pages : ℕ) (classes : List (Option ℕ)) (firsts : List ℕ)
 not_listed pages classes firsts free lists f o h clear k l =
     let none : class_at classes f ≡ None = none_of _ (λ d e. absurd (elim (clear f d (get_held pages classes firsts free lists h f ∙ e)) [ inl a ↦ (let p = pow_pos (order_of d) in omega arith) | inr a ↦ (let p = pow_pos o in omega arith) ])) in
     h.listed k f (let ll = h.lists_len in omega arith) ∙ ap (λ w. stands_on (list_of w (length (free_slots free f))) k) none
+
+-- a span comes to the pools
+pub added : (pages : ℕ) (classes : List (Option ℕ)) (firsts firsts' : List ℕ) (free : List (List ℕ)) (lists lists' : Lists) (f c k cap : ℕ) (xs : List ℕ) (to : Option ℕ) → IsStored pages classes firsts free lists → c < 37 → f + 2 ^ order_of c ≤ pages
+    → ((g d : ℕ) → IsHeld (objects_of pages classes firsts free) g d → (g + 2 ^ order_of d ≤ f) ⊎ (f + 2 ^ order_of c ≤ g))
+    → length firsts' ≡ length firsts → k ≡ order_of c → k ≤ 4 → ((x : ℕ) → f ≤ x → x < f + 1 * 2 ^ k % 2 ^ 32 → get_or firsts' x 0 ≡ f) → ((x : ℕ) → (x < f) ⊎ (f + 1 * 2 ^ k % 2 ^ 32 ≤ x) → get_or firsts' x 0 ≡ get_or firsts x 0)
+    → xs ≡ range_with_len 0 cap → cap ≡ capacity_of c → to ≡ list_of (Some c) cap → IsRelisted lists lists' f to
+    → IsStored pages (set classes f (Some c)) firsts' (set free f xs) lists'
+      × (map_below (4096 * pages) (object_at (set classes f (Some c)) firsts' (set free f xs)) ≡ map_below (4096 * pages) (object_at classes firsts free))
+      × (map_below pages (class_at (set classes f (Some c))) ≡ map.insert (map_below pages (class_at classes)) f c)
+added pages classes firsts firsts' free lists lists' f c k cap xs to h small inside clear len ke k4 mine others made cape toe moved =
+    let count : 1 * 2 ^ k % 2 ^ 32 ≡ 2 ^ order_of c = one_shl k 32 (omega arith) ∙ ap (λ n. 2 ^ n) ke in
+    let ll = h.lists_len in let nl = moved.lists in
+    let whole : xs ≡ range_with_len 0 (capacity_of c) = made ∙ ap (range_with_len 0) cape in
+    let size : length (range_with_len 0 (capacity_of c)) ≡ cap = length-range_with_len 0 (capacity_of c) ∙ sym cape in
+    subst (λ l. IsStored pages (set classes f (Some c)) firsts' (set free f l) lists'
+        × (map_below (4096 * pages) (object_at (set classes f (Some c)) firsts' (set free f l)) ≡ map_below (4096 * pages) (object_at classes firsts free))
+        × (map_below pages (class_at (set classes f (Some c))) ≡ map.insert (map_below pages (class_at classes)) f c)) (sym whole)
+    (stored_add pages classes firsts firsts' free lists lists' f c h small inside
+      (λ g d e. clear g d (get_held pages classes firsts free lists h g ∙ e)) len
+      (λ x l u. mine x l (subst (λ n. x < f + n) (sym count) u))
+      (λ x o. others x (elim o [ inl a ↦ inl a | inr a ↦ inr (subst (λ n. f + n ≤ x) (sym count) a) ]))
+      moved.places moved.lists moved.others
+      (λ j l. moved.stands j (omega arith) ∙ ap (λ w. stands_on w j) (toe ∙ ap (list_of (Some c)) (sym size))))

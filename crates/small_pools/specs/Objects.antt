@@ -5,6 +5,7 @@ use Rattle.std.specs.FinMap as map
 use Rattle.std.specs.Coded.{Coded, code_by, coded×, coded_ℕ}
 use Rattle.span_lists.specs.Blocks.{Blocks}
 use Rattle.span_lists.specs.Layout.{Layout, IsOut}
+use Rattle.std.specs.Prelude.{◌⊎◌}
 use Rattle.small_pools.specs.Classes.{size_of, order_of, capacity_of}
 
 -- held: the class of each span that the pools hold, by its first page. out: the size of each object that is out, by its first byte
@@ -49,3 +50,9 @@ pub record AreObjects (s : Objects) : Type 0 where
 pub record AreHeldIn (s : Objects) (spans : Layout) : Type 0 where
   pub pages : spans.pages ≡ s.pages
   pub out : (first class : ℕ) → IsHeld s first class → IsOut spans first (order_of class)
+
+-- the pools hold what they held, or, where the class had no free object, one span more of its order
+abbrev pub HoldsFor : Objects → Objects → Layout → Layout → ℕ → Type 0
+HoldsFor old new spans spans' class =
+    ((new.held ≡ old.held) × (spans' ≡ spans))
+    ⊎ (IsUsedUp old class × ((first : ℕ) × (new.held ≡ map.insert old.held first class) × (spans'.out ≡ map.insert spans.out first (order_of class)) × (map.get old.held first ≡ None)))

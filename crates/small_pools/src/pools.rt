@@ -8,7 +8,7 @@ ghost use Rattle.place_lists.specs.Lists.{times, list_at};
 ghost use Rattle.span_lists.specs.Layout.{Divides, IsMerged, HasNone, IsOut};
 ghost use Rattle.small_pools.specs.Classes.{size_of, order_of, capacity_of};
 ghost use Rattle.small_pools.specs.Objects.{
-    Objects, slot_place, IsHeld, HasObject, HasRoom, IsUsedUp, AreObjects, AreHeldIn,
+    Objects, slot_place, IsHeld, HasObject, HasRoom, IsUsedUp, AreObjects, AreHeldIn, HoldsFor,
 };
 ghost use Rattle.small_pools.specs.Slots.{list_of, stands_on};
 
@@ -50,6 +50,71 @@ impl Model for Pools {
 }
 
 impl Pools {
+    /// Pools that hold nothing.
+    pub fn new(alloc: Global, pages: u32) -> Result<Pools, AllocError>
+        requires whole { pages % 32 ≡ 0 }
+        requires least { 1280 ≤ pages }
+        requires most { pages ≤ 65536 }
+        ensures pages { IfOk result (λ pools. pools.pages ≡ pages) }
+        ensures none_held { IfOk result (λ pools. pools.held ≡ map.empty) }
+        ensures none_out { IfOk result (λ pools. pools.out ≡ map.empty) }
+        ensures objects { IfOk result AreObjects }
+    {
+        let classes = no_classes(alloc, pages)?;
+        let firsts = zeros(alloc, pages)?;
+        let slots = no_slots(alloc, pages)?;
+        let lists = PlaceLists::new(alloc, pages, 2 * CLASSES as u32)?;
+        Ok(Pools {
+            pages,
+            classes,
+            firsts,
+            slots,
+            lists,
+        })
+    }
+
+    /// Takes an object of the class out, and answers its first byte.
+    pub fn take(&mut self, spans: &mut Spans, class: u8) -> Option<u32>
+        requires class { class < 37 }
+        requires held { AreHeldIn self.old spans.old }
+        ensures none { IsNone result ↔ (IsUsedUp self.old class × HasNone spans.old (order_of class)) }
+        ensures unchanged { IfNone result ((self.new ≡ self.old) × (spans.new ≡ spans.old)) }
+        ensures was_free { IfSome result (λ place. map.get self.old.out place ≡ None) }
+        ensures out { IfSome result (λ place. self.new.out ≡ map.insert self.old.out place (size_of class)) }
+        ensures spans { IfSome result (λ _. HoldsFor self.old self.new spans.old spans.new class) }
+        ensures held { AreHeldIn self.new spans.new }
+        ensures objects { AreObjects self.new }
+        ensures divided { Divides spans.new }
+        ensures merged { IsMerged spans.new }
+    {
+        let first = self.span_with_room(spans, class)?;
+        Some(self.pop(first, class))
+    }
+
+    /// A held span of the class with a free object, taken from the pages where the pools hold none.
+    fn span_with_room(&mut self, spans: &mut Spans, class: u8) -> Option<u32>
+        requires class { class < 37 }
+        requires held { AreHeldIn self.old spans.old }
+        ensures none { IsNone result ↔ (IsUsedUp self.old class × HasNone spans.old (order_of class)) }
+        ensures unchanged { IfNone result ((self.new ≡ self.old) × (spans.new ≡ spans.old)) }
+        ensures found { IfSome result (λ first. IsHeld self.new first class) }
+        ensures room { IfSome result (λ first. HasRoom self.new first class) }
+        ensures out { self.new.out ≡ self.old.out }
+        ensures spans { IfSome result (λ _. HoldsFor self.old self.new spans.old spans.new class) }
+        ensures held { AreHeldIn self.new spans.new }
+        ensures objects { AreObjects self.new }
+        ensures divided { Divides spans.new }
+        ensures merged { IsMerged spans.new }
+    {
+        if let Some(first) = self.find(class) {
+            let _known = spans.largest();
+            return Some(first);
+        }
+        let first = spans.take(class_order(class))?;
+        self.add(first, class);
+        Some(first)
+    }
+
     /// A held span of the class with a free object: one with an object out before one without.
     fn find(&self, class: u8) -> Option<u32>
         requires { class < 37 }
@@ -115,6 +180,7 @@ impl Pools {
         requires inside { first + 2 ^ order_of class ≤ self.old.pages }
         requires clear { (other held : ℕ) → IsHeld self.old other held → (other + 2 ^ order_of held ≤ first) ⊎ (first + 2 ^ order_of class ≤ other) }
         ensures moves { self.new ≡ record self.old { held = map.insert self.old.held first class } }
+        ensures room { HasRoom self.new first class }
         ensures objects { AreObjects self.new }
     {
         let capacity = class_capacity(class);
@@ -209,4 +275,30 @@ fn own(firsts: &mut [u32], first: u32, count: u32)
     for page in first..first + count {
         firsts[page as usize] = first;
     }
+}
+
+fn no_classes(alloc: Global, pages: u32) -> Result<Vec<Option<u8>>, AllocError>
+    ensures { IfOk result (λ classes. classes.items ≡ replicate pages None) }
+{
+    let mut classes = Vec::with_capacity(alloc, pages as usize)?;
+    for _ in 0..pages {
+        classes.push(None)?;
+    }
+    Ok(classes)
+}
+
+fn zeros(alloc: Global, pages: u32) -> Result<Vec<u32>, AllocError>
+    ensures { IfOk result (λ firsts. firsts.items ≡ replicate pages 0) }
+{
+    vec![in alloc; 0; pages as usize]
+}
+
+fn no_slots(alloc: Global, pages: u32) -> Result<Vec<FreeSlots>, AllocError>
+    ensures { IfOk result (λ slots. slots.items ≡ replicate pages []) }
+{
+    let mut slots = Vec::with_capacity(alloc, pages as usize)?;
+    for _ in 0..pages {
+        slots.push(FreeSlots::new())?;
+    }
+    Ok(slots)
 }
