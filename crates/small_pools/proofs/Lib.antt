@@ -6,3 +6,4 @@ pub mod Found
 pub mod Lists
 pub mod Steps
 pub mod Fresh
+pub mod Trimmed

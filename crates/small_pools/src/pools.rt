@@ -8,7 +8,7 @@ ghost use Rattle.place_lists.specs.Lists.{times, list_at};
 ghost use Rattle.span_lists.specs.Layout.{Divides, IsMerged, HasNone, IsOut};
 ghost use Rattle.small_pools.specs.Classes.{size_of, order_of, capacity_of};
 ghost use Rattle.small_pools.specs.Objects.{
-    Objects, slot_place, IsHeld, HasObject, HasRoom, IsUsedUp, AreObjects, AreHeldIn, HoldsFor,
+    Objects, slot_place, IsHeld, HasObject, HasRoom, IsUsedUp, AreObjects, AreHeldIn, HoldsFor, Trims, IsTrim,
 };
 ghost use Rattle.small_pools.specs.Slots.{list_of, stands_on};
 
@@ -89,6 +89,43 @@ impl Pools {
     {
         let first = self.span_with_room(spans, class)?;
         Some(self.pop(first, class))
+    }
+
+    /// Gives each span back to the pages that has no object out.
+    pub fn trim(&mut self, spans: &mut Spans)
+        requires { AreHeldIn self.old spans.old }
+        ensures used { (first class : ℕ) → IsHeld self.new first class → HasObject self.new first class }
+        ensures trims { Trims self.old self.new spans.old spans.new }
+        ensures held { AreHeldIn self.new spans.new }
+        ensures objects { AreObjects self.new }
+        ensures divided { Divides spans.new }
+        ensures merged { IsMerged spans.new }
+    {
+        let _open = &self.lists;
+        let _known = spans.largest();
+        for class in 0..CLASSES {
+            self.trim_class(spans, class);
+        }
+    }
+
+    /// Gives each span of the class back to the pages that has no object out.
+    fn trim_class(&mut self, spans: &mut Spans, class: u8)
+        requires class { class < 37 }
+        requires held { AreHeldIn self.old spans.old }
+        requires objects { AreObjects self.old }
+        requires divided { Divides spans.old }
+        requires merged { IsMerged spans.old }
+        ensures used { IsTrim self.new class }
+        ensures trims { Trims self.old self.new spans.old spans.new }
+        ensures held { AreHeldIn self.new spans.new }
+        ensures objects { AreObjects self.new }
+        ensures divided { Divides spans.new }
+        ensures merged { IsMerged spans.new }
+    {
+        while let Some(first) = self.first_empty(class) {
+            self.remove(first, class);
+            spans.put(first, class_order(class));
+        }
     }
 
     /// A held span of the class with a free object, taken from the pages where the pools hold none.
@@ -302,3 +339,6 @@ fn no_slots(alloc: Global, pages: u32) -> Result<Vec<FreeSlots>, AllocError>
     }
     Ok(slots)
 }
+
+#[cfg(test)]
+mod tests;
