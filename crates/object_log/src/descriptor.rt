@@ -4,7 +4,7 @@ ghost use Rattle.object_log.specs.Objects.{descriptor_at, told, objects, IsSize,
 use byteorder::{ByteOrder, LittleEndian};
 
 /// The 8 bytes in front of an object's content.
-#[derive(Debug, Drop)]
+#[derive(Clone, Copy, Debug)]
 pub struct Descriptor {
     /// 0 is the end, 1 a live object, 2 a dead one.
     pub state: u8,
