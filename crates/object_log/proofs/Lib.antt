@@ -1,3 +1,4 @@
 pub mod Appending
 pub mod Killing
 pub mod Reading
+pub mod Writing

@@ -6,7 +6,7 @@ use Rattle.std.proofs.lemmas.List.Elements.{All-cons}
 use Rattle.std.proofs.lemmas.Bool.{lt-ltb, le-ltb}
 use Rattle.std.proofs.lemmas.List.{get_or-drop}
 use Rattle.byteorder.specs.Endian.{little_number}
-use Rattle.object_log.specs.Objects.{Object, object_at, objects_from, objects, IsObject, AreObjects, StandsAt, offsets}
+use Rattle.object_log.specs.Objects.{Object, object_at, objects_from, objects, IsObject, AreObjects, IsSize, StandsAt, offsets}
 
 -- objects end where they end, and each has its descriptor before that
 pub objects-below : (bytes : List ℕ) (at used : ℕ) (os : List Object) → AreObjects bytes at used os → at ≤ used
@@ -137,4 +137,17 @@ content-kept a used at size xs ys (o ∷ os) h stands same =
             (h.1.0, h.1.1, front (o.at + 2) (omega (arith, here)) (omega (arith, here)) ∙ h.1.2, front (o.at + 3) (omega (arith, here)) (omega (arith, here)) ∙ h.1.3, h.1.4),
             content-kept (a + o.size) used at size xs ys os h.2 more same,
           )
+    ]
+
+-- an object that stands somewhere has its size there, and ends in time
+pub stands-fits : (bytes : List ℕ) (a used at : ℕ) (os : List Object) → AreObjects bytes a used os → StandsAt at os → IsSize (object_at bytes at).size × (at + (object_at bytes at).size ≤ used)
+stands-fits bytes a used at [] h stands = any-none (λ (o : Object). o.at ≡ at) stands
+stands-fits bytes a used at (o ∷ os) h stands =
+    let here : o.at ≡ a = ap (λ p. p.at) h.0 in
+    elim (any-cases (λ (p : Object). p.at ≡ at) o os stands) [
+      | inl e ↦
+          let it : a ≡ at = sym here ∙ e in
+          let size : o.size ≡ (object_at bytes at).size = ap (λ p. p.size) (subst (λ k. o ≡ object_at bytes k) it h.0) in
+          (subst IsSize size h.1.4, omega (arith, size, it, objects-below bytes (a + o.size) used os h.2))
+      | inr more ↦ stands-fits bytes (a + o.size) used at os h.2 more
     ]

@@ -2,8 +2,8 @@ use Rattle.std.proofs.Common.{◌≡◌, ℕ, arith, ◌⊎◌, inl, inr, List, 
 use Rattle.std.specs.Prelude.{All, slice_index}
 use Rattle.std.proofs.lemmas.List.{get_or-drop, get_or-take}
 use Rattle.object_log.specs.declared.descriptor.Descriptor.{Descriptor}
-use Rattle.object_log.specs.Objects.{Object, told, objects, IsSegment, StandsAt}
-use Rattle.object_log.proofs.Reading.{stands-within, objects-told}
+use Rattle.object_log.specs.Objects.{Object, told, objects, IsSize, IsSegment, StandsAt}
+use Rattle.object_log.proofs.Reading.{stands-within, stands-fits, objects-told}
 use Rattle.object_log.proofs.descriptor.read_descriptor.Goals as goal
 
 -- the descriptor lies in the segment
@@ -27,3 +27,8 @@ returns-clause-end c s =
     let first : slice_index bytes at ≡ slice_index (take 8 (drop at bytes)) 0 =
     ap (slice_index bytes) (omega arith) ∙ sym (get_or-drop at bytes 0 0) ∙ sym (get_or-take 8 (drop at bytes) 0 0 (omega arith)) in
     ap (λ (d : Descriptor). d.state) c.descriptor_in.ensures ∙ first ∙ ap (λ xs. slice_index xs 0) ends
+
+pub returns-clause-fits : goal.returns-clause-fits
+returns-clause-fits c used s stands =
+    let at = c.args.at in let bytes = c.args.segment.now in
+    subst (λ (d : Descriptor). IsSize d.size × (at + d.size ≤ used)) (sym c.descriptor_in.ensures) (stands-fits bytes 0 used at (objects bytes used) s.whole stands)
