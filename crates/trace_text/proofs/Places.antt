@@ -38,5 +38,5 @@ value-most value is = leb-true _ _ (and_parts _ _ is).0
 pub well_formed : (bytes : List ℕ) (commands : List Command) → All (LiesWithin bytes) commands → All IsWellFormed (operations bytes commands)
 well_formed bytes commands lie =
     All-map IsWellFormed (operation bytes) commands (λ k d within.
-      let lies : LiesWithin bytes (get_or commands k d) = lie k d within in
-      record { key = lies.is_key; value = lies.is_value; kind = lies.kind })
+    let lies : LiesWithin bytes (get_or commands k d) = lie k d within in
+    record { key = lies.is_key; value = lies.is_value; kind = lies.kind })

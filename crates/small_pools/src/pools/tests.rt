@@ -44,7 +44,13 @@ fn give_all(pools: &mut Pools, taken: &mut VecDeque<u32>)
 
 #[test]
 fn the_least_class_holds_the_size(rt: HostRuntime) -> Result<(), Fail> {
-    for (size, class) in [(0, Some(0)), (32, Some(0)), (33, Some(1)), (16384, Some(36)), (16385, None)] {
+    for (size, class) in [
+        (0, Some(0)),
+        (32, Some(0)),
+        (33, Some(1)),
+        (16384, Some(36)),
+        (16385, None),
+    ] {
         assert_eq!(rt; class_of(size), class);
     }
     Ok(())
