@@ -33,8 +33,12 @@ sound c h =
     let p0 = both _ _ (agree_below_at is_sound (λ _. true) 37 c all_sound h) in
     let p1 = both _ _ p0.1 in let p2 = both _ _ p1.1 in let p3 = both _ _ p2.1 in let p4 = both _ _ p3.1 in
     record {
-      size_least = le_of _ _ p0.0; size_most = le_of _ _ p1.0; order_most = le_of _ _ p2.0;
-      capacity_least = le_of _ _ p3.0; capacity_most = le_of _ _ p4.0; fits = le_of _ _ p4.1;
+      size_least = le_of _ _ p0.0;
+      size_most = le_of _ _ p1.0;
+      order_most = le_of _ _ p2.0;
+      capacity_least = le_of _ _ p3.0;
+      capacity_most = le_of _ _ p4.0;
+      fits = le_of _ _ p4.1;
     }
 
 pub greatest_size : size_of 36 ≡ 16384

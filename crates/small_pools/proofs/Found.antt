@@ -39,26 +39,27 @@ list_cases c n =
     elim (eqb_tells n 0) [
       | inl e ↦ inl (e.1, ap (λ x. cond x None rest) e.0)
       | inr e ↦ inr (elim (eqb_tells n (capacity_of c)) [
-          | inl f ↦ inl (e.1, f.1, ap (λ x. cond x None rest) e.0 ∙ ap (λ x. cond x (Some (2 * c + 1)) (Some (2 * c))) f.0)
-          | inr f ↦ inr (e.1, f.1, ap (λ x. cond x None rest) e.0 ∙ ap (λ x. cond x (Some (2 * c + 1)) (Some (2 * c))) f.0) ])
+        | inl f ↦ inl (e.1, f.1, ap (λ x. cond x None rest) e.0 ∙ ap (λ x. cond x (Some (2 * c + 1)) (Some (2 * c))) f.0)
+        | inr f ↦ inr (e.1, f.1, ap (λ x. cond x None rest) e.0 ∙ ap (λ x. cond x (Some (2 * c + 1)) (Some (2 * c))) f.0)
+      ])
     ]
 
 -- a span on the list of a class is of it, and by the list it has no object out or some
 on_partly : (o : Option ℕ) (n c : ℕ) → list_of o n ≡ Some (2 * c) → (o ≡ Some c) × (n ≢ 0) × (n ≢ capacity_of c)
 on_partly None n c e = absurd (let clash : None ≡ Some (2 * c) = e in cc)
 on_partly (Some d) n c e = elim (list_cases d n) [
-      | inl p ↦ absurd (let clash : None ≡ Some (2 * c) = sym p.1 ∙ e in cc)
-      | inr (inl p) ↦ absurd (let same : 2 * d + 1 ≡ 2 * c = some_is p.2 e in omega arith)
-      | inr (inr p) ↦ (let same : 2 * d ≡ 2 * c = some_is p.2 e in let dc : d ≡ c = omega arith in (ap (λ z. Some z) dc, p.0, subst (λ z. n ≢ capacity_of z) dc p.1))
-    ]
+  | inl p ↦ absurd (let clash : None ≡ Some (2 * c) = sym p.1 ∙ e in cc)
+  | inr (inl p) ↦ absurd (let same : 2 * d + 1 ≡ 2 * c = some_is p.2 e in omega arith)
+  | inr (inr p) ↦ (let same : 2 * d ≡ 2 * c = some_is p.2 e in let dc : d ≡ c = omega arith in (ap (λ z. Some z) dc, p.0, subst (λ z. n ≢ capacity_of z) dc p.1))
+]
 
 on_empty : (o : Option ℕ) (n c : ℕ) → list_of o n ≡ Some (2 * c + 1) → (o ≡ Some c) × (n ≡ capacity_of c)
 on_empty None n c e = absurd (let clash : None ≡ Some (2 * c + 1) = e in cc)
 on_empty (Some d) n c e = elim (list_cases d n) [
-      | inl p ↦ absurd (let clash : None ≡ Some (2 * c + 1) = sym p.1 ∙ e in cc)
-      | inr (inl p) ↦ (let same : 2 * d + 1 ≡ 2 * c + 1 = some_is p.2 e in let dc : d ≡ c = omega arith in (ap (λ z. Some z) dc, p.1 ∙ ap capacity_of dc))
-      | inr (inr p) ↦ absurd (let same : 2 * d ≡ 2 * c + 1 = some_is p.2 e in omega arith)
-    ]
+  | inl p ↦ absurd (let clash : None ≡ Some (2 * c + 1) = sym p.1 ∙ e in cc)
+  | inr (inl p) ↦ (let same : 2 * d + 1 ≡ 2 * c + 1 = some_is p.2 e in let dc : d ≡ c = omega arith in (ap (λ z. Some z) dc, p.1 ∙ ap capacity_of dc))
+  | inr (inr p) ↦ absurd (let same : 2 * d ≡ 2 * c + 1 = some_is p.2 e in omega arith)
+]
 
 held_of_front : (xs : List ℕ) (x : ℕ) → slice_get xs 0 ≡ Some x → 1 ≤ times x xs
 held_of_front [] x e = absurd (let clash : None ≡ Some x = e in cc)
@@ -99,10 +100,12 @@ no_object pages classes firsts free lists f c h e n object =
 search_slots : (n : ℕ) (xs : List ℕ) → ((x : ℕ) → x < n → 1 ≤ times x xs) ⊎ ((x : ℕ) × (x < n) × (times x xs ≡ 0))
 search_slots zero xs = inl (λ x h. absurd (omega arith))
 search_slots (suc n) xs = elim (search_slots n xs) [
-      | inr p ↦ (let l = p.1 in inr (p.0, omega arith, p.2))
-      | inl all ↦ elim (cases_eq (times n xs) 0) [
-          | inl e ↦ inr (n, omega arith, e)
-          | inr d ↦ inl (λ x h. elim (cases_eq x n) [ inl e ↦ subst (λ z. 1 ≤ times z xs) (sym e) (omega arith) | inr q ↦ all x (omega arith) ]) ] ]
+  | inr p ↦ (let l = p.1 in inr (p.0, omega arith, p.2))
+  | inl all ↦ elim (cases_eq (times n xs) 0) [
+    | inl e ↦ inr (n, omega arith, e)
+    | inr d ↦ inl (λ x h. elim (cases_eq x n) [ inl e ↦ subst (λ z. 1 ≤ times z xs) (sym e) (omega arith) | inr q ↦ all x (omega arith) ])
+  ]
+]
 
 long_enough : (n : ℕ) (xs : List ℕ) → ((x : ℕ) → x < n → 1 ≤ times x xs) → n ≤ length xs
 long_enough zero xs all = omega arith

@@ -26,11 +26,12 @@ removed_gone old new k x e stands inside j h =
 
 pub removed_others : (old new : Lists) (k x : ℕ) → new ≡ with_list old k (without x (list_at old k)) → (j z : ℕ) → z ≢ x → times z (list_at new j) ≡ times z (list_at old j)
 removed_others old new k x e j z n = elim (cases_eq j k) [
-      | inl jk ↦ (elim (below_or k (length old.lists)) [
-          | inl inside ↦ ap (times z) (at_list old new k j _ e ∙ ap (λ w. get_or (set old.lists k (without x (list_at old k))) w []) jk ∙ get_or-set_same old.lists k _ [] inside) ∙ times-without_other z x (list_at old k) n ∙ ap (λ w. times z (list_at old w)) (sym jk)
-          | inr past ↦ ap (times z) (at_list old new k j _ e ∙ ap (λ l. get_or l j []) (set_past old.lists k _ past)) ])
-      | inr d ↦ ap (times z) (at_list old new k j _ e ∙ get_or-set_other old.lists k j _ [] d)
-    ]
+  | inl jk ↦ (elim (below_or k (length old.lists)) [
+    | inl inside ↦ ap (times z) (at_list old new k j _ e ∙ ap (λ w. get_or (set old.lists k (without x (list_at old k))) w []) jk ∙ get_or-set_same old.lists k _ [] inside) ∙ times-without_other z x (list_at old k) n ∙ ap (λ w. times z (list_at old w)) (sym jk)
+    | inr past ↦ ap (times z) (at_list old new k j _ e ∙ ap (λ l. get_or l j []) (set_past old.lists k _ past))
+  ])
+  | inr d ↦ ap (times z) (at_list old new k j _ e ∙ get_or-set_other old.lists k j _ [] d)
+]
   where
     below_or : (a b : ℕ) → (a < b) ⊎ (b ≤ a)
     below_or a b = grind arith

@@ -26,9 +26,9 @@ pub get_below : (n : ℕ) (f : ℕ → Option ℕ) (q : ℕ) → q < n → map.g
 unfolding map_below
 get_below zero f q h = absurd (omega arith)
 get_below (suc n) f q h = elim (cases_eq q n) [
-      | inl e ↦ ap (map.get (with_entry (map_below n f) n (f n))) e ∙ get-with_entry_same (map_below n f) n (f n) (get_beyond n f n (omega arith)) ∙ ap f (sym e)
-      | inr d ↦ get-with_entry_other (map_below n f) n q (f n) d ∙ get_below n f q (omega arith)
-    ]
+  | inl e ↦ ap (map.get (with_entry (map_below n f) n (f n))) e ∙ get-with_entry_same (map_below n f) n (f n) (get_beyond n f n (omega arith)) ∙ ap f (sym e)
+  | inr d ↦ get-with_entry_other (map_below n f) n q (f n) d ∙ get_below n f q (omega arith)
+]
 
 -- a function that has nothing from the number on is its map
 pub get-map_below : (n : ℕ) (f : ℕ → Option ℕ) → ((q : ℕ) → n ≤ q → f q ≡ None) → (q : ℕ) → map.get (map_below n f) q ≡ f q
@@ -39,10 +39,12 @@ same_below n f g same = maps_same _ _ (λ q. elim (below_or q n) [ inl l ↦ get
 
 pub insert_below : (n : ℕ) (f g : ℕ → Option ℕ) (k v : ℕ) → k < n → g k ≡ Some v → ((q : ℕ) → q ≢ k → g q ≡ f q) → map_below n g ≡ map.insert (map_below n f) k v
 insert_below n f g k v inside here others = maps_same _ _ (λ q. elim (cases_eq q k) [
-      | inl e ↦ get_below n g q (omega arith) ∙ ap g e ∙ here ∙ sym (get_inserted (map_below n f) k v q e)
-      | inr d ↦ (elim (below_or q n) [ inl l ↦ get_below n g q l ∙ others q d ∙ sym (get_below n f q l) | inr h ↦ get_beyond n g q h ∙ sym (get_beyond n f q h) ]) ∙ sym (get_past_insert (map_below n f) k v q d) ])
+  | inl e ↦ get_below n g q (omega arith) ∙ ap g e ∙ here ∙ sym (get_inserted (map_below n f) k v q e)
+  | inr d ↦ (elim (below_or q n) [ inl l ↦ get_below n g q l ∙ others q d ∙ sym (get_below n f q l) | inr h ↦ get_beyond n g q h ∙ sym (get_beyond n f q h) ]) ∙ sym (get_past_insert (map_below n f) k v q d)
+])
 
 pub remove_below : (n : ℕ) (f g : ℕ → Option ℕ) (k : ℕ) → k < n → g k ≡ None → ((q : ℕ) → q ≢ k → g q ≡ f q) → map_below n g ≡ map.remove (map_below n f) k
 remove_below n f g k inside here others = maps_same _ _ (λ q. elim (cases_eq q k) [
-      | inl e ↦ get_below n g q (omega arith) ∙ ap g e ∙ here ∙ sym (get_removed (map_below n f) k q e)
-      | inr d ↦ (elim (below_or q n) [ inl l ↦ get_below n g q l ∙ others q d ∙ sym (get_below n f q l) | inr h ↦ get_beyond n g q h ∙ sym (get_beyond n f q h) ]) ∙ sym (get_past_remove (map_below n f) k q d) ])
+  | inl e ↦ get_below n g q (omega arith) ∙ ap g e ∙ here ∙ sym (get_removed (map_below n f) k q e)
+  | inr d ↦ (elim (below_or q n) [ inl l ↦ get_below n g q l ∙ others q d ∙ sym (get_below n f q l) | inr h ↦ get_beyond n g q h ∙ sym (get_beyond n f q h) ]) ∙ sym (get_past_remove (map_below n f) k q d)
+])

@@ -70,9 +70,9 @@ object_hit pages classes firsts free lists first class slot h e s none =
     let back = slot_back first class slot c in
     ap (λ f. object_in free p f (class_at classes f)) owner ∙ ap (object_in free p first) e
     ∙ all_three _ _ _ (size_of class)
-        (eqb_same _ _ (ap (λ n. slot_place first class n) back))
-        (ltb_same _ _ (subst (λ n. n < capacity_of class) (sym back) s))
-        (eqb_same _ _ (ap (λ n. times n (free_slots free first)) back ∙ none))
+    (eqb_same _ _ (ap (λ n. slot_place first class n) back))
+    (ltb_same _ _ (subst (λ n. n < capacity_of class) (sym back) s))
+    (eqb_same _ _ (ap (λ n. times n (free_slots free first)) back ∙ none))
 
 object_in_is : (free : List (List ℕ)) (place first n : ℕ) (o : Option ℕ) → object_in free place first o ≡ Some n → (class : ℕ) × (slot : ℕ) × (o ≡ Some class) × (slot < capacity_of class) × (place ≡ slot_place first class slot) × (times slot (free_slots free first) ≡ 0) × (n ≡ size_of class)
 object_in_is free place first n None e = absurd (let clash : None ≡ Some n = e in cc)

@@ -37,13 +37,14 @@ inside_of s old new f c held e same divided =
 
 pub held_more : (s t : Objects) (old new : Layout) (f c : ℕ) → AreHeldIn s old → map.get old.out f ≡ None → new.out ≡ map.insert old.out f (order_of c) → new.pages ≡ old.pages → t ≡ record s { held = map.insert s.held f c } → AreHeldIn t new
 held_more s t old new f c held free e same te = record {
-    pages = same ∙ held.pages ∙ sym (ap (λ (o : Objects). o.pages) te);
-    out = λ g d h.
+  pages = same ∙ held.pages ∙ sym (ap (λ (o : Objects). o.pages) te);
+  out = λ g d h.
       (let h' : map.get (map.insert s.held f c) g ≡ Some d = sym (ap (λ (o : Objects). map.get o.held g) te) ∙ h in
       elim (cases_eq g f) [
         | inl q ↦ (let cd : c ≡ d = some_is (get_inserted s.held f c g q) h' in ap (λ m. map.get m g) e ∙ get_inserted old.out f (order_of c) g q ∙ ap (λ z. Some (order_of z)) cd)
-        | inr n ↦ ap (λ m. map.get m g) e ∙ get_past_insert old.out f (order_of c) g n ∙ held.out g d (sym (get_past_insert s.held f c g n) ∙ h') ]);
-  }
+        | inr n ↦ ap (λ m. map.get m g) e ∙ get_past_insert old.out f (order_of c) g n ∙ held.out g d (sym (get_past_insert s.held f c g n) ∙ h')
+      ]);
+}
 
 pub free_before : (s : Objects) (old : Layout) (f : ℕ) → AreHeldIn s old → map.get old.out f ≡ None → map.get s.held f ≡ None
 free_before s old f held free = go (map.get s.held f) refl
@@ -69,42 +70,47 @@ trims_more old mid new s s1 s2 f c h held empty e se =
       out = ap (λ (o : Objects). o.out) e ∙ h.out;
       kept = λ g d q. elim (cases_eq g f) [
         | inl gf ↦ (let clash : None ≡ Some d = sym (get_removed mid.held f g gf) ∙ sym (held_is g) ∙ q in cc)
-        | inr n ↦ h.kept g d (sym (get_past_remove mid.held f g n) ∙ sym (held_is g) ∙ q) ];
+        | inr n ↦ h.kept g d (sym (get_past_remove mid.held f g n) ∙ sym (held_is g) ∙ q)
+      ];
       left = λ g d q object. elim (cases_eq g f) [
         | inl gf ↦ absurd (let dc : d ≡ c = some_is (h.left g d q object) (ap (map.get mid.held) gf ∙ held) in
             empty (same_objects old mid f c h.out (subst (λ z. HasObject old z c) gf (subst (λ z. HasObject old g z) dc object))))
-        | inr n ↦ held_is g ∙ get_past_remove mid.held f g n ∙ h.left g d q object ];
+        | inr n ↦ held_is g ∙ get_past_remove mid.held f g n ∙ h.left g d q object
+      ];
       given = λ g d q none. elim (cases_eq g f) [
         | inl gf ↦ out_is g ∙ get_removed s1.out f g gf
-        | inr n ↦ out_is g ∙ get_past_remove s1.out f g n ∙ h.given g d q (sym (get_past_remove mid.held f g n) ∙ sym (held_is g) ∙ none) ];
+        | inr n ↦ out_is g ∙ get_past_remove s1.out f g n ∙ h.given g d q (sym (get_past_remove mid.held f g n) ∙ sym (held_is g) ∙ none)
+      ];
       others = λ g none. out_is g ∙ get_past_remove s1.out f g (λ gf. (let clash : Some c ≡ None = sym (h.kept f c held) ∙ ap (map.get old.held) (sym gf) ∙ none in cc)) ∙ h.others g none;
     }
 
 pub trims_twice : (a b c : Objects) (s t u : Layout) → Trims a b s t → AreHeldIn b t → Trims b c t u → Trims a c s u
 trims_twice a b c s t u p held q = record {
-    pages = q.pages ∙ p.pages;
-    out = q.out ∙ p.out;
-    kept = λ f d h. p.kept f d (q.kept f d h);
-    left = λ f d h object. q.left f d (p.left f d h object) (same_objects a b f d p.out object);
-    given = λ f d h none. go f d h none (map.get b.held f) refl;
-    others = λ f none. q.others f (none_held f none (map.get b.held f) refl) ∙ p.others f none;
-  }
+  pages = q.pages ∙ p.pages;
+  out = q.out ∙ p.out;
+  kept = λ f d h. p.kept f d (q.kept f d h);
+  left = λ f d h object. q.left f d (p.left f d h object) (same_objects a b f d p.out object);
+  given = λ f d h none. go f d h none (map.get b.held f) refl;
+  others = λ f none. q.others f (none_held f none (map.get b.held f) refl) ∙ p.others f none;
+}
   where
     go : (f d : ℕ) → IsHeld a f d → map.get c.held f ≡ None → (o : Option ℕ) → map.get b.held f ≡ o → map.get u.out f ≡ None
     go f d h none None e = q.others f e ∙ p.given f d h e
     go f d h none (Some k) e = q.given f k e none
+
     none_held : (f : ℕ) → map.get a.held f ≡ None → (o : Option ℕ) → map.get b.held f ≡ o → map.get b.held f ≡ None
     none_held f none None e = e
     none_held f none (Some k) e = (let clash : Some k ≡ None = sym (p.kept f k e) ∙ none in cc)
 
 pub held_less : (mid new : Objects) (s1 s2 : Layout) (f : ℕ) → AreHeldIn mid s1 → new ≡ record mid { held = map.remove mid.held f } → s2.out ≡ map.remove s1.out f → s2.pages ≡ s1.pages → AreHeldIn new s2
 held_less mid new s1 s2 f held e se same = record {
-    pages = same ∙ held.pages ∙ sym (ap (λ (o : Objects). o.pages) e);
-    out = λ g d q. (let q' : map.get (map.remove mid.held f) g ≡ Some d = sym (ap (λ (o : Objects). map.get o.held g) e) ∙ q in
+  pages = same ∙ held.pages ∙ sym (ap (λ (o : Objects). o.pages) e);
+  out = λ g d q. (let q' : map.get (map.remove mid.held f) g ≡ Some d = sym (ap (λ (o : Objects). map.get o.held g) e) ∙ q in
       elim (cases_eq g f) [
         | inl gf ↦ (let clash : None ≡ Some d = sym (get_removed mid.held f g gf) ∙ q' in cc)
-        | inr n ↦ ap (λ m. map.get m g) se ∙ get_past_remove s1.out f g n ∙ held.out g d (sym (get_past_remove mid.held f g n) ∙ q') ]);
-  }
+        | inr n ↦ ap (λ m. map.get m g) se ∙ get_past_remove s1.out f g n ∙ held.out g d (sym (get_past_remove mid.held f g n) ∙ q')
+      ]);
+}
 
 pub fewer_held : (mid new : Objects) (f c : ℕ) → IsHeld mid f c → new ≡ record mid { held = map.remove mid.held f } → map.len new.held < map.len mid.held
 fewer_held mid new f c held e =

@@ -1,6 +1,27 @@
 ghost use Rattle.std.specs.Prelude.{
-    ◌≡◌, ◌⊎◌, ℕ, ◌+◌, ◌*◌, ◌%◌, ◌<◌, ◌≤◌, ◌≢◌, ◌^◌, ◌↔◌, [], List, length, slice_index, replicate, IfOk, IfSome, IfNone, IsNone,
-    IsSome, Some, None,
+  ◌≡◌,
+  ◌⊎◌,
+  ℕ,
+  ◌+◌,
+  ◌*◌,
+  ◌%◌,
+  ◌<◌,
+  ◌≤◌,
+  ◌≢◌,
+  ◌^◌,
+  ◌↔◌,
+  [],
+  List,
+  length,
+  slice_index,
+  replicate,
+  IfOk,
+  IfSome,
+  IfNone,
+  IsNone,
+  IsSome,
+  Some,
+  None,
 };
 ghost use Rattle.std.specs.Ordering.{nat_cmp};
 ghost use Rattle.std.specs.FinMap as map;
@@ -8,7 +29,17 @@ ghost use Rattle.place_lists.specs.Lists.{times, list_at};
 ghost use Rattle.span_lists.specs.Layout.{Divides, IsMerged, HasNone, IsOut};
 ghost use Rattle.small_pools.specs.Classes.{size_of, order_of, capacity_of};
 ghost use Rattle.small_pools.specs.Objects.{
-    Objects, slot_place, IsHeld, HasObject, HasRoom, IsUsedUp, AreObjects, AreHeldIn, HoldsFor, Trims, IsTrim,
+  Objects,
+  slot_place,
+  IsHeld,
+  HasObject,
+  HasRoom,
+  IsUsedUp,
+  AreObjects,
+  AreHeldIn,
+  HoldsFor,
+  Trims,
+  IsTrim,
 };
 ghost use Rattle.small_pools.specs.Slots.{list_of, stands_on};
 
@@ -189,7 +220,12 @@ impl Pools {
         let slots = &mut self.slots[first as usize];
         let before = slots.len();
         let slot = slots.pop();
-        relist(&mut self.lists, first, list_for(class, before), list_for(class, before - 1));
+        relist(
+            &mut self.lists,
+            first,
+            list_for(class, before),
+            list_for(class, before - 1),
+        );
         PAGE * first + slot as u32 * class_size(class)
     }
 
@@ -207,7 +243,12 @@ impl Pools {
             let slots = &mut self.slots[first as usize];
             let before = slots.len();
             slots.push(slot as u8);
-            relist(&mut self.lists, first, list_for(class, before), list_for(class, before + 1));
+            relist(
+                &mut self.lists,
+                first,
+                list_for(class, before),
+                list_for(class, before + 1),
+            );
         }
     }
 

@@ -10,10 +10,13 @@ loop-class-preserved c =
     let more = c.loop-class-test.true in
     let last = greatest_size in
     let below = c.loop-class.invariant.0 in
-    let most = c.if-size-gt16384.false in
-    ((elim (cases_eq c.loop-class.class 36) [
+    let most = c.if-size-gt16384.false in (
+      (elim (cases_eq c.loop-class.class 36) [
         | inl e ↦ absurd (let s = ap size_of e in omega arith)
-        | inr n ↦ omega arith ]),
-     λ smaller h. elim (cases_eq smaller c.loop-class.class) [
+        | inr n ↦ omega arith
+      ]),
+      λ smaller h. elim (cases_eq smaller c.loop-class.class) [
         | inl e ↦ subst (λ z. size_of z < c.args.size) (sym e) (omega arith)
-        | inr n ↦ c.loop-class.invariant.1 smaller (omega arith) ])
+        | inr n ↦ c.loop-class.invariant.1 smaller (omega arith)
+      ],
+    )

@@ -36,7 +36,6 @@ returns-clause-moves c =
 pub returns-clause-objects : goal.returns-clause-objects
 returns-clause-objects c = are_objects _ _ _ _ _ (invariant_of-self c)
 
-
 pub returns-clause-room : goal.returns-clause-room
 returns-clause-room c =
     let stored = (added c.self.inside.pages c.self.inside.classes.items c.self.inside.firsts.items c.own.new.firsts c.self.inside.slots.items c.self.inside.lists c.relist.new.lists c.args.first c.args.class c.class_order.result c.class_capacity-capacity.result c.below.result c.list_for.result c.self.invariant c.requires.class (subst (λ (s : Objects). c.args.first + 2 ^ order_of c.args.class ≤ s.pages) (sym c.self.view_is) c.requires.inside) (subst (λ (s : Objects). (g d : ℕ) → IsHeld s g d → (g + 2 ^ order_of d ≤ c.args.first) ⊎ (c.args.first + 2 ^ order_of c.args.class ≤ g)) (sym c.self.view_is) c.requires.clear) (let l : length c.own.new.firsts ≡ length c.self.inside.firsts.items = (let a = c.own.auto.firsts in let v = ap length c.deref_mut.ensures.value in omega arith) in l) c.class_order.ensures.value c.class_order.ensures.most c.own.ensures.mine (λ x o. c.own.ensures.others x o ∙ ap (λ l. get_or l x 0) c.deref_mut.ensures.value) c.below.ensures c.class_capacity-capacity.ensures.value c.list_for.ensures.value (let r : IsRelisted c.self.inside.lists c.relist.new.lists c.args.first c.list_for.result = record { stands = c.relist.ensures.stands; others = c.relist.ensures.others; places = c.relist.ensures.places; lists = c.relist.ensures.lists } in r)).0 in
