@@ -1,4 +1,5 @@
-ghost use Rattle.std.specs.Prelude.{◌≡◌, ◌<◌, OnOk};
+ghost use Rattle.std.specs.Prelude.{◌≡◌, ◌<◌, OnOk, IfOk};
+ghost use Rattle.std.specs.FinMap as map;
 ghost use Rattle.small_pools.specs.Objects.{AreHeldIn};
 ghost use Rattle.small_pools.specs.Given.{AreOut};
 
@@ -31,15 +32,35 @@ fn take_many(
 }
 
 // Gives back what was taken, the last one first.
-fn give_all(pools: &mut Pools, taken: &mut VecDeque<u32>)
-    requires { AreOut pools.old.out taken.old.items }
-    ensures held { pools.new.held ≡ pools.old.held }
-    ensures pages { pools.new.pages ≡ pools.old.pages }
+fn give_all(pools: &mut Pools, spans: &Spans, taken: &mut VecDeque<u32>)
+    requires held { AreHeldIn pools.old spans.now }
+    requires out { AreOut pools.old.out taken.old.items }
+    ensures held { AreHeldIn pools.new spans.now }
     ensures out { AreOut pools.new.out taken.new.items }
 {
     while let Some(place) = taken.pop_front() {
         pools.put(place);
     }
+}
+
+// Gives back the spans without an object out.
+fn trim_all(pools: &mut Pools, spans: &mut Spans, taken: &VecDeque<u32>)
+    requires held { AreHeldIn pools.old spans.old }
+    requires out { AreOut pools.old.out taken.now.items }
+    ensures held { AreHeldIn pools.new spans.new }
+    ensures out { AreOut pools.new.out taken.now.items }
+{
+    let _ = taken.len();
+    pools.trim(spans);
+}
+
+// Pools that hold nothing of pages that are all free.
+fn fresh(alloc: Global) -> Result<(Spans, Pools), AllocError>
+    ensures { IfOk result (λ made. AreHeldIn made.1 made.0 × (made.1.out ≡ map.empty)) }
+{
+    let spans = Spans::new(alloc, 1280)?;
+    let pools = Pools::new(alloc, 1280)?;
+    Ok((spans, pools))
 }
 
 #[test]
@@ -58,20 +79,19 @@ fn the_least_class_holds_the_size(rt: HostRuntime) -> Result<(), Fail> {
 
 #[test]
 fn a_page_holds_128_of_the_least_objects(rt: HostRuntime) -> Result<(), Fail> {
-    let mut spans = Spans::new(rt.alloc(), 1280)?;
-    let mut pools = Pools::new(rt.alloc(), 1280)?;
+    let (mut spans, mut pools) = fresh(rt.alloc())?;
     let mut taken = VecDeque::new(rt.alloc());
     assert_eq!(rt; take_many(&mut pools, &mut spans, 0, 128, &mut taken)?, 128);
     assert_eq!(rt; spans.free_pages(), 1279);
     assert_eq!(rt; take_many(&mut pools, &mut spans, 0, 1, &mut taken)?, 1);
     assert_eq!(rt; spans.free_pages(), 1278);
-    give_all(&mut pools, &mut taken);
+    give_all(&mut pools, &spans, &mut taken);
     assert_eq!(rt; spans.free_pages(), 1278);
     assert_eq!(rt; take_many(&mut pools, &mut spans, 0, 1, &mut taken)?, 1);
-    pools.trim(&mut spans);
+    trim_all(&mut pools, &mut spans, &taken);
     assert_eq!(rt; spans.free_pages(), 1279);
-    give_all(&mut pools, &mut taken);
-    pools.trim(&mut spans);
+    give_all(&mut pools, &spans, &mut taken);
+    trim_all(&mut pools, &mut spans, &taken);
     assert_eq!(rt; spans.free_pages(), 1280);
     assert_eq!(rt; spans.largest(), Some(10));
     Ok(())
@@ -79,13 +99,12 @@ fn a_page_holds_128_of_the_least_objects(rt: HostRuntime) -> Result<(), Fail> {
 
 #[test]
 fn every_class_used_up_and_given_back_leaves_all_pages(rt: HostRuntime) -> Result<(), Fail> {
-    let mut spans = Spans::new(rt.alloc(), 1280)?;
-    let mut pools = Pools::new(rt.alloc(), 1280)?;
+    let (mut spans, mut pools) = fresh(rt.alloc())?;
     let mut taken = VecDeque::new(rt.alloc());
     for class in 0..CLASSES {
         take_many(&mut pools, &mut spans, class, 200_000, &mut taken)?;
-        give_all(&mut pools, &mut taken);
-        pools.trim(&mut spans);
+        give_all(&mut pools, &spans, &mut taken);
+        trim_all(&mut pools, &mut spans, &taken);
         assert_eq!(rt; spans.free_pages(), 1280);
     }
     Ok(())

@@ -1,0 +1,10 @@
+use Rattle.std.proofs.Common.{length}
+use Rattle.small_pools.specs.Objects.{AreHeldIn}
+use Rattle.small_pools.specs.Given.{AreOut}
+use Rattle.small_pools.proofs.pools.tests.give_all.Given as goal
+
+abbrev pub invariant-loop-place : goal.invariant-loop-place
+invariant-loop-place l = AreHeldIn l.pools l.spans × AreOut l.pools.out l.taken.items
+
+abbrev pub decreases-loop-place : goal.decreases-loop-place
+decreases-loop-place l = length l.taken.items
