@@ -1,4 +1,5 @@
 pub mod Answered
+pub mod Held
 pub mod Laid
 pub mod Said
 pub mod Sent

@@ -26,6 +26,8 @@ use trace_text::Trace;
 ///   done, or `!` and the number of the put whose row was evicted;
 /// - for each shard, `shard`, its number, and `rows`, `live`, `lent` and `back`, each with its number.
 ///
+/// Each command has a reply in the logs, and none has keys.
+///
 /// # Errors
 ///
 /// [`Failed`] where the sink failed. A front of the report was written then.
