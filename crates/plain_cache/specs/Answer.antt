@@ -14,7 +14,7 @@ abbrev pub keys_in : Option Reply → List (List ℕ)
 keys_in (Some (Keys keys)) = keys
 keys_in reply = []
 
--- the first so many, in byte order, of the keys in the replies of all shards
+-- the replies of all shards, joined in byte order and cut at the count
 abbrev pub joined_keys : List Operation → ℕ → List (List Entry) → Operation → List (List ℕ)
 joined_keys trace pages journals operation =
     take operation.count (in_order (flat_map (λ journal. keys_in (reply_at trace pages journal operation.number)) journals))

@@ -42,12 +42,12 @@ abbrev pub in_order : List (List ℕ) → List (List ℕ)
 in_order [] = []
 in_order (key ∷ keys) = put_in_order key (in_order keys)
 
--- a put adds its row in front and takes the key's old row away
+-- after a put the new row stands in front, and no other row has its key
 abbrev pub put : List ℕ → List ℕ → ℕ → List Row → List Row × Reply
 put key value number cache =
     (record { key = key; value = value; number = number } ∷ without key cache, if has key cache then Replaced else Stored)
 
--- a get brings its row to the front
+-- after a get its row stands in front, where there is one
 abbrev pub get_where : Option Row → List ℕ → List Row → List Row × Reply
 get_where None key cache = (cache, Missing)
 get_where (Some row) key cache = (row ∷ without key cache, Value row.value)
@@ -55,11 +55,11 @@ get_where (Some row) key cache = (row ∷ without key cache, Value row.value)
 abbrev pub get : List ℕ → List Row → List Row × Reply
 get key cache = get_where (row_of key cache) key cache
 
--- an erase takes the row away
+-- after an erase no row has the key
 abbrev pub erase : List ℕ → List Row → List Row × Reply
 erase key cache = (without key cache, if has key cache then Erased else Missing)
 
--- a scan gives the first so many keys at or above its key, and changes nothing
+-- a scan looks up the keys from its own on, at most its count of them
 abbrev pub scan : List ℕ → ℕ → List Row → List Row × Reply
 scan key count cache = (cache, Keys (take count (in_order (filter (is_at_most key) (map (λ row. row.key) cache)))))
 

@@ -9,8 +9,8 @@ use Rattle.plain_cache.specs.declared.journal.Entry.TheVariants.{Done, Evicted}
 use Rattle.plain_cache.specs.Row.{Row, live, floor}
 use Rattle.plain_cache.specs.Apply.{Reply, apply}
 
--- A journal is a list of entries: Done(i), a part of command i was done here; Evicted(q), the row of put q was
--- evicted here. A trace is the list of its operations.
+-- What a shard did, entry by entry: Done(i) for its part of command i, Evicted(q) where the row that put q had
+-- stored went. A trace is the list of its operations.
 
 abbrev pub command_of : List Operation → ℕ → Option Operation
 command_of trace i = find (λ operation. operation.number == i) trace
@@ -20,7 +20,7 @@ abbrev pub is_of_put : ℕ → Option Row → Bool
 is_of_put q None = false
 is_of_put q (Some row) = row.number == q
 
--- Evicted(q) is possible exactly where the last row is that of put q and the live bytes exceed the floor
+-- put q may lose its row where that row is the last one, and more bytes are live than the floor
 abbrev pub can_evict : ℕ → ℕ → List Row → Bool
 can_evict pages q cache = is_of_put q (last_or None cache) && nat_lt (floor pages) (live cache)
 
@@ -34,7 +34,7 @@ cache_from trace pages cache [] = Some cache
 cache_from trace pages cache (entry ∷ entries) =
     option_and_then (λ next. cache_from trace pages next entries) (after trace pages entry cache)
 
--- the cache to which a journal leads, where each entry is possible in turn, from the empty cache on
+-- where a journal leads from the empty cache; nowhere, where some entry on the way fails
 abbrev pub cache_after : List Operation → ℕ → List Entry → Option (List Row)
 cache_after trace pages journal = cache_from trace pages [] journal
 
@@ -49,8 +49,8 @@ done_number (Evicted q) = None
 abbrev pub done : List Entry → List ℕ
 done journal = filter_map done_number journal
 
--- A journal is complete for shard s of n where, for each origin, the parts done are exactly the parts that
--- commands of this origin have at s, in their order.
+-- Pick the Done entries of one origin out of a journal: in a complete one they are that origin's parts at
+-- shard s of n, neither more nor fewer, in order.
 abbrev pub IsComplete : List Operation → ℕ → ℕ → List Entry → Type 0
 IsComplete trace n s journal = (o : ℕ) → o < n → filter (λ i. origin i n == o) (done journal) ≡ parts trace n o s
 

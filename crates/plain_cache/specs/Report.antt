@@ -79,9 +79,8 @@ report trace n pages journals = report_of (answers trace n pages journals) journ
 abbrev pub text_lines : List ℕ → List (List ℕ)
 text_lines bytes = slice_split (λ b. b == 10) bytes
 
--- The bytes are a legal report of the trace with these journals: behind the lines of the answers they spell
--- the journals, one per shard; each is legal and complete for its shard; and the bytes are the report of
--- these very journals.
+-- The bytes are a legal report of the trace, and print these journals behind the answers: each is legal and
+-- complete for its shard, and the report of these journals is, byte for byte, the one at hand.
 pub record IsReportOf (trace : List Operation) (n pages : ℕ) (bytes : List ℕ) (journals : List (List Entry)) : Type 0 where
   pub shards : length journals ≡ n
   pub spelled : (s : ℕ) → s < n →

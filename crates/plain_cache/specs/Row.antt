@@ -7,9 +7,9 @@ pub record Row : Type 0 where
   pub value : List ℕ
   pub number : ℕ
 
--- A cache is a list of rows with distinct keys, most recently used first.
+-- A cache is a list of rows, the one used last in front. No two rows of a cache that a journal leads to have one key.
 
--- a row takes 40 bytes and its key and its value, rounded up to a multiple of 8
+-- a row counts 40 bytes and its key and value, in whole multiples of 8
 abbrev pub size : List ℕ → List ℕ → ℕ
 size key value = (40 + length key + length value + 7) / 8 * 8
 

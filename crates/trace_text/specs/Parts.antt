@@ -16,7 +16,7 @@ owner key n = hash key % n
 abbrev pub origin : ℕ → ℕ → ℕ
 origin i n = (i - 1) % n
 
--- a scan is done everywhere, another command at its key's owner
+-- every shard does a part of a scan; of another command the one that owns the key
 abbrev pub is_scan : Kind → Bool
 is_scan Scan = true
 is_scan Put = false
