@@ -1,5 +1,5 @@
 -- One part of a command, done on a cache.
-use Rattle.std.specs.Prelude.{ℕ, Bool, not, List, [], ◌∷◌, map, filter, find, take, if◌then◌else◌, Option, Some, None}
+use Rattle.std.specs.Prelude.{◌≡◌, ℕ, Bool, false, not, List, [], ◌∷◌, map, filter, find, take, if◌then◌else◌, Option, Some, None}
 use Rattle.std.specs.List.{list_any}
 use Rattle.std.specs.Ordering.{nat_cmp, is_le}
 use Rattle.std.specs.Cmp.Lexicographic.{slice_cmp}
@@ -29,6 +29,11 @@ has key cache = list_any (is_of key) cache
 
 abbrev pub without : List ℕ → List Row → List Row
 without key cache = filter (λ row. not (is_of key row)) cache
+
+-- no two rows have one key
+abbrev pub HasDistinctKeys : List Row → Type 0
+HasDistinctKeys [] = Unit {0}
+HasDistinctKeys (row ∷ rows) = (has row.key rows ≡ false) × HasDistinctKeys rows
 
 -- keys in the order of their bytes
 abbrev pub is_at_most : List ℕ → List ℕ → Bool

@@ -7,7 +7,7 @@ pub record Row : Type 0 where
   pub value : List ℕ
   pub number : ℕ
 
--- A cache is a list of rows, the one used last in front. No two rows of a cache that a journal leads to have one key.
+-- A cache is a list of rows, the one used last in front.
 
 -- a row counts 40 bytes and its key and value, in whole multiples of 8
 abbrev pub size : List ℕ → List ℕ → ℕ

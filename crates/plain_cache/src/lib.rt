@@ -5,10 +5,12 @@
 #![tactic(auto)]
 
 mod journal;
+mod law;
 mod plain;
 mod replies;
 
 pub use journal::{Entry, Journal};
+pub use law::keys_are_distinct;
 pub use plain::{Plain, floor_of};
 pub use replies::{ReplyKind, ReplyLog};
 
