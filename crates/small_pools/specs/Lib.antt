@@ -1,3 +1,4 @@
 pub mod Classes
 pub mod Objects
 pub mod Slots
+pub mod Given

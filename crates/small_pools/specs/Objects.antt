@@ -5,6 +5,7 @@ use Rattle.std.specs.FinMap as map
 use Rattle.std.specs.Coded.{Coded, code_by, coded×, coded_ℕ}
 use Rattle.span_lists.specs.Blocks.{Blocks}
 use Rattle.span_lists.specs.Layout.{Layout, IsOut}
+use Rattle.std.specs.Prelude.{◌⊎◌}
 use Rattle.small_pools.specs.Classes.{size_of, order_of, capacity_of}
 
 -- held: the class of each span that the pools hold, by its first page. out: the size of each object that is out, by its first byte
@@ -49,3 +50,22 @@ pub record AreObjects (s : Objects) : Type 0 where
 pub record AreHeldIn (s : Objects) (spans : Layout) : Type 0 where
   pub pages : spans.pages ≡ s.pages
   pub out : (first class : ℕ) → IsHeld s first class → IsOut spans first (order_of class)
+
+-- the pools hold what they held, or, where the class had no free object, one span more of its order
+abbrev pub HoldsFor : Objects → Objects → Layout → Layout → ℕ → Type 0
+HoldsFor old new spans spans' class =
+    ((new.held ≡ old.held) × (spans' ≡ spans))
+    ⊎ (IsUsedUp old class × ((first : ℕ) × (new.held ≡ map.insert old.held first class) × (spans'.out ≡ map.insert spans.out first (order_of class)) × (map.get old.held first ≡ None)))
+
+-- some spans without an object out were let go and given back to the pages; nothing else changed
+pub record Trims (old new : Objects) (spans spans' : Layout) : Type 0 where
+  pub pages : new.pages ≡ old.pages
+  pub out : new.out ≡ old.out
+  pub kept : (first class : ℕ) → IsHeld new first class → IsHeld old first class
+  pub left : (first class : ℕ) → IsHeld old first class → HasObject old first class → IsHeld new first class
+  pub given : (first class : ℕ) → IsHeld old first class → map.get new.held first ≡ None → map.get spans'.out first ≡ None
+  pub others : (first : ℕ) → map.get old.held first ≡ None → map.get spans'.out first ≡ map.get spans.out first
+
+-- each span of the class has an object out
+abbrev pub IsTrim : Objects → ℕ → Type 0
+IsTrim s class = (first : ℕ) → IsHeld s first class → HasObject s first class

@@ -6,14 +6,15 @@ use Rattle.place_lists.specs.Lists.{Lists, times, list_at}
 use Rattle.small_pools.specs.Classes.{size_of, order_of, capacity_of}
 use Rattle.small_pools.specs.Objects.{slot_place}
 
+-- a map with what there is for a key
+abbrev pub with_entry : map.FinMap nat_cmp ℕ → ℕ → Option ℕ → map.FinMap nat_cmp ℕ
+with_entry m k None = m
+with_entry m k (Some v) = map.insert m k v
+
 -- the map of what a function has below a number
 unfoldable pub map_below : ℕ → (ℕ → Option ℕ) → map.FinMap nat_cmp ℕ
 map_below zero f = map.empty
 map_below (suc n) f = with_entry (map_below n f) n (f n)
-  where
-    with_entry : map.FinMap nat_cmp ℕ → ℕ → Option ℕ → map.FinMap nat_cmp ℕ
-    with_entry m k None = m
-    with_entry m k (Some v) = map.insert m k v
 
 abbrev pub class_at : List (Option ℕ) → ℕ → Option ℕ
 class_at classes page = slice_index_or classes page None

@@ -1,0 +1,5 @@
+use Rattle.std.proofs.Common.{◌≡◌, ◌+◌, ◌<◌, ◌≤◌, ◌⊎◌, ℕ, get_or, length}
+use Rattle.small_pools.proofs.pools.own.Given as goal
+
+abbrev pub invariant-loop-page : goal.invariant-loop-page
+invariant-loop-page l = ((x : ℕ) → l.first ≤ x → x < l.page → get_or l.firsts x 0 ≡ l.first) × ((x : ℕ) → (x < l.first) ⊎ (l.page ≤ x) → get_or l.firsts x 0 ≡ get_or l.fn.firsts x 0)

@@ -1,0 +1,96 @@
+ghost use Rattle.std.specs.Prelude.{◌≡◌, ◌<◌, OnOk};
+ghost use Rattle.small_pools.specs.Objects.{AreHeldIn};
+ghost use Rattle.small_pools.specs.Given.{AreOut};
+
+use super::*;
+use crate::class_of;
+use std::collections::VecDeque;
+use std::test::Fail;
+
+// Takes objects until there are so many, or none is left.
+fn take_many(
+    pools: &mut Pools,
+    spans: &mut Spans,
+    class: u8,
+    most: u32,
+    taken: &mut VecDeque<u32>,
+) -> Result<u32, AllocError>
+    requires class { class < 37 }
+    requires held { AreHeldIn pools.old spans.old }
+    requires out { AreOut pools.old.out taken.old.items }
+    ensures held { AreHeldIn pools.new spans.new }
+    ensures out { OnOk result (AreOut pools.new.out taken.new.items) }
+{
+    for count in 0..most {
+        let Some(place) = pools.take(spans, class) else {
+            return Ok(count);
+        };
+        taken.push_front(place)?;
+    }
+    Ok(most)
+}
+
+// Gives back what was taken, the last one first.
+fn give_all(pools: &mut Pools, taken: &mut VecDeque<u32>)
+    requires { AreOut pools.old.out taken.old.items }
+    ensures held { pools.new.held ≡ pools.old.held }
+    ensures pages { pools.new.pages ≡ pools.old.pages }
+    ensures out { AreOut pools.new.out taken.new.items }
+{
+    while let Some(place) = taken.pop_front() {
+        pools.put(place);
+    }
+}
+
+#[test]
+fn the_least_class_holds_the_size(rt: HostRuntime) -> Result<(), Fail> {
+    for (size, class) in [(0, Some(0)), (32, Some(0)), (33, Some(1)), (16384, Some(36)), (16385, None)] {
+        assert_eq!(rt; class_of(size), class);
+    }
+    Ok(())
+}
+
+#[test]
+fn a_page_holds_128_of_the_least_objects(rt: HostRuntime) -> Result<(), Fail> {
+    let mut spans = Spans::new(rt.alloc(), 1280)?;
+    let mut pools = Pools::new(rt.alloc(), 1280)?;
+    let mut taken = VecDeque::new(rt.alloc());
+    assert_eq!(rt; take_many(&mut pools, &mut spans, 0, 128, &mut taken)?, 128);
+    assert_eq!(rt; spans.free_pages(), 1279);
+    assert_eq!(rt; take_many(&mut pools, &mut spans, 0, 1, &mut taken)?, 1);
+    assert_eq!(rt; spans.free_pages(), 1278);
+    give_all(&mut pools, &mut taken);
+    assert_eq!(rt; spans.free_pages(), 1278);
+    assert_eq!(rt; take_many(&mut pools, &mut spans, 0, 1, &mut taken)?, 1);
+    pools.trim(&mut spans);
+    assert_eq!(rt; spans.free_pages(), 1279);
+    give_all(&mut pools, &mut taken);
+    pools.trim(&mut spans);
+    assert_eq!(rt; spans.free_pages(), 1280);
+    assert_eq!(rt; spans.largest(), Some(10));
+    Ok(())
+}
+
+#[test]
+fn every_class_used_up_and_given_back_leaves_all_pages(rt: HostRuntime) -> Result<(), Fail> {
+    let mut spans = Spans::new(rt.alloc(), 1280)?;
+    let mut pools = Pools::new(rt.alloc(), 1280)?;
+    let mut taken = VecDeque::new(rt.alloc());
+    for class in 0..CLASSES {
+        take_many(&mut pools, &mut spans, class, 200_000, &mut taken)?;
+        give_all(&mut pools, &mut taken);
+        pools.trim(&mut spans);
+        assert_eq!(rt; spans.free_pages(), 1280);
+    }
+    Ok(())
+}
+
+#[test]
+fn without_pages_no_object_is_given(rt: HostRuntime) -> Result<(), Fail> {
+    let mut spans = Spans::new(rt.alloc(), 1280)?;
+    let mut pools = Pools::new(rt.alloc(), 1280)?;
+    assert_eq!(rt; spans.take(10), Some(0));
+    assert_eq!(rt; spans.take(8), Some(1024));
+    assert_eq!(rt; pools.take(&mut spans, 0), None);
+    Ok(())
+}
