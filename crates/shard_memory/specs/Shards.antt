@@ -9,7 +9,7 @@ use Rattle.raw_range.specs.Places.{Place, place, AreBlocks}
 use Rattle.raw_range.specs.Memory.{Lent, place_code, place_of}
 use Rattle.span_lists.specs.Layout.{Layout, layout_code, IsOut, HasNone, Divides, IsMerged}
 use Rattle.small_pools.specs.Classes.{order_of, IsLeastClass}
-use Rattle.small_pools.specs.Objects.{Objects, objects_code, IsHeld, IsUsedUp, AreHeldIn, AreObjects}
+use Rattle.small_pools.specs.Objects.{Objects, objects_code, IsHeld, HasObject, IsUsedUp, AreHeldIn, AreObjects}
 
 -- home and owner: those of its pieces. out: where the pieces are that are out, each with its length. spans and pools: what they came from
 pub record Shard : Type 0 where
@@ -72,6 +72,10 @@ IsBlockOf s piece = (piece.home ≡ s.home) × Contains s.out (place_of piece) �
 
 abbrev pub IsSegmentOf : Shard → Lent → Type 0
 IsSegmentOf s piece = (piece.home ≡ s.home) × Contains s.out (place_of piece) × (length piece.bytes ≡ 131072)
+
+-- each span that the pools hold has an object out
+abbrev pub IsTrimmed : Shard → Type 0
+IsTrimmed s = (first class : ℕ) → IsHeld s.pools first class → HasObject s.pools first class
 
 -- neither the pool of the size's class nor the pages have room
 abbrev pub HasNoRoom : Shard → ℕ → Type 0

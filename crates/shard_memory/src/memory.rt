@@ -7,8 +7,8 @@ ghost use Rattle.std.specs.FinMap as map;
 ghost use Rattle.raw_range.specs.Places.{place, Apart, AreBlocks, without};
 ghost use Rattle.raw_range.specs.Memory.{place_of};
 ghost use Rattle.span_lists.specs.Layout.{HasNone, IsOut, free_pages};
-ghost use Rattle.small_pools.specs.Objects.{IsHeld, HasObject, Trims};
-ghost use Rattle.shard_memory.specs.Shards.{AreTogether, blocks_out, IsBlockOf, IsSegmentOf, HasNoRoom};
+ghost use Rattle.small_pools.specs.Objects.{Trims};
+ghost use Rattle.shard_memory.specs.Shards.{AreTogether, segments_out, blocks_out, IsTrimmed, IsBlockOf, IsSegmentOf, HasNoRoom};
 ghost use Rattle.shard_memory.specs.Refusals.{RefusesFor};
 
 use crate::give_refusal::GiveRefusal;
@@ -108,7 +108,7 @@ impl ShardMemory {
 
     /// Gives each span of the pools back to the pages that has no object out.
     pub fn trim(&mut self)
-        ensures used { (first class : ℕ) → IsHeld self.new.pools first class → HasObject self.new.pools first class }
+        ensures trimmed { IsTrimmed self.new }
         ensures trims { Trims self.old.pools self.new.pools self.old.spans self.new.spans }
         ensures out { self.new.out ≡ self.old.out }
         ensures same { (self.new.home ≡ self.old.home) × (self.new.owner ≡ self.old.owner) × (self.new.pages ≡ self.old.pages) }
@@ -121,6 +121,7 @@ impl ShardMemory {
     pub fn give_segment(&mut self) -> Option<Piece>
         ensures none { IsNone result ↔ HasNone self.old.spans 5 }
         ensures unchanged { IfNone result (self.new ≡ self.old) }
+        ensures enough_out { IfNone result (IsTrimmed self.old → self.old.pages / 32 ≤ segments_out self.old.out + blocks_out self.old.out) }
         ensures mine { IfSome result (λ piece. (piece.home ≡ self.old.home) × (piece.owner ≡ self.old.owner)) }
         ensures whole { IfSome result (λ piece. (length piece.bytes ≡ 131072) × (piece.at % 131072 ≡ 0)) }
         ensures out { IfSome result (λ piece. self.new.out ≡ place_of piece ∷ self.old.out) }

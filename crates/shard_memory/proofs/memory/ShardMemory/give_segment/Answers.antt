@@ -1,11 +1,12 @@
-use Rattle.std.proofs.Common.{◌≡◌, ℕ, ◌+◌, ◌*◌, ◌/◌, ◌%◌, ◌^◌, ◌<◌, ◌≤◌, ◌∷◌, true, false, inr, length, refl, sym, ap, subst, ◌∙◌, arith}
+use Rattle.std.proofs.Common.{◌≡◌, ℕ, ◌+◌, ◌*◌, ◌/◌, ◌%◌, ◌^◌, ◌<◌, ◌≤◌, ◌∷◌, true, false, inr, length, Option, Some, None, IfNone, refl, sym, ap, subst, ◌∙◌, arith}
 use Rattle.std.specs.FinMap as map
 use Rattle.raw_range.specs.Places.{Place, place, Apart, AreBlocks}
-use Rattle.raw_range.specs.Memory.{Memory}
+use Rattle.raw_range.specs.Memory.{Memory, Lent}
 use Rattle.span_lists.specs.Layout.{HasNone}
 use Rattle.span_lists.proofs.Outs.{get_inserted}
-use Rattle.shard_memory.specs.Shards.{Shard, Together}
+use Rattle.shard_memory.specs.Shards.{Shard, Together, IsTrimmed, segments_out, blocks_out}
 use Rattle.shard_memory.proofs.Lists.{all_of, few_pieces, page_of_start, whole_start}
+use Rattle.shard_memory.proofs.Counts.{pieces_enough}
 use Rattle.shard_memory.proofs.Steps.{inside_pages, apart_from_span, gave_segment}
 use Rattle.shard_memory.proofs.memory.ShardMemory.give_segment.Goals as goal
 
@@ -49,3 +50,13 @@ returns-clause-spans c =
 
 pub returns-clause-together : goal.returns-clause-together
 returns-clause-together c = (invariant_of-self-2 c).1
+
+if_none : (o : Option Lent) (A : Type 0) → A → IfNone o A
+if_none None A a = a
+if_none (Some x) A a = tt
+
+pub returns-in_err-first-clause-enough_out : goal.returns-in_err-first-clause-enough_out
+returns-in_err-first-clause-enough_out c =
+    if_none c.from_residual.result (IsTrimmed c.args.self.now → c.args.self.now.pages / 32 ≤ segments_out c.args.self.now.out + blocks_out c.args.self.now.out)
+      (subst (λ (s : Shard). IsTrimmed s → s.pages / 32 ≤ segments_out s.out + blocks_out s.out) c.self.view_is
+        (λ trimmed. pieces_enough c.self.inside.range.pages c.self.inside.range.out c.self.inside.spans c.self.inside.pools c.self.invariant.1 c.in_err-first.ensures.blocked trimmed))
