@@ -156,3 +156,64 @@ page_of_start first = omega arith
 
 pub whole_start : (first : ℕ) → first % 2 ^ 5 ≡ 0 → 4096 * first % 131072 ≡ 0
 whole_start first h = omega (arith, h)
+
+filter_swap : (t u : Place → Bool) (ps : List Place) → filter t (filter u ps) ≡ filter u (filter t ps)
+filter_swap t u [] = refl
+filter_swap t u (p ∷ ps) = swap_step t u p ps (t p) (u p) refl refl (filter_swap t u ps)
+  where
+    swap_step : (t u : Place → Bool) (p : Place) (ps : List Place) (a b : Bool) → t p ≡ a → u p ≡ b → filter t (filter u ps) ≡ filter u (filter t ps) → filter t (cond b (p ∷ filter u ps) (filter u ps)) ≡ filter u (cond a (p ∷ filter t ps) (filter t ps))
+    swap_step t u p ps true true et eu rest = ap (λ b. cond b (p ∷ filter t (filter u ps)) (filter t (filter u ps))) et ∙ ap (λ xs. p ∷ xs) rest ∙ sym (ap (λ b. cond b (p ∷ filter u (filter t ps)) (filter u (filter t ps))) eu)
+    swap_step t u p ps true false et eu rest = rest ∙ sym (ap (λ b. cond b (p ∷ filter u (filter t ps)) (filter u (filter t ps))) eu)
+    swap_step t u p ps false true et eu rest = ap (λ b. cond b (p ∷ filter t (filter u ps)) (filter t (filter u ps))) et ∙ rest
+    swap_step t u p ps false false et eu rest = rest
+
+all_kept : (t : Place → Bool) (ps : List Place) → All (λ q. t q ≡ true) ps → filter t ps ≡ ps
+all_kept t [] h = refl
+all_kept t (p ∷ ps) h =
+    ap (λ b. cond b (p ∷ filter t ps) (filter t ps)) (All-head (λ (q : Place). t q ≡ true) p ps h) ∙ ap (λ xs. p ∷ xs) (all_kept t ps (All-tail (λ (q : Place). t q ≡ true) p ps h))
+
+segment_is : (p : Place) → p.len ≡ 131072 → is_segment p ≡ true
+segment_is p e = eq-eqb p.len 131072 e
+
+-- a segment that is no longer out leaves the blocks
+pub same_blocks : (size : ℕ) (out : List Place) (p : Place) → AreBlocks size out → Contains out p → p.len ≡ 131072 → blocks_out (without p out) ≡ blocks_out out
+same_blocks size out p blocks has len =
+    let u : Place → Bool = λ z. not (z.at == p.at) in
+    let stays : (q : Place) → Contains (filter is_block out) q → u q ≡ true = λ q h.
+      (let in_out : Contains out q = All-contains (Contains out) (filter is_block out) q (All-filter is_block (Contains out) out (All-contains_itself out)) h in
+      let is : is_block q ≡ true = All-contains (λ x. is_block x ≡ true) (filter is_block out) q (filter_passes is_block out) h in
+      ap not (ne_eqb q.at p.at (λ e.
+        (let one : p ≡ q = same_place size out p q blocks has in_out (sym e) in
+        let seg : is_segment q ≡ true = subst (λ z. is_segment z ≡ true) one (segment_is p len) in
+        let clash : false ≡ true = sym (ap not seg) ∙ is in cc)))) in
+    ap length (filter_swap is_block u out ∙ all_kept u (filter is_block out) (all_of (λ q. u q ≡ true) (filter is_block out) stays))
+
+one_less : (t u : Place → Bool) (p : Place) (ps : List Place) → Contains ps p → t p ≡ true → u p ≡ false → length (filter t (filter u ps)) < length (filter t ps)
+one_less t u p [] h et eu = absurd (let l = h.1 in omega (arith, l))
+one_less t u p (q ∷ ps) h et eu = elim (has_cases q p ps h) [
+      | inl same ↦
+        (let less = fewer_left t u ps in
+        let tq : t q ≡ true = ap t same ∙ et in let uq : u q ≡ false = ap u same ∙ eu in
+        let left : length (filter t (filter u (q ∷ ps))) ≡ length (filter t (filter u ps)) = ap (λ b. length (filter t (cond b (q ∷ filter u ps) (filter u ps)))) uq in
+        let right : length (filter t (q ∷ ps)) ≡ suc (length (filter t ps)) = ap (λ b. length (cond b (q ∷ filter t ps) (filter t ps))) tq in
+        omega (arith, less, left, right))
+      | inr later ↦
+        (let less = one_less t u p ps later et eu in
+        elim (u q) as (λ b. length (filter t (cond b (q ∷ filter u ps) (filter u ps))) < length (filter t (q ∷ ps))) [
+          | true ↦ elim (t q) as (λ b. length (cond b (q ∷ filter t (filter u ps)) (filter t (filter u ps))) < length (cond b (q ∷ filter t ps) (filter t ps))) [ true ↦ omega (arith, less) | false ↦ less ]
+          | false ↦ elim (t q) as (λ b. length (filter t (filter u ps)) < length (cond b (q ∷ filter t ps) (filter t ps))) [ true ↦ omega (arith, less) | false ↦ less ]
+        ])
+    ]
+
+block_is : (p : Place) → p.len ≤ 16384 → is_block p ≡ true
+block_is p l = ap not (ne_eqb p.len 131072 (λ e. omega (arith, e, l)))
+
+-- a block that is no longer out is one less
+pub block_less : (out : List Place) (p : Place) → Contains out p → p.len ≤ 16384 → blocks_out (without p out) < blocks_out out
+block_less out p has len = one_less is_block (λ z. not (z.at == p.at)) p out has (block_is p len) (ap not (eq-eqb p.at p.at refl))
+
+pub block_more : (out : List Place) (p : Place) → p.len ≤ 16384 → blocks_out (p ∷ out) ≡ blocks_out out + 1
+block_more out p len = ap (λ b. length (cond b (p ∷ filter is_block out) (filter is_block out))) (block_is p len) ∙ omega arith
+
+pub segment_more : (out : List Place) (p : Place) → p.len ≡ 131072 → blocks_out (p ∷ out) ≡ blocks_out out
+segment_more out p len = ap (λ b. length (cond (not b) (p ∷ filter is_block out) (filter is_block out))) (segment_is p len)

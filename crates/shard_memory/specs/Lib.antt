@@ -1,2 +1,3 @@
 pub mod Shards
 pub mod Refusals
+pub mod Taken

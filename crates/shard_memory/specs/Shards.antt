@@ -9,7 +9,7 @@ use Rattle.raw_range.specs.Places.{Place, place, AreBlocks}
 use Rattle.raw_range.specs.Memory.{Lent, place_code, place_of}
 use Rattle.span_lists.specs.Layout.{Layout, layout_code, IsOut, HasNone, Divides, IsMerged}
 use Rattle.small_pools.specs.Classes.{order_of, IsLeastClass}
-use Rattle.small_pools.specs.Objects.{Objects, objects_code, IsHeld, HasObject, IsUsedUp, AreHeldIn, AreObjects}
+use Rattle.small_pools.specs.Objects.{Objects, objects_code, IsHeld, HasObject, IsUsedUp, AreHeldIn, AreObjects, HoldsFor}
 
 -- home and owner: those of its pieces. out: where the pieces are that are out, each with its length. spans and pools: what they came from
 pub record Shard : Type 0 where
@@ -80,3 +80,7 @@ IsTrimmed s = (first class : ℕ) → IsHeld s.pools first class → HasObject s
 -- neither the pool of the size's class nor the pages have room
 abbrev pub HasNoRoom : Shard → ℕ → Type 0
 HasNoRoom s size = (class : ℕ) → IsLeastClass size class → IsUsedUp s.pools class × HasNone s.spans (order_of class)
+
+-- what the pools hold is as it was, or one span more, for the size's class, which had no free object
+abbrev pub TakesFor : Shard → Shard → ℕ → Type 0
+TakesFor old new size = (class : ℕ) × IsLeastClass size class × HoldsFor old.pools new.pools old.spans new.spans class

@@ -10,3 +10,5 @@ pub use memory::ShardMemory;
 
 mod give_refusal;
 mod memory;
+#[cfg(test)]
+mod tests;

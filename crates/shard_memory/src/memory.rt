@@ -8,7 +8,7 @@ ghost use Rattle.raw_range.specs.Places.{place, Apart, AreBlocks, without};
 ghost use Rattle.raw_range.specs.Memory.{place_of};
 ghost use Rattle.span_lists.specs.Layout.{HasNone, IsOut, free_pages};
 ghost use Rattle.small_pools.specs.Objects.{Trims};
-ghost use Rattle.shard_memory.specs.Shards.{AreTogether, segments_out, blocks_out, IsTrimmed, IsBlockOf, IsSegmentOf, HasNoRoom};
+ghost use Rattle.shard_memory.specs.Shards.{AreTogether, segments_out, blocks_out, IsTrimmed, IsBlockOf, IsSegmentOf, HasNoRoom, TakesFor};
 ghost use Rattle.shard_memory.specs.Refusals.{RefusesFor};
 
 use crate::give_refusal::GiveRefusal;
@@ -79,8 +79,11 @@ impl ShardMemory {
         ensures room { IfOk result (λ _. (size ≤ 16384) × ¬ HasNoRoom self.old size) }
         ensures unchanged { IfErr result (λ _. self.new ≡ self.old) }
         ensures mine { IfOk result (λ piece. (piece.home ≡ self.old.home) × (piece.owner ≡ self.old.owner)) }
+        ensures given { IfOk result (IsBlockOf self.new) }
         ensures zeros { IfOk result (λ piece. piece.bytes ≡ replicate size 0) }
         ensures out { IfOk result (λ piece. self.new.out ≡ place_of piece ∷ self.old.out) }
+        ensures more { IfOk result (λ _. blocks_out self.new.out ≡ blocks_out self.old.out + 1) }
+        ensures spans { IfOk result (λ _. TakesFor self.old self.new size) }
         ensures same { (self.new.home ≡ self.old.home) × (self.new.owner ≡ self.old.owner) × (self.new.pages ≡ self.old.pages) }
         ensures together { AreTogether self.new }
     {
@@ -98,6 +101,8 @@ impl ShardMemory {
     pub fn back_here(&mut self, piece: Piece)
         requires { IsBlockOf self.old piece }
         ensures out { self.new.out ≡ without (place_of piece) self.old.out }
+        ensures fewer { blocks_out self.new.out < blocks_out self.old.out }
+        ensures objects { self.new.pools ≡ record self.old.pools { out = map.remove self.old.pools.out piece.at } }
         ensures spans { self.new.spans ≡ self.old.spans }
         ensures same { (self.new.home ≡ self.old.home) × (self.new.owner ≡ self.old.owner) × (self.new.pages ≡ self.old.pages) }
         ensures together { AreTogether self.new }
@@ -123,10 +128,12 @@ impl ShardMemory {
         ensures unchanged { IfNone result (self.new ≡ self.old) }
         ensures enough_out { IfNone result (IsTrimmed self.old → self.old.pages / 32 ≤ segments_out self.old.out + blocks_out self.old.out) }
         ensures mine { IfSome result (λ piece. (piece.home ≡ self.old.home) × (piece.owner ≡ self.old.owner)) }
+        ensures given { IfSome result (IsSegmentOf self.new) }
         ensures whole { IfSome result (λ piece. (length piece.bytes ≡ 131072) × (piece.at % 131072 ≡ 0)) }
         ensures out { IfSome result (λ piece. self.new.out ≡ place_of piece ∷ self.old.out) }
         ensures spans { IfSome result (λ piece. self.new.spans.out ≡ map.insert self.old.spans.out (piece.at / 4096) 5) }
         ensures pools { self.new.pools ≡ self.old.pools }
+        ensures blocks { blocks_out self.new.out ≡ blocks_out self.old.out }
         ensures same { (self.new.home ≡ self.old.home) × (self.new.owner ≡ self.old.owner) × (self.new.pages ≡ self.old.pages) }
         ensures together { AreTogether self.new }
     {
@@ -140,6 +147,7 @@ impl ShardMemory {
         ensures out { self.new.out ≡ without (place_of piece) self.old.out }
         ensures spans { self.new.spans.out ≡ map.remove self.old.spans.out (piece.at / 4096) }
         ensures pools { self.new.pools ≡ self.old.pools }
+        ensures blocks { blocks_out self.new.out ≡ blocks_out self.old.out }
         ensures same { (self.new.home ≡ self.old.home) × (self.new.owner ≡ self.old.owner) × (self.new.pages ≡ self.old.pages) }
         ensures together { AreTogether self.new }
     {

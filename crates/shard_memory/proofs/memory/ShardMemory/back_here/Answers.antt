@@ -1,8 +1,9 @@
-use Rattle.std.proofs.Common.{◌≡◌, ℕ, ◌*◌, length, is_some, sym, ap, subst, ◌∙◌}
+use Rattle.std.proofs.Common.{◌≡◌, ℕ, ◌*◌, ◌<◌, length, is_some, sym, ap, subst, ◌∙◌}
 use Rattle.std.specs.FinMap as map
 use Rattle.raw_range.specs.Places.{Place, place, AreBlocks, without}
 use Rattle.raw_range.specs.Memory.{Memory, place_of}
-use Rattle.shard_memory.specs.Shards.{Shard, Together, IsBlockOf}
+use Rattle.shard_memory.specs.Shards.{Shard, Together, IsBlockOf, blocks_out}
+use Rattle.shard_memory.proofs.Lists.{block_less}
 use Rattle.shard_memory.proofs.Steps.{block_object, block_returned}
 use Rattle.shard_memory.proofs.memory.ShardMemory.back_here.Goals as goal
 
@@ -24,3 +25,9 @@ invariant_of-self c =
 
 pub returns-clause-together : goal.returns-clause-together
 returns-clause-together c = (invariant_of-self c).1
+
+pub returns-clause-fewer : goal.returns-clause-fewer
+returns-clause-fewer c =
+    (let r = subst (λ (s : Shard). IsBlockOf s c.args.piece) (sym c.self.view_is) c.requires in
+    subst (λ (s : Shard). blocks_out c.put-2.new.self.out < blocks_out s.out) c.self.view_is
+      (subst (λ (m : Memory). blocks_out m.out < blocks_out c.self.inside.range.out) (sym c.put-2.ensures.back) (block_less c.self.inside.range.out (place_of c.args.piece) r.1 r.2)))

@@ -1,9 +1,12 @@
 use Rattle.std.proofs.Common.{◌≡◌, ℕ, ◌+◌, ◌*◌, ◌<◌, ◌≤◌, ◌∷◌, length, refl, sym, ap, subst, ◌∙◌, arith}
+use Rattle.std.specs.Prelude.{Contains}
+use Rattle.std.proofs.lemmas.List.{length-replicate}
 use Rattle.raw_range.specs.Places.{Place, place, Apart, AreBlocks}
-use Rattle.raw_range.specs.Memory.{Memory}
+use Rattle.raw_range.specs.Memory.{Memory, Lent, place_of}
 use Rattle.small_pools.proofs.ClassFacts.{sound}
 use Rattle.shard_memory.specs.Shards.{Shard, Together, HasNoRoom, blocks_out}
-use Rattle.shard_memory.proofs.Lists.{all_of, few_pieces}
+use Rattle.small_pools.specs.Objects.{HoldsFor}
+use Rattle.shard_memory.proofs.Lists.{all_of, few_pieces, has_first}
 use Rattle.shard_memory.proofs.Steps.{block_inside, block_apart, gave_block}
 use Rattle.shard_memory.proofs.memory.ShardMemory.give_here.Goals as goal
 
@@ -34,3 +37,18 @@ returns-clause-room c =
 
 pub returns-clause-together : goal.returns-clause-together
 returns-clause-together c = (invariant_of-self-2 c).1
+
+pub returns-clause-spans : goal.returns-clause-spans
+returns-clause-spans c =
+    (c.in-Some.class, c.in-Some.ensures.some,
+     subst (λ (s : Shard). HoldsFor s.pools c.take.new.self s.spans c.take.new.spans c.in-Some.class) c.self.view_is c.in-Some-take.ensures.spans)
+
+pub returns-clause-given : goal.returns-clause-given
+returns-clause-given c =
+    (let p = place c.in-Some-take.place c.args.size in
+    let at : place_of c.cleared.result ≡ p = ap (λ (l : Lent). place_of l) c.cleared.ensures ∙ ap (λ n. place c.take-2.result.at n) (length-replicate (length c.take-2.result.bytes) 0) ∙ c.take-2.ensures.place in
+    let len : length c.cleared.result.bytes ≡ c.args.size = ap (λ (q : Place). q.len) at in
+    let small = (returns-clause-room c).0 in
+    (ap (λ (l : Lent). l.home) c.cleared.ensures ∙ ap (λ (l : Lent). l.home) c.take-2.ensures.piece ∙ sym (ap (λ (m : Memory). m.home) c.take-2.ensures.out),
+     subst (λ (m : Memory). Contains m.out (place_of c.cleared.result)) (sym c.take-2.ensures.out) (subst (λ q. Contains (p ∷ c.self.inside.range.out) q) (sym at) (has_first p c.self.inside.range.out)),
+     omega (arith, len, small)))

@@ -1,11 +1,12 @@
 use Rattle.std.proofs.Common.{◌≡◌, ℕ, ◌+◌, ◌*◌, ◌/◌, ◌%◌, ◌^◌, ◌<◌, ◌≤◌, ◌∷◌, true, false, inr, length, Option, Some, None, IfNone, refl, sym, ap, subst, ◌∙◌, arith}
 use Rattle.std.specs.FinMap as map
+use Rattle.std.specs.Prelude.{Contains}
 use Rattle.raw_range.specs.Places.{Place, place, Apart, AreBlocks}
-use Rattle.raw_range.specs.Memory.{Memory, Lent}
+use Rattle.raw_range.specs.Memory.{Memory, Lent, place_of}
 use Rattle.span_lists.specs.Layout.{HasNone}
 use Rattle.span_lists.proofs.Outs.{get_inserted}
 use Rattle.shard_memory.specs.Shards.{Shard, Together, IsTrimmed, segments_out, blocks_out}
-use Rattle.shard_memory.proofs.Lists.{all_of, few_pieces, page_of_start, whole_start}
+use Rattle.shard_memory.proofs.Lists.{all_of, has_first, few_pieces, page_of_start, whole_start}
 use Rattle.shard_memory.proofs.Counts.{pieces_enough}
 use Rattle.shard_memory.proofs.Steps.{inside_pages, apart_from_span, gave_segment}
 use Rattle.shard_memory.proofs.memory.ShardMemory.give_segment.Goals as goal
@@ -60,3 +61,10 @@ returns-in_err-first-clause-enough_out c =
     if_none c.from_residual.result (IsTrimmed c.args.self.now → c.args.self.now.pages / 32 ≤ segments_out c.args.self.now.out + blocks_out c.args.self.now.out)
       (subst (λ (s : Shard). IsTrimmed s → s.pages / 32 ≤ segments_out s.out + blocks_out s.out) c.self.view_is
         (λ trimmed. pieces_enough c.self.inside.range.pages c.self.inside.range.out c.self.inside.spans c.self.inside.pools c.self.invariant.1 c.in_err-first.ensures.blocked trimmed))
+
+pub returns-clause-given : goal.returns-clause-given
+returns-clause-given c =
+    (let p = place (4096 * c.in_ok-first.first) 131072 in
+    (ap (λ (l : Lent). l.home) c.take-2.ensures.piece ∙ sym (ap (λ (m : Memory). m.home) c.take-2.ensures.out),
+     subst (λ (m : Memory). Contains m.out (place_of c.take-2.result)) (sym c.take-2.ensures.out) (subst (λ q. Contains (p ∷ c.self.inside.range.out) q) (sym c.take-2.ensures.place) (has_first p c.self.inside.range.out)),
+     ap (λ (q : Place). q.len) c.take-2.ensures.place))

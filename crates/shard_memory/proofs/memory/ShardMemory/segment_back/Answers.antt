@@ -2,8 +2,8 @@ use Rattle.std.proofs.Common.{◌≡◌, ℕ, ◌*◌, ◌/◌, length, sym, ap,
 use Rattle.std.specs.FinMap as map
 use Rattle.raw_range.specs.Places.{Place, place, AreBlocks, without}
 use Rattle.raw_range.specs.Memory.{Memory, place_of}
-use Rattle.shard_memory.specs.Shards.{Shard, Together, IsSegmentOf}
-use Rattle.shard_memory.proofs.Lists.{page_of_start}
+use Rattle.shard_memory.specs.Shards.{Shard, Together, IsSegmentOf, blocks_out}
+use Rattle.shard_memory.proofs.Lists.{page_of_start, same_blocks}
 use Rattle.shard_memory.proofs.Steps.{segment_span, segment_returned}
 use Rattle.shard_memory.proofs.memory.ShardMemory.segment_back.Goals as goal
 
@@ -26,3 +26,9 @@ invariant_of-self c =
 
 pub returns-clause-together : goal.returns-clause-together
 returns-clause-together c = (invariant_of-self c).1
+
+pub returns-clause-blocks : goal.returns-clause-blocks
+returns-clause-blocks c =
+    (let r = subst (λ (s : Shard). IsSegmentOf s c.args.piece) (sym c.self.view_is) c.requires in
+    subst (λ (s : Shard). blocks_out c.put-2.new.self.out ≡ blocks_out s.out) c.self.view_is
+      (subst (λ (m : Memory). blocks_out m.out ≡ blocks_out c.self.inside.range.out) (sym c.put-2.ensures.back) (same_blocks (4096 * c.self.inside.range.pages) c.self.inside.range.out (place_of c.args.piece) c.self.invariant.1.blocks r.1 r.2)))
