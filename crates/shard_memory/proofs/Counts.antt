@@ -1,12 +1,10 @@
 -- How many pieces are out where no segment is left.
-use Rattle.std.proofs.Common.{◌≡◌, ◌≢◌, ℕ, zero, suc, ◌+◌, ◌*◌, ◌/◌, ◌%◌, ◌^◌, ◌<◌, ◌≤◌, ◌⊎◌, inl, inr, List, [], ◌∷◌, length, Some, refl, sym, ap, subst, ◌∙◌, arith}
+use Rattle.std.proofs.Common.{◌≡◌, ℕ, zero, suc, ◌+◌, ◌*◌, ◌/◌, ◌%◌, ◌^◌, ◌<◌, ◌≤◌, ◌⊎◌, inl, inr, List, [], ◌∷◌, length, refl, sym, subst, ◌∙◌, arith}
 use Rattle.std.specs.Prelude.{Contains}
-use Rattle.std.specs.Ordering.{nat_cmp}
-use Rattle.std.specs.FinMap as map
 use Rattle.place_lists.specs.Lists.{times, without}
 use Rattle.place_lists.proofs.Times.{times_here, times_cons_le, times-without_other, length-without}
 use Rattle.raw_range.specs.Places.{Place, place}
-use Rattle.span_lists.specs.Layout.{Layout, IsOut, IsBlocked}
+use Rattle.span_lists.specs.Layout.{Layout, IsBlocked}
 use Rattle.span_lists.proofs.Halves.{aligned_step, coarser, nested, start_is}
 use Rattle.std.proofs.lemmas.Nat.{pow_pos}
 use Rattle.small_pools.specs.Classes.{size_of, order_of}
@@ -30,9 +28,9 @@ has_run : (p : Place) (ps : List Place) → Contains ps p → 1 ≤ times (p.at 
 unfolding runs
 has_run p [] h = absurd (let l = h.1 in omega (arith, l))
 has_run p (q ∷ ps) h = elim (has_cases q p ps h) [
-      | inl same ↦ (let here = times_here (p.at / 131072) (runs ps) in subst (λ (z : Place). 1 ≤ times (p.at / 131072) ((z.at / 131072) ∷ runs ps)) (sym same) (omega (arith, here)))
-      | inr later ↦ (let rest = has_run p ps later in let more = times_cons_le (p.at / 131072) (q.at / 131072) (runs ps) in omega (arith, rest, more))
-    ]
+  | inl same ↦ (let here = times_here (p.at / 131072) (runs ps) in subst (λ (z : Place). 1 ≤ times (p.at / 131072) ((z.at / 131072) ∷ runs ps)) (sym same) (omega (arith, here)))
+  | inr later ↦ (let rest = has_run p ps later in let more = times_cons_le (p.at / 131072) (q.at / 131072) (runs ps) in omega (arith, rest, more))
+]
 
 -- a list that has each number below m has m numbers or more
 all_there : (m : ℕ) (xs : List ℕ) → ((x : ℕ) → x < m → 1 ≤ times x xs) → m ≤ length xs
@@ -67,23 +65,23 @@ in_each_run n out spans pools b h blocked used small =
     let aligned : first % 2 ^ k ≡ 0 = (h.divided.spans first k (inr x.5)).1 in
     elim (h.spans_out first k x.5) [
       | inl s ↦
-        (let same : first ≡ 32 * b =
+          (let same : first ≡ 32 * b =
           sym (start_is page first 5 (subst (λ j. first % 2 ^ j ≡ 0) s.0 aligned) from (subst (λ j. page < first + 2 ^ j) s.0 to)) ∙ start_is page (32 * b) 5 a low high in
-        (place (4096 * first) 131072, s.1, in_run (4096 * first) b (omega (arith, same)) (omega (arith, same))))
+          (place (4096 * first) 131072, s.1, in_run (4096 * first) b (omega (arith, same)) (omega (arith, same))))
       | inr c ↦
-        (let small_class = (h.objects.spans first c.0 c.1).0 in
-        let o = used first c.0 c.1 in
-        let out_at = h.objects_out (slot_place first c.0 o.0) (size_of c.0) o.2 in
-        let w = slot_within first c.0 o.0 small_class o.1 in
-        let facts = sound c.0 small_class in
-        let few = facts.order_most in let some = facts.size_least in
-        let k_is : k ≡ order_of c.0 = c.2 in
-        let most : k ≤ 5 = omega (arith, few, k_is) in
-        let ends = nested first (32 * b) k 5 most aligned a (omega (arith, from, high)) in
-        let begins : 32 * b ≤ first = (elim (below_or first (32 * b)) [ inr g ↦ g | inl l ↦ absurd (let t = aligned_step first (32 * b) (2 ^ k) (pow_pos k) aligned (coarser (32 * b) k 5 most a) l in omega (arith, t, low, to)) ]) in
-        let low_at = w.0 in
-        let high_at : slot_place first c.0 o.0 + size_of c.0 ≤ 4096 * (first + 2 ^ k) = subst (λ j. slot_place first c.0 o.0 + size_of c.0 ≤ 4096 * (first + 2 ^ j)) (sym k_is) w.1 in
-        (place (slot_place first c.0 o.0) out_at.0, out_at.2, in_run (slot_place first c.0 o.0) b (omega (arith, low_at, begins)) (omega (arith, high_at, ends, some))))
+          (let small_class = (h.objects.spans first c.0 c.1).0 in
+          let o = used first c.0 c.1 in
+          let out_at = h.objects_out (slot_place first c.0 o.0) (size_of c.0) o.2 in
+          let w = slot_within first c.0 o.0 small_class o.1 in
+          let facts = sound c.0 small_class in
+          let few = facts.order_most in let some = facts.size_least in
+          let k_is : k ≡ order_of c.0 = c.2 in
+          let most : k ≤ 5 = omega (arith, few, k_is) in
+          let ends = nested first (32 * b) k 5 most aligned a (omega (arith, from, high)) in
+          let begins : 32 * b ≤ first = (elim (below_or first (32 * b)) [ inr g ↦ g | inl l ↦ absurd (let t = aligned_step first (32 * b) (2 ^ k) (pow_pos k) aligned (coarser (32 * b) k 5 most a) l in omega (arith, t, low, to)) ]) in
+          let low_at = w.0 in
+          let high_at : slot_place first c.0 o.0 + size_of c.0 ≤ 4096 * (first + 2 ^ k) = subst (λ j. slot_place first c.0 o.0 + size_of c.0 ≤ 4096 * (first + 2 ^ j)) (sym k_is) w.1 in
+          (place (slot_place first c.0 o.0) out_at.0, out_at.2, in_run (slot_place first c.0 o.0) b (omega (arith, low_at, begins)) (omega (arith, high_at, ends, some))))
     ]
 
 pub pieces_enough : (n : ℕ) (out : List Place) (spans : Layout) (pools : Objects) → Together n out spans pools → IsBlocked spans 5 → ((first class : ℕ) → IsHeld pools first class → HasObject pools first class) → n / 32 ≤ segments_out out + blocks_out out

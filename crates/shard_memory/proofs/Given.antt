@@ -1,8 +1,8 @@
 -- What was given stays given while more is.
-use Rattle.std.proofs.Common.{◌≡◌, ◌≤◌, List, ◌∷◌, length, sym, ap, subst, ◌∙◌}
-use Rattle.std.specs.Prelude.{All, Contains}
+use Rattle.std.proofs.Common.{◌≡◌, List, ◌∷◌, sym, subst, ◌∙◌}
+use Rattle.std.specs.Prelude.{Contains}
 use Rattle.std.proofs.lemmas.List.Elements.{All-weaker}
-use Rattle.raw_range.specs.Places.{Place, without}
+use Rattle.raw_range.specs.Places.{Place}
 use Rattle.raw_range.specs.Memory.{Lent, place_of}
 use Rattle.shard_memory.specs.Shards.{Shard, IsSegmentOf}
 use Rattle.shard_memory.specs.Taken.{AreSegmentsOf}

@@ -1,10 +1,9 @@
 -- Which places a list has, and how many.
-use Rattle.std.proofs.Common.{◌≡◌, ◌≢◌, ℕ, zero, suc, ◌+◌, ◌*◌, ◌/◌, ◌%◌, ◌^◌, ◌<◌, ◌≤◌, ◌⊎◌, inl, inr, Bool, true, false, cond, not, ◌==◌, eqb, eq-eqb, List, [], ◌∷◌, length, refl, sym, ap, subst, ◌∙◌, arith}
+use Rattle.std.proofs.Common.{◌≡◌, ◌≢◌, ℕ, suc, ◌+◌, ◌*◌, ◌/◌, ◌%◌, ◌^◌, ◌<◌, ◌≤◌, ◌⊎◌, inl, inr, Bool, true, false, cond, not, ◌==◌, eq-eqb, List, [], ◌∷◌, length, refl, sym, ap, subst, ◌∙◌, arith}
 use Rattle.std.specs.Prelude.{All, AllPairs, Contains, filter, slice_index_or}
 use Rattle.std.proofs.lemmas.List.{get_or_default}
 use Rattle.std.proofs.lemmas.Bool.{ne_eqb, cases_eq}
 use Rattle.std.proofs.lemmas.Bool.Decides.{eqb_tells}
-use Rattle.std.proofs.lemmas.Nat.{le-div, div_below}
 use Rattle.std.proofs.lemmas.List.Elements.{All-tail, All-head, All-weaker, All-filter, All-contains, All-contains_itself, filter_passes, Contains-append_left, Contains-append_right, Contains-append_cases, Contains-push, Contains-push_cases}
 use Rattle.place_lists.specs.Lists.{times}
 use Rattle.place_lists.proofs.Times.{times_here, times_there, length_below}
@@ -19,9 +18,9 @@ has_later p q ps h = Contains-append_right (p ∷ []) ps q h
 
 pub has_cases : (p q : Place) (ps : List Place) → Contains (p ∷ ps) q → (p ≡ q) ⊎ Contains ps q
 has_cases p q ps h = elim (Contains-append_cases (p ∷ []) ps q h) [
-      | inl one ↦ elim (Contains-push_cases [] p q one) [ inl none ↦ absurd (let l = none.1 in omega (arith, l)) | inr e ↦ inl e ]
-      | inr rest ↦ inr rest
-    ]
+  | inl one ↦ elim (Contains-push_cases [] p q one) [ inl none ↦ absurd (let l = none.1 in omega (arith, l)) | inr e ↦ inl e ]
+  | inr rest ↦ inr rest
+]
 
 pub all_of : (P : Place → Type 0) (ps : List Place) → ((q : Place) → Contains ps q → P q) → All P ps
 all_of P ps h = All-weaker (Contains ps) P h ps (All-contains_itself ps)
@@ -29,9 +28,9 @@ all_of P ps h = All-weaker (Contains ps) P h ps (All-contains_itself ps)
 kept_by : (t : Place → Bool) (q : Place) (ps : List Place) → Contains ps q → t q ≡ true → Contains (filter t ps) q
 kept_by t q [] h e = absurd (let l = h.1 in omega (arith, l))
 kept_by t q (p ∷ ps) h e = elim (has_cases p q ps h) [
-      | inl same ↦ subst (λ b. Contains (cond b (p ∷ filter t ps) (filter t ps)) q) (sym (ap t same ∙ e)) (subst (λ z. Contains (z ∷ filter t ps) q) (sym same) (has_first q (filter t ps)))
-      | inr later ↦ elim (t p) as (λ b. Contains (cond b (p ∷ filter t ps) (filter t ps)) q) [ true ↦ has_later p q (filter t ps) (kept_by t q ps later e) | false ↦ kept_by t q ps later e ]
-    ]
+  | inl same ↦ subst (λ b. Contains (cond b (p ∷ filter t ps) (filter t ps)) q) (sym (ap t same ∙ e)) (subst (λ z. Contains (z ∷ filter t ps) q) (sym same) (has_first q (filter t ps)))
+  | inr later ↦ elim (t p) as (λ b. Contains (cond b (p ∷ filter t ps) (filter t ps)) q) [ true ↦ has_later p q (filter t ps) (kept_by t q ps later e) | false ↦ kept_by t q ps later e ]
+]
 
 -- the places that begin elsewhere are still there, and no others
 pub kept : (p q : Place) (ps : List Place) → Contains ps q → q.at ≢ p.at → Contains (without p ps) q
@@ -40,9 +39,10 @@ kept p q ps h n = kept_by (λ z. not (z.at == p.at)) q ps h (ap not (ne_eqb q.at
 pub still_has : (p q : Place) (ps : List Place) → Contains (without p ps) q → Contains ps q × (q.at ≢ p.at)
 still_has p q ps h =
     let t : Place → Bool = λ z. not (z.at == p.at) in
-    let passes : t q ≡ true = All-contains (λ x. t x ≡ true) (filter t ps) q (filter_passes t ps) h in
-    (All-contains (Contains ps) (filter t ps) q (All-filter t (Contains ps) ps (All-contains_itself ps)) h,
-     λ e. (let clash : false ≡ true = sym (ap not (eq-eqb q.at p.at e)) ∙ passes in cc))
+    let passes : t q ≡ true = All-contains (λ x. t x ≡ true) (filter t ps) q (filter_passes t ps) h in (
+      All-contains (Contains ps) (filter t ps) q (All-filter t (Contains ps) ps (All-contains_itself ps)) h,
+      λ e. (let clash : false ≡ true = sym (ap not (eq-eqb q.at p.at e)) ∙ passes in cc),
+    )
 
 three : (a b : ℕ) → (a ≡ b) ⊎ ((a < b) ⊎ (b < a))
 three a b = grind arith
@@ -123,19 +123,19 @@ two_starts p q (inr a) lp lq e = (let x = quotient p.at in let y = quotient q.at
 once_step : (z : ℕ) (p : Place) (ps : List Place) (b : Bool) → is_segment p ≡ b → All (Apart p) ps → times z (starts ps) ≤ 1 → times z (cond b ((p.at / 131072) ∷ starts ps) (starts ps)) ≤ 1
 once_step z p ps false e apart rest = rest
 once_step z p ps true e apart rest = elim (cases_eq (p.at / 131072) z) [
-      | inl s ↦
-        (let none : times z (starts ps) ≡ 0 = none_starts z ps (All-weaker (Apart p) (λ (q : Place). is_segment q ≡ true → (q.at / 131072) ≢ z) (λ q a f g. two_starts p q a (len_of p e) (len_of q f) (g ∙ sym s)) ps apart) in
-        let here : times z ((p.at / 131072) ∷ starts ps) ≡ 1 + times z (starts ps) = subst (λ w. times z (w ∷ starts ps) ≡ 1 + times z (starts ps)) (sym s) (times_here z (starts ps)) in
-        omega (arith, none, here))
-      | inr n ↦ (let there = times_there z (p.at / 131072) (starts ps) n in omega (arith, there, rest))
-    ]
+  | inl s ↦
+      (let none : times z (starts ps) ≡ 0 = none_starts z ps (All-weaker (Apart p) (λ (q : Place). is_segment q ≡ true → (q.at / 131072) ≢ z) (λ q a f g. two_starts p q a (len_of p e) (len_of q f) (g ∙ sym s)) ps apart) in
+      let here : times z ((p.at / 131072) ∷ starts ps) ≡ 1 + times z (starts ps) = subst (λ w. times z (w ∷ starts ps) ≡ 1 + times z (starts ps)) (sym s) (times_here z (starts ps)) in
+      omega (arith, none, here))
+  | inr n ↦ (let there = times_there z (p.at / 131072) (starts ps) n in omega (arith, there, rest))
+]
 
 once_starts : (z : ℕ) (ps : List Place) → AllPairs Apart ps → times z (starts ps) ≤ 1
 unfolding starts
 once_starts z [] h = omega arith
 once_starts z (p ∷ ps) h =
     once_step z p ps (is_segment p) refl (λ k d w. h 0 (suc k) d (omega arith) (omega (arith, w)))
-      (once_starts z ps (λ i j d l w. h (suc i) (suc j) d (omega (arith, l)) (omega (arith, w))))
+    (once_starts z ps (λ i j d l w. h (suc i) (suc j) d (omega (arith, l)) (omega (arith, w))))
 
 -- disjoint segments inside the bytes are as many as fit, at most
 pub few_segments : (n size : ℕ) (ps : List Place) → AreBlocks size ps → size ≤ 131072 * n → segments_out ps ≤ n
@@ -180,30 +180,30 @@ pub same_blocks : (size : ℕ) (out : List Place) (p : Place) → AreBlocks size
 same_blocks size out p blocks has len =
     let u : Place → Bool = λ z. not (z.at == p.at) in
     let stays : (q : Place) → Contains (filter is_block out) q → u q ≡ true = λ q h.
-      (let in_out : Contains out q = All-contains (Contains out) (filter is_block out) q (All-filter is_block (Contains out) out (All-contains_itself out)) h in
-      let is : is_block q ≡ true = All-contains (λ x. is_block x ≡ true) (filter is_block out) q (filter_passes is_block out) h in
-      ap not (ne_eqb q.at p.at (λ e.
-        (let one : p ≡ q = same_place size out p q blocks has in_out (sym e) in
-        let seg : is_segment q ≡ true = subst (λ z. is_segment z ≡ true) one (segment_is p len) in
-        let clash : false ≡ true = sym (ap not seg) ∙ is in cc)))) in
+    (let in_out : Contains out q = All-contains (Contains out) (filter is_block out) q (All-filter is_block (Contains out) out (All-contains_itself out)) h in
+    let is : is_block q ≡ true = All-contains (λ x. is_block x ≡ true) (filter is_block out) q (filter_passes is_block out) h in
+    ap not (ne_eqb q.at p.at (λ e.
+    (let one : p ≡ q = same_place size out p q blocks has in_out (sym e) in
+    let seg : is_segment q ≡ true = subst (λ z. is_segment z ≡ true) one (segment_is p len) in
+    let clash : false ≡ true = sym (ap not seg) ∙ is in cc)))) in
     ap length (filter_swap is_block u out ∙ all_kept u (filter is_block out) (all_of (λ q. u q ≡ true) (filter is_block out) stays))
 
 one_less : (t u : Place → Bool) (p : Place) (ps : List Place) → Contains ps p → t p ≡ true → u p ≡ false → length (filter t (filter u ps)) < length (filter t ps)
 one_less t u p [] h et eu = absurd (let l = h.1 in omega (arith, l))
 one_less t u p (q ∷ ps) h et eu = elim (has_cases q p ps h) [
-      | inl same ↦
-        (let less = fewer_left t u ps in
-        let tq : t q ≡ true = ap t same ∙ et in let uq : u q ≡ false = ap u same ∙ eu in
-        let left : length (filter t (filter u (q ∷ ps))) ≡ length (filter t (filter u ps)) = ap (λ b. length (filter t (cond b (q ∷ filter u ps) (filter u ps)))) uq in
-        let right : length (filter t (q ∷ ps)) ≡ suc (length (filter t ps)) = ap (λ b. length (cond b (q ∷ filter t ps) (filter t ps))) tq in
-        omega (arith, less, left, right))
-      | inr later ↦
-        (let less = one_less t u p ps later et eu in
-        elim (u q) as (λ b. length (filter t (cond b (q ∷ filter u ps) (filter u ps))) < length (filter t (q ∷ ps))) [
-          | true ↦ elim (t q) as (λ b. length (cond b (q ∷ filter t (filter u ps)) (filter t (filter u ps))) < length (cond b (q ∷ filter t ps) (filter t ps))) [ true ↦ omega (arith, less) | false ↦ less ]
-          | false ↦ elim (t q) as (λ b. length (filter t (filter u ps)) < length (cond b (q ∷ filter t ps) (filter t ps))) [ true ↦ omega (arith, less) | false ↦ less ]
-        ])
-    ]
+  | inl same ↦
+      (let less = fewer_left t u ps in
+      let tq : t q ≡ true = ap t same ∙ et in let uq : u q ≡ false = ap u same ∙ eu in
+      let left : length (filter t (filter u (q ∷ ps))) ≡ length (filter t (filter u ps)) = ap (λ b. length (filter t (cond b (q ∷ filter u ps) (filter u ps)))) uq in
+      let right : length (filter t (q ∷ ps)) ≡ suc (length (filter t ps)) = ap (λ b. length (cond b (q ∷ filter t ps) (filter t ps))) tq in
+      omega (arith, less, left, right))
+  | inr later ↦
+      (let less = one_less t u p ps later et eu in
+      elim (u q) as (λ b. length (filter t (cond b (q ∷ filter u ps) (filter u ps))) < length (filter t (q ∷ ps))) [
+        | true ↦ elim (t q) as (λ b. length (cond b (q ∷ filter t (filter u ps)) (filter t (filter u ps))) < length (cond b (q ∷ filter t ps) (filter t ps))) [ true ↦ omega (arith, less) | false ↦ less ]
+        | false ↦ elim (t q) as (λ b. length (filter t (filter u ps)) < length (cond b (q ∷ filter t ps) (filter t ps))) [ true ↦ omega (arith, less) | false ↦ less ]
+      ])
+]
 
 block_is : (p : Place) → p.len ≤ 16384 → is_block p ≡ true
 block_is p l = ap not (ne_eqb p.len 131072 (λ e. omega (arith, e, l)))

@@ -1,6 +1,25 @@
 ghost use Rattle.std.specs.Prelude.{
-    ◌≡◌, ℕ, ◌+◌, ◌*◌, ◌/◌, ◌%◌, ◌<◌, ◌≤◌, ◌↔◌, List, [], ◌∷◌, length, replicate, All, Contains, IfOk, IfErr, IfSome, IfNone,
-    IsNone,
+  ◌≡◌,
+  ℕ,
+  ◌+◌,
+  ◌*◌,
+  ◌/◌,
+  ◌%◌,
+  ◌<◌,
+  ◌≤◌,
+  ◌↔◌,
+  List,
+  [],
+  ◌∷◌,
+  length,
+  replicate,
+  All,
+  Contains,
+  IfOk,
+  IfErr,
+  IfSome,
+  IfNone,
+  IsNone,
 };
 ghost use Rattle.std.specs.Ordering.{nat_cmp};
 ghost use Rattle.std.specs.FinMap as map;
