@@ -55,7 +55,7 @@ pub record AreHeldIn (s : Objects) (spans : Layout) : Type 0 where
 abbrev pub HoldsFor : Objects → Objects → Layout → Layout → ℕ → Type 0
 HoldsFor old new spans spans' class =
     ((new.held ≡ old.held) × (spans' ≡ spans))
-    ⊎ (IsUsedUp old class × ((first : ℕ) × (new.held ≡ map.insert old.held first class) × (spans'.out ≡ map.insert spans.out first (order_of class)) × (map.get old.held first ≡ None)))
+    ⊎ (IsUsedUp old class × ((first : ℕ) × (new.held ≡ map.insert old.held first class) × (spans'.out ≡ map.insert spans.out first (order_of class)) × (map.get old.held first ≡ None) × (map.get spans.out first ≡ None)))
 
 -- some spans without an object out were let go and given back to the pages; nothing else changed
 pub record Trims (old new : Objects) (spans spans' : Layout) : Type 0 where

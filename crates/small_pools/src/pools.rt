@@ -113,6 +113,7 @@ impl Pools {
         ensures was_free { IfSome result (λ place. map.get self.old.out place ≡ None) }
         ensures out { IfSome result (λ place. self.new.out ≡ map.insert self.old.out place (size_of class)) }
         ensures spans { IfSome result (λ _. HoldsFor self.old self.new spans.old spans.new class) }
+        ensures pages { self.new.pages ≡ self.old.pages }
         ensures held { AreHeldIn self.new spans.new }
         ensures objects { AreObjects self.new }
         ensures divided { Divides spans.new }
@@ -169,6 +170,7 @@ impl Pools {
         ensures room { IfSome result (λ first. HasRoom self.new first class) }
         ensures out { self.new.out ≡ self.old.out }
         ensures spans { IfSome result (λ _. HoldsFor self.old self.new spans.old spans.new class) }
+        ensures pages { self.new.pages ≡ self.old.pages }
         ensures held { AreHeldIn self.new spans.new }
         ensures objects { AreObjects self.new }
         ensures divided { Divides spans.new }

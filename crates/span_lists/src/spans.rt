@@ -157,7 +157,8 @@ impl Spans {
 
     /// The number of pages in free spans.
     pub fn free_pages(&self) -> u32
-        ensures { result ≡ free_pages self.now }
+        ensures value { result ≡ free_pages self.now }
+        ensures most { result ≤ self.now.pages }
     {
         self.free
     }

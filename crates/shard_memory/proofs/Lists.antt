@@ -1,0 +1,219 @@
+-- Which places a list has, and how many.
+use Rattle.std.proofs.Common.{◌≡◌, ◌≢◌, ℕ, suc, ◌+◌, ◌*◌, ◌/◌, ◌%◌, ◌^◌, ◌<◌, ◌≤◌, ◌⊎◌, inl, inr, Bool, true, false, cond, not, ◌==◌, eq-eqb, List, [], ◌∷◌, length, refl, sym, ap, subst, ◌∙◌, arith}
+use Rattle.std.specs.Prelude.{All, AllPairs, Contains, filter, slice_index_or}
+use Rattle.std.proofs.lemmas.List.{get_or_default}
+use Rattle.std.proofs.lemmas.Bool.{ne_eqb, cases_eq}
+use Rattle.std.proofs.lemmas.Bool.Decides.{eqb_tells}
+use Rattle.std.proofs.lemmas.List.Elements.{All-tail, All-head, All-weaker, All-filter, All-contains, All-contains_itself, filter_passes, Contains-append_left, Contains-append_right, Contains-append_cases, Contains-push, Contains-push_cases}
+use Rattle.place_lists.specs.Lists.{times}
+use Rattle.place_lists.proofs.Times.{times_here, times_there, length_below}
+use Rattle.raw_range.specs.Places.{Place, Apart, IsWithin, AreBlocks, without}
+use Rattle.shard_memory.specs.Shards.{is_segment, is_block, segments_out, blocks_out}
+
+pub has_first : (p : Place) (ps : List Place) → Contains (p ∷ ps) p
+has_first p ps = Contains-append_left (p ∷ []) ps p (Contains-push [] p)
+
+pub has_later : (p q : Place) (ps : List Place) → Contains ps q → Contains (p ∷ ps) q
+has_later p q ps h = Contains-append_right (p ∷ []) ps q h
+
+pub has_cases : (p q : Place) (ps : List Place) → Contains (p ∷ ps) q → (p ≡ q) ⊎ Contains ps q
+has_cases p q ps h = elim (Contains-append_cases (p ∷ []) ps q h) [
+  | inl one ↦ elim (Contains-push_cases [] p q one) [ inl none ↦ absurd (let l = none.1 in omega (arith, l)) | inr e ↦ inl e ]
+  | inr rest ↦ inr rest
+]
+
+pub all_of : (P : Place → Type 0) (ps : List Place) → ((q : Place) → Contains ps q → P q) → All P ps
+all_of P ps h = All-weaker (Contains ps) P h ps (All-contains_itself ps)
+
+kept_by : (t : Place → Bool) (q : Place) (ps : List Place) → Contains ps q → t q ≡ true → Contains (filter t ps) q
+kept_by t q [] h e = absurd (let l = h.1 in omega (arith, l))
+kept_by t q (p ∷ ps) h e = elim (has_cases p q ps h) [
+  | inl same ↦ subst (λ b. Contains (cond b (p ∷ filter t ps) (filter t ps)) q) (sym (ap t same ∙ e)) (subst (λ z. Contains (z ∷ filter t ps) q) (sym same) (has_first q (filter t ps)))
+  | inr later ↦ elim (t p) as (λ b. Contains (cond b (p ∷ filter t ps) (filter t ps)) q) [ true ↦ has_later p q (filter t ps) (kept_by t q ps later e) | false ↦ kept_by t q ps later e ]
+]
+
+-- the places that begin elsewhere are still there, and no others
+pub kept : (p q : Place) (ps : List Place) → Contains ps q → q.at ≢ p.at → Contains (without p ps) q
+kept p q ps h n = kept_by (λ z. not (z.at == p.at)) q ps h (ap not (ne_eqb q.at p.at n))
+
+pub still_has : (p q : Place) (ps : List Place) → Contains (without p ps) q → Contains ps q × (q.at ≢ p.at)
+still_has p q ps h =
+    let t : Place → Bool = λ z. not (z.at == p.at) in
+    let passes : t q ≡ true = All-contains (λ x. t x ≡ true) (filter t ps) q (filter_passes t ps) h in (
+      All-contains (Contains ps) (filter t ps) q (All-filter t (Contains ps) ps (All-contains_itself ps)) h,
+      λ e. (let clash : false ≡ true = sym (ap not (eq-eqb q.at p.at e)) ∙ passes in cc),
+    )
+
+three : (a b : ℕ) → (a ≡ b) ⊎ ((a < b) ⊎ (b < a))
+three a b = grind arith
+
+not_apart : (p q : Place) → 0 < p.len → 0 < q.len → p.at ≡ q.at → ¬ Apart p q
+not_apart p q some more e (inl a) = omega (arith, a, some, e)
+not_apart p q some more e (inr a) = omega (arith, a, more, e)
+
+-- two blocks that begin at one place are one
+pub same_place : (size : ℕ) (out : List Place) (p q : Place) → AreBlocks size out → Contains out p → Contains out q → p.at ≡ q.at → p ≡ q
+same_place size out p q blocks hp hq e =
+    let at_q : slice_index_or out hq.0 p ≡ q = get_or_default out hq.0 p q hq.1 ∙ hq.2 in
+    let wp : IsWithin size p = All-contains (IsWithin size) out p blocks.0 hp in
+    let wq : IsWithin size q = All-contains (IsWithin size) out q blocks.0 hq in
+    elim (three hp.0 hq.0) [
+      | inl s ↦ sym hp.2 ∙ ap (λ k. slice_index_or out k p) s ∙ at_q
+      | inr (inl l) ↦ absurd (not_apart p q wp.0 wq.0 e (subst (λ z. Apart z q) hp.2 (subst (λ z. Apart (slice_index_or out hp.0 p) z) at_q (blocks.1 hp.0 hq.0 p l hq.1))))
+      | inr (inr l) ↦ absurd (not_apart q p wq.0 wp.0 (sym e) (subst (λ z. Apart q z) hp.2 (subst (λ z. Apart z (slice_index_or out hp.0 p)) at_q (blocks.1 hq.0 hp.0 p l hp.1))))
+    ]
+
+-- ---- how many
+
+fewer_left : (t u : Place → Bool) (ps : List Place) → length (filter t (filter u ps)) ≤ length (filter t ps)
+fewer_left t u [] = omega arith
+fewer_left t u (p ∷ ps) =
+    let rest = fewer_left t u ps in
+    let more : length (filter t ps) ≤ length (filter t (p ∷ ps)) = elim (t p) as (λ b. length (filter t ps) ≤ length (cond b (p ∷ filter t ps) (filter t ps))) [ true ↦ omega arith | false ↦ omega arith ] in
+    elim (u p) as (λ b. length (filter t (cond b (p ∷ filter u ps) (filter u ps))) ≤ length (filter t (p ∷ ps))) [
+      | true ↦ elim (t p) as (λ b. length (cond b (p ∷ filter t (filter u ps)) (filter t (filter u ps))) ≤ length (cond b (p ∷ filter t ps) (filter t ps))) [ true ↦ omega (arith, rest) | false ↦ rest ]
+      | false ↦ omega (arith, rest, more)
+    ]
+
+pub fewer_blocks : (p : Place) (ps : List Place) → blocks_out (without p ps) ≤ blocks_out ps
+fewer_blocks p ps = fewer_left is_block (λ z. not (z.at == p.at)) ps
+
+pub both_kinds : (ps : List Place) → length ps ≡ segments_out ps + blocks_out ps
+both_kinds [] = refl
+both_kinds (p ∷ ps) =
+    let rest = both_kinds ps in
+    elim (is_segment p) as (λ b. length (p ∷ ps) ≡ length (cond b (p ∷ filter is_segment ps) (filter is_segment ps)) + length (cond (not b) (p ∷ filter is_block ps) (filter is_block ps))) [
+      | true ↦ omega (arith, rest)
+      | false ↦ omega (arith, rest)
+    ]
+
+-- the numbers of the aligned runs of 131,072 bytes in which the segments begin
+starts : List Place → List ℕ
+starts [] = []
+starts (p ∷ ps) = cond (is_segment p) ((p.at / 131072) ∷ starts ps) (starts ps)
+
+starts_len : (ps : List Place) → length (starts ps) ≡ segments_out ps
+unfolding starts
+starts_len [] = refl
+starts_len (p ∷ ps) =
+    let rest = starts_len ps in
+    elim (is_segment p) as (λ b. length (cond b ((p.at / 131072) ∷ starts ps) (starts ps)) ≡ length (cond b (p ∷ filter is_segment ps) (filter is_segment ps))) [ true ↦ omega (arith, rest) | false ↦ rest ]
+
+none_step : (z : ℕ) (p : Place) (xs : List ℕ) (b : Bool) → is_segment p ≡ b → (is_segment p ≡ true → (p.at / 131072) ≢ z) → times z xs ≡ 0 → times z (cond b ((p.at / 131072) ∷ xs) xs) ≡ 0
+none_step z p xs true e n rest = times_there z (p.at / 131072) xs (n e) ∙ rest
+none_step z p xs false e n rest = rest
+
+none_starts : (z : ℕ) (ps : List Place) → All (λ q. is_segment q ≡ true → (q.at / 131072) ≢ z) ps → times z (starts ps) ≡ 0
+unfolding starts
+none_starts z [] h = refl
+none_starts z (p ∷ ps) h =
+    let P : Place → Type 0 = λ q. is_segment q ≡ true → (q.at / 131072) ≢ z in
+    none_step z p (starts ps) (is_segment p) refl (All-head P p ps h) (none_starts z ps (All-tail P p ps h))
+
+len_of : (p : Place) → is_segment p ≡ true → p.len ≡ 131072
+len_of p e = elim (eqb_tells p.len 131072) [ inl h ↦ h.1 | inr h ↦ absurd (let clash : false ≡ true = sym h.0 ∙ e in cc) ]
+
+quotient : (x : ℕ) → (131072 * (x / 131072) ≤ x) × (x < 131072 * (x / 131072) + 131072)
+quotient x = (omega arith, omega arith)
+
+two_starts : (p q : Place) → Apart p q → p.len ≡ 131072 → q.len ≡ 131072 → (q.at / 131072) ≢ (p.at / 131072)
+two_starts p q (inl a) lp lq e = (let x = quotient p.at in let y = quotient q.at in omega (arith, a, lp, lq, e, x.0, x.1, y.0, y.1))
+two_starts p q (inr a) lp lq e = (let x = quotient p.at in let y = quotient q.at in omega (arith, a, lp, lq, e, x.0, x.1, y.0, y.1))
+
+once_step : (z : ℕ) (p : Place) (ps : List Place) (b : Bool) → is_segment p ≡ b → All (Apart p) ps → times z (starts ps) ≤ 1 → times z (cond b ((p.at / 131072) ∷ starts ps) (starts ps)) ≤ 1
+once_step z p ps false e apart rest = rest
+once_step z p ps true e apart rest = elim (cases_eq (p.at / 131072) z) [
+  | inl s ↦
+      (let none : times z (starts ps) ≡ 0 = none_starts z ps (All-weaker (Apart p) (λ (q : Place). is_segment q ≡ true → (q.at / 131072) ≢ z) (λ q a f g. two_starts p q a (len_of p e) (len_of q f) (g ∙ sym s)) ps apart) in
+      let here : times z ((p.at / 131072) ∷ starts ps) ≡ 1 + times z (starts ps) = subst (λ w. times z (w ∷ starts ps) ≡ 1 + times z (starts ps)) (sym s) (times_here z (starts ps)) in
+      omega (arith, none, here))
+  | inr n ↦ (let there = times_there z (p.at / 131072) (starts ps) n in omega (arith, there, rest))
+]
+
+once_starts : (z : ℕ) (ps : List Place) → AllPairs Apart ps → times z (starts ps) ≤ 1
+unfolding starts
+once_starts z [] h = omega arith
+once_starts z (p ∷ ps) h =
+    once_step z p ps (is_segment p) refl (λ k d w. h 0 (suc k) d (omega arith) (omega (arith, w)))
+    (once_starts z ps (λ i j d l w. h (suc i) (suc j) d (omega (arith, l)) (omega (arith, w))))
+
+-- disjoint segments inside the bytes are as many as fit, at most
+pub few_segments : (n size : ℕ) (ps : List Place) → AreBlocks size ps → size ≤ 131072 * n → segments_out ps ≤ n
+few_segments n size ps blocks small =
+    let low = length_below n (starts ps) (λ z. once_starts z ps blocks.1) (λ z g. none_starts z ps (All-weaker (IsWithin size) (λ (q : Place). is_segment q ≡ true → (q.at / 131072) ≢ z) (λ q w e s. (let l = len_of q e in let x = quotient q.at in let w1 = w.1 in omega (arith, l, w1, s, g, x.0, x.1, small))) ps blocks.0)) in
+    let len = starts_len ps in
+    omega (arith, low, len)
+
+-- with so few pages there is room for one more piece
+pub few_pieces : (pages : ℕ) (out : List Place) → pages ≤ 65536 → AreBlocks (4096 * pages) out → blocks_out out ≤ 1024 → length out < 4096
+few_pieces pages out most blocks few =
+    let segs = few_segments 2048 (4096 * pages) out blocks (omega (arith, most)) in
+    let both = both_kinds out in
+    omega (arith, segs, both, few)
+
+pub page_of_start : (first : ℕ) → 4096 * first / 4096 ≡ first
+page_of_start first = omega arith
+
+pub whole_start : (first : ℕ) → first % 2 ^ 5 ≡ 0 → 4096 * first % 131072 ≡ 0
+whole_start first h = omega (arith, h)
+
+filter_swap : (t u : Place → Bool) (ps : List Place) → filter t (filter u ps) ≡ filter u (filter t ps)
+filter_swap t u [] = refl
+filter_swap t u (p ∷ ps) = swap_step t u p ps (t p) (u p) refl refl (filter_swap t u ps)
+  where
+    swap_step : (t u : Place → Bool) (p : Place) (ps : List Place) (a b : Bool) → t p ≡ a → u p ≡ b → filter t (filter u ps) ≡ filter u (filter t ps) → filter t (cond b (p ∷ filter u ps) (filter u ps)) ≡ filter u (cond a (p ∷ filter t ps) (filter t ps))
+    swap_step t u p ps true true et eu rest = ap (λ b. cond b (p ∷ filter t (filter u ps)) (filter t (filter u ps))) et ∙ ap (λ xs. p ∷ xs) rest ∙ sym (ap (λ b. cond b (p ∷ filter u (filter t ps)) (filter u (filter t ps))) eu)
+    swap_step t u p ps true false et eu rest = rest ∙ sym (ap (λ b. cond b (p ∷ filter u (filter t ps)) (filter u (filter t ps))) eu)
+    swap_step t u p ps false true et eu rest = ap (λ b. cond b (p ∷ filter t (filter u ps)) (filter t (filter u ps))) et ∙ rest
+    swap_step t u p ps false false et eu rest = rest
+
+all_kept : (t : Place → Bool) (ps : List Place) → All (λ q. t q ≡ true) ps → filter t ps ≡ ps
+all_kept t [] h = refl
+all_kept t (p ∷ ps) h =
+    ap (λ b. cond b (p ∷ filter t ps) (filter t ps)) (All-head (λ (q : Place). t q ≡ true) p ps h) ∙ ap (λ xs. p ∷ xs) (all_kept t ps (All-tail (λ (q : Place). t q ≡ true) p ps h))
+
+segment_is : (p : Place) → p.len ≡ 131072 → is_segment p ≡ true
+segment_is p e = eq-eqb p.len 131072 e
+
+-- a segment that is no longer out leaves the blocks
+pub same_blocks : (size : ℕ) (out : List Place) (p : Place) → AreBlocks size out → Contains out p → p.len ≡ 131072 → blocks_out (without p out) ≡ blocks_out out
+same_blocks size out p blocks has len =
+    let u : Place → Bool = λ z. not (z.at == p.at) in
+    let stays : (q : Place) → Contains (filter is_block out) q → u q ≡ true = λ q h.
+    (let in_out : Contains out q = All-contains (Contains out) (filter is_block out) q (All-filter is_block (Contains out) out (All-contains_itself out)) h in
+    let is : is_block q ≡ true = All-contains (λ x. is_block x ≡ true) (filter is_block out) q (filter_passes is_block out) h in
+    ap not (ne_eqb q.at p.at (λ e.
+    (let one : p ≡ q = same_place size out p q blocks has in_out (sym e) in
+    let seg : is_segment q ≡ true = subst (λ z. is_segment z ≡ true) one (segment_is p len) in
+    let clash : false ≡ true = sym (ap not seg) ∙ is in cc)))) in
+    ap length (filter_swap is_block u out ∙ all_kept u (filter is_block out) (all_of (λ q. u q ≡ true) (filter is_block out) stays))
+
+one_less : (t u : Place → Bool) (p : Place) (ps : List Place) → Contains ps p → t p ≡ true → u p ≡ false → length (filter t (filter u ps)) < length (filter t ps)
+one_less t u p [] h et eu = absurd (let l = h.1 in omega (arith, l))
+one_less t u p (q ∷ ps) h et eu = elim (has_cases q p ps h) [
+  | inl same ↦
+      (let less = fewer_left t u ps in
+      let tq : t q ≡ true = ap t same ∙ et in let uq : u q ≡ false = ap u same ∙ eu in
+      let left : length (filter t (filter u (q ∷ ps))) ≡ length (filter t (filter u ps)) = ap (λ b. length (filter t (cond b (q ∷ filter u ps) (filter u ps)))) uq in
+      let right : length (filter t (q ∷ ps)) ≡ suc (length (filter t ps)) = ap (λ b. length (cond b (q ∷ filter t ps) (filter t ps))) tq in
+      omega (arith, less, left, right))
+  | inr later ↦
+      (let less = one_less t u p ps later et eu in
+      elim (u q) as (λ b. length (filter t (cond b (q ∷ filter u ps) (filter u ps))) < length (filter t (q ∷ ps))) [
+        | true ↦ elim (t q) as (λ b. length (cond b (q ∷ filter t (filter u ps)) (filter t (filter u ps))) < length (cond b (q ∷ filter t ps) (filter t ps))) [ true ↦ omega (arith, less) | false ↦ less ]
+        | false ↦ elim (t q) as (λ b. length (filter t (filter u ps)) < length (cond b (q ∷ filter t ps) (filter t ps))) [ true ↦ omega (arith, less) | false ↦ less ]
+      ])
+]
+
+block_is : (p : Place) → p.len ≤ 16384 → is_block p ≡ true
+block_is p l = ap not (ne_eqb p.len 131072 (λ e. omega (arith, e, l)))
+
+-- a block that is no longer out is one less
+pub block_less : (out : List Place) (p : Place) → Contains out p → p.len ≤ 16384 → blocks_out (without p out) < blocks_out out
+block_less out p has len = one_less is_block (λ z. not (z.at == p.at)) p out has (block_is p len) (ap not (eq-eqb p.at p.at refl))
+
+pub block_more : (out : List Place) (p : Place) → p.len ≤ 16384 → blocks_out (p ∷ out) ≡ blocks_out out + 1
+block_more out p len = ap (λ b. length (cond b (p ∷ filter is_block out) (filter is_block out))) (block_is p len) ∙ omega arith
+
+pub segment_more : (out : List Place) (p : Place) → p.len ≡ 131072 → blocks_out (p ∷ out) ≡ blocks_out out
+segment_more out p len = ap (λ b. length (cond (not b) (p ∷ filter is_block out) (filter is_block out))) (segment_is p len)

@@ -1,0 +1,14 @@
+//! The memory of one shard, after Seastar's `core/memory.cc`: one range of pages, from which blocks of up to four
+//! pages and segments of 128 KiB are given and to which they are given back.
+//!
+//! A block comes from the pool of its size class, a segment is a span of 32 pages. Pools take their memory in spans
+//! of the same pages, and keep a span until `trim` finds no object of it out.
+#![tactic(auto)]
+
+pub use give_refusal::GiveRefusal;
+pub use memory::ShardMemory;
+
+mod give_refusal;
+mod memory;
+#[cfg(test)]
+mod tests;
