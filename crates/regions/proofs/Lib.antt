@@ -1,2 +1,4 @@
 pub mod Objects
 pub mod Appended
+pub mod Killed
+pub mod Tables

@@ -4,8 +4,8 @@ use Rattle.std.specs.Prelude.{◌==◌, Option, None, Some, option_map, IsSome, 
 use Rattle.std.specs.List.{find}
 use Rattle.std.proofs.lemmas.Bool.{eq-eqb, ne_eqb, eqb-true, cases_eq}
 use Rattle.std.proofs.lemmas.List.{take-take, drop-take, drop-drop}
-use Rattle.object_log.specs.Objects.{Object, object_at, IsObject, AreObjects, StandsAt, LivesAt, live, killed}
-use Rattle.regions.specs.Contents.{Standing, standing, standing_among, object_with, live_bytes}
+use Rattle.object_log.specs.Objects.{Object, object_at, objects, IsObject, AreObjects, live}
+use Rattle.regions.specs.Contents.{Item, Standing, standing, standing_among, item_if_live, if_live, object_with, live_bytes}
 
 -- objects end where they end
 pub objects-below : (bytes : List ℕ) (a used : ℕ) (os : List Object) → AreObjects bytes a used os → a ≤ used
@@ -163,3 +163,32 @@ added-there (p ∷ os) o at is none =
           let later : object_with at (p ∷ os) ≡ object_with at os = rw (ne_eqb p.at at ne) refl in
           rw (ne_eqb p.at at ne) (added-there os o at is (sym later ∙ none))
     ]
+
+-- what stands there is one of the objects
+pub some-found : (bytes : List ℕ) (at : ℕ) (os : List Object) → IsSome (standing_among bytes at os) → (o : Object) × (object_with at os ≡ Some o)
+some-found bytes at os =
+    elim (object_with at os) as (λ v. is_some (option_map (standing bytes) v) ≡ true → (o : Object) × (v ≡ Some o)) [
+      | None ↦ λ h. absurd (let clash : false ≡ true = h in cc)
+      | Some o ↦ λ h. (o, refl)
+    ]
+
+if-live-true : (b : Bool) (i : Item) → is_some (if_live b i) ≡ true → b ≡ true
+if-live-true true i h = refl
+if-live-true false i h = absurd (let clash : false ≡ true = h in cc)
+
+pub live-found : (bytes : List ℕ) (at : ℕ) (os : List Object) → IsSome (item_if_live (standing_among bytes at os)) → (o : Object) × (object_with at os ≡ Some o) × (o.state ≡ 1)
+live-found bytes at os =
+    elim (object_with at os) as (λ v. is_some (item_if_live (option_map (standing bytes) v)) ≡ true → (o : Object) × (v ≡ Some o) × (o.state ≡ 1)) [
+      | None ↦ λ h. absurd (let clash : false ≡ true = h in cc)
+      | Some o ↦ λ h. (o, refl, eqb-true o.state 1 (if-live-true (o.state == 1) (standing bytes o).item h))
+    ]
+
+pub live-standing : (s : Option Standing) → IsSome (item_if_live s) → IsSome s
+live-standing None h = h
+live-standing (Some s) h = refl
+
+-- in a free segment nothing stands
+pub begun-if : (bytes : List ℕ) (used at : ℕ) (free : Bool) → (free ≡ true → used ≡ 0) → IsSome (standing_among bytes at (objects bytes used)) → free ≡ false
+begun-if bytes used at false z h = refl
+begun-if bytes used at true z h =
+    absurd (let clash : false ≡ true = subst (λ k. IsSome (standing_among bytes at (objects bytes k))) (z refl) h in cc)

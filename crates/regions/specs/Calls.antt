@@ -48,6 +48,7 @@ pub record Buries (at : ℕ) (old new : Held) : Type 0 where
 
 -- a free segment became active
 pub record Begins (old new : Held) : Type 0 where
+  pub empty : old.used ≡ 0
   pub used : new.used ≡ 0
   pub free : new.free ≡ false
   pub piece : identity new.piece ≡ identity old.piece

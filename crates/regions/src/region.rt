@@ -5,6 +5,7 @@ ghost use Rattle.std.specs.Prelude.{
   ◌⊎◌,
   ℕ,
   ◌+◌,
+  ◌-◌,
   ◌<◌,
   ◌≤◌,
   false,
@@ -87,7 +88,7 @@ impl Region {
         ensures { IfOk result (λ r. r ≡ record { most = most; guards = 0; active = None; segments = replicate most None }) }
     {
         let mut slots = Vec::with_capacity(alloc, most as usize)?;
-        for _ in 0..most {
+        for _number in 0..most {
             slots.push(None)?;
         }
         Ok(Region {

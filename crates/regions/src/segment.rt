@@ -1,4 +1,4 @@
-ghost use Rattle.std.specs.Prelude.{◌≡◌, ℕ, ◌+◌, ◌≤◌, ◌⊎◌, true, false, length, Some, None, option_map, IsSome};
+ghost use Rattle.std.specs.Prelude.{◌≡◌, ℕ, ◌+◌, ◌≤◌, ◌⊎◌, true, false, length, take, drop, Some, None, option_map, IsSome};
 ghost use Rattle.object_log.specs.Objects.{IsSize, IsSegment};
 ghost use Rattle.regions.specs.Held.{fresh, emptied};
 ghost use Rattle.regions.specs.Contents.{standing_in, item_if_live, objects_in, live_bytes};
@@ -129,7 +129,7 @@ impl Segment {
     {
         let bytes = self.piece.bytes();
         let size = read_descriptor(bytes, at).size;
-        &bytes[at as usize + DESCRIPTOR..(at + size) as usize]
+        part(bytes, at as usize + DESCRIPTOR, size as usize - DESCRIPTOR)
     }
 
     pub(crate) fn clear(&mut self)
@@ -139,6 +139,14 @@ impl Segment {
         self.live = 0;
         self.free = true;
     }
+}
+
+// `len` bytes from `at` on.
+fn part(bytes: &[u8], at: usize, len: usize) -> &[u8]
+    requires { at + len ≤ length bytes.now }
+    ensures { result.now ≡ take len (drop at bytes.now) }
+{
+    &bytes[at..at + len]
 }
 
 // The bytes are a segment without objects from now on.
