@@ -1,6 +1,6 @@
 -- Tables of segments.
-use Rattle.std.proofs.Common.{◌≡◌, ◌≢◌, ℕ, zero, suc, ◌+◌, ◌<◌, ◌≤◌, inl, inr, Bool, true, false, cond, List, [], ◌∷◌, length, replicate, refl, sym, ap, ◌∙◌, subst, arith, get_or}
-use Rattle.std.specs.Prelude.{Option, None, Some, option_map, slice_set, map}
+use Rattle.std.proofs.Common.{◌≡◌, ◌≢◌, ℕ, zero, suc, ◌+◌, ◌<◌, ◌≤◌, inl, inr, Bool, true, false, cond, List, [], ◌∷◌, ◌++◌, length, replicate, refl, sym, ap, ◌∙◌, subst, arith, get_or}
+use Rattle.std.specs.Prelude.{Option, None, Some, IsSome, option_map, slice_set, map}
 use Rattle.std.specs.List.{count_by, sum_by, fold}
 use Rattle.std.proofs.lemmas.Bool.{cases_eq}
 use Rattle.std.proofs.lemmas.List.{get_or-set_same, get_or-set_other, length-set}
@@ -8,7 +8,7 @@ use Rattle.std.proofs.lemmas.List.Sums.{sum_by-set, sum_by-cons}
 use Rattle.std.proofs.Math.Seq.{map-set_same}
 use Rattle.object_log.specs.Objects.{objects}
 use Rattle.regions.specs.Held.{Held, Holding, held, is_free, is_held, with_segment, identity, fresh, pieces}
-use Rattle.regions.specs.Contents.{Standing, standing_in, standing_at, standing_among}
+use Rattle.regions.specs.Contents.{Standing, item_if_live, standing_in, standing_at, standing_among}
 use Rattle.regions.specs.Calls.{ChangesIn, ChangesAt, Keeps}
 use Rattle.regions.specs.Whole.{IsWhole}
 use Rattle.regions.specs.declared.place.Place.{Place}
@@ -89,3 +89,19 @@ keeps-set r n new inside same q =
 -- in a segment whose objects end at its start nothing stands
 pub nothing-stands : (h : Held) (a : ℕ) → h.used ≡ 0 → standing_in (Some h) a ≡ None
 nothing-stands h a e = ap (λ k. standing_among h.piece.bytes a (objects h.piece.bytes k)) e
+
+-- what is found in the table, whatever is said of places outside
+pub slot-is : {X : Type 0} (xs : List X) (n : ℕ) (x d : X) → n < length xs → x ≡ get_or xs n x → get_or xs n d ≡ x
+slot-is [] n x d inside e = absurd (omega (arith, inside))
+slot-is (y ∷ ys) zero x d inside e = sym e
+slot-is (y ∷ ys) (suc n) x d inside e = slot-is ys n x d (omega (arith, inside)) e
+
+-- where an object is live a segment is held
+pub live-within : (slots : List (Option Held)) (n at : ℕ) → IsSome (item_if_live (standing_in (get_or slots n None) at)) → n < length slots
+live-within [] n at h = absurd (let clash : false ≡ true = h in cc)
+live-within (x ∷ xs) zero at h = omega arith
+live-within (x ∷ xs) (suc n) at h = let rest = live-within xs n at h in omega (arith, rest)
+
+pub replicate-more : {X : Type 0} (n : ℕ) (x : X) → replicate n x ++ x ∷ [] ≡ replicate (n + 1) x
+replicate-more zero x = refl
+replicate-more (suc n) x = ap (λ l. x ∷ l) (replicate-more n x) ∙ (let e : suc (n + 1) ≡ suc n + 1 = omega arith in ap (λ k. replicate k x) e)
