@@ -2,3 +2,4 @@ pub mod Objects
 pub mod Appended
 pub mod Killed
 pub mod Tables
+pub mod Written

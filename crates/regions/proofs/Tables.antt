@@ -6,8 +6,9 @@ use Rattle.std.proofs.lemmas.Bool.{cases_eq}
 use Rattle.std.proofs.lemmas.List.{get_or-set_same, get_or-set_other, length-set}
 use Rattle.std.proofs.lemmas.List.Sums.{sum_by-set, sum_by-cons}
 use Rattle.std.proofs.Math.Seq.{map-set_same}
+use Rattle.std.proofs.Math.ListN.{get_or-map as get_or-map-to}
 use Rattle.object_log.specs.Objects.{objects}
-use Rattle.regions.specs.Held.{Held, Holding, held, is_free, is_held, with_segment, identity, fresh, pieces}
+use Rattle.regions.specs.Held.{Held, Holding, held, is_free, is_held, with_segment, identity, fresh, emptied, all_emptied, pieces}
 use Rattle.regions.specs.Contents.{Standing, item_if_live, standing_in, standing_at, standing_among}
 use Rattle.regions.specs.Calls.{ChangesIn, ChangesAt, Keeps}
 use Rattle.regions.specs.Whole.{IsWhole}
@@ -105,3 +106,23 @@ live-within (x ∷ xs) (suc n) at h = let rest = live-within xs n at h in omega 
 pub replicate-more : {X : Type 0} (n : ℕ) (x : X) → replicate n x ++ x ∷ [] ≡ replicate (n + 1) x
 replicate-more zero x = refl
 replicate-more (suc n) x = ap (λ l. x ∷ l) (replicate-more n x) ∙ (let e : suc (n + 1) ≡ suc n + 1 = omega arith in ap (λ k. replicate k x) e)
+
+-- where every segment is free nothing stands
+nothing-in-emptied : (s : Option Held) (a : ℕ) → standing_in (option_map emptied s) a ≡ None
+nothing-in-emptied None a = refl
+nothing-in-emptied (Some h) a = refl
+
+pub nothing-emptied : (r : Holding) (p : Place) → standing_at (all_emptied r) p ≡ None
+nothing-emptied r p = ap (λ s. standing_in s p.at) (get_or-map-to (λ s. option_map emptied s) r.segments p.segment None) ∙ nothing-in-emptied (held r p.segment) p.at
+
+taken-out : (slots : List (Option Held)) (n : ℕ) → get_or (slice_set slots n None) n None ≡ None
+taken-out [] n = refl
+taken-out (x ∷ xs) zero = refl
+taken-out (x ∷ xs) (suc n) = taken-out xs n
+
+pub nothing-less : (r : Holding) (n : ℕ) → ((p : Place) → standing_at r p ≡ None) → (p : Place) → standing_at (with_segment r n None) p ≡ None
+nothing-less r n nothing p =
+    elim (cases_eq p.segment n) [
+      | inl here ↦ ap (λ k. standing_in (get_or (slice_set r.segments n None) k None) p.at) here ∙ ap (λ s. standing_in s p.at) (taken-out r.segments n)
+      | inr other ↦ ap (λ s. standing_in s p.at) (get_or-set_other r.segments n p.segment None None other) ∙ nothing p
+    ]

@@ -2,6 +2,7 @@
 use Rattle.std.specs.Prelude.{◌≡◌, ◌≢◌, ℕ, ◌+◌, ◌-◌, Bool, true, false, List, [], ◌∷◌, ◌++◌, replicate, Option, None, Some, option_map, IsSome}
 use Rattle.object_log.specs.Objects.{Object, live, killed}
 use Rattle.raw_range.specs.Memory.{Lent}
+use Rattle.raw_range.specs.Places.{written}
 use Rattle.regions.specs.Held.{Held, Holding, held, with_segment, fresh, identity}
 use Rattle.regions.specs.Contents.{Item, Standing, standing_in, standing_at, object_with, objects_in, live_bytes}
 use Rattle.regions.specs.declared.place.Place.{Place}
@@ -13,8 +14,9 @@ zeros kind size = record { live = true; item = record { kind = kind; content = r
 abbrev pub dead : Standing → Standing
 dead s = record s { live = false }
 
-abbrev pub filled : List ℕ → Standing → Standing
-filled content s = record s { item = record { kind = s.item.kind; content = content } }
+-- the bytes are in its content, from `at` on
+abbrev pub overwritten : ℕ → List ℕ → Standing → Standing
+overwritten at bytes s = record s { item = record { kind = s.item.kind; content = written s.item.content at bytes } }
 
 -- at one offset stands what is said, and at each other offset what stood there
 pub record ChangesIn (at : ℕ) (is : Option Standing) (old new : Option Held) : Type 0 where
@@ -46,6 +48,13 @@ pub record Buries (at : ℕ) (old new : Held) : Type 0 where
   pub objects : objects_in new ≡ killed at (objects_in old)
   pub live : (o : Object) → object_with at (objects_in old) ≡ Some o → live_bytes (objects_in new) + o.size ≡ live_bytes (objects_in old)
 
+-- only bytes in the content of an object changed
+pub record Fills (old new : Held) : Type 0 where
+  pub used : new.used ≡ old.used
+  pub free : new.free ≡ old.free
+  pub piece : identity new.piece ≡ identity old.piece
+  pub objects : objects_in new ≡ objects_in old
+
 -- a free segment became active
 pub record Begins (old new : Held) : Type 0 where
   pub empty : old.used ≡ 0
@@ -69,6 +78,14 @@ pub record Kills (p : Place) (old new : Holding) : Type 0 where
   pub after : Held
   pub held : held old p.segment ≡ Some before
   pub buried : Buries p.at before after
+  pub rest : new ≡ with_segment old p.segment (Some after)
+
+-- one call of `write`
+pub record Writes (p : Place) (old new : Holding) : Type 0 where
+  pub before : Held
+  pub after : Held
+  pub held : held old p.segment ≡ Some before
+  pub filled : Fills before after
   pub rest : new ≡ with_segment old p.segment (Some after)
 
 -- the free segment with the number became the active one

@@ -93,6 +93,10 @@ with_segment r n s = record r { segments = slice_set r.segments n s }
 abbrev pub emptied : Held → Held
 emptied h = record h { used = 0; free = true }
 
+-- the region with every segment free
+abbrev pub all_emptied : Holding → Holding
+all_emptied r = record r { active = None; segments = map (λ s. option_map emptied s) r.segments }
+
 abbrev pub fresh : Lent → Held
 fresh piece = record { piece = piece; used = 0; free = true }
 

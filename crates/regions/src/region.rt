@@ -37,18 +37,20 @@ ghost use Rattle.regions.specs.Held.{
   IsClosed,
   IsLeastFree,
   IsGreatestFree,
+  IsGreatestHeld,
+  all_emptied,
   IsLeastUnused,
   with_segment,
   pieces,
 };
 ghost use Rattle.regions.specs.Contents.{standing_at, live_at, live_bytes_in};
-ghost use Rattle.regions.specs.Calls.{zeros, dead, ChangesAt, Keeps, Places, Kills, Activates, Removes};
+ghost use Rattle.regions.specs.Calls.{zeros, dead, overwritten, ChangesAt, Keeps, Places, Kills, Writes, Activates, Removes};
 
 use crate::place::{NeedSegment, Place};
 use crate::segment::Segment;
 use crate::slots::{
-    append_in, begin, bytes_in, clear_in, content_in, greatest_free, is_begun, kill_in, least_free, least_unused,
-    live_in_slot, piece_of, used_in,
+    append_in, begin, bytes_in, clear_all, clear_in, content_in, count_free, greatest_free, greatest_held, is_begun, kill_in, least_free, least_unused,
+    live_in_slot, piece_of, used_in, write_in,
 };
 use raw_range::Piece;
 use std::alloc::{AllocError, Global};
@@ -189,6 +191,17 @@ impl Region {
         content_in(&self.slots[place.segment as usize], place.at)
     }
 
+    /// Writes into the content of the live object at the place, from its byte `at` on.
+    pub fn write(&mut self, place: Place, at: u32, from: &[u8])
+        requires live { IsSome (live_at self.old place) }
+        requires inside { IfSome (standing_at self.old place) (λ s. at + length from.now ≤ length s.item.content) }
+        ensures written { ChangesAt place (option_map (overwritten at from.now) (standing_at self.old place)) self.old self.new }
+        ensures filled { Writes place self.old self.new }
+        ensures pieces { pieces self.new ≡ pieces self.old }
+    {
+        write_in(&mut self.slots[place.segment as usize], place.at, at, from);
+    }
+
     /// One guard more. While one stands, no object is moved and none of its bytes is used again.
     pub fn guard(&mut self)
         requires { self.old.guards < 1000000 }
@@ -276,5 +289,30 @@ impl Region {
     {
         clear_in(&mut self.slots[segment as usize]);
         self.free += 1;
+    }
+
+    /// Removes all objects, makes every segment free, and takes the one with the greatest number out. None
+    /// where no segment is held.
+    pub fn give_up(&mut self) -> Option<Piece>
+        requires { self.old.guards ≡ 0 }
+        ensures none { IsNone result ↔ held_count self.old ≡ 0 }
+        ensures emptied { IsNone result → self.new ≡ all_emptied self.old }
+        ensures given { IfSome result (λ piece. (n : ℕ) × IsGreatestHeld self.old n × Removes n piece (all_emptied self.old) self.new) }
+        ensures objects { (p : Place) → standing_at self.new p ≡ None }
+    {
+        let greatest = greatest_held(&self.slots);
+        self.empty();
+        let number = greatest?;
+        let taken = mem::replace(&mut self.slots[number], None);
+        self.free -= 1;
+        Some(piece_of(taken))
+    }
+
+    fn empty(&mut self)
+        ensures { self.new ≡ all_emptied self.old }
+    {
+        self.active = None;
+        clear_all(&mut self.slots);
+        self.free = count_free(&self.slots);
     }
 }

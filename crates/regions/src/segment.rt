@@ -1,8 +1,9 @@
-ghost use Rattle.std.specs.Prelude.{◌≡◌, ℕ, ◌+◌, ◌≤◌, ◌⊎◌, true, false, length, take, drop, Some, None, option_map, IsSome};
+ghost use Rattle.std.specs.Prelude.{◌≡◌, ℕ, ◌+◌, ◌≤◌, ◌⊎◌, true, false, length, take, drop, Some, None, option_map, IsSome, IfSome};
 ghost use Rattle.object_log.specs.Objects.{IsSize, IsSegment};
+ghost use Rattle.raw_range.specs.Places.{written};
 ghost use Rattle.regions.specs.Held.{fresh, emptied};
 ghost use Rattle.regions.specs.Contents.{standing_in, item_if_live, objects_in, live_bytes};
-ghost use Rattle.regions.specs.Calls.{zeros, dead, ChangesIn, Appends, Buries, Begins};
+ghost use Rattle.regions.specs.Calls.{zeros, dead, overwritten, ChangesIn, Appends, Buries, Fills, Begins};
 
 use object_log::{append, kill, read_descriptor};
 use raw_range::Piece;
@@ -132,6 +133,16 @@ impl Segment {
         part(bytes, at as usize + DESCRIPTOR, size as usize - DESCRIPTOR)
     }
 
+    // Writes into the content of a live object, from its byte `from` on.
+    pub(crate) fn write(&mut self, at: u32, from: u32, bytes: &[u8])
+        requires live { IsSome (item_if_live (standing_in (Some self.old) at)) }
+        requires inside { IfSome (standing_in (Some self.old) at) (λ s. from + length bytes.now ≤ length s.item.content) }
+        ensures filled { Fills self.old self.new }
+        ensures written { ChangesIn at (option_map (overwritten from bytes.now) (standing_in (Some self.old) at)) (Some self.old) (Some self.new) }
+    {
+        write_part(self.piece.bytes_mut(), at as usize + DESCRIPTOR + from as usize, bytes);
+    }
+
     pub(crate) fn clear(&mut self)
         ensures { self.new ≡ emptied self.old }
     {
@@ -139,6 +150,13 @@ impl Segment {
         self.live = 0;
         self.free = true;
     }
+}
+
+fn write_part(bytes: &mut [u8], at: usize, from: &[u8])
+    requires { at + length from.now ≤ length bytes.old }
+    ensures { bytes.new ≡ written bytes.old at from.now }
+{
+    bytes[at..at + from.len()].copy_from_slice(from);
 }
 
 // `len` bytes from `at` on.

@@ -1,10 +1,10 @@
 // One place of a region's table of segments, and the table.
-ghost use Rattle.std.specs.Prelude.{◌≡◌, ℕ, ◌+◌, ◌<◌, ◌≤◌, false, true, length, Some, None, option_map, IsSome, slice_index_or};
+ghost use Rattle.std.specs.Prelude.{◌≡◌, ℕ, ◌+◌, ◌<◌, ◌≤◌, ◌↔◌, IsNone, false, true, length, Some, None, option_map, IsSome, IfSome, slice_index_or, map};
 ghost use Rattle.std.specs.List.{count_by};
 ghost use Rattle.object_log.specs.Objects.{IsSize, IsSegment};
 ghost use Rattle.regions.specs.Held.{Held, fresh, emptied, used_of, is_held, is_free, is_begun};
 ghost use Rattle.regions.specs.Contents.{standing_in, item_if_live, live_bytes_in};
-ghost use Rattle.regions.specs.Calls.{zeros, dead, ChangesIn, Appends, Buries, Begins};
+ghost use Rattle.regions.specs.Calls.{zeros, dead, overwritten, ChangesIn, Appends, Buries, Fills, Begins};
 
 use crate::segment::Segment;
 use raw_range::Piece;
@@ -52,6 +52,18 @@ pub(crate) fn kill_in(slot: &mut Option<Segment>, at: u32)
         unreachable!()
     };
     segment.kill(at);
+}
+
+pub(crate) fn write_in(slot: &mut Option<Segment>, at: u32, from: u32, bytes: &[u8])
+    requires live { IsSome (item_if_live (standing_in slot.old at)) }
+    requires inside { IfSome (standing_in slot.old at) (λ s. from + length bytes.now ≤ length s.item.content) }
+    ensures filled { (old new : Held) × (slot.old ≡ Some old) × (slot.new ≡ Some new) × Fills old new }
+    ensures written { ChangesIn at (option_map (overwritten from bytes.now) (standing_in slot.old at)) slot.old slot.new }
+{
+    let Some(segment) = slot else {
+        unreachable!()
+    };
+    segment.write(at, from, bytes);
 }
 
 pub(crate) fn content_in(slot: &Option<Segment>, at: u32) -> &[u8]
@@ -116,13 +128,50 @@ pub(crate) fn is_free(slot: &Option<Segment>) -> bool
 }
 
 pub(crate) fn clear_in(slot: &mut Option<Segment>)
-    requires { is_held slot.old ≡ true }
     ensures { slot.new ≡ option_map emptied slot.old }
 {
-    let Some(segment) = slot else {
-        unreachable!()
-    };
-    segment.clear();
+    match slot {
+        Some(segment) => segment.clear(),
+        None => {}
+    }
+}
+
+pub(crate) fn clear_all(slots: &mut [Option<Segment>])
+    ensures { slots.new ≡ map (λ s. option_map emptied s) slots.old }
+{
+    for number in 0..slots.len() {
+        clear_in(&mut slots[number]);
+    }
+}
+
+pub(crate) fn count_free(slots: &[Option<Segment>]) -> u32
+    requires { length slots.now ≤ 2048 }
+    ensures { result ≡ count_by is_free slots.now }
+{
+    let mut count = 0;
+    for slot in slots {
+        if is_free(slot) {
+            count += 1;
+        }
+    }
+    count
+}
+
+pub(crate) fn greatest_held(slots: &[Option<Segment>]) -> Option<usize>
+    ensures none { IsNone result ↔ count_by is_held slots.now ≡ 0 }
+    ensures inside { IfSome result (λ n. n < length slots.now) }
+    ensures held { IfSome result (λ n. is_held (slice_index_or slots.now n None) ≡ true) }
+    ensures greatest { IfSome result (λ n. (m : ℕ) → n < m → is_held (slice_index_or slots.now m None) ≡ false) }
+{
+    let mut above = slots.len();
+    while above > 0 {
+        let number = above - 1;
+        if slots[number].is_some() {
+            return Some(number);
+        }
+        above = number;
+    }
+    None
 }
 
 pub(crate) fn least_free(slots: &[Option<Segment>]) -> usize
