@@ -38,7 +38,10 @@ module _ (p : Lent) (free : Bool) (now new : List ℕ) (used kind size r : ℕ) 
   appended =
       subst (λ h. Appends kind size h (after (refill (length p.bytes) p.bytes new))) is-old (subst (λ b. Appends kind size (record { piece = p; used = used; free = free }) (after b)) (sym is-new)
       (record {
-        used = ends; free = refl; piece = ap (λ n. record (identity p) { length = n }) as-long; objects = added;
+        used = ends;
+        free = refl;
+        piece = ap (λ n. record (identity p) { length = n }) as-long;
+        objects = added;
         live = ap live_bytes added ∙ live-added (objects p.bytes used) used kind size;
       }))
 
@@ -50,11 +53,11 @@ module _ (p : Lent) (free : Bool) (now new : List ℕ) (used kind size r : ℕ) 
       subst (λ h. ChangesIn used (Some (zeros kind size)) (Some h) (Some (after (refill (length p.bytes) p.bytes new)))) is-old (subst (λ b. ChangesIn used (Some (zeros kind size)) (Some (record { piece = p; used = used; free = free })) (Some (after b))) (sym is-new)
       (record {
         here =
-          ap (λ os. standing_among new used os) added
-          ∙ ap (option_map (standing new)) (added-there (objects p.bytes used) (live used kind size) used refl (none-behind p.bytes 0 used used (objects p.bytes used) segment.whole (omega arith)))
-          ∙ ap (λ c. let s : Standing = record { live = true; item = record { kind = kind; content = c } } in Some s) zero-content;
+            ap (λ os. standing_among new used os) added
+            ∙ ap (option_map (standing new)) (added-there (objects p.bytes used) (live used kind size) used refl (none-behind p.bytes 0 used used (objects p.bytes used) segment.whole (omega arith)))
+            ∙ ap (λ c. let s : Standing = record { live = true; item = record { kind = kind; content = c } } in Some s) zero-content;
         others = λ a ne.
-          ap (λ os. standing_among new a os) added
-          ∙ ap (option_map (standing new)) (with-added (objects p.bytes used) (live used kind size) a (λ e. ne (sym e)))
-          ∙ standing-below p.bytes new 0 used a (objects p.bytes used) segment.whole below;
+            ap (λ os. standing_among new a os) added
+            ∙ ap (option_map (standing new)) (with-added (objects p.bytes used) (live used kind size) a (λ e. ne (sym e)))
+            ∙ standing-below p.bytes new 0 used a (objects p.bytes used) segment.whole below;
       }))

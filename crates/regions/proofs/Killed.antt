@@ -97,7 +97,10 @@ module _ (p : Lent) (free : Bool) (now new : List ℕ) (used at : ℕ) (is-now :
       subst (λ h. Buries at h (after (refill (length p.bytes) p.bytes new))) is-old
       (subst (λ b. Buries at (record { piece = p; used = used; free = free }) (after b)) (sym is-new)
       (record {
-        used = refl; free = refl; piece = ap (λ n. record (identity p) { length = n }) as-long; objects = gone;
+        used = refl;
+        free = refl;
+        piece = ap (λ n. record (identity p) { length = n }) as-long;
+        objects = gone;
         live = λ o e. (let same : it ≡ o = (let both : Some it ≡ Some o = sym is-it ∙ e in cc) in subst (λ (q : Object). live_bytes (objects new used) + q.size ≡ live_bytes (objects p.bytes used)) same live-less);
       }))
 
@@ -117,9 +120,9 @@ module _ (p : Lent) (free : Bool) (now new : List ℕ) (used at : ℕ) (is-now :
       (subst (λ b. ChangesIn at (option_map dead (standing_among p.bytes at (objects p.bytes used))) (Some (record { piece = p; used = used; free = free })) (Some (after b))) (sym is-new)
       (record {
         here =
-          ap (λ os. standing_among new at os) gone ∙ ap (option_map (standing new)) (killed-there at (objects p.bytes used) it is-it)
-          ∙ ap (λ (s : Standing). Some (dead s)) lies
-          ∙ sym (ap (λ f. option_map dead (option_map (standing p.bytes) f)) is-it);
+            ap (λ os. standing_among new at os) gone ∙ ap (option_map (standing new)) (killed-there at (objects p.bytes used) it is-it)
+            ∙ ap (λ (s : Standing). Some (dead s)) lies
+            ∙ sym (ap (λ f. option_map dead (option_map (standing p.bytes) f)) is-it);
         others = λ b ne.
-          ap (λ os. standing_among new b os) gone ∙ ap (option_map (standing new)) (killed-other at b (objects p.bytes used) ne) ∙ beside b;
+            ap (λ os. standing_among new b os) gone ∙ ap (option_map (standing new)) (killed-other at b (objects p.bytes used) ne) ∙ beside b;
       }))

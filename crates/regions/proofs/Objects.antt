@@ -43,7 +43,12 @@ found bytes a used at (p ∷ os) o h e =
           let first : object_with at (p ∷ os) ≡ Some p = rw (eq-eqb p.at at is) refl in
           let same : p ≡ o = (let both : Some p ≡ Some o = sym first ∙ e in cc) in
           subst (IsFound bytes a used at) same (record {
-            place = is; is = subst (λ k. p ≡ object_at bytes k) (sym here ∙ is) h.0; low = omega (arith, here, is); least = some.0; most = some.1; high = omega (arith, here, is, rest);
+            place = is;
+            is = subst (λ k. p ≡ object_at bytes k) (sym here ∙ is) h.0;
+            low = omega (arith, here, is);
+            least = some.0;
+            most = some.1;
+            high = omega (arith, here, is, rest);
           })
       | inr ne ↦
           let later : object_with at (p ∷ os) ≡ object_with at os = rw (ne_eqb p.at at ne) refl in

@@ -47,13 +47,18 @@ whole-set most active free slots n old new w is same =
       few = w.few;
       free = w.free ∙ omega (arith, swap, both);
       active = λ m e.
-        let a = w.active m e in
-        elim (cases_eq m n) [
-          | inl here ↦
-              (a.0, (new, subst (λ k. get_or (slice_set slots n (Some new)) k None ≡ Some new) (sym here) (get_or-set_same slots n (Some new) None inside),
-                same ∙ (let both : Some old ≡ Some a.1.0 = sym is ∙ subst (λ k. get_or slots k None ≡ Some a.1.0) here a.1.1 in let it : old ≡ a.1.0 = (cc) in ap (λ h. h.free) it ∙ a.1.2)))
-          | inr other ↦ (a.0, (a.1.0, get_or-set_other slots n m (Some new) None other ∙ a.1.1, a.1.2))
-        ];
+          let a = w.active m e in
+          elim (cases_eq m n) [
+            | inl here ↦ (
+              a.0,
+              (
+                new,
+                subst (λ k. get_or (slice_set slots n (Some new)) k None ≡ Some new) (sym here) (get_or-set_same slots n (Some new) None inside),
+                same ∙ (let both : Some old ≡ Some a.1.0 = sym is ∙ subst (λ k. get_or slots k None ≡ Some a.1.0) here a.1.1 in let it : old ≡ a.1.0 = (cc) in ap (λ h. h.free) it ∙ a.1.2),
+              ),
+            )
+            | inr other ↦ (a.0, (a.1.0, get_or-set_other slots n m (Some new) None other ∙ a.1.1, a.1.2))
+          ];
     }
 
 -- another segment on the same piece
@@ -68,13 +73,13 @@ pub changes-set : (r : Holding) (n at : ℕ) (is : Option Standing) (new : Optio
 changes-set r n at is new inside ch = record {
   here = ap (λ s. standing_in s at) (get_or-set_same r.segments n new None inside) ∙ ch.here;
   others = λ q ne.
-    elim (cases_eq q.segment n) [
-      | inl here ↦
-          let far : q.at ≢ at = λ e. ne (let both : q ≡ record { segment = n; at = at } = ap (λ k. let x : Place = record { segment = k; at = q.at } in x) here ∙ ap (λ k. let x : Place = record { segment = n; at = k } in x) e in both) in
-          ap (λ k. standing_in (get_or (slice_set r.segments n new) k None) q.at) here ∙ ap (λ s. standing_in s q.at) (get_or-set_same r.segments n new None inside)
-          ∙ ch.others q.at far ∙ ap (λ k. standing_in (held r k) q.at) (sym here)
-      | inr other ↦ ap (λ s. standing_in s q.at) (get_or-set_other r.segments n q.segment new None other)
-    ];
+      elim (cases_eq q.segment n) [
+        | inl here ↦
+            let far : q.at ≢ at = λ e. ne (let both : q ≡ record { segment = n; at = at } = ap (λ k. let x : Place = record { segment = k; at = q.at } in x) here ∙ ap (λ k. let x : Place = record { segment = n; at = k } in x) e in both) in
+            ap (λ k. standing_in (get_or (slice_set r.segments n new) k None) q.at) here ∙ ap (λ s. standing_in s q.at) (get_or-set_same r.segments n new None inside)
+            ∙ ch.others q.at far ∙ ap (λ k. standing_in (held r k) q.at) (sym here)
+        | inr other ↦ ap (λ s. standing_in s q.at) (get_or-set_other r.segments n q.segment new None other)
+      ];
 }
 
 -- where the same stands in the one segment, the same stands in the region

@@ -119,8 +119,8 @@ module _ (p : Lent) (free : Bool) (now new ws : List ℕ) (used at from : ℕ) (
       let n = it.size - 8 in
       let enough : n ≤ length (drop (at + 8) p.bytes) = (let d = length-drop (at + 8) p.bytes in omega (arith, d, f.high, segment.inside, segment.long)) in
       let content : take n (drop (it.at + 8) new) ≡ written (take n (drop (it.at + 8) p.bytes)) from ws =
-          ap (λ k. take n (drop k new)) at-8 ∙ ap (λ b. take n (drop (at + 8) b)) state ∙ ap (take n) (written-drop p.bytes ws (at + 8) from room)
-          ∙ written-take (drop (at + 8) p.bytes) ws n from fits enough ∙ ap (λ k. written (take n (drop k p.bytes)) from ws) (sym at-8) in
+      ap (λ k. take n (drop k new)) at-8 ∙ ap (λ b. take n (drop (at + 8) b)) state ∙ ap (take n) (written-drop p.bytes ws (at + 8) from room)
+      ∙ written-take (drop (at + 8) p.bytes) ws n from fits enough ∙ ap (λ k. written (take n (drop k p.bytes)) from ws) (sym at-8) in
       ap (λ c. let s : Standing = record (standing p.bytes it) { item = record { kind = it.kind; content = c } } in s) content
 
   pub changed : ChangesIn at (option_map (overwritten from ws) (standing_in (Some old) at)) (Some old) (Some (record { piece = record p { bytes = refill (length p.bytes) p.bytes new }; used = used; free = free }))
@@ -130,9 +130,9 @@ module _ (p : Lent) (free : Bool) (now new ws : List ℕ) (used at from : ℕ) (
       (subst (λ b. ChangesIn at (option_map (overwritten from ws) (standing_among p.bytes at (objects p.bytes used))) (Some (record { piece = p; used = used; free = free })) (Some (after b))) (sym is-new)
       (record {
         here =
-          ap (λ os. standing_among new at os) objects-same ∙ ap (option_map (standing new)) is-it ∙ ap (λ (s : Standing). Some s) lies
-          ∙ sym (ap (λ o. option_map (overwritten from ws) (option_map (standing p.bytes) o)) is-it);
+            ap (λ os. standing_among new at os) objects-same ∙ ap (option_map (standing new)) is-it ∙ ap (λ (s : Standing). Some s) lies
+            ∙ sym (ap (λ o. option_map (overwritten from ws) (option_map (standing p.bytes) o)) is-it);
         others = λ b ne.
-          ap (λ os. standing_among new b os) objects-same
-          ∙ standing-beside p.bytes new (at + 8 + from) (at + 8 + from + length ws) 0 used at b (objects p.bytes used) it segment.whole is-it (omega arith) (omega (arith, f.least, fits)) front back (inl ne);
+            ap (λ os. standing_among new b os) objects-same
+            ∙ standing-beside p.bytes new (at + 8 + from) (at + 8 + from + length ws) 0 used at b (objects p.bytes used) it segment.whole is-it (omega arith) (omega (arith, f.least, fits)) front back (inl ne);
       }))

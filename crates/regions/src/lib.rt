@@ -8,6 +8,8 @@ mod place;
 mod region;
 mod segment;
 mod slots;
+#[cfg(test)]
+mod tests;
 
 pub use place::{NeedSegment, Place};
 pub use region::Region;

@@ -49,8 +49,9 @@ ghost use Rattle.regions.specs.Calls.{zeros, dead, overwritten, ChangesAt, Keeps
 use crate::place::{NeedSegment, Place};
 use crate::segment::Segment;
 use crate::slots::{
-    append_in, begin, bytes_in, clear_all, clear_in, content_in, count_free, greatest_free, greatest_held, is_begun, kill_in, least_free, least_unused,
-    live_in_slot, piece_of, used_in, write_in,
+    append_in, begin, bytes_in, clear_all, clear_in, content_in, count_free, greatest_free,
+    greatest_held, is_begun, kill_in, least_free, least_unused, live_in_slot, piece_of, used_in,
+    write_in,
 };
 use raw_range::Piece;
 use std::alloc::{AllocError, Global};
@@ -115,6 +116,8 @@ impl Region {
         requires segment { length piece.bytes ≡ 131072 }
         ensures added { (n : ℕ) × IsLeastUnused self.old n × (self.new ≡ with_segment self.old n (Some (fresh piece))) }
         ensures objects { Keeps self.old self.new }
+        ensures held { held_count self.new ≡ held_count self.old + 1 }
+        ensures free { free_count self.new ≡ free_count self.old + 1 }
     {
         let number = least_unused(&self.slots);
         self.slots[number] = Some(Segment::new(piece));
@@ -144,6 +147,7 @@ impl Region {
         ensures activated { (n : ℕ) × IsLeastFree self.old n × Activates n self.old self.new }
         ensures objects { Keeps self.old self.new }
         ensures pieces { pieces self.new ≡ pieces self.old }
+        ensures free { free_count self.new + 1 ≡ free_count self.old }
     {
         let number = least_free(&self.slots);
         begin(&mut self.slots[number]);
@@ -253,7 +257,9 @@ impl Region {
     pub fn is_closed(&self, segment: u32) -> bool
         ensures { IsTrue result ↔ IsClosed self.now segment }
     {
-        segment < self.most && self.active != Some(segment) && is_begun(&self.slots[segment as usize])
+        segment < self.most
+            && self.active != Some(segment)
+            && is_begun(&self.slots[segment as usize])
     }
 
     /// The number of the active segment.

@@ -140,7 +140,11 @@ impl Segment {
         ensures filled { Fills self.old self.new }
         ensures written { ChangesIn at (option_map (overwritten from bytes.now) (standing_in (Some self.old) at)) (Some self.old) (Some self.new) }
     {
-        write_part(self.piece.bytes_mut(), at as usize + DESCRIPTOR + from as usize, bytes);
+        write_part(
+            self.piece.bytes_mut(),
+            at as usize + DESCRIPTOR + from as usize,
+            bytes,
+        );
     }
 
     pub(crate) fn clear(&mut self)

@@ -13,9 +13,7 @@ pub(crate) fn piece_of(slot: Option<Segment>) -> Piece
     requires { is_free slot ≡ true }
     ensures { slot ≡ Some (fresh result) }
 {
-    let Some(segment) = slot else {
-        unreachable!()
-    };
+    let Some(segment) = slot else { unreachable!() };
     segment.into_piece()
 }
 
@@ -23,9 +21,7 @@ pub(crate) fn begin(slot: &mut Option<Segment>)
     requires { is_free slot.old ≡ true }
     ensures { (old new : Held) × (slot.old ≡ Some old) × (slot.new ≡ Some new) × Begins old new }
 {
-    let Some(segment) = slot else {
-        unreachable!()
-    };
+    let Some(segment) = slot else { unreachable!() };
     segment.begin();
 }
 
@@ -37,9 +33,7 @@ pub(crate) fn append_in(slot: &mut Option<Segment>, kind: u8, size: u32) -> u32
     ensures unused { standing_in slot.old result ≡ None }
     ensures added { ChangesIn result (Some (zeros kind size)) slot.old slot.new }
 {
-    let Some(segment) = slot else {
-        unreachable!()
-    };
+    let Some(segment) = slot else { unreachable!() };
     segment.append(kind, size)
 }
 
@@ -48,9 +42,7 @@ pub(crate) fn kill_in(slot: &mut Option<Segment>, at: u32)
     ensures buried { (old new : Held) × (slot.old ≡ Some old) × (slot.new ≡ Some new) × Buries at old new }
     ensures killed { ChangesIn at (option_map dead (standing_in slot.old at)) slot.old slot.new }
 {
-    let Some(segment) = slot else {
-        unreachable!()
-    };
+    let Some(segment) = slot else { unreachable!() };
     segment.kill(at);
 }
 
@@ -60,9 +52,7 @@ pub(crate) fn write_in(slot: &mut Option<Segment>, at: u32, from: u32, bytes: &[
     ensures filled { (old new : Held) × (slot.old ≡ Some old) × (slot.new ≡ Some new) × Fills old new }
     ensures written { ChangesIn at (option_map (overwritten from bytes.now) (standing_in slot.old at)) slot.old slot.new }
 {
-    let Some(segment) = slot else {
-        unreachable!()
-    };
+    let Some(segment) = slot else { unreachable!() };
     segment.write(at, from, bytes);
 }
 
@@ -70,9 +60,7 @@ pub(crate) fn content_in(slot: &Option<Segment>, at: u32) -> &[u8]
     requires { IsSome (standing_in slot.now at) }
     ensures { option_map (λ s. s.item.content) (standing_in slot.now at) ≡ Some result.now }
 {
-    let Some(segment) = slot else {
-        unreachable!()
-    };
+    let Some(segment) = slot else { unreachable!() };
     segment.content(at)
 }
 
@@ -81,9 +69,7 @@ pub(crate) fn used_in(slot: &Option<Segment>) -> u32
     ensures used { result ≡ used_of slot.now }
     ensures inside { result ≤ 131072 }
 {
-    let Some(segment) = slot else {
-        unreachable!()
-    };
+    let Some(segment) = slot else { unreachable!() };
     segment.used()
 }
 
@@ -91,9 +77,7 @@ pub(crate) fn live_in_slot(slot: &Option<Segment>) -> u32
     requires { is_held slot.now ≡ true }
     ensures { result ≡ live_bytes_in slot.now }
 {
-    let Some(segment) = slot else {
-        unreachable!()
-    };
+    let Some(segment) = slot else { unreachable!() };
     segment.live()
 }
 
@@ -102,9 +86,7 @@ pub(crate) fn bytes_in(slot: &Option<Segment>) -> &[u8]
     ensures bytes { option_map (λ (h : Held). h.piece.bytes) slot.now ≡ Some result.now }
     ensures segment { IsSegment result.now (used_of slot.now) }
 {
-    let Some(segment) = slot else {
-        unreachable!()
-    };
+    let Some(segment) = slot else { unreachable!() };
     segment.bytes()
 }
 

@@ -13,5 +13,5 @@ returns-clause-objects c p =
     let i = c.self-2.inside in
     let r : Holding = record { most = i.most; guards = i.guards; active = i.active; segments = i.slots.items } in
     let nothing : (q : Place) → standing_at r q ≡ None =
-        λ q. subst (λ s. standing_at s q ≡ None) (sym c.self-2.view_is) (subst (λ s. standing_at s q ≡ None) (sym c.empty.ensures) (nothing-emptied c.args.self.now q)) in
+    λ q. subst (λ s. standing_at s q ≡ None) (sym c.self-2.view_is) (subst (λ s. standing_at s q ≡ None) (sym c.empty.ensures) (nothing-emptied c.args.self.now q)) in
     subst (λ d. standing_at (with_segment r c.in_ok-number.number d) p ≡ None) (sym c.replace-taken.ensures.after) (nothing-less r c.in_ok-number.number nothing p)

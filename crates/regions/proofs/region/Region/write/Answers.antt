@@ -25,7 +25,7 @@ returns-clause-written c =
     let is : get_or slots n None ≡ now = slot-is slots n now None inside c.index_mut.ensures.value in
     let r : Holding = record { most = i.most; guards = i.guards; active = i.active; segments = slots } in
     let ch : ChangesIn c.args.place.at (option_map (overwritten c.args.at c.args.from.now) (standing_in (held r n) c.args.place.at)) (held r n) new =
-        subst (λ s. ChangesIn c.args.place.at (option_map (overwritten c.args.at c.args.from.now) (standing_in s c.args.place.at)) s new) (sym is) c.write_in.ensures.written in
+    subst (λ s. ChangesIn c.args.place.at (option_map (overwritten c.args.at c.args.from.now) (standing_in s c.args.place.at)) s new) (sym is) c.write_in.ensures.written in
     subst (λ q. ChangesAt c.args.place (option_map (overwritten c.args.at c.args.from.now) (standing_at q c.args.place)) q (with_segment r n new)) c.self.view_is
     (changes-set r n c.args.place.at (option_map (overwritten c.args.at c.args.from.now) (standing_at r c.args.place)) new inside ch)
 
