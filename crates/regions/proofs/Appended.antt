@@ -1,11 +1,11 @@
 -- A segment once an object is behind the others.
-use Rattle.std.proofs.Common.{◌≡◌, ◌≢◌, ℕ, ◌+◌, ◌-◌, ◌<◌, ◌≤◌, ◌⊎◌, inl, inr, Bool, true, false, List, [], ◌∷◌, ◌++◌, length, take, drop, replicate, refl, sym, ap, ◌∙◌, subst, arith}
-use Rattle.std.specs.Prelude.{Option, None, Some, option_map}
+use Rattle.std.proofs.Common.{◌≡◌, ℕ, ◌+◌, ◌-◌, Bool, true, List, [], ◌∷◌, ◌++◌, length, take, drop, replicate, refl, sym, ap, ◌∙◌, subst, arith}
+use Rattle.std.specs.Prelude.{None, Some, option_map}
 use Rattle.std.specs.List.{refill}
-use Rattle.object_log.specs.Objects.{Object, objects, live, IsSegment}
+use Rattle.object_log.specs.Objects.{objects, live, IsSegment}
 use Rattle.raw_range.specs.Memory.{Lent}
 use Rattle.regions.specs.Held.{Held, identity}
-use Rattle.regions.specs.Contents.{Standing, standing, standing_among, standing_in, object_with, live_bytes}
+use Rattle.regions.specs.Contents.{Standing, standing, standing_among, standing_in, live_bytes}
 use Rattle.regions.specs.Calls.{zeros, ChangesIn, Appends}
 use Rattle.regions.proofs.Objects.{standing-below, none-behind, with-added, added-there, live-added}
 use Rattle.std.proofs.lemmas.Grind.{common_steps}

@@ -1,6 +1,6 @@
 -- A segment once an object of it is dead.
-use Rattle.std.proofs.Common.{◌≡◌, ◌≢◌, ℕ, ◌+◌, ◌-◌, ◌<◌, ◌≤◌, ◌⊎◌, inl, inr, Bool, true, false, cond, List, [], ◌∷◌, length, take, drop, refl, sym, ap, ◌∙◌, subst, arith, eq-eqb}
-use Rattle.std.specs.Prelude.{◌==◌, Option, None, Some, option_map, slice_set}
+use Rattle.std.proofs.Common.{◌≡◌, ◌≢◌, ℕ, ◌+◌, ◌-◌, ◌<◌, inl, inr, Bool, cond, List, [], ◌∷◌, length, take, drop, refl, sym, ap, ◌∙◌, subst, arith, eq-eqb}
+use Rattle.std.specs.Prelude.{◌==◌, None, Some, option_map, slice_set}
 use Rattle.std.specs.List.{refill}
 use Rattle.std.proofs.lemmas.Bool.{ne_eqb, cases_eq}
 use Rattle.std.proofs.lemmas.List.{take-set, drop-set-lt, length-set}
@@ -9,7 +9,7 @@ use Rattle.raw_range.specs.Memory.{Lent}
 use Rattle.regions.specs.Held.{Held, identity}
 use Rattle.regions.specs.Contents.{Standing, standing, standing_among, standing_in, object_with, live_bytes}
 use Rattle.regions.specs.Calls.{dead, ChangesIn, Buries}
-use Rattle.regions.proofs.Objects.{found, none-before, standing-beside, content-same, window-behind, live-below}
+use Rattle.regions.proofs.Objects.{found, standing-beside, content-same, window-behind}
 use Rattle.regions.proofs.Appended.{refill-same}
 
 abbrev made-dead : Object → Object

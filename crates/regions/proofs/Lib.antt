@@ -3,3 +3,4 @@ pub mod Appended
 pub mod Killed
 pub mod Tables
 pub mod Written
+pub mod Named

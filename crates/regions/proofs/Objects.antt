@@ -1,10 +1,9 @@
 -- What stands at the offsets of a segment, and what a change of its bytes does to that.
-use Rattle.std.proofs.Common.{◌≡◌, ◌≢◌, ℕ, zero, suc, ◌+◌, ◌-◌, ◌<◌, ◌≤◌, ◌⊎◌, inl, inr, Bool, true, false, cond, List, [], ◌∷◌, ◌++◌, length, take, drop, refl, sym, ap, ap₂, ◌∙◌, subst, arith}
-use Rattle.std.specs.Prelude.{◌==◌, Option, None, Some, option_map, IsSome, is_some, slice_index_or, Any}
-use Rattle.std.specs.List.{find}
+use Rattle.std.proofs.Common.{◌≡◌, ◌≢◌, ℕ, suc, ◌+◌, ◌-◌, ◌<◌, ◌≤◌, ◌⊎◌, inl, inr, Bool, true, false, cond, List, [], ◌∷◌, ◌++◌, take, drop, refl, sym, ap, ◌∙◌, subst, arith}
+use Rattle.std.specs.Prelude.{◌==◌, Option, None, Some, option_map, IsSome, is_some, Any}
 use Rattle.std.proofs.lemmas.Bool.{eq-eqb, ne_eqb, eqb-true, cases_eq}
 use Rattle.std.proofs.lemmas.List.{take-take, drop-take, drop-drop}
-use Rattle.object_log.specs.Objects.{Object, object_at, objects, IsObject, AreObjects, live}
+use Rattle.object_log.specs.Objects.{Object, object_at, objects, AreObjects, live}
 use Rattle.regions.specs.Contents.{Item, Standing, standing, standing_among, item_if_live, if_live, object_with, live_bytes}
 
 -- objects end where they end

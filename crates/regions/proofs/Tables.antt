@@ -1,14 +1,14 @@
 -- Tables of segments.
-use Rattle.std.proofs.Common.{◌≡◌, ◌≢◌, ℕ, zero, suc, ◌+◌, ◌<◌, ◌≤◌, inl, inr, Bool, true, false, cond, List, [], ◌∷◌, ◌++◌, length, replicate, refl, sym, ap, ◌∙◌, subst, arith, get_or}
-use Rattle.std.specs.Prelude.{Option, None, Some, IsSome, option_map, slice_set, map}
-use Rattle.std.specs.List.{count_by, sum_by, fold}
+use Rattle.std.proofs.Common.{◌≡◌, ◌≢◌, ℕ, zero, suc, ◌+◌, ◌<◌, inl, inr, Bool, true, false, cond, List, [], ◌∷◌, ◌++◌, length, replicate, refl, sym, ap, ◌∙◌, subst, arith, get_or}
+use Rattle.std.specs.Prelude.{Option, None, Some, IsSome, option_map, slice_set}
+use Rattle.std.specs.List.{count_by}
 use Rattle.std.proofs.lemmas.Bool.{cases_eq}
 use Rattle.std.proofs.lemmas.List.{get_or-set_same, get_or-set_other, length-set}
 use Rattle.std.proofs.lemmas.List.Sums.{sum_by-set, sum_by-cons}
 use Rattle.std.proofs.Math.Seq.{map-set_same}
 use Rattle.std.proofs.Math.ListN.{get_or-map as get_or-map-to}
 use Rattle.object_log.specs.Objects.{objects}
-use Rattle.regions.specs.Held.{Held, Holding, held, is_free, is_held, with_segment, identity, fresh, emptied, all_emptied, pieces}
+use Rattle.regions.specs.Held.{Held, Holding, held, is_free, with_segment, identity, emptied, all_emptied, pieces}
 use Rattle.regions.specs.Contents.{Standing, item_if_live, standing_in, standing_at, standing_among}
 use Rattle.regions.specs.Calls.{ChangesIn, ChangesAt, Keeps}
 use Rattle.regions.specs.Whole.{IsWhole}

@@ -1,15 +1,15 @@
 -- A segment once bytes in the content of an object are written.
-use Rattle.std.proofs.Common.{◌≡◌, ◌≢◌, ℕ, ◌+◌, ◌-◌, ◌<◌, ◌≤◌, ◌⊎◌, inl, inr, Bool, true, false, List, [], ◌∷◌, ◌++◌, length, take, drop, refl, sym, ap, ◌∙◌, subst, arith, get_or, append_assoc, length-append, length-take-le, length-drop}
-use Rattle.std.specs.Prelude.{Option, None, Some, option_map, IfSome, slice_index}
+use Rattle.std.proofs.Common.{◌≡◌, ℕ, ◌+◌, ◌-◌, ◌<◌, ◌≤◌, ◌⊎◌, inl, inr, Bool, List, ◌++◌, length, take, drop, refl, sym, ap, ◌∙◌, subst, arith, get_or, append_assoc, length-append, length-take-le, length-drop}
+use Rattle.std.specs.Prelude.{Some, option_map, IfSome, slice_index}
 use Rattle.std.specs.List.{refill}
-use Rattle.std.proofs.lemmas.List.{take-take, drop-take, drop-drop, get_or-take, get_or-drop, take-append-le, drop-append-le, take_at, drop_at}
-use Rattle.std.proofs.Math.Seq.{take-append-add, drop-append-add}
-use Rattle.object_log.specs.Objects.{Object, objects, AreObjects, IsSegment, IsEnd}
+use Rattle.std.proofs.lemmas.List.{take-take, drop-take, drop-drop, get_or-take, get_or-drop, drop-append-le, take_at, drop_at}
+use Rattle.std.proofs.Math.Seq.{take-append-add}
+use Rattle.object_log.specs.Objects.{Object, objects, AreObjects, IsSegment}
 use Rattle.object_log.proofs.Reading.{content-kept, objects-are}
 use Rattle.raw_range.specs.Memory.{Lent}
 use Rattle.raw_range.specs.Places.{written}
 use Rattle.regions.specs.Held.{Held, identity}
-use Rattle.regions.specs.Contents.{Standing, standing, standing_among, standing_in, object_with, live_bytes}
+use Rattle.regions.specs.Contents.{Standing, standing, standing_among, standing_in, object_with}
 use Rattle.regions.specs.Calls.{overwritten, ChangesIn, Fills}
 use Rattle.regions.proofs.Objects.{found, found-any, standing-beside, window-behind}
 use Rattle.regions.proofs.Appended.{refill-same}

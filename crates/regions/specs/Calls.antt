@@ -1,10 +1,10 @@
 -- What the calls do to the objects of a region.
-use Rattle.std.specs.Prelude.{◌≡◌, ◌≢◌, ℕ, ◌+◌, ◌-◌, Bool, true, false, List, [], ◌∷◌, ◌++◌, replicate, Option, None, Some, option_map, IsSome}
+use Rattle.std.specs.Prelude.{◌≡◌, ◌≢◌, ℕ, ◌+◌, ◌-◌, true, false, List, [], ◌∷◌, ◌++◌, replicate, Option, None, Some}
 use Rattle.object_log.specs.Objects.{Object, live, killed}
 use Rattle.raw_range.specs.Memory.{Lent}
 use Rattle.raw_range.specs.Places.{written}
 use Rattle.regions.specs.Held.{Held, Holding, held, with_segment, fresh, identity}
-use Rattle.regions.specs.Contents.{Item, Standing, standing_in, standing_at, object_with, objects_in, live_bytes}
+use Rattle.regions.specs.Contents.{Standing, standing_in, standing_at, object_with, objects_in, live_bytes}
 use Rattle.regions.specs.declared.place.Place.{Place}
 
 -- a new object of the size, whose content is zero

@@ -1,5 +1,5 @@
 -- What stands in the segments of a region.
-use Rattle.std.specs.Prelude.{◌≡◌, ℕ, ◌+◌, ◌-◌, ◌≤◌, Bool, true, false, cond, ◌==◌, List, [], ◌∷◌, take, drop, Option, None, Some, option_map}
+use Rattle.std.specs.Prelude.{ℕ, ◌+◌, ◌-◌, Bool, true, false, cond, ◌==◌, List, [], ◌∷◌, take, drop, Option, None, Some, option_map}
 use Rattle.std.specs.List.{find}
 use Rattle.object_log.specs.Objects.{Object, objects}
 use Rattle.regions.specs.Held.{Held, Holding, held}

@@ -1,5 +1,5 @@
 -- What contracts see of a region and of its segments.
-use Rattle.std.specs.Prelude.{◌≡◌, ◌≢◌, ℕ, ◌-◌, ◌<◌, ◌≤◌, Bool, true, false, not, List, length, Option, None, Some, slice_index_or, slice_set, map, option_map, IsSome, refl}
+use Rattle.std.specs.Prelude.{◌≡◌, ◌≢◌, ℕ, ◌-◌, ◌<◌, Bool, true, false, not, List, length, Option, None, Some, slice_index_or, slice_set, map, option_map, refl}
 use Rattle.std.specs.List.{count_by}
 use Rattle.std.specs.Coded.{Coded, code_by, coded×, coded_ℕ, coded_bool, coded_list, coded_option}
 use denote.RawPtr.{Ptr}

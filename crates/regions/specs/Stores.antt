@@ -1,5 +1,5 @@
 -- The unmoved store: a map from name to kind and content, in which nothing has a place.
-use Rattle.std.specs.Prelude.{◌≡◌, Bool, true, false, Option, None, Some, option_map}
+use Rattle.std.specs.Prelude.{◌≡◌, Option, Some, option_map}
 use Rattle.regions.specs.Held.{Holding}
 use Rattle.regions.specs.Contents.{Item, live_at}
 use Rattle.regions.specs.declared.place.Place.{Place}

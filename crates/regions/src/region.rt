@@ -44,6 +44,7 @@ ghost use Rattle.regions.specs.Held.{
   pieces,
 };
 ghost use Rattle.regions.specs.Contents.{standing_at, live_at, live_bytes_in};
+ghost use Rattle.regions.specs.Stores.{StandsFor, store_of, itself};
 ghost use Rattle.regions.specs.Calls.{zeros, dead, overwritten, ChangesAt, Keeps, Places, Kills, Writes, Activates, Removes};
 
 use crate::place::{NeedSegment, Place};
@@ -103,9 +104,11 @@ impl Region {
         })
     }
 
-    /// The number given to `new`.
+    /// The number given to `new`. A region stands for a store, in which each live object is named by its
+    /// place.
     pub fn most(&self) -> u32
-        ensures { result ≡ self.now.most }
+        ensures most { result ≡ self.now.most }
+        ensures store { StandsFor (store_of self.now) (itself self.now) self.now }
     {
         self.most
     }

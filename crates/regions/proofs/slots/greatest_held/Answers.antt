@@ -1,4 +1,4 @@
-use Rattle.std.proofs.Common.{◌≡◌, None, refl, arith}
+use Rattle.std.proofs.Common.{None, refl, arith}
 use Rattle.regions.specs.Held.{is_held}
 use Rattle.regions.proofs.Tables.{count-none}
 use Rattle.regions.proofs.slots.greatest_held.Goals as goal

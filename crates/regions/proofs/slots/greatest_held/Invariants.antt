@@ -1,4 +1,4 @@
-use Rattle.std.proofs.Common.{◌≡◌, ℕ, ◌<◌, ◌≤◌, false, None, length, get_or}
+use Rattle.std.proofs.Common.{◌≡◌, ℕ, ◌≤◌, false, None, length, get_or}
 use Rattle.regions.specs.Held.{is_held}
 use Rattle.regions.proofs.slots.greatest_held.Given as goal
 

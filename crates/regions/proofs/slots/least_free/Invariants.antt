@@ -1,5 +1,5 @@
-use Rattle.std.proofs.Common.{◌≡◌, ℕ, ◌-◌, ◌<◌, ◌≤◌, true, false, None, length, get_or}
-use Rattle.regions.specs.Held.{is_free, is_held}
+use Rattle.std.proofs.Common.{◌≡◌, ℕ, ◌-◌, ◌<◌, false, None, length, get_or}
+use Rattle.regions.specs.Held.{is_free}
 use Rattle.regions.proofs.slots.least_free.Given as goal
 
 abbrev pub invariant-loop-number : goal.invariant-loop-number

@@ -1,7 +1,7 @@
-use Rattle.std.proofs.Common.{◌≡◌, ◌<◌, None, Some, length, get_or, sym, ap, ◌∙◌, subst}
-use Rattle.std.specs.Prelude.{slice_set, option_map, IsSome, Option}
-use Rattle.regions.specs.Held.{Held, Holding, held, with_segment, pieces}
-use Rattle.regions.specs.Contents.{Standing, standing_at, standing_in, item_if_live, live_at}
+use Rattle.std.proofs.Common.{◌≡◌, None, get_or, sym, ◌∙◌, subst}
+use Rattle.std.specs.Prelude.{slice_set, option_map, IsSome}
+use Rattle.regions.specs.Held.{Holding, held, with_segment, pieces}
+use Rattle.regions.specs.Contents.{standing_at, standing_in, item_if_live, live_at}
 use Rattle.regions.specs.Calls.{dead, ChangesIn, ChangesAt}
 use Rattle.regions.specs.Whole.{IsWhole}
 use Rattle.regions.proofs.Tables.{whole-set, pieces-set, changes-set, live-within, slot-is}

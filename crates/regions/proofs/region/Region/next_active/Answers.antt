@@ -1,4 +1,4 @@
-use Rattle.std.proofs.Common.{◌≡◌, None, Some, get_or, sym, ap, ◌∙◌, subst}
+use Rattle.std.proofs.Common.{◌≡◌, None, get_or, sym, ◌∙◌, subst}
 use Rattle.regions.specs.Held.{Holding, with_segment, pieces}
 use Rattle.regions.proofs.Tables.{pieces-set, slot-is}
 use Rattle.regions.proofs.region.Region.next_active.Goals as goal

@@ -1,6 +1,6 @@
-use Rattle.std.proofs.Common.{◌≡◌, ℕ, ◌+◌, ◌-◌, inl, true, false, length, take, drop, Some, sym, ap, ◌∙◌, subst, refl, arith}
+use Rattle.std.proofs.Common.{◌≡◌, ◌+◌, ◌-◌, inl, take, drop, Some, sym, ap, ◌∙◌, subst, arith}
 use Rattle.std.specs.Prelude.{IsSome, option_map}
-use Rattle.object_log.specs.Objects.{Object, objects, IsSegment}
+use Rattle.object_log.specs.Objects.{Object, objects}
 use Rattle.regions.specs.Contents.{standing, standing_among, standing_in}
 use Rattle.regions.proofs.Objects.{some-found, begun-if, found, found-any}
 use Rattle.regions.proofs.segment.Segment.content.Goals as goal

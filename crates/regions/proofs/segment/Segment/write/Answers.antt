@@ -1,6 +1,6 @@
-use Rattle.std.proofs.Common.{◌≡◌, ℕ, ◌+◌, ◌-◌, ◌≤◌, Some, length, sym, ap, ◌∙◌, subst, refl, arith}
+use Rattle.std.proofs.Common.{◌+◌, ◌-◌, ◌≤◌, Some, length, sym, ap, ◌∙◌, subst, arith}
 use Rattle.std.specs.Prelude.{IsSome, IfSome}
-use Rattle.object_log.specs.Objects.{objects, IsSegment}
+use Rattle.object_log.specs.Objects.{objects}
 use Rattle.regions.specs.Contents.{item_if_live, standing_among, standing_in, live_bytes}
 use Rattle.regions.proofs.Objects.{live-found, live-standing, begun-if, found}
 use Rattle.regions.proofs.Written.{fits-in, is-new, segment-kept, objects-same, filled, changed}
