@@ -3,7 +3,7 @@ use Rattle.std.proofs.Common.{◌≡◌, ◌≢◌, ℕ, suc, ◌+◌, ◌-◌, 
 use Rattle.std.specs.Prelude.{◌==◌, Option, None, Some, option_map, IsSome, is_some, Any}
 use Rattle.std.proofs.lemmas.Bool.{eq-eqb, ne_eqb, eqb-true, cases_eq}
 use Rattle.std.proofs.lemmas.List.{take-take, drop-take, drop-drop}
-use Rattle.object_log.specs.Objects.{Object, object_at, objects, AreObjects, live}
+use Rattle.object_log.specs.Objects.{Object, object_at, objects, AreObjects, IsSegment, live}
 use Rattle.regions.specs.Contents.{Item, Standing, standing, standing_among, item_if_live, if_live, object_with, live_bytes}
 
 -- objects end where they end
@@ -196,3 +196,24 @@ pub begun-if : (bytes : List ℕ) (used at : ℕ) (free : Bool) → (free ≡ tr
 begun-if bytes used at false z h = refl
 begun-if bytes used at true z h =
     absurd (let clash : false ≡ true = subst (λ k. IsSome (standing_among bytes at (objects bytes k))) (z refl) h in cc)
+
+-- where no byte is live no object is
+none-live : (bytes : List ℕ) (a used at : ℕ) (os : List Object) → AreObjects bytes a used os → live_bytes os ≡ 0 → item_if_live (standing_among bytes at os) ≡ None
+none-live bytes a used at [] h z = refl
+none-live bytes a used at (o ∷ os) h z =
+    elim (cases_eq o.state 1) [
+      | inl one ↦
+          let some : o.size + live_bytes os ≡ 0 = sym (ap (λ b. cond b o.size 0 + live_bytes os) (eq-eqb o.state 1 one)) ∙ z in
+          let least = h.1.4.0 in absurd (omega (arith, some, least))
+      | inr other ↦
+          let rest : 0 + live_bytes os ≡ 0 = sym (ap (λ b. cond b o.size 0 + live_bytes os) (ne_eqb o.state 1 other)) ∙ z in
+          elim (cases_eq o.at at) [
+            | inl is ↦ rw (eq-eqb o.at at is) (ap (λ b. if_live b (standing bytes o).item) (ne_eqb o.state 1 other))
+            | inr ne ↦ rw (ne_eqb o.at at ne) (none-live bytes (a + o.size) used at os h.2 (omega (arith, rest)))
+          ]
+    ]
+
+pub dead-segment : (bytes : List ℕ) (used : ℕ) (free : Bool) → (free ≡ true → used ≡ 0) → (free ≡ false → IsSegment bytes used) → live_bytes (objects bytes used) ≡ 0
+    → (at : ℕ) → item_if_live (standing_among bytes at (objects bytes used)) ≡ None
+dead-segment bytes used true unused s z at = subst (λ k. item_if_live (standing_among bytes at (objects bytes k)) ≡ None) (sym (unused refl)) refl
+dead-segment bytes used false unused s z at = none-live bytes 0 used at (objects bytes used) (s refl).whole z

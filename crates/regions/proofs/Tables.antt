@@ -113,7 +113,7 @@ replicate-more zero x = refl
 replicate-more (suc n) x = ap (λ l. x ∷ l) (replicate-more n x) ∙ (let e : suc (n + 1) ≡ suc n + 1 = omega arith in ap (λ k. replicate k x) e)
 
 -- where every segment is free nothing stands
-nothing-in-emptied : (s : Option Held) (a : ℕ) → standing_in (option_map emptied s) a ≡ None
+pub nothing-in-emptied : (s : Option Held) (a : ℕ) → standing_in (option_map emptied s) a ≡ None
 nothing-in-emptied None a = refl
 nothing-in-emptied (Some h) a = refl
 
@@ -130,4 +130,15 @@ nothing-less r n nothing p =
     elim (cases_eq p.segment n) [
       | inl here ↦ ap (λ k. standing_in (get_or (slice_set r.segments n None) k None) p.at) here ∙ ap (λ s. standing_in s p.at) (taken-out r.segments n)
       | inr other ↦ ap (λ s. standing_in s p.at) (get_or-set_other r.segments n p.segment None None other) ∙ nothing p
+    ]
+
+-- where the same is live in the one segment, the same is live in the region
+pub store-set : (r : Holding) (n : ℕ) (new : Option Held) → n < length r.segments → ((a : ℕ) → item_if_live (standing_in new a) ≡ item_if_live (standing_in (held r n) a))
+    → (p : Place) → item_if_live (standing_at (with_segment r n new) p) ≡ item_if_live (standing_at r p)
+store-set r n new inside same p =
+    elim (cases_eq p.segment n) [
+      | inl here ↦
+          ap (λ k. item_if_live (standing_in (get_or (slice_set r.segments n new) k None) p.at)) here ∙ ap (λ s. item_if_live (standing_in s p.at)) (get_or-set_same r.segments n new None inside)
+          ∙ same p.at ∙ ap (λ k. item_if_live (standing_in (held r k) p.at)) (sym here)
+      | inr other ↦ ap (λ s. item_if_live (standing_in s p.at)) (get_or-set_other r.segments n p.segment new None other)
     ]

@@ -294,7 +294,8 @@ impl Region {
         requires closed { IsClosed self.old segment }
         requires dead { live_bytes_in (held self.old segment) ≡ 0 }
         requires guards { self.old.guards ≡ 0 }
-        ensures { self.new ≡ with_segment self.old segment (option_map emptied (held self.old segment)) }
+        ensures freed { self.new ≡ with_segment self.old segment (option_map emptied (held self.old segment)) }
+        ensures store { (p : Place) → store_of self.new p ≡ store_of self.old p }
     {
         clear_in(&mut self.slots[segment as usize]);
         self.free += 1;

@@ -148,7 +148,8 @@ impl Segment {
     }
 
     pub(crate) fn clear(&mut self)
-        ensures { self.new ≡ emptied self.old }
+        ensures cleared { self.new ≡ emptied self.old }
+        ensures dead { live_bytes (objects_in self.old) ≡ 0 → (at : ℕ) → item_if_live (standing_in (Some self.old) at) ≡ None }
     {
         self.used = 0;
         self.live = 0;

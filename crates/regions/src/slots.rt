@@ -110,7 +110,8 @@ pub(crate) fn is_free(slot: &Option<Segment>) -> bool
 }
 
 pub(crate) fn clear_in(slot: &mut Option<Segment>)
-    ensures { slot.new ≡ option_map emptied slot.old }
+    ensures cleared { slot.new ≡ option_map emptied slot.old }
+    ensures dead { live_bytes_in slot.old ≡ 0 → (at : ℕ) → item_if_live (standing_in slot.old at) ≡ None }
 {
     match slot {
         Some(segment) => segment.clear(),

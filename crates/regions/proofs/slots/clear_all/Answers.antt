@@ -6,5 +6,5 @@ use Rattle.regions.proofs.slots.clear_all.Goals as goal
 
 pub loop-number-preserved : goal.loop-number-preserved
 loop-number-preserved c =
-    ap (λ s. slice_set c.loop-number.slots c.loop-number.number s) (c.clear_in.ensures ∙ ap (λ s. option_map emptied s) (sym c.index-slots-number.is))
+    ap (λ s. slice_set c.loop-number.slots c.loop-number.number s) (c.clear_in.ensures.cleared ∙ ap (λ s. option_map emptied s) (sym c.index-slots-number.is))
     ∙ map_over_more (λ s. option_map emptied s) c.args.slots.now c.loop-number.slots c.loop-number.number c.index-slots-number.result c.loop-number-test.true c.loop-number.invariant c.index-slots-number.is
