@@ -1,0 +1,63 @@
+-- A segment once an object is behind the others.
+use Rattle.std.proofs.Common.{◌≡◌, ℕ, ◌+◌, ◌-◌, Bool, true, List, [], ◌∷◌, ◌++◌, length, take, drop, replicate, refl, sym, ap, ◌∙◌, subst, arith}
+use Rattle.std.specs.Prelude.{None, Some, option_map}
+use Rattle.std.specs.List.{refill}
+use Rattle.object_log.specs.Objects.{objects, live, IsSegment}
+use Rattle.raw_range.specs.Memory.{Lent}
+use Rattle.regions.specs.Held.{Held, identity}
+use Rattle.regions.specs.Contents.{Standing, standing, standing_among, standing_in, live_bytes}
+use Rattle.regions.specs.Calls.{zeros, ChangesIn, Appends}
+use Rattle.regions.proofs.Objects.{standing-below, none-behind, with-added, added-there, live-added}
+use Rattle.std.proofs.lemmas.Grind.{common_steps}
+
+pub refill-same : (n : ℕ) (xs ws : List ℕ) → length xs ≡ n → length ws ≡ n → refill n xs ws ≡ ws
+refill-same n xs ws e f = grind (arith, common_steps)
+
+module _ (p : Lent) (free : Bool) (now new : List ℕ) (used kind size r : ℕ) (long : length p.bytes ≡ 131072) (is-now : now ≡ p.bytes) (same-long : length new ≡ length now) (segment : IsSegment p.bytes used) (ends : r ≡ used + size)
+    (grown : objects new r ≡ objects now used ++ live used kind size ∷ []) (zero-content : take (size - 8) (drop (used + 8) new) ≡ replicate (size - 8) 0)
+    (kept : take used new ≡ take used now) (old : Held) (is-old : record { piece = p; used = used; free = free } ≡ old) where
+  added : objects new r ≡ objects p.bytes used ++ live used kind size ∷ []
+  added = rw is-now at grown
+
+  below : take used new ≡ take used p.bytes
+  below = rw is-now at kept
+
+  as-long : length new ≡ length p.bytes
+  as-long = rw is-now at same-long
+
+  pub is-new : refill (length p.bytes) p.bytes new ≡ new
+  is-new = refill-same (length p.bytes) p.bytes new refl as-long
+
+  abbrev after : List ℕ → Held
+  after bytes = record { piece = record p { bytes = bytes }; used = r; free = free }
+
+  pub live-grown : live_bytes (objects (refill (length p.bytes) p.bytes new) r) ≡ live_bytes (objects p.bytes used) + size
+  live-grown = ap (λ b. live_bytes (objects b r)) is-new ∙ ap live_bytes added ∙ live-added (objects p.bytes used) used kind size
+
+  pub appended : Appends kind size old (record { piece = record p { bytes = refill (length p.bytes) p.bytes new }; used = r; free = free })
+  appended =
+      subst (λ h. Appends kind size h (after (refill (length p.bytes) p.bytes new))) is-old (subst (λ b. Appends kind size (record { piece = p; used = used; free = free }) (after b)) (sym is-new)
+      (record {
+        used = ends;
+        free = refl;
+        piece = ap (λ n. record (identity p) { length = n }) as-long;
+        objects = added;
+        live = ap live_bytes added ∙ live-added (objects p.bytes used) used kind size;
+      }))
+
+  pub unused : standing_in (Some old) used ≡ None
+  unused = subst (λ h. standing_in (Some h) used ≡ None) is-old (ap (option_map (standing p.bytes)) (none-behind p.bytes 0 used used (objects p.bytes used) segment.whole (omega arith)))
+
+  pub changed : ChangesIn used (Some (zeros kind size)) (Some old) (Some (record { piece = record p { bytes = refill (length p.bytes) p.bytes new }; used = r; free = free }))
+  changed =
+      subst (λ h. ChangesIn used (Some (zeros kind size)) (Some h) (Some (after (refill (length p.bytes) p.bytes new)))) is-old (subst (λ b. ChangesIn used (Some (zeros kind size)) (Some (record { piece = p; used = used; free = free })) (Some (after b))) (sym is-new)
+      (record {
+        here =
+            ap (λ os. standing_among new used os) added
+            ∙ ap (option_map (standing new)) (added-there (objects p.bytes used) (live used kind size) used refl (none-behind p.bytes 0 used used (objects p.bytes used) segment.whole (omega arith)))
+            ∙ ap (λ c. let s : Standing = record { live = true; item = record { kind = kind; content = c } } in Some s) zero-content;
+        others = λ a ne.
+            ap (λ os. standing_among new a os) added
+            ∙ ap (option_map (standing new)) (with-added (objects p.bytes used) (live used kind size) a (λ e. ne (sym e)))
+            ∙ standing-below p.bytes new 0 used a (objects p.bytes used) segment.whole below;
+      }))

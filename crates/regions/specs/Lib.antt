@@ -1,0 +1,5 @@
+pub mod Held
+pub mod Contents
+pub mod Stores
+pub mod Calls
+pub mod Whole
