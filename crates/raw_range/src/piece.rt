@@ -1,6 +1,6 @@
-ghost use Rattle.std.specs.Prelude.{◌≡◌, length};
+ghost use Rattle.std.specs.Prelude.{◌≡◌, ◌+◌, ◌≤◌, length, take, drop};
 ghost use Rattle.std.specs.Borrow.{sem};
-ghost use Rattle.raw_range.specs.Writes.{LendsBytes};
+ghost use Rattle.raw_range.specs.Writes.{LendsBytes, LendsPart, LendsRun, LendsFitted};
 
 use crate::memory::Base;
 use std::marker::Model;
@@ -65,4 +65,30 @@ impl Piece {
         let len = self.memory.len();
         self.memory.slice_mut(0..len)
     }
+
+    /// `len` of its bytes, from the byte `at` of the piece on.
+    pub fn part_mut(&mut self, at: usize, len: usize) -> &mut [u8]
+        requires { at + len ≤ length self.old.bytes }
+        ensures* lends { sem 𝓛 (LendsPart self.entry at len result) }
+        ensures value { result.now ≡ take len (drop at self.old.bytes) }
+    {
+        fitted(&mut self.memory, at, len)
+    }
+}
+
+fn part_of(memory: &mut Vec<u8, Lodged>, at: usize, len: usize) -> &mut [u8]
+    requires { at + len ≤ length memory.old.items }
+    ensures* lends { sem 𝓛 (LendsRun memory.entry at result) }
+    ensures value { result.now ≡ take len (drop at memory.old.items) }
+{
+    memory.slice_mut(at..at + len)
+}
+
+// The same. A slice keeps its length, so as many are left there.
+fn fitted(memory: &mut Vec<u8, Lodged>, at: usize, len: usize) -> &mut [u8]
+    requires { at + len ≤ length memory.old.items }
+    ensures* lends { sem 𝓛 (LendsFitted memory.entry at len result) }
+    ensures value { result.now ≡ take len (drop at memory.old.items) }
+{
+    part_of(memory, at, len)
 }
