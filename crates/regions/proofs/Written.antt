@@ -1,138 +1,101 @@
--- A segment once bytes in the content of an object are written.
-use Rattle.std.proofs.Common.{◌≡◌, ℕ, ◌+◌, ◌-◌, ◌<◌, ◌≤◌, ◌⊎◌, inl, inr, Bool, List, ◌++◌, length, take, drop, refl, sym, ap, ◌∙◌, subst, arith, get_or, append_assoc, length-append, length-take-le, length-drop}
-use Rattle.std.specs.Prelude.{Some, option_map, IfSome, slice_index}
-use Rattle.std.specs.List.{refill}
-use Rattle.std.proofs.lemmas.List.{take-take, drop-take, drop-drop, get_or-take, get_or-drop, drop-append-le, take_at, drop_at}
-use Rattle.std.proofs.Math.Seq.{take-append-add}
-use Rattle.object_log.specs.Objects.{Object, objects, AreObjects, IsSegment}
-use Rattle.object_log.proofs.Reading.{content-kept, objects-are}
+-- A segment once the content of an object was written through a `&mut`.
+use Rattle.std.proofs.Common.{◌≡◌, ℕ, ◌+◌, ◌-◌, inl, Bool, true, false, List, ◌++◌, length, take, drop, refl, sym, ap, ◌∙◌, subst, arith, append_assoc, length-append, length-take-le, length-drop}
+use Rattle.std.specs.Prelude.{Some, IsSome, option_map}
+use Rattle.std.specs.List.{refill, length_refill}
+use Rattle.std.proofs.lemmas.List.{take_at, drop_at}
+use Rattle.object_log.specs.Objects.{Object, objects, IsSegment}
+use Rattle.object_log.proofs.Writing.{HasObject, with_content, objects-written, IsSegment-written}
 use Rattle.raw_range.specs.Memory.{Lent}
-use Rattle.raw_range.specs.Places.{written}
 use Rattle.regions.specs.Held.{Held, identity}
-use Rattle.regions.specs.Contents.{Standing, standing, standing_among, standing_in, object_with}
-use Rattle.regions.specs.Calls.{overwritten, ChangesIn, Fills}
-use Rattle.regions.proofs.Objects.{found, found-any, standing-beside, window-behind}
-use Rattle.regions.proofs.Appended.{refill-same}
+use Rattle.regions.specs.Contents.{Standing, standing, standing_among, item_if_live, object_with}
+use Rattle.regions.specs.Calls.{rewritten, ChangesIn, Fills}
+use Rattle.regions.specs.Lends.{bytes_with}
+use Rattle.regions.proofs.Objects.{IsFound, found, found-any, standing-beside, live-found, live-standing, begun-if}
 
--- a part behind the front of what is written
-written-drop : (xs ws : List ℕ) (k from : ℕ) → k + from + length ws ≤ length xs → drop k (written xs (k + from) ws) ≡ written (drop k xs) from ws
-written-drop xs ws k from fits =
-    let front : length (take (k + from) xs) ≡ k + from = length-take-le (k + from) xs (omega (arith, fits)) in
-    drop-append-le k (take (k + from) xs) (ws ++ drop (k + from + length ws) xs) (omega (arith, front))
-    ∙ ap (λ l. l ++ (ws ++ drop (k + from + length ws) xs)) (drop-take k from xs)
-    ∙ ap (λ l. take from (drop k xs) ++ (ws ++ l)) ((let e : k + from + length ws ≡ k + (from + length ws) = omega arith in ap (λ n. drop n xs) e) ∙ sym (drop-drop (from + length ws) k xs))
+-- an object that is live at the offset, in a segment that is not free
+pub record IsLive (bytes : List ℕ) (used at : ℕ) : Type 0 where
+  pub segment : IsSegment bytes used
+  pub it : Object
+  pub is-it : object_with at (objects bytes used) ≡ Some it
+  pub found : IsFound bytes 0 used at it
 
--- the front of what is written
-written-take : (xs ws : List ℕ) (n from : ℕ) → from + length ws ≤ n → n ≤ length xs → take n (written xs from ws) ≡ written (take n xs) from ws
-written-take xs ws n from fits inside =
-    let rest = n - (from + length ws) in
-    let cut : n ≡ from + length ws + rest = omega (arith, fits) in
-    let front : length (take from xs) ≡ from = length-take-le from xs (omega (arith, fits, inside)) in
-    let both : length (take from xs ++ ws) ≡ from + length ws = length-append (take from xs) ws ∙ ap (λ k. k + length ws) front in
-    ap (take n) (sym (append_assoc (take from xs) ws (drop (from + length ws) xs)))
-    ∙ ap (λ k. take k ((take from xs ++ ws) ++ drop (from + length ws) xs)) (cut ∙ ap (λ k. k + rest) (sym both))
-    ∙ take-append-add (take from xs ++ ws) (drop (from + length ws) xs) rest
-    ∙ ap (λ l. (take from xs ++ ws) ++ l) (sym (drop-take (from + length ws) rest xs) ∙ ap (λ k. drop (from + length ws) (take k xs)) (sym cut))
-    ∙ append_assoc (take from xs) ws (drop (from + length ws) (take n xs))
-    ∙ ap (λ l. l ++ (ws ++ drop (from + length ws) (take n xs))) (sym (take-take from n xs (omega (arith, fits))))
+pub is-live : (bytes : List ℕ) (used at : ℕ) (free : Bool) → (free ≡ true → used ≡ 0) → (free ≡ false → IsSegment bytes used)
+    → IsSome (item_if_live (standing_among bytes at (objects bytes used))) → IsLive bytes used at
+is-live bytes used at free unused begun alive =
+    let segment = begun (begun-if bytes used at free unused (live-standing _ alive)) in
+    let f = live-found bytes at (objects bytes used) alive in record { segment = segment; it = f.0; is-it = f.1; found = found bytes 0 used at (objects bytes used) f.0 segment.whole f.1 }
 
-written-length : (xs ws : List ℕ) (at : ℕ) → at + length ws ≤ length xs → length (written xs at ws) ≡ length xs
-written-length xs ws at fits =
-    let a = length-append (take at xs) (ws ++ drop (at + length ws) xs) in let b = length-append ws (drop (at + length ws) xs) in
-    let t = length-take-le at xs (omega (arith, fits)) in let d = length-drop (at + length ws) xs in omega (arith, a, b, t, d, fits)
+module _ (p : Lent) (ws : List ℕ) (used at size : ℕ) (live : IsLive p.bytes used at) (is-size : (live.it).size ≡ size) where
+  open live use {segment, it, is-it, found as place}
 
--- what fits the content fits the object
-pub fits-in : (bytes : List ℕ) (used at from n : ℕ) (it : Object) → IsSegment bytes used → object_with at (objects bytes used) ≡ Some it
-    → IfSome (standing_among bytes at (objects bytes used)) (λ s. from + n ≤ length s.item.content) → from + n ≤ it.size - 8
-fits-in bytes used at from n it segment e short =
-    let f = found bytes 0 used at (objects bytes used) it segment.whole e in
-    let short-it : from + n ≤ length (take (it.size - 8) (drop (it.at + 8) bytes)) = subst (λ o. IfSome (option_map (standing bytes) o) (λ s. from + n ≤ length s.item.content)) e short in
-    let d = length-drop (it.at + 8) bytes in
-    let t = length-take-le (it.size - 8) (drop (it.at + 8) bytes) (omega (arith, d, f.place, f.high, f.least, segment.inside, segment.long)) in
-    omega (arith, short-it, t)
+  -- the content as it was, and as it is left
+  abbrev content : List ℕ
+  content = take (size - 8) (drop (at + 8) p.bytes)
 
-module _ (p : Lent) (free : Bool) (now new ws : List ℕ) (used at from : ℕ) (is-now : now ≡ p.bytes) (stated : new ≡ written now (at + 8 + from) ws)
-    (segment : IsSegment p.bytes used) (it : Object) (is-it : object_with at (objects p.bytes used) ≡ Some it) (fits : from + length ws ≤ it.size - 8) (old : Held) (is-old : record { piece = p; used = used; free = free } ≡ old) where
-  state : new ≡ written p.bytes (at + 8 + from) ws
-  state = rw is-now at stated
+  abbrev fit : List ℕ
+  fit = refill (size - 8) content ws
 
-  inside : at + 8 + from + length ws ≤ used
-  inside = let f = found p.bytes 0 used at (objects p.bytes used) it segment.whole is-it in omega (arith, f.high, f.least, fits)
+  abbrev new : List ℕ
+  new = bytes_with at size ws p.bytes
 
-  room : at + 8 + from + length ws ≤ length p.bytes
-  room = omega (arith, inside, segment.inside, segment.long)
+  content-long : length content ≡ size - 8
+  content-long =
+      let d = length-drop (at + 8) p.bytes in length-take-le (size - 8) (drop (at + 8) p.bytes) (omega (arith, d, place.high, place.least, is-size, segment.inside, segment.long))
 
-  as-long : length new ≡ length p.bytes
-  as-long = ap length state ∙ written-length p.bytes ws (at + 8 + from) room
+  fit-long : length fit ≡ size - 8
+  fit-long = sym (length_refill (size - 8) content ws (sym content-long))
 
-  pub is-new : refill (length p.bytes) p.bytes new ≡ new
-  is-new = refill-same (length p.bytes) p.bytes new refl as-long
+  is-new : new ≡ with_content at it.size p.bytes fit
+  is-new = let e : at + 8 + length fit ≡ at + it.size = omega (arith, fit-long, place.least, is-size) in ap (λ k. take (at + 8) p.bytes ++ (fit ++ drop k p.bytes)) e
 
-  abbrev after : List ℕ → Held
-  after bytes = record { piece = record p { bytes = bytes }; used = used; free = free }
+  has : HasObject at it.size (objects p.bytes used)
+  has = found-any (λ (o : Object). (o.at ≡ at) × (o.size ≡ it.size)) at (objects p.bytes used) it is-it (place.place, refl)
 
-  front : take (at + 8 + from) new ≡ take (at + 8 + from) p.bytes
-  front = ap (take (at + 8 + from)) state ∙ take_at (take (at + 8 + from) p.bytes) _ (at + 8 + from) (length-take-le (at + 8 + from) p.bytes (omega (arith, room)))
-
-  back : drop (at + 8 + from + length ws) new ≡ drop (at + 8 + from + length ws) p.bytes
-  back =
-      let before : length (take (at + 8 + from) p.bytes) ≡ at + 8 + from = length-take-le (at + 8 + from) p.bytes (omega (arith, room)) in
-      let tail = drop (at + 8 + from + length ws) p.bytes in
-      ap (drop (at + 8 + from + length ws)) (state ∙ sym (append_assoc (take (at + 8 + from) p.bytes) ws tail))
-      ∙ drop_at (take (at + 8 + from) p.bytes ++ ws) tail (at + 8 + from + length ws) (length-append (take (at + 8 + from) p.bytes) ws ∙ ap (λ k. k + length ws) before)
-
-  same : (i : ℕ) → (i < at + 8) ⊎ (at + it.size ≤ i) → slice_index new i ≡ slice_index p.bytes i
-  same i (inl low) =
-      sym (get_or-take (at + 8 + from) new i 0 (omega (arith, low))) ∙ ap (λ l. get_or l i 0) front ∙ get_or-take (at + 8 + from) p.bytes i 0 (omega (arith, low))
-  same i (inr high) =
-      let f = found p.bytes 0 used at (objects p.bytes used) it segment.whole is-it in
-      let hi = at + 8 + from + length ws in let j = i - hi in
-      let e : hi + j ≡ i = omega (arith, high, f.least, fits) in
-      subst (λ k. slice_index new k ≡ slice_index p.bytes k) e (sym (get_or-drop hi new j 0) ∙ ap (λ l. get_or l j 0) back ∙ get_or-drop hi p.bytes j 0)
-
-  whole : AreObjects new 0 used (objects p.bytes used)
-  whole =
-      let f = found p.bytes 0 used at (objects p.bytes used) it segment.whole is-it in
-      content-kept 0 used at it.size p.bytes new (objects p.bytes used) segment.whole (found-any (λ (o : Object). (o.at ≡ at) × (o.size ≡ it.size)) at (objects p.bytes used) it is-it (f.place, refl)) same
+  fills : length fit ≡ it.size - 8
+  fills = fit-long ∙ ap (λ k. k - 8) (sym is-size)
 
   pub objects-same : objects new used ≡ objects p.bytes used
-  objects-same = objects-are new used (objects p.bytes used) whole
+  objects-same = ap (λ b. objects b used) is-new ∙ objects-written p.bytes fit used at it.size segment has place.least place.high fills
 
   pub segment-kept : IsSegment new used
-  segment-kept = record {
-    long = as-long ∙ segment.long;
-    inside = segment.inside;
-    whole = subst (AreObjects new 0 used) (sym objects-same) whole;
-    ended = λ h. ap (take 8) (window-behind (at + 8 + from + length ws) used p.bytes new inside back) ∙ segment.ended h;
-  }
+  segment-kept = subst (λ b. IsSegment b used) (sym is-new) (IsSegment-written p.bytes fit used at it.size segment has place.least place.high fills)
 
-  pub filled : Fills old (record { piece = record p { bytes = refill (length p.bytes) p.bytes new }; used = used; free = free })
-  filled =
-      subst (λ h. Fills h (after (refill (length p.bytes) p.bytes new))) is-old
-      (subst (λ b. Fills (record { piece = p; used = used; free = free }) (after b)) (sym is-new)
-      (record { used = refl; free = refl; piece = ap (λ n. record (identity p) { length = n }) as-long; objects = objects-same }))
+  front-long : length (take (at + 8) p.bytes) ≡ at + 8
+  front-long = length-take-le (at + 8) p.bytes (omega (arith, place.high, place.least, segment.inside, segment.long))
 
-  lies : standing new it ≡ overwritten from ws (standing p.bytes it)
+  front : take (at + 8) new ≡ take (at + 8) p.bytes
+  front = take_at (take (at + 8) p.bytes) (fit ++ drop (at + 8 + length fit) p.bytes) (at + 8) front-long
+
+  back : drop (at + it.size) new ≡ drop (at + it.size) p.bytes
+  back =
+      let both : length (take (at + 8) p.bytes ++ fit) ≡ at + it.size = length-append (take (at + 8) p.bytes) fit ∙ omega (arith, front-long, fills, place.least) in
+      ap (drop (at + it.size)) (is-new ∙ sym (append_assoc (take (at + 8) p.bytes) fit (drop (at + it.size) p.bytes)))
+      ∙ drop_at (take (at + 8) p.bytes ++ fit) (drop (at + it.size) p.bytes) (at + it.size) both
+
+  -- the content is read where it was written
+  reads : take (size - 8) (drop (at + 8) new) ≡ refill (length content) content ws
+  reads =
+      ap (take (size - 8)) (drop_at (take (at + 8) p.bytes) (fit ++ drop (at + 8 + length fit) p.bytes) (at + 8) front-long)
+      ∙ take_at fit (drop (at + 8 + length fit) p.bytes) (size - 8) fit-long ∙ ap (λ k. refill k content ws) (sym content-long)
+
+  lies : standing new it ≡ rewritten ws (standing p.bytes it)
   lies =
-      let f = found p.bytes 0 used at (objects p.bytes used) it segment.whole is-it in
-      let at-8 : it.at + 8 ≡ at + 8 = ap (λ k. k + 8) f.place in
-      let n = it.size - 8 in
-      let enough : n ≤ length (drop (at + 8) p.bytes) = (let d = length-drop (at + 8) p.bytes in omega (arith, d, f.high, segment.inside, segment.long)) in
-      let content : take n (drop (it.at + 8) new) ≡ written (take n (drop (it.at + 8) p.bytes)) from ws =
-      ap (λ k. take n (drop k new)) at-8 ∙ ap (λ b. take n (drop (at + 8) b)) state ∙ ap (take n) (written-drop p.bytes ws (at + 8) from room)
-      ∙ written-take (drop (at + 8) p.bytes) ws n from fits enough ∙ ap (λ k. written (take n (drop k p.bytes)) from ws) (sym at-8) in
-      ap (λ c. let s : Standing = record (standing p.bytes it) { item = record { kind = it.kind; content = c } } in s) content
+      let Reads : ℕ → ℕ → Type 0 = λ k a. take (k - 8) (drop (a + 8) new) ≡ refill (length (take (k - 8) (drop (a + 8) p.bytes))) (take (k - 8) (drop (a + 8) p.bytes)) ws in
+      let there : Reads it.size it.at = subst (λ k. Reads k it.at) (sym is-size) (subst (λ a. Reads size a) (sym place.place) reads) in
+      ap (λ c. let s : Standing = record (standing p.bytes it) { item = record { kind = it.kind; content = c } } in s) there
 
-  pub changed : ChangesIn at (option_map (overwritten from ws) (standing_in (Some old) at)) (Some old) (Some (record { piece = record p { bytes = refill (length p.bytes) p.bytes new }; used = used; free = free }))
-  changed =
-      let f = found p.bytes 0 used at (objects p.bytes used) it segment.whole is-it in
-      subst (λ h. ChangesIn at (option_map (overwritten from ws) (standing_in (Some h) at)) (Some h) (Some (after (refill (length p.bytes) p.bytes new)))) is-old
-      (subst (λ b. ChangesIn at (option_map (overwritten from ws) (standing_among p.bytes at (objects p.bytes used))) (Some (record { piece = p; used = used; free = free })) (Some (after b))) (sym is-new)
-      (record {
-        here =
-            ap (λ os. standing_among new at os) objects-same ∙ ap (option_map (standing new)) is-it ∙ ap (λ (s : Standing). Some s) lies
-            ∙ sym (ap (λ o. option_map (overwritten from ws) (option_map (standing p.bytes) o)) is-it);
-        others = λ b ne.
-            ap (λ os. standing_among new b os) objects-same
-            ∙ standing-beside p.bytes new (at + 8 + from) (at + 8 + from + length ws) 0 used at b (objects p.bytes used) it segment.whole is-it (omega arith) (omega (arith, f.least, fits)) front back (inl ne);
-      }))
+  abbrev after : Bool → Held
+  after free = record { piece = record p { bytes = new }; used = used; free = free }
+
+  pub filled : (free : Bool) → Fills (record { piece = p; used = used; free = free }) (after free)
+  filled free = record { used = refl; free = refl; piece = ap (λ n. record (identity p) { length = n }) (segment-kept.long ∙ sym segment.long); objects = objects-same }
+
+  pub changed : (free : Bool) → ChangesIn at (option_map (rewritten ws) (standing_among p.bytes at (objects p.bytes used))) (Some (record { piece = p; used = used; free = free })) (Some (after free))
+  changed free = record {
+    here =
+        ap (λ os. standing_among new at os) objects-same ∙ ap (option_map (standing new)) is-it ∙ ap (λ (s : Standing). Some s) lies
+        ∙ sym (ap (λ o. option_map (rewritten ws) (option_map (standing p.bytes) o)) is-it);
+    others = λ b ne.
+        ap (λ os. standing_among new b os) objects-same
+        ∙ standing-beside p.bytes new (at + 8) (at + it.size) 0 used at b (objects p.bytes used) it segment.whole is-it (omega arith) (omega arith) front back (inl ne);
+  }

@@ -1,8 +1,8 @@
 -- What the calls do to the objects of a region.
-use Rattle.std.specs.Prelude.{◌≡◌, ◌≢◌, ℕ, ◌+◌, ◌-◌, true, false, List, [], ◌∷◌, ◌++◌, replicate, Option, None, Some}
+use Rattle.std.specs.Prelude.{◌≡◌, ◌≢◌, ℕ, ◌+◌, ◌-◌, true, false, List, [], ◌∷◌, ◌++◌, length, replicate, Option, None, Some, option_map}
+use Rattle.std.specs.List.{refill}
 use Rattle.object_log.specs.Objects.{Object, live, killed}
 use Rattle.raw_range.specs.Memory.{Lent}
-use Rattle.raw_range.specs.Places.{written}
 use Rattle.regions.specs.Held.{Held, Holding, held, with_segment, fresh, identity}
 use Rattle.regions.specs.Contents.{Standing, standing_in, standing_at, object_with, objects_in, live_bytes}
 use Rattle.regions.specs.declared.place.Place.{Place}
@@ -14,9 +14,9 @@ zeros kind size = record { live = true; item = record { kind = kind; content = r
 abbrev pub dead : Standing → Standing
 dead s = record s { live = false }
 
--- the bytes are in its content, from `at` on
-abbrev pub overwritten : ℕ → List ℕ → Standing → Standing
-overwritten at bytes s = record s { item = record { kind = s.item.kind; content = written s.item.content at bytes } }
+-- its content is ws, fitted to the content's length
+abbrev pub rewritten : List ℕ → Standing → Standing
+rewritten ws s = record s { item = record { kind = s.item.kind; content = refill (length s.item.content) s.item.content ws } }
 
 -- at one offset stands what is said, and at each other offset what stood there
 pub record ChangesIn (at : ℕ) (is : Option Standing) (old new : Option Held) : Type 0 where
@@ -80,7 +80,7 @@ pub record Kills (p : Place) (old new : Holding) : Type 0 where
   pub buried : Buries p.at before after
   pub rest : new ≡ with_segment old p.segment (Some after)
 
--- one call of `write`
+-- a content was written through `bytes_mut`
 pub record Writes (p : Place) (old new : Holding) : Type 0 where
   pub before : Held
   pub after : Held

@@ -10,6 +10,7 @@ ghost use Rattle.std.specs.Prelude.{
   ◌≤◌,
   false,
   true,
+  List,
   length,
   Some,
   None,
@@ -45,14 +46,15 @@ ghost use Rattle.regions.specs.Held.{
 };
 ghost use Rattle.regions.specs.Contents.{standing_at, live_at, live_bytes_in};
 ghost use Rattle.regions.specs.Stores.{StandsFor, store_of, itself};
-ghost use Rattle.regions.specs.Calls.{zeros, dead, overwritten, ChangesAt, Keeps, Places, Kills, Writes, Activates, Removes};
+ghost use Rattle.regions.specs.Calls.{zeros, dead, rewritten, ChangesAt, Keeps, Places, Kills, Writes, Activates, Removes};
+ghost use Rattle.regions.specs.Lends.{LendsContent, with_content};
+ghost use Rattle.std.specs.Borrow.{sem};
 
 use crate::place::{NeedSegment, Place};
 use crate::segment::Segment;
 use crate::slots::{
-    append_in, begin, bytes_in, clear_all, clear_in, content_in, count_free, greatest_free,
+    append_in, begin, bytes_in, clear_all, clear_in, content_in, content_mut_in, count_free, greatest_free,
     greatest_held, is_begun, kill_in, least_free, least_unused, live_in_slot, piece_of, used_in,
-    write_in,
 };
 use raw_range::Piece;
 use std::alloc::{AllocError, Global};
@@ -198,15 +200,16 @@ impl Region {
         content_in(&self.slots[place.segment as usize], place.at)
     }
 
-    /// Writes into the content of the live object at the place, from its byte `at` on.
-    pub fn write(&mut self, place: Place, at: u32, from: &[u8])
-        requires live { IsSome (live_at self.old place) }
-        requires inside { IfSome (standing_at self.old place) (λ s. at + length from.now ≤ length s.item.content) }
-        ensures written { ChangesAt place (option_map (overwritten at from.now) (standing_at self.old place)) self.old self.new }
-        ensures filled { Writes place self.old self.new }
-        ensures pieces { pieces self.new ≡ pieces self.old }
+    /// The content of the live object at the place, for writing, without its descriptor.
+    pub fn bytes_mut(&mut self, place: Place) -> &mut [u8]
+        requires { IsSome (live_at self.old place) }
+        ensures* lends { sem 𝓛 (LendsContent self.entry place result) }
+        ensures value { option_map (λ s. s.item.content) (standing_at self.old place) ≡ Some result.now }
+        ensures written { (ws : List ℕ) → ChangesAt place (option_map (rewritten ws) (standing_at self.old place)) self.old (with_content self.old place ws) }
+        ensures filled { (ws : List ℕ) → Writes place self.old (with_content self.old place ws) }
+        ensures pieces { (ws : List ℕ) → pieces (with_content self.old place ws) ≡ pieces self.old }
     {
-        write_in(&mut self.slots[place.segment as usize], place.at, at, from);
+        content_mut_in(&mut self.slots[place.segment as usize], place.at)
     }
 
     /// One guard more. While one stands, no object is moved and none of its bytes is used again.

@@ -1,9 +1,9 @@
-ghost use Rattle.std.specs.Prelude.{◌≡◌, ℕ, ◌+◌, ◌≤◌, ◌⊎◌, true, false, length, take, drop, Some, None, option_map, IsSome, IfSome};
+ghost use Rattle.std.specs.Prelude.{◌≡◌, ℕ, ◌+◌, ◌≤◌, ◌⊎◌, List, true, false, length, take, drop, Some, None, option_map, IsSome};
+ghost use Rattle.std.specs.Borrow.{Array, Lends, sem, u8 as byte};
 ghost use Rattle.object_log.specs.Objects.{IsSize, IsSegment};
-ghost use Rattle.raw_range.specs.Places.{written};
 ghost use Rattle.regions.specs.Held.{fresh, emptied};
 ghost use Rattle.regions.specs.Contents.{standing_in, item_if_live, objects_in, live_bytes};
-ghost use Rattle.regions.specs.Calls.{zeros, dead, overwritten, ChangesIn, Appends, Buries, Fills, Begins};
+ghost use Rattle.regions.specs.Calls.{zeros, dead, rewritten, ChangesIn, Appends, Buries, Fills, Begins};
 
 use object_log::{append, kill, read_descriptor};
 use raw_range::Piece;
@@ -37,6 +37,9 @@ impl Model for Segment {
 }
 
 impl Segment {
+    ghost use Rattle.regions.specs.Lends.{held_with};
+    ghost use Rattle.regions.specs.contracts.segment.Segment.{the_row};
+
     pub(crate) fn new(piece: Piece) -> Segment
         requires { length piece.bytes ≡ 131072 }
         ensures { result ≡ fresh piece }
@@ -133,18 +136,16 @@ impl Segment {
         part(bytes, at as usize + DESCRIPTOR, size as usize - DESCRIPTOR)
     }
 
-    // Writes into the content of a live object, from its byte `from` on.
-    pub(crate) fn write(&mut self, at: u32, from: u32, bytes: &[u8])
-        requires live { IsSome (item_if_live (standing_in (Some self.old) at)) }
-        requires inside { IfSome (standing_in (Some self.old) at) (λ s. from + length bytes.now ≤ length s.item.content) }
-        ensures filled { Fills self.old self.new }
-        ensures written { ChangesIn at (option_map (overwritten from bytes.now) (standing_in (Some self.old) at)) (Some self.old) (Some self.new) }
+    // The content of a live object, for writing.
+    pub(crate) fn content_mut(&mut self, at: u32) -> &mut [u8]
+        requires { IsSome (item_if_live (standing_in (Some self.old) at)) }
+        ensures* lends { sem 𝓛 (Lends the_row (Array byte 0) self.entry result (λ ws. held_with at ws self.old)) }
+        ensures value { option_map (λ s. s.item.content) (standing_in (Some self.old) at) ≡ Some result.now }
+        ensures filled { (ws : List ℕ) → Fills self.old (held_with at ws self.old) }
+        ensures written { (ws : List ℕ) → ChangesIn at (option_map (rewritten ws) (standing_in (Some self.old) at)) (Some self.old) (Some (held_with at ws self.old)) }
     {
-        write_part(
-            self.piece.bytes_mut(),
-            at as usize + DESCRIPTOR + from as usize,
-            bytes,
-        );
+        let size = read_descriptor(self.piece.bytes(), at).size;
+        self.piece.part_mut(at as usize + DESCRIPTOR, size as usize - DESCRIPTOR)
     }
 
     pub(crate) fn clear(&mut self)
@@ -155,13 +156,6 @@ impl Segment {
         self.live = 0;
         self.free = true;
     }
-}
-
-fn write_part(bytes: &mut [u8], at: usize, from: &[u8])
-    requires { at + length from.now ≤ length bytes.old }
-    ensures { bytes.new ≡ written bytes.old at from.now }
-{
-    bytes[at..at + from.len()].copy_from_slice(from);
 }
 
 // `len` bytes from `at` on.

@@ -1,10 +1,14 @@
 // One place of a region's table of segments, and the table.
-ghost use Rattle.std.specs.Prelude.{◌≡◌, ℕ, ◌+◌, ◌<◌, ◌≤◌, ◌↔◌, IsNone, false, true, length, Some, None, option_map, IsSome, IfSome, slice_index_or, map};
+ghost use Rattle.std.specs.Prelude.{◌≡◌, ℕ, ◌+◌, ◌<◌, ◌≤◌, ◌↔◌, List, IsNone, false, true, length, Some, None, option_map, IsSome, IfSome, slice_index_or, map};
+ghost use Rattle.std.specs.Borrow.{Array, Lends, sem, u8 as byte};
+ghost use Rattle.std.specs.contracts.option.Option.{the_row as OptionOf};
+ghost use Rattle.regions.specs.contracts.segment.Segment.{the_row};
 ghost use Rattle.std.specs.List.{count_by};
 ghost use Rattle.object_log.specs.Objects.{IsSize, IsSegment};
 ghost use Rattle.regions.specs.Held.{Held, fresh, emptied, used_of, is_held, is_free, is_begun};
 ghost use Rattle.regions.specs.Contents.{standing_in, item_if_live, live_bytes_in};
-ghost use Rattle.regions.specs.Calls.{zeros, dead, overwritten, ChangesIn, Appends, Buries, Fills, Begins};
+ghost use Rattle.regions.specs.Calls.{zeros, dead, rewritten, ChangesIn, Appends, Buries, Fills, Begins};
+ghost use Rattle.regions.specs.Lends.{slot_with};
 
 use crate::segment::Segment;
 use raw_range::Piece;
@@ -46,14 +50,15 @@ pub(crate) fn kill_in(slot: &mut Option<Segment>, at: u32)
     segment.kill(at);
 }
 
-pub(crate) fn write_in(slot: &mut Option<Segment>, at: u32, from: u32, bytes: &[u8])
-    requires live { IsSome (item_if_live (standing_in slot.old at)) }
-    requires inside { IfSome (standing_in slot.old at) (λ s. from + length bytes.now ≤ length s.item.content) }
-    ensures filled { (old new : Held) × (slot.old ≡ Some old) × (slot.new ≡ Some new) × Fills old new }
-    ensures written { ChangesIn at (option_map (overwritten from bytes.now) (standing_in slot.old at)) slot.old slot.new }
+pub(crate) fn content_mut_in(slot: &mut Option<Segment>, at: u32) -> &mut [u8]
+    requires { IsSome (item_if_live (standing_in slot.old at)) }
+    ensures* lends { sem 𝓛 (Lends (OptionOf the_row) (Array byte 0) slot.entry result (λ ws. slot_with at ws slot.old)) }
+    ensures value { option_map (λ s. s.item.content) (standing_in slot.old at) ≡ Some result.now }
+    ensures filled { (ws : List ℕ) → (old new : Held) × (slot.old ≡ Some old) × (slot_with at ws slot.old ≡ Some new) × Fills old new }
+    ensures written { (ws : List ℕ) → ChangesIn at (option_map (rewritten ws) (standing_in slot.old at)) slot.old (slot_with at ws slot.old) }
 {
     let Some(segment) = slot else { unreachable!() };
-    segment.write(at, from, bytes);
+    segment.content_mut(at)
 }
 
 pub(crate) fn content_in(slot: &Option<Segment>, at: u32) -> &[u8]

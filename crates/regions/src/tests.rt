@@ -1,4 +1,4 @@
-// Segments filled to the end, guards, and which segments are given.
+// Segments filled to the end, contents written and read, guards, and which segments are given.
 ghost use Rattle.std.specs.Prelude.{◌≡◌, ◌≤◌, length, IfOk};
 ghost use Rattle.object_log.specs.Objects.{IsSize};
 
@@ -69,6 +69,117 @@ fn a_segment_is_filled_with_and_without_room_for_the_end(rt: HostRuntime) -> Res
     Ok(())
 }
 
+// Two objects side by side, of which each is written through. What their contents are then.
+fn write_both(region: &mut Region) -> Option<(bool, bool)> {
+    if region.active().is_none() {
+        return None;
+    }
+    let Ok(first) = region.place(1, 48) else {
+        return None;
+    };
+    let Ok(second) = region.place(2, 16) else {
+        return None;
+    };
+    region.bytes_mut(second).fill(9);
+    region.bytes_mut(first).fill(7);
+    Some((
+        region.bytes(first) == [7u8; 40].as_slice(),
+        region.bytes(second) == [9u8; 8].as_slice(),
+    ))
+}
+
+// An object that dies at once.
+fn spend(region: &mut Region, size: u32)
+    requires { IsSize size }
+{
+    if region.active().is_none() {
+        return;
+    }
+    if let Ok(place) = region.place(1, size) {
+        region.kill(place);
+    }
+}
+
+// Ten of the greatest objects, dead.
+fn spend_ten(region: &mut Region) {
+    for _ in 0..10 {
+        spend(region, 12_296);
+    }
+}
+
+// Where the objects of a closed segment end, and its live bytes.
+fn counts(region: &Region, segment: u32) -> Option<(u32, u32)> {
+    if !region.is_closed(segment) {
+        return None;
+    }
+    Some((region.used(segment), region.live_in(segment)))
+}
+
+fn has(region: &Region, segment: u32, from: usize, bytes: &[u8]) -> bool {
+    if !region.is_closed(segment) {
+        return false;
+    }
+    let all = region.segment_bytes(segment);
+    from <= all.len() && all[from..].starts_with(bytes)
+}
+
+fn free(region: &mut Region, segment: u32) -> bool {
+    if !region.is_closed(segment) || region.guards() > 0 {
+        return false;
+    }
+    if region.live_in(segment) > 0 {
+        return false;
+    }
+    region.free_closed(segment);
+    true
+}
+
+#[test]
+fn a_content_is_written_through_and_its_neighbours_stand(rt: HostRuntime) -> Result<(), Fail> {
+    let mut region = three_segments(rt.alloc())?;
+    assert_eq!(rt; go_on(&mut region), Some(0));
+    assert_eq!(rt; write_both(&mut region), Some((true, true)));
+    spend_ten(&mut region);
+    assert_eq!(rt; counts(&region, 0), None);
+    assert_eq!(rt; go_on(&mut region), Some(1));
+    assert_eq!(rt; counts(&region, 0), Some((123_024, 64)));
+    assert!(rt; has(&region, 0, 0, &[1, 1, 0, 0, 48, 0, 0, 0]));
+    assert!(rt; has(&region, 0, 8, &[7; 40]));
+    assert!(rt; has(&region, 0, 48, &[1, 2, 0, 0, 16, 0, 0, 0]));
+    assert!(rt; has(&region, 0, 56, &[9; 8]));
+    assert!(rt; has(&region, 0, 64, &[2, 1, 0, 0, 0x08, 0x30, 0, 0, 0]));
+    Ok(())
+}
+
+#[test]
+fn a_closed_segment_is_freed_once_none_of_its_objects_lives(rt: HostRuntime) -> Result<(), Fail> {
+    let mut region = three_segments(rt.alloc())?;
+    assert_eq!(rt; go_on(&mut region), Some(0));
+    let first = Place { segment: 0, at: 0 };
+    assert_eq!(rt; put(&mut region, 1, 48), Ok(first));
+    spend_ten(&mut region);
+    assert_eq!(rt; go_on(&mut region), Some(1));
+    spend_ten(&mut region);
+    assert!(rt; !region.is_closed(1));
+    assert_eq!(rt; go_on(&mut region), Some(2));
+    assert_eq!(rt; region.free_segments(), 0);
+    assert_eq!(rt; counts(&region, 0), Some((123_008, 48)));
+    assert!(rt; has(&region, 0, 0, &[1, 1, 0, 0, 48, 0, 0, 0]));
+    assert!(rt; has(&region, 0, 8, &[0; 40]));
+    assert_eq!(rt; counts(&region, 1), Some((122_960, 0)));
+    assert!(rt; has(&region, 1, 0, &[2, 1, 0, 0, 0x08, 0x30, 0, 0]));
+    // Behind the last object stands the end.
+    assert!(rt; has(&region, 1, 122_960, &[0; 8]));
+    assert!(rt; !free(&mut region, 0));
+    assert!(rt; free(&mut region, 1));
+    assert!(rt; !free(&mut region, 1));
+    assert!(rt; !free(&mut region, 2));
+    assert_eq!(rt; (region.is_closed(0), region.is_closed(1)), (true, false));
+    assert!(rt; !region.is_closed(9));
+    assert_eq!(rt; region.free_segments(), 1);
+    Ok(())
+}
+
 // How many guards stand at the end, and whether the dead object was served until then.
 fn guarded(region: &mut Region) -> Option<(u32, bool)> {
     if region.active().is_none() || region.guards() > 0 {
@@ -77,14 +188,14 @@ fn guarded(region: &mut Region) -> Option<(u32, bool)> {
     let Ok(place) = region.place(1, 48) else {
         return None;
     };
-    region.write(place, 0, b"row");
+    region.bytes_mut(place).fill(7);
     region.guard();
     region.guard();
     region.guard();
     region.kill(place);
     region.unguard();
     region.unguard();
-    let served = region.bytes(place).starts_with(b"row");
+    let served = region.bytes(place) == [7u8; 40].as_slice();
     Some((region.guards(), served))
 }
 
