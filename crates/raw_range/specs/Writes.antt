@@ -1,8 +1,7 @@
 -- What a piece ends as, once a `&mut` to its bytes has ended.
-use Rattle.std.specs.Prelude.{ℕ, List, length, take, drop}
+use Rattle.std.specs.Prelude.{ℕ, List, Vec, length, take, drop}
 use Rattle.std.specs.List.{refill}
 use Rattle.std.specs.Borrow.{Lends, MutBor, Fml, u8, Array}
-use Rattle.std.specs.Prelude.{Vec}
 use Rattle.std.specs.Vec.{with_items_from}
 use Rattle.std_alloc.specs.declared.vec.lodged.Lodged.{Lodged}
 use Rattle.std_alloc.specs.contracts.vec.Vec as V

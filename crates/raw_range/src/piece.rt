@@ -76,6 +76,7 @@ impl Piece {
     }
 }
 
+// A run of the elements, as the vector lends it.
 fn part_of(memory: &mut Vec<u8, Lodged>, at: usize, len: usize) -> &mut [u8]
     requires { at + len ≤ length memory.old.items }
     ensures* lends { sem 𝓛 (LendsRun memory.entry at result) }

@@ -35,6 +35,15 @@ fn two_pages_are_written_apart_and_put_back(rt: HostRuntime) -> Result<(), Fail>
 }
 
 #[test]
+fn a_part_of_a_piece_is_written(rt: HostRuntime) -> Result<(), Fail> {
+    let mut range = Range::new(rt.alloc(), 0, 1)?;
+    let mut piece = range.take(0, 8);
+    piece.part_mut(2, 3).fill(9);
+    assert!(rt; piece.bytes() == [0, 0, 9, 9, 9, 0, 0, 0].as_slice());
+    Ok(())
+}
+
+#[test]
 fn a_piece_is_written_by_another_thread(rt: HostRuntime) -> Result<(), Fail> {
     let mut range = Range::new(rt.alloc(), 3, 1)?;
     let mut piece = range.take(16, 4);

@@ -1,14 +1,15 @@
 -- A segment once the content of an object was written through a `&mut`.
 use Rattle.std.proofs.Common.{◌≡◌, ℕ, ◌+◌, ◌-◌, inl, Bool, true, false, List, ◌++◌, length, take, drop, refl, sym, ap, ◌∙◌, subst, arith, append_assoc, length-append, length-take-le, length-drop}
-use Rattle.std.specs.Prelude.{Some, IsSome, option_map}
+use Rattle.std.specs.Prelude.{Option, None, Some, IsSome, option_map}
 use Rattle.std.specs.List.{refill, length_refill}
 use Rattle.std.proofs.lemmas.List.{take_at, drop_at}
-use Rattle.object_log.specs.Objects.{Object, objects, IsSegment}
+use Rattle.object_log.specs.Objects.{Object, objects, descriptor_at, IsSegment}
+use Rattle.object_log.specs.declared.descriptor.Descriptor.{Descriptor}
 use Rattle.object_log.proofs.Writing.{HasObject, with_content, objects-written, IsSegment-written}
 use Rattle.raw_range.specs.Memory.{Lent}
 use Rattle.regions.specs.Held.{Held, identity}
 use Rattle.regions.specs.Contents.{Standing, standing, standing_among, item_if_live, object_with}
-use Rattle.regions.specs.Calls.{rewritten, ChangesIn, Fills}
+use Rattle.regions.specs.Calls.{rewritten, with_bytes, ChangesIn, Fills}
 use Rattle.regions.specs.Lends.{bytes_with}
 use Rattle.regions.proofs.Objects.{IsFound, found, found-any, standing-beside, live-found, live-standing, begun-if}
 
@@ -24,6 +25,12 @@ pub is-live : (bytes : List ℕ) (used at : ℕ) (free : Bool) → (free ≡ tru
 is-live bytes used at free unused begun alive =
     let segment = begun (begun-if bytes used at free unused (live-standing _ alive)) in
     let f = live-found bytes at (objects bytes used) alive in record { segment = segment; it = f.0; is-it = f.1; found = found bytes 0 used at (objects bytes used) f.0 segment.whole f.1 }
+
+-- the size that was read is the object's
+pub size-read : (bytes now : List ℕ) (used at : ℕ) (d : Descriptor) (live : IsLive bytes used at) → now ≡ bytes → d ≡ descriptor_at now at
+    → ((live.it).size ≡ d.size) × (d.size ≡ (descriptor_at bytes at).size)
+size-read bytes now used at d live is read =
+    let same : d.size ≡ (descriptor_at bytes at).size = ap (λ e. e.size) read ∙ ap (λ b. (descriptor_at b at).size) is in (ap (λ o. o.size) (live.found).is ∙ sym same, same)
 
 module _ (p : Lent) (ws : List ℕ) (used at size : ℕ) (live : IsLive p.bytes used at) (is-size : (live.it).size ≡ size) where
   open live use {segment, it, is-it, found as place}
@@ -99,3 +106,10 @@ module _ (p : Lent) (ws : List ℕ) (used at size : ℕ) (live : IsLive p.bytes 
         ap (λ os. standing_among new b os) objects-same
         ∙ standing-beside p.bytes new (at + 8) (at + it.size) 0 used at b (objects p.bytes used) it segment.whole is-it (omega arith) (omega arith) front back (inl ne);
   }
+
+-- what is as long as the content is the whole content
+pub whole-content : (s : Option Standing) (now ws : List ℕ) → option_map (λ t. t.item.content) s ≡ Some now → length ws ≡ length now → option_map (rewritten ws) s ≡ option_map (with_bytes ws) s
+whole-content None now ws e long = refl
+whole-content (Some s) now ws e long =
+    let is : s.item.content ≡ now = (let both : Some s.item.content ≡ Some now = e in cc) in
+    ap (λ b. Some (with_bytes b s)) (take_at ws (drop (length ws) s.item.content) (length s.item.content) (long ∙ sym (ap length is)))

@@ -1,5 +1,5 @@
 -- What the calls do to the objects of a region.
-use Rattle.std.specs.Prelude.{◌≡◌, ◌≢◌, ℕ, ◌+◌, ◌-◌, true, false, List, [], ◌∷◌, ◌++◌, length, replicate, Option, None, Some, option_map}
+use Rattle.std.specs.Prelude.{◌≡◌, ◌≢◌, ℕ, ◌+◌, ◌-◌, true, false, List, [], ◌∷◌, ◌++◌, length, replicate, Option, None, Some}
 use Rattle.std.specs.List.{refill}
 use Rattle.object_log.specs.Objects.{Object, live, killed}
 use Rattle.raw_range.specs.Memory.{Lent}
@@ -14,9 +14,13 @@ zeros kind size = record { live = true; item = record { kind = kind; content = r
 abbrev pub dead : Standing → Standing
 dead s = record s { live = false }
 
--- its content is ws, fitted to the content's length
+-- its content is ws
+abbrev pub with_bytes : List ℕ → Standing → Standing
+with_bytes ws s = record s { item = record { kind = s.item.kind; content = ws } }
+
+-- its content is ws, cut or filled up to the length that it had
 abbrev pub rewritten : List ℕ → Standing → Standing
-rewritten ws s = record s { item = record { kind = s.item.kind; content = refill (length s.item.content) s.item.content ws } }
+rewritten ws s = with_bytes (refill (length s.item.content) s.item.content ws) s
 
 -- at one offset stands what is said, and at each other offset what stood there
 pub record ChangesIn (at : ℕ) (is : Option Standing) (old new : Option Held) : Type 0 where

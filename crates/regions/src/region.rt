@@ -46,15 +46,16 @@ ghost use Rattle.regions.specs.Held.{
 };
 ghost use Rattle.regions.specs.Contents.{standing_at, live_at, live_bytes_in};
 ghost use Rattle.regions.specs.Stores.{StandsFor, store_of, itself};
-ghost use Rattle.regions.specs.Calls.{zeros, dead, rewritten, ChangesAt, Keeps, Places, Kills, Writes, Activates, Removes};
+ghost use Rattle.regions.specs.Calls.{zeros, dead, rewritten, with_bytes, ChangesAt, Keeps, Places, Kills, Writes, Activates, Removes};
 ghost use Rattle.regions.specs.Lends.{LendsContent, with_content};
 ghost use Rattle.std.specs.Borrow.{sem};
 
 use crate::place::{NeedSegment, Place};
 use crate::segment::Segment;
 use crate::slots::{
-    append_in, begin, bytes_in, clear_all, clear_in, content_in, content_mut_in, count_free, greatest_free,
-    greatest_held, is_begun, kill_in, least_free, least_unused, live_in_slot, piece_of, used_in,
+    append_in, begin, bytes_in, clear_all, clear_in, content_in, content_mut_in, count_free,
+    greatest_free, greatest_held, is_begun, kill_in, least_free, least_unused, live_in_slot,
+    piece_of, used_in,
 };
 use raw_range::Piece;
 use std::alloc::{AllocError, Global};
@@ -205,7 +206,8 @@ impl Region {
         requires { IsSome (live_at self.old place) }
         ensures* lends { sem 𝓛 (LendsContent self.entry place result) }
         ensures value { option_map (λ s. s.item.content) (standing_at self.old place) ≡ Some result.now }
-        ensures written { (ws : List ℕ) → ChangesAt place (option_map (rewritten ws) (standing_at self.old place)) self.old (with_content self.old place ws) }
+        ensures left { (ws : List ℕ) → length ws ≡ length result.now → ChangesAt place (option_map (with_bytes ws) (standing_at self.old place)) self.old (with_content self.old place ws) }
+        ensures fitted { (ws : List ℕ) → ChangesAt place (option_map (rewritten ws) (standing_at self.old place)) self.old (with_content self.old place ws) }
         ensures filled { (ws : List ℕ) → Writes place self.old (with_content self.old place ws) }
         ensures pieces { (ws : List ℕ) → pieces (with_content self.old place ws) ≡ pieces self.old }
     {

@@ -145,7 +145,8 @@ impl Segment {
         ensures written { (ws : List ℕ) → ChangesIn at (option_map (rewritten ws) (standing_in (Some self.old) at)) (Some self.old) (Some (held_with at ws self.old)) }
     {
         let size = read_descriptor(self.piece.bytes(), at).size;
-        self.piece.part_mut(at as usize + DESCRIPTOR, size as usize - DESCRIPTOR)
+        self.piece
+            .part_mut(at as usize + DESCRIPTOR, size as usize - DESCRIPTOR)
     }
 
     pub(crate) fn clear(&mut self)

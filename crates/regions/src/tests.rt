@@ -1,6 +1,8 @@
 // Segments filled to the end, contents written and read, guards, and which segments are given.
-ghost use Rattle.std.specs.Prelude.{◌≡◌, ◌≤◌, length, IfOk};
+ghost use Rattle.std.specs.Prelude.{◌≡◌, ◌≤◌, length, IfOk, IfSome, IsSome, option_map};
 ghost use Rattle.object_log.specs.Objects.{IsSize};
+ghost use Rattle.regions.specs.Contents.{standing_at, live_at};
+ghost use Rattle.regions.specs.Calls.{with_bytes, ChangesAt};
 
 use crate::{NeedSegment, Place, Region};
 use raw_range::{Piece, Range};
@@ -69,6 +71,15 @@ fn a_segment_is_filled_with_and_without_room_for_the_end(rt: HostRuntime) -> Res
     Ok(())
 }
 
+// What a caller can say of a content that it writes.
+fn overwrite(region: &mut Region, place: Place, from: &[u8])
+    requires live { IsSome (live_at region.old place) }
+    requires fits { IfSome (standing_at region.old place) (λ s. length s.item.content ≡ length from.now) }
+    ensures { ChangesAt place (option_map (with_bytes from.now) (standing_at region.old place)) region.old region.new }
+{
+    region.bytes_mut(place).copy_from_slice(from);
+}
+
 // Two objects side by side, of which each is written through. What their contents are then.
 fn write_both(region: &mut Region) -> Option<(bool, bool)> {
     if region.active().is_none() {
@@ -81,7 +92,7 @@ fn write_both(region: &mut Region) -> Option<(bool, bool)> {
         return None;
     };
     region.bytes_mut(second).fill(9);
-    region.bytes_mut(first).fill(7);
+    overwrite(region, first, &[7; 40]);
     Some((
         region.bytes(first) == [7u8; 40].as_slice(),
         region.bytes(second) == [9u8; 8].as_slice(),

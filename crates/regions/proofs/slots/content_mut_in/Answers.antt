@@ -4,8 +4,7 @@ use Rattle.regions.proofs.slots.content_mut_in.Goals as goal
 
 pub returns : goal.returns
 returns c =
-    rw c.in-Some.is
-    (
+    rw c.in-Some.is (
       (refl, λ ws. refl),
       record {
         lends = tt;
