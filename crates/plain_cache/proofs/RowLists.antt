@@ -1,33 +1,25 @@
 -- Lists of rows: as the plain cache keeps them, and as contracts see them.
-use Rattle.std.proofs.Common.{◌≡◌, ℕ, ◌+◌, ◌-◌, ◌<◌, ◌≤◌, Bool, true, false, not, ◌||◌, cond, ltb, List, [], ◌∷◌, ◌++◌, length, take, drop, get_or, map, filter, Option, Some, None, arith, refl, sym, ap, ◌∙◌, add-one}
-use Rattle.std.specs.List.{find, last_or, list_any, position, position_from, position_or_len, remove, slice_get}
+use Rattle.std.proofs.Common.{◌≡◌, ℕ, suc, ◌+◌, ◌-◌, ◌<◌, ◌≤◌, Bool, true, false, not, ◌||◌, cond, List, [], ◌∷◌, ◌++◌, length, take, get_or, map, filter, Option, Some, None, arith, refl, sym, ap, ◌∙◌, append-nil}
+use denote.Ref.{Bor}
+use Rattle.std.specs.List.{find, last_or, position, position_from, position_or_len, remove}
 use Rattle.std.specs.Option.{option_map, is_some, IfNone, IfSome}
 use Rattle.std.proofs.lemmas.Iterator.Adapters.{position_from-zero}
-use Rattle.std.proofs.lemmas.List.{map-append, take_more}
+use Rattle.std.proofs.lemmas.List.{length-map, map-append, take-map, take_more}
 use Rattle.std.proofs.lemmas.List.Elements.{filter-append}
 use Rattle.std.proofs.lemmas.List.Folds.{find_at}
-use Rattle.std.proofs.lemmas.List.Sums.{passes_at_first, split_at_first, sum_by-append}
-use Rattle.std.proofs.lemmas.Option.{cond_some, none-some, slice_get-get_or}
+use Rattle.std.proofs.lemmas.List.Sums.{sum_by-append}
+use Rattle.std.proofs.lemmas.Slice.Eq.{bytes_eq-Decides}
+use Rattle.std.proofs.lemmas.Option.{cond_some, slice_get-get_or}
 use borrow.Author.Tests.{ltb-true}
 use Rattle.plain_cache.specs.declared.plain.Kept.{Kept}
-use Rattle.plain_cache.specs.Apply.{has, is_of, row_of, without}
+use Rattle.plain_cache.specs.Apply.{has, is_at_most, is_of, row_of, without, HasDistinctKeys}
 use Rattle.plain_cache.specs.Kept.{row_in, IsPlaceOf}
 use Rattle.plain_cache.specs.Row.{Row, live, size}
+use Rattle.plain_cache.proofs.Distinct.{without-absent}
 
 -- whether a kept row has this key
 abbrev pub keeps : List ℕ → Kept → Bool
 keeps key kept = is_of key (row_in kept)
-
-map-cond : (b : Bool) (k : Kept) (ks : List Kept) → map row_in (cond b (k ∷ ks) ks) ≡ cond b (row_in k ∷ map row_in ks) (map row_in ks)
-map-cond true k ks = refl
-map-cond false k ks = refl
-
--- the rows of other keys
-pub map-filter : (key : List ℕ) (ks : List Kept) → map row_in (filter (λ k. not (keeps key k)) ks) ≡ without key (map row_in ks)
-map-filter key [] = refl
-map-filter key (k ∷ ks) =
-    map-cond (not (keeps key k)) k (filter (λ k. not (keeps key k)) ks)
-    ∙ ap (λ rows. cond (not (keeps key k)) (row_in k ∷ rows) rows) (map-filter key ks)
 
 is_some-cond : (b : Bool) (n : ℕ) (o : Option ℕ) → is_some (cond b (Some n) o) ≡ (b || is_some o)
 is_some-cond true n o = refl
@@ -59,32 +51,28 @@ row_of-position key ks i d at =
     let within : position_or_len (keeps key) ks < length ks = ltb-true _ _ found.0 in
     rw (← found.1) (find-map key ks ∙ ap (option_map row_in) (find_at (keeps key) ks ∙ slice_get-get_or ks (position_or_len (keeps key) ks) d within))
 
-without-at : (key : List ℕ) (front : List Kept) (k : Kept) (back : List Kept) → keeps key k ≡ true
-    → without key (map row_in (front ++ back)) ≡ without key (map row_in (front ++ k ∷ back))
-without-at key front k back of_key =
-    rw (map-append row_in front back, map-append row_in front (k ∷ back), filter-append, filter-append, of_key) refl
-
--- without the row at the place found, the rows of other keys are the same
-pub without-remove : (key : List ℕ) (ks : List Kept) (i : ℕ) (d : Kept) → position (keeps key) ks ≡ Some i
-    → without key (map row_in (remove ks i)) ≡ without key (map row_in ks)
-without-remove key ks i d at =
-    let found = cond_some _ _ _ at in
-    let within : position_or_len (keeps key) ks < length ks = ltb-true _ _ found.0 in
-    let split = split_at_first (keeps key) ks d within in
-    let of_key = passes_at_first (keeps key) ks d within in
-    rw (← found.1, ← add-one (position_or_len (keeps key) ks)) (without-at key _ _ _ of_key ∙ ap (λ all. without key (map row_in all)) (sym split))
-
--- where a place is found there is a row
-some_kept : (key : List ℕ) (ks : List Kept) (i : ℕ) → position (keeps key) ks ≡ Some i → Kept
-some_kept key [] i at = absurd (none-some i at)
-some_kept key (k ∷ ks) i at = k
+-- Where keys are distinct, the rows of other keys are those without the row at the place found.
+pub remove-is : (key : List ℕ) (ks : List Kept) → HasDistinctKeys (map row_in ks) → position_or_len (keeps key) ks < length ks
+    → map row_in (remove ks (position_or_len (keeps key) ks)) ≡ without key (map row_in ks)
+remove-is key [] are within = absurd (omega arith)
+remove-is key (k ∷ ks) are within = go (keeps key k) (position_or_len (keeps key) ks) refl within (remove-is key ks are.1)
+  where
+    go : (b : Bool) (n : ℕ) → keeps key k ≡ b → cond (not b) (1 + n) 0 < length (k ∷ ks) → (n < length ks → map row_in (remove ks n) ≡ without key (map row_in ks))
+        → map row_in (remove (k ∷ ks) (cond (not b) (1 + n) 0)) ≡ cond (not b) (row_in k ∷ without key (map row_in ks)) (without key (map row_in ks))
+    go true n is within more =
+        let same : k.key.items ≡ key = (bytes_eq-Decides k.key.items key).0 is in
+        let none : has key (map row_in ks) ≡ false = rw same at are.0 in
+        sym (without-absent key (map row_in ks) none)
+    go false n is within more =
+        let next : 1 + n ≡ suc n = omega arith in
+        ap (λ i. map row_in (remove (k ∷ ks) i)) next ∙ ap (λ rows. row_in k ∷ rows) (more (omega arith))
 
 -- the place found is the place of the row
 pub is_place : (key : List ℕ) (ks : List Kept) (i : ℕ) → position (keeps key) ks ≡ Some i → IsPlaceOf key ks i
 is_place key ks i at = record {
   within = let found = cond_some _ _ _ at in rw (← found.1) (ltb-true _ _ found.0);
   row = λ d. row_of-position key ks i d at;
-  others = without-remove key ks i (some_kept key ks i at) at;
+  others = λ are. let found = cond_some _ _ _ at in rw (← found.1) (remove-is key ks are (ltb-true _ _ found.0));
 }
 
 find-none-at : (b : Bool) (n : ℕ) (k : Kept) (o : Option ℕ) (p : Option Kept) → (o ≡ None → p ≡ None)
@@ -109,6 +97,11 @@ pub is_place_where : (key : List ℕ) (ks : List Kept) (o : Option ℕ) → o �
 is_place_where key ks None e = tt
 is_place_where key ks (Some i) e = is_place key ks i (sym e)
 
+-- the rows before the last one
+pub front-rows : (ks kept : List Kept) (n : ℕ) → n ≡ length ks → kept ≡ take (n - 1) ks
+    → map row_in kept ≡ take (length (map row_in ks) - 1) (map row_in ks)
+front-rows ks kept n all is = rw (is, all, length-map, take-map) refl
+
 -- the last row
 pub last-map : (o : Option Row) (k : Kept) (ks : List Kept) (d : Kept)
     → last_or o (map row_in (k ∷ ks)) ≡ Some (row_in (get_or (k ∷ ks) (length ks) d))
@@ -129,3 +122,32 @@ last-of [] k some is = absurd (omega arith)
 last-of (first ∷ ks) k some is =
     let at : length ks ≡ length (first ∷ ks) - 1 = omega arith in
     last-map None first ks k ∙ ap (λ kept. Some (row_in kept)) (ap (λ n. get_or (first ∷ ks) n k) at ∙ sym is)
+
+-- the keys from one on, of a row more
+abbrev pub keys_from : List ℕ → List Kept → List (List ℕ)
+keys_from key ks = filter (is_at_most key) (map (λ row. row.key) (map row_in ks))
+
+keys_from-more : (key : List ℕ) (ks : List Kept) (i : ℕ) (k : Kept) → i < length ks → k ≡ get_or ks i k
+    → keys_from key (take (i + 1) ks) ≡ keys_from key (take i ks) ++ keys_from key (k ∷ [])
+keys_from-more key ks i k within is =
+    let more : take (i + 1) ks ≡ take i ks ++ k ∷ [] = take_more ks i k within ∙ ap (λ x. take i ks ++ x ∷ []) (sym is) in
+    ap (keys_from key) more
+    ∙ ap (λ rows. filter (is_at_most key) (map (λ row. row.key) rows)) (map-append row_in (take i ks) (k ∷ []))
+    ∙ ap (filter (is_at_most key)) (map-append (λ row. row.key) (map row_in (take i ks)) (row_in k ∷ []))
+    ∙ filter-append (is_at_most key) (map (λ row. row.key) (map row_in (take i ks))) (k.key.items ∷ [])
+
+pub key_added : (key : List ℕ) (ks : List Kept) (i : ℕ) (k : Kept) (keys more : List (Bor (List ℕ))) (added : Bor (List ℕ))
+    → i < length ks → k ≡ get_or ks i k → is_at_most key k.key.items ≡ true → added.now ≡ k.key.items → more ≡ keys ++ added ∷ []
+    → map (λ found. found.now) keys ≡ keys_from key (take i ks) → map (λ found. found.now) more ≡ keys_from key (take (i + 1) ks)
+key_added key ks i k keys more added within is high same all so_far =
+    let one : keys_from key (k ∷ []) ≡ k.key.items ∷ [] = rw high refl in
+    ap (map (λ found. found.now)) all ∙ map-append (λ found. found.now) keys (added ∷ [])
+    ∙ ap (λ ks. ks ++ added.now ∷ []) so_far ∙ ap (λ x. keys_from key (take i ks) ++ x ∷ []) same
+    ∙ sym (keys_from-more key ks i k within is ∙ ap (λ x. keys_from key (take i ks) ++ x) one)
+
+pub key_passed : (key : List ℕ) (ks : List Kept) (i : ℕ) (k : Kept) (keys : List (Bor (List ℕ)))
+    → i < length ks → k ≡ get_or ks i k → is_at_most key k.key.items ≡ false
+    → map (λ found. found.now) keys ≡ keys_from key (take i ks) → map (λ found. found.now) keys ≡ keys_from key (take (i + 1) ks)
+key_passed key ks i k keys within is low so_far =
+    let none : keys_from key (k ∷ []) ≡ [] = rw low refl in
+    so_far ∙ sym (keys_from-more key ks i k within is ∙ ap (λ x. keys_from key (take i ks) ++ x) none ∙ append-nil (keys_from key (take i ks)))

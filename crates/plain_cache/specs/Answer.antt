@@ -1,5 +1,5 @@
 -- The answer to a command, from the journals of all shards.
-use Rattle.std.specs.Prelude.{ℕ, List, [], take, flat_map, Option, Some, None}
+use Rattle.std.specs.Prelude.{ℕ, List, [], take, flat_map, Option, Some}
 use Rattle.std.specs.List.{slice_get}
 use Rattle.std.specs.Option.{option_and_then}
 use Rattle.trace_text.specs.declared.command.Kind.{Kind}
@@ -7,7 +7,7 @@ use Rattle.trace_text.specs.declared.command.Kind.TheVariants as kinds
 use Rattle.trace_text.specs.Operation.{Operation}
 use Rattle.trace_text.specs.Parts.{owner}
 use Rattle.plain_cache.specs.declared.journal.Entry.{Entry}
-use Rattle.plain_cache.specs.Apply.{Reply, Stored, Replaced, Value, Missing, Erased, Keys, in_order}
+use Rattle.plain_cache.specs.Apply.{Reply, Keys, in_order}
 use Rattle.plain_cache.specs.Legal.{reply_at}
 
 abbrev pub keys_in : Option Reply → List (List ℕ)

@@ -1,5 +1,5 @@
 -- Journals: which are legal, which are complete, and what was replied in them.
-use Rattle.std.specs.Prelude.{◌≡◌, ℕ, ◌==◌, ◌-◌, ◌<◌, ◌&&◌, nat_lt, Bool, true, false, List, [], ◌∷◌, ◌++◌, length, take, filter, find, filter_map, if◌then◌else◌, Option, Some, None, IsSome}
+use Rattle.std.specs.Prelude.{◌≡◌, ℕ, ◌==◌, ◌-◌, ◌<◌, ◌&&◌, nat_lt, Bool, false, List, [], ◌∷◌, ◌++◌, length, take, filter, find, filter_map, if◌then◌else◌, Option, Some, None, IsSome}
 use Rattle.std.specs.List.{list_any, before_first, last_or}
 use Rattle.std.specs.Option.{option_map, option_and_then}
 use Rattle.trace_text.specs.Operation.{Operation}

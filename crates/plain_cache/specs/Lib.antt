@@ -2,6 +2,7 @@ pub mod Answer
 pub mod Apply
 pub mod Cache
 pub mod Kept
+pub mod KeyBody
 pub mod Legal
 pub mod Recorded
 pub mod Replies

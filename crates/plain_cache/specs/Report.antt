@@ -1,12 +1,12 @@
 -- The report, and when bytes are a legal one.
-use Rattle.std.specs.Prelude.{◌≡◌, ℕ, ◌==◌, ◌+◌, ◌<◌, List, [], ◌∷◌, ◌++◌, length, map, flat_map, filter_map, sum_by, codes, decimal, if◌then◌else◌, Option, Some, None, unwrap_or}
+use Rattle.std.specs.Prelude.{◌≡◌, ℕ, ◌==◌, ◌+◌, ◌<◌, List, [], ◌∷◌, ◌++◌, length, map, flat_map, filter_map, sum_by, codes, decimal, if◌then◌else◌, unwrap_or}
 use Rattle.std.specs.List.{slice_get, slice_index_or, slice_split, enumerate_from, range_with_len}
 use Rattle.std.specs.Option.{option_map}
 use Rattle.trace_text.specs.Operation.{Operation}
 use Rattle.trace_text.specs.Parts.{parts}
 use Rattle.plain_cache.specs.declared.journal.Entry.{Entry}
 use Rattle.plain_cache.specs.declared.journal.Entry.TheVariants.{Done, Evicted}
-use Rattle.plain_cache.specs.Row.{Row, live}
+use Rattle.plain_cache.specs.Row.{live}
 use Rattle.plain_cache.specs.Apply.{Reply, Stored, Replaced, Value, Missing, Erased, Keys}
 use Rattle.plain_cache.specs.Legal.{cache_after, IsLegal, IsComplete}
 use Rattle.plain_cache.specs.Answer.{answer}

@@ -5,7 +5,7 @@ use Rattle.trace_text.specs.declared.command.Kind.TheVariants.{Put, Get, Scan}
 use Rattle.trace_text.specs.Operation.{Operation}
 use Rattle.plain_cache.specs.declared.journal.Entry.{Entry}
 use Rattle.plain_cache.specs.declared.journal.Entry.TheVariants.{Done, Evicted}
-use Rattle.plain_cache.specs.Apply.{Value, Missing, Keys}
+use Rattle.plain_cache.specs.Apply.{Missing, Keys}
 use Rattle.plain_cache.specs.Legal.{IsLegal, IsComplete, reply_at}
 use Rattle.plain_cache.specs.Answer.{answer}
 

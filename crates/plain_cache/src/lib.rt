@@ -5,12 +5,14 @@
 #![tactic(auto)]
 
 mod journal;
+mod keys;
 mod law;
 mod plain;
 mod replies;
 
 pub use journal::{Entry, Journal};
-pub use law::keys_are_distinct;
+pub use keys::{first_key, next_key};
+pub use law::{an_ordered_reply_stays, keys_are_distinct};
 pub use plain::{Plain, floor_of};
 pub use replies::{ReplyKind, ReplyLog};
 

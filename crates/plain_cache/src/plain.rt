@@ -1,12 +1,12 @@
-ghost use Rattle.std.specs.Prelude.{◌≡◌, ◌≢◌, ◌+◌, ◌-◌, ◌*◌, ◌/◌, ◌^◌, ◌<◌, ◌≤◌, ◌∷◌, ◌++◌, [], length, take, map, position, Some, vec_len, vec_capacity, All, Contains, None, IfOk, OnOk, OnErr, IfSome, IfNone, is_some};
+ghost use Rattle.std.specs.Prelude.{◌≡◌, ◌+◌, ◌-◌, ◌*◌, ◌/◌, ◌^◌, ◌<◌, ◌≤◌, ◌∷◌, ◌++◌, [], length, take, map, filter, flat_map, position, Some, vec_len, vec_capacity, All, Contains, None, false, IfOk, OnOk, OnErr, IfSome, IfNone, is_some};
 ghost use Rattle.std.specs.Bool.{OnTrue, OnFalse};
 ghost use Rattle.std.specs.List.{last_or};
 ghost use Rattle.trace_text.specs.Operation.{operation};
-ghost use Rattle.plain_cache.specs.Apply.{apply, get, has, is_of, put, row_of, without};
+ghost use Rattle.plain_cache.specs.Apply.{apply, get, has, in_order, is_at_most, is_of, put, row_of, scan, without, HasDistinctKeys};
 ghost use Rattle.plain_cache.specs.Kept.{row_in, IsPlaceOf, IsSmall};
 ghost use Rattle.plain_cache.specs.Legal.{can_evict, is_of_put};
 ghost use Rattle.plain_cache.specs.Row.{live, floor, ArePages};
-ghost use Rattle.plain_cache.specs.Spelled.{spelled, with_body};
+ghost use Rattle.plain_cache.specs.Spelled.{key_field, spelled, with_body};
 
 use crate::replies::ReplyKind;
 use std::alloc::{AllocError, Global};
@@ -34,12 +34,13 @@ impl Model for Plain {
     ghost Value = { Cache };
 
     ghost use Rattle.std.specs.Prelude.{◌^◌, ◌<◌, length, map, All};
+    ghost use Rattle.plain_cache.specs.Apply.{HasDistinctKeys};
     ghost use Rattle.plain_cache.specs.Kept.{row_in, IsSmall};
     ghost use Rattle.plain_cache.specs.Row.{ArePages};
 
     ghost view = { λ p. record { pages = p.pages; rows = map row_in p.rows.items } };
 
-    ghost invariant = { λ p. ArePages p.pages × All IsSmall p.rows.items × (length p.rows.items < 2 ^ 32) };
+    ghost invariant = { λ p. ArePages p.pages × All IsSmall p.rows.items × (length p.rows.items < 2 ^ 32) × HasDistinctKeys (map row_in p.rows.items) };
 }
 
 /// The floor of a shard with so many pages, in bytes: up to so many live bytes nothing may be evicted.
@@ -85,28 +86,107 @@ fn is_last(rows: &[Kept], put: u32) -> bool
     }
 }
 
-/// Takes away the row of a key, if there is one.
-fn drop_row(rows: &mut Vec<Kept>, key: &[u8])
+/// Takes away the row of a key, if there is one, and answers whether there was.
+fn drop_row(rows: &mut Vec<Kept>, key: &[u8]) -> bool
+    requires { HasDistinctKeys (map row_in rows.old.items) }
+    ensures found { result ≡ has key.now (map row_in rows.old.items) }
     ensures rows { map row_in rows.new.items ≡ without key.now (map row_in rows.old.items) }
+    ensures absent { has key.now (map row_in rows.new.items) ≡ false }
+    ensures distinct { HasDistinctKeys (map row_in rows.new.items) }
     ensures small { All IsSmall rows.old.items → All IsSmall rows.new.items }
     ensures fewer { vec_len rows.new ≤ vec_len rows.old }
     ensures capacity { vec_capacity rows.new ≡ vec_capacity rows.old }
 {
-    rows.retain(|row| row.key.as_slice() != key);
+    let Some(at) = seek(rows.as_slice(), key) else {
+        return false;
+    };
+    rows.remove(at);
+    true
+}
+
+/// Takes away the last row.
+fn drop_last(rows: &mut Vec<Kept>)
+    ensures rows { map row_in rows.new.items ≡ take (length (map row_in rows.old.items) - 1) (map row_in rows.old.items) }
+    ensures distinct { HasDistinctKeys (map row_in rows.old.items) → HasDistinctKeys (map row_in rows.new.items) }
+    ensures small { All IsSmall rows.old.items → All IsSmall rows.new.items }
+    ensures fewer { vec_len rows.new ≤ vec_len rows.old }
+{
+    rows.pop();
 }
 
 /// Brings the row at this place to the front.
 fn bring_to_front(rows: &mut Vec<Kept>, at: usize, key: &[u8])
-    requires within { at < vec_len rows.old }
     requires of_key { IsPlaceOf key.now rows.old.items at }
+    requires distinct { HasDistinctKeys (map row_in rows.old.items) }
     ensures rows { IfSome (row_of key.now (map row_in rows.old.items))
         (λ row. map row_in rows.new.items ≡ row ∷ without key.now (map row_in rows.old.items)) }
+    ensures distinct_still { HasDistinctKeys (map row_in rows.new.items) }
     ensures small { All IsSmall rows.old.items → All IsSmall rows.new.items }
     ensures fewer { vec_len rows.new ≤ vec_len rows.old }
 {
-    let row = rows.remove(at);
-    drop_row(rows, key);
-    rows.insert(0, row).unwrap();
+    rows.slice_mut(..at + 1).rotate_right(1);
+}
+
+/// Whether a key is at least the key of a scan, by their bytes.
+#[tactic(auto, using(crate::proofs::KeyOrder::tells_at_most))]
+fn is_from(key: &[u8], found: &[u8]) -> bool
+    ensures { result ≡ is_at_most key.now found.now }
+{
+    key <= found
+}
+
+/// The keys of these rows that are not below a key.
+fn keys_from<'a>(alloc: Global, rows: &'a [Kept], key: &[u8]) -> Result<Vec<&'a [u8]>, AllocError>
+    ensures { IfOk result (λ keys. map (λ found. found.now) keys.items ≡ filter (is_at_most key.now) (map (λ row. row.key) (map row_in rows.now))) }
+{
+    let mut keys = Vec::new(alloc);
+    for row in rows {
+        if is_from(key, row.key.as_slice()) {
+            keys.push(row.key.as_slice())?;
+        }
+    }
+    Ok(keys)
+}
+
+/// The keys of a scan: those of these rows that are not below its key, in order, at most so many.
+fn scanned<'a>(
+    alloc: Global,
+    rows: &'a [Kept],
+    key: &[u8],
+    count: u32,
+) -> Result<Vec<&'a [u8]>, AllocError>
+    ensures keys { IfOk result (λ keys. map (λ found. found.now) keys.items ≡ take count (in_order (filter (is_at_most key.now) (map (λ row. row.key) (map row_in rows.now))))) }
+    ensures short { All IsSmall rows.now → IfOk result (λ keys. All (λ found. length found.now ≤ 256) keys.items) }
+{
+    let mut keys = keys_from(alloc, rows, key)?;
+    keys.sort_unstable();
+    keys.truncate(count as usize);
+    Ok(keys)
+}
+
+/// Appends a key: its length in two bytes, low byte first, and its bytes.
+fn append_key(body: &mut Vec<u8>, key: &[u8]) -> Result<(), AllocError>
+    requires { length key.now ≤ 256 }
+    ensures appended { OnOk result (body.new.items ≡ body.old.items ++ key_field key.now) }
+    ensures kept { OnErr result (body.new.items ≡ body.old.items) }
+{
+    body.reserve(2 + key.len())?;
+    body.extend_from_slice((key.len() as u16).to_le_bytes().as_slice())
+        .unwrap();
+    body.extend_from_slice(key).unwrap();
+    Ok(())
+}
+
+/// Appends these keys. Without the memory for one of them, the ones before it stand.
+fn append_keys(body: &mut Vec<u8>, keys: &[&[u8]]) -> Result<(), AllocError>
+    requires { All (λ key. length key.now ≤ 256) keys.now }
+    ensures appended { OnOk result (body.new.items ≡ body.old.items ++ flat_map key_field (map (λ key. key.now) keys.now)) }
+    ensures front { OnErr result (take (vec_len body.old) body.new.items ≡ body.old.items) }
+{
+    for key in keys {
+        append_key(body, key)?;
+    }
+    Ok(())
 }
 
 impl Plain {
@@ -153,7 +233,7 @@ impl Plain {
     {
         let can = self.can_evict(put);
         if can {
-            self.rows.pop();
+            drop_last(&mut self.rows);
         }
         can
     }
@@ -178,8 +258,7 @@ impl Plain {
             number,
         };
         self.rows.reserve(1)?;
-        let replaced = seek(self.rows.as_slice(), key).is_some();
-        drop_row(&mut self.rows, key);
+        let replaced = drop_row(&mut self.rows, key);
         self.rows.insert(0, row).unwrap();
         Ok(replaced)
     }
@@ -202,13 +281,32 @@ impl Plain {
         ensures found { result ≡ has key.now self.old.rows }
         ensures erased { self.new ≡ record self.old { rows = without key.now self.old.rows } }
     {
-        let found = seek(self.rows.as_slice(), key).is_some();
-        drop_row(&mut self.rows, key);
-        found
+        drop_row(&mut self.rows, key)
     }
 
-    /// Does one part of a command of the trace, and appends the reply's body. A refusal changes nothing. Scans are
-    /// not served yet.
+    /// The reply to a scan, which changes no row and no recency.
+    pub(crate) fn scan(
+        &self,
+        alloc: Global,
+        key: &[u8],
+        count: u32,
+        body: &mut Vec<u8>,
+    ) -> Result<ReplyKind, AllocError>
+        ensures replied { IfOk result (λ kind. (kind, body.new.items) ≡ with_body body.old.items (spelled (scan key.now count self.now.rows).1)) }
+        ensures body_kept { OnErr result (body.new.items ≡ body.old.items) }
+    {
+        let keys = scanned(alloc, self.rows.as_slice(), key, count)?;
+        let start = body.len();
+        match append_keys(body, keys.as_slice()) {
+            Ok(()) => Ok(ReplyKind::Keys),
+            Err(error) => {
+                body.truncate(start);
+                Err(error)
+            }
+        }
+    }
+
+    /// Does one part of a command of the trace, and appends the reply's body. A refusal changes nothing.
     pub fn apply(
         &mut self,
         alloc: Global,
@@ -217,7 +315,6 @@ impl Plain {
         body: &mut Vec<u8>,
     ) -> Result<ReplyKind, AllocError>
         requires of_trace { Contains trace.now.commands command.now }
-        requires served { command.now.kind ≢ Kind.Scan }
         requires room { length self.old.rows < 4294967295 }
         ensures applied { OnOk result (self.new ≡ record self.old { rows = (apply (operation trace.now.bytes command.now) self.old.rows).0 }) }
         ensures replied { IfOk result (λ kind. (kind, body.new.items) ≡ with_body body.old.items (spelled (apply (operation trace.now.bytes command.now) self.old.rows).1)) }
@@ -241,7 +338,7 @@ impl Plain {
                     Ok(ReplyKind::Missing)
                 }
             }
-            Kind::Scan => unreachable!(),
+            Kind::Scan => self.scan(alloc, key, command.count, body),
         }
     }
 }

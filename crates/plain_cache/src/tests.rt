@@ -124,6 +124,83 @@ fn a_row_that_was_evicted_is_stored_again(rt: HostRuntime) -> Result<(), Fail> {
     Ok(())
 }
 
+/// The rows that these commands leave of an empty cache.
+fn rows_of(alloc: Global, bytes: &[u8]) -> Result<Plain, AllocError> {
+    let mut plain = Plain::new(alloc, 1280)?;
+    apply_all(alloc, &mut plain, Vec::from_slice(alloc, bytes)?)?;
+    Ok(plain)
+}
+
+/// The body of a scan.
+fn scan_of(alloc: Global, plain: &Plain, key: &[u8], count: u32) -> Result<Vec<u8>, AllocError> {
+    let mut body = Vec::new(alloc);
+    plain.scan(alloc, key, count, &mut body)?;
+    Ok(body)
+}
+
+#[test]
+fn a_scan_gives_the_keys_from_its_own_on(rt: HostRuntime) -> Result<(), Fail> {
+    let few = b"put a 1\nput c 3\nput b 2\n".as_slice();
+    let fronts = b"put b 1\nput ab 1\nput a 1\nput aa 1\n".as_slice();
+    let high = b"put \xff 1\nput z 1\nput \x80 1\nput z\xe9 1\n".as_slice();
+    let cases = [
+        (few, b"b".as_slice(), 2, b"\x01\0b\x01\0c".as_slice()),
+        (few, b"d".as_slice(), 5, b"".as_slice()),
+        (
+            few,
+            b"a".as_slice(),
+            32,
+            b"\x01\0a\x01\0b\x01\0c".as_slice(),
+        ),
+        (few, b"a".as_slice(), 1, b"\x01\0a".as_slice()),
+        (few, b"a".as_slice(), 0, b"".as_slice()),
+        (few, b"bb".as_slice(), 32, b"\x01\0c".as_slice()),
+        (
+            fronts,
+            b"a".as_slice(),
+            32,
+            b"\x01\0a\x02\0aa\x02\0ab\x01\0b".as_slice(),
+        ),
+        (fronts, b"aa".as_slice(), 2, b"\x02\0aa\x02\0ab".as_slice()),
+        (
+            high,
+            b"a".as_slice(),
+            32,
+            b"\x01\0z\x02\0z\xe9\x01\0\x80\x01\0\xff".as_slice(),
+        ),
+        (high, b"\x7e".as_slice(), 1, b"\x01\0\x80".as_slice()),
+    ];
+    for (rows, key, count, body) in cases {
+        let plain = rows_of(rt.alloc(), rows)?;
+        assert!(rt; scan_of(rt.alloc(), &plain, key, count)?.as_slice() == body);
+    }
+    Ok(())
+}
+
+#[test]
+fn a_body_is_appended(rt: HostRuntime) -> Result<(), Fail> {
+    let plain = rows_of(rt.alloc(), b"put b 1\nput a 1\n".as_slice())?;
+    let mut body = Vec::from_slice(rt.alloc(), b"xyz")?;
+    assert!(rt; plain.scan(rt.alloc(), b"a", 32, &mut body)? == ReplyKind::Keys);
+    assert!(rt; body.as_slice() == b"xyz\x01\0a\x01\0b".as_slice());
+    Ok(())
+}
+
+#[test]
+fn a_scan_leaves_the_order_of_eviction(rt: HostRuntime) -> Result<(), Fail> {
+    let mut plain = Plain::new(rt.alloc(), 1280)?;
+    put_rows(rt.alloc(), &mut plain, 60)?;
+    apply_all(
+        rt.alloc(),
+        &mut plain,
+        Vec::from_slice(rt.alloc(), b"get k001\nscan k002 2")?,
+    )?;
+    let keys = scan_of(rt.alloc(), &plain, b"k002", 2)?;
+    assert!(rt; keys.as_slice() == b"\x04\0k002\x04\0k003".as_slice());
+    assert!(rt; !plain.evict(1) && plain.evict(2));
+    Ok(())
+}
+
 #[test]
 fn a_log_and_a_journal_keep_what_they_are_given(rt: HostRuntime) -> Result<(), Fail> {
     let mut log = ReplyLog::new(rt.alloc(), 2, 3)?;

@@ -11,7 +11,7 @@ use Rattle.trace_text.specs.Parsed.{Parsed, trace_in, AreNumbered}
 use Rattle.plain_cache.specs.Apply.{Reply, Stored}
 use Rattle.plain_cache.specs.Replies.{Replies}
 use Rattle.plain_cache.specs.Spelled.{spelled}
-use Rattle.report_text.specs.Held.{AreHeld, IsKeyless, parts_in}
+use Rattle.report_text.specs.Held.{AreHeld, HasShortKeys, parts_in}
 
 -- the one log of a run on one shard
 pub only_log : (logs : List Replies) (log : Replies) → length logs ≡ 1 → get_or logs 0 log ≡ log → logs ≡ log ∷ []
@@ -25,7 +25,7 @@ pub record IsAnswered (answers : List (ℕ × Reply)) (log : Replies) (i number 
   pub within : i < length answers
   pub at : get_or answers i (number, reply) ≡ (number, reply)
   pub recorded : slice_get log.replies (number - 1) ≡ Some (Some (spelled reply))
-  pub keyless : IsKeyless reply
+  pub short : HasShortKeys reply
 
 pub answered_at : (trace : Parsed) (commands : List Command) (logs : List Replies) (log : Replies) (answers : List (ℕ × Reply)) (i : ℕ) (d : Command)
     → commands ≡ trace.commands → AreNumbered commands → length logs ≡ trace.shards → trace.shards ≡ 1 → log ≡ get_or logs 0 log → AreHeld (trace_in trace) logs answers
@@ -49,5 +49,5 @@ answered_at trace commands logs log answers i d value numbered many one is held 
       within = within;
       at = get_or_default answers i (number, a.1) (0, Stored) within ∙ ap (λ n. (n, a.1)) same;
       recorded = ap (λ n. slice_get log.replies (n - 1)) counted ∙ ap (slice_get log.replies) (add-sub_cancel i 1) ∙ recorded;
-      keyless = held.keyless i (0, Stored) within;
+      short = held.short i (0, Stored) within;
     }

@@ -1,5 +1,6 @@
 pub mod Answered
 pub mod Held
+pub mod Keys
 pub mod Laid
 pub mod Said
 pub mod Sent

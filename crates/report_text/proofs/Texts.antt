@@ -1,19 +1,25 @@
 -- The lines of a report as they are laid, piece by piece.
-use Rattle.std.proofs.Common.{◌≡◌, ℕ, List, ◌∷◌, ◌++◌, refl, ap, ◌∙◌, append_assoc}
+use Rattle.std.proofs.Common.{◌≡◌, ℕ, List, [], ◌∷◌, ◌++◌, refl, sym, ap, ◌∙◌, append_assoc}
+use Rattle.std.specs.List.{flat_map}
 use Rattle.std.specs.Prelude.{codes, decimal}
 use Rattle.plain_cache.specs.declared.journal.Entry.{Entry}
 use Rattle.plain_cache.specs.declared.replies.ReplyKind.{ReplyKind}
+use Rattle.plain_cache.specs.declared.replies.ReplyKind.TheVariants as kinds
 use Rattle.plain_cache.specs.Apply.{Reply, Stored, Replaced, Value, Missing, Erased, Keys}
 use Rattle.plain_cache.specs.Report.{Occupancy, line, answer_text, entry_text, journal_text, reply_text, occupancy_text}
 use Rattle.plain_cache.specs.Spelled.{spelled}
 use Rattle.plain_cache.specs.Written.{Written}
-use Rattle.report_text.specs.Held.{IsKeyless}
+use Rattle.report_text.specs.Held.{Spells}
 use Rattle.report_text.specs.Words.{word}
+use Rattle.report_text.proofs.Held.{keys_of}
 
 -- ---- what stands for each element of a list
 
 abbrev pub entry_piece : Entry → List ℕ
 entry_piece entry = 32 ∷ entry_text entry
+
+abbrev pub key_piece : List ℕ → List ℕ
+key_piece key = 32 ∷ key
 
 abbrev pub answer_line : ℕ × Reply → List ℕ
 answer_line answer = line (answer_text answer)
@@ -38,17 +44,49 @@ pub shard_line_is : (shard : ℕ) (o : Occupancy)
 shard_line_is shard o =
     regroup (codes "shard ") (decimal shard) (codes " rows ") (decimal o.rows) (codes " live ") (decimal o.live) (codes " lent ") (decimal o.lent) (codes " back ") (decimal o.back) (codes "\n")
 
--- a reply without keys, as it is spelled
-word_is : (reply : Reply) → IsKeyless reply → word (spelled reply).0 ++ (spelled reply).1 ≡ reply_text reply
-word_is Stored plain = refl
-word_is Replaced plain = refl
-word_is (Value value) plain = refl
-word_is Missing plain = refl
-word_is Erased plain = refl
-word_is (Keys keys) plain = absurd plain
+-- ---- a reply as it is spelled
 
-pub reply_line_is : (number : ℕ) (kind : ReplyKind) (body : List ℕ) (reply : Reply) → IsKeyless reply → (kind, body) ≡ spelled reply
-    → decimal number ++ codes " " ++ word kind ++ body ++ codes "\n" ≡ line (answer_text (number, reply))
-reply_line_is number kind body reply plain is =
-    let said : word kind ++ body ≡ reply_text reply = ap (λ (p : ReplyKind × List ℕ). word p.0 ++ p.1) is ∙ word_is reply plain in
-    ap (λ l. l ++ codes "\n") (append_assoc (decimal number ++ codes " ") (word kind) body ∙ append_assoc (decimal number) (codes " ") (word kind ++ body) ∙ ap (λ l. decimal number ++ 32 ∷ l) said)
+abbrev said : ReplyKind × List ℕ → List ℕ
+said part = word part.0 ++ part.1
+
+words : (kind : ReplyKind) (body : List ℕ) (reply : Reply) → (kind, body) ≡ spelled reply → (kind ≡ kinds.Keys → ⊥) → word kind ++ body ≡ reply_text reply
+words kind body Stored is plain = ap said is
+words kind body Replaced is plain = ap said is
+words kind body (Value value) is plain = ap said is
+words kind body Missing is plain = ap said is
+words kind body Erased is plain = ap said is
+words kind body (Keys keys) is plain = absurd (plain (ap (λ p. p.0) is))
+
+-- a reply without keys
+pub plain_said : (kind : ReplyKind) (body : List ℕ) (reply : Reply) → Spells kind body reply → (kind ≡ kinds.Keys → ⊥) → word kind ++ body ≡ reply_text reply
+plain_said kind body reply p plain = words kind body reply p.spelled plain
+
+word_of : (reply : Reply) → (later : List ℕ) × (word (spelled reply).0 ++ later ≡ reply_text reply)
+word_of Stored = ([], refl)
+word_of Replaced = ([], refl)
+word_of (Value value) = (value, refl)
+word_of Missing = ([], refl)
+word_of Erased = ([], refl)
+word_of (Keys keys) = (flat_map key_piece keys, refl)
+
+-- a reply begins with its word
+pub begins : (kind : ReplyKind) (body : List ℕ) (reply : Reply) → Spells kind body reply → (later : List ℕ) × (word kind ++ later ≡ reply_text reply)
+begins kind body reply p =
+    let later = word_of reply in
+    (later.0, ap (λ (part : ReplyKind × List ℕ). word part.0 ++ later.0) p.spelled ∙ later.1)
+
+key_words : (reply : Reply) → (spelled reply).0 ≡ kinds.Keys → word kinds.Keys ++ flat_map key_piece (keys_of reply) ≡ reply_text reply
+key_words Stored is = cc is
+key_words Replaced is = cc is
+key_words (Value value) is = cc is
+key_words Missing is = cc is
+key_words Erased is = cc is
+key_words (Keys keys) is = refl
+
+-- a reply of keys
+pub keys_said : (kind : ReplyKind) (body : List ℕ) (reply : Reply) → Spells kind body reply → kind ≡ kinds.Keys → word kind ++ flat_map key_piece (keys_of reply) ≡ reply_text reply
+keys_said kind body reply p keys =
+    ap (λ k. word k ++ flat_map key_piece (keys_of reply)) keys ∙ key_words reply (sym (ap (λ (part : ReplyKind × List ℕ). part.0) p.spelled) ∙ keys)
+
+pub reply_line_is : (number : ℕ) (reply : Reply) → decimal number ++ codes " " ++ reply_text reply ++ codes "\n" ≡ line (answer_text (number, reply))
+reply_line_is number reply = ap (λ l. l ++ codes "\n") (append_assoc (decimal number) (codes " ") (reply_text reply))

@@ -4,6 +4,7 @@ use Rattle.trace_text.specs.Operation.{Operation}
 use Rattle.plain_cache.specs.declared.journal.Entry.{Entry}
 use Rattle.plain_cache.specs.declared.replies.ReplyKind.{ReplyKind}
 use Rattle.plain_cache.specs.Apply.{Reply, Stored, Replaced, Value, Missing, Erased, Keys}
+use Rattle.plain_cache.specs.KeyBody.{IsShort}
 use Rattle.plain_cache.specs.Replies.{Replies}
 use Rattle.plain_cache.specs.Report.{Occupancy}
 use Rattle.plain_cache.specs.Spelled.{spelled}
@@ -15,20 +16,26 @@ abbrev pub parts_in : List Replies → List (Option (ReplyKind × List ℕ))
 parts_in [] = []
 parts_in (log ∷ logs) = log.replies
 
-abbrev pub IsKeyless : Reply → Type 0
-IsKeyless Stored = Unit {0}
-IsKeyless Replaced = Unit {0}
-IsKeyless (Value value) = Unit {0}
-IsKeyless Missing = Unit {0}
-IsKeyless Erased = Unit {0}
-IsKeyless (Keys keys) = ⊥
+-- any keys are no longer than a trace's are
+abbrev pub HasShortKeys : Reply → Type 0
+HasShortKeys Stored = Unit {0}
+HasShortKeys Replaced = Unit {0}
+HasShortKeys (Value value) = Unit {0}
+HasShortKeys Missing = Unit {0}
+HasShortKeys Erased = Unit {0}
+HasShortKeys (Keys keys) = All IsShort keys
 
--- The logs hold these answers: one to each command, each as its part spells it, and none of keys. Replies
--- without keys are spelled differently where they differ, so no two such lists are held.
+-- a part's kind and body spell this reply
+pub record Spells (kind : ReplyKind) (body : List ℕ) (reply : Reply) : Type 0 where
+  pub spelled : (kind, body) ≡ spelled reply
+  pub short : HasShortKeys reply
+
+-- The logs hold these answers: one to each command, each as its part spells it. Replies with short keys are
+-- spelled differently where they differ, so no two such lists are held.
 pub record AreHeld (trace : List Operation) (logs : List Replies) (answers : List (ℕ × Reply)) : Type 0 where
   pub numbers : map (λ answer. answer.0) answers ≡ map (λ operation. operation.number) trace
   pub replies : map (λ answer. Some (spelled answer.1)) answers ≡ parts_in logs
-  pub keyless : All (λ answer. IsKeyless answer.1) answers
+  pub short : All (λ answer. HasShortKeys answer.1) answers
 
 abbrev pub journals_in : List Written → List (List Entry)
 journals_in journals = map (λ journal. journal.entries) journals

@@ -1,5 +1,5 @@
 //! Text on its way to a sink. It is laid into a block, and the sink is given whole blocks.
-ghost use Rattle.std.specs.Prelude.{◌≡◌, true, false, [], ◌++◌, codes, decimal, OnOk};
+ghost use Rattle.std.specs.Prelude.{◌≡◌, true, false, [], ◌∷◌, ◌++◌, codes, decimal, OnOk};
 ghost use Rattle.report_text.specs.Laid.{Wrote, stand};
 
 use arrayvec::ArrayVec;
@@ -65,6 +65,14 @@ pub(crate) fn put_field<K: Sink>(
 {
     put(sink, block, name)?;
     put_number(sink, block, number)
+}
+
+/// A space and some text.
+pub(crate) fn put_word<K: Sink>(sink: &mut K, block: &mut Block, text: &[u8]) -> Result<(), Failed>
+    ensures { Wrote result (stand (K.written sink.old) (K.faults sink.old) block.old.items) (stand (K.written sink.new) (K.faults sink.new) block.new.items) (32 ∷ text.now) }
+{
+    put(sink, block, b" ")?;
+    put(sink, block, text)
 }
 
 /// The end of a line.

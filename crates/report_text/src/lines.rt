@@ -2,16 +2,17 @@
 ghost use Rattle.std.specs.Prelude.{◌≡◌, ℕ, ◌-◌, ◌≤◌, List, ◌∷◌, ◌++◌, codes, decimal, flat_map, Some};
 ghost use Rattle.std.specs.List.{slice_get};
 ghost use Rattle.plain_cache.specs.Apply.{Reply};
-ghost use Rattle.plain_cache.specs.Report.{line, answer_text, entry_text, journal_text, occupancy_text};
+ghost use Rattle.plain_cache.specs.KeyBody.{AreKeys};
+ghost use Rattle.plain_cache.specs.Report.{line, answer_text, reply_text, entry_text, journal_text, occupancy_text};
 ghost use Rattle.plain_cache.specs.Spelled.{spelled};
-ghost use Rattle.report_text.specs.Held.{IsKeyless, occupancy_in};
+ghost use Rattle.report_text.specs.Held.{HasShortKeys, Spells, occupancy_in};
 ghost use Rattle.report_text.specs.Laid.{Wrote, stand};
 ghost use Rattle.report_text.specs.Words.{word};
 
 use crate::ShardLine;
-use crate::block::{Block, end_line, put, put_field, put_number};
+use crate::block::{Block, end_line, put, put_field, put_number, put_word};
 use outside::{Failed, Sink};
-use plain_cache::{Entry, Journal, ReplyKind, ReplyLog};
+use plain_cache::{Entry, Journal, ReplyKind, ReplyLog, first_key};
 
 fn word(kind: ReplyKind) -> &'static [u8]
     ensures { result.now ≡ word kind }
@@ -26,20 +27,50 @@ fn word(kind: ReplyKind) -> &'static [u8]
     }
 }
 
-/// The line of an answer.
+/// The keys of a body, each behind a space.
+fn put_keys<K: Sink>(sink: &mut K, block: &mut Block, body: &[u8]) -> Result<(), Failed>
+    requires { (keys : List (List ℕ)) × AreKeys body.now keys }
+    ensures { (keys : List (List ℕ)) → AreKeys body.now keys → Wrote result (stand (K.written sink.old) (K.faults sink.old) block.old.items) (stand (K.written sink.new) (K.faults sink.new) block.new.items) (flat_map (λ key. 32 ∷ key) keys) }
+{
+    let mut rest = body;
+    while let Some((key, behind)) = first_key(rest) {
+        put_word(sink, block, key)?;
+        rest = behind;
+    }
+    Ok(())
+}
+
+/// A reply: a word, and the value or the keys behind it.
 fn put_reply<K: Sink>(
+    sink: &mut K,
+    block: &mut Block,
+    kind: ReplyKind,
+    body: &[u8],
+) -> Result<(), Failed>
+    requires { (reply : Reply) × Spells kind body.now reply }
+    ensures { (reply : Reply) → Spells kind body.now reply → Wrote result (stand (K.written sink.old) (K.faults sink.old) block.old.items) (stand (K.written sink.new) (K.faults sink.new) block.new.items) (reply_text reply) }
+{
+    put(sink, block, word(kind))?;
+    match kind {
+        ReplyKind::Keys => put_keys(sink, block, body),
+        _ => put(sink, block, body),
+    }
+}
+
+/// The line of an answer.
+fn put_reply_line<K: Sink>(
     sink: &mut K,
     block: &mut Block,
     number: u32,
     kind: ReplyKind,
     body: &[u8],
 ) -> Result<(), Failed>
-    ensures { Wrote result (stand (K.written sink.old) (K.faults sink.old) block.old.items) (stand (K.written sink.new) (K.faults sink.new) block.new.items) (decimal number ++ codes " " ++ word kind ++ body.now ++ codes "\n") }
+    requires { (reply : Reply) × Spells kind body.now reply }
+    ensures { (reply : Reply) → Spells kind body.now reply → Wrote result (stand (K.written sink.old) (K.faults sink.old) block.old.items) (stand (K.written sink.new) (K.faults sink.new) block.new.items) (line (answer_text (number, reply))) }
 {
     put_number(sink, block, u64::from(number))?;
     put(sink, block, b" ")?;
-    put(sink, block, word(kind))?;
-    put(sink, block, body)?;
+    put_reply(sink, block, kind, body)?;
     end_line(sink, block)
 }
 
@@ -52,11 +83,11 @@ pub(crate) fn put_answer<K: Sink>(
     log: &ReplyLog,
 ) -> Result<(), Failed>
     requires first { 1 ≤ number }
-    requires answered { (reply : Reply) × (slice_get log.now.replies (number - 1) ≡ Some (Some (spelled reply))) }
-    ensures { (reply : Reply) → slice_get log.now.replies (number - 1) ≡ Some (Some (spelled reply)) → IsKeyless reply → Wrote result (stand (K.written sink.old) (K.faults sink.old) block.old.items) (stand (K.written sink.new) (K.faults sink.new) block.new.items) (line (answer_text (number, reply))) }
+    requires answered { (reply : Reply) × HasShortKeys reply × (slice_get log.now.replies (number - 1) ≡ Some (Some (spelled reply))) }
+    ensures { (reply : Reply) → slice_get log.now.replies (number - 1) ≡ Some (Some (spelled reply)) → HasShortKeys reply → Wrote result (stand (K.written sink.old) (K.faults sink.old) block.old.items) (stand (K.written sink.new) (K.faults sink.new) block.new.items) (line (answer_text (number, reply))) }
 {
     let (kind, body) = log.reply(number - 1).unwrap();
-    put_reply(sink, block, number, kind, body)
+    put_reply_line(sink, block, number, kind, body)
 }
 
 fn put_entry<K: Sink>(sink: &mut K, block: &mut Block, entry: Entry) -> Result<(), Failed>

@@ -1,9 +1,8 @@
 //! What no contract says: that a report can be written at all, and what it looks like.
 ghost use Rattle.std.specs.Prelude.{◌≡◌, ℕ, ◌≤◌, List, [], ◌∷◌, length, IfOk};
 ghost use Rattle.plain_cache.specs.Apply.{Reply};
-ghost use Rattle.plain_cache.specs.Spelled.{spelled};
 ghost use Rattle.trace_text.specs.Parsed.{trace_in};
-ghost use Rattle.report_text.specs.Held.{AreHeld, IsKeyless};
+ghost use Rattle.report_text.specs.Held.{AreHeld, Spells};
 
 use crate::{ShardLine, write_report};
 use outside::{Failed, MemorySink};
@@ -13,35 +12,37 @@ use std::process::Abort;
 use std::test::Fail;
 use trace_text::{Trace, parse};
 
-/// The reply of this kind, where `value` is the value; a log holds no keys here.
-fn reply_of(kind: ReplyKind, value: &[u8]) -> (ReplyKind, &[u8])
-    ensures spelled { (reply : Reply) × IsKeyless reply × (spelled reply ≡ (result.0, result.1.now)) }
-    ensures short { length result.1.now ≤ length value.now }
+/// The keys b and c.
+const B_AND_C: &[u8] = b"\x01\0b\x01\0c";
+
+/// A reply of this kind. Its body is this one where it is a value, or the keys b and c; else it has none.
+fn reply_of(kind: ReplyKind, body: &[u8]) -> (ReplyKind, &[u8])
+    ensures spelled { (reply : Reply) × Spells result.0 result.1.now reply }
+    ensures short { length result.1.now ≤ length body.now }
 {
     match kind {
-        ReplyKind::Value => (kind, value),
-        ReplyKind::Keys => (ReplyKind::Missing, &value[..0]),
-        _ => (kind, &value[..0]),
+        ReplyKind::Value => (kind, body),
+        ReplyKind::Keys if body == B_AND_C => (kind, body),
+        _ => (kind, &body[..0]),
     }
 }
 
-/// A log with a reply of these kinds to each command.
+/// A log with these replies, one to each command.
 fn log_of(
     rt: &impl Abort,
     alloc: Global,
     trace: &Trace,
-    kinds: &[ReplyKind],
-    value: &[u8],
+    replies: &[(ReplyKind, &[u8])],
 ) -> Result<ReplyLog, Fail>
     ensures { IfOk result (λ log. (answers : List (ℕ × Reply)) × AreHeld (trace_in trace.now) (log ∷ []) answers) }
 {
     let commands = trace.commands();
-    assert!(rt; commands.len() == kinds.len());
-    assert!(rt; kinds.len() <= 10);
-    assert!(rt; value.len() <= 100);
-    let mut log = ReplyLog::new(alloc, kinds.len() as u32, 1000)?;
-    for (part, kind) in kinds.iter().enumerate() {
-        let (kind, body) = reply_of(*kind, value);
+    assert!(rt; commands.len() == replies.len());
+    assert!(rt; replies.len() <= 10);
+    let mut log = ReplyLog::new(alloc, replies.len() as u32, 1000)?;
+    for (part, (kind, body)) in replies.iter().enumerate() {
+        assert!(rt; body.len() <= 100);
+        let (kind, body) = reply_of(*kind, body);
         log.record(part as u32, kind, body);
     }
     Ok(log)
@@ -59,12 +60,11 @@ fn journal_of(alloc: Global, room: u32, entries: &[Entry]) -> Result<Journal, Al
 
 #[test]
 fn a_report_has_the_answers_the_journal_and_the_shard(rt: HostRuntime) -> Result<(), Fail> {
-    use ReplyKind::{Erased, Missing, Replaced, Stored, Value};
-    for (input, kinds, value, rows, live, room, want, text) in [
+    use ReplyKind::{Erased, Keys, Missing, Replaced, Stored, Value};
+    for (input, replies, rows, live, room, want, text) in [
         (
             "put a abc\nget a\n",
-            [Stored, Value].as_slice(),
-            "abc",
+            [(Stored, b"".as_slice()), (Value, b"abc")].as_slice(),
             1,
             48,
             1000,
@@ -73,8 +73,7 @@ fn a_report_has_the_answers_the_journal_and_the_shard(rt: HostRuntime) -> Result
         ),
         (
             "put a \nget a\n",
-            &[Stored, Value],
-            "",
+            &[(Stored, b""), (Value, b"")],
             1,
             48,
             1000,
@@ -83,8 +82,14 @@ fn a_report_has_the_answers_the_journal_and_the_shard(rt: HostRuntime) -> Result
         ),
         (
             "put a 1\nput a 2\nget a\nerase a\nerase a\nget a\n",
-            &[Stored, Replaced, Value, Erased, Missing, Missing],
-            "2",
+            &[
+                (Stored, b""),
+                (Replaced, b""),
+                (Value, b"2"),
+                (Erased, b""),
+                (Missing, b""),
+                (Missing, b""),
+            ],
             0,
             0,
             1000,
@@ -92,9 +97,24 @@ fn a_report_has_the_answers_the_journal_and_the_shard(rt: HostRuntime) -> Result
             "1 stored\n2 replaced\n3 value 2\n4 erased\n5 missing\n6 missing\njournal 0 1 2 3 4 5 6\nshard 0 rows 0 live 0 lent 0 back 0\n",
         ),
         (
+            "put b 1\nput c \nget b\nget b\nget d\nget d\n",
+            &[
+                (Stored, b""),
+                (Stored, b""),
+                (Value, b"1"),
+                (Keys, B_AND_C),
+                (Keys, b""),
+                (Missing, b""),
+            ],
+            2,
+            96,
+            1000,
+            Ok(()),
+            "1 stored\n2 stored\n3 value 1\n4 keys b c\n5 keys\n6 missing\njournal 0 1 2 3 4 5 6\nshard 0 rows 2 live 96 lent 0 back 0\n",
+        ),
+        (
             "put a abc\nget a\n",
-            &[Stored, Value],
-            "abc",
+            &[(Stored, b""), (Value, b"abc")],
             1,
             48,
             10,
@@ -103,9 +123,9 @@ fn a_report_has_the_answers_the_journal_and_the_shard(rt: HostRuntime) -> Result
         ),
     ] {
         let trace = parse(rt.alloc(), input.as_bytes().to_vec(rt.alloc())?, 1)?;
-        let log = log_of(&rt, rt.alloc(), &trace, kinds, value.as_bytes())?;
+        let log = log_of(&rt, rt.alloc(), &trace, replies)?;
         let entries = [1, 2, 3, 4, 5, 6].map(Entry::Done);
-        let journal = journal_of(rt.alloc(), 10, &entries[..kinds.len().min(6)])?;
+        let journal = journal_of(rt.alloc(), 10, &entries[..replies.len().min(6)])?;
         let line = ShardLine {
             rows,
             live,
@@ -123,7 +143,7 @@ fn a_report_has_the_answers_the_journal_and_the_shard(rt: HostRuntime) -> Result
 #[test]
 fn a_report_longer_than_a_block_is_whole(rt: HostRuntime) -> Result<(), Fail> {
     let trace = parse(rt.alloc(), Vec::new(rt.alloc()), 1)?;
-    let log = log_of(&rt, rt.alloc(), &trace, &[], b"")?;
+    let log = log_of(&rt, rt.alloc(), &trace, &[])?;
     let entries = vec![in rt.alloc(); Entry::Done(1_000_000); 20_000]?;
     let journal = journal_of(rt.alloc(), 20_000, &entries)?;
     let line = ShardLine {

@@ -21,12 +21,12 @@ use trace_text::Trace;
 /// line. Each line of the report ends with LF:
 ///
 /// - for each command, in order, its number and its answer: `stored`, `replaced`, `value` with a space
-///   and the value, `missing` or `erased`;
+///   and the value, `missing`, `erased`, or `keys` and, for each key, a space and the key;
 /// - for each shard, `journal`, its number, and its entries: the number of the command whose part was
 ///   done, or `!` and the number of the put whose row was evicted;
 /// - for each shard, `shard`, its number, and `rows`, `live`, `lent` and `back`, each with its number.
 ///
-/// Each command has a reply in the logs, and none has keys.
+/// Each command has a reply in the logs, and its keys have at most 256 bytes each.
 ///
 /// # Errors
 ///
@@ -40,6 +40,7 @@ pub fn write_report<K: Sink>(
     lines: &[ShardLine],
 ) -> Result<(), Failed>
     requires parsed_for { shards ≡ trace.now.shards }
+    requires one_shard { shards ≡ 1 }
     requires one_log_each { length logs.now ≡ shards }
     requires one_journal_each { length journals.now ≡ shards }
     requires one_line_each { length lines.now ≡ shards }
@@ -62,6 +63,7 @@ fn put_answers<K: Sink>(
     trace: &Trace,
     logs: &[ReplyLog],
 ) -> Result<(), Failed>
+    requires one_shard { trace.now.shards ≡ 1 }
     requires one_log_each { length logs.now ≡ trace.now.shards }
     requires answered { (answers : List (ℕ × Reply)) × AreHeld (trace_in trace.now) logs.now answers }
     ensures { (answers : List (ℕ × Reply)) → AreHeld (trace_in trace.now) logs.now answers → Wrote result (stand (K.written sink.old) (K.faults sink.old) block.old.items) (stand (K.written sink.new) (K.faults sink.new) block.new.items) (flat_map (λ answer. line (answer_text answer)) answers) }

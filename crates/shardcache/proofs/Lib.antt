@@ -2,3 +2,5 @@ pub mod Answered
 pub mod OneShard
 pub mod Progress
 pub mod TextLines
+mod Numbers
+mod Words

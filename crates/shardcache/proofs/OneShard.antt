@@ -1,22 +1,21 @@
 -- One shard that does every command in turn: its journal is legal and complete, and its replies are the answers.
-use Rattle.std.proofs.Common.{◌≡◌, ◌≢◌, ℕ, ◌+◌, ◌-◌, ◌*◌, ◌%◌, ◌<◌, ◌≤◌, ◌==◌, suc, zero, Bool, true, false, not, ◌||◌, ◌&&◌, cond, eqb, List, [], ◌∷◌, ◌++◌, length, take, drop, map, filter, get_or, max, append_assoc, Option, Some, None, arith, refl, sym, ap, ◌∙◌, add-one}
-use Rattle.std.specs.List.{find, filter_map, list_any, before_first, count_by, prefix_len, slice_get, slice_set, sum_by, fold}
+use Rattle.std.proofs.Common.{◌≡◌, ℕ, ◌+◌, ◌-◌, ◌%◌, ◌<◌, ◌≤◌, suc, zero, Bool, true, false, not, ◌||◌, ◌&&◌, cond, eqb, List, [], ◌∷◌, ◌++◌, length, take, map, filter, max, append_assoc, Option, Some, None, arith, refl, sym, ap, ◌∙◌}
+use Rattle.std.specs.List.{AllByRecursion as ByRecursion, find, filter_map, list_any, before_first, prefix_len, fold}
 use Rattle.std.specs.Option.{option_map}
 use Rattle.std.proofs.lemmas.Bool.Decides.{nat_tests}
+use Rattle.std.proofs.lemmas.List.{append-nil, take-take}
+use Rattle.std.specs.Prelude.{⊤}
 use Rattle.trace_text.specs.declared.command.Kind.{Kind}
 use Rattle.trace_text.specs.declared.command.Kind.TheVariants as kinds
 use Rattle.trace_text.specs.Operation.{Operation}
-use Rattle.trace_text.specs.Parsed.{IsWellFormed}
-use Rattle.trace_text.specs.Parts.{greatest_value, hash, owner, origin, has_part, is_scan, parts}
+use Rattle.trace_text.specs.Parts.{greatest_value, hash, origin, has_part, is_scan}
 use Rattle.plain_cache.specs.declared.journal.Entry.{Entry}
 use Rattle.plain_cache.specs.declared.journal.Entry.TheVariants.{Done, Evicted}
-use Rattle.plain_cache.specs.declared.replies.ReplyKind.{ReplyKind}
 use Rattle.plain_cache.specs.Row.{Row}
-use Rattle.plain_cache.specs.Apply.{Reply, Stored, Replaced, Value, Missing, Erased, Keys, apply, apply_kind, get_where, has, is_of, row_of}
-use Rattle.plain_cache.specs.Legal.{after, cache_from, cache_after, command_of, done, is_done, reply_on, reply_at, IsComplete}
-use Rattle.plain_cache.specs.Answer.{answer, answer_kind, owner_reply}
+use Rattle.plain_cache.specs.Apply.{Reply, Stored, Replaced, Value, Missing, Erased, Keys, apply, apply_kind, get_where, has, in_order, is_at_most, is_of, put_in_order, row_of}
+use Rattle.plain_cache.specs.Legal.{cache_from, command_of, done, is_done, reply_at, IsComplete}
+use Rattle.plain_cache.specs.Answer.{answer, answer_kind}
 use Rattle.plain_cache.specs.Report.{answers}
-use Rattle.plain_cache.specs.Spelled.{spelled}
 
 -- commands are numbered in order, from n on
 abbrev pub Numbered : ℕ → List Operation → Type 0
@@ -119,33 +118,40 @@ reply_run trace pages front operation back numbered e =
 pub mod-one : (n : ℕ) → n % 1 ≡ 0
 mod-one n = omega arith
 
-answer_kind-plain : (kind : Kind) (trace : List Operation) (n pages : ℕ) (journals : List (List Entry)) (operation : Operation) → kind ≢ kinds.Scan
-    → answer_kind kind trace n pages journals operation ≡ owner_reply trace n pages journals operation
-answer_kind-plain kinds.Put trace n pages journals operation plain = refl
-answer_kind-plain kinds.Get trace n pages journals operation plain = refl
-answer_kind-plain kinds.Erase trace n pages journals operation plain = refl
-answer_kind-plain kinds.Scan trace n pages journals operation plain = absurd (plain refl)
+-- joining the reply of the one shard changes nothing
+abbrev pub OrderStays : Type 0
+OrderStays = (m : ℕ) (keys : List (List ℕ)) → in_order (take m (in_order keys)) ≡ take m (in_order keys)
 
-answer_run : (trace : List Operation) (pages : ℕ) (front : List Operation) (operation : Operation) (back : List Operation) → Numbered 1 trace
-    → operation.kind ≢ kinds.Scan → trace ≡ front ++ operation ∷ back
+joined_stays : OrderStays → (m : ℕ) (keys : List (List ℕ)) → take m (in_order (take m (in_order keys) ++ [])) ≡ take m (in_order keys)
+joined_stays stays m keys = rw (append-nil (take m (in_order keys)), stays m keys) (take-take m m (in_order keys) (omega arith))
+
+answer_one : OrderStays → (kind : Kind) (trace : List Operation) (pages : ℕ) (journal : List Entry) (operation : Operation) (cache : List Row)
+    → reply_at trace pages journal operation.number ≡ Some (apply_kind kind operation cache).1
+    → answer_kind kind trace 1 pages (journal ∷ []) operation ≡ Some (apply_kind kind operation cache).1
+answer_one stays kinds.Put trace pages journal operation cache e = rw (mod-one (hash operation.key)) e
+answer_one stays kinds.Get trace pages journal operation cache e = rw (mod-one (hash operation.key)) e
+answer_one stays kinds.Erase trace pages journal operation cache e = rw (mod-one (hash operation.key)) e
+answer_one stays kinds.Scan trace pages journal operation cache e =
+    rw e (ap (λ keys. Some (Keys keys)) (joined_stays stays operation.count (filter (is_at_most operation.key) (map (λ row. row.key) cache))))
+
+answer_run : OrderStays → (trace : List Operation) (pages : ℕ) (front : List Operation) (operation : Operation) (back : List Operation) → Numbered 1 trace
+    → trace ≡ front ++ operation ∷ back
     → answer trace 1 pages (journal_of trace ∷ []) operation ≡ Some (apply operation (rows_from front [])).1
-answer_run trace pages front operation back numbered plain e =
-    answer_kind-plain operation.kind trace 1 pages (journal_of trace ∷ []) operation plain
-    ∙ rw (mod-one (hash operation.key)) (reply_run trace pages front operation back numbered e)
+answer_run stays trace pages front operation back numbered e =
+    answer_one stays operation.kind trace pages (journal_of trace) operation (rows_from front []) (reply_run trace pages front operation back numbered e)
 
 pub rows_from-append : (front back : List Operation) (cache : List Row) → rows_from (front ++ back) cache ≡ rows_from back (rows_from front cache)
 rows_from-append [] back cache = refl
 rows_from-append (operation ∷ front) back cache = rows_from-append front back (apply operation cache).0
 
-pub answers_run : (trace : List Operation) (pages : ℕ) (front rest : List Operation) → Numbered 1 trace → trace ≡ front ++ rest
-    → ((operation : Operation) (before later : List Operation) → rest ≡ before ++ operation ∷ later → operation.kind ≢ kinds.Scan)
+pub answers_run : OrderStays → (trace : List Operation) (pages : ℕ) (front rest : List Operation) → Numbered 1 trace → trace ≡ front ++ rest
     → filter_map (λ operation. option_map (λ reply. (operation.number, reply)) (answer trace 1 pages (journal_of trace ∷ []) operation)) rest
     ≡ replies_from rest (rows_from front [])
-answers_run trace pages front [] numbered e plain = refl
-answers_run trace pages front (operation ∷ rest) numbered e plain =
-    let answered = answer_run trace pages front operation rest numbered (plain operation [] rest refl) e in
+answers_run stays trace pages front [] numbered e = refl
+answers_run stays trace pages front (operation ∷ rest) numbered e =
+    let answered = answer_run stays trace pages front operation rest numbered e in
     let further : trace ≡ (front ++ operation ∷ []) ++ rest = e ∙ sym (append_assoc front (operation ∷ []) rest) in
-    let later = answers_run trace pages (front ++ operation ∷ []) rest numbered further (λ o before after' e'. plain o (operation ∷ before) after' (ap (λ os. operation ∷ os) e')) in
+    let later = answers_run stays trace pages (front ++ operation ∷ []) rest numbered further in
     rw answered (ap (λ replies. (operation.number, (apply operation (rows_from front [])).1) ∷ replies)
     (later ∙ ap (λ rows. replies_from rest rows) (rows_from-append front (operation ∷ []) [])))
 
@@ -193,95 +199,131 @@ pub numbers_run : (trace : List Operation) (cache : List Row) → map (λ answer
 numbers_run [] cache = refl
 numbers_run (operation ∷ trace) cache = ap (λ numbers. operation.number ∷ numbers) (numbers_run trace (apply operation cache).0)
 
--- ---- bounds
+-- ---- what holds of keys and values
 
--- of each operation, and of each row's value
-abbrev pub EachAsks : (List ℕ → Type 0) → List Operation → Type 0
-EachAsks P [] = Unit {0}
-EachAsks P (operation ∷ operations) = P operation.value × EachAsks P operations
+-- of each operation, and of each row
+abbrev pub EachAsks : (List ℕ → Type 0) → (List ℕ → Type 0) → List Operation → Type 0
+EachAsks K P [] = Unit {0}
+EachAsks K P (operation ∷ operations) = K operation.key × P operation.value × EachAsks K P operations
 
-abbrev pub EachHolds : (List ℕ → Type 0) → List Row → Type 0
-EachHolds P [] = Unit {0}
-EachHolds P (row ∷ rows) = P row.value × EachHolds P rows
+abbrev pub EachHolds : (List ℕ → Type 0) → (List ℕ → Type 0) → List Row → Type 0
+EachHolds K P [] = Unit {0}
+EachHolds K P (row ∷ rows) = K row.key × P row.value × EachHolds K P rows
 
-holds-cond : (P : List ℕ → Type 0) (b : Bool) (row : Row) (rows : List Row) → P row.value → EachHolds P rows → EachHolds P (cond b (row ∷ rows) rows)
-holds-cond P true row rows p ps = (p, ps)
-holds-cond P false row rows p ps = ps
+holds-cond : (K P : List ℕ → Type 0) (b : Bool) (row : Row) (rows : List Row) → K row.key → P row.value → EachHolds K P rows
+    → EachHolds K P (cond b (row ∷ rows) rows)
+holds-cond K P true row rows k p ps = (k, p, ps)
+holds-cond K P false row rows k p ps = ps
 
-holds-filter : (P : List ℕ → Type 0) (test : Row → Bool) (rows : List Row) → EachHolds P rows → EachHolds P (filter test rows)
-holds-filter P test [] ps = tt
-holds-filter P test (row ∷ rows) ps = holds-cond P (test row) row (filter test rows) ps.0 (holds-filter P test rows ps.1)
+holds-filter : (K P : List ℕ → Type 0) (test : Row → Bool) (rows : List Row) → EachHolds K P rows → EachHolds K P (filter test rows)
+holds-filter K P test [] ps = tt
+holds-filter K P test (row ∷ rows) ps = holds-cond K P (test row) row (filter test rows) ps.0 ps.1 (holds-filter K P test rows ps.2)
 
--- the value of a reply
-abbrev pub ReplyHolds : (List ℕ → Type 0) → Reply → Type 0
-ReplyHolds P (Value value) = P value
-ReplyHolds P Stored = Unit {0}
-ReplyHolds P Replaced = Unit {0}
-ReplyHolds P Missing = Unit {0}
-ReplyHolds P Erased = Unit {0}
-ReplyHolds P (Keys keys) = Unit {0}
+-- of what a reply tells
+abbrev pub ReplyHolds : (List ℕ → Type 0) → (List ℕ → Type 0) → Reply → Type 0
+ReplyHolds K P (Value value) = P value
+ReplyHolds K P Stored = Unit {0}
+ReplyHolds K P Replaced = Unit {0}
+ReplyHolds K P Missing = Unit {0}
+ReplyHolds K P Erased = Unit {0}
+ReplyHolds K P (Keys keys) = ByRecursion K keys
 
-abbrev pub FoundHolds : (List ℕ → Type 0) → Option Row → Type 0
-FoundHolds P None = Unit {0}
-FoundHolds P (Some row) = P row.value
+abbrev pub FoundHolds : (List ℕ → Type 0) → (List ℕ → Type 0) → Option Row → Type 0
+FoundHolds K P None = Unit {0}
+FoundHolds K P (Some row) = K row.key × P row.value
 
-found-cond : (P : List ℕ → Type 0) (b : Bool) (row : Row) (o : Option Row) → P row.value → FoundHolds P o → FoundHolds P (cond b (Some row) o)
-found-cond P true row o p q = p
-found-cond P false row o p q = q
+found-cond : (K P : List ℕ → Type 0) (b : Bool) (row : Row) (o : Option Row) → K row.key → P row.value → FoundHolds K P o
+    → FoundHolds K P (cond b (Some row) o)
+found-cond K P true row o k p q = (k, p)
+found-cond K P false row o k p q = q
 
-holds-find : (P : List ℕ → Type 0) (test : Row → Bool) (rows : List Row) → EachHolds P rows → FoundHolds P (find test rows)
-holds-find P test [] ps = tt
-holds-find P test (row ∷ rows) ps = found-cond P (test row) row (find test rows) ps.0 (holds-find P test rows ps.1)
+holds-find : (K P : List ℕ → Type 0) (test : Row → Bool) (rows : List Row) → EachHolds K P rows → FoundHolds K P (find test rows)
+holds-find K P test [] ps = tt
+holds-find K P test (row ∷ rows) ps = found-cond K P (test row) row (find test rows) ps.0 ps.1 (holds-find K P test rows ps.2)
 
-holds-if : (P : List ℕ → Type 0) (b : Bool) (x y : Reply) → ReplyHolds P x → ReplyHolds P y → ReplyHolds P (cond b x y)
-holds-if P true x y p q = p
-holds-if P false x y p q = q
+holds-if : (K P : List ℕ → Type 0) (b : Bool) (x y : Reply) → ReplyHolds K P x → ReplyHolds K P y → ReplyHolds K P (cond b x y)
+holds-if K P true x y p q = p
+holds-if K P false x y p q = q
 
-got-holds : (P : List ℕ → Type 0) (o : Option Row) (key : List ℕ) (cache : List Row) → FoundHolds P o → EachHolds P cache
-    → EachHolds P (get_where o key cache).0 × ReplyHolds P (get_where o key cache).1
-got-holds P None key cache found ps = (ps, tt)
-got-holds P (Some row) key cache found ps = ((found, holds-filter P (λ r. not (is_of key r)) cache ps), found)
+got-holds : (K P : List ℕ → Type 0) (o : Option Row) (key : List ℕ) (cache : List Row) → FoundHolds K P o → EachHolds K P cache
+    → EachHolds K P (get_where o key cache).0 × ReplyHolds K P (get_where o key cache).1
+got-holds K P None key cache found ps = (ps, tt)
+got-holds K P (Some row) key cache found ps = ((found.0, found.1, holds-filter K P (λ r. not (is_of key r)) cache ps), found.1)
 
-pub applied-holds : (P : List ℕ → Type 0) (kind : Kind) (operation : Operation) (cache : List Row) → P operation.value → EachHolds P cache
-    → EachHolds P (apply_kind kind operation cache).0 × ReplyHolds P (apply_kind kind operation cache).1
-applied-holds P kinds.Put operation cache p ps =
-    ((p, holds-filter P (λ r. not (is_of operation.key r)) cache ps), holds-if P (has operation.key cache) Replaced Stored tt tt)
-applied-holds P kinds.Get operation cache p ps =
-    got-holds P (row_of operation.key cache) operation.key cache (holds-find P (is_of operation.key) cache ps) ps
-applied-holds P kinds.Erase operation cache p ps =
-    (holds-filter P (λ r. not (is_of operation.key r)) cache ps, holds-if P (has operation.key cache) Erased Missing tt tt)
-applied-holds P kinds.Scan operation cache p ps = (ps, tt)
+keys-hold : (K P : List ℕ → Type 0) (rows : List Row) → EachHolds K P rows → ByRecursion K (map (λ row. row.key) rows)
+keys-hold K P [] ps = tt
+keys-hold K P (row ∷ rows) ps = (ps.0, keys-hold K P rows ps.2)
 
--- a fact about the values that are put is one about the rows and the replies
-pub rows-hold : (P : List ℕ → Type 0) (trace : List Operation) (cache : List Row) → EachAsks P trace → EachHolds P cache
-    → EachHolds P (rows_from trace cache)
-rows-hold P [] cache asks ps = ps
-rows-hold P (operation ∷ trace) cache asks ps =
-    rows-hold P trace (apply operation cache).0 asks.1 (applied-holds P operation.kind operation cache asks.0 ps).0
+keep-cond : (K : List ℕ → Type 0) (b : Bool) (key : List ℕ) (keys : List (List ℕ)) → K key → ByRecursion K keys → ByRecursion K (cond b (key ∷ keys) keys)
+keep-cond K true key keys k ks = (k, ks)
+keep-cond K false key keys k ks = ks
 
-abbrev pub EachReplies : (List ℕ → Type 0) → List (ℕ × Reply) → Type 0
-EachReplies P [] = Unit {0}
-EachReplies P (answer ∷ answers) = ReplyHolds P answer.1 × EachReplies P answers
+keep-filter : (K : List ℕ → Type 0) (test : List ℕ → Bool) (keys : List (List ℕ)) → ByRecursion K keys → ByRecursion K (filter test keys)
+keep-filter K test [] ks = tt
+keep-filter K test (key ∷ keys) ks = keep-cond K (test key) key (filter test keys) ks.0 (keep-filter K test keys ks.1)
 
-pub replies-hold : (P : List ℕ → Type 0) (trace : List Operation) (cache : List Row) → EachAsks P trace → EachHolds P cache
-    → EachReplies P (replies_from trace cache)
-replies-hold P [] cache asks ps = tt
-replies-hold P (operation ∷ trace) cache asks ps =
-    let here = applied-holds P operation.kind operation cache asks.0 ps in
-    (here.1, replies-hold P trace (apply operation cache).0 asks.1 here.0)
+keep-either : (K : List ℕ → Type 0) (b : Bool) (xs ys : List (List ℕ)) → ByRecursion K xs → ByRecursion K ys → ByRecursion K (cond b xs ys)
+keep-either K true xs ys p q = p
+keep-either K false xs ys p q = q
 
-pub asks-take : (P : List ℕ → Type 0) (k : ℕ) (trace : List Operation) → EachAsks P trace → EachAsks P (take k trace)
-asks-take P zero trace asks = tt
-asks-take P (suc k) [] asks = tt
-asks-take P (suc k) (operation ∷ trace) asks = (asks.0, asks-take P k trace asks.1)
+keep-put : (K : List ℕ → Type 0) (key : List ℕ) (keys : List (List ℕ)) → K key → ByRecursion K keys → ByRecursion K (put_in_order key keys)
+keep-put K key [] k ks = (k, tt)
+keep-put K key (other ∷ others) k ks =
+    keep-either K (is_at_most key other) (key ∷ other ∷ others) (other ∷ put_in_order key others) (k, ks) (ks.0, keep-put K key others k ks.1)
+
+keep-order : (K : List ℕ → Type 0) (keys : List (List ℕ)) → ByRecursion K keys → ByRecursion K (in_order keys)
+keep-order K [] ks = tt
+keep-order K (key ∷ keys) ks = keep-put K key (in_order keys) ks.0 (keep-order K keys ks.1)
+
+keep-take : (K : List ℕ → Type 0) (n : ℕ) (keys : List (List ℕ)) → ByRecursion K keys → ByRecursion K (take n keys)
+keep-take K zero keys ks = tt
+keep-take K (suc n) [] ks = tt
+keep-take K (suc n) (key ∷ keys) ks = (ks.0, keep-take K n keys ks.1)
+
+pub applied-holds : (K P : List ℕ → Type 0) (kind : Kind) (operation : Operation) (cache : List Row) → K operation.key → P operation.value
+    → EachHolds K P cache → EachHolds K P (apply_kind kind operation cache).0 × ReplyHolds K P (apply_kind kind operation cache).1
+applied-holds K P kinds.Put operation cache k p ps =
+    ((k, p, holds-filter K P (λ r. not (is_of operation.key r)) cache ps), holds-if K P (has operation.key cache) Replaced Stored tt tt)
+applied-holds K P kinds.Get operation cache k p ps =
+    got-holds K P (row_of operation.key cache) operation.key cache (holds-find K P (is_of operation.key) cache ps) ps
+applied-holds K P kinds.Erase operation cache k p ps =
+    (holds-filter K P (λ r. not (is_of operation.key r)) cache ps, holds-if K P (has operation.key cache) Erased Missing tt tt)
+applied-holds K P kinds.Scan operation cache k p ps =
+    let found = filter (is_at_most operation.key) (map (λ row. row.key) cache) in
+    (ps, keep-take K operation.count (in_order found) (keep-order K found (keep-filter K (is_at_most operation.key) (map (λ row. row.key) cache) (keys-hold K P cache ps))))
+
+-- a fact about the keys and the values that are put is one about the rows and the replies
+pub rows-hold : (K P : List ℕ → Type 0) (trace : List Operation) (cache : List Row) → EachAsks K P trace → EachHolds K P cache
+    → EachHolds K P (rows_from trace cache)
+rows-hold K P [] cache asks ps = ps
+rows-hold K P (operation ∷ trace) cache asks ps =
+    rows-hold K P trace (apply operation cache).0 asks.2 (applied-holds K P operation.kind operation cache asks.0 asks.1 ps).0
+
+abbrev pub EachReplies : (List ℕ → Type 0) → (List ℕ → Type 0) → List (ℕ × Reply) → Type 0
+EachReplies K P [] = Unit {0}
+EachReplies K P (answer ∷ answers) = ReplyHolds K P answer.1 × EachReplies K P answers
+
+pub replies-hold : (K P : List ℕ → Type 0) (trace : List Operation) (cache : List Row) → EachAsks K P trace → EachHolds K P cache
+    → EachReplies K P (replies_from trace cache)
+replies-hold K P [] cache asks ps = tt
+replies-hold K P (operation ∷ trace) cache asks ps =
+    let here = applied-holds K P operation.kind operation cache asks.0 asks.1 ps in
+    (here.1, replies-hold K P trace (apply operation cache).0 asks.2 here.0)
+
+pub asks-take : (K P : List ℕ → Type 0) (k : ℕ) (trace : List Operation) → EachAsks K P trace → EachAsks K P (take k trace)
+asks-take K P zero trace asks = tt
+asks-take K P (suc k) [] asks = tt
+asks-take K P (suc k) (operation ∷ trace) asks = (asks.0, asks.1, asks-take K P k trace asks.2)
 
 -- no value is longer than the greatest
-asks-most : (trace : List Operation) (most bound : ℕ) → fold (λ m operation. max m (length operation.value)) most trace ≤ bound
-    → EachAsks (λ value. length value ≤ bound) trace × (most ≤ bound)
-asks-most [] most bound le = (tt, le)
-asks-most (operation ∷ trace) most bound le =
-    let rest = asks-most trace (max most (length operation.value)) bound le in
-    ((omega (arith, rest.1), rest.0), omega (arith, rest.1))
+asks-most : (K : List ℕ → Type 0) (trace : List Operation) (most bound : ℕ) → EachAsks K (λ value. ⊤) trace
+    → fold (λ m operation. max m (length operation.value)) most trace ≤ bound
+    → EachAsks K (λ value. length value ≤ bound) trace × (most ≤ bound)
+asks-most K [] most bound asks le = (tt, le)
+asks-most K (operation ∷ trace) most bound asks le =
+    let rest = asks-most K trace (max most (length operation.value)) bound asks.2 le in
+    ((asks.0, omega (arith, rest.1), rest.0), omega (arith, rest.1))
 
-pub asks-greatest : (trace : List Operation) → EachAsks (λ value. length value ≤ greatest_value trace) trace
-asks-greatest trace = (asks-most trace 0 (greatest_value trace) (omega arith)).0
+pub asks-greatest : (K : List ℕ → Type 0) (trace : List Operation) → EachAsks K (λ value. ⊤) trace
+    → EachAsks K (λ value. length value ≤ greatest_value trace) trace
+asks-greatest K trace asks = (asks-most K trace 0 (greatest_value trace) asks (omega arith)).0

@@ -1,9 +1,9 @@
 -- The lines of a report.
-use Rattle.std.proofs.Common.{◌≡◌, ◌≢◌, ℕ, ◌+◌, ◌/◌, ◌%◌, ◌<◌, suc, zero, Bool, true, false, not, ◌&&◌, cond, eqb, ltb, List, [], ◌∷◌, ◌++◌, length, map, append_assoc, codes, Option, Some, None, arith, refl, sym, ap, ◌∙◌, rules}
-use Rattle.std.specs.List.{AllByRecursion as ByRecursion, flat_map, list_all, slice_get, slice_split, enumerate_from}
+use Rattle.std.proofs.Common.{◌≡◌, ℕ, ◌+◌, ◌/◌, ◌%◌, ◌<◌, ◌≤◌, suc, zero, Bool, true, false, not, cond, eqb, ltb, List, [], ◌∷◌, ◌++◌, length, map, append_assoc, codes, Some, None, arith, refl, sym, ap, ◌∙◌}
+use Rattle.std.specs.List.{AllByRecursion as ByRecursion, flat_map, list_all, slice_get, enumerate_from}
 use Rattle.std.specs.Option.{option_map}
 use Rattle.std.specs.Fmt.{decimal, digits, digits_onto, digit_glyph}
-use Rattle.std.proofs.lemmas.Bool.{and_parts}
+use Rattle.std.proofs.lemmas.Bool.{and_parts, leb-true}
 use Rattle.std.proofs.lemmas.Bool.Decides.{nat_tests}
 use Rattle.std.proofs.lemmas.List.Folds.{list_all-append}
 use Rattle.std.proofs.lemmas.List.Sums.{AllPass-from_list_all}
@@ -12,8 +12,8 @@ use Rattle.plain_cache.specs.declared.journal.Entry.{Entry}
 use Rattle.plain_cache.specs.declared.journal.Entry.TheVariants.{Done, Evicted}
 use Rattle.plain_cache.specs.Apply.{Reply, Stored, Replaced, Value, Missing, Erased, Keys}
 use Rattle.plain_cache.specs.Report.{Occupancy, line, reply_text, answer_text, entry_text, journal_text, occupancy_text, report_of, text_lines}
-use Rattle.report_text.specs.Held.{IsKeyless}
-use Rattle.trace_text.specs.Line.{is_value, is_value_byte}
+use Rattle.trace_text.specs.declared.refusal.Cause.{Cause}
+use Rattle.trace_text.specs.Line.{is_key_byte, is_value_byte, key_fault, value_fault}
 use Rattle.shardcache.proofs.OneShard.{ReplyHolds, EachReplies}
 
 -- a text with no LF
@@ -54,7 +54,7 @@ pub decimal-unbroken : (n : ℕ) → Unbroken (decimal n)
 unfolding digits
 decimal-unbroken n = digits_onto-unbroken 64 n [] refl
 
--- a value of a trace has no LF
+-- neither a value of a trace nor a key has an LF
 value_byte : (b : ℕ) → is_value_byte b ≡ true → not (eqb b 10) ≡ true
 value_byte b is = let low = (and_parts (ltb 31 b) (not (eqb b 127)) is).0 in grind (arith, nat_tests)
 
@@ -64,21 +64,47 @@ value_bytes (b ∷ value) is =
     let both = and_parts (is_value_byte b) (list_all is_value_byte value) is in
     unbroken-cons b value (value_byte b both.0) (value_bytes value both.1)
 
-pub value-unbroken : (value : List ℕ) → is_value value ≡ true → Unbroken value
-value-unbroken value is = value_bytes value (and_parts _ _ is).1
+key_byte : (b : ℕ) → is_key_byte b ≡ true → not (eqb b 10) ≡ true
+key_byte b is = let low = (and_parts (ltb 32 b) (not (eqb b 127)) is).0 in grind (arith, nat_tests)
 
-reply-unbroken : (reply : Reply) → IsKeyless reply → ReplyHolds Unbroken reply → Unbroken (reply_text reply)
-reply-unbroken Stored keyless holds = refl
-reply-unbroken Replaced keyless holds = refl
-reply-unbroken (Value value) keyless holds = unbroken-append (codes "value ") value refl holds
-reply-unbroken Missing keyless holds = refl
-reply-unbroken Erased keyless holds = refl
-reply-unbroken (Keys keys) keyless holds = absurd keyless
+key_bytes : (key : List ℕ) → list_all is_key_byte key ≡ true → Unbroken key
+key_bytes [] is = refl
+key_bytes (b ∷ key) is =
+    let both = and_parts (is_key_byte b) (list_all is_key_byte key) is in
+    unbroken-cons b key (key_byte b both.0) (key_bytes key both.1)
 
-answer-unbroken : (answer : ℕ × Reply) → IsKeyless answer.1 → ReplyHolds Unbroken answer.1 → Unbroken (answer_text answer)
-answer-unbroken (number, reply) keyless holds =
+-- what is sound passes both tests
+passes : (fits pure : Bool) (length byte : Cause) → cond fits (cond pure None (Some byte)) (Some length) ≡ None → (fits ≡ true) × (pure ≡ true)
+passes true true length byte e = (refl, refl)
+passes true false length byte e = cc
+passes false pure length byte e = cc
+
+pub value-unbroken : (value : List ℕ) → value_fault value ≡ None → Unbroken value
+value-unbroken value sound = value_bytes value (passes _ _ _ _ sound).1
+
+pub key-unbroken : (key : List ℕ) → key_fault key ≡ None → Unbroken key
+key-unbroken key sound = key_bytes key (passes _ _ _ _ sound).1
+
+pub key-short : (key : List ℕ) → key_fault key ≡ None → length key ≤ 256
+key-short key sound = leb-true _ _ (and_parts _ _ (passes _ _ _ _ sound).0).1
+
+keys-unbroken : (keys : List (List ℕ)) → ByRecursion Unbroken keys → Unbroken (flat_map (λ key. 32 ∷ key) keys)
+keys-unbroken [] all = refl
+keys-unbroken (key ∷ keys) all =
+    unbroken-append (32 ∷ key) (flat_map (λ k. 32 ∷ k) keys) (unbroken-cons 32 key refl all.0) (keys-unbroken keys all.1)
+
+reply-unbroken : (reply : Reply) → ReplyHolds Unbroken Unbroken reply → Unbroken (reply_text reply)
+reply-unbroken Stored holds = refl
+reply-unbroken Replaced holds = refl
+reply-unbroken (Value value) holds = unbroken-append (codes "value ") value refl holds
+reply-unbroken Missing holds = refl
+reply-unbroken Erased holds = refl
+reply-unbroken (Keys keys) holds = unbroken-append (codes "keys") (flat_map (λ key. 32 ∷ key) keys) refl (keys-unbroken keys holds)
+
+answer-unbroken : (answer : ℕ × Reply) → ReplyHolds Unbroken Unbroken answer.1 → Unbroken (answer_text answer)
+answer-unbroken (number, reply) holds =
     unbroken-append (decimal number) (32 ∷ reply_text reply) (decimal-unbroken number)
-    (unbroken-cons 32 (reply_text reply) refl (reply-unbroken reply keyless holds))
+    (unbroken-cons 32 (reply_text reply) refl (reply-unbroken reply holds))
 
 entry-unbroken : (entry : Entry) → Unbroken (entry_text entry)
 entry-unbroken (Done i) = decimal-unbroken i
@@ -107,13 +133,13 @@ first_line text rest is =
     (slice_split_at (λ b. eqb b 10) text 10 rest
     (λ k d lt. not-not _ (AllPass-from_list_all (λ b. not (eqb b 10)) text is k d lt)) refl)
 
-answer_lines : (answers : List (ℕ × Reply)) (rest : List ℕ) → ByRecursion (λ answer. IsKeyless answer.1) answers → EachReplies Unbroken answers
+answer_lines : (answers : List (ℕ × Reply)) (rest : List ℕ) → EachReplies Unbroken Unbroken answers
     → text_lines (flat_map (λ answer. line (answer_text answer)) answers ++ rest) ≡ map answer_text answers ++ text_lines rest
-answer_lines [] rest keyless holds = refl
-answer_lines (answer ∷ answers) rest keyless holds =
+answer_lines [] rest holds = refl
+answer_lines (answer ∷ answers) rest holds =
     rw (append_assoc (line (answer_text answer)) (flat_map (λ a. line (answer_text a)) answers) rest)
-    (first_line (answer_text answer) (flat_map (λ a. line (answer_text a)) answers ++ rest) (answer-unbroken answer keyless.0 holds.0)
-    ∙ ap (λ texts. answer_text answer ∷ texts) (answer_lines answers rest keyless.1 holds.1))
+    (first_line (answer_text answer) (flat_map (λ a. line (answer_text a)) answers ++ rest) (answer-unbroken answer holds.0)
+    ∙ ap (λ texts. answer_text answer ∷ texts) (answer_lines answers rest holds.1))
 
 slice_get-behind : (xs : List (List ℕ)) (y : List ℕ) (ys : List (List ℕ)) (n s : ℕ) → n ≡ length xs → s ≡ 0
     → slice_get (xs ++ y ∷ ys) (n + s) ≡ Some y
@@ -128,17 +154,17 @@ length-map (answer ∷ answers) = ap suc (length-map answers)
 
 -- the line behind the answers is the journal of the one shard
 pub journal_line : (answers : List (ℕ × Reply)) (journal : List Entry) (occupancies : List Occupancy) (n s : ℕ)
-    → ByRecursion (λ answer. IsKeyless answer.1) answers → EachReplies Unbroken answers → n ≡ length answers → s < 1
+    → EachReplies Unbroken Unbroken answers → n ≡ length answers → s < 1
     → slice_get (text_lines (report_of answers (journal ∷ []) occupancies)) (n + s)
     ≡ option_map (λ j. journal_text (s, j)) (slice_get (journal ∷ []) s)
-journal_line answers journal occupancies n s keyless holds n_is below =
+journal_line answers journal occupancies n s holds n_is below =
     let zero_is : s ≡ 0 = omega arith in
     let front = flat_map (λ answer. line (answer_text answer)) answers in
     let last = flat_map (λ occupancy. line (occupancy_text occupancy)) (enumerate_from 0 occupancies) in
     let here = line (journal_text (0, journal)) ++ [] in
     let lines : text_lines (report_of answers (journal ∷ []) occupancies) ≡ map answer_text answers ++ journal_text (0, journal) ∷ text_lines ([] ++ last) =
     ap text_lines (append_assoc front here last)
-    ∙ answer_lines answers (here ++ last) keyless holds
+    ∙ answer_lines answers (here ++ last) holds
     ∙ ap (λ texts. map answer_text answers ++ texts)
     (ap text_lines (append_assoc (line (journal_text (0, journal))) [] last) ∙ first_line (journal_text (0, journal)) ([] ++ last) (journal-unbroken 0 journal)) in
     rw (lines, zero_is) (slice_get-behind (map answer_text answers) (journal_text (0, journal)) (text_lines ([] ++ last)) n 0 (n_is ∙ sym (length-map answers)) refl)

@@ -7,7 +7,7 @@ use Rattle.plain_cache.specs.Row.{Row, dense, live, tight_floor}
 use Rattle.plain_cache.specs.Legal.{cache_after, EvictsAbove}
 use Rattle.plain_cache.specs.Report.{IsReportOf, answers, report}
 use Rattle.plain_cache.specs.Spelled.{spelled}
-use Rattle.report_text.specs.Held.{IsKeyless}
+use Rattle.report_text.specs.Held.{HasShortKeys}
 
 -- The journal of one shard of so many pages is legal and complete, the log has the answers, and these are the
 -- rows and the live bytes of the last cache.
@@ -18,6 +18,6 @@ pub record IsRunOf (trace : List Operation) (pages : ℕ) (journal : List Entry)
   pub evicts : EvictsAbove trace pages (tight_floor pages 0 + dense) journal
   pub numbers : map (λ answer. answer.0) (answers trace 1 pages (journal ∷ [])) ≡ map (λ operation. operation.number) trace
   pub replies : map (λ answer. Some (spelled answer.1)) (answers trace 1 pages (journal ∷ [])) ≡ log
-  pub keyless : All (λ answer. IsKeyless answer.1) (answers trace 1 pages (journal ∷ []))
+  pub short : All (λ answer. HasShortKeys answer.1) (answers trace 1 pages (journal ∷ []))
   pub rows : held ≡ length cache
   pub live : bytes ≡ live cache

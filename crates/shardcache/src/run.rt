@@ -1,5 +1,5 @@
 //! One shard does every command of a trace.
-ghost use Rattle.std.specs.Prelude.{◌≡◌, ◌≢◌, ◌+◌, ◌-◌, ◌<◌, ◌≤◌, ◌∷◌, ◌++◌, [], length, slice_set, Some, None, Contains, IfOk, OnOk};
+ghost use Rattle.std.specs.Prelude.{◌≡◌, ◌+◌, ◌-◌, ◌<◌, ◌≤◌, ◌∷◌, ◌++◌, [], length, slice_set, Some, None, Contains, IfOk, OnOk};
 ghost use Rattle.std.specs.List.{slice_get};
 ghost use Rattle.trace_text.specs.Operation.{operation};
 ghost use Rattle.trace_text.specs.Parsed.{trace_in};
@@ -8,9 +8,9 @@ ghost use Rattle.plain_cache.specs.Row.{ArePages};
 ghost use Rattle.plain_cache.specs.Spelled.{spelled};
 ghost use Rattle.shardcache.specs.Finished.{IsRunOf};
 
-use plain_cache::{Entry, Journal, Plain, ReplyLog};
+use plain_cache::{Entry, Journal, Plain, ReplyLog, an_ordered_reply_stays};
 use std::alloc::{AllocError, Global};
-use trace_text::{Command, Kind, Trace};
+use trace_text::{Command, Trace};
 
 /// What a shard leaves when every command is done.
 #[derive(Drop)]
@@ -21,17 +21,17 @@ pub struct Finished {
     pub live: u64,
 }
 
-/// Does one command: its reply goes into the log, and its number into the journal.
+/// Does one command: its reply goes into the log, and its number into the journal. `body` is room for the reply.
 fn do_command(
     alloc: Global,
     trace: &Trace,
     command: &Command,
+    body: &mut Vec<u8>,
     plain: &mut Plain,
     log: &mut ReplyLog,
     journal: &mut Journal,
 ) -> Result<(), AllocError>
     requires of_trace { Contains trace.now.commands command.now }
-    requires served { command.now.kind ≢ Kind.Scan }
     requires number { 1 ≤ command.now.number }
     requires room { length plain.old.rows < 4294967295 }
     requires unanswered { slice_get log.old.replies (command.now.number - 1) ≡ Some None }
@@ -44,8 +44,8 @@ fn do_command(
     ensures done { OnOk result (journal.new.entries ≡ journal.old.entries ++ Entry.Done command.now.number ∷ []) }
     ensures spare { OnOk result (journal.new.spare + 1 ≡ journal.old.spare) }
 {
-    let mut body = Vec::new(alloc);
-    let kind = plain.apply(alloc, trace, command, &mut body)?;
+    body.clear();
+    let kind = plain.apply(alloc, trace, command, body)?;
     log.record(command.number - 1, kind, body.as_slice());
     journal.add(Entry::Done(command.number));
     Ok(())
@@ -53,7 +53,8 @@ fn do_command(
 
 /// Does every command of a trace in turn, on a cache of so many pages.
 pub fn do_all(alloc: Global, trace: &Trace, pages: u32) -> Result<Finished, AllocError>
-    requires { ArePages pages }
+    requires pages { ArePages pages }
+    requires one_shard { trace.now.shards ≡ 1 }
     ensures { IfOk result (λ finished.
         IsRunOf (trace_in trace.now) pages finished.journal.entries finished.log.replies finished.rows finished.live) }
 {
@@ -62,8 +63,18 @@ pub fn do_all(alloc: Global, trace: &Trace, pages: u32) -> Result<Finished, Allo
     let mut plain = Plain::new(alloc, pages)?;
     let mut log = ReplyLog::new(alloc, needs.own_parts, needs.reply_bytes)?;
     let mut journal = Journal::new(alloc, needs.here_parts + needs.here_puts)?;
+    let mut body = Vec::new(alloc);
+    an_ordered_reply_stays();
     for command in commands {
-        do_command(alloc, trace, command, &mut plain, &mut log, &mut journal)?;
+        do_command(
+            alloc,
+            trace,
+            command,
+            &mut body,
+            &mut plain,
+            &mut log,
+            &mut journal,
+        )?;
     }
     Ok(Finished {
         journal,

@@ -16,7 +16,7 @@ fn answer(
         texts.push(String::from_str(alloc, word)?)?;
     }
     let bytes = Vec::from_slice(alloc, input)?;
-    let mut source = MemorySource::new(bytes, 4096, Vec::from_slice(alloc, failing)?);
+    let mut source = MemorySource::new(bytes, 65_536, Vec::from_slice(alloc, failing)?);
     let mut sink = MemorySink::new(alloc, room)?;
     let status = shardcache(&(), alloc, texts.as_slice(), &mut source, &mut sink);
     Ok((status, Vec::from_slice(alloc, sink.bytes())?))
@@ -24,53 +24,131 @@ fn answer(
 
 #[test]
 fn a_trace_is_run_and_reported(rt: HostRuntime) -> Result<(), Fail> {
-    let rows: [(&str, &str); 6] = [
-        ("", "journal 0\nshard 0 rows 0 live 0 lent 0 back 0\n"),
+    let empty = b"journal 0\nshard 0 rows 0 live 0 lent 0 back 0\n".as_slice();
+    let stored_and_read =
+        b"1 stored\n2 value abc\njournal 0 1 2\nshard 0 rows 1 live 48 lent 0 back 0\n".as_slice();
+    let rows: [(&[u8], &[u8]); 12] = [
+        (b"", empty),
+        (b"# a\n#\n# b", empty),
+        (b"\r\n\n\r", empty),
+        (b"put a abc\nget a\n", stored_and_read),
+        (b"put a abc\nget a", stored_and_read),
+        (b"# t\r\n\r\nput a abc\r\nget a", stored_and_read),
         (
-            "put a abc\nget a\n",
-            "1 stored\n2 value abc\njournal 0 1 2\nshard 0 rows 1 live 48 lent 0 back 0\n",
+            b"put a \nget a\n",
+            b"1 stored\n2 value \njournal 0 1 2\nshard 0 rows 1 live 48 lent 0 back 0\n",
         ),
         (
-            "put a \nget a\n",
-            "1 stored\n2 value \njournal 0 1 2\nshard 0 rows 1 live 48 lent 0 back 0\n",
+            b"put a 1\nput a 2\nget a\nerase a\nerase a\nget a\n",
+            b"1 stored\n2 replaced\n3 value 2\n4 erased\n5 missing\n6 missing\njournal 0 1 2 3 4 5 6\nshard 0 rows 0 live 0 lent 0 back 0\n",
         ),
         (
-            "put a 1\nput a 2\nget a\nerase a\nerase a\nget a\n",
-            "1 stored\n2 replaced\n3 value 2\n4 erased\n5 missing\n6 missing\njournal 0 1 2 3 4 5 6\nshard 0 rows 0 live 0 lent 0 back 0\n",
+            b"put user:42 {\"name\":\"Ada Byron\",\"tier\":2}\nget user:42\nget user:43\n",
+            b"1 stored\n2 value {\"name\":\"Ada Byron\",\"tier\":2}\n3 missing\njournal 0 1 2 3\nshard 0 rows 1 live 80 lent 0 back 0\n",
         ),
         (
-            "put user:42 {\"name\":\"Ada Byron\",\"tier\":2}\nget user:42\nget user:43\n",
-            "1 stored\n2 value {\"name\":\"Ada Byron\",\"tier\":2}\n3 missing\njournal 0 1 2 3\nshard 0 rows 1 live 80 lent 0 back 0\n",
+            b"put a Zo\xc3\xab",
+            b"1 stored\njournal 0 1\nshard 0 rows 1 live 48 lent 0 back 0\n",
         ),
         (
-            "put a Zo\u{eb}",
-            "1 stored\njournal 0 1\nshard 0 rows 1 live 48 lent 0 back 0\n",
+            b"put a  \xff \x80 \nget a\n",
+            b"1 stored\n2 value  \xff \x80 \njournal 0 1 2\nshard 0 rows 1 live 48 lent 0 back 0\n",
+        ),
+        (
+            b"put a 1\nput c 3\nput b 2\nscan b 2\nscan d 5\n",
+            b"1 stored\n2 stored\n3 stored\n4 keys b c\n5 keys\njournal 0 1 2 3 4 5\nshard 0 rows 3 live 144 lent 0 back 0\n",
         ),
     ];
     for (input, report) in rows {
-        let (status, text) = answer(rt.alloc(), &["run"], input.as_bytes(), &[], 4096)?;
+        let (status, text) = answer(rt.alloc(), &["run"], input, &[], 4096)?;
         assert!(rt; status == Status::Done);
-        assert!(rt; text.as_slice() == report.as_bytes());
+        assert!(rt; text.as_slice() == report);
     }
     Ok(())
 }
 
 #[test]
 fn a_line_that_is_no_command_is_refused(rt: HostRuntime) -> Result<(), Fail> {
-    let rows: [(&str, &str); 8] = [
-        ("fetch a\n", "refused line 1 NotYet\n"),
-        ("put a 1\nscan a 2\n", "refused line 2 NotYet\n"),
-        ("put a 1\n\nget a\n", "refused line 2 NotYet\n"),
-        ("put a\n", "refused line 1 NotYet\n"),
-        ("get a\nget a\u{1}b\n", "refused line 2 NotYet\n"),
-        ("get \n", "refused line 1 NotYet\n"),
-        ("erase a b\n", "refused line 1 NotYet\n"),
-        ("get a\nget a\r\n", "refused line 2 NotYet\n"),
+    let rows: [(&str, &str); 26] = [
+        ("fetch a\n", "refused line 1 UnknownWord\n"),
+        ("fetch\n", "refused line 1 UnknownWord\n"),
+        (" get a\n", "refused line 1 UnknownWord\n"),
+        (" # a\n", "refused line 1 UnknownWord\n"),
+        ("get\n", "refused line 1 MissingField\n"),
+        ("put a\n", "refused line 1 MissingField\n"),
+        ("scan a\n", "refused line 1 MissingField\n"),
+        ("get \n", "refused line 1 KeyLength\n"),
+        ("scan  5\n", "refused line 1 KeyLength\n"),
+        ("get a\u{1}b c\n", "refused line 1 KeyByte\n"),
+        ("get \u{7f}\n", "refused line 1 KeyByte\n"),
+        ("get a\r\r\n", "refused line 1 KeyByte\n"),
+        ("erase a b\n", "refused line 1 ExtraField\n"),
+        ("get a \n", "refused line 1 ExtraField\n"),
+        ("put a \t", "refused line 1 ValueByte\n"),
+        ("put a \u{7f}\n", "refused line 1 ValueByte\n"),
+        ("put a b\r\r\n", "refused line 1 ValueByte\n"),
+        ("scan a \n", "refused line 1 Count\n"),
+        ("scan a 0\n", "refused line 1 Count\n"),
+        ("scan a 33\n", "refused line 1 Count\n"),
+        ("scan a 02\n", "refused line 1 Count\n"),
+        ("scan a 33 x\n", "refused line 1 Count\n"),
+        ("scan a 2 x\n", "refused line 1 ExtraField\n"),
+        ("scan a 32\nscan a 1 \n", "refused line 2 ExtraField\n"),
+        (
+            "put a 1\n# a\n\nget\nfetch\n",
+            "refused line 4 MissingField\n",
+        ),
+        ("get a\r\nget b\r\nget", "refused line 3 MissingField\n"),
     ];
     for (input, refusal) in rows {
         let (status, text) = answer(rt.alloc(), &["run"], input.as_bytes(), &[], 4096)?;
-        assert!(rt; status == Status::Refused);
-        assert!(rt; text.as_slice() == refusal.as_bytes());
+        assert!(rt; status == Status::Refused, "{input:?}");
+        assert!(rt; text.as_slice() == refusal.as_bytes(), "{input:?}");
+    }
+    Ok(())
+}
+
+/// A line `put` with a key and a value of so many letters, and their last bytes.
+fn put_line(
+    alloc: Global,
+    key: usize,
+    key_end: u8,
+    value: usize,
+    value_end: u8,
+) -> Result<Vec<u8>, AllocError> {
+    let mut line = Vec::from_slice(alloc, b"put ")?;
+    for _ in 0..key {
+        line.push(b'k')?;
+    }
+    line.push(key_end)?;
+    line.push(b' ')?;
+    for _ in 0..value {
+        line.push(b'x')?;
+    }
+    line.push(value_end)?;
+    Ok(line)
+}
+
+#[test]
+fn a_key_and_a_value_have_limits(rt: HostRuntime) -> Result<(), Fail> {
+    for (key, key_end, value, value_end, want) in [
+        (
+            255,
+            b'k',
+            11_999,
+            b'x',
+            "1 stored\njournal 0 1\nshard 0 rows 1 live 12296 lent 0 back 0\n",
+        ),
+        (256, b'k', 0, b'x', "refused line 1 KeyLength\n"),
+        (256, 1, 0, b'x', "refused line 1 KeyLength\n"),
+        (255, 1, 12_000, b'x', "refused line 1 KeyByte\n"),
+        (255, b'k', 12_000, b'x', "refused line 1 ValueLength\n"),
+        (255, b'k', 12_000, 1, "refused line 1 ValueLength\n"),
+        (255, b'k', 11_999, 1, "refused line 1 ValueByte\n"),
+    ] {
+        let line = put_line(rt.alloc(), key, key_end, value, value_end)?;
+        let (_, text) = answer(rt.alloc(), &["run"], line.as_slice(), &[], 4096)?;
+        assert!(rt; text.as_slice() == want.as_bytes(), "{want}");
     }
     Ok(())
 }
@@ -78,36 +156,106 @@ fn a_line_that_is_no_command_is_refused(rt: HostRuntime) -> Result<(), Fail> {
 #[test]
 fn words_and_devices_have_their_answers(rt: HostRuntime) -> Result<(), Fail> {
     let input = b"put a abc\nget a\n";
-    let (status, text) = answer(rt.alloc(), &["walk"], input, &[], 4096)?;
-    assert!(rt; status == Status::Usage && text.as_slice() == b"usage\n".as_slice());
-    let (status, text) = answer(rt.alloc(), &["run", "run"], input, &[], 4096)?;
-    assert!(rt; status == Status::Usage && text.as_slice() == b"usage\n".as_slice());
-    let (status, text) = answer(rt.alloc(), &["run"], input, &[2], 4096)?;
-    assert!(rt; status == Status::ReadFault && text.as_slice() == b"read fault\n".as_slice());
-    let (status, text) = answer(rt.alloc(), &["run"], input, &[], 10)?;
-    assert!(rt; status == Status::WriteFault && text.as_slice() == b"1 stored\n2".as_slice());
+    let report = "1 stored\n2 value abc\njournal 0 1 2\nshard 0 rows 1 live 48 lent 0 back 0\n";
+    let rows: [(&[&str], &[u64], usize, Status, &str); 13] = [
+        (&[], &[], 4096, Status::Usage, "usage\n"),
+        (&["walk"], &[], 4096, Status::Usage, "usage\n"),
+        (&["run", "run"], &[], 4096, Status::Usage, "usage\n"),
+        (&["run", "--help"], &[], 4096, Status::Usage, "usage\n"),
+        (
+            &["run", "--pages", "1281"],
+            &[],
+            4096,
+            Status::Usage,
+            "usage\n",
+        ),
+        (
+            &["run", "--shards", "17"],
+            &[1],
+            4096,
+            Status::Usage,
+            "usage\n",
+        ),
+        (&["run"], &[2], 4096, Status::ReadFault, "read fault\n"),
+        (&["run"], &[], 10, Status::WriteFault, "1 stored\n2"),
+        (&["run", "--pages", "1280"], &[], 4096, Status::Done, report),
+        (&["run", "--pages=65536"], &[], 4096, Status::Done, report),
+        (&["--number", "7", "run"], &[], 4096, Status::Done, report),
+        (&["--commands=3", "run"], &[], 4096, Status::Done, report),
+        (
+            &["run", "--shards", "2"],
+            &[1],
+            4096,
+            Status::Refused,
+            "refused line 0 NotYetShards\n",
+        ),
+    ];
+    for (words, failing, room, wanted, written) in rows {
+        let (status, text) = answer(rt.alloc(), words, input, failing, room)?;
+        assert!(rt; status == wanted, "{words:?}");
+        assert!(rt; text.as_slice() == written.as_bytes(), "{words:?}");
+    }
     Ok(())
 }
 
-/// So many lines `get a` and one put, in bytes 6 a line and 10.
-fn long_trace(alloc: Global, gets: u32) -> Result<Vec<u8>, AllocError> {
-    let mut bytes = Vec::from_slice(alloc, b"put b abc\n")?;
-    for _ in 0..gets {
-        bytes.extend_from_slice(b"get a\n")?;
+/// So many times a line.
+fn many(alloc: Global, line: &[u8], times: usize) -> Result<Vec<u8>, AllocError> {
+    let mut bytes = Vec::with_capacity(alloc, 10_000_000)?;
+    for _ in 0..times {
+        bytes.extend_from_slice(line)?;
     }
     Ok(bytes)
 }
 
+/// The first bytes of a text.
+fn front(text: &[u8]) -> &[u8] {
+    if text.len() < 40 { text } else { &text[..40] }
+}
+
 #[test]
-fn a_trace_has_at_most_so_many_bytes(rt: HostRuntime) -> Result<(), Fail> {
-    let mut bytes = long_trace(rt.alloc(), 10_921)?;
-    assert_eq!(rt; bytes.len(), 65_536);
-    let (status, _) = answer(rt.alloc(), &["run"], bytes.as_slice(), &[], 1_000_000)?;
-    assert!(rt; status == Status::Done);
-    bytes.push(b'x')?;
-    let (status, text) = answer(rt.alloc(), &["run"], bytes.as_slice(), &[], 4096)?;
-    assert!(rt;
-        status == Status::Refused && text.as_slice() == b"refused line 0 TooLong\n".as_slice()
-    );
+fn a_trace_has_a_number_of_commands(rt: HostRuntime) -> Result<(), Fail> {
+    for (times, want) in [
+        (
+            1_048_576,
+            b"1 missing\n2 missing\n3 missing\n4 missing\n".as_slice(),
+        ),
+        (1_048_577, b"refused line 1048577 TooManyCommands\n"),
+    ] {
+        let bytes = many(rt.alloc(), b"get a\n", times)?;
+        let (_, text) = answer(rt.alloc(), &["run"], bytes.as_slice(), &[], 30_000_000)?;
+        assert!(rt; front(text.as_slice()) == want, "{times}");
+    }
+    Ok(())
+}
+
+#[test]
+fn replies_have_room(rt: HostRuntime) -> Result<(), Fail> {
+    for (times, want) in [
+        (
+            64_902,
+            b"1 keys\n2 keys\n3 keys\n4 keys\n5 keys\n6 key".as_slice(),
+        ),
+        (64_903, b"refused line 0 RepliesTooLarge\n"),
+    ] {
+        let bytes = many(rt.alloc(), b"scan a 1\n", times)?;
+        let (_, text) = answer(rt.alloc(), &["run"], bytes.as_slice(), &[], 30_000_000)?;
+        assert!(rt; front(text.as_slice()) == want, "{times}");
+    }
+    Ok(())
+}
+
+#[test]
+fn a_trace_has_a_length(rt: HostRuntime) -> Result<(), Fail> {
+    for (length, want) in [
+        (
+            67_108_864,
+            "journal 0\nshard 0 rows 0 live 0 lent 0 back 0\n",
+        ),
+        (67_108_865, "refused line 0 TooLong\n"),
+    ] {
+        let comment = vec![in rt.alloc(); b'#'; length]?;
+        let (_, text) = answer(rt.alloc(), &["run"], comment.as_slice(), &[], 4096)?;
+        assert!(rt; text.as_slice() == want.as_bytes(), "{length}");
+    }
     Ok(())
 }

@@ -1,4 +1,7 @@
+pub mod Counts
 pub mod Cuts
 pub mod LinesRead
+pub mod PartCounts
 pub mod Places
 pub mod Tallies
+pub mod Whole

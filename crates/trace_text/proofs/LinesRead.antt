@@ -1,39 +1,47 @@
 -- The loop over the lines of a trace.
-use Rattle.std.proofs.Common.{◌≡◌, ℕ, ◌+◌, ◌-◌, ◌<◌, ◌≤◌, List, [], ◌∷◌, ◌++◌, length, drop, append_assoc, length-append, Option, Result, Ok, Err, Some, None, arith, refl, sym, ap, ◌∙◌, inl, inr}
+use Rattle.std.proofs.Common.{◌≡◌, ℕ, ◌+◌, ◌-◌, ◌<◌, ◌≤◌, Bool, true, false, cond, not, List, [], ◌∷◌, ◌++◌, length, append_assoc, length-append, Result, Ok, Err, arith, refl, sym, ap, ◌∙◌, inl, inr}
 use Rattle.std.proofs.lemmas.Bool.{cases_lt}
-use Rattle.std.proofs.lemmas.List.{drop-drop, map-append, get_or_append_left}
+use Rattle.std.proofs.lemmas.List.{append-nil, drop-drop, map-append, get_or_append_left}
 use Rattle.std.proofs.Math.Seq.{get_or-append_seam}
 use Rattle.std.proofs.lemmas.List.Elements.{All-push}
-use Rattle.std.specs.Option.{option_map}
 use Rattle.std.specs.Prelude.{All}
 use Rattle.trace_text.specs.declared.command.Command.{Command}
-use Rattle.trace_text.specs.Found.{IsCommandAt, IsRestOf, LiesAt, LiesWithin}
-use Rattle.trace_text.specs.Line.{Asked, asked_in}
-use Rattle.trace_text.specs.Parsed.{AreNumbered}
+use Rattle.trace_text.specs.declared.refusal.Cause.{Cause}
+use Rattle.trace_text.specs.declared.refusal.ParseRefusal.{ParseRefusal}
+use Rattle.trace_text.specs.declared.refusal.ParseRefusal.TheVariants as refusals
+use Rattle.trace_text.specs.Found.{AddsLine, IsCommandAt, IsRestOf, LiesAt, LiesWithin, RefusesLine}
+use Rattle.trace_text.specs.Line.{Asked, asked_in, is_passed}
+use Rattle.trace_text.specs.Parsed.{AreNumbered, AreSpelled}
 use Rattle.trace_text.specs.Operation.{Operation, operation, operations}
-use Rattle.trace_text.specs.Reading.{Refusal, operations_from, numbered, with_front, with_line, lines}
+use Rattle.trace_text.specs.Reading.{Refusal, IsRefusedAs, said, numbered, lines, most_commands, operations_of, told, with_first, with_front}
 use Rattle.trace_text.proofs.Places.{lies_within}
 
 -- what was read, and behind it what the rest gives, is the whole reading
 pub record Reads (bytes : List ℕ) (commands : List Command) (rest : List ℕ) (line : ℕ) : Type 0 where
   pub is_rest : IsRestOf bytes rest
-  pub counted : line ≡ length commands + 1
-  pub room : length commands + length rest ≤ length bytes
+  pub counted : line + length rest ≤ length bytes + 1
   pub numbered : AreNumbered commands
   pub within : All (LiesWithin bytes) commands
-  pub joined : operations_from 1 1 (lines bytes) ≡ with_front (operations bytes commands) (operations_from line line (lines rest))
+  pub few : length commands ≤ most_commands
+  pub joined : operations_of 1 (told 1 (lines bytes))
+      ≡ with_front (operations bytes commands) (operations_of (length commands + 1) (told line (lines rest)))
+
+-- a line that is passed over, and one that is not
+told_passed : (text : List ℕ) (texts : List (List ℕ)) (line : ℕ) → is_passed text ≡ true → told line (text ∷ texts) ≡ told (line + 1) texts
+told_passed text texts line e = ap (λ b. cond (not b) ((line, text) ∷ told (line + 1) texts) (told (line + 1) texts)) e
+
+told_kept : (text : List ℕ) (texts : List (List ℕ)) (line : ℕ) → is_passed text ≡ false
+    → told line (text ∷ texts) ≡ (line, text) ∷ told (line + 1) texts
+told_kept text texts line e = ap (λ b. cond (not b) ((line, text) ∷ told (line + 1) texts) (told (line + 1) texts)) e
+
+with_front-none : (later : Result (List Operation) Refusal) → with_front [] later ≡ later
+with_front-none (Err refusal) = refl
+with_front-none (Ok operations) = refl
 
 with_front-with_front : (a b : List Operation) (later : Result (List Operation) Refusal)
     → with_front a (with_front b later) ≡ with_front (a ++ b) later
 with_front-with_front a b (Err refusal) = refl
 with_front-with_front a b (Ok operations) = ap Ok (sym (append_assoc a b operations))
-
--- a line that is a command puts it in front of what the later lines give
-with_line-command : (o : Option Asked) (number line : ℕ) (operation : Operation) (later : Result (List Operation) Refusal)
-    → option_map (numbered number line) o ≡ Some operation → with_line number line o later ≡ with_front (operation ∷ []) later
-with_line-command None number line operation later e = cc
-with_line-command (Some asked) number line operation later e =
-    let same : numbered number line asked ≡ operation = cc in ap (λ o. with_front (o ∷ []) later) same
 
 -- an end of an end is an end
 rest_of_rest : (a b c : List ℕ) → IsRestOf a b → IsRestOf b c → IsRestOf a c
@@ -41,11 +49,17 @@ rest_of_rest a b c outer inner =
     let e : length a - length c ≡ length a - length b + (length b - length c) = omega arith in
     (omega arith, rw (e, ← drop-drop (length b - length c) (length a - length b) a, outer.1) inner.1)
 
-number_of : (o : Option Asked) (number line : ℕ) (command : Command) (bytes : List ℕ)
-    → option_map (numbered number line) o ≡ Some (operation bytes command) → command.number ≡ number
-number_of None number line command bytes e = cc
-number_of (Some asked) number line command bytes e =
-    let same : numbered number line asked ≡ operation bytes command = cc in ap (λ o. o.number) (sym same)
+-- an operation that a line was judged to be has its number
+number_said : (reading : Result Asked Cause) (number line : ℕ) (operation : Operation) → said number line reading ≡ Ok operation
+    → operation.number ≡ number
+number_said (Err cause) number line operation e = cc
+number_said (Ok asked) number line operation e =
+    let same : numbered number line asked ≡ operation = cc in ap (λ o. o.number) (sym same)
+
+number_where : (full : Bool) (reading : Result Asked Cause) (number line : ℕ) (refusal : Refusal) (operation : Operation)
+    → cond full (Err refusal) (said number line reading) ≡ Ok operation → operation.number ≡ number
+number_where true reading number line refusal operation e = cc
+number_where false reading number line refusal operation e = number_said reading number line operation e
 
 -- the next command has the next number
 numbered_push : (commands : List Command) (command : Command) → AreNumbered commands → command.number ≡ length commands + 1
@@ -57,26 +71,96 @@ numbered_push commands command so_far next k d within =
       | inr past ↦ let here : k ≡ length commands = omega arith in rw (here, get_or-append_seam commands command [] d) next
     ]
 
--- one line more
-pub reads_more : (bytes : List ℕ) (commands : List Command) (rest : List ℕ) (line : ℕ) (text after : List ℕ) (command : Command)
-    → Reads bytes commands rest line → lines rest ≡ text ∷ lines after → IsRestOf rest after → LiesAt rest 0 text
-    → length after < length rest → IsCommandAt text (length bytes - length rest) line line command
+-- before any line is read
+pub reads_first : (bytes : List ℕ) → Reads bytes [] bytes 1
+reads_first bytes =
+    let none : length bytes - length bytes ≡ 0 = omega arith in
+    record {
+      is_rest = (omega arith, rw none refl);
+      counted = omega arith;
+      numbered = λ k d within. absurd (omega arith);
+      within = λ k d within. absurd (omega arith);
+      few = omega arith;
+      joined = sym (with_front-none (operations_of 1 (told 1 (lines bytes))));
+    }
+
+-- a line that is passed over
+reads_passed : (bytes : List ℕ) (commands : List Command) (rest : List ℕ) (line : ℕ) (text after : List ℕ)
+    → Reads bytes commands rest line → told line (lines rest) ≡ told line (text ∷ lines after) → IsRestOf rest after
+    → length after < length rest → is_passed text ≡ true → Reads bytes commands after (line + 1)
+reads_passed bytes commands rest line text after reads first is_rest shorter passed = record {
+  is_rest = rest_of_rest bytes rest after reads.is_rest is_rest;
+  counted = let c = reads.counted in omega arith;
+  numbered = reads.numbered;
+  within = reads.within;
+  few = reads.few;
+  joined = reads.joined ∙ ap (λ texts. with_front (operations bytes commands) (operations_of (length commands + 1) texts))
+      (first ∙ told_passed text (lines after) line passed);
+}
+
+-- a line that is a command
+reads_command : (bytes : List ℕ) (commands : List Command) (rest : List ℕ) (line : ℕ) (text after : List ℕ) (command : Command)
+    → Reads bytes commands rest line → told line (lines rest) ≡ told line (text ∷ lines after) → IsRestOf rest after → LiesAt rest 0 text
+    → length after < length rest → is_passed text ≡ false → length commands + 1 ≤ most_commands
+    → IsCommandAt text (length bytes - length rest) (length commands + 1) line command
     → Reads bytes (commands ++ command ∷ []) after (line + 1)
-reads_more bytes commands rest line text after command reads first is_rest lies shorter is =
+reads_command bytes commands rest line text after command reads first is_rest lies shorter kept room is =
     let zero : length bytes - length rest + 0 ≡ length bytes - length rest = omega arith in
     let at : LiesAt bytes (length bytes - length rest) text = rw zero at (lies_within bytes rest text 0 reads.is_rest lies) in
     let found = is bytes at in
-    let later = operations_from (line + 1) (line + 1) (lines after) in
+    let number = length commands + 1 in
+    let longer : length (commands ++ command ∷ []) ≡ number = rw length-append refl in
     let front = operations bytes commands in
+    let here = operation bytes command in
+    let later = operations_of (number + 1) (told (line + 1) (lines after)) in
     record {
       is_rest = rest_of_rest bytes rest after reads.is_rest is_rest;
-      counted = rw length-append (omega arith);
-      room = rw length-append (omega arith);
-      numbered = numbered_push commands command reads.numbered (number_of (asked_in text) line line command bytes found.0 ∙ reads.counted);
+      counted = let c = reads.counted in omega arith;
+      numbered = numbered_push commands command reads.numbered
+          (number_where _ (asked_in text) number line _ here found.0);
       within = All-push (LiesWithin bytes) commands command reads.within found.1;
+      few = rw longer room;
       joined = reads.joined
-          ∙ ap (λ texts. with_front front (operations_from line line texts)) first
-          ∙ ap (with_front front) (with_line-command (asked_in text) line line (operation bytes command) later found.0)
-          ∙ with_front-with_front front (operation bytes command ∷ []) later
-          ∙ ap (λ all. with_front all later) (sym (map-append (operation bytes) commands (command ∷ [])));
+          ∙ ap (λ texts. with_front front (operations_of number texts)) (first ∙ told_kept text (lines after) line kept)
+          ∙ ap (λ reading. with_front front (with_first reading later)) found.0
+          ∙ with_front-with_front front (here ∷ []) later
+          ∙ ap (λ all. with_front all later) (sym (map-append (operation bytes) commands (command ∷ [])))
+          ∙ ap (λ n. with_front (operations bytes (commands ++ command ∷ [])) (operations_of (n + 1) (told (line + 1) (lines after)))) (sym longer);
     }
+
+-- one line more
+pub reads_more : (bytes : List ℕ) (commands more : List Command) (rest : List ℕ) (line : ℕ) (text after : List ℕ)
+    → Reads bytes commands rest line → told line (lines rest) ≡ told line (text ∷ lines after) → IsRestOf rest after → LiesAt rest 0 text
+    → length after < length rest → AddsLine text (length bytes - length rest) line commands more → length more ≤ most_commands
+    → Reads bytes more after (line + 1)
+reads_more bytes commands more rest line text after reads first is_rest lies shorter adds few = elim adds [
+  | inl passed ↦ rw passed.1 (reads_passed bytes commands rest line text after reads first is_rest shorter passed.0)
+  | inr kept ↦
+      let longer : length (commands ++ kept.1 ∷ []) ≡ length commands + 1 = rw length-append refl in
+      let room : length commands + 1 ≤ most_commands = rw (kept.2, longer) at few in
+      rw kept.2 (reads_command bytes commands rest line text after kept.1 reads first is_rest lies shorter kept.0 room kept.3)
+]
+
+-- a line that is refused refuses the whole
+pub reads_refused : (bytes : List ℕ) (commands : List Command) (rest : List ℕ) (line : ℕ) (text after : List ℕ) (refusal : ParseRefusal)
+    → Reads bytes commands rest line → told line (lines rest) ≡ told line (text ∷ lines after)
+    → RefusesLine refusal text (length commands + 1) line → IsRefusedAs refusal (operations_of 1 (told 1 (lines bytes)))
+reads_refused bytes commands rest line text after refusals.Memory reads first refused = tt
+reads_refused bytes commands rest line text after (refusals.Trace at cause) reads first refused =
+    let number = length commands + 1 in
+    let front = operations bytes commands in
+    let later = operations_of (number + 1) (told (line + 1) (lines after)) in
+    rw refused.0 (reads.joined
+    ∙ ap (λ texts. with_front front (operations_of number texts)) (first ∙ told_kept text (lines after) line refused.1)
+    ∙ ap (λ reading. with_front front (with_first reading later)) refused.2)
+
+-- behind the last line
+pub reads_whole : (bytes : List ℕ) (commands : List Command) (rest : List ℕ) (line : ℕ) → Reads bytes commands rest line → length rest ≡ 0
+    → AreSpelled bytes commands
+reads_whole bytes commands [] line reads none = record {
+  read = reads.joined ∙ ap Ok (append-nil (operations bytes commands));
+  numbered = reads.numbered;
+  within = reads.within;
+  few = reads.few;
+}
+reads_whole bytes commands (b ∷ rest) line reads none = absurd (omega arith)

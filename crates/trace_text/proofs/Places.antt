@@ -1,11 +1,13 @@
 -- A field's place in a part of a line, and in the line.
-use Rattle.std.proofs.Common.{◌≡◌, ℕ, ◌+◌, ◌-◌, ◌≤◌, List, length, take, drop, get_or, All, IsTrue, arith, refl, sym, ◌∙◌}
+use Rattle.std.proofs.Common.{◌≡◌, ℕ, ◌+◌, ◌-◌, ◌≤◌, Bool, true, false, cond, List, length, take, drop, get_or, Option, None, Some, Ok, All, arith, refl, sym, ◌∙◌}
 use Rattle.std.proofs.lemmas.List.{drop-drop, drop-take, take-take}
 use Rattle.std.proofs.lemmas.List.Elements.{All-map}
-use Rattle.std.proofs.lemmas.Bool.{and_parts, leb-true}
+use Rattle.std.proofs.lemmas.Bool.{and_parts, leb-true, le-ltb}
 use Rattle.trace_text.specs.declared.command.Command.{Command}
+use Rattle.trace_text.specs.declared.refusal.Cause.{Cause}
 use Rattle.trace_text.specs.Found.{LiesAt, LiesWithin, IsRestOf}
-use Rattle.trace_text.specs.Line.{is_key, is_value}
+use Rattle.trace_text.specs.Line.{Asked, asked_in, key_fault, value_fault}
+use Rattle.trace_text.specs.Reading.{judged, most_commands, numbered}
 use Rattle.trace_text.specs.Operation.{operation, operations}
 use Rattle.trace_text.specs.Parsed.{IsWellFormed}
 
@@ -28,15 +30,24 @@ lies_in_whole whole text field start at outer inner =
     let e : take (length field) (drop at (take (length text) (drop start whole))) ≡ field = rw outer.1 inner.1 in
     (omega arith, rw (← drop-drop at start whole) (sym (part_of_front (drop start whole) at (length field) (length text) inner.0) ∙ e))
 
-pub key-most : (key : List ℕ) → IsTrue (is_key key) → length key ≤ 256
-key-most key is = leb-true _ _ (and_parts _ _ (and_parts _ _ is).0).1
+fault_where : (fits : Bool) (inner : Option Cause) (cause : Cause) → cond fits inner (Some cause) ≡ None → fits ≡ true
+fault_where true inner cause e = refl
+fault_where false inner cause e = cc
 
-pub value-most : (value : List ℕ) → IsTrue (is_value value) → length value ≤ 12000
-value-most value is = leb-true _ _ (and_parts _ _ is).0
+pub key-most : (key : List ℕ) → key_fault key ≡ None → length key ≤ 256
+key-most key sound = leb-true _ _ (and_parts _ _ (fault_where _ _ _ sound)).1
+
+pub value-most : (value : List ℕ) → value_fault value ≡ None → length value ≤ 12000
+value-most value sound = leb-true _ _ (fault_where _ _ _ sound)
 
 -- what is true of each command's fields is true of what the commands ask
 pub well_formed : (bytes : List ℕ) (commands : List Command) → All (LiesWithin bytes) commands → All IsWellFormed (operations bytes commands)
 well_formed bytes commands lie =
     All-map IsWellFormed (operation bytes) commands (λ k d within.
     let lies : LiesWithin bytes (get_or commands k d) = lie k d within in
-    record { key = lies.is_key; value = lies.is_value; kind = lies.kind })
+    record { key = lies.is_key; value = lies.is_value; fields = lies.fields })
+
+-- a line that asks this is judged to be its command
+pub judged_as : (number line : ℕ) (text : List ℕ) (asked : Asked) → number ≤ most_commands → Ok asked ≡ asked_in text
+    → judged (number, (line, text)) ≡ Ok (numbered number line asked)
+judged_as number line text asked few e = rw (le-ltb _ _ few, ← e) refl

@@ -1,38 +1,75 @@
 -- What the reader of a line found, with the places of its fields.
-use Rattle.std.specs.Prelude.{◌≡◌, ◌≢◌, ℕ, ◌+◌, ◌-◌, ◌≤◌, List, length, take, drop, Some, IsTrue}
+use Rattle.std.specs.Prelude.{◌≡◌, ◌⊎◌, ℕ, ◌+◌, ◌-◌, ◌*◌, ◌≤◌, List, [], ◌∷◌, ◌++◌, length, take, drop, None, Result, Ok, Err, true, false}
 use Rattle.trace_text.specs.declared.line.Found.{Found}
-use Rattle.std.specs.Option.{option_map}
 use Rattle.trace_text.specs.declared.command.Command.{Command}
-use Rattle.trace_text.specs.declared.command.Kind.TheVariants.{Scan}
-use Rattle.trace_text.specs.Line.{Asked, asked_in, is_key, is_value}
+use Rattle.trace_text.specs.declared.command.Kind.{Kind}
+use Rattle.trace_text.specs.declared.command.Kind.TheVariants.{Put, Get, Erase, Scan}
+use Rattle.trace_text.specs.declared.refusal.Cause.{Cause}
+use Rattle.trace_text.specs.declared.refusal.ParseRefusal.{ParseRefusal}
+use Rattle.trace_text.specs.declared.refusal.ParseRefusal.TheVariants as refusals
+use Rattle.trace_text.specs.Line.{Asked, is_passed, key_fault, value_fault}
 use Rattle.trace_text.specs.Operation.{operation, part}
-use Rattle.trace_text.specs.Reading.{numbered}
+use Rattle.trace_text.specs.Reading.{AtLine, judged}
+
+-- the number that one or two digits spell; of other fields it says nothing
+abbrev pub digits_in : List ℕ → ℕ
+digits_in [] = 0
+digits_in (ones ∷ []) = ones - 48
+digits_in (tens ∷ ones ∷ []) = (tens - 48) * 10 + (ones - 48)
+digits_in (a ∷ b ∷ c ∷ rest) = 0
 
 abbrev pub asked_of : Found → Asked
-asked_of found = record { kind = found.kind; key = found.key.now; value = found.value.now }
+asked_of found = record { kind = found.kind; key = found.key.now; value = found.value.now; count = found.count }
+
+abbrev pub reading_of : Result Found Cause → Result Asked Cause
+reading_of (Ok found) = Ok (asked_of found)
+reading_of (Err cause) = Err cause
+
+-- a put has a value, and a scan has a count of 1 to 32; the others have neither
+abbrev pub HasItsFields : Kind → List ℕ → ℕ → Type 0
+HasItsFields Put value count = count ≡ 0
+HasItsFields Get value count = (value ≡ []) × (count ≡ 0)
+HasItsFields Erase value count = (value ≡ []) × (count ≡ 0)
+HasItsFields Scan value count = (value ≡ []) × (1 ≤ count) × (count ≤ 32)
 
 -- the field stands at this place of the line
 abbrev pub LiesAt : List ℕ → ℕ → List ℕ → Type 0
 LiesAt line at field = (at + length field ≤ length line) × (take (length field) (drop at line) ≡ field)
 
-abbrev pub LieIn : List ℕ → Found → Type 0
-LieIn line found = LiesAt line found.key_at found.key.now × LiesAt line found.value_at found.value.now × IsTrue (is_key found.key.now) × IsTrue (is_value found.value.now) × (found.kind ≢ Scan)
+pub record LieIn (line : List ℕ) (found : Found) : Type 0 where
+  pub key : LiesAt line found.key_at found.key.now
+  pub value : LiesAt line found.value_at found.value.now
+  pub is_key : key_fault found.key.now ≡ None
+  pub is_value : value_fault found.value.now ≡ None
+  pub fields : HasItsFields found.kind found.value.now found.count
 
 -- the rest is an end of the text
 abbrev pub IsRestOf : List ℕ → List ℕ → Type 0
 IsRestOf text rest = (length rest ≤ length text) × (drop (length text - length rest) text ≡ rest)
 
--- the command's key and value lie in the bytes; scans are not read yet
+-- the command's key and value lie in the bytes
 pub record LiesWithin (bytes : List ℕ) (command : Command) : Type 0 where
   pub key : command.key.start + command.key.len ≤ length bytes
   pub value : command.value.start + command.value.len ≤ length bytes
   pub key_len : command.key.len ≤ 256
   pub value_len : command.value.len ≤ 12000
-  pub is_key : IsTrue (is_key (part bytes command.key))
-  pub is_value : IsTrue (is_value (part bytes command.value))
-  pub kind : command.kind ≢ Scan
+  pub is_key : key_fault (part bytes command.key) ≡ None
+  pub is_value : value_fault (part bytes command.value) ≡ None
+  pub fields : HasItsFields command.kind (part bytes command.value) command.count
 
 -- a line's command, in whatever bytes the line stands at this place
 abbrev pub IsCommandAt : List ℕ → ℕ → ℕ → ℕ → Command → Type 0
 IsCommandAt text start number line command = (bytes : List ℕ) → LiesAt bytes start text
-    → (option_map (numbered number line) (asked_in text) ≡ Some (operation bytes command)) × LiesWithin bytes command
+    → (judged (number, (line, text)) ≡ Ok (operation bytes command)) × LiesWithin bytes command
+
+-- a line adds its command, or is passed over
+abbrev pub AddsLine : List ℕ → ℕ → ℕ → List Command → List Command → Type 0
+AddsLine text start line before after =
+    ((is_passed text ≡ true) × (after ≡ before))
+    ⊎ ((is_passed text ≡ false) × (command : Command) × (after ≡ before ++ command ∷ []) × IsCommandAt text start (length before + 1) line command)
+
+-- a line that would have this command number is refused; want of memory says nothing of it
+abbrev pub RefusesLine : ParseRefusal → List ℕ → ℕ → ℕ → Type 0
+RefusesLine (refusals.Trace at cause) text number line =
+    (at ≡ line) × (is_passed text ≡ false) × (judged (number, (line, text)) ≡ Err (AtLine line cause))
+RefusesLine refusals.Memory text number line = Unit {0}

@@ -1,11 +1,16 @@
 -- What one line of a trace says.
-use Rattle.std.specs.Prelude.{ℕ, ◌==◌, ◌+◌, ◌&&◌, nat_lt, nat_le, Bool, not, List, [], ◌∷◌, length, take, drop, Option, Some, None, position, codes, if◌then◌else◌}
-use Rattle.std.specs.List.{list_all}
-use Rattle.std.specs.Option.{option_and_then}
+use Rattle.std.specs.Prelude.{ℕ, ◌==◌, ◌+◌, ◌&&◌, nat_lt, nat_le, Bool, true, not, List, [], ◌∷◌, length, take, drop, find, Option, Some, None, Result, Ok, Err, position, codes, decimal, if◌then◌else◌}
+use Rattle.std.specs.List.{list_all, range_with_len}
 use Rattle.std.specs.Str.{bytes_eq}
 use Rattle.trace_text.specs.declared.command.Kind.{Kind}
-use Rattle.trace_text.specs.declared.command.Kind.TheVariants.{Put, Get, Erase}
-use Rattle.trace_text.specs.Operation.{Operation}
+use Rattle.trace_text.specs.declared.command.Kind.TheVariants.{Put, Get, Erase, Scan}
+use Rattle.trace_text.specs.declared.refusal.Cause.{Cause}
+use Rattle.trace_text.specs.declared.refusal.Cause.TheVariants.{UnknownWord, MissingField, KeyLength, KeyByte, ValueLength, ValueByte, Count, ExtraField}
+
+-- an empty line, and one that begins with `#`, are passed over
+abbrev pub is_passed : List ℕ → Bool
+is_passed [] = true
+is_passed (b ∷ bytes) = b == 35
 
 -- a text cut at the first byte b: what stands before it, and what stands behind it, where there is one
 abbrev pub cut_where : Option ℕ → List ℕ → List ℕ × Option (List ℕ)
@@ -23,41 +28,78 @@ is_key_byte b = nat_lt 32 b && not (b == 127)
 abbrev pub is_value_byte : ℕ → Bool
 is_value_byte b = nat_lt 31 b && not (b == 127)
 
--- a key has 1 to 256 bytes
-abbrev pub is_key : List ℕ → Bool
-is_key key = nat_lt 0 (length key) && nat_le (length key) 256 && list_all is_key_byte key
+-- what is wrong with a key: it has 1 to 256 bytes
+abbrev pub key_fault : List ℕ → Option Cause
+key_fault key =
+    if nat_lt 0 (length key) && nat_le (length key) 256
+    then (if list_all is_key_byte key then None else Some KeyByte)
+    else Some KeyLength
 
--- a value has at most 12,000 bytes
-abbrev pub is_value : List ℕ → Bool
-is_value value = nat_le (length value) 12000 && list_all is_value_byte value
+-- what is wrong with a value: it has at most 12,000 bytes
+abbrev pub value_fault : List ℕ → Option Cause
+value_fault value =
+    if nat_le (length value) 12000
+    then (if list_all is_value_byte value then None else Some ValueByte)
+    else Some ValueLength
+
+-- the number from 1 to 32 that a field spells, without a leading zero
+abbrev pub count_of : List ℕ → Option ℕ
+count_of field = find (λ n. bytes_eq (decimal n) field) (range_with_len 1 32)
 
 -- what a line asks, apart from its number
 pub record Asked : Type 0 where
   pub kind : Kind
   pub key : List ℕ
+  -- of a put; else empty
   pub value : List ℕ
+  -- the most keys that a scan gives; else 0
+  pub count : ℕ
 
--- the fields of a put: the key, a space, and the value, which is all that follows
-abbrev pub put_in : List ℕ × Option (List ℕ) → Option Asked
-put_in (key, None) = None
-put_in (key, Some value) = if is_key key && is_value value then Some (record { kind = Put; key = key; value = value }) else None
+-- a fault comes before what stands behind it in the line
+abbrev pub unless : Option Cause → Result Asked Cause → Result Asked Cause
+unless None later = later
+unless (Some cause) later = Err cause
 
--- the one field of a get or an erase
-abbrev pub keyed_in : Kind → List ℕ → Option Asked
-keyed_in kind key = if is_key key then Some (record { kind = kind; key = key; value = [] }) else None
+-- the COUNT of a scan, and what stands behind the space after it
+abbrev pub counted_in : List ℕ → Option ℕ → Option (List ℕ) → Result Asked Cause
+counted_in key None behind = Err Count
+counted_in key (Some count) None = Ok (record { kind = Scan; key = key; value = []; count = count })
+counted_in key (Some count) (Some behind) = Err ExtraField
 
--- the fields behind a word
-abbrev pub fields_in : List ℕ → List ℕ → Option Asked
-fields_in word fields =
-    if bytes_eq word (codes "put") then put_in (cut_at 32 fields)
-    else (if bytes_eq word (codes "get") then keyed_in Get fields
-    else (if bytes_eq word (codes "erase") then keyed_in Erase fields else None))
+abbrev pub scan_in : List ℕ → List ℕ × Option (List ℕ) → Result Asked Cause
+scan_in key (field, behind) = counted_in key (count_of field) behind
 
--- the word, a space, and its fields
-abbrev pub worded_in : List ℕ × Option (List ℕ) → Option Asked
-worded_in (word, None) = None
-worded_in (word, Some fields) = fields_in word fields
+-- what follows a key: nothing; the value, which is all that follows the space; or a count
+abbrev pub behind_key : Kind → List ℕ → Option (List ℕ) → Result Asked Cause
+behind_key Put key None = Err MissingField
+behind_key Put key (Some value) = unless (value_fault value) (Ok (record { kind = Put; key = key; value = value; count = 0 }))
+behind_key Get key None = Ok (record { kind = Get; key = key; value = []; count = 0 })
+behind_key Get key (Some behind) = Err ExtraField
+behind_key Erase key None = Ok (record { kind = Erase; key = key; value = []; count = 0 })
+behind_key Erase key (Some behind) = Err ExtraField
+behind_key Scan key None = Err MissingField
+behind_key Scan key (Some behind) = scan_in key (cut_at 32 behind)
 
--- what a line asks, or None where it is no `put`, `get` or `erase` with its fields
-abbrev pub asked_in : List ℕ → Option Asked
-asked_in line = worded_in (cut_at 32 line)
+-- the fields of a command: its key, and what follows it
+abbrev pub keyed_in : Kind → List ℕ × Option (List ℕ) → Result Asked Cause
+keyed_in kind (key, behind) = unless (key_fault key) (behind_key kind key behind)
+
+abbrev pub kind_of : List ℕ → Option Kind
+kind_of word =
+    if bytes_eq word (codes "put") then Some Put
+    else (if bytes_eq word (codes "get") then Some Get
+    else (if bytes_eq word (codes "erase") then Some Erase
+    else (if bytes_eq word (codes "scan") then Some Scan else None)))
+
+-- the word, a space, and the fields
+abbrev pub worded_in : Option Kind → Option (List ℕ) → Result Asked Cause
+worded_in None behind = Err UnknownWord
+worded_in (Some kind) None = Err MissingField
+worded_in (Some kind) (Some fields) = keyed_in kind (cut_at 32 fields)
+
+abbrev pub spoken_in : List ℕ × Option (List ℕ) → Result Asked Cause
+spoken_in (word, behind) = worded_in (kind_of word) behind
+
+-- what a line asks, or the first thing that is wrong with it, from left to right
+abbrev pub asked_in : List ℕ → Result Asked Cause
+asked_in line = spoken_in (cut_at 32 line)

@@ -1,5 +1,6 @@
 -- Where the parts of a command are done, and how many there are.
 use Rattle.std.specs.Prelude.{ℕ, ◌==◌, ◌+◌, ◌-◌, ◌*◌, ◌%◌, ◌^◌, ◌&&◌, Bool, true, false, List, map, filter, count_by, sum_by, fold, length, bit_xor, max, if◌then◌else◌}
+use Rattle.std.specs.List.{range_with_len}
 use Rattle.trace_text.specs.declared.command.Kind.{Kind}
 use Rattle.trace_text.specs.declared.command.Kind.TheVariants.{Put, Get, Erase, Scan}
 use Rattle.trace_text.specs.Operation.{Operation}
@@ -43,6 +44,13 @@ abbrev pub parts : List Operation → ℕ → ℕ → ℕ → List ℕ
 parts trace n o s = map (λ operation. operation.number)
     (filter (λ operation. origin operation.number n == o && has_part n s operation) trace)
 
+-- how many parts shard s issues, and how many are done there, by the lists of parts
+abbrev pub issued : List Operation → ℕ → ℕ → ℕ
+issued trace n s = sum_by (λ q. length (parts trace n s q)) (range_with_len 0 n)
+
+abbrev pub done_at : List Operation → ℕ → ℕ → ℕ
+done_at trace n s = sum_by (λ o. length (parts trace n o s)) (range_with_len 0 n)
+
 -- the parts that shard s issues: one for a command that it issues, and one for each shard where that is a scan
 abbrev pub own_parts : List Operation → ℕ → ℕ → ℕ
 own_parts trace n s = sum_by
@@ -60,7 +68,13 @@ here_puts trace n s = count_by (λ operation. is_put operation.kind && owner ope
 abbrev pub greatest_value : List Operation → ℕ
 greatest_value trace = fold (λ most operation. max most (length operation.value)) 0 trace
 
--- room for the replies of what shard s issues: the greatest value for each get, and 8,272 bytes for each part of a scan
+-- room for all replies, with n shards: the greatest value for each get, and 8,272 bytes for each part of a scan
+abbrev pub replies_room : List Operation → ℕ → ℕ
+replies_room trace n =
+    count_by (λ operation. is_get operation.kind) trace * greatest_value trace
+    + count_by (λ operation. is_scan operation.kind) trace * (n * 8272)
+
+-- the room for the replies of what shard s issues: the greatest value for each get, and 8,272 bytes for each part of a scan
 abbrev pub reply_bytes : List Operation → ℕ → ℕ → ℕ
 reply_bytes trace n s =
     count_by (λ operation. is_get operation.kind && origin operation.number n == s) trace * greatest_value trace

@@ -1,30 +1,44 @@
 -- The reading of a trace.
-use Rattle.std.specs.Prelude.{ℕ, ◌==◌, ◌+◌, nat_lt, List, [], ◌∷◌, ◌++◌, length, Option, Some, None, Result, Ok, Err, if◌then◌else◌, ◌≡◌}
-use Rattle.std.specs.List.{slice_split}
+use Rattle.std.specs.Prelude.{ℕ, ◌==◌, ◌-◌, nat_lt, Bool, false, not, List, [], ◌∷◌, ◌++◌, length, take, map, filter, Option, Some, None, Result, Ok, Err, if◌then◌else◌, ◌≡◌}
+use Rattle.std.specs.List.{slice_get, slice_split, enumerate_from}
 use Rattle.trace_text.specs.declared.refusal.Cause.{Cause}
-use Rattle.trace_text.specs.declared.refusal.Cause.TheVariants.{NotYet}
+use Rattle.trace_text.specs.declared.refusal.Cause.TheVariants.{TooManyCommands, RepliesTooLarge}
 use Rattle.trace_text.specs.declared.refusal.ParseRefusal.{ParseRefusal}
 use Rattle.trace_text.specs.declared.refusal.ParseRefusal.TheVariants as refusals
-use Rattle.trace_text.specs.Line.{Asked, asked_in}
+use Rattle.trace_text.specs.Line.{Asked, asked_in, is_passed}
 use Rattle.trace_text.specs.Operation.{Operation}
+use Rattle.trace_text.specs.Parts.{replies_room}
 
--- why a trace is refused: it is too long as a whole, or a line has a cause
+-- why a trace is refused: it is too long as a whole, or a line has a cause; line 0 stands for all of them
 pub data Refusal : Type 0 where
   TooLong : Refusal
   AtLine : ℕ → Cause → Refusal
 
--- the most bytes of a trace
+-- the most bytes of a trace, the most commands, and the most bytes of replies
 abbrev pub most_bytes : ℕ
-most_bytes = 65536
+most_bytes = 67108864
 
--- the pieces between the LFs are the lines; the empty piece after the last LF is none
-abbrev pub lines_among : List (List ℕ) → List (List ℕ)
-lines_among [] = []
-lines_among ([] ∷ []) = []
-lines_among (piece ∷ pieces) = piece ∷ lines_among pieces
+abbrev pub most_commands : ℕ
+most_commands = 1048576
 
+abbrev pub most_replies : ℕ
+most_replies = 536870912
+
+-- a line drops one CR at its end
+abbrev pub is_cr : Option ℕ → Bool
+is_cr None = false
+is_cr (Some b) = b == 13
+
+abbrev pub without_cr : List ℕ → List ℕ
+without_cr text = if is_cr (slice_get text (length text - 1)) then take (length text - 1) text else text
+
+-- the bytes cut at each LF; what stands behind the last LF is a line too
 abbrev pub lines : List ℕ → List (List ℕ)
-lines bytes = lines_among (slice_split (λ b. b == 10) bytes)
+lines bytes = map without_cr (slice_split (λ b. b == 10) bytes)
+
+-- the lines that are not passed over, each with its number, where the first of these lines has this one
+abbrev pub told : ℕ → List (List ℕ) → List (ℕ × List ℕ)
+told first texts = filter (λ line. not (is_passed line.1)) (enumerate_from first texts)
 
 -- what a line asks, as the command with this number
 abbrev pub numbered : ℕ → ℕ → Asked → Operation
@@ -34,28 +48,44 @@ numbered number line asked = record {
   kind = asked.kind;
   key = asked.key;
   value = asked.value;
-  count = 0;
+  count = asked.count;
 }
 
--- these operations, and behind them those of a reading, which may refuse
+abbrev pub said : ℕ → ℕ → Result Asked Cause → Result Operation Refusal
+said number line (Err cause) = Err (AtLine line cause)
+said number line (Ok asked) = Ok (numbered number line asked)
+
+-- a line by itself is a command or has a cause, but of a command too many nothing is read
+abbrev pub judged : ℕ × (ℕ × List ℕ) → Result Operation Refusal
+judged (number, (line, text)) =
+    if nat_lt most_commands number then Err (AtLine line TooManyCommands) else said number line (asked_in text)
+
+-- all the commands, or the first refusal
 abbrev pub with_front : List Operation → Result (List Operation) Refusal → Result (List Operation) Refusal
 with_front front (Err refusal) = Err refusal
 with_front front (Ok operations) = Ok (front ++ operations)
 
--- one line, with the reading of the lines behind it
-abbrev pub with_line : ℕ → ℕ → Option Asked → Result (List Operation) Refusal → Result (List Operation) Refusal
-with_line number line None later = Err (AtLine line NotYet)
-with_line number line (Some asked) later = with_front (numbered number line asked ∷ []) later
+abbrev pub with_first : Result Operation Refusal → Result (List Operation) Refusal → Result (List Operation) Refusal
+with_first (Err refusal) later = Err refusal
+with_first (Ok operation) later = with_front (operation ∷ []) later
 
--- each line by itself is a command or has a cause, and the first line with a cause refuses the trace
-abbrev pub operations_from : ℕ → ℕ → List (List ℕ) → Result (List Operation) Refusal
-operations_from number line [] = Ok []
-operations_from number line (text ∷ texts) =
-    with_line number line (asked_in text) (operations_from (number + 1) (line + 1) texts)
+abbrev pub collected : List (Result Operation Refusal) → Result (List Operation) Refusal
+collected [] = Ok []
+collected (reading ∷ readings) = with_first reading (collected readings)
 
--- what the bytes of a trace mean
-abbrev pub trace_of : List ℕ → Result (List Operation) Refusal
-trace_of bytes = if nat_lt most_bytes (length bytes) then Err TooLong else operations_from 1 1 (lines bytes)
+-- the commands that these lines are, where the first of them has this number
+abbrev pub operations_of : ℕ → List (ℕ × List ℕ) → Result (List Operation) Refusal
+operations_of first texts = collected (map judged (enumerate_from first texts))
+
+-- of n shards: the replies must have room
+abbrev pub answerable : ℕ → Result (List Operation) Refusal → Result (List Operation) Refusal
+answerable n (Err refusal) = Err refusal
+answerable n (Ok trace) = if nat_lt most_replies (replies_room trace n) then Err (AtLine 0 RepliesTooLarge) else Ok trace
+
+-- what the bytes of a trace mean for a run of n shards
+abbrev pub trace_of : List ℕ → ℕ → Result (List Operation) Refusal
+trace_of bytes n =
+    if nat_lt most_bytes (length bytes) then Err TooLong else answerable n (operations_of 1 (told 1 (lines bytes)))
 
 -- the refusal of `parse` is the one of the reading; want of memory says nothing of it
 abbrev pub IsRefusedAs : ParseRefusal → Result (List Operation) Refusal → Type 0

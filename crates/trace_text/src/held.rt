@@ -3,7 +3,8 @@ ghost use Rattle.std.specs.Prelude.{◌≡◌, ◌≤◌, length, All, Ok, Conta
 ghost use Rattle.trace_text.specs.Found.{LiesWithin};
 ghost use Rattle.trace_text.specs.Operation.{part};
 ghost use Rattle.trace_text.specs.Parsed.{trace_in, AreNumbered, IsWellFormed};
-ghost use Rattle.trace_text.specs.Reading.{trace_of};
+ghost use Rattle.trace_text.specs.Parts.{replies_room};
+ghost use Rattle.trace_text.specs.Reading.{most_commands, most_replies, trace_of};
 
 use crate::command::Command;
 use std::marker::Model;
@@ -31,12 +32,14 @@ impl Trace {
     /// The commands, in order.
     pub fn commands(&self) -> &[Command]
         ensures value { result.now ≡ self.now.commands }
-        ensures read { trace_of self.now.bytes ≡ Ok (trace_in self.now) }
+        ensures read { trace_of self.now.bytes self.now.shards ≡ Ok (trace_in self.now) }
         ensures numbered { AreNumbered result.now }
         ensures well_formed { All IsWellFormed (trace_in self.now) }
         ensures lie { All (LiesWithin self.now.bytes) result.now }
-        ensures few { length result.now ≤ 65536 }
-        ensures one_shard { self.now.shards ≡ 1 }
+        ensures few { length result.now ≤ most_commands }
+        ensures room { replies_room (trace_in self.now) self.now.shards ≤ most_replies }
+        ensures some_shards { 1 ≤ self.now.shards }
+        ensures most_shards { self.now.shards ≤ 16 }
     {
         self.commands.as_slice()
     }

@@ -1,11 +1,14 @@
 //! One line of a trace.
-ghost use Rattle.std.specs.Prelude.{◌≡◌, ◌≢◌, ◌==◌, position, IfSome};
+ghost use Rattle.std.specs.Prelude.{◌≡◌, ◌⊎◌, ◌==◌, ◌&&◌, nat_le, nat_lt, decimal, position, None, Some, IfSome, IfOk, IfErr};
 ghost use Rattle.std.specs.List.{list_all};
 ghost use Rattle.std.specs.Option.{option_map};
-ghost use Rattle.trace_text.specs.Line.{cut_at, is_key_byte, is_value_byte, is_key, is_value, put_in, keyed_in, fields_in, asked_in};
-ghost use Rattle.trace_text.specs.Found.{asked_of, IsRestOf, LieIn};
+ghost use Rattle.std.specs.Str.{bytes_eq};
+ghost use Rattle.trace_text.specs.Line.{is_passed, cut_at, is_key_byte, is_value_byte, key_fault, value_fault, kind_of, count_of, keyed_in, asked_in};
+ghost use Rattle.trace_text.specs.Found.{digits_in, reading_of, IsRestOf, LieIn};
 
 use crate::command::Kind;
+use crate::refusal::Cause;
+use itoa::Buffer;
 
 const LONGEST_KEY: usize = 256;
 
@@ -19,6 +22,17 @@ pub struct Found<'a> {
     pub key_at: usize,
     pub value: &'a [u8],
     pub value_at: usize,
+    pub count: u32,
+}
+
+/// Whether a line is passed over: an empty one, and one that begins with `#`.
+pub fn is_passed(line: &[u8]) -> bool
+    ensures { result ≡ is_passed line.now }
+{
+    match line {
+        [] => true,
+        [first, ..] => *first == b'#',
+    }
 }
 
 fn place_of(text: &[u8], byte: u8) -> Option<usize>
@@ -50,78 +64,180 @@ fn are_value_bytes(value: &[u8]) -> bool
     value.iter().all(|b| *b > 31 && *b != 127)
 }
 
-fn is_key(key: &[u8]) -> bool
-    ensures { result ≡ is_key key.now }
+/// What is wrong with a key.
+fn key_fault(key: &[u8]) -> Option<Cause>
+    ensures { result ≡ key_fault key.now }
 {
-    !key.is_empty() && key.len() <= LONGEST_KEY && are_key_bytes(key)
+    if key.is_empty() || key.len() > LONGEST_KEY {
+        Some(Cause::KeyLength)
+    } else if are_key_bytes(key) {
+        None
+    } else {
+        Some(Cause::KeyByte)
+    }
 }
 
-fn is_value(value: &[u8]) -> bool
-    ensures { result ≡ is_value value.now }
+/// What is wrong with a value.
+fn value_fault(value: &[u8]) -> Option<Cause>
+    ensures { result ≡ value_fault value.now }
 {
-    value.len() <= LONGEST_VALUE && are_value_bytes(value)
+    if value.len() > LONGEST_VALUE {
+        Some(Cause::ValueLength)
+    } else if are_value_bytes(value) {
+        None
+    } else {
+        Some(Cause::ValueByte)
+    }
+}
+
+fn digits_in(field: &[u8]) -> u32
+    ensures { result ≡ digits_in field.now }
+{
+    match field {
+        [ones] => u32::from(ones.saturating_sub(b'0')),
+        [tens, ones] => {
+            u32::from(tens.saturating_sub(b'0')) * 10 + u32::from(ones.saturating_sub(b'0'))
+        }
+        _ => 0,
+    }
+}
+
+fn spells(field: &[u8], number: u32) -> bool
+    ensures { result ≡ bytes_eq (decimal number) field.now }
+{
+    let mut buffer = Buffer::new();
+    buffer.format(number).as_bytes() == field
+}
+
+fn is_count(field: &[u8], number: u32) -> bool
+    ensures { result ≡ (nat_le 1 number && nat_lt number 33 && bytes_eq (decimal number) field.now) }
+{
+    number >= 1 && number < 33 && spells(field, number)
+}
+
+/// The number from 1 to 32 that a field spells, without a leading zero.
+fn count_of(field: &[u8]) -> Option<u32>
+    ensures { result ≡ count_of field.now }
+{
+    let count = digits_in(field);
+    if is_count(field, count) {
+        Some(count)
+    } else {
+        None
+    }
+}
+
+/// The key with which the fields begin, and what stands behind the space after it.
+fn key_in(fields: &[u8]) -> Result<(&[u8], Option<&[u8]>), Cause>
+    ensures parts { IfOk result (λ parts. (parts.0.now, option_map (λ behind. behind.now) parts.1) ≡ cut_at 32 fields.now) }
+    ensures sound { IfOk result (λ parts. key_fault parts.0.now ≡ None) }
+    ensures rest { IfOk result (λ parts. IfSome parts.1 (λ behind. IsRestOf fields.now behind.now)) }
+    ensures fault { IfErr result (λ cause. key_fault (cut_at 32 fields.now).0 ≡ Some cause) }
+{
+    let (key, behind) = cut(fields, b' ');
+    match key_fault(key) {
+        Some(cause) => Err(cause),
+        None => Ok((key, behind)),
+    }
 }
 
 /// The key, a space, and the value, which is all that follows.
-fn put_in(fields: &[u8]) -> Option<Found<'_>>
-    ensures asked { option_map asked_of result ≡ put_in (cut_at 32 fields.now) }
-    ensures places { IfSome result (LieIn fields.now) }
+fn put_in(fields: &[u8]) -> Result<Found<'_>, Cause>
+    ensures asked { reading_of result ≡ keyed_in Kind.Put (cut_at 32 fields.now) }
+    ensures places { IfOk result (LieIn fields.now) }
 {
-    let (key, value) = cut(fields, b' ');
-    let value = value?;
-    if is_key(key) && is_value(value) {
-        Some(Found {
+    let (key, behind) = key_in(fields)?;
+    let value = behind.ok_or(Cause::MissingField)?;
+    match value_fault(value) {
+        Some(cause) => Err(cause),
+        None => Ok(Found {
             kind: Kind::Put,
             key,
             key_at: 0,
             value,
             value_at: fields.len() - value.len(),
-        })
-    } else {
-        None
+            count: 0,
+        }),
     }
 }
 
-fn keyed_in(kind: Kind, key: &[u8]) -> Option<Found<'_>>
-    requires { kind ≢ Kind.Scan }
-    ensures asked { option_map asked_of result ≡ keyed_in kind key.now }
-    ensures places { IfSome result (LieIn key.now) }
+/// A key, and nothing behind it.
+fn bare_in(kind: Kind, fields: &[u8]) -> Result<Found<'_>, Cause>
+    requires { (kind ≡ Kind.Get) ⊎ (kind ≡ Kind.Erase) }
+    ensures asked { reading_of result ≡ keyed_in kind (cut_at 32 fields.now) }
+    ensures places { IfOk result (LieIn fields.now) }
 {
-    if is_key(key) {
-        Some(Found {
-            kind,
-            key,
-            key_at: 0,
-            value: &[],
-            value_at: 0,
-        })
-    } else {
-        None
+    let (key, behind) = key_in(fields)?;
+    if behind.is_some() {
+        return Err(Cause::ExtraField);
     }
+    Ok(Found {
+        kind,
+        key,
+        key_at: 0,
+        value: &[],
+        value_at: 0,
+        count: 0,
+    })
 }
 
-fn fields_in<'a>(word: &[u8], fields: &'a [u8]) -> Option<Found<'a>>
-    ensures asked { option_map asked_of result ≡ fields_in word.now fields.now }
-    ensures places { IfSome result (LieIn fields.now) }
+/// A key, a space, and a count.
+fn scan_in(fields: &[u8]) -> Result<Found<'_>, Cause>
+    ensures asked { reading_of result ≡ keyed_in Kind.Scan (cut_at 32 fields.now) }
+    ensures places { IfOk result (LieIn fields.now) }
+{
+    let (key, behind) = key_in(fields)?;
+    let behind = behind.ok_or(Cause::MissingField)?;
+    let (field, extra) = cut(behind, b' ');
+    let count = count_of(field).ok_or(Cause::Count)?;
+    if extra.is_some() {
+        return Err(Cause::ExtraField);
+    }
+    Ok(Found {
+        kind: Kind::Scan,
+        key,
+        key_at: 0,
+        value: &[],
+        value_at: 0,
+        count,
+    })
+}
+
+/// The kind that a word names.
+fn kind_of(word: &[u8]) -> Option<Kind>
+    ensures { result ≡ kind_of word.now }
 {
     match word {
-        b"put" => put_in(fields),
-        b"get" => keyed_in(Kind::Get, fields),
-        b"erase" => keyed_in(Kind::Erase, fields),
+        b"put" => Some(Kind::Put),
+        b"get" => Some(Kind::Get),
+        b"erase" => Some(Kind::Erase),
+        b"scan" => Some(Kind::Scan),
         _ => None,
     }
 }
 
-/// What a line asks; None where it is no command that is read.
-pub fn asked_in(line: &[u8]) -> Option<Found<'_>>
-    ensures asked { option_map asked_of result ≡ asked_in line.now }
-    ensures places { IfSome result (LieIn line.now) }
+fn fields_in(kind: Kind, fields: &[u8]) -> Result<Found<'_>, Cause>
+    ensures asked { reading_of result ≡ keyed_in kind (cut_at 32 fields.now) }
+    ensures places { IfOk result (LieIn fields.now) }
+{
+    match kind {
+        Kind::Put => put_in(fields),
+        Kind::Get | Kind::Erase => bare_in(kind, fields),
+        Kind::Scan => scan_in(fields),
+    }
+}
+
+/// What a line asks, or the first thing that is wrong with it.
+pub fn asked_in(line: &[u8]) -> Result<Found<'_>, Cause>
+    ensures asked { reading_of result ≡ asked_in line.now }
+    ensures places { IfOk result (LieIn line.now) }
 {
     let (word, fields) = cut(line, b' ');
-    let fields = fields?;
-    let found = fields_in(word, fields)?;
+    let kind = kind_of(word).ok_or(Cause::UnknownWord)?;
+    let fields = fields.ok_or(Cause::MissingField)?;
+    let found = fields_in(kind, fields)?;
     let before = line.len() - fields.len();
-    Some(Found {
+    Ok(Found {
         key_at: before + found.key_at,
         value_at: before + found.value_at,
         ..found

@@ -1,9 +1,12 @@
 //! Where the parts of a command are issued and done.
-ghost use Rattle.std.specs.Prelude.{◌≡◌, ◌<◌, ◌≤◌, true, if◌then◌else◌};
+ghost use Rattle.std.specs.Prelude.{◌≡◌, ℕ, ◌<◌, ◌≤◌, List, length, count_by, fold, max, true, if◌then◌else◌, All};
+ghost use Rattle.trace_text.specs.Found.{LiesWithin};
+ghost use Rattle.trace_text.specs.Operation.{operations};
 ghost use Rattle.trace_text.specs.Parsed.{trace_in};
-ghost use Rattle.trace_text.specs.Parts.{hash, owner, origin, is_put, is_get, is_scan, own_parts, here_parts, here_puts, reply_bytes};
+ghost use Rattle.trace_text.specs.Parts.{hash, owner, origin, is_put, is_get, is_scan, issued, done_at, own_parts, here_parts, here_puts, reply_bytes, replies_room};
+ghost use Rattle.trace_text.specs.Reading.{most_commands};
 
-use crate::command::Kind;
+use crate::command::{Command, Kind};
 use crate::held::Trace;
 
 const OFFSET: u64 = 14_695_981_039_346_656_037;
@@ -54,6 +57,8 @@ impl Trace {
     pub fn needs(&self, shard: u32, shards: u32) -> Needs
         requires below { shard < shards }
         requires parsed_for { shards ≡ self.now.shards }
+        ensures issued { result.own_parts ≡ issued (trace_in self.now) shards shard }
+        ensures done_here { result.here_parts ≡ done_at (trace_in self.now) shards shard }
         ensures own_parts { result.own_parts ≡ own_parts (trace_in self.now) shards shard }
         ensures here_parts { result.here_parts ≡ here_parts (trace_in self.now) shards shard }
         ensures here_puts { result.here_puts ≡ here_puts (trace_in self.now) shards shard }
@@ -83,6 +88,54 @@ impl Trace {
             reply_bytes: gets * greatest + scans * (shards * 8272),
         }
     }
+}
+
+/// The room for all replies to these commands, with so many shards, in bytes: the greatest value for each get, and
+/// 8,272 bytes for each shard's part of a scan.
+pub(crate) fn replies_room(commands: &[Command], shards: u32) -> u64
+    requires few { length commands.now ≤ most_commands }
+    requires most { shards ≤ 16 }
+    ensures { (bytes : List ℕ) → All (LiesWithin bytes) commands.now
+        → result ≡ replies_room (operations bytes commands.now) shards }
+{
+    let gets = gets_among(commands) as u64;
+    let scans = scans_among(commands) as u64;
+    gets * u64::from(greatest_among(commands)) + scans * u64::from(shards * 8272)
+}
+
+fn gets_among(commands: &[Command]) -> usize
+    ensures value { result ≡ count_by (λ command. is_get command.kind) commands.now }
+    ensures most { result ≤ length commands.now }
+{
+    commands
+        .iter()
+        .filter(|command| is_get(command.kind))
+        .count()
+}
+
+fn scans_among(commands: &[Command]) -> usize
+    ensures value { result ≡ count_by (λ command. is_scan command.kind) commands.now }
+    ensures most { result ≤ length commands.now }
+{
+    commands
+        .iter()
+        .filter(|command| is_scan(command.kind))
+        .count()
+}
+
+/// The greatest length of a value.
+fn greatest_among(commands: &[Command]) -> u32
+    ensures { result ≡ fold (λ most command. max most command.value.len) 0 commands.now }
+{
+    commands
+        .iter()
+        .fold(0, |most, command| max(most, command.value.len))
+}
+
+fn max(left: u32, right: u32) -> u32
+    ensures { result ≡ max left right }
+{
+    if left < right { right } else { left }
 }
 
 fn is_put(kind: Kind) -> bool
@@ -118,5 +171,27 @@ fn own_parts_of(kind: Kind, is_own: bool, shards: u32) -> u32
     match kind {
         Kind::Scan if is_own => shards,
         _ => u32::from(is_own),
+    }
+}
+
+#[cfg(test)]
+mod tests {
+    use super::*;
+    use std::test::Fail;
+
+    #[test]
+    fn a_key_has_its_hash(rt: HostRuntime) -> Result<(), Fail> {
+        for (key, hashed, of_2, of_16) in [
+            ("", 0xcbf2_9ce4_8422_2325, 1, 5),
+            ("a", 0xaf63_dc4c_8601_ec8c, 0, 12),
+            ("b", 0xaf63_df4c_8601_f1a5, 1, 5),
+            ("c", 0xaf63_de4c_8601_eff2, 0, 2),
+            ("d", 0xaf63_d94c_8601_e773, 1, 3),
+        ] {
+            assert_eq!(rt; hash(key.as_bytes()), hashed);
+            assert_eq!(rt; owner_of(key.as_bytes(), 2), of_2);
+            assert_eq!(rt; owner_of(key.as_bytes(), 16), of_16);
+        }
+        Ok(())
     }
 }

@@ -1,38 +1,65 @@
 //! The reading of a trace.
-ghost use Rattle.std.specs.Prelude.{◌≡◌, ℕ, ◌+◌, ◌<◌, ◌≤◌, ◌^◌, ◌∷◌, length, IfOk, IfErr, IfSome, IfNone, None, Ok};
-ghost use Rattle.trace_text.specs.Found.{IsCommandAt, IsRestOf, LiesAt};
-ghost use Rattle.trace_text.specs.Line.{asked_in};
-ghost use Rattle.trace_text.specs.Parsed.{AreRead, trace_in};
-ghost use Rattle.trace_text.specs.Reading.{lines, trace_of, IsRefusedAs};
+ghost use Rattle.std.specs.Prelude.{◌≡◌, ℕ, ◌+◌, ◌<◌, ◌≤◌, ◌^◌, ◌∷◌, length, IfOk, IfErr, OnOk, Ok, Err, vec_len};
+ghost use Rattle.trace_text.specs.Found.{AddsLine, IsCommandAt, IsRestOf, LiesAt, RefusesLine};
+ghost use Rattle.trace_text.specs.Parsed.{AreSpelled, trace_in};
+ghost use Rattle.trace_text.specs.Reading.{AtLine, is_cr, judged, lines, most_bytes, most_commands, most_replies, operations_of, told, trace_of, without_cr, IsRefusedAs};
 
 use crate::command::{Command, Span};
 use crate::held::Trace;
-use crate::line::{asked_in, cut};
+use crate::line::{asked_in, cut, is_passed};
+use crate::parts::replies_room;
 use crate::refusal::{Cause, ParseRefusal};
 use std::alloc::Global;
+
+/// The most commands of a trace.
+const MOST_COMMANDS: usize = 1_048_576;
+
+/// The most bytes of replies to a trace.
+const MOST_REPLIES: u64 = 536_870_912;
+
+fn is_cr(byte: Option<u8>) -> bool
+    ensures { result ≡ is_cr byte }
+{
+    match byte {
+        Some(byte) => byte == b'\r',
+        None => false,
+    }
+}
+
+/// A line without one CR at its end.
+fn without_cr(text: &[u8]) -> &[u8]
+    ensures line { result.now ≡ without_cr text.now }
+    ensures front { LiesAt text.now 0 result.now }
+{
+    if is_cr(text.last().copied()) {
+        &text[..text.len() - 1]
+    } else {
+        text
+    }
+}
 
 /// The first line of a text, and what follows its LF.
 fn cut_line(text: &[u8]) -> (&[u8], &[u8])
     ensures front { LiesAt text.now 0 result.0.now }
     ensures rest { IsRestOf text.now result.1.now }
-    ensures shorter { length result.0.now + length result.1.now ≤ length text.now }
     ensures progress { 0 < length text.now → length result.1.now < length text.now }
-    ensures lines { 0 < length text.now → lines text.now ≡ result.0.now ∷ lines result.1.now }
+    ensures told { (line : ℕ) → told line (lines text.now) ≡ told line (result.0.now ∷ lines result.1.now) }
 {
     match cut(text, b'\n') {
-        (line, None) => (line, &[]),
-        (line, Some(after)) => (line, after),
+        (line, None) => (without_cr(line), &[]),
+        (line, Some(after)) => (without_cr(line), after),
     }
 }
 
 /// The command on a line that begins at `start` of the trace.
-fn command_at(text: &[u8], start: usize, number: u32, line: u32) -> Option<Command>
-    requires { start + length text.now < 2 ^ 32 }
-    ensures found { IfSome result (IsCommandAt text.now start number line) }
-    ensures none { IfNone result (asked_in text.now ≡ None) }
+fn command_at(text: &[u8], start: usize, number: u32, line: u32) -> Result<Command, Cause>
+    requires place { start + length text.now < 2 ^ 32 }
+    requires few { number ≤ most_commands }
+    ensures found { IfOk result (IsCommandAt text.now start number line) }
+    ensures refused { IfErr result (λ cause. judged (number, (line, text.now)) ≡ Err (AtLine line cause)) }
 {
     let found = asked_in(text)?;
-    Some(Command {
+    Ok(Command {
         number,
         line,
         kind: found.kind,
@@ -44,15 +71,46 @@ fn command_at(text: &[u8], start: usize, number: u32, line: u32) -> Option<Comma
             start: (start + found.value_at) as u32,
             len: found.value.len() as u32,
         },
-        count: 0,
+        count: found.count,
     })
+}
+
+/// Adds the command on a line that begins at `start` of the trace, or passes it over.
+fn add_line(
+    commands: &mut Vec<Command>,
+    text: &[u8],
+    start: usize,
+    line: u32,
+) -> Result<(), ParseRefusal>
+    requires place { start + length text.now < 2 ^ 32 }
+    requires few { vec_len commands.old ≤ most_commands }
+    ensures added { OnOk result (AddsLine text.now start line commands.old.items commands.new.items) }
+    ensures few { OnOk result (length commands.new.items ≤ most_commands) }
+    ensures refused { IfErr result (λ refusal. RefusesLine refusal text.now (length commands.old.items + 1) line) }
+{
+    if is_passed(text) {
+        return Ok(());
+    }
+    if commands.len() == MOST_COMMANDS {
+        return Err(ParseRefusal::Trace {
+            line,
+            cause: Cause::TooManyCommands,
+        });
+    }
+    match command_at(text, start, commands.len() as u32 + 1, line) {
+        Ok(command) => {
+            commands.push(command)?;
+            Ok(())
+        }
+        Err(cause) => Err(ParseRefusal::Trace { line, cause }),
+    }
 }
 
 /// The commands that the bytes spell.
 fn commands_of(alloc: Global, bytes: &[u8]) -> Result<Vec<Command>, ParseRefusal>
-    requires { length bytes.now ≤ 65536 }
-    ensures read { IfOk result (λ commands. AreRead bytes.now commands.items) }
-    ensures refused { IfErr result (λ refusal. IsRefusedAs refusal (trace_of bytes.now)) }
+    requires { length bytes.now ≤ most_bytes }
+    ensures read { IfOk result (λ commands. AreSpelled bytes.now commands.items) }
+    ensures refused { IfErr result (λ refusal. IsRefusedAs refusal (operations_of 1 (told 1 (lines bytes.now)))) }
 {
     let mut commands = Vec::new(alloc);
     let mut rest = bytes;
@@ -60,30 +118,31 @@ fn commands_of(alloc: Global, bytes: &[u8]) -> Result<Vec<Command>, ParseRefusal
     while !rest.is_empty() {
         let start = bytes.len() - rest.len();
         let (text, after) = cut_line(rest);
-        let Some(command) = command_at(text, start, line, line) else {
-            return Err(ParseRefusal::Trace {
-                line,
-                cause: Cause::NotYet,
-            });
-        };
-        commands.push(command)?;
+        add_line(&mut commands, text, start, line)?;
         rest = after;
         line += 1;
     }
     Ok(commands)
 }
 
-/// Reads a trace of at most 65,536 bytes for a run with `shards` shards. The refusal of a trace names the
-/// first line with a cause, and gives up the bytes.
+/// Reads a trace of at most 67,108,864 bytes for a run with `shards` shards, 1 to 16. The refusal of a trace names
+/// the first line with a cause, or line 0 where the replies would be too large, and gives up the bytes.
 pub fn parse(alloc: Global, bytes: Vec<u8>, shards: u32) -> Result<Trace, ParseRefusal>
-    requires short { length bytes.items ≤ 65536 }
-    requires one_shard { shards ≡ 1 }
+    requires short { length bytes.items ≤ most_bytes }
+    requires some_shards { 1 ≤ shards }
+    requires most_shards { shards ≤ 16 }
     ensures bytes { IfOk result (λ trace. trace.bytes ≡ bytes.items) }
     ensures shards { IfOk result (λ trace. trace.shards ≡ shards) }
-    ensures read { IfOk result (λ trace. trace_of bytes.items ≡ Ok (trace_in trace)) }
-    ensures refused { IfErr result (λ refusal. IsRefusedAs refusal (trace_of bytes.items)) }
+    ensures read { IfOk result (λ trace. trace_of bytes.items shards ≡ Ok (trace_in trace)) }
+    ensures refused { IfErr result (λ refusal. IsRefusedAs refusal (trace_of bytes.items shards)) }
 {
     let commands = commands_of(alloc, bytes.as_slice())?;
+    if replies_room(commands.as_slice(), shards) > MOST_REPLIES {
+        return Err(ParseRefusal::Trace {
+            line: 0,
+            cause: Cause::RepliesTooLarge,
+        });
+    }
     Ok(Trace {
         bytes,
         commands,

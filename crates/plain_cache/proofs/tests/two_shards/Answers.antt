@@ -1,8 +1,7 @@
 -- The definitions compute on the worked trace.
-use Rattle.std.proofs.Common.{ℕ, ◌<◌, zero, suc, arith, refl, List}
-use Rattle.plain_cache.specs.declared.journal.Entry.{Entry}
+use Rattle.std.proofs.Common.{zero, suc, arith, refl}
 use Rattle.plain_cache.specs.Legal.{IsComplete}
-use Rattle.plain_cache.specs.Worked.{IsWorked, two_shards, first, second, second_merged, swapped, shortened, doubled}
+use Rattle.plain_cache.specs.Worked.{two_shards, first, second, second_merged, swapped, shortened, doubled}
 use Rattle.plain_cache.proofs.tests.two_shards.Goals as goal
 
 complete-first : IsComplete two_shards 2 0 first

@@ -10,13 +10,13 @@ none = record { number = 0; line = 0; kind = Put; key = record { start = 0; len 
 pub loop-part-preserved : goal.loop-part-preserved
 loop-part-preserved g c =
     let part = c.loop-part.part in
-    let rest = length c.args.kinds.now - (part + 1) in
+    let rest = length c.args.replies.now - (part + 1) in
     let old = c.loop-part.log.replies in
     let reply = c.reply_of-kind.ensures.spelled in
-    let one : length c.args.kinds.now - part ≡ suc rest = omega (arith, c.loop-part-test.true) in
-    let new = c.record.ensures.replies ∙ ap (λ r. slice_set old part (Some r)) (sym reply.2) in
+    let one : length c.args.replies.now - part ≡ suc rest = omega (arith, c.loop-part-test.true) in
+    let new = c.record.ensures.replies ∙ ap (λ r. slice_set old part (Some r)) reply.1.spelled in
     record {
-      said = subst (λ parts. IsSaid parts (part + 1) rest) (sym new) (one_more_said old part rest reply.0 reply.1 (subst (IsSaid old part) one c.loop-part.invariant.said));
+      said = subst (λ parts. IsSaid parts (part + 1) rest) (sym new) (one_more_said old part rest reply.0 reply.1.short (subst (IsSaid old part) one c.loop-part.invariant.said));
       room = omega (arith, c.record.ensures.room, c.reply_of-kind.ensures.short, c.loop-part.invariant.room);
     }
 
@@ -25,6 +25,6 @@ returns g c =
     let k = c.commands-commands in
     let part = c.loop-part.part in
     let many : part ≡ length k.result.now = omega arith in
-    let over : length c.args.kinds.now - part ≡ 0 = omega arith in
+    let over : length c.args.replies.now - part ≡ 0 = omega arith in
     held_when_said c.args.trace.now k.result.now c.loop-part.log none k.ensures.value k.ensures.numbered
     (subst (λ n. IsSaid c.loop-part.log.replies n 0) many (subst (IsSaid c.loop-part.log.replies part) over c.loop-part.invariant.said))

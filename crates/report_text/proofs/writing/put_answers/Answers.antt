@@ -15,22 +15,22 @@ put_answer-requires-clause-answered g c =
     let k = c.commands-commands in
     let all = c.requires.answered in
     let i = c.loop-command.command-index in
-    let p = answered_at c.args.trace.now k.result.now c.args.logs.now c.index-logs-0.result all.0 i none k.ensures.value k.ensures.numbered c.requires.one_log_each k.ensures.one_shard
+    let p = answered_at c.args.trace.now k.result.now c.args.logs.now c.index-logs-0.result all.0 i none k.ensures.value k.ensures.numbered c.requires.one_log_each c.requires.one_shard
     c.index-logs-0.is all.1 c.loop-command-test.true in
-    ((get_or all.0 i (0, Stored)).1, p.recorded)
+    ((get_or all.0 i (0, Stored)).1, p.short, p.recorded)
 
 pub loop-command-preserved : goal.loop-command-preserved
 loop-command-preserved g c = λ answers held.
     let k = c.commands-commands in
     let i = c.loop-command.command-index in
-    let p = answered_at c.args.trace.now k.result.now c.args.logs.now c.index-logs-0.result answers i none k.ensures.value k.ensures.numbered c.requires.one_log_each k.ensures.one_shard
+    let p = answered_at c.args.trace.now k.result.now c.args.logs.now c.index-logs-0.result answers i none k.ensures.value k.ensures.numbered c.requires.one_log_each c.requires.one_shard
     c.index-logs-0.is held c.loop-command-test.true in
-    Wrote-next-at answer_line answers i _ p.within p.at (c.loop-command.invariant answers held) (c.in_ok-put_answer.ensures _ p.recorded p.keyless)
+    Wrote-next-at answer_line answers i _ p.within p.at (c.loop-command.invariant answers held) (c.in_ok-put_answer.ensures _ p.recorded p.short)
 
 pub returns-in_err-put_answer : goal.returns-in_err-put_answer
 returns-in_err-put_answer g c = λ answers held.
     let k = c.commands-commands in
     let i = c.loop-command.command-index in
-    let p = answered_at c.args.trace.now k.result.now c.args.logs.now c.index-logs-0.result answers i none k.ensures.value k.ensures.numbered c.requires.one_log_each k.ensures.one_shard
+    let p = answered_at c.args.trace.now k.result.now c.args.logs.now c.index-logs-0.result answers i none k.ensures.value k.ensures.numbered c.requires.one_log_each c.requires.one_shard
     c.index-logs-0.is held c.loop-command-test.true in
-    Wrote-exit _ c.from_residual.ensures.1 (Wrote-broken-at answer_line answers i _ p.within p.at (c.loop-command.invariant answers held) (c.in_err-put_answer.ensures _ p.recorded p.keyless))
+    Wrote-exit _ c.from_residual.ensures.1 (Wrote-broken-at answer_line answers i _ p.within p.at (c.loop-command.invariant answers held) (c.in_err-put_answer.ensures _ p.recorded p.short))

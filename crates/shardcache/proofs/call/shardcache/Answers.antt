@@ -1,28 +1,23 @@
 -- The table of the top call.
-use Rattle.std.proofs.Common.{map, refl, string_bytes, sym}
+use Rattle.std.proofs.Common.{inl, refl, sym}
 use Rattle.shardcache.specs.declared.status.Status.TheVariants as status
-use Rattle.shardcache.specs.Settings.{defaults}
-use Rattle.shardcache.proofs.Answered.{accepted, answered_memory, answered_said, answered_worked, appends_none, refused, refuses_long, settled_defaults, takes_none}
+use Rattle.shardcache.specs.Settings.{view}
+use Rattle.shardcache.proofs.Answered.{accepted, answered_said, takes_none}
 use Rattle.shardcache.proofs.call.shardcache.Goals as goal
 
-pub returns-in_default-clause-told : goal.returns-in_default-clause-told
-returns-in_default-clause-told g c =
-    let none = rw c.in_default.is at (sym c.settings_of.ensures) in
+pub returns-in_default-asked-clause-told : goal.returns-in_default-asked-clause-told
+returns-in_default-asked-clause-told g c =
+    let none = rw c.in_default-asked.is at (sym c.in-Ok.ensures.asked) in
     answered_said _ status.Usage _ _ _ _ _ _ _ (takes_none _) (none, refl, refl) c.say.ensures.said
 
-pub returns-in-Ok-clause-told : goal.returns-in-Ok-clause-told
-returns-in-Ok-clause-told g c =
-    let asked = settled_defaults (map (λ word. string_bytes word) c.args.words.now) _ (rw c.in-Some.is at (sym c.settings_of.ensures)) in
-    answered_worked _ _ _ _ _ _ _ asked c.in-Ok.ensures.taken c.in-Ok.ensures.at_end c.work.ensures.worked
+pub returns-then-asked-gt1-clause-told : goal.returns-then-asked-gt1-clause-told
+returns-then-asked-gt1-clause-told g c =
+    let some = rw c.in-Some.is at (sym c.in-Ok.ensures.asked) in
+    answered_said _ status.Refused _ _ _ _ _ _ _ (takes_none _) (view c.in-Some.asked, some, inl (c.if-asked-gt1.true, refl, refl))
+    c.say-then-asked-gt1.ensures.said
 
-pub returns-in-Err-Fault-clause-told : goal.returns-in-Err-Fault-clause-told
-returns-in-Err-Fault-clause-told g c =
-    let asked = settled_defaults (map (λ word. string_bytes word) c.args.words.now) _ (rw c.in-Some.is at (sym c.settings_of.ensures)) in
-    let taken = c.in-Err-Fault.ensures.no_more (rw c.in-Err-Fault.field-0-is (λ e. cc)) in
-    answered_said _ status.ReadFault _ _ _ _ _ _ _ taken.2 (defaults, asked, refl) c.say-in-Err-Fault.ensures.said
-
-pub returns-in-Err-TooLong-clause-told : goal.returns-in-Err-TooLong-clause-told
-returns-in-Err-TooLong-clause-told g c =
-    let asked = settled_defaults (map (λ word. string_bytes word) c.args.words.now) _ (rw c.in-Some.is at (sym c.settings_of.ensures)) in
-    let taken = c.in-Err-TooLong.ensures.one_above (rw c.in-Err-TooLong.field-0-is refl) in
-    answered_said _ status.Refused _ _ _ _ _ _ _ taken.2 (defaults, asked, refuses_long taken.0 _ taken.1) c.say-in-Err-TooLong.ensures.said
+pub returns-clause-accepted : goal.returns-clause-accepted
+returns-clause-accepted g c bytes asked left are one ok nr nw =
+    let some = rw c.in-Some.is at (sym c.in-Ok.ensures.asked) in
+    accepted _ _ bytes asked _ _ _ _ _ _ _ (rw left at (c.read_and_work.ensures.told _ some)) c.read_and_work.ensures.read_fault
+    c.read_and_work.ensures.write_fault are one ok nr nw

@@ -31,6 +31,6 @@ loop-command-preserved c =
     (rw is at done.applied) (rw is at done.replied) (rw is at done.room) (rw is at done.done) done.spare
 
 pub returns : goal.returns
-returns c = is_run (trace_in c.args.trace.now) c.args.pages _ _ _ _ _ _ (numbered _ _ (rw c.commands-commands.ensures.value at c.commands-commands.ensures.numbered))
+returns c = is_run c.an_ordered_reply_stays.ensures.ordered (trace_in c.args.trace.now) c.args.pages _ _ _ _ _ _ (numbered _ _ (rw c.commands-commands.ensures.value at c.commands-commands.ensures.numbered))
     c.commands-commands.ensures.well_formed c.loop-command.invariant
     (ended_at _ _ _ (rw c.commands-commands.ensures.value at c.loop-command-test.false)) c.rows.ensures c.live.ensures

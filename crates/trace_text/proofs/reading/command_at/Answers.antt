@@ -1,20 +1,20 @@
 -- A command's fields lie in whatever bytes its line lies in.
-use Rattle.std.proofs.Common.{refl}
-use Rattle.trace_text.proofs.Places.{lies_in_whole, key-most, value-most}
+use Rattle.trace_text.proofs.Places.{lies_in_whole, key-most, value-most, judged_as}
 use Rattle.trace_text.proofs.reading.command_at.Goals as goal
 
 pub returns-clause-found : goal.returns-clause-found
 returns-clause-found c bytes lies =
-    let key = lies_in_whole bytes c.args.text.now _ c.args.start _ lies c.in_ok-found.ensures.places.0 in
-    let value = lies_in_whole bytes c.args.text.now _ c.args.start _ lies c.in_ok-found.ensures.places.1 in (
-      rw (← c.in_ok-found.ensures.asked, key.1, value.1) refl,
+    let found = c.in_ok-found.ensures.places in
+    let key = lies_in_whole bytes c.args.text.now _ c.args.start _ lies found.key in
+    let value = lies_in_whole bytes c.args.text.now _ c.args.start _ lies found.value in (
+      rw (key.1, value.1) (judged_as c.args.number c.args.line c.args.text.now _ c.requires.few c.in_ok-found.ensures.asked),
       record {
         key = key.0;
         value = value.0;
-        key_len = key-most _ c.in_ok-found.ensures.places.2;
-        value_len = value-most _ c.in_ok-found.ensures.places.3;
-        is_key = rw key.1 c.in_ok-found.ensures.places.2;
-        is_value = rw value.1 c.in_ok-found.ensures.places.3;
-        kind = c.in_ok-found.ensures.places.4;
+        key_len = key-most _ found.is_key;
+        value_len = value-most _ found.is_value;
+        is_key = rw key.1 found.is_key;
+        is_value = rw value.1 found.is_value;
+        fields = rw value.1 found.fields;
       },
     )

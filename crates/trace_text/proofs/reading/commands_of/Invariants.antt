@@ -1,6 +1,5 @@
 -- The commands so far, and the lines that are left, are those of the whole.
-use Rattle.std.proofs.Common.{ℕ, length}
-use Rattle.trace_text.specs.Found.{IsRestOf}
+use Rattle.std.proofs.Common.{length}
 use Rattle.trace_text.proofs.LinesRead.{Reads}
 use Rattle.trace_text.proofs.reading.commands_of.Given as goal
 
