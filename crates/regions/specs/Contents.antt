@@ -37,13 +37,6 @@ standing_in (Some h) at = standing_among h.piece.bytes at (objects_in h)
 abbrev pub standing_at : Holding → Place → Option Standing
 standing_at r p = standing_in (held r p.segment) p.at
 
-abbrev pub item_of : Standing → Item
-item_of s = s.item
-
--- its kind and content, be it live or dead
-abbrev pub item_at : Holding → Place → Option Item
-item_at r p = option_map item_of (standing_at r p)
-
 abbrev pub if_live : Bool → Item → Option Item
 if_live true item = Some item
 if_live false item = None

@@ -104,13 +104,3 @@ asked_by rows = do
 -- a command's parse, and else what the values ask that it finds in them.
 unfoldable pub settings : List (List ℕ) → Option Settings
 settings words = if is_empty (fault_of command words) then asked_by (matches_of command words) else None
-
--- what `run` alone asks
-abbrev pub defaults : Settings
-defaults = record {
-  mode = Run;
-  shards = 1;
-  pages = 8192;
-  number = 0;
-  commands = 100000;
-}
