@@ -1,0 +1,5 @@
+pub mod Orders
+pub mod Options
+pub mod Powers
+pub mod Counts
+pub mod Maps

@@ -1,0 +1,9 @@
+//! Lists of indices, linked both ways in arrays that are reserved once.
+//!
+//! An index is a number below the number of indices that the lists were made for, and stands in one list at most.
+//! Each call costs a constant number of steps, however long the lists are.
+#![tactic(auto)]
+
+pub use lists::IndexLists;
+
+mod lists;

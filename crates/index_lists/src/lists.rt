@@ -1,0 +1,198 @@
+ghost use Rattle.std.specs.Prelude.{
+  ◌≡◌,
+  ℕ,
+  ◌+◌,
+  ◌<◌,
+  ◌≤◌,
+  ◌^◌,
+  ◌∷◌,
+  [],
+  List,
+  length,
+  replicate,
+  slice_index,
+  slice_set,
+  slice_get,
+  IfOk,
+  Some,
+  None,
+  Ok,
+};
+ghost use Rattle.std.specs.List.{range_with_len, last_or};
+ghost use Rattle.common_lemmas.specs.Lists.{times, delete};
+ghost use Rattle.index_lists.specs.Lists.{list_at, after, before, with_list, IsAbsent};
+
+use std::alloc::{AllocError, Global};
+use std::marker::Model;
+
+/// Lists of indices. A list is named by its number.
+#[derive(Drop)]
+pub struct IndexLists {
+    indices: u32,
+    // of each index in a list, and of each list behind the indices, the index after it
+    next: Vec<u32>,
+    // and the index before it
+    prev: Vec<u32>,
+    lengths: Vec<u32>,
+}
+
+impl Model for IndexLists {
+    ghost use Rattle.index_lists.specs.Lists.{Lists};
+    ghost use Rattle.index_lists.specs.inside.Links.{rings_from, IsConsistent};
+
+    ghost Value = { Lists };
+
+    ghost view = { λ a. record { indices = a.indices; lists = rings_from a.indices a.next.items a.lengths.items } };
+
+    ghost invariant = { λ a. IsConsistent a.indices a.next.items a.prev.items a.lengths.items (rings_from a.indices a.next.items a.lengths.items) };
+}
+
+impl IndexLists {
+    /// So many empty lists of indices below a number.
+    ///
+    /// # Errors
+    /// Want of memory.
+    pub fn new(alloc: Global, indices: u32, lists: u32) -> Result<IndexLists, AllocError>
+        requires { indices + lists < 2 ^ 32 }
+        ensures { IfOk result (λ made. made ≡ record { indices = indices; lists = replicate lists [] }) }
+    {
+        let next = links_to_themselves(alloc, indices + lists)?;
+        let prev = links_to_themselves(alloc, indices + lists)?;
+        let lengths = zeros(alloc, lists)?;
+        Ok(IndexLists {
+            indices,
+            next,
+            prev,
+            lengths,
+        })
+    }
+
+    /// How many indices the list has.
+    pub fn len(&self, list: u32) -> u32
+        requires { list < length self.now.lists }
+        ensures { result ≡ length (list_at self.now list) }
+    {
+        self.lengths[list as usize]
+    }
+
+    /// The index at the front of the list.
+    pub fn front(&self, list: u32) -> Option<u32>
+        requires { list < length self.now.lists }
+        ensures { result ≡ slice_get (list_at self.now list) 0 }
+    {
+        if self.lengths[list as usize] == 0 {
+            return None;
+        }
+        Some(self.next[(self.indices + list) as usize])
+    }
+
+    /// The index at the back of the list.
+    pub fn back(&self, list: u32) -> Option<u32>
+        requires { list < length self.now.lists }
+        ensures { result ≡ last_or None (list_at self.now list) }
+    {
+        if self.lengths[list as usize] == 0 {
+            return None;
+        }
+        Some(self.prev[(self.indices + list) as usize])
+    }
+
+    /// The index behind one that the list has, toward the back.
+    pub fn next(&self, list: u32, index: u32) -> Option<u32>
+        requires list { list < length self.now.lists }
+        requires held { 1 ≤ times index (list_at self.now list) }
+        ensures { result ≡ after index (list_at self.now list) }
+    {
+        let next = self.next[index as usize];
+        if next == self.indices + list {
+            return None;
+        }
+        Some(next)
+    }
+
+    /// The index before one that the list has, toward the front.
+    pub fn prev(&self, list: u32, index: u32) -> Option<u32>
+        requires list { list < length self.now.lists }
+        requires held { 1 ≤ times index (list_at self.now list) }
+        ensures { result ≡ before index (list_at self.now list) }
+    {
+        let prev = self.prev[index as usize];
+        if prev == self.indices + list {
+            return None;
+        }
+        Some(prev)
+    }
+
+    /// Puts an index that is on no list in front of one.
+    pub fn push_front(&mut self, list: u32, index: u32)
+        requires list { list < length self.old.lists }
+        requires index { index < self.old.indices }
+        requires absent { IsAbsent self.old index }
+        ensures { self.new ≡ with_list self.old list (index ∷ list_at self.old list) }
+    {
+        let sentinel = self.indices + list;
+        let first = self.next[sentinel as usize];
+        self.next[index as usize] = first;
+        self.prev[first as usize] = index;
+        self.next[sentinel as usize] = index;
+        self.prev[index as usize] = sentinel;
+        self.lengths[list as usize] += 1;
+    }
+
+    /// Takes an index that the list has out of it.
+    pub fn remove(&mut self, list: u32, index: u32)
+        requires list { list < length self.old.lists }
+        requires held { 1 ≤ times index (list_at self.old list) }
+        ensures { self.new ≡ with_list self.old list (delete index (list_at self.old list)) }
+    {
+        let after = self.next[index as usize];
+        let before = self.prev[index as usize];
+        self.next[before as usize] = after;
+        self.prev[after as usize] = before;
+        self.lengths[list as usize] -= 1;
+    }
+}
+
+/// Links of which each leads to its own index.
+fn links_to_themselves(alloc: Global, len: u32) -> Result<Vec<u32>, AllocError>
+    ensures { IfOk result (λ links. links.items ≡ range_with_len 0 len) }
+{
+    let mut links = Vec::with_capacity(alloc, len as usize)?;
+    for index in 0..len {
+        links.push(index)?;
+    }
+    Ok(links)
+}
+
+fn zeros(alloc: Global, len: u32) -> Result<Vec<u32>, AllocError>
+    ensures { IfOk result (λ lengths. lengths.items ≡ replicate len 0) }
+{
+    vec![in alloc; 0; len as usize]
+}
+
+#[cfg(test)]
+mod tests {
+    use super::*;
+    use std::test::Fail;
+
+    #[test]
+    fn lists_give_front_and_back_and_neighbours(rt: HostRuntime) -> Result<(), Fail> {
+        let mut lists = IndexLists::new(rt.alloc(), 4, 2)?;
+        assert_eq!(rt; (lists.front(0), lists.back(0)), (None, None));
+        lists.push_front(0, 2);
+        lists.push_front(0, 3);
+        lists.push_front(1, 0);
+        lists.push_front(0, 1);
+        assert_eq!(rt; (lists.front(0), lists.back(0)), (Some(1), Some(2)));
+        assert_eq!(rt; (lists.next(0, 1), lists.next(0, 2)), (Some(3), None));
+        assert_eq!(rt; (lists.prev(0, 2), lists.prev(0, 1)), (Some(3), None));
+        lists.remove(0, 3);
+        lists.remove(0, 1);
+        assert_eq!(rt; (lists.front(0), lists.back(0)), (Some(2), Some(2)));
+        assert_eq!(rt;
+            (lists.front(1), lists.len(0), lists.len(1)),
+            (Some(0), 1, 1)
+        );
+        Ok(())
+    }
+}

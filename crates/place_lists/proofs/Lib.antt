@@ -1,3 +1,0 @@
-pub mod Times
-pub mod Paths
-pub mod Linked

@@ -1,9 +1,0 @@
-//! Lists of places, linked both ways in arrays that are reserved once.
-//!
-//! A place is a number below the number of places that the lists were made for, and stands in one list at most.
-//! Each call costs a constant number of steps, however long the lists are.
-#![tactic(auto)]
-
-pub use lists::PlaceLists;
-
-mod lists;
