@@ -1,10 +1,9 @@
 -- What several reads took and several writes appended, in one.
-use Rattle.std.proofs.Common.{◌≡◌, ℕ, ◌+◌, ◌≤◌, List, [], ◌++◌, None, Some, Option, sym, subst, arith, le_refl, length, length-append, take, drop}
-use Rattle.std.proofs.lemmas.List.{take-append-le}
-use Rattle.std.proofs.Math.Seq.{take-add, take-append-add, take-length}
-use Rattle.std.specs.Io.KnownBytes.{Appends, Consumes, Keeps}
-use Rattle.std.proofs.KnownBytes.{Appends-kept, Appends-nil, Appends-trans, Consumes-trans}
-use Rattle.outside.specs.Moves.{AppendsFront, ConsumesExactly}
+use Rattle.std.proofs.Common.{◌≡◌, ℕ, ◌+◌, ◌≤◌, List, None, Some, Option, sym, subst, arith, length, length-append, take, drop}
+use Rattle.std.proofs.Math.Seq.{take-add}
+use Rattle.std.specs.Io.KnownBytes.{Appends, Consumes}
+use Rattle.std.proofs.KnownBytes.{Appends-trans, Consumes-trans}
+use Rattle.outside.specs.Moves.{ConsumesExactly}
 
 -- ---- reads
 
@@ -26,32 +25,3 @@ pub Appends-grown : (a b c : Option (List ℕ)) (piece : List ℕ) (n m : ℕ) �
     → Appends b c (take m (drop n piece)) → Appends a c (take (n + m) piece)
 Appends-grown a b c piece n m first next =
     subst (Appends a c) (sym (take-add n m piece)) (Appends-trans a b c (take n piece) (take m (drop n piece)) first next)
-
--- a whole piece is a front of itself
-pub AppendsFront-whole : (a b : Option (List ℕ)) (piece : List ℕ) → Appends a b piece → AppendsFront a b piece
-AppendsFront-whole a b piece all =
-    record { count = length piece; within = le_refl (length piece); appended = subst (Appends a b) (sym (take-length piece)) all }
-
--- nothing is a front of any piece
-pub AppendsFront-none : (a b : Option (List ℕ)) (piece : List ℕ) → Keeps a b → AppendsFront a b piece
-AppendsFront-none a b piece kept =
-    record { count = 0; within = omega arith; appended = Appends-kept a a b [] (Appends-nil a) kept }
-
--- a front of one piece is a front of that piece and another
-pub AppendsFront-before : (a b : Option (List ℕ)) (piece next : List ℕ) → AppendsFront a b piece → AppendsFront a b (piece ++ next)
-AppendsFront-before a b piece next front = record {
-  count = front.count;
-  within = rw length-append (omega (arith, front.within));
-  appended = subst (Appends a b) (sym (take-append-le front.count piece next front.within)) front.appended;
-}
-
--- a whole piece, and then a front of another, is a front of the two
-pub AppendsFront-after : (a b c : Option (List ℕ)) (piece next : List ℕ) → Appends a b piece → AppendsFront b c next → AppendsFront a c (piece ++ next)
-AppendsFront-after a b c piece next all front = record {
-  count = length piece + front.count;
-  within = rw length-append (omega (arith, front.within));
-  appended = subst (Appends a c) (sym (take-append-add piece next front.count)) (Appends-trans a b c piece (take front.count next) all front.appended);
-}
-
--- how what was written in several calls is written in one
-pub ruleset writes = (Appends-trans, AppendsFront-whole, AppendsFront-none, AppendsFront-before, AppendsFront-after)

@@ -3,7 +3,7 @@ use Rattle.std.specs.Prelude.{ℕ, ◌+◌, min, List}
 
 -- a source: the bytes that are left, how many it gives at most in a call, the number of the next
 -- call, the numbers of the calls that fail, and how many have failed
-pub record Stored : Type 0 where
+pub record SourceState : Type 0 where
   pub left : List ℕ
   pub most : ℕ
   pub next_call : ℕ
@@ -11,7 +11,7 @@ pub record Stored : Type 0 where
   pub faults : ℕ
 
 -- a sink: the bytes that it holds, how many it takes in all, and how many writes have failed
-pub record Held : Type 0 where
+pub record SinkState : Type 0 where
   pub bytes : List ℕ
   pub room : ℕ
   pub faults : ℕ

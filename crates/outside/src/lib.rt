@@ -8,23 +8,23 @@
 #![tactic(auto)]
 
 mod failure;
-mod giving;
 mod memory_sink;
 mod memory_source;
 mod read_source;
 mod reading;
-mod taking;
+mod sink;
+mod source;
 #[cfg(test)]
 mod tests;
 mod write_sink;
 mod writing;
 
 pub use failure::Failed;
-pub use giving::Source;
 pub use memory_sink::MemorySink;
 pub use memory_source::MemorySource;
 pub use read_source::ReadSource;
 pub use reading::{ReadStop, read_all};
-pub use taking::Sink;
+pub use sink::Sink;
+pub use source::Source;
 pub use write_sink::WriteSink;
 pub use writing::write_all;

@@ -1,6 +1,6 @@
 //! A sink that keeps its bytes in memory.
 ghost use Rattle.std.specs.Prelude.{◌≡◌, ◌≤◌, ◌<◌, ◌-◌, ◌↔◌, [], ◌++◌, min, take, length, vec_len, vec_capacity, Some, IsErr, IfOk, OnErr};
-ghost use Rattle.outside.specs.Memory.{Held, number_after};
+ghost use Rattle.outside.specs.Memory.{SinkState, number_after};
 ghost use Rattle.outside.specs.Rose.{Rose};
 
 use crate::{Failed, Sink};
@@ -17,7 +17,7 @@ pub struct MemorySink {
 }
 
 impl Model for MemorySink {
-    ghost Value = { Held };
+    ghost Value = { SinkState };
 
     ghost view = { λ s. record { bytes = s.bytes.items; room = s.room; faults = s.faults } };
 
@@ -42,7 +42,7 @@ impl MemorySink {
 
     /// The bytes that were written.
     pub fn bytes(&self) -> &[u8]
-        ensures held { result.now ≡ self.now.bytes }
+        ensures value { result.now ≡ self.now.bytes }
         ensures within { length result.now ≤ self.now.room }
     {
         self.bytes.as_slice()

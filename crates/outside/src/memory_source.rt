@@ -1,6 +1,6 @@
 //! A source over bytes in memory.
 ghost use Rattle.std.specs.Prelude.{◌≡◌, ◌≤◌, ◌<◌, ◌↔◌, [], ◌++◌, min, drop, take, length, Some, Contains, IsErr, IfOk, OnErr};
-ghost use Rattle.outside.specs.Memory.{Stored, number_after};
+ghost use Rattle.outside.specs.Memory.{SourceState, number_after};
 ghost use Rattle.outside.specs.Rose.{Rose};
 
 use crate::{Failed, Source};
@@ -19,7 +19,7 @@ pub struct MemorySource {
 }
 
 impl Model for MemorySource {
-    ghost Value = { Stored };
+    ghost Value = { SourceState };
 
     ghost view = { λ s. record { left = drop s.at s.bytes.items; most = s.most; next_call = s.next_call; failing = s.failing.items; faults = s.faults } };
 

@@ -3,7 +3,7 @@
 use crate::{
     Failed, MemorySink, MemorySource, ReadSource, ReadStop, Source, WriteSink, read_all, write_all,
 };
-use std::io::{Error, ErrorKind, Read, Write};
+use std::io::{BufWriter, Error, ErrorKind, Read, Write};
 use std::test::Fail;
 
 #[test]
@@ -60,6 +60,19 @@ fn readers_and_writers_of_std_serve(rt: HostRuntime) -> Result<(), Fail> {
     let mut sink = WriteSink::new(&mut output);
     write_all(&mut sink, bytes.as_slice())?;
     assert!(rt; output.as_slice() == input.as_slice());
+    Ok(())
+}
+
+#[test]
+fn each_piece_goes_through_a_buffer(rt: HostRuntime) -> Result<(), Fail> {
+    let mut writer = BufWriter::with_capacity(rt.alloc(), 64, Vec::new(rt.alloc()))?;
+    writer.write(b"a")?;
+    assert!(rt; writer.get_ref().is_empty());
+
+    let mut sink = WriteSink::new(&mut writer);
+    write_all(&mut sink, b"bc")?;
+    write_all(&mut sink, b"d")?;
+    assert!(rt; writer.get_ref().as_slice() == b"abcd".as_slice());
     Ok(())
 }
 

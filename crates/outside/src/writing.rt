@@ -13,7 +13,7 @@ use crate::{Failed, Sink};
 /// [`Failed`] where the sink failed, or took nothing of a piece that is not empty. A front of the
 /// piece was written then.
 pub fn write_all<K: Sink>(sink: &mut K, piece: &[u8]) -> Result<(), Failed>
-    ensures whole { OnOk result (Appends (K.written sink.old) (K.written sink.new) piece.now) }
+    ensures written { OnOk result (Appends (K.written sink.old) (K.written sink.new) piece.now) }
     ensures front { OnErr result (AppendsFront (K.written sink.old) (K.written sink.new) piece.now) }
     ensures failed { OnErr result (Rose (K.faults sink.old) (K.faults sink.new)) }
     ensures nothing { piece.now ≡ [] → IsOk result }

@@ -12,10 +12,9 @@ use Rattle.std.proofs.lemmas.Slice.Eq.{bytes_eq-Decides}
 use Rattle.std.proofs.lemmas.Option.{cond_some, slice_get-get_or}
 use borrow.Author.Tests.{ltb-true}
 use Rattle.plain_cache.specs.declared.plain.Kept.{Kept}
-use Rattle.plain_cache.specs.Apply.{has, is_at_most, is_of, row_of, without, HasDistinctKeys}
+use Rattle.cache_model.specs.Apply.{has, is_at_most, is_of, row_of, without, HasDistinctKeys}
 use Rattle.plain_cache.specs.Kept.{row_in, IsPlaceOf}
-use Rattle.plain_cache.specs.Row.{Row, live, size}
-use Rattle.plain_cache.proofs.Distinct.{without-absent}
+use Rattle.cache_model.specs.Row.{Row, live, size}
 
 -- whether a kept row has this key
 abbrev pub keeps : List ℕ → Kept → Bool
@@ -52,27 +51,31 @@ row_of-position key ks i d at =
     rw (← found.1) (find-map key ks ∙ ap (option_map row_in) (find_at (keeps key) ks ∙ slice_get-get_or ks (position_or_len (keeps key) ks) d within))
 
 -- Where keys are distinct, the rows of other keys are those without the row at the place found.
-pub remove-is : (key : List ℕ) (ks : List Kept) → HasDistinctKeys (map row_in ks) → position_or_len (keeps key) ks < length ks
+-- the rows of other keys are all rows where no row has the key
+abbrev pub AbsentStays : Type 0
+AbsentStays = (key : List ℕ) (cache : List Row) → has key cache ≡ false → without key cache ≡ cache
+
+pub remove-is : AbsentStays → (key : List ℕ) (ks : List Kept) → HasDistinctKeys (map row_in ks) → position_or_len (keeps key) ks < length ks
     → map row_in (remove ks (position_or_len (keeps key) ks)) ≡ without key (map row_in ks)
-remove-is key [] are within = absurd (omega arith)
-remove-is key (k ∷ ks) are within = go (keeps key k) (position_or_len (keeps key) ks) refl within (remove-is key ks are.1)
+remove-is stays key [] are within = absurd (omega arith)
+remove-is stays key (k ∷ ks) are within = go (keeps key k) (position_or_len (keeps key) ks) refl within (remove-is stays key ks are.1)
   where
     go : (b : Bool) (n : ℕ) → keeps key k ≡ b → cond (not b) (1 + n) 0 < length (k ∷ ks) → (n < length ks → map row_in (remove ks n) ≡ without key (map row_in ks))
         → map row_in (remove (k ∷ ks) (cond (not b) (1 + n) 0)) ≡ cond (not b) (row_in k ∷ without key (map row_in ks)) (without key (map row_in ks))
     go true n is within more =
         let same : k.key.items ≡ key = (bytes_eq-Decides k.key.items key).0 is in
         let none : has key (map row_in ks) ≡ false = rw same at are.0 in
-        sym (without-absent key (map row_in ks) none)
+        sym (stays key (map row_in ks) none)
     go false n is within more =
         let next : 1 + n ≡ suc n = omega arith in
         ap (λ i. map row_in (remove (k ∷ ks) i)) next ∙ ap (λ rows. row_in k ∷ rows) (more (omega arith))
 
 -- the place found is the place of the row
-pub is_place : (key : List ℕ) (ks : List Kept) (i : ℕ) → position (keeps key) ks ≡ Some i → IsPlaceOf key ks i
-is_place key ks i at = record {
+pub is_place : AbsentStays → (key : List ℕ) (ks : List Kept) (i : ℕ) → position (keeps key) ks ≡ Some i → IsPlaceOf key ks i
+is_place stays key ks i at = record {
   within = let found = cond_some _ _ _ at in rw (← found.1) (ltb-true _ _ found.0);
   row = λ d. row_of-position key ks i d at;
-  others = λ are. let found = cond_some _ _ _ at in rw (← found.1) (remove-is key ks are (ltb-true _ _ found.0));
+  others = λ are. let found = cond_some _ _ _ at in rw (← found.1) (remove-is stays key ks are (ltb-true _ _ found.0));
 }
 
 find-none-at : (b : Bool) (n : ℕ) (k : Kept) (o : Option ℕ) (p : Option Kept) → (o ≡ None → p ≡ None)
@@ -93,9 +96,9 @@ pub absent_where : (key : List ℕ) (ks : List Kept) (o : Option ℕ) → o ≡ 
 absent_where key ks None e = absent key ks (sym e)
 absent_where key ks (Some i) e = tt
 
-pub is_place_where : (key : List ℕ) (ks : List Kept) (o : Option ℕ) → o ≡ position (keeps key) ks → IfSome o (IsPlaceOf key ks)
-is_place_where key ks None e = tt
-is_place_where key ks (Some i) e = is_place key ks i (sym e)
+pub is_place_where : AbsentStays → (key : List ℕ) (ks : List Kept) (o : Option ℕ) → o ≡ position (keeps key) ks → IfSome o (IsPlaceOf key ks)
+is_place_where stays key ks None e = tt
+is_place_where stays key ks (Some i) e = is_place stays key ks i (sym e)
 
 -- the rows before the last one
 pub front-rows : (ks kept : List Kept) (n : ℕ) → n ≡ length ks → kept ≡ take (n - 1) ks

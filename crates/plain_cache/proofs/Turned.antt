@@ -6,9 +6,9 @@ use Rattle.std.specs.Option.{IfSome}
 use Rattle.std.proofs.lemmas.List.{take_all, take_at, drop_at, drop_all, take_more, length-take-le}
 use Rattle.std.proofs.lemmas.List.Sorted.{IsPermutation-remove, All-permutation}
 use Rattle.plain_cache.specs.declared.plain.Kept.{Kept}
-use Rattle.plain_cache.specs.Apply.{row_of, without, HasDistinctKeys}
+use Rattle.cache_model.specs.Apply.{row_of, without, HasDistinctKeys}
+use Rattle.cache_model.specs.Row.{Row}
 use Rattle.plain_cache.specs.Kept.{row_in, IsPlaceOf, IsSmall}
-use Rattle.plain_cache.proofs.Distinct.{brought-distinct}
 
 -- the rows after the first of them were written
 abbrev pub written : ℕ → List Kept → List Kept → List Kept
@@ -70,6 +70,10 @@ pub turned_rows : (key : List ℕ) (ks turned : List Kept) (k : Kept) → IsTurn
     → IfSome (row_of key (map row_in ks)) (λ row. map row_in turned ≡ row ∷ without key (map row_in ks))
 turned_rows key ks turned k is = rw is.found is.rows
 
-pub turned_distinct : (key : List ℕ) (ks turned : List Kept) (k : Kept) → IsTurned key ks turned k → HasDistinctKeys (map row_in ks)
+-- a row that was found, in front of the others
+abbrev pub BroughtStays : Type 0
+BroughtStays = (key : List ℕ) (cache : List Row) (row : Row) → row_of key cache ≡ Some row → HasDistinctKeys cache → HasDistinctKeys (row ∷ without key cache)
+
+pub turned_distinct : BroughtStays → (key : List ℕ) (ks turned : List Kept) (k : Kept) → IsTurned key ks turned k → HasDistinctKeys (map row_in ks)
     → HasDistinctKeys (map row_in turned)
-turned_distinct key ks turned k is are = brought-distinct key (map row_in ks) (map row_in turned) (row_in k) is.found is.rows are
+turned_distinct stays key ks turned k is are = rw is.rows (stays key (map row_in ks) (row_in k) is.found are)

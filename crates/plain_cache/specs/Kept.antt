@@ -1,8 +1,8 @@
 -- A row as the plain cache keeps it.
 use Rattle.std.specs.Prelude.{◌≡◌, ℕ, ◌<◌, ◌≤◌, List, length, map, remove, slice_index_or, Some}
 use Rattle.plain_cache.specs.declared.plain.Kept.{Kept}
-use Rattle.plain_cache.specs.Apply.{row_of, without, HasDistinctKeys}
-use Rattle.plain_cache.specs.Row.{Row}
+use Rattle.cache_model.specs.Apply.{row_of, without, HasDistinctKeys}
+use Rattle.cache_model.specs.Row.{Row}
 
 abbrev pub row_in : Kept → Row
 row_in kept = record { key = kept.key.items; value = kept.value.items; number = kept.number }

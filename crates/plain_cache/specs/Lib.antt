@@ -1,13 +1,2 @@
-pub mod Answer
-pub mod Apply
 pub mod Cache
 pub mod Kept
-pub mod KeyBody
-pub mod Legal
-pub mod Recorded
-pub mod Replies
-pub mod Report
-pub mod Row
-pub mod Spelled
-pub mod Worked
-pub mod Written

@@ -1,20 +1,16 @@
-//! What a shard's cache means: rows, parts of commands, journals, replies and reports.
-//!
-//! The definitions in `specs/` say what a legal journal and a legal report are. The types here keep what a shard
-//! did: a [`Journal`], a [`ReplyLog`], and [`Plain`], a cache that is a list of rows.
+//! The meaning run: [`Plain`] is a cache that is a list of rows, and does each part of a command as the definitions of
+//! [`cache_model`] say. The names of `cache_model` and `run_log` are passed on.
 #![tactic(auto)]
 
-mod journal;
-mod keys;
-mod law;
 mod plain;
-mod replies;
 
-pub use journal::{Entry, Journal};
-pub use keys::{first_key, next_key};
-pub use law::{an_ordered_reply_stays, keys_are_distinct};
+pub use cache_model::{
+    Entry, ReplyKind, a_body_spells_one_list, a_report_has_its_lines, bodies_have_room, is_at_most,
+    issued_parts_are_counted, keys_are_distinct, lines_print_one_list, one_shard_answers_alone,
+    replies_tell_what_was_put,
+};
 pub use plain::{Plain, floor_of};
-pub use replies::{ReplyKind, ReplyLog};
+pub use run_log::{Journal, ReplyLog, append_keys, next_key};
 
 #[cfg(test)]
 mod tests;

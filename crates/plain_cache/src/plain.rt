@@ -2,13 +2,18 @@ ghost use Rattle.std.specs.Prelude.{◌≡◌, ◌+◌, ◌-◌, ◌*◌, ◌/�
 ghost use Rattle.std.specs.Bool.{OnTrue, OnFalse};
 ghost use Rattle.std.specs.List.{last_or};
 ghost use Rattle.trace_text.specs.Operation.{operation};
-ghost use Rattle.plain_cache.specs.Apply.{apply, get, has, in_order, is_at_most, is_of, put, row_of, scan, without, HasDistinctKeys};
+ghost use Rattle.cache_model.specs.Apply.{apply, get, has, in_order, is_at_most, is_of, put, row_of, scan, without, HasDistinctKeys};
 ghost use Rattle.plain_cache.specs.Kept.{row_in, IsPlaceOf, IsSmall};
-ghost use Rattle.plain_cache.specs.Legal.{can_evict, is_of_put};
-ghost use Rattle.plain_cache.specs.Row.{live, floor, ArePages};
-ghost use Rattle.plain_cache.specs.Spelled.{key_field, spelled, with_body};
+ghost use Rattle.cache_model.specs.Legal.{can_evict, is_of_put};
+ghost use Rattle.cache_model.specs.Row.{live, floor};
+ghost use Rattle.layout.specs.Sizes.{ArePages};
+ghost use Rattle.cache_model.specs.Spelled.{key_field, spelled, with_body};
 
-use crate::replies::ReplyKind;
+use cache_model::{
+    ReplyKind, is_at_most, other_rows_are_distinct, scanned_keys_are_in_order, sort_keys,
+};
+use layout::{DENSE, SEGMENT_PAGES, TICKETS};
+use run_log::append_keys;
 use std::alloc::{AllocError, Global};
 use std::marker::Model;
 use trace_text::{Command, Kind, Trace};
@@ -34,9 +39,9 @@ impl Model for Plain {
     ghost Value = { Cache };
 
     ghost use Rattle.std.specs.Prelude.{◌^◌, ◌<◌, length, map, All};
-    ghost use Rattle.plain_cache.specs.Apply.{HasDistinctKeys};
+    ghost use Rattle.cache_model.specs.Apply.{HasDistinctKeys};
     ghost use Rattle.plain_cache.specs.Kept.{row_in, IsSmall};
-    ghost use Rattle.plain_cache.specs.Row.{ArePages};
+    ghost use Rattle.layout.specs.Sizes.{ArePages};
 
     ghost view = { λ p. record { pages = p.pages; rows = map row_in p.rows.items } };
 
@@ -49,7 +54,7 @@ pub fn floor_of(pages: u32) -> u64
     requires { ArePages pages }
     ensures { result ≡ floor pages }
 {
-    (u64::from(pages) / 32 - 34) * 118_776
+    u64::from(pages / SEGMENT_PAGES - (TICKETS + 2)) * u64::from(DENSE)
 }
 
 /// The bytes that a row takes, from the lengths of its key and its value.
@@ -73,6 +78,7 @@ fn seek(rows: &[Kept], key: &[u8]) -> Option<usize>
     ensures has { is_some result ≡ has key.now (map row_in rows.now) }
     ensures place { IfSome result (λ at. IsPlaceOf key.now rows.now at) }
 {
+    other_rows_are_distinct();
     place_of(rows, key)
 }
 
@@ -97,6 +103,7 @@ fn drop_row(rows: &mut Vec<Kept>, key: &[u8]) -> bool
     ensures fewer { vec_len rows.new ≤ vec_len rows.old }
     ensures capacity { vec_capacity rows.new ≡ vec_capacity rows.old }
 {
+    other_rows_are_distinct();
     let Some(at) = seek(rows.as_slice(), key) else {
         return false;
     };
@@ -111,6 +118,7 @@ fn drop_last(rows: &mut Vec<Kept>)
     ensures small { All IsSmall rows.old.items → All IsSmall rows.new.items }
     ensures fewer { vec_len rows.new ≤ vec_len rows.old }
 {
+    other_rows_are_distinct();
     rows.pop();
 }
 
@@ -124,15 +132,8 @@ fn bring_to_front(rows: &mut Vec<Kept>, at: usize, key: &[u8])
     ensures small { All IsSmall rows.old.items → All IsSmall rows.new.items }
     ensures fewer { vec_len rows.new ≤ vec_len rows.old }
 {
+    other_rows_are_distinct();
     rows.slice_mut(..at + 1).rotate_right(1);
-}
-
-/// Whether a key is at least the key of a scan, by their bytes.
-#[tactic(auto, using(crate::proofs::KeyOrder::tells_at_most))]
-fn is_from(key: &[u8], found: &[u8]) -> bool
-    ensures { result ≡ is_at_most key.now found.now }
-{
-    key <= found
 }
 
 /// The keys of these rows that are not below a key.
@@ -141,7 +142,7 @@ fn keys_from<'a>(alloc: Global, rows: &'a [Kept], key: &[u8]) -> Result<Vec<&'a 
 {
     let mut keys = Vec::new(alloc);
     for row in rows {
-        if is_from(key, row.key.as_slice()) {
+        if is_at_most(key, row.key.as_slice()) {
             keys.push(row.key.as_slice())?;
         }
     }
@@ -159,34 +160,10 @@ fn scanned<'a>(
     ensures short { All IsSmall rows.now → IfOk result (λ keys. All (λ found. length found.now ≤ 256) keys.items) }
 {
     let mut keys = keys_from(alloc, rows, key)?;
-    keys.sort_unstable();
+    sort_keys(&mut keys);
     keys.truncate(count as usize);
+    scanned_keys_are_in_order();
     Ok(keys)
-}
-
-/// Appends a key: its length in two bytes, low byte first, and its bytes.
-fn append_key(body: &mut Vec<u8>, key: &[u8]) -> Result<(), AllocError>
-    requires { length key.now ≤ 256 }
-    ensures appended { OnOk result (body.new.items ≡ body.old.items ++ key_field key.now) }
-    ensures kept { OnErr result (body.new.items ≡ body.old.items) }
-{
-    body.reserve(2 + key.len())?;
-    body.extend_from_slice((key.len() as u16).to_le_bytes().as_slice())
-        .unwrap();
-    body.extend_from_slice(key).unwrap();
-    Ok(())
-}
-
-/// Appends these keys. Without the memory for one of them, the ones before it stand.
-fn append_keys(body: &mut Vec<u8>, keys: &[&[u8]]) -> Result<(), AllocError>
-    requires { All (λ key. length key.now ≤ 256) keys.now }
-    ensures appended { OnOk result (body.new.items ≡ body.old.items ++ flat_map key_field (map (λ key. key.now) keys.now)) }
-    ensures front { OnErr result (take (vec_len body.old) body.new.items ≡ body.old.items) }
-{
-    for key in keys {
-        append_key(body, key)?;
-    }
-    Ok(())
 }
 
 impl Plain {

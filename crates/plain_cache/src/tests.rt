@@ -1,5 +1,3 @@
-ghost use Rattle.plain_cache.specs.Worked.{IsWorked};
-
 use super::*;
 use std::alloc::{AllocError, Global};
 use std::test::Fail;
@@ -199,30 +197,4 @@ fn a_scan_leaves_the_order_of_eviction(rt: HostRuntime) -> Result<(), Fail> {
     assert!(rt; keys.as_slice() == b"\x04\0k002\x04\0k003".as_slice());
     assert!(rt; !plain.evict(1) && plain.evict(2));
     Ok(())
-}
-
-#[test]
-fn a_log_and_a_journal_keep_what_they_are_given(rt: HostRuntime) -> Result<(), Fail> {
-    let mut log = ReplyLog::new(rt.alloc(), 2, 3)?;
-    log.record(1, ReplyKind::Value, b"abc");
-    assert!(rt; log.reply(0).is_none());
-    let Some((kind, body)) = log.reply(1) else {
-        return Err(Fail::from("no reply"));
-    };
-    assert!(rt; kind == ReplyKind::Value && body == b"abc".as_slice());
-    let mut journal = Journal::new(rt.alloc(), 1)?;
-    journal.add(Entry::Done(7));
-    assert!(rt; journal.entries() == [Entry::Done(7)].as_slice() && journal.spare() == 0);
-    Ok(())
-}
-
-/// Two shards: their journals are legal and complete, in each order that keeps an origin's own, and a scan joins
-/// the keys of both.
-fn two_shards()
-    ensures { IsWorked }
-{}
-
-#[test]
-fn the_journals_of_two_shards_are_complete() {
-    two_shards()
 }

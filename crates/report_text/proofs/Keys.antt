@@ -1,19 +1,19 @@
 -- The keys of a body as they are laid, one behind another.
-use Rattle.std.proofs.Common.{◌≡◌, ℕ, List, [], ◌∷◌, ◌++◌, Err, sym, ap, ◌∙◌, subst, append_assoc, append-nil}
+use Rattle.std.proofs.Common.{◌≡◌, ℕ, ◌+◌, ◌-◌, ◌≤◌, List, [], ◌∷◌, ◌++◌, length, take, drop, arith, Err, sym, ap, ◌∙◌, subst, append_assoc, append-nil}
 use Rattle.std.specs.List.{flat_map}
 use Rattle.outside.specs.declared.failure.Failed.{Failed}
-use Rattle.plain_cache.specs.KeyBody.{AreKeys}
-use Rattle.report_text.specs.Laid.{Stand, Wrote}
-use Rattle.report_text.proofs.Laid.{Laid, Wrote-then, Wrote-stop}
+use Rattle.cache_model.specs.KeyBody.{AreKeys, AreKeysAt}
+use Rattle.report_text.specs.inside.Output.{Output, Writes}
+use Rattle.report_text.proofs.Outputs.{Added, Writes-then, Writes-stop}
 use Rattle.report_text.proofs.Texts.{key_piece}
 
 -- a front of the keys was laid, and the others are the rest of the body
-pub record AreLaid (a b : Stand) (rest : List ℕ) (keys : List (List ℕ)) : Type 0 where
+pub record AreAdded (a b : Output) (rest : List ℕ) (keys : List (List ℕ)) : Type 0 where
   pub others : List (List ℕ)
   pub text : List ℕ
   pub are : AreKeys rest others
   pub whole : text ++ flat_map key_piece others ≡ flat_map key_piece keys
-  pub laid : Laid a b text
+  pub added : Added a b text
 
 -- the rest of the body has a key and others behind it, whichever keys it is
 abbrev pub Cuts : List ℕ → List ℕ → List ℕ → Type 0
@@ -23,24 +23,33 @@ with_key : (text key : List ℕ) (others rest keys : List (List ℕ)) → text +
     → (text ++ key_piece key) ++ flat_map key_piece rest ≡ flat_map key_piece keys
 with_key text key others rest keys whole is = append_assoc text (key_piece key) (flat_map key_piece rest) ∙ ap (λ ks. text ++ flat_map key_piece ks) (sym is) ∙ whole
 
-pub laid_next : (a b c : Stand) (rest key behind : List ℕ) (keys : List (List ℕ)) → AreLaid a b rest keys → Cuts rest key behind → Laid b c (key_piece key) → AreLaid a c behind keys
-laid_next a b c rest key behind keys p cuts q =
+pub added_next : (a b c : Output) (rest key behind : List ℕ) (keys : List (List ℕ)) → AreAdded a b rest keys → Cuts rest key behind → Added b c (key_piece key) → AreAdded a c behind keys
+added_next a b c rest key behind keys p cuts q =
     let cut = cuts p.others p.are in
     record {
       others = cut.0;
       text = p.text ++ key_piece key;
       are = cut.2;
       whole = with_key p.text key p.others cut.0 keys p.whole cut.1;
-      laid = Wrote-then p.laid q;
+      added = Writes-then p.added q;
     }
 
-pub laid_broken : (e : Failed) (a b c : Stand) (rest key behind : List ℕ) (keys : List (List ℕ)) → AreLaid a b rest keys → Cuts rest key behind
-    → Wrote {T = Unit {0}} {E = Failed} (Err e) b c (key_piece key) → Wrote {T = Unit {0}} {E = Failed} (Err e) a c (flat_map key_piece keys)
-laid_broken e a b c rest key behind keys p cuts q =
+pub added_broken : (e : Failed) (a b c : Output) (rest key behind : List ℕ) (keys : List (List ℕ)) → AreAdded a b rest keys → Cuts rest key behind
+    → Writes {T = Unit {0}} {E = Failed} (Err e) b c (key_piece key) → Writes {T = Unit {0}} {E = Failed} (Err e) a c (flat_map key_piece keys)
+added_broken e a b c rest key behind keys p cuts q =
     let cut = cuts p.others p.are in
-    subst (Wrote (Err e) a c) (with_key p.text key p.others cut.0 keys p.whole cut.1) (Wrote-stop _ (Wrote-then p.laid q))
+    subst (Writes (Err e) a c) (with_key p.text key p.others cut.0 keys p.whole cut.1) (Writes-stop _ (Writes-then p.added q))
 
-pub laid_all : (a b : Stand) (rest : List ℕ) (keys : List (List ℕ)) → AreLaid a b rest keys → ((ks : List (List ℕ)) → AreKeys rest ks → ks ≡ []) → Laid a b (flat_map key_piece keys)
-laid_all a b rest keys p none =
+pub added_all : (a b : Output) (rest : List ℕ) (keys : List (List ℕ)) → AreAdded a b rest keys → ((ks : List (List ℕ)) → AreKeys rest ks → ks ≡ []) → Added a b (flat_map key_piece keys)
+added_all a b rest keys p none =
     let whole : p.text ≡ flat_map key_piece keys = sym (append-nil p.text) ∙ ap (λ ks. p.text ++ flat_map key_piece ks) (sym (none p.others p.are)) ∙ p.whole in
-    subst (Laid a b) whole p.laid
+    subst (Added a b) whole p.added
+
+-- the next key from a place on, whose span begins at `start`
+pub cuts_at : (body : List ℕ) (at start len : ℕ) → at ≤ length body
+    → ((keys : List (List ℕ)) → AreKeysAt body at keys → (rest : List (List ℕ)) × (keys ≡ take len (drop start body) ∷ rest) × AreKeysAt body (start + len) rest)
+    → Cuts (drop at body) (take (start + len - start) (drop start body)) (drop (start + len) body)
+cuts_at body at start len within next keys are =
+    let cut = next keys (record { within = within; rest = are }) in
+    let many : start + len - start ≡ len = omega arith in
+    (cut.0, rw many cut.1, cut.2.rest)

@@ -1,7 +1,8 @@
 pub mod Answered
-pub mod Held
+pub mod Fronts
 pub mod Keys
-pub mod Laid
-pub mod Said
+pub mod KeysOfReplies
+pub mod Logs
+pub mod Outputs
 pub mod Sent
 pub mod Texts

@@ -2,16 +2,16 @@
 use Rattle.std.proofs.Common.{◌≡◌, ℕ, List, [], ◌∷◌, ◌++◌, refl, sym, ap, ◌∙◌, append_assoc}
 use Rattle.std.specs.List.{flat_map}
 use Rattle.std.specs.Prelude.{codes, decimal}
-use Rattle.plain_cache.specs.declared.journal.Entry.{Entry}
-use Rattle.plain_cache.specs.declared.replies.ReplyKind.{ReplyKind}
-use Rattle.plain_cache.specs.declared.replies.ReplyKind.TheVariants as kinds
-use Rattle.plain_cache.specs.Apply.{Reply, Stored, Replaced, Value, Missing, Erased, Keys}
-use Rattle.plain_cache.specs.Report.{Occupancy, line, answer_text, entry_text, journal_text, reply_text, occupancy_text}
-use Rattle.plain_cache.specs.Spelled.{spelled}
-use Rattle.plain_cache.specs.Written.{Written}
-use Rattle.report_text.specs.Held.{Spells}
-use Rattle.report_text.specs.Words.{word}
-use Rattle.report_text.proofs.Held.{keys_of}
+use Rattle.cache_model.specs.declared.entry.Entry.{Entry}
+use Rattle.cache_model.specs.declared.reply_kind.ReplyKind.{ReplyKind}
+use Rattle.cache_model.specs.declared.reply_kind.ReplyKind.TheVariants as kinds
+use Rattle.cache_model.specs.Apply.{Reply, Stored, Replaced, Value, Missing, Erased, Keys}
+use Rattle.cache_model.specs.Report.{Occupancy, line, answer_text, entry_text, journal_text, reply_text, occupancy_text}
+use Rattle.cache_model.specs.Spelled.{spelled}
+use Rattle.run_log.specs.Written.{Written}
+use Rattle.report_text.specs.inside.Spells.{Spells}
+use Rattle.report_text.specs.inside.Words.{word}
+use Rattle.report_text.proofs.KeysOfReplies.{keys_of}
 
 -- ---- what stands for each element of a list
 

@@ -1,3 +1,2 @@
-pub mod Held
-pub mod Laid
-pub mod Words
+pub mod Views
+pub mod inside

@@ -2,12 +2,12 @@
 //! holds at the end. See [`write_report`].
 #![tactic(auto)]
 
-mod block;
+mod buffer;
 mod lines;
+mod report;
 mod shard_line;
 #[cfg(test)]
 mod tests;
-mod writing;
 
+pub use report::write_report;
 pub use shard_line::ShardLine;
-pub use writing::write_report;

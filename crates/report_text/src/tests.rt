@@ -1,29 +1,57 @@
 //! What no contract says: that a report can be written at all, and what it looks like.
-ghost use Rattle.std.specs.Prelude.{◌≡◌, ℕ, ◌≤◌, List, [], ◌∷◌, length, IfOk};
-ghost use Rattle.plain_cache.specs.Apply.{Reply};
+ghost use Rattle.std.specs.Prelude.{◌≡◌, ℕ, ◌≤◌, List, [], ◌∷◌, length, Some, false, IfOk};
+ghost use Rattle.cache_model.specs.Apply.{Reply, Keys};
 ghost use Rattle.trace_text.specs.Parsed.{trace_in};
-ghost use Rattle.report_text.specs.Held.{AreHeld, Spells};
+ghost use Rattle.cache_model.specs.Logged.{AreFound, AreLogged, Fits};
+ghost use Rattle.cache_model.specs.Spelled.{spelled};
+ghost use Rattle.trace_text.specs.declared.command.Kind.{Kind as AskedKind};
+ghost use Rattle.trace_text.specs.Parts.{is_scan};
 
 use crate::{ShardLine, write_report};
+use cache_model::{Entry, ReplyKind, one_shard_answers_alone};
 use outside::{Failed, MemorySink};
-use plain_cache::{Entry, Journal, ReplyKind, ReplyLog};
+use run_log::{Journal, ReplyLog};
 use std::alloc::{AllocError, Global};
 use std::process::Abort;
 use std::test::Fail;
-use trace_text::{Trace, parse};
+use trace_text::{Command, Kind, Trace, parse};
 
 /// The keys b and c.
 const B_AND_C: &[u8] = b"\x01\0b\x01\0c";
 
-/// A reply of this kind. Its body is this one where it is a value, or the keys b and c; else it has none.
-fn reply_of(kind: ReplyKind, body: &[u8]) -> (ReplyKind, &[u8])
-    ensures spelled { (reply : Reply) × Spells result.0 result.1.now reply }
+/// A reply to a scan of so many keys: the keys b and c where the body is theirs, else none.
+fn found_keys(count: u32, body: &[u8]) -> &[u8]
+    ensures keys { (keys : List (List ℕ)) × AreFound count keys × ((ReplyKind.Keys, result.now) ≡ spelled (Keys keys)) }
+    ensures short { length result.now ≤ length body.now }
+{
+    if count >= 2 && body == B_AND_C {
+        body
+    } else {
+        &body[..0]
+    }
+}
+
+/// A reply of this kind to another command. Its body is this one where it is a value; else it has none.
+fn plain_reply(kind: ReplyKind, body: &[u8]) -> (ReplyKind, &[u8])
+    ensures reply { (reply : Reply) × ((result.0, result.1.now) ≡ spelled reply)
+        × ((asked : AskedKind) (count : ℕ) → is_scan asked ≡ false → Fits asked count (Some reply)) }
     ensures short { length result.1.now ≤ length body.now }
 {
     match kind {
         ReplyKind::Value => (kind, body),
-        ReplyKind::Keys if body == B_AND_C => (kind, body),
+        ReplyKind::Keys => (ReplyKind::Missing, &body[..0]),
         _ => (kind, &body[..0]),
+    }
+}
+
+/// A reply that a command can have.
+fn reply_to<'b>(command: &Command, kind: ReplyKind, body: &'b [u8]) -> (ReplyKind, &'b [u8])
+    ensures fits { (reply : Reply) × ((result.0, result.1.now) ≡ spelled reply) × Fits command.now.kind command.now.count (Some reply) }
+    ensures short { length result.1.now ≤ length body.now }
+{
+    match command.kind {
+        Kind::Scan => (ReplyKind::Keys, found_keys(command.count, body)),
+        _ => plain_reply(kind, body),
     }
 }
 
@@ -34,15 +62,16 @@ fn log_of(
     trace: &Trace,
     replies: &[(ReplyKind, &[u8])],
 ) -> Result<ReplyLog, Fail>
-    ensures { IfOk result (λ log. (answers : List (ℕ × Reply)) × AreHeld (trace_in trace.now) (log ∷ []) answers) }
+    ensures { IfOk result (λ log. (answers : List (ℕ × Reply)) × AreLogged (trace_in trace.now) 1 (log.replies ∷ []) answers) }
 {
     let commands = trace.commands();
+    one_shard_answers_alone();
     assert!(rt; commands.len() == replies.len());
     assert!(rt; replies.len() <= 10);
     let mut log = ReplyLog::new(alloc, replies.len() as u32, 1000)?;
     for (part, (kind, body)) in replies.iter().enumerate() {
         assert!(rt; body.len() <= 100);
-        let (kind, body) = reply_of(*kind, body);
+        let (kind, body) = reply_to(&commands[part], *kind, body);
         log.record(part as u32, kind, body);
     }
     Ok(log)
@@ -58,26 +87,50 @@ fn journal_of(alloc: Global, room: u32, entries: &[Entry]) -> Result<Journal, Al
     Ok(journal)
 }
 
+/// Writes the report of these commands and replies into a sink of so much room, and looks at what it holds.
+fn check_report(
+    rt: &impl Abort,
+    alloc: Global,
+    input: &str,
+    replies: &[(ReplyKind, &[u8])],
+    (rows, live): (u32, u64),
+    room: usize,
+    want: Result<(), Failed>,
+    text: &str,
+) -> Result<(), Fail> {
+    let bytes = input.as_bytes().to_vec(alloc)?;
+    assert!(rt; bytes.len() <= 1000);
+    let trace = parse(alloc, bytes, 1)?;
+    let log = log_of(rt, alloc, &trace, replies)?;
+    let entries = [1, 2, 3, 4, 5, 6].map(Entry::Done);
+    let journal = journal_of(alloc, 10, &entries[..replies.len().min(6)])?;
+    let line = ShardLine {
+        rows,
+        live,
+        lent: 0,
+        back: 0,
+    };
+    let mut sink = MemorySink::new(alloc, room)?;
+    let met = write_report(&mut sink, &trace, 1, &[log], &[journal], &[line]);
+    assert!(rt; met == want, "{input:?}");
+    assert_eq!(rt; sink.bytes(), text.as_bytes(), "{input:?}");
+    Ok(())
+}
+
 #[test]
 fn a_report_has_the_answers_the_journal_and_the_shard(rt: HostRuntime) -> Result<(), Fail> {
     use ReplyKind::{Erased, Keys, Missing, Replaced, Stored, Value};
-    for (input, replies, rows, live, room, want, text) in [
+    for (input, replies, held, text) in [
         (
             "put a abc\nget a\n",
             [(Stored, b"".as_slice()), (Value, b"abc")].as_slice(),
-            1,
-            48,
-            1000,
-            Ok(()),
+            (1, 48),
             "1 stored\n2 value abc\njournal 0 1 2\nshard 0 rows 1 live 48 lent 0 back 0\n",
         ),
         (
             "put a \nget a\n",
             &[(Stored, b""), (Value, b"")],
-            1,
-            48,
-            1000,
-            Ok(()),
+            (1, 48),
             "1 stored\n2 value \njournal 0 1 2\nshard 0 rows 1 live 48 lent 0 back 0\n",
         ),
         (
@@ -90,14 +143,11 @@ fn a_report_has_the_answers_the_journal_and_the_shard(rt: HostRuntime) -> Result
                 (Missing, b""),
                 (Missing, b""),
             ],
-            0,
-            0,
-            1000,
-            Ok(()),
+            (0, 0),
             "1 stored\n2 replaced\n3 value 2\n4 erased\n5 missing\n6 missing\njournal 0 1 2 3 4 5 6\nshard 0 rows 0 live 0 lent 0 back 0\n",
         ),
         (
-            "put b 1\nput c \nget b\nget b\nget d\nget d\n",
+            "put b 1\nput c \nget b\nscan b 2\nscan d 5\nget d\n",
             &[
                 (Stored, b""),
                 (Stored, b""),
@@ -106,38 +156,28 @@ fn a_report_has_the_answers_the_journal_and_the_shard(rt: HostRuntime) -> Result
                 (Keys, b""),
                 (Missing, b""),
             ],
-            2,
-            96,
-            1000,
-            Ok(()),
+            (2, 96),
             "1 stored\n2 stored\n3 value 1\n4 keys b c\n5 keys\n6 missing\njournal 0 1 2 3 4 5 6\nshard 0 rows 2 live 96 lent 0 back 0\n",
         ),
-        (
-            "put a abc\nget a\n",
-            &[(Stored, b""), (Value, b"abc")],
-            1,
-            48,
-            10,
-            Err(Failed),
-            "1 stored\n2",
-        ),
     ] {
-        let trace = parse(rt.alloc(), input.as_bytes().to_vec(rt.alloc())?, 1)?;
-        let log = log_of(&rt, rt.alloc(), &trace, replies)?;
-        let entries = [1, 2, 3, 4, 5, 6].map(Entry::Done);
-        let journal = journal_of(rt.alloc(), 10, &entries[..replies.len().min(6)])?;
-        let line = ShardLine {
-            rows,
-            live,
-            lent: 0,
-            back: 0,
-        };
-        let mut sink = MemorySink::new(rt.alloc(), room)?;
-        let met = write_report(&mut sink, &trace, 1, &[log], &[journal], &[line]);
-        assert!(rt; met == want, "{input:?}");
-        assert_eq!(rt; sink.bytes(), text.as_bytes(), "{input:?}");
+        check_report(&rt, rt.alloc(), input, replies, held, 1000, Ok(()), text)?;
     }
     Ok(())
+}
+
+#[test]
+fn a_report_ends_where_its_sink_fails(rt: HostRuntime) -> Result<(), Fail> {
+    use ReplyKind::{Stored, Value};
+    check_report(
+        &rt,
+        rt.alloc(),
+        "put a abc\nget a\n",
+        &[(Stored, b""), (Value, b"abc")],
+        (1, 48),
+        10,
+        Err(Failed),
+        "1 stored\n2",
+    )
 }
 
 #[test]

@@ -1,6 +1,7 @@
-pub mod Answered
 pub mod OneShard
+pub mod OneReport
 pub mod Progress
-pub mod TextLines
+pub mod TableRows
 mod Numbers
 mod Words
+mod Unbroken

@@ -1,21 +1,27 @@
 -- One shard that does every command in turn: its journal is legal and complete, and its replies are the answers.
-use Rattle.std.proofs.Common.{◌≡◌, ℕ, ◌+◌, ◌-◌, ◌%◌, ◌<◌, ◌≤◌, suc, zero, Bool, true, false, not, ◌||◌, ◌&&◌, cond, eqb, List, [], ◌∷◌, ◌++◌, length, take, map, filter, max, append_assoc, Option, Some, None, arith, refl, sym, ap, ◌∙◌}
-use Rattle.std.specs.List.{AllByRecursion as ByRecursion, find, filter_map, list_any, before_first, prefix_len, fold}
-use Rattle.std.specs.Option.{option_map}
+use Rattle.std.proofs.Common.{◌≡◌, ℕ, ◌+◌, ◌-◌, ◌%◌, ◌<◌, ◌≤◌, suc, zero, Bool, true, false, not, ◌||◌, ◌&&◌, cond, eqb, List, [], ◌∷◌, ◌++◌, length, take, map, filter, max, append_assoc, Option, Some, None, arith, refl, sym, ap, ◌∙◌, subst}
+use Rattle.cache_model.specs.declared.reply_kind.ReplyKind.{ReplyKind}
+use Rattle.cache_model.specs.Bodies.{HasKeys}
+use Rattle.cache_model.specs.Logged.{AreLogged}
+use Rattle.cache_model.specs.OwnParts.{HoldsReplies, issued_parts, part_reply, parts_of}
+use Rattle.cache_model.specs.Spelled.{spelled}
+use Rattle.trace_text.specs.Parsed.{IsWellFormed}
+use Rattle.std.specs.List.{All, AllByRecursion as ByRecursion, slice_index_or, find, filter_map, list_any, before_first, prefix_len, fold}
+use Rattle.std.specs.Option.{option_map, is_some, IsSome}
+use Rattle.std.proofs.lemmas.List.Elements.{All-cons}
 use Rattle.std.proofs.lemmas.Bool.Decides.{nat_tests}
 use Rattle.std.proofs.lemmas.List.{append-nil, take-take}
-use Rattle.std.specs.Prelude.{⊤}
-use Rattle.trace_text.specs.declared.command.Kind.{Kind}
-use Rattle.trace_text.specs.declared.command.Kind.TheVariants as kinds
 use Rattle.trace_text.specs.Operation.{Operation}
-use Rattle.trace_text.specs.Parts.{greatest_value, hash, origin, has_part, is_scan}
-use Rattle.plain_cache.specs.declared.journal.Entry.{Entry}
-use Rattle.plain_cache.specs.declared.journal.Entry.TheVariants.{Done, Evicted}
-use Rattle.plain_cache.specs.Row.{Row}
-use Rattle.plain_cache.specs.Apply.{Reply, Stored, Replaced, Value, Missing, Erased, Keys, apply, apply_kind, get_where, has, in_order, is_at_most, is_of, put_in_order, row_of}
-use Rattle.plain_cache.specs.Legal.{cache_from, command_of, done, is_done, reply_at, IsComplete}
-use Rattle.plain_cache.specs.Answer.{answer, answer_kind}
-use Rattle.plain_cache.specs.Report.{answers}
+use Rattle.trace_text.specs.Trace.{Trace, trace_with}
+use Rattle.trace_text.specs.Parts.{hash, origin, has_part, is_scan}
+use Rattle.cache_model.specs.declared.entry.Entry.{Entry}
+use Rattle.cache_model.specs.declared.entry.Entry.TheVariants.{Done, Evicted}
+use Rattle.cache_model.specs.Row.{Row}
+use Rattle.cache_model.specs.Apply.{Reply, apply}
+use Rattle.cache_model.specs.Holds.{PutHolds, ReplyHolds, RowsHold}
+use Rattle.cache_model.specs.Legal.{cache_from, command_of, done, is_done, reply_at, IsComplete}
+use Rattle.cache_model.specs.Answer.{answer}
+use Rattle.cache_model.specs.Report.{answers}
 
 -- commands are numbered in order, from n on
 abbrev pub Numbered : ℕ → List Operation → Type 0
@@ -54,20 +60,20 @@ first_differs n first front operation back numbered =
     eqb-below first.number operation.number (omega (arith, numbered.0, number_at (n + 1) front operation back numbered.1))
 
 find_number : (n : ℕ) (front : List Operation) (operation : Operation) (back : List Operation) → Numbered n (front ++ operation ∷ back)
-    → command_of (front ++ operation ∷ back) operation.number ≡ Some operation
+    → command_of (trace_with (front ++ operation ∷ back)) operation.number ≡ Some operation
 find_number n [] operation back numbered = rw (eqb-same operation.number) refl
 find_number n (first ∷ front) operation back numbered =
     rw (first_differs n first front operation back numbered) (find_number (n + 1) front operation back numbered.1)
 
 pub command_at : (trace front : List Operation) (operation : Operation) (back : List Operation) → Numbered 1 trace
-    → trace ≡ front ++ operation ∷ back → command_of trace operation.number ≡ Some operation
+    → trace ≡ front ++ operation ∷ back → command_of (trace_with trace) operation.number ≡ Some operation
 command_at trace front operation back numbered e = rw e (find_number 1 front operation back (rw e at numbered))
 
 -- ---- the cache
 
 -- a part of the trace leads from a cache to the cache where its commands were done
 pub cache_run : (trace : List Operation) (pages : ℕ) (front rest back : List Operation) (cache : List Row) → Numbered 1 trace
-    → trace ≡ front ++ (rest ++ back) → cache_from trace pages cache (journal_of rest) ≡ Some (rows_from rest cache)
+    → trace ≡ front ++ (rest ++ back) → cache_from (trace_with trace) pages cache (journal_of rest) ≡ Some (rows_from rest cache)
 cache_run trace pages front [] back cache numbered e = refl
 cache_run trace pages front (operation ∷ rest) back cache numbered e =
     let found = command_at trace front operation (rest ++ back) numbered e in
@@ -104,7 +110,7 @@ any_number (first ∷ front) operation back = rw (any_number front operation bac
 
 -- the reply to a command is that on the cache where the commands before it were done
 pub reply_run : (trace : List Operation) (pages : ℕ) (front : List Operation) (operation : Operation) (back : List Operation) → Numbered 1 trace
-    → trace ≡ front ++ operation ∷ back → reply_at trace pages (journal_of trace) operation.number ≡ Some (apply operation (rows_from front [])).1
+    → trace ≡ front ++ operation ∷ back → reply_at (trace_with trace) pages (journal_of trace) operation.number ≡ Some (apply operation (rows_from front [])).1
 reply_run trace pages front operation back numbered e =
     let any : list_any (is_done operation.number) (journal_of trace) ≡ true = rw e (any_number front operation back) in
     let before : before_first (is_done operation.number) (journal_of trace) ≡ journal_of front =
@@ -118,42 +124,96 @@ reply_run trace pages front operation back numbered e =
 pub mod-one : (n : ℕ) → n % 1 ≡ 0
 mod-one n = omega arith
 
--- joining the reply of the one shard changes nothing
-abbrev pub OrderStays : Type 0
-OrderStays = (m : ℕ) (keys : List (List ℕ)) → in_order (take m (in_order keys)) ≡ take m (in_order keys)
+-- with one shard the answer is the reply
+abbrev pub AnswersAlone : Type 0
+AnswersAlone = (trace : Trace) (pages : ℕ) (journal : List Entry) (operation : Operation) (reply : Reply)
+    → command_of trace operation.number ≡ Some operation → reply_at trace pages journal operation.number ≡ Some reply
+    → answer trace 1 pages (journal ∷ []) operation ≡ Some reply
 
-joined_stays : OrderStays → (m : ℕ) (keys : List (List ℕ)) → take m (in_order (take m (in_order keys) ++ [])) ≡ take m (in_order keys)
-joined_stays stays m keys = rw (append-nil (take m (in_order keys)), stays m keys) (take-take m m (in_order keys) (omega arith))
-
-answer_one : OrderStays → (kind : Kind) (trace : List Operation) (pages : ℕ) (journal : List Entry) (operation : Operation) (cache : List Row)
-    → reply_at trace pages journal operation.number ≡ Some (apply_kind kind operation cache).1
-    → answer_kind kind trace 1 pages (journal ∷ []) operation ≡ Some (apply_kind kind operation cache).1
-answer_one stays kinds.Put trace pages journal operation cache e = rw (mod-one (hash operation.key)) e
-answer_one stays kinds.Get trace pages journal operation cache e = rw (mod-one (hash operation.key)) e
-answer_one stays kinds.Erase trace pages journal operation cache e = rw (mod-one (hash operation.key)) e
-answer_one stays kinds.Scan trace pages journal operation cache e =
-    rw e (ap (λ keys. Some (Keys keys)) (joined_stays stays operation.count (filter (is_at_most operation.key) (map (λ row. row.key) cache))))
-
-answer_run : OrderStays → (trace : List Operation) (pages : ℕ) (front : List Operation) (operation : Operation) (back : List Operation) → Numbered 1 trace
+answer_run : AnswersAlone → (trace : List Operation) (pages : ℕ) (front : List Operation) (operation : Operation) (back : List Operation) → Numbered 1 trace
     → trace ≡ front ++ operation ∷ back
-    → answer trace 1 pages (journal_of trace ∷ []) operation ≡ Some (apply operation (rows_from front [])).1
-answer_run stays trace pages front operation back numbered e =
-    answer_one stays operation.kind trace pages (journal_of trace) operation (rows_from front []) (reply_run trace pages front operation back numbered e)
+    → answer (trace_with trace) 1 pages (journal_of trace ∷ []) operation ≡ Some (apply operation (rows_from front [])).1
+answer_run alone trace pages front operation back numbered e =
+    alone (trace_with trace) pages (journal_of trace) operation (apply operation (rows_from front [])).1 (command_at trace front operation back numbered e)
+    (reply_run trace pages front operation back numbered e)
 
 pub rows_from-append : (front back : List Operation) (cache : List Row) → rows_from (front ++ back) cache ≡ rows_from back (rows_from front cache)
 rows_from-append [] back cache = refl
 rows_from-append (operation ∷ front) back cache = rows_from-append front back (apply operation cache).0
 
-pub answers_run : OrderStays → (trace : List Operation) (pages : ℕ) (front rest : List Operation) → Numbered 1 trace → trace ≡ front ++ rest
-    → filter_map (λ operation. option_map (λ reply. (operation.number, reply)) (answer trace 1 pages (journal_of trace ∷ []) operation)) rest
+pub answers_run : AnswersAlone → (trace : List Operation) (pages : ℕ) (front rest : List Operation) → Numbered 1 trace → trace ≡ front ++ rest
+    → filter_map (λ operation. option_map (λ reply. (operation.number, reply)) (answer (trace_with trace) 1 pages (journal_of trace ∷ []) operation)) rest
     ≡ replies_from rest (rows_from front [])
-answers_run stays trace pages front [] numbered e = refl
-answers_run stays trace pages front (operation ∷ rest) numbered e =
-    let answered = answer_run stays trace pages front operation rest numbered e in
+answers_run alone trace pages front [] numbered e = refl
+answers_run alone trace pages front (operation ∷ rest) numbered e =
+    let answered = answer_run alone trace pages front operation rest numbered e in
     let further : trace ≡ (front ++ operation ∷ []) ++ rest = e ∙ sym (append_assoc front (operation ∷ []) rest) in
-    let later = answers_run stays trace pages (front ++ operation ∷ []) rest numbered further in
+    let later = answers_run alone trace pages (front ++ operation ∷ []) rest numbered further in
     rw answered (ap (λ replies. (operation.number, (apply operation (rows_from front [])).1) ∷ replies)
     (later ∙ ap (λ rows. replies_from rest rows) (rows_from-append front (operation ∷ []) [])))
+
+-- ---- the log
+
+-- with one shard each command is one part, and the logs of shards that replied to each part hold the answers
+abbrev pub PartAlone : Type 0
+PartAlone = (operation : Operation) → parts_of 1 operation ≡ (operation.number, 0) ∷ []
+
+abbrev pub PartsAlone : Type 0
+PartsAlone = (trace : Trace) → issued_parts trace 1 0 ≡ map (λ operation. (operation.number, 0)) trace.operations
+
+abbrev pub LogsHold : Type 0
+LogsHold = (trace : Trace) (n pages : ℕ) (journals : List (List Entry)) (logs : List (List (Option (ReplyKind × List ℕ)))) → length journals ≡ n → HasKeys trace
+    → All (λ operation. command_of trace operation.number ≡ Some operation) trace.operations
+    → All (λ operation. All (λ part. IsSome (part_reply trace pages journals part)) (parts_of n operation)) trace.operations
+    → ((o : ℕ) (d : List (Option (ReplyKind × List ℕ))) → o < n → HoldsReplies trace n o (part_reply trace pages journals) (slice_index_or logs o d))
+    → AreLogged trace n logs (answers trace n pages journals)
+
+-- the replies to some commands in a row, from a cache on
+record AreReplied (whole : List Operation) (pages : ℕ) (rest : List Operation) (cache : List Row) : Type 0 where
+  commands : All (λ operation. command_of (trace_with whole) operation.number ≡ Some operation) rest
+  replied : All (λ operation. All (λ part. IsSome (part_reply (trace_with whole) pages (journal_of whole ∷ []) part)) (parts_of 1 operation)) rest
+  parts : map (λ operation. option_map spelled (part_reply (trace_with whole) pages (journal_of whole ∷ []) (operation.number, 0))) rest
+      ≡ map (λ answer. Some (spelled answer.1)) (replies_from rest cache)
+
+replied_run : PartAlone → (whole : List Operation) (pages : ℕ) (front rest : List Operation) → Numbered 1 whole → whole ≡ front ++ rest
+    → AreReplied whole pages rest (rows_from front [])
+replied_run part whole pages front [] numbered e =
+    record { commands = λ i d below. absurd (omega (arith, below)); replied = λ i d below. absurd (omega (arith, below)); parts = refl }
+replied_run part whole pages front (operation ∷ rest) numbered e =
+    let trace = trace_with whole in
+    let journals = journal_of whole ∷ [] in
+    let further : whole ≡ (front ++ operation ∷ []) ++ rest = e ∙ sym (append_assoc front (operation ∷ []) rest) in
+    let later = replied_run part whole pages (front ++ operation ∷ []) rest numbered further in
+    let here : reply_at trace pages (journal_of whole) operation.number ≡ Some (apply operation (rows_from front [])).1 = reply_run whole pages front operation rest numbered e in
+    let Each : Operation → Type 0 = λ o. All (λ x. IsSome (part_reply trace pages journals x)) (parts_of 1 o) in
+    let some : Each operation =
+    subst (All (λ (x : ℕ × ℕ). IsSome (part_reply trace pages journals x))) (sym (part operation))
+    (All-cons (λ (x : ℕ × ℕ). IsSome (part_reply trace pages journals x)) (operation.number, 0) [] (ap is_some here) (λ i d below. absurd (omega (arith, below)))) in
+    record {
+      commands = All-cons (λ (o : Operation). command_of trace o.number ≡ Some o) operation rest (command_at whole front operation rest numbered e) later.commands;
+      replied = All-cons Each operation rest some later.replied;
+      parts =
+          ap (λ (o : Option Reply). option_map spelled o ∷ map (λ x. option_map spelled (part_reply trace pages journals (x.number, 0))) rest) here
+          ∙ ap (λ list. Some (spelled (apply operation (rows_from front [])).1) ∷ list)
+          (later.parts ∙ ap (λ rows. map (λ answer. Some (spelled answer.1)) (replies_from rest rows)) (rows_from-append front (operation ∷ []) []));
+    }
+
+map-map : {A B C : Type 0} (g : B → C) (f : A → B) (xs : List A) → map g (map f xs) ≡ map (λ x. g (f x)) xs
+map-map g f [] = refl
+map-map g f (x ∷ xs) = ap (λ ys. g (f x) ∷ ys) (map-map g f xs)
+
+pub logged_run : PartAlone → PartsAlone → LogsHold → (trace : List Operation) (pages : ℕ) (log : List (Option (ReplyKind × List ℕ))) → Numbered 1 trace → All IsWellFormed trace
+    → log ≡ map (λ answer. Some (spelled answer.1)) (replies_from trace [])
+    → AreLogged (trace_with trace) 1 (log ∷ []) (answers (trace_with trace) 1 pages (journal_of trace ∷ []))
+logged_run part parts hold trace pages log numbered formed is =
+    let replied = replied_run part trace pages [] trace numbered refl in
+    let keyed : HasKeys (trace_with trace) = λ i d below put. record { some = (formed i d below).key_some; short = (formed i d below).key_most } in
+    let reply = part_reply (trace_with trace) pages (journal_of trace ∷ []) in
+    let held : HoldsReplies (trace_with trace) 1 0 reply log =
+    is ∙ sym replied.parts ∙ sym (map-map (λ (x : ℕ × ℕ). option_map spelled (reply x)) (λ (o : Operation). (o.number, 0)) trace)
+    ∙ ap (map (λ x. option_map spelled (reply x))) (sym (parts (trace_with trace))) in
+    hold (trace_with trace) 1 pages (journal_of trace ∷ []) (log ∷ []) refl keyed replied.commands replied.replied
+    (λ o d below. let first : o ≡ 0 = omega (arith, below) in rw first held)
 
 -- ---- complete
 
@@ -176,7 +236,7 @@ cond-true false = refl
 pub part_here : (operation : Operation) → has_part 1 0 operation ≡ true
 part_here operation = rw (mod-one (hash operation.key)) (cond-true (is_scan operation.kind))
 
-pub complete_run : (trace : List Operation) → IsComplete trace 1 0 (journal_of trace)
+pub complete_run : (trace : List Operation) → IsComplete (trace_with trace) 1 0 (journal_of trace)
 complete_run trace o below =
     filter-all (λ i. eqb (origin i 1) o) (done (journal_of trace)) (λ i. at_origin i o below)
     ∙ done_run trace
@@ -201,129 +261,14 @@ numbers_run (operation ∷ trace) cache = ap (λ numbers. operation.number ∷ n
 
 -- ---- what holds of keys and values
 
--- of each operation, and of each row
-abbrev pub EachAsks : (List ℕ → Type 0) → (List ℕ → Type 0) → List Operation → Type 0
-EachAsks K P [] = Unit {0}
-EachAsks K P (operation ∷ operations) = K operation.key × P operation.value × EachAsks K P operations
+-- what holds of what is put holds of the rows and the reply behind one more command
+abbrev pub TellsPut : Type 0
+TellsPut = (on_key on_value : List ℕ → Bool) (operation : Operation) (cache : List Row) → PutHolds on_key on_value operation → RowsHold on_key on_value cache
+    → RowsHold on_key on_value (apply operation cache).0 × ReplyHolds on_key on_value (apply operation cache).1
 
-abbrev pub EachHolds : (List ℕ → Type 0) → (List ℕ → Type 0) → List Row → Type 0
-EachHolds K P [] = Unit {0}
-EachHolds K P (row ∷ rows) = K row.key × P row.value × EachHolds K P rows
-
-holds-cond : (K P : List ℕ → Type 0) (b : Bool) (row : Row) (rows : List Row) → K row.key → P row.value → EachHolds K P rows
-    → EachHolds K P (cond b (row ∷ rows) rows)
-holds-cond K P true row rows k p ps = (k, p, ps)
-holds-cond K P false row rows k p ps = ps
-
-holds-filter : (K P : List ℕ → Type 0) (test : Row → Bool) (rows : List Row) → EachHolds K P rows → EachHolds K P (filter test rows)
-holds-filter K P test [] ps = tt
-holds-filter K P test (row ∷ rows) ps = holds-cond K P (test row) row (filter test rows) ps.0 ps.1 (holds-filter K P test rows ps.2)
-
--- of what a reply tells
-abbrev pub ReplyHolds : (List ℕ → Type 0) → (List ℕ → Type 0) → Reply → Type 0
-ReplyHolds K P (Value value) = P value
-ReplyHolds K P Stored = Unit {0}
-ReplyHolds K P Replaced = Unit {0}
-ReplyHolds K P Missing = Unit {0}
-ReplyHolds K P Erased = Unit {0}
-ReplyHolds K P (Keys keys) = ByRecursion K keys
-
-abbrev pub FoundHolds : (List ℕ → Type 0) → (List ℕ → Type 0) → Option Row → Type 0
-FoundHolds K P None = Unit {0}
-FoundHolds K P (Some row) = K row.key × P row.value
-
-found-cond : (K P : List ℕ → Type 0) (b : Bool) (row : Row) (o : Option Row) → K row.key → P row.value → FoundHolds K P o
-    → FoundHolds K P (cond b (Some row) o)
-found-cond K P true row o k p q = (k, p)
-found-cond K P false row o k p q = q
-
-holds-find : (K P : List ℕ → Type 0) (test : Row → Bool) (rows : List Row) → EachHolds K P rows → FoundHolds K P (find test rows)
-holds-find K P test [] ps = tt
-holds-find K P test (row ∷ rows) ps = found-cond K P (test row) row (find test rows) ps.0 ps.1 (holds-find K P test rows ps.2)
-
-holds-if : (K P : List ℕ → Type 0) (b : Bool) (x y : Reply) → ReplyHolds K P x → ReplyHolds K P y → ReplyHolds K P (cond b x y)
-holds-if K P true x y p q = p
-holds-if K P false x y p q = q
-
-got-holds : (K P : List ℕ → Type 0) (o : Option Row) (key : List ℕ) (cache : List Row) → FoundHolds K P o → EachHolds K P cache
-    → EachHolds K P (get_where o key cache).0 × ReplyHolds K P (get_where o key cache).1
-got-holds K P None key cache found ps = (ps, tt)
-got-holds K P (Some row) key cache found ps = ((found.0, found.1, holds-filter K P (λ r. not (is_of key r)) cache ps), found.1)
-
-keys-hold : (K P : List ℕ → Type 0) (rows : List Row) → EachHolds K P rows → ByRecursion K (map (λ row. row.key) rows)
-keys-hold K P [] ps = tt
-keys-hold K P (row ∷ rows) ps = (ps.0, keys-hold K P rows ps.2)
-
-keep-cond : (K : List ℕ → Type 0) (b : Bool) (key : List ℕ) (keys : List (List ℕ)) → K key → ByRecursion K keys → ByRecursion K (cond b (key ∷ keys) keys)
-keep-cond K true key keys k ks = (k, ks)
-keep-cond K false key keys k ks = ks
-
-keep-filter : (K : List ℕ → Type 0) (test : List ℕ → Bool) (keys : List (List ℕ)) → ByRecursion K keys → ByRecursion K (filter test keys)
-keep-filter K test [] ks = tt
-keep-filter K test (key ∷ keys) ks = keep-cond K (test key) key (filter test keys) ks.0 (keep-filter K test keys ks.1)
-
-keep-either : (K : List ℕ → Type 0) (b : Bool) (xs ys : List (List ℕ)) → ByRecursion K xs → ByRecursion K ys → ByRecursion K (cond b xs ys)
-keep-either K true xs ys p q = p
-keep-either K false xs ys p q = q
-
-keep-put : (K : List ℕ → Type 0) (key : List ℕ) (keys : List (List ℕ)) → K key → ByRecursion K keys → ByRecursion K (put_in_order key keys)
-keep-put K key [] k ks = (k, tt)
-keep-put K key (other ∷ others) k ks =
-    keep-either K (is_at_most key other) (key ∷ other ∷ others) (other ∷ put_in_order key others) (k, ks) (ks.0, keep-put K key others k ks.1)
-
-keep-order : (K : List ℕ → Type 0) (keys : List (List ℕ)) → ByRecursion K keys → ByRecursion K (in_order keys)
-keep-order K [] ks = tt
-keep-order K (key ∷ keys) ks = keep-put K key (in_order keys) ks.0 (keep-order K keys ks.1)
-
-keep-take : (K : List ℕ → Type 0) (n : ℕ) (keys : List (List ℕ)) → ByRecursion K keys → ByRecursion K (take n keys)
-keep-take K zero keys ks = tt
-keep-take K (suc n) [] ks = tt
-keep-take K (suc n) (key ∷ keys) ks = (ks.0, keep-take K n keys ks.1)
-
-pub applied-holds : (K P : List ℕ → Type 0) (kind : Kind) (operation : Operation) (cache : List Row) → K operation.key → P operation.value
-    → EachHolds K P cache → EachHolds K P (apply_kind kind operation cache).0 × ReplyHolds K P (apply_kind kind operation cache).1
-applied-holds K P kinds.Put operation cache k p ps =
-    ((k, p, holds-filter K P (λ r. not (is_of operation.key r)) cache ps), holds-if K P (has operation.key cache) Replaced Stored tt tt)
-applied-holds K P kinds.Get operation cache k p ps =
-    got-holds K P (row_of operation.key cache) operation.key cache (holds-find K P (is_of operation.key) cache ps) ps
-applied-holds K P kinds.Erase operation cache k p ps =
-    (holds-filter K P (λ r. not (is_of operation.key r)) cache ps, holds-if K P (has operation.key cache) Erased Missing tt tt)
-applied-holds K P kinds.Scan operation cache k p ps =
-    let found = filter (is_at_most operation.key) (map (λ row. row.key) cache) in
-    (ps, keep-take K operation.count (in_order found) (keep-order K found (keep-filter K (is_at_most operation.key) (map (λ row. row.key) cache) (keys-hold K P cache ps))))
-
--- a fact about the keys and the values that are put is one about the rows and the replies
-pub rows-hold : (K P : List ℕ → Type 0) (trace : List Operation) (cache : List Row) → EachAsks K P trace → EachHolds K P cache
-    → EachHolds K P (rows_from trace cache)
-rows-hold K P [] cache asks ps = ps
-rows-hold K P (operation ∷ trace) cache asks ps =
-    rows-hold K P trace (apply operation cache).0 asks.2 (applied-holds K P operation.kind operation cache asks.0 asks.1 ps).0
-
-abbrev pub EachReplies : (List ℕ → Type 0) → (List ℕ → Type 0) → List (ℕ × Reply) → Type 0
-EachReplies K P [] = Unit {0}
-EachReplies K P (answer ∷ answers) = ReplyHolds K P answer.1 × EachReplies K P answers
-
-pub replies-hold : (K P : List ℕ → Type 0) (trace : List Operation) (cache : List Row) → EachAsks K P trace → EachHolds K P cache
-    → EachReplies K P (replies_from trace cache)
-replies-hold K P [] cache asks ps = tt
-replies-hold K P (operation ∷ trace) cache asks ps =
-    let here = applied-holds K P operation.kind operation cache asks.0 asks.1 ps in
-    (here.1, replies-hold K P trace (apply operation cache).0 asks.2 here.0)
-
-pub asks-take : (K P : List ℕ → Type 0) (k : ℕ) (trace : List Operation) → EachAsks K P trace → EachAsks K P (take k trace)
-asks-take K P zero trace asks = tt
-asks-take K P (suc k) [] asks = tt
-asks-take K P (suc k) (operation ∷ trace) asks = (asks.0, asks.1, asks-take K P k trace asks.2)
-
--- no value is longer than the greatest
-asks-most : (K : List ℕ → Type 0) (trace : List Operation) (most bound : ℕ) → EachAsks K (λ value. ⊤) trace
-    → fold (λ m operation. max m (length operation.value)) most trace ≤ bound
-    → EachAsks K (λ value. length value ≤ bound) trace × (most ≤ bound)
-asks-most K [] most bound asks le = (tt, le)
-asks-most K (operation ∷ trace) most bound asks le =
-    let rest = asks-most K trace (max most (length operation.value)) bound asks.2 le in
-    ((asks.0, omega (arith, rest.1), rest.0), omega (arith, rest.1))
-
-pub asks-greatest : (K : List ℕ → Type 0) (trace : List Operation) → EachAsks K (λ value. ⊤) trace
-    → EachAsks K (λ value. length value ≤ greatest_value trace) trace
-asks-greatest K trace asks = (asks-most K trace 0 (greatest_value trace) asks (omega arith)).0
+pub replies-hold : TellsPut → (on_key on_value : List ℕ → Bool) (trace : List Operation) (cache : List Row) → ByRecursion (PutHolds on_key on_value) trace
+    → RowsHold on_key on_value cache → ByRecursion (λ answer. ReplyHolds on_key on_value answer.1) (replies_from trace cache)
+replies-hold tells on_key on_value [] cache puts rows = tt
+replies-hold tells on_key on_value (operation ∷ trace) cache puts rows =
+    let next = tells on_key on_value operation cache puts.0 rows in
+    (next.1, replies-hold tells on_key on_value trace (apply operation cache).0 puts.1 next.0)

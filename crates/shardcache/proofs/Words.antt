@@ -11,7 +11,7 @@ use Rattle.clap.specs.declared.error.Error.{Error}
 use Rattle.clap.specs.declared.error.kind.ErrorKind.{ErrorKind}
 use Rattle.clap.specs.declared.error.kind.ErrorKind.TheVariants.{OutOfMemory}
 use Rattle.clap.specs.declared.parser.matches.ArgMatches.{ArgMatches}
-use Rattle.shardcache.specs.Settings.{Settings, asked_by, command, settings}
+use Rattle.shardcache.specs.Settings.{Settings, settings_in, command, settings}
 
 simple : is_simple command ≡ true
 unfolding command
@@ -22,14 +22,14 @@ unfolding command
 simple_and_free = refl
 
 -- what was found asks what the words ask
-pub asked_in : (app : App) (words : List Text) (matches : ArgMatches) (asked : Option Settings) → app ≡ command
+pub found_in : (app : App) (words : List Text) (matches : ArgMatches) (settled : Option Settings) → app ≡ command
     → HasMatchesOf app words matches → (is_simple_and_free app ≡ true → fault_of app words ≡ [])
-    → asked ≡ asked_by (rows_of (found_of matches)) → asked ≡ settings words
+    → settled ≡ settings_in (rows_of (found_of matches)) → settled ≡ settings words
 unfolding settings
-asked_in app words matches asked is found faultless seen =
+found_in app words matches settled is matched faultless seen =
     let none : fault_of command words ≡ [] = ap (λ (a : App). fault_of a words) (sym is) ∙ faultless (ap is_simple_and_free is ∙ simple_and_free) in
-    let rows : rows_of (found_of matches) ≡ matches_of command words = (found (ap is_simple is ∙ simple)).0 ∙ ap (λ (a : App). matches_of a words) is in
-    seen ∙ ap asked_by rows ∙ rw none refl
+    let rows : rows_of (found_of matches) ≡ matches_of command words = (matched (ap is_simple is ∙ simple)).0 ∙ ap (λ (a : App). matches_of a words) is in
+    seen ∙ ap settings_in rows ∙ rw none refl
 
 -- a fault is one of those that the words have
 among : (kind : ErrorKind) (kinds : Kinds) → IsAmong kind kinds → is_empty kinds ≡ false

@@ -1,4 +1,5 @@
 pub mod Codes
-pub mod Finished
 pub mod Settings
 pub mod Table
+pub mod TraceFor
+pub mod inside

@@ -9,6 +9,8 @@ use Rattle.clap.specs.Faults.{fault_of}
 use Rattle.clap.specs.Simple.{App, matches_of, new_app, new_rule, on_top, with_rule}
 use Rattle.clap.specs.Walk.{Row, Rule, first_of, is_empty}
 use Rattle.clap.specs.declared.builder.action.ArgAction.TheVariants.{Set}
+use Rattle.layout.specs.Sizes.{fewest_pages, most_pages, segment_pages}
+use Rattle.trace_text.specs.Parts.{most_shards}
 use Rattle.shardcache.specs.declared.settings.Settings.{Settings as Found}
 use Rattle.shardcache.specs.declared.settings.mode.Mode.{Mode}
 use Rattle.shardcache.specs.declared.settings.mode.Mode.TheVariants.{Run}
@@ -21,7 +23,7 @@ pub record Settings : Type 0 where
   pub number : ℕ
   pub commands : ℕ
 
--- the settings that the code found, as such a record
+-- the settings of the code, as such a record
 abbrev pub view : Found → Settings
 view found = record {
   mode = found.mode;
@@ -78,20 +80,34 @@ number_within least most default None = Some default
 number_within least most default (Some text) =
     number_of text >>= λ number. if nat_le least number && nat_le number most then Some number else None
 
--- the pages of a shard are whole groups of 32, and all shards together have at most 262,144
+-- the pages of a shard where none are asked for, and the most pages of all shards together: 1 GiB
+abbrev pub default_pages : ℕ
+default_pages = 8192
+
+abbrev pub most_pages_in_all : ℕ
+most_pages_in_all = 262144
+
+-- the greatest number, and the most commands of a made trace
+abbrev pub greatest_number : ℕ
+greatest_number = 4294967295
+
+abbrev pub most_made_commands : ℕ
+most_made_commands = 100000
+
+-- the pages of a shard are those of whole segments, and all shards together have no more than the most
 abbrev pub are_pages : ℕ → ℕ → Bool
-are_pages shards pages = pages % 32 == 0 && nat_le (shards * pages) 262144
+are_pages shards pages = pages % segment_pages == 0 && nat_le (shards * pages) most_pages_in_all
 
 -- What the values of the arguments ask, of which clap found `first_of NAME rows`. An option is checked whether or not
 -- the mode uses it.
-unfoldable pub asked_by : List Row → Option Settings
-asked_by rows = do
+unfoldable pub settings_in : List Row → Option Settings
+settings_in rows = do
   word ← first_of (codes "mode") rows
   mode ← mode_of word
-  shards ← number_within 1 16 1 (first_of (codes "shards") rows)
-  pages ← number_within 1280 65536 8192 (first_of (codes "pages") rows)
-  number ← number_within 0 4294967295 0 (first_of (codes "number") rows)
-  commands ← number_within 1 100000 100000 (first_of (codes "commands") rows)
+  shards ← number_within 1 most_shards 1 (first_of (codes "shards") rows)
+  pages ← number_within fewest_pages most_pages default_pages (first_of (codes "pages") rows)
+  number ← number_within 0 greatest_number 0 (first_of (codes "number") rows)
+  commands ← number_within 1 most_made_commands most_made_commands (first_of (codes "commands") rows)
   if are_pages shards pages then Some (record {
     mode = mode;
     shards = shards;
@@ -103,4 +119,4 @@ asked_by rows = do
 -- What the words behind the program's name ask: nothing where clap finds a fault with them, by its own definition of
 -- a command's parse, and else what the values ask that it finds in them.
 unfoldable pub settings : List (List ℕ) → Option Settings
-settings words = if is_empty (fault_of command words) then asked_by (matches_of command words) else None
+settings words = if is_empty (fault_of command words) then settings_in (matches_of command words) else None

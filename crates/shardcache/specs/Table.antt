@@ -1,99 +1,85 @@
--- What a call of the program may have written, by its status.
-use Rattle.std.specs.Prelude.{◌≡◌, ◌≢◌, ℕ, ◌<◌, ◌+◌, ◌⊎◌, ◌++◌, List, [], length, codes, decimal, slice_index_or, Some, None, Ok, Err, Option}
+-- The table of the top call: what a call may have written, by its status.
+use Rattle.std.specs.Prelude.{◌≡◌, ℕ, ◌+◌, ◌++◌, List, [], length, codes, slice_index_or, Some, None, Result, Ok, Err, Option}
 use Rattle.std.specs.Io.KnownBytes.{Appends, Consumes, IsAtEnd}
-use Rattle.outside.specs.Moves.{AppendsFront}
-use Rattle.trace_text.specs.declared.refusal.Cause.{Cause}
-use Rattle.trace_text.specs.declared.refusal.Cause.TheVariants.{UnknownWord, MissingField, KeyLength, KeyByte, ValueLength, ValueByte, Count, ExtraField, TooManyCommands, RepliesTooLarge}
-use Rattle.trace_text.specs.Operation.{Operation}
-use Rattle.trace_text.specs.Reading.{Refusal, TooLong, AtLine, most_bytes, trace_of}
-use Rattle.plain_cache.specs.declared.journal.Entry.{Entry}
-use Rattle.plain_cache.specs.Row.{dense, tight_floor}
-use Rattle.plain_cache.specs.Legal.{EvictsAbove}
-use Rattle.plain_cache.specs.Report.{line, IsReportOf}
+use Rattle.layout.specs.Sizes.{dense}
+use Rattle.trace_text.specs.Reading.{TooLong, AtLine, most_bytes}
+use Rattle.trace_text.specs.Trace.{Trace}
+use Rattle.cache_model.specs.declared.entry.Entry.{Entry}
+use Rattle.cache_model.specs.Row.{tight_floor}
+use Rattle.cache_model.specs.Legal.{EvictsAbove}
+use Rattle.cache_model.specs.Report.{line, IsLegalReport}
+use Rattle.shardcache.specs.declared.settings.mode.Mode.{Mode}
+use Rattle.shardcache.specs.declared.settings.mode.Mode.TheVariants.{Run}
 use Rattle.shardcache.specs.declared.status.Status.{Status}
 use Rattle.shardcache.specs.declared.status.Status.TheVariants as status
 use Rattle.shardcache.specs.Settings.{Settings, settings}
+use Rattle.shardcache.specs.TraceFor.{Refusal, NotYetShards, NoTrace, refusal_text, trace_for}
 
-abbrev pub cause_name : Cause → List ℕ
-cause_name UnknownWord = codes "UnknownWord"
-cause_name MissingField = codes "MissingField"
-cause_name KeyLength = codes "KeyLength"
-cause_name KeyByte = codes "KeyByte"
-cause_name ValueLength = codes "ValueLength"
-cause_name ValueByte = codes "ValueByte"
-cause_name Count = codes "Count"
-cause_name ExtraField = codes "ExtraField"
-cause_name TooManyCommands = codes "TooManyCommands"
-cause_name RepliesTooLarge = codes "RepliesTooLarge"
+-- ---- by the mode
 
-abbrev pub refusal_text : Refusal → List ℕ
-refusal_text TooLong = line (codes "refused line 0 TooLong")
-refusal_text (AtLine number cause) = line (codes "refused line " ++ decimal number ++ codes " " ++ cause_name cause)
+-- The bytes that are the trace. `run` reads it: they are the bytes that were taken from the source.
+abbrev pub trace_bytes : Mode → List ℕ → List ℕ
+trace_bytes Run taken = taken
 
--- The bytes read are a trace, and what was written is a legal report of it. With one shard each eviction of the
--- printed journal stands where the live bytes exceed what no lent block leaves, and a dense segment more.
-pub record Reports (asked : Settings) (bytes text : List ℕ) : Type 0 where
-  pub trace : List Operation
-  pub read : trace_of bytes asked.shards ≡ Ok trace
-  pub journals : List (List Entry)
-  pub report : IsReportOf trace asked.shards asked.pages text journals
-  pub evicts : asked.shards ≡ 1 → (d : List Entry)
-      → EvictsAbove trace asked.pages (tight_floor asked.pages 0 + dense) (slice_index_or journals 0 d)
+-- How far the source was read for a trace, or for why it is none. `run` reads it to its end, but of a trace that is
+-- too long one byte above the most, and nothing where it would not run the trace anyway.
+abbrev pub IsRead : Mode → Result Trace Refusal → List ℕ → Option (List ℕ) → Type 0
+IsRead Run (Ok trace) taken left = IsAtEnd left
+IsRead Run (Err NotYetShards) taken left = taken ≡ []
+IsRead Run (Err (NoTrace TooLong)) taken left = length taken ≡ most_bytes + 1
+IsRead Run (Err (NoTrace (AtLine number cause))) taken left = IsAtEnd left
 
--- the bytes read are refused, and the refusal was written
-pub record Refuses (asked : Settings) (bytes : List ℕ) (left : Option (List ℕ)) (text : List ℕ) : Type 0 where
-  pub refusal : Refusal
-  pub read : trace_of bytes asked.shards ≡ Err refusal
-  pub written : text ≡ refusal_text refusal
-  -- one byte above the limit was taken, or all bytes were
-  pub taken : refusal ≡ TooLong → length bytes ≡ most_bytes + 1
-  pub ended : refusal ≢ TooLong → IsAtEnd left
+-- The text is a legal report of the trace. With one shard each eviction of the printed journal stands where the live
+-- bytes exceed what no lent block leaves, and a dense segment more.
+pub record Reports (settings : Settings) (trace : Trace) (text : List ℕ) : Type 0 where
+  pub report : IsLegalReport trace settings.shards settings.pages text
+  pub evicts : settings.shards ≡ 1 → (d : List Entry)
+      → EvictsAbove trace settings.pages (tight_floor settings.pages 0 + dense) (slice_index_or report.0 0 d)
 
--- more shards than one are not run yet; nothing was read
-abbrev pub IsNotYet : Settings → List ℕ → List ℕ → Type 0
-IsNotYet asked bytes text = (1 < asked.shards) × (bytes ≡ []) × (text ≡ line (codes "refused line 0 NotYetShards"))
+-- what is written of a trace that was run: by `run` its report
+abbrev pub IsOutput : Mode → Settings → Trace → List ℕ → Type 0
+IsOutput Run settings trace text = Reports settings trace text
 
--- What stands where a call whose words are these took these bytes, and wrote this text to its end; `left` is
--- what the source has left.
-abbrev pub IsWhole : Status → List (List ℕ) → List ℕ → Option (List ℕ) → List ℕ → Type 0
-IsWhole status.Done words bytes left text =
-    (asked : Settings) × (settings words ≡ Some asked) × (asked.shards ≡ 1) × IsAtEnd left × Reports asked bytes text
-IsWhole status.Usage words bytes left text = (settings words ≡ None) × (bytes ≡ []) × (text ≡ line (codes "usage"))
-IsWhole status.Refused words bytes left text =
-    (asked : Settings) × (settings words ≡ Some asked) × (IsNotYet asked bytes text ⊎ ((asked.shards ≡ 1) × Refuses asked bytes left text))
-IsWhole status.ReadFault words bytes left text =
-    (asked : Settings) × (settings words ≡ Some asked) × (asked.shards ≡ 1) × (text ≡ line (codes "read fault"))
-IsWhole status.WriteFault words bytes left text = ⊥
-IsWhole status.Memory words bytes left text = ⊥
+-- ---- by the status
 
--- The same for what a call wrote: after a write fault it is a front of what should have been written, and
--- where memory ran out it is nothing.
-abbrev pub IsTold : Status → List (List ℕ) → List ℕ → Option (List ℕ) → List ℕ → Type 0
-IsTold status.Done words bytes left text = IsWhole status.Done words bytes left text
-IsTold status.Usage words bytes left text = IsWhole status.Usage words bytes left text
-IsTold status.Refused words bytes left text = IsWhole status.Refused words bytes left text
-IsTold status.ReadFault words bytes left text = IsWhole status.ReadFault words bytes left text
-IsTold status.WriteFault words bytes left text = (should : Status) × (rest : List ℕ) × IsWhole should words bytes left (text ++ rest)
-IsTold status.Memory words bytes left text = text ≡ []
+-- the words ask for these settings, and the bytes that are the trace are this trace, or are refused so
+pub record Means (words : List (List ℕ)) (taken : List ℕ) (left : Option (List ℕ)) (found : Settings) (meaning : Result Trace Refusal) : Type 0 where
+  pub asked : settings words ≡ Some found
+  pub trace : trace_for found (trace_bytes found.mode taken) ≡ meaning
+  pub read : IsRead found.mode meaning taken left
 
--- what a call took from its source and appended to its sink, as far as they tell, is as the status says
-pub record IsAnswered (answered : Status) (words : List (List ℕ)) (before left before_sink after_sink : Option (List ℕ)) : Type 0 where
-  pub bytes : List ℕ
+-- the words ask for a trace that is read: with one shard
+pub record Reads (words : List (List ℕ)) : Type 0 where
+  pub found : Settings
+  pub asked : settings words ≡ Some found
+  pub one_shard : found.shards ≡ 1
+
+-- What stands where a call whose words are these took these bytes, and wrote this text to its end; `left` is what the
+-- source has left.
+abbrev pub WritesAll : Status → List (List ℕ) → List ℕ → Option (List ℕ) → List ℕ → Type 0
+WritesAll status.Done words taken left text =
+    (found : Settings) × (trace : Trace) × Means words taken left found (Ok trace) × IsOutput found.mode found trace text
+WritesAll status.Usage words taken left text = (settings words ≡ None) × (taken ≡ []) × (text ≡ line (codes "usage"))
+WritesAll status.Refused words taken left text =
+    (found : Settings) × (refusal : Refusal) × Means words taken left found (Err refusal) × (text ≡ refusal_text refusal)
+WritesAll status.ReadFault words taken left text = Reads words × (text ≡ line (codes "read fault"))
+WritesAll status.WriteFault words taken left text = ⊥
+WritesAll status.Memory words taken left text = ⊥
+
+-- The same for what a call wrote: after a write fault it is a front of what one of the other rows allows, and where
+-- memory ran out it is nothing.
+abbrev pub Writes : Status → List (List ℕ) → List ℕ → Option (List ℕ) → List ℕ → Type 0
+Writes status.Done words taken left text = WritesAll status.Done words taken left text
+Writes status.Usage words taken left text = WritesAll status.Usage words taken left text
+Writes status.Refused words taken left text = WritesAll status.Refused words taken left text
+Writes status.ReadFault words taken left text = WritesAll status.ReadFault words taken left text
+Writes status.WriteFault words taken left text = (other : Status) × (rest : List ℕ) × WritesAll other words taken left (text ++ rest)
+Writes status.Memory words taken left text = text ≡ []
+
+-- what a call took from its source and appended to its sink, as far as they tell, is as its status says
+pub record FollowsTable (status : Status) (words : List (List ℕ)) (before left before_sink after_sink : Option (List ℕ)) : Type 0 where
+  pub taken : List ℕ
   pub text : List ℕ
-  pub took : Consumes before left bytes
+  pub took : Consumes before left taken
   pub wrote : Appends before_sink after_sink text
-  pub told : IsTold answered words bytes left text
-
--- A text was written whole with this status; or the sink failed, and a front of it was written; or memory ran out,
--- and nothing was.
-abbrev pub IsSaid : Status → Status → Option (List ℕ) → Option (List ℕ) → List ℕ → Type 0
-IsSaid answered wanted before after text =
-    ((answered ≡ wanted) × Appends before after text)
-    ⊎ (((answered ≡ status.WriteFault) × AppendsFront before after text) ⊎ ((answered ≡ status.Memory) × Appends before after []))
-
--- A trace of these bytes was run and its report said, or it was refused and that was said.
-abbrev pub IsWorked : Settings → Status → List ℕ → Option (List ℕ) → Option (List ℕ) → Type 0
-IsWorked asked answered bytes before after =
-    ((trace : List Operation) × (trace_of bytes asked.shards ≡ Ok trace) × (text : List ℕ) × Reports asked bytes text × IsSaid answered status.Done before after text)
-    ⊎ (((number : ℕ) × (cause : Cause) × (trace_of bytes asked.shards ≡ Err (AtLine number cause)) × IsSaid answered status.Refused before after (refusal_text (AtLine number cause)))
-    ⊎ ((answered ≡ status.Memory) × Appends before after []))
+  pub row : Writes status words taken left text

@@ -1,13 +1,15 @@
 //! The top call.
 ghost use Rattle.std.specs.Prelude.{◌≡◌, ◌≢◌, ◌⊎◌, ◌<◌, ◌≤◌, ◌∷◌, [], ℕ, List, length, map, string_bytes, IsOk, IsErr, None, Some};
 ghost use Rattle.outside.specs.Rose.{Rose};
-ghost use Rattle.plain_cache.specs.Report.{report};
-ghost use Rattle.plain_cache.specs.Row.{ArePages};
+ghost use Rattle.cache_model.specs.Report.{report};
+ghost use Rattle.layout.specs.Sizes.{ArePages};
 ghost use Rattle.trace_text.specs.Parsed.{trace_in};
-ghost use Rattle.trace_text.specs.Reading.{AtLine, trace_of};
-ghost use Rattle.shardcache.specs.Finished.{IsRunOf};
-ghost use Rattle.shardcache.specs.Settings.{Settings as Asked, settings, view};
-ghost use Rattle.shardcache.specs.Table.{IsAnswered, IsSaid, IsWorked, cause_name, refusal_text};
+ghost use Rattle.trace_text.specs.Reading.{AtLine};
+ghost use Rattle.shardcache.specs.Settings.{Settings as Wanted, settings as settings_of, view};
+ghost use Rattle.shardcache.specs.Table.{FollowsTable, trace_bytes};
+ghost use Rattle.shardcache.specs.TraceFor.{NoTrace, refusal_text, trace_for};
+ghost use Rattle.shardcache.specs.inside.Ending.{EndsRun, EndsWith};
+ghost use Rattle.shardcache.specs.inside.Finished.{IsRunOf};
 
 use crate::run::{Finished, do_all};
 use crate::settings::{Settings, settings_of};
@@ -15,14 +17,11 @@ use crate::status::Status;
 use outside::{ReadStop, Sink, Source, read_all, write_all};
 use report_text::{ShardLine, write_report};
 use std::alloc::Global;
-use trace_text::{Cause, ParseRefusal, Trace, parse};
-
-/// The most bytes of a trace.
-const MOST_BYTES: u32 = 67_108_864;
+use trace_text::{Cause, MOST_BYTES, ParseRefusal, Trace, parse};
 
 /// Writes a text to its end, and answers this status, or that the sink failed.
-fn say<K: Sink>(sink: &mut K, text: &[u8], status: Status) -> Status
-    ensures said { IsSaid result status (K.written sink.old) (K.written sink.new) text.now }
+fn write_line<K: Sink>(sink: &mut K, text: &[u8], status: Status) -> Status
+    ensures written { EndsWith result status (K.written sink.old) (K.written sink.new) text.now }
     ensures cases { (result ≡ status) ⊎ (result ≡ Status.WriteFault) }
     ensures fault { status ≢ Status.WriteFault → result ≡ Status.WriteFault → Rose (K.faults sink.old) (K.faults sink.new) }
 {
@@ -32,41 +31,23 @@ fn say<K: Sink>(sink: &mut K, text: &[u8], status: Status) -> Status
     }
 }
 
-/// The name of a cause, as it is printed.
-fn name_of(cause: Cause) -> &'static str
-    ensures { result.now ≡ cause_name cause }
-{
-    match cause {
-        Cause::UnknownWord => "UnknownWord",
-        Cause::MissingField => "MissingField",
-        Cause::KeyLength => "KeyLength",
-        Cause::KeyByte => "KeyByte",
-        Cause::ValueLength => "ValueLength",
-        Cause::ValueByte => "ValueByte",
-        Cause::Count => "Count",
-        Cause::ExtraField => "ExtraField",
-        Cause::TooManyCommands => "TooManyCommands",
-        Cause::RepliesTooLarge => "RepliesTooLarge",
-    }
-}
-
-/// Says that a trace is refused: the line, and the cause.
+/// Writes that a trace is refused: the line, and the cause.
 fn refuse<K: Sink>(alloc: Global, sink: &mut K, line: u32, cause: Cause) -> Status
-    ensures said { IsSaid result Status.Refused (K.written sink.old) (K.written sink.new) (refusal_text (AtLine line cause)) }
+    ensures written { EndsWith result Status.Refused (K.written sink.old) (K.written sink.new) (refusal_text (NoTrace (AtLine line cause))) }
     ensures fault { result ≡ Status.WriteFault → Rose (K.faults sink.old) (K.faults sink.new) }
 {
-    let name = name_of(cause);
+    let name = cause.name();
     let Ok(text) = format!(in alloc; "refused line {line} {name}\n") else {
         return Status::Memory;
     };
-    say(sink, text.as_bytes(), Status::Refused)
+    write_line(sink, text.as_bytes(), Status::Refused)
 }
 
 /// Writes the report of what one shard of so many pages did.
 fn report_finished<K: Sink>(sink: &mut K, trace: &Trace, pages: u32, finished: Finished) -> Status
     requires one_shard { trace.now.shards ≡ 1 }
     requires run { IsRunOf (trace_in trace.now) pages finished.journal.entries finished.log.replies finished.rows finished.live }
-    ensures said { IsSaid result Status.Done (K.written sink.old) (K.written sink.new) (report (trace_in trace.now) 1 pages (finished.journal.entries ∷ [])) }
+    ensures written { EndsWith result Status.Done (K.written sink.old) (K.written sink.new) (report (trace_in trace.now) 1 pages (finished.journal.entries ∷ [])) }
     ensures fault { result ≡ Status.WriteFault → Rose (K.faults sink.old) (K.faults sink.new) }
 {
     let Finished {
@@ -88,16 +69,16 @@ fn report_finished<K: Sink>(sink: &mut K, trace: &Trace, pages: u32, finished: F
 }
 
 /// Runs a trace of these bytes on one shard, and writes the report or the refusal.
-fn work<K: Sink>(alloc: Global, asked: Settings, bytes: Vec<u8>, sink: &mut K) -> Status
+fn run_bytes<K: Sink>(alloc: Global, settings: Settings, bytes: Vec<u8>, sink: &mut K) -> Status
     requires short { length bytes.items ≤ MOST_BYTES }
-    requires one_shard { asked.shards ≡ 1 }
-    requires pages { ArePages asked.pages }
-    ensures worked { IsWorked (view asked) result bytes.items (K.written sink.old) (K.written sink.new) }
+    requires one_shard { settings.shards ≡ 1 }
+    requires pages { ArePages settings.pages }
+    ensures ending { EndsRun (view settings) result bytes.items (K.written sink.old) (K.written sink.new) }
     ensures fault { result ≡ Status.WriteFault → Rose (K.faults sink.old) (K.faults sink.new) }
 {
-    match parse(alloc, bytes, asked.shards) {
-        Ok(trace) => match do_all(alloc, &trace, asked.pages) {
-            Ok(finished) => report_finished(sink, &trace, asked.pages, finished),
+    match parse(alloc, bytes, settings.shards) {
+        Ok(trace) => match do_all(alloc, &trace, settings.pages) {
+            Ok(finished) => report_finished(sink, &trace, settings.pages, finished),
             Err(_) => Status::Memory,
         },
         Err(ParseRefusal::Trace { line, cause }) => refuse(alloc, sink, line, cause),
@@ -106,22 +87,22 @@ fn work<K: Sink>(alloc: Global, asked: Settings, bytes: Vec<u8>, sink: &mut K) -
 }
 
 /// Reads a trace from the source to its end and runs it.
-fn read_and_work<S: Source, K: Sink>(
+fn read_and_run<S: Source, K: Sink>(
     alloc: Global,
-    asked: Settings,
+    settings: Settings,
     source: &mut S,
     sink: &mut K,
 ) -> Status
-    requires one_shard { asked.shards ≡ 1 }
-    requires pages { ArePages asked.pages }
-    ensures told { (words : List (List ℕ)) → settings words ≡ Some (view asked) → IsAnswered result words (S.left source.old) (S.left source.new) (K.written sink.old) (K.written sink.new) }
+    requires one_shard { settings.shards ≡ 1 }
+    requires pages { ArePages settings.pages }
+    ensures table { (words : List (List ℕ)) → settings_of words ≡ Some (view settings) → FollowsTable result words (S.left source.old) (S.left source.new) (K.written sink.old) (K.written sink.new) }
     ensures read_fault { result ≡ Status.ReadFault → Rose (S.faults source.old) (S.faults source.new) }
     ensures write_fault { result ≡ Status.WriteFault → Rose (K.faults sink.old) (K.faults sink.new) }
 {
     match read_all(alloc, source, MOST_BYTES) {
-        Ok(bytes) => work(alloc, asked, bytes, sink),
-        Err(ReadStop::Fault) => say(sink, b"read fault\n", Status::ReadFault),
-        Err(ReadStop::TooLong) => say(sink, b"refused line 0 TooLong\n", Status::Refused),
+        Ok(bytes) => run_bytes(alloc, settings, bytes, sink),
+        Err(ReadStop::Fault) => write_line(sink, b"read fault\n", Status::ReadFault),
+        Err(ReadStop::TooLong) => write_line(sink, b"refused line 0 TooLong\n", Status::Refused),
         Err(ReadStop::Memory) => Status::Memory,
     }
 }
@@ -137,6 +118,8 @@ fn read_and_work<S: Source, K: Sink>(
 /// | `ReadFault` | `read fault`, only where the source failed |
 /// | `WriteFault` | a front of what should have been written, only where the sink failed |
 /// | `Memory` | nothing, where memory ran out |
+///
+/// The headline is the first row of the clause's table, `specs/Table.antt`.
 pub fn shardcache<R, S: Source, K: Sink>(
     _rt: &R,
     alloc: Global,
@@ -144,32 +127,32 @@ pub fn shardcache<R, S: Source, K: Sink>(
     source: &mut S,
     sink: &mut K,
 ) -> Status
-    ensures told { IsAnswered result (map (λ word. string_bytes word) words.now) (S.left source.old) (S.left source.new) (K.written sink.old) (K.written sink.new) }
+    ensures headline { FollowsTable result (map (λ word. string_bytes word) words.now) (S.left source.old) (S.left source.new) (K.written sink.old) (K.written sink.new) }
     ensures read_fault { result ≡ Status.ReadFault → Rose (S.faults source.old) (S.faults source.new) }
     ensures write_fault { result ≡ Status.WriteFault → Rose (K.faults sink.old) (K.faults sink.new) }
-    ensures usage { settings (map (λ word. string_bytes word) words.now) ≡ None
+    ensures usage { settings_of (map (λ word. string_bytes word) words.now) ≡ None
         → (result ≡ Status.Usage) ⊎ ((result ≡ Status.WriteFault) ⊎ (result ≡ Status.Memory)) }
-    ensures not_yet { (asked : Asked) → settings (map (λ word. string_bytes word) words.now) ≡ Some asked → 1 < asked.shards
+    ensures not_yet { (wanted : Wanted) → settings_of (map (λ word. string_bytes word) words.now) ≡ Some wanted → 1 < wanted.shards
         → (result ≡ Status.Refused) ⊎ ((result ≡ Status.WriteFault) ⊎ (result ≡ Status.Memory)) }
 
     // Where no fault rose, a trace is run and what is no trace is refused, unless memory runs out.
-    ensures accepted { (bytes : List ℕ) (asked : Asked) → S.left source.old ≡ Some bytes → settings (map (λ word. string_bytes word) words.now) ≡ Some asked
-        → asked.shards ≡ 1 → IsOk (trace_of bytes asked.shards)
+    ensures accepted { (bytes : List ℕ) (wanted : Wanted) → S.left source.old ≡ Some bytes
+        → settings_of (map (λ word. string_bytes word) words.now) ≡ Some wanted → IsOk (trace_for wanted (trace_bytes wanted.mode bytes))
         → ¬ Rose (S.faults source.old) (S.faults source.new) → ¬ Rose (K.faults sink.old) (K.faults sink.new)
         → (result ≡ Status.Done) ⊎ (result ≡ Status.Memory) }
-    ensures refused { (bytes : List ℕ) (asked : Asked) → S.left source.old ≡ Some bytes → settings (map (λ word. string_bytes word) words.now) ≡ Some asked
-        → asked.shards ≡ 1 → IsErr (trace_of bytes asked.shards)
+    ensures refused { (bytes : List ℕ) (wanted : Wanted) → S.left source.old ≡ Some bytes
+        → settings_of (map (λ word. string_bytes word) words.now) ≡ Some wanted → IsErr (trace_for wanted (trace_bytes wanted.mode bytes))
         → ¬ Rose (S.faults source.old) (S.faults source.new) → ¬ Rose (K.faults sink.old) (K.faults sink.new)
         → (result ≡ Status.Refused) ⊎ (result ≡ Status.Memory) }
 {
-    let Ok(asked) = settings_of(alloc, words) else {
+    let Ok(found) = settings_of(alloc, words) else {
         return Status::Memory;
     };
-    let Some(asked) = asked else {
-        return say(sink, b"usage\n", Status::Usage);
+    let Some(settings) = found else {
+        return write_line(sink, b"usage\n", Status::Usage);
     };
-    if asked.shards > 1 {
-        return say(sink, b"refused line 0 NotYetShards\n", Status::Refused);
+    if settings.shards > 1 {
+        return write_line(sink, b"refused line 0 NotYetShards\n", Status::Refused);
     }
-    read_and_work(alloc, asked, source, sink)
+    read_and_run(alloc, settings, source, sink)
 }

@@ -3,12 +3,16 @@ ghost use Rattle.std.specs.Prelude.{◌≡◌, ◌+◌, ◌-◌, ◌<◌, ◌≤
 ghost use Rattle.std.specs.List.{slice_get};
 ghost use Rattle.trace_text.specs.Operation.{operation};
 ghost use Rattle.trace_text.specs.Parsed.{trace_in};
-ghost use Rattle.plain_cache.specs.Apply.{apply};
-ghost use Rattle.plain_cache.specs.Row.{ArePages};
-ghost use Rattle.plain_cache.specs.Spelled.{spelled};
-ghost use Rattle.shardcache.specs.Finished.{IsRunOf};
+ghost use Rattle.cache_model.specs.Apply.{apply};
+ghost use Rattle.layout.specs.Sizes.{ArePages};
+ghost use Rattle.cache_model.specs.Spelled.{spelled};
+ghost use Rattle.shardcache.specs.inside.Finished.{IsRunOf};
 
-use plain_cache::{Entry, Journal, Plain, ReplyLog, an_ordered_reply_stays};
+use cache_model::{
+    a_report_has_its_lines, bodies_have_room, logs_hold_the_answers, one_shard_answers_alone,
+    replies_tell_what_was_put,
+};
+use plain_cache::{Entry, Journal, Plain, ReplyLog};
 use std::alloc::{AllocError, Global};
 use trace_text::{Command, Trace};
 
@@ -64,7 +68,11 @@ pub fn do_all(alloc: Global, trace: &Trace, pages: u32) -> Result<Finished, Allo
     let mut log = ReplyLog::new(alloc, needs.own_parts, needs.reply_bytes)?;
     let mut journal = Journal::new(alloc, needs.here_parts + needs.here_puts)?;
     let mut body = Vec::new(alloc);
-    an_ordered_reply_stays();
+    bodies_have_room();
+    replies_tell_what_was_put();
+    a_report_has_its_lines();
+    one_shard_answers_alone();
+    logs_hold_the_answers();
     for command in commands {
         do_command(
             alloc,

@@ -1,8 +1,8 @@
 //! What the words of the command line ask.
 ghost use Rattle.std.specs.Prelude.{◌≡◌, ◌≤◌, IfOk, IfSome, map, option_map, string_bytes};
-ghost use Rattle.plain_cache.specs.Row.{ArePages};
+ghost use Rattle.layout.specs.Sizes.{ArePages};
 ghost use Rattle.clap.specs.Words.{first_of, found_of, rows_of};
-ghost use Rattle.shardcache.specs.Settings.{asked_by, settings, view};
+ghost use Rattle.shardcache.specs.Settings.{settings, settings_in, view};
 
 mod command;
 mod mode;
@@ -11,22 +11,36 @@ mod number;
 use clap::ArgMatches;
 use clap::error::ErrorKind;
 use command::command;
+use layout::{FEWEST_PAGES, MOST_PAGES, SEGMENT_PAGES};
 pub use mode::Mode;
 use mode::mode_of;
 use number::number_within;
 use std::alloc::{AllocError, Global};
+use trace_text::MOST_SHARDS;
 
 #[cfg(test)]
 mod tests;
+
+/// The pages of a shard where none are asked for.
+const DEFAULT_PAGES: u32 = 8192;
+
+/// The most pages of all shards together: 1 GiB.
+const MOST_PAGES_IN_ALL: u32 = 262_144;
+
+/// The most commands of a made trace.
+const MOST_MADE_COMMANDS: u32 = 100_000;
 
 /// What the words of the command line ask.
 #[derive(Clone, Copy, Debug, PartialEq, Eq)]
 pub struct Settings {
     pub mode: Mode,
+    /// How many shards there are.
     pub shards: u32,
-    /// Of each shard.
+    /// The pages of each shard.
     pub pages: u32,
+    /// The number from which what a mode chooses is drawn.
     pub number: u32,
+    /// The commands of a made trace.
     pub commands: u32,
 }
 
@@ -38,18 +52,20 @@ fn value_of<'a>(matches: &ArgMatches<'a>, name: &str) -> Option<&'a str>
 }
 
 /// What the values of the arguments ask, or none where one of them is refused.
-#[tactic(auto, unfolding(crate::specs::Settings::asked_by))]
-fn asked_by(matches: &ArgMatches<'_>) -> Option<Settings>
-    ensures value { option_map view result ≡ asked_by (rows_of (found_of matches.now)) }
-    ensures pages { IfSome result (λ asked. ArePages asked.pages) }
-    ensures shards { IfSome result (λ asked. 1 ≤ asked.shards) }
+#[tactic(auto, unfolding(crate::specs::Settings::settings_in))]
+fn settings_in(matches: &ArgMatches<'_>) -> Option<Settings>
+    ensures value { option_map view result ≡ settings_in (rows_of (found_of matches.now)) }
+    ensures pages { IfSome result (λ found. ArePages found.pages) }
+    ensures shards { IfSome result (λ found. 1 ≤ found.shards) }
 {
     let mode = mode_of(value_of(matches, "mode")?)?;
-    let shards = number_within(value_of(matches, "shards"), 1, 16, 1)?;
-    let pages = number_within(value_of(matches, "pages"), 1280, 65_536, 8192)?;
+    let shards = number_within(value_of(matches, "shards"), 1, MOST_SHARDS, 1)?;
+    let pages = value_of(matches, "pages");
+    let pages = number_within(pages, FEWEST_PAGES, MOST_PAGES, DEFAULT_PAGES)?;
     let number = number_within(value_of(matches, "number"), 0, u32::MAX, 0)?;
-    let commands = number_within(value_of(matches, "commands"), 1, 100_000, 100_000)?;
-    if pages % 32 == 0 && shards * pages <= 262_144 {
+    let commands = value_of(matches, "commands");
+    let commands = number_within(commands, 1, MOST_MADE_COMMANDS, MOST_MADE_COMMANDS)?;
+    if pages % SEGMENT_PAGES == 0 && shards * pages <= MOST_PAGES_IN_ALL {
         Some(Settings {
             mode,
             shards,
@@ -73,14 +89,18 @@ fn asked_by(matches: &ArgMatches<'_>) -> Option<Settings>
 /// | `--commands N` | 1 to 100,000 | 100,000 |
 ///
 /// N is 1 to 10 digits and nothing else. The words are read by clap, which also takes `--shards=N`, options before
-/// the mode, and `--` behind which no word is an option. Fails only where memory runs out.
+/// the mode, and `--` behind which no word is an option. An option is checked whether or not the mode uses it.
+///
+/// # Errors
+///
+/// [`AllocError`] where memory runs out.
 pub fn settings_of(alloc: Global, words: &[String]) -> Result<Option<Settings>, AllocError>
-    ensures asked { IfOk result (λ asked. option_map view asked ≡ settings (map (λ word. string_bytes word) words.now)) }
-    ensures pages { IfOk result (λ asked. IfSome asked (λ found. ArePages found.pages)) }
-    ensures shards { IfOk result (λ asked. IfSome asked (λ found. 1 ≤ found.shards)) }
+    ensures settings { IfOk result (λ found. option_map view found ≡ settings (map (λ word. string_bytes word) words.now)) }
+    ensures pages { IfOk result (λ found. IfSome found (λ some. ArePages some.pages)) }
+    ensures shards { IfOk result (λ found. IfSome found (λ some. 1 ≤ some.shards)) }
 {
     match command(alloc)?.try_get_matches_from(words) {
-        Ok(matches) => Ok(asked_by(&matches)),
+        Ok(matches) => Ok(settings_in(&matches)),
         Err(error) => match error.kind() {
             ErrorKind::OutOfMemory => Err(AllocError),
             _ => Ok(None),

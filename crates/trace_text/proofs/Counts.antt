@@ -7,7 +7,8 @@ use Rattle.std.proofs.lemmas.Bool.{cases_lt}
 use Rattle.std.proofs.lemmas.Bool.Decides.{nat_tests}
 use Rattle.std.proofs.lemmas.Fmt.{decimal_digit, decimal_step}
 use Rattle.std.proofs.lemmas.Slice.Eq.{bytes_eq-Decides}
-use Rattle.trace_text.specs.Found.{digits_in}
+use Rattle.layout.specs.Sizes.{most_keys}
+use Rattle.trace_text.specs.inside.Found.{digits_in}
 use Rattle.trace_text.specs.Line.{count_of}
 
 abbrev within : ℕ → ℕ → ℕ → Bool
@@ -54,10 +55,13 @@ digits_of m small = elim (cases_lt m 10) [
   | inr two ↦ rw (decimal_step m two (omega arith), decimal_digit (m / 10) (omega arith)) (omega arith)
 ]
 
-count_found : (field : List ℕ) → count_of field ≡ cond (within 1 32 (digits_in field) && bytes_eq (decimal (digits_in field)) field) (Some (digits_in field)) None
-count_found field = find_range (λ n. bytes_eq (decimal n) field) (digits_in field) 1 32
+count_found : (field : List ℕ) → count_of field ≡ cond (within 1 most_keys (digits_in field) && bytes_eq (decimal (digits_in field)) field) (Some (digits_in field)) None
+count_found field = find_range (λ n. bytes_eq (decimal n) field) (digits_in field) 1 most_keys
     (λ m low high e. sym (digits_of m (omega arith)) ∙ ap digits_in ((bytes_eq-Decides (decimal m) field).0 e))
 
-pub count_is : (field : List ℕ) (n : ℕ) (b : Bool) → n ≡ digits_in field → b ≡ (within 1 32 n && bytes_eq (decimal n) field)
+at_most : (n : ℕ) → within 1 most_keys n ≡ (leb 1 n && leb n most_keys)
+at_most n = grind (arith, nat_tests)
+
+pub count_is : (field : List ℕ) (n : ℕ) (b : Bool) → n ≡ digits_in field → b ≡ (leb 1 n && leb n most_keys && bytes_eq (decimal n) field)
     → cond b (Some n) None ≡ count_of field
-count_is field n b e tested = rw (tested, e) (sym (count_found field))
+count_is field n b e tested = rw (tested, e, ← at_most (digits_in field)) (sym (count_found field))

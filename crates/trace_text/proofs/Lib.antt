@@ -4,4 +4,4 @@ pub mod LinesRead
 pub mod PartCounts
 pub mod Places
 pub mod Tallies
-pub mod Whole
+pub mod TraceRead

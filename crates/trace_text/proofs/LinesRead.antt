@@ -9,11 +9,11 @@ use Rattle.trace_text.specs.declared.command.Command.{Command}
 use Rattle.trace_text.specs.declared.refusal.Cause.{Cause}
 use Rattle.trace_text.specs.declared.refusal.ParseRefusal.{ParseRefusal}
 use Rattle.trace_text.specs.declared.refusal.ParseRefusal.TheVariants as refusals
-use Rattle.trace_text.specs.Found.{AddsLine, IsCommandAt, IsRestOf, LiesAt, LiesWithin, RefusesLine}
-use Rattle.trace_text.specs.Line.{Asked, asked_in, is_passed}
-use Rattle.trace_text.specs.Parsed.{AreNumbered, AreSpelled}
+use Rattle.trace_text.specs.inside.Found.{AddsLine, IsCommandAt, IsRestOf, LiesAt, RefusesLine}
+use Rattle.trace_text.specs.Line.{Fields, fields_of, is_passed}
+use Rattle.trace_text.specs.Parsed.{AreNumbered, AreSpelled, LiesWithin}
 use Rattle.trace_text.specs.Operation.{Operation, operation, operations}
-use Rattle.trace_text.specs.Reading.{Refusal, IsRefusedAs, said, numbered, lines, most_commands, operations_of, told, with_first, with_front}
+use Rattle.trace_text.specs.Reading.{Refusal, IsRefusedAs, numbered_reading, numbered, lines, most_commands, operations_of, command_lines, with_first, with_front}
 use Rattle.trace_text.proofs.Places.{lies_within}
 
 -- what was read, and behind it what the rest gives, is the whole reading
@@ -23,16 +23,16 @@ pub record Reads (bytes : List ℕ) (commands : List Command) (rest : List ℕ) 
   pub numbered : AreNumbered commands
   pub within : All (LiesWithin bytes) commands
   pub few : length commands ≤ most_commands
-  pub joined : operations_of 1 (told 1 (lines bytes))
-      ≡ with_front (operations bytes commands) (operations_of (length commands + 1) (told line (lines rest)))
+  pub joined : operations_of 1 (command_lines 1 (lines bytes))
+      ≡ with_front (operations bytes commands) (operations_of (length commands + 1) (command_lines line (lines rest)))
 
 -- a line that is passed over, and one that is not
-told_passed : (text : List ℕ) (texts : List (List ℕ)) (line : ℕ) → is_passed text ≡ true → told line (text ∷ texts) ≡ told (line + 1) texts
-told_passed text texts line e = ap (λ b. cond (not b) ((line, text) ∷ told (line + 1) texts) (told (line + 1) texts)) e
+lines_passed : (text : List ℕ) (texts : List (List ℕ)) (line : ℕ) → is_passed text ≡ true → command_lines line (text ∷ texts) ≡ command_lines (line + 1) texts
+lines_passed text texts line e = ap (λ b. cond (not b) ((line, text) ∷ command_lines (line + 1) texts) (command_lines (line + 1) texts)) e
 
-told_kept : (text : List ℕ) (texts : List (List ℕ)) (line : ℕ) → is_passed text ≡ false
-    → told line (text ∷ texts) ≡ (line, text) ∷ told (line + 1) texts
-told_kept text texts line e = ap (λ b. cond (not b) ((line, text) ∷ told (line + 1) texts) (told (line + 1) texts)) e
+lines_kept : (text : List ℕ) (texts : List (List ℕ)) (line : ℕ) → is_passed text ≡ false
+    → command_lines line (text ∷ texts) ≡ (line, text) ∷ command_lines (line + 1) texts
+lines_kept text texts line e = ap (λ b. cond (not b) ((line, text) ∷ command_lines (line + 1) texts) (command_lines (line + 1) texts)) e
 
 with_front-none : (later : Result (List Operation) Refusal) → with_front [] later ≡ later
 with_front-none (Err refusal) = refl
@@ -49,17 +49,17 @@ rest_of_rest a b c outer inner =
     let e : length a - length c ≡ length a - length b + (length b - length c) = omega arith in
     (omega arith, rw (e, ← drop-drop (length b - length c) (length a - length b) a, outer.1) inner.1)
 
--- an operation that a line was judged to be has its number
-number_said : (reading : Result Asked Cause) (number line : ℕ) (operation : Operation) → said number line reading ≡ Ok operation
+-- an operation that a line was line_reading to be has its number
+number_read : (reading : Result Fields Cause) (number line : ℕ) (operation : Operation) → numbered_reading number line reading ≡ Ok operation
     → operation.number ≡ number
-number_said (Err cause) number line operation e = cc
-number_said (Ok asked) number line operation e =
-    let same : numbered number line asked ≡ operation = cc in ap (λ o. o.number) (sym same)
+number_read (Err cause) number line operation e = cc
+number_read (Ok fields) number line operation e =
+    let same : numbered number line fields ≡ operation = cc in ap (λ o. o.number) (sym same)
 
-number_where : (full : Bool) (reading : Result Asked Cause) (number line : ℕ) (refusal : Refusal) (operation : Operation)
-    → cond full (Err refusal) (said number line reading) ≡ Ok operation → operation.number ≡ number
+number_where : (full : Bool) (reading : Result Fields Cause) (number line : ℕ) (refusal : Refusal) (operation : Operation)
+    → cond full (Err refusal) (numbered_reading number line reading) ≡ Ok operation → operation.number ≡ number
 number_where true reading number line refusal operation e = cc
-number_where false reading number line refusal operation e = number_said reading number line operation e
+number_where false reading number line refusal operation e = number_read reading number line operation e
 
 -- the next command has the next number
 numbered_push : (commands : List Command) (command : Command) → AreNumbered commands → command.number ≡ length commands + 1
@@ -81,12 +81,12 @@ reads_first bytes =
       numbered = λ k d within. absurd (omega arith);
       within = λ k d within. absurd (omega arith);
       few = omega arith;
-      joined = sym (with_front-none (operations_of 1 (told 1 (lines bytes))));
+      joined = sym (with_front-none (operations_of 1 (command_lines 1 (lines bytes))));
     }
 
 -- a line that is passed over
 reads_passed : (bytes : List ℕ) (commands : List Command) (rest : List ℕ) (line : ℕ) (text after : List ℕ)
-    → Reads bytes commands rest line → told line (lines rest) ≡ told line (text ∷ lines after) → IsRestOf rest after
+    → Reads bytes commands rest line → command_lines line (lines rest) ≡ command_lines line (text ∷ lines after) → IsRestOf rest after
     → length after < length rest → is_passed text ≡ true → Reads bytes commands after (line + 1)
 reads_passed bytes commands rest line text after reads first is_rest shorter passed = record {
   is_rest = rest_of_rest bytes rest after reads.is_rest is_rest;
@@ -95,12 +95,12 @@ reads_passed bytes commands rest line text after reads first is_rest shorter pas
   within = reads.within;
   few = reads.few;
   joined = reads.joined ∙ ap (λ texts. with_front (operations bytes commands) (operations_of (length commands + 1) texts))
-      (first ∙ told_passed text (lines after) line passed);
+      (first ∙ lines_passed text (lines after) line passed);
 }
 
 -- a line that is a command
 reads_command : (bytes : List ℕ) (commands : List Command) (rest : List ℕ) (line : ℕ) (text after : List ℕ) (command : Command)
-    → Reads bytes commands rest line → told line (lines rest) ≡ told line (text ∷ lines after) → IsRestOf rest after → LiesAt rest 0 text
+    → Reads bytes commands rest line → command_lines line (lines rest) ≡ command_lines line (text ∷ lines after) → IsRestOf rest after → LiesAt rest 0 text
     → length after < length rest → is_passed text ≡ false → length commands + 1 ≤ most_commands
     → IsCommandAt text (length bytes - length rest) (length commands + 1) line command
     → Reads bytes (commands ++ command ∷ []) after (line + 1)
@@ -112,25 +112,25 @@ reads_command bytes commands rest line text after command reads first is_rest li
     let longer : length (commands ++ command ∷ []) ≡ number = rw length-append refl in
     let front = operations bytes commands in
     let here = operation bytes command in
-    let later = operations_of (number + 1) (told (line + 1) (lines after)) in
+    let later = operations_of (number + 1) (command_lines (line + 1) (lines after)) in
     record {
       is_rest = rest_of_rest bytes rest after reads.is_rest is_rest;
       counted = let c = reads.counted in omega arith;
       numbered = numbered_push commands command reads.numbered
-          (number_where _ (asked_in text) number line _ here found.0);
+          (number_where _ (fields_of text) number line _ here found.0);
       within = All-push (LiesWithin bytes) commands command reads.within found.1;
       few = rw longer room;
       joined = reads.joined
-          ∙ ap (λ texts. with_front front (operations_of number texts)) (first ∙ told_kept text (lines after) line kept)
+          ∙ ap (λ texts. with_front front (operations_of number texts)) (first ∙ lines_kept text (lines after) line kept)
           ∙ ap (λ reading. with_front front (with_first reading later)) found.0
           ∙ with_front-with_front front (here ∷ []) later
           ∙ ap (λ all. with_front all later) (sym (map-append (operation bytes) commands (command ∷ [])))
-          ∙ ap (λ n. with_front (operations bytes (commands ++ command ∷ [])) (operations_of (n + 1) (told (line + 1) (lines after)))) (sym longer);
+          ∙ ap (λ n. with_front (operations bytes (commands ++ command ∷ [])) (operations_of (n + 1) (command_lines (line + 1) (lines after)))) (sym longer);
     }
 
 -- one line more
 pub reads_more : (bytes : List ℕ) (commands more : List Command) (rest : List ℕ) (line : ℕ) (text after : List ℕ)
-    → Reads bytes commands rest line → told line (lines rest) ≡ told line (text ∷ lines after) → IsRestOf rest after → LiesAt rest 0 text
+    → Reads bytes commands rest line → command_lines line (lines rest) ≡ command_lines line (text ∷ lines after) → IsRestOf rest after → LiesAt rest 0 text
     → length after < length rest → AddsLine text (length bytes - length rest) line commands more → length more ≤ most_commands
     → Reads bytes more after (line + 1)
 reads_more bytes commands more rest line text after reads first is_rest lies shorter adds few = elim adds [
@@ -143,24 +143,24 @@ reads_more bytes commands more rest line text after reads first is_rest lies sho
 
 -- a line that is refused refuses the whole
 pub reads_refused : (bytes : List ℕ) (commands : List Command) (rest : List ℕ) (line : ℕ) (text after : List ℕ) (refusal : ParseRefusal)
-    → Reads bytes commands rest line → told line (lines rest) ≡ told line (text ∷ lines after)
-    → RefusesLine refusal text (length commands + 1) line → IsRefusedAs refusal (operations_of 1 (told 1 (lines bytes)))
+    → Reads bytes commands rest line → command_lines line (lines rest) ≡ command_lines line (text ∷ lines after)
+    → RefusesLine refusal text (length commands + 1) line → IsRefusedAs refusal (operations_of 1 (command_lines 1 (lines bytes)))
 reads_refused bytes commands rest line text after refusals.Memory reads first refused = tt
 reads_refused bytes commands rest line text after (refusals.Trace at cause) reads first refused =
     let number = length commands + 1 in
     let front = operations bytes commands in
-    let later = operations_of (number + 1) (told (line + 1) (lines after)) in
+    let later = operations_of (number + 1) (command_lines (line + 1) (lines after)) in
     rw refused.0 (reads.joined
-    ∙ ap (λ texts. with_front front (operations_of number texts)) (first ∙ told_kept text (lines after) line refused.1)
+    ∙ ap (λ texts. with_front front (operations_of number texts)) (first ∙ lines_kept text (lines after) line refused.1)
     ∙ ap (λ reading. with_front front (with_first reading later)) refused.2)
 
 -- behind the last line
-pub reads_whole : (bytes : List ℕ) (commands : List Command) (rest : List ℕ) (line : ℕ) → Reads bytes commands rest line → length rest ≡ 0
+pub reads_all : (bytes : List ℕ) (commands : List Command) (rest : List ℕ) (line : ℕ) → Reads bytes commands rest line → length rest ≡ 0
     → AreSpelled bytes commands
-reads_whole bytes commands [] line reads none = record {
+reads_all bytes commands [] line reads none = record {
   read = reads.joined ∙ ap Ok (append-nil (operations bytes commands));
   numbered = reads.numbered;
   within = reads.within;
   few = reads.few;
 }
-reads_whole bytes commands (b ∷ rest) line reads none = absurd (omega arith)
+reads_all bytes commands (b ∷ rest) line reads none = absurd (omega arith)

@@ -1,15 +1,17 @@
 -- A field's place in a part of a line, and in the line.
-use Rattle.std.proofs.Common.{◌≡◌, ℕ, ◌+◌, ◌-◌, ◌≤◌, Bool, true, false, cond, List, length, take, drop, get_or, Option, None, Some, Ok, All, arith, refl, sym, ◌∙◌}
+use Rattle.std.proofs.Common.{◌≡◌, ℕ, ◌+◌, ◌-◌, ◌≤◌, Bool, true, false, cond, leb, ltb, List, length, take, drop, get_or, Option, None, Some, Ok, All, arith, refl, sym, ◌∙◌}
 use Rattle.std.proofs.lemmas.List.{drop-drop, drop-take, take-take}
 use Rattle.std.proofs.lemmas.List.Elements.{All-map}
+use Rattle.std.proofs.lemmas.Bool.Decides.{nat_tests}
 use Rattle.std.proofs.lemmas.Bool.{and_parts, leb-true, le-ltb}
 use Rattle.trace_text.specs.declared.command.Command.{Command}
 use Rattle.trace_text.specs.declared.refusal.Cause.{Cause}
-use Rattle.trace_text.specs.Found.{LiesAt, LiesWithin, IsRestOf}
-use Rattle.trace_text.specs.Line.{Asked, asked_in, key_fault, value_fault}
-use Rattle.trace_text.specs.Reading.{judged, most_commands, numbered}
+use Rattle.layout.specs.Sizes.{greatest_key, greatest_value}
+use Rattle.trace_text.specs.inside.Found.{LiesAt, IsRestOf}
+use Rattle.trace_text.specs.Line.{Fields, fields_of, key_fault, value_fault}
+use Rattle.trace_text.specs.Reading.{line_reading, most_commands, numbered}
 use Rattle.trace_text.specs.Operation.{operation, operations}
-use Rattle.trace_text.specs.Parsed.{IsWellFormed}
+use Rattle.trace_text.specs.Parsed.{IsWellFormed, LiesWithin}
 
 -- what lies in an end of the text lies so much further on in the text
 pub lies_within : (text rest field : List ℕ) (at : ℕ) → IsRestOf text rest → LiesAt rest at field
@@ -34,10 +36,15 @@ fault_where : (fits : Bool) (inner : Option Cause) (cause : Cause) → cond fits
 fault_where true inner cause e = refl
 fault_where false inner cause e = cc
 
-pub key-most : (key : List ℕ) → key_fault key ≡ None → length key ≤ 256
+pub key-some : (key : List ℕ) → key_fault key ≡ None → 1 ≤ length key
+key-some key sound =
+    let some : ltb 0 (length key) ≡ true = (and_parts (ltb 0 (length key)) (leb (length key) greatest_key) (fault_where _ _ _ sound)).0 in
+    grind (arith, nat_tests)
+
+pub key-most : (key : List ℕ) → key_fault key ≡ None → length key ≤ greatest_key
 key-most key sound = leb-true _ _ (and_parts _ _ (fault_where _ _ _ sound)).1
 
-pub value-most : (value : List ℕ) → value_fault value ≡ None → length value ≤ 12000
+pub value-most : (value : List ℕ) → value_fault value ≡ None → length value ≤ greatest_value
 value-most value sound = leb-true _ _ (fault_where _ _ _ sound)
 
 -- what is true of each command's fields is true of what the commands ask
@@ -45,9 +52,16 @@ pub well_formed : (bytes : List ℕ) (commands : List Command) → All (LiesWith
 well_formed bytes commands lie =
     All-map IsWellFormed (operation bytes) commands (λ k d within.
     let lies : LiesWithin bytes (get_or commands k d) = lie k d within in
-    record { key = lies.is_key; value = lies.is_value; fields = lies.fields })
+    record {
+      key = lies.is_key;
+      value = lies.is_value;
+      fields = lies.fields;
+      key_some = key-some _ lies.is_key;
+      key_most = key-most _ lies.is_key;
+      value_most = value-most _ lies.is_value;
+    })
 
--- a line that asks this is judged to be its command
-pub judged_as : (number line : ℕ) (text : List ℕ) (asked : Asked) → number ≤ most_commands → Ok asked ≡ asked_in text
-    → judged (number, (line, text)) ≡ Ok (numbered number line asked)
-judged_as number line text asked few e = rw (le-ltb _ _ few, ← e) refl
+-- a line that asks this is line_reading to be its command
+pub line_reading_is : (number line : ℕ) (text : List ℕ) (fields : Fields) → number ≤ most_commands → Ok fields ≡ fields_of text
+    → line_reading (number, (line, text)) ≡ Ok (numbered number line fields)
+line_reading_is number line text fields few e = rw (le-ltb _ _ few, ← e) refl

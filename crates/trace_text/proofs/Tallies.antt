@@ -11,25 +11,28 @@ use Rattle.std.proofs.lemmas.List.Sums.{sum_by-le-sum_by}
 use Rattle.std.proofs.lemmas.List.Folds.{fold-map}
 use Rattle.std.proofs.lemmas.List.Elements.{recursion_from_All}
 use Rattle.trace_text.specs.declared.command.Command.{Command}
-use Rattle.trace_text.specs.Found.{LiesWithin}
+use Rattle.trace_text.specs.Parsed.{LiesWithin}
 use Rattle.trace_text.specs.Operation.{Operation, operation, operations, part}
-use Rattle.trace_text.specs.Parts.{is_scan, is_put, is_get, owner, origin, has_part, issued, done_at, own_parts, here_parts, here_puts, greatest_value, reply_bytes, replies_room}
+use Rattle.layout.specs.Sizes as sizes
+use Rattle.layout.specs.Sizes.{scan_room}
+use Rattle.trace_text.specs.Trace.{Trace, trace_with}
+use Rattle.trace_text.specs.Parts.{most_shards, is_scan, is_put, is_get, owner, origin, has_part, issued, done_at, own_parts, here_parts, here_puts, longest_value, reply_bytes, replies_room}
 use Rattle.trace_text.proofs.PartCounts.{done_is, issued_is}
 
 -- what a pass over these operations counts, with bounds
 pub record Tallied (trace : List Operation) (n s own here puts gets scans greatest : ℕ) : Type 0 where
-  pub own_is : own ≡ own_parts trace n s
-  pub here_is : here ≡ here_parts trace n s
-  pub puts_is : puts ≡ here_puts trace n s
+  pub own_is : own ≡ own_parts (trace_with trace) n s
+  pub here_is : here ≡ here_parts (trace_with trace) n s
+  pub puts_is : puts ≡ here_puts (trace_with trace) n s
   pub gets_is : gets ≡ count_by (λ operation. is_get operation.kind && origin operation.number n == s) trace
   pub scans_is : scans ≡ count_by (λ operation. is_scan operation.kind && origin operation.number n == s) trace
-  pub greatest_is : greatest ≡ greatest_value trace
-  pub own_most : own ≤ 16 * length trace
+  pub greatest_is : greatest ≡ longest_value (trace_with trace)
+  pub own_most : own ≤ most_shards * length trace
   pub here_most : here ≤ length trace
   pub puts_most : puts ≤ length trace
   pub gets_most : gets ≤ length trace
   pub scans_most : scans ≤ length trace
-  pub greatest_most : greatest ≤ 12000
+  pub greatest_most : greatest ≤ sizes.greatest_value
 
 -- the share of one operation in the parts that a shard issues
 abbrev pub own_share : Operation → ℕ → ℕ → ℕ
@@ -50,7 +53,7 @@ one_if-le : (b : Bool) → one_if b ≤ 1
 one_if-le true = omega arith
 one_if-le false = omega arith
 
-own_share-le : (a b : Bool) (n : ℕ) → n ≤ 16 → cond a (cond b n 1) 0 ≤ 16
+own_share-le : (a b : Bool) (n : ℕ) → n ≤ most_shards → cond a (cond b n 1) 0 ≤ most_shards
 own_share-le true true n h = h
 own_share-le true false n h = omega arith
 own_share-le false b n h = omega arith
@@ -64,7 +67,7 @@ ord_max-max m n = grind (arith, nat_tests)
 
 -- one operation more
 pub tallied_more : (trace : List Operation) (n s own here puts gets scans greatest : ℕ) (operation : Operation)
-    → n ≤ 16 → length operation.value ≤ 12000 → Tallied trace n s own here puts gets scans greatest
+    → n ≤ most_shards → length operation.value ≤ sizes.greatest_value → Tallied trace n s own here puts gets scans greatest
     → Tallied (trace ++ operation ∷ []) n s
     (own + own_share operation n s)
     (here + one_if (has_part n s operation))
@@ -92,7 +95,7 @@ tallied_more trace n s own here puts gets scans greatest operation some small so
 
 -- one command of the list more
 pub tallied_at : (bytes : List ℕ) (commands : List Command) (i : ℕ) (d : Command) (n s own here puts gets scans greatest : ℕ)
-    (a b c e f g : ℕ) → i < length commands → n ≤ 16 → All (LiesWithin bytes) commands
+    (a b c e f g : ℕ) → i < length commands → n ≤ most_shards → All (LiesWithin bytes) commands
     → Tallied (operations bytes (take i commands)) n s own here puts gets scans greatest
     → a ≡ own_share (operation bytes (get_or commands i d)) n s
     → b ≡ one_if (has_part n s (operation bytes (get_or commands i d)))
@@ -106,26 +109,26 @@ tallied_at bytes commands i d n s own here puts gets scans greatest a b c e f g 
     let lies : LiesWithin bytes command = lie i d within in
     let room : command.value.len ≤ length (drop command.value.start bytes) = rw length-drop (let within = lies.value in omega arith) in
     let len : length (part bytes command.value) ≡ command.value.len = length-take-le command.value.len (drop command.value.start bytes) room in
-    let small : length (part bytes command.value) ≤ 12000 = rw len lies.value_len in
+    let small : length (part bytes command.value) ≤ sizes.greatest_value = rw len lies.value_most in
     let more : operations bytes (take (i + 1) commands) ≡ operations bytes (take i commands) ++ operation bytes command ∷ [] =
     ap (operations bytes) (take_more commands i d within) ∙ map-append (operation bytes) (take i commands) (command ∷ []) in
     rw (more, a_is, b_is, c_is, e_is, f_is, g_is)
     (rw len at (tallied_more (operations bytes (take i commands)) n s own here puts gets scans greatest (operation bytes command) some small so_far))
 
 -- fewer pass two tests than one of them
-both-le : (a b : Bool) → one_if (a && b) ≤ one_if a
-both-le true b = one_if-le b
-both-le false b = omega arith
+and-le : (a b : Bool) → one_if (a && b) ≤ one_if a
+and-le true b = one_if-le b
+and-le false b = omega arith
 
-count_both-le : (p q : Operation → Bool) (trace : List Operation) → count_by (λ o. p o && q o) trace ≤ count_by p trace
-count_both-le p q trace = sum_by-le-sum_by (λ o. one_if (p o && q o)) (λ o. one_if (p o)) trace (λ o. both-le (p o) (q o))
+count_and-le : (p q : Operation → Bool) (trace : List Operation) → count_by (λ o. p o && q o) trace ≤ count_by p trace
+count_and-le p q trace = sum_by-le-sum_by (λ o. one_if (p o && q o)) (λ o. one_if (p o)) trace (λ o. and-le (p o) (q o))
 
 -- a shard's share of the replies is within the whole
-pub share_fits : (trace : List Operation) (n s : ℕ) → reply_bytes trace n s ≤ replies_room trace n
+pub share_fits : (trace : Trace) (n s : ℕ) → reply_bytes trace n s ≤ replies_room trace n
 share_fits trace n s =
-    let gets = count_both-le (λ o. is_get o.kind) (λ o. origin o.number n == s) trace in
-    let scans = count_both-le (λ o. is_scan o.kind) (λ o. origin o.number n == s) trace in
-    omega (arith, mul-le-mul_right (greatest_value trace) gets, mul-le-mul_right (n * 8272) scans)
+    let gets = count_and-le (λ o. is_get o.kind) (λ o. origin o.number n == s) trace.operations in
+    let scans = count_and-le (λ o. is_scan o.kind) (λ o. origin o.number n == s) trace.operations in
+    omega (arith, mul-le-mul_right (longest_value trace) gets, mul-le-mul_right (n * scan_room) scans)
 
 -- what the commands count is what their operations count
 pub count_in : (bytes : List ℕ) (p : Operation → Bool) (commands : List Command)
@@ -137,37 +140,37 @@ value_len bytes command lies =
     let room : command.value.len ≤ length (drop command.value.start bytes) = rw length-drop (let within = lies.value in omega arith) in
     length-take-le command.value.len (drop command.value.start bytes) room
 
-greatest_from : (bytes : List ℕ) (commands : List Command) (most : ℕ) → ByRecursion (LiesWithin bytes) commands
+longest_from : (bytes : List ℕ) (commands : List Command) (most : ℕ) → ByRecursion (LiesWithin bytes) commands
     → fold (λ m c. max m c.value.len) most commands ≡ fold (λ m c. max m (length (part bytes c.value))) most commands
-greatest_from bytes [] most lie = refl
-greatest_from bytes (c ∷ commands) most lie =
-    greatest_from bytes commands (max most c.value.len) lie.1
+longest_from bytes [] most lie = refl
+longest_from bytes (c ∷ commands) most lie =
+    longest_from bytes commands (max most c.value.len) lie.1
     ∙ ap (λ len. fold (λ m d. max m (length (part bytes d.value))) (max most len) commands) (sym (value_len bytes c lie.0))
 
-pub greatest_in : (bytes : List ℕ) (commands : List Command) → All (LiesWithin bytes) commands
-    → fold (λ m c. max m c.value.len) 0 commands ≡ greatest_value (operations bytes commands)
-greatest_in bytes commands lie =
-    greatest_from bytes commands 0 (recursion_from_All (LiesWithin bytes) commands lie)
+pub longest_in : (bytes : List ℕ) (commands : List Command) → All (LiesWithin bytes) commands
+    → fold (λ m c. max m c.value.len) 0 commands ≡ longest_value (trace_with (operations bytes commands))
+longest_in bytes commands lie =
+    longest_from bytes commands 0 (recursion_from_All (LiesWithin bytes) commands lie)
     ∙ sym (fold-map (λ m o. max m (length o.value)) (operation bytes) 0 commands)
 
 -- what a whole pass counted needs no more room than all replies
 pub tallied_room : (bytes : List ℕ) (commands : List Command) (i n s own here puts gets scans greatest : ℕ) → length commands ≤ i
     → Tallied (operations bytes (take i commands)) n s own here puts gets scans greatest
-    → gets * greatest + scans * (n * 8272) ≤ replies_room (operations bytes commands) n
-tallied_room bytes commands i n s own here puts gets scans greatest whole tallied =
+    → gets * greatest + scans * (n * scan_room) ≤ replies_room (trace_with (operations bytes commands)) n
+tallied_room bytes commands i n s own here puts gets scans greatest ended tallied =
     let trace = operations bytes commands in
-    let all : take i commands ≡ commands = take_all i commands whole in
+    let all : take i commands ≡ commands = take_all i commands ended in
     let gets_is : gets ≡ count_by (λ o. is_get o.kind && origin o.number n == s) trace = rw all at tallied.gets_is in
     let scans_is : scans ≡ count_by (λ o. is_scan o.kind && origin o.number n == s) trace = rw all at tallied.scans_is in
-    let greatest_is : greatest ≡ greatest_value trace = rw all at tallied.greatest_is in
-    rw (gets_is, scans_is, greatest_is) (share_fits trace n s)
+    let greatest_is : greatest ≡ longest_value (trace_with trace) = rw all at tallied.greatest_is in
+    rw (gets_is, scans_is, greatest_is) (share_fits (trace_with trace) n s)
 
 -- and is what the lists of parts count
 pub tallied_lists : (bytes : List ℕ) (commands : List Command) (i n s own here puts gets scans greatest : ℕ) → length commands ≤ i → 1 ≤ n
     → Tallied (operations bytes (take i commands)) n s own here puts gets scans greatest
-    → (own ≡ issued (operations bytes commands) n s) × (here ≡ done_at (operations bytes commands) n s)
-tallied_lists bytes commands i n s own here puts gets scans greatest whole some tallied =
-    let all : take i commands ≡ commands = take_all i commands whole in
-    let own_is : own ≡ own_parts (operations bytes commands) n s = rw all at tallied.own_is in
-    let here_is : here ≡ here_parts (operations bytes commands) n s = rw all at tallied.here_is in
-    (own_is ∙ sym (issued_is (operations bytes commands) n s some), here_is ∙ sym (done_is (operations bytes commands) n s some))
+    → (own ≡ issued (trace_with (operations bytes commands)) n s) × (here ≡ done_at (trace_with (operations bytes commands)) n s)
+tallied_lists bytes commands i n s own here puts gets scans greatest ended some tallied =
+    let all : take i commands ≡ commands = take_all i commands ended in
+    let own_is : own ≡ own_parts (trace_with (operations bytes commands)) n s = rw all at tallied.own_is in
+    let here_is : here ≡ here_parts (trace_with (operations bytes commands)) n s = rw all at tallied.here_is in
+    (own_is ∙ sym (issued_is (trace_with (operations bytes commands)) n s some), here_is ∙ sym (done_is (trace_with (operations bytes commands)) n s some))

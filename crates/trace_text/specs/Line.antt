@@ -2,6 +2,7 @@
 use Rattle.std.specs.Prelude.{ℕ, ◌==◌, ◌+◌, ◌&&◌, nat_lt, nat_le, Bool, true, not, List, [], ◌∷◌, length, take, drop, find, Option, Some, None, Result, Ok, Err, position, codes, decimal, if◌then◌else◌}
 use Rattle.std.specs.List.{list_all, range_with_len}
 use Rattle.std.specs.Str.{bytes_eq}
+use Rattle.layout.specs.Sizes.{greatest_key, greatest_value, most_keys}
 use Rattle.trace_text.specs.declared.command.Kind.{Kind}
 use Rattle.trace_text.specs.declared.command.Kind.TheVariants.{Put, Get, Erase, Scan}
 use Rattle.trace_text.specs.declared.refusal.Cause.{Cause}
@@ -31,23 +32,23 @@ is_value_byte b = nat_lt 31 b && not (b == 127)
 -- what is wrong with a key: it has 1 to 256 bytes
 abbrev pub key_fault : List ℕ → Option Cause
 key_fault key =
-    if nat_lt 0 (length key) && nat_le (length key) 256
+    if nat_lt 0 (length key) && nat_le (length key) greatest_key
     then (if list_all is_key_byte key then None else Some KeyByte)
     else Some KeyLength
 
 -- what is wrong with a value: it has at most 12,000 bytes
 abbrev pub value_fault : List ℕ → Option Cause
 value_fault value =
-    if nat_le (length value) 12000
+    if nat_le (length value) greatest_value
     then (if list_all is_value_byte value then None else Some ValueByte)
     else Some ValueLength
 
 -- the number from 1 to 32 that a field spells, without a leading zero
 abbrev pub count_of : List ℕ → Option ℕ
-count_of field = find (λ n. bytes_eq (decimal n) field) (range_with_len 1 32)
+count_of field = find (λ n. bytes_eq (decimal n) field) (range_with_len 1 most_keys)
 
--- what a line asks, apart from its number
-pub record Asked : Type 0 where
+-- the kind of a line's command, and its fields
+pub record Fields : Type 0 where
   pub kind : Kind
   pub key : List ℕ
   -- of a put; else empty
@@ -56,21 +57,22 @@ pub record Asked : Type 0 where
   pub count : ℕ
 
 -- a fault comes before what stands behind it in the line
-abbrev pub unless : Option Cause → Result Asked Cause → Result Asked Cause
+abbrev pub unless : Option Cause → Result Fields Cause → Result Fields Cause
 unless None later = later
 unless (Some cause) later = Err cause
 
--- the COUNT of a scan, and what stands behind the space after it
-abbrev pub counted_in : List ℕ → Option ℕ → Option (List ℕ) → Result Asked Cause
-counted_in key None behind = Err Count
-counted_in key (Some count) None = Ok (record { kind = Scan; key = key; value = []; count = count })
-counted_in key (Some count) (Some behind) = Err ExtraField
+-- what follows a scan's count: nothing
+abbrev pub behind_count : List ℕ → Option ℕ → Option (List ℕ) → Result Fields Cause
+behind_count key None behind = Err Count
+behind_count key (Some count) None = Ok (record { kind = Scan; key = key; value = []; count = count })
+behind_count key (Some count) (Some behind) = Err ExtraField
 
-abbrev pub scan_in : List ℕ → List ℕ × Option (List ℕ) → Result Asked Cause
-scan_in key (field, behind) = counted_in key (count_of field) behind
+-- the count of a scan, and what follows it
+abbrev pub from_count : List ℕ → List ℕ × Option (List ℕ) → Result Fields Cause
+from_count key (field, behind) = behind_count key (count_of field) behind
 
 -- what follows a key: nothing; the value, which is all that follows the space; or a count
-abbrev pub behind_key : Kind → List ℕ → Option (List ℕ) → Result Asked Cause
+abbrev pub behind_key : Kind → List ℕ → Option (List ℕ) → Result Fields Cause
 behind_key Put key None = Err MissingField
 behind_key Put key (Some value) = unless (value_fault value) (Ok (record { kind = Put; key = key; value = value; count = 0 }))
 behind_key Get key None = Ok (record { kind = Get; key = key; value = []; count = 0 })
@@ -78,11 +80,11 @@ behind_key Get key (Some behind) = Err ExtraField
 behind_key Erase key None = Ok (record { kind = Erase; key = key; value = []; count = 0 })
 behind_key Erase key (Some behind) = Err ExtraField
 behind_key Scan key None = Err MissingField
-behind_key Scan key (Some behind) = scan_in key (cut_at 32 behind)
+behind_key Scan key (Some behind) = from_count key (cut_at 32 behind)
 
 -- the fields of a command: its key, and what follows it
-abbrev pub keyed_in : Kind → List ℕ × Option (List ℕ) → Result Asked Cause
-keyed_in kind (key, behind) = unless (key_fault key) (behind_key kind key behind)
+abbrev pub from_key : Kind → List ℕ × Option (List ℕ) → Result Fields Cause
+from_key kind (key, behind) = unless (key_fault key) (behind_key kind key behind)
 
 abbrev pub kind_of : List ℕ → Option Kind
 kind_of word =
@@ -91,15 +93,15 @@ kind_of word =
     else (if bytes_eq word (codes "erase") then Some Erase
     else (if bytes_eq word (codes "scan") then Some Scan else None)))
 
--- the word, a space, and the fields
-abbrev pub worded_in : Option Kind → Option (List ℕ) → Result Asked Cause
-worded_in None behind = Err UnknownWord
-worded_in (Some kind) None = Err MissingField
-worded_in (Some kind) (Some fields) = keyed_in kind (cut_at 32 fields)
+-- what follows the word: a space, and the fields
+abbrev pub behind_word : Option Kind → Option (List ℕ) → Result Fields Cause
+behind_word None behind = Err UnknownWord
+behind_word (Some kind) None = Err MissingField
+behind_word (Some kind) (Some fields) = from_key kind (cut_at 32 fields)
 
-abbrev pub spoken_in : List ℕ × Option (List ℕ) → Result Asked Cause
-spoken_in (word, behind) = worded_in (kind_of word) behind
+abbrev pub from_word : List ℕ × Option (List ℕ) → Result Fields Cause
+from_word (word, behind) = behind_word (kind_of word) behind
 
--- what a line asks, or the first thing that is wrong with it, from left to right
-abbrev pub asked_in : List ℕ → Result Asked Cause
-asked_in line = spoken_in (cut_at 32 line)
+-- the fields of a line, or the first thing that is wrong with it, from left to right
+abbrev pub fields_of : List ℕ → Result Fields Cause
+fields_of line = from_word (cut_at 32 line)

@@ -1,11 +1,14 @@
 -- What contracts see of a trace that was read.
-use Rattle.std.specs.Prelude.{◌≡◌, ℕ, ◌+◌, ◌<◌, ◌≤◌, List, length, slice_index_or, None, Ok, All}
+use Rattle.std.specs.Prelude.{◌≡◌, ℕ, ◌+◌, ◌<◌, ◌≤◌, List, [], length, slice_index_or, None, Ok, All}
+use Rattle.layout.specs.Sizes.{greatest_key, greatest_value, most_keys}
 use Rattle.trace_text.specs.declared.command.Command.{Command}
-use Rattle.trace_text.specs.Found.{HasItsFields, LiesWithin}
+use Rattle.trace_text.specs.declared.command.Kind.{Kind}
+use Rattle.trace_text.specs.declared.command.Kind.TheVariants.{Put, Get, Erase, Scan}
 use Rattle.trace_text.specs.Line.{key_fault, value_fault}
-use Rattle.trace_text.specs.Operation.{Operation, operations}
-use Rattle.trace_text.specs.Parts.{replies_room}
-use Rattle.trace_text.specs.Reading.{lines, most_bytes, most_commands, most_replies, operations_of, told}
+use Rattle.trace_text.specs.Operation.{Operation, operations, part}
+use Rattle.trace_text.specs.Parts.{most_shards, replies_room}
+use Rattle.trace_text.specs.Reading.{command_lines, lines, most_bytes, most_commands, most_replies, operations_of}
+use Rattle.trace_text.specs.Trace.{Trace, trace_with}
 
 pub record Parsed : Type 0 where
   pub bytes : List ℕ
@@ -14,14 +17,36 @@ pub record Parsed : Type 0 where
   pub shards : ℕ
 
 -- what the commands of a trace ask, in order
-abbrev pub trace_in : Parsed → List Operation
-trace_in trace = operations trace.bytes trace.commands
+abbrev pub trace_in : Parsed → Trace
+trace_in trace = trace_with (operations trace.bytes trace.commands)
+
+-- a put has a value, and a scan has a count of 1 to 32; the others have neither
+abbrev pub HasItsFields : Kind → List ℕ → ℕ → Type 0
+HasItsFields Put value count = count ≡ 0
+HasItsFields Get value count = (value ≡ []) × (count ≡ 0)
+HasItsFields Erase value count = (value ≡ []) × (count ≡ 0)
+HasItsFields Scan value count = (value ≡ []) × (1 ≤ count) × (count ≤ most_keys)
 
 -- what a command of an accepted trace asks
 pub record IsWellFormed (operation : Operation) : Type 0 where
   pub key : key_fault operation.key ≡ None
   pub value : value_fault operation.value ≡ None
   pub fields : HasItsFields operation.kind operation.value operation.count
+  -- what this says of lengths, in bytes
+  pub key_some : 1 ≤ length operation.key
+  pub key_most : length operation.key ≤ greatest_key
+  pub value_most : length operation.value ≤ greatest_value
+
+-- the command's key and value lie in the bytes
+pub record LiesWithin (bytes : List ℕ) (command : Command) : Type 0 where
+  pub key : command.key.start + command.key.len ≤ length bytes
+  pub value : command.value.start + command.value.len ≤ length bytes
+  pub key_some : 1 ≤ command.key.len
+  pub key_most : command.key.len ≤ greatest_key
+  pub value_most : command.value.len ≤ greatest_value
+  pub is_key : key_fault (part bytes command.key) ≡ None
+  pub is_value : value_fault (part bytes command.value) ≡ None
+  pub fields : HasItsFields command.kind (part bytes command.value) command.count
 
 -- commands are numbered from 1, in order
 abbrev pub AreNumbered : List Command → Type 0
@@ -29,14 +54,14 @@ AreNumbered commands = (k : ℕ) (d : Command) → k < length commands → (slic
 
 -- the commands are those that the bytes spell
 pub record AreSpelled (bytes : List ℕ) (commands : List Command) : Type 0 where
-  pub read : operations_of 1 (told 1 (lines bytes)) ≡ Ok (operations bytes commands)
+  pub read : operations_of 1 (command_lines 1 (lines bytes)) ≡ Ok (operations bytes commands)
   pub numbered : AreNumbered commands
   pub within : All (LiesWithin bytes) commands
   pub few : length commands ≤ most_commands
 
-pub record IsParsed (trace : Parsed) : Type 0 where
+pub record IsConsistent (trace : Parsed) : Type 0 where
   pub spelled : AreSpelled trace.bytes trace.commands
   pub short : length trace.bytes ≤ most_bytes
   pub room : replies_room (trace_in trace) trace.shards ≤ most_replies
   pub some_shards : 1 ≤ trace.shards
-  pub most_shards : trace.shards ≤ 16
+  pub most_shards : trace.shards ≤ most_shards

@@ -5,9 +5,10 @@ use Rattle.trace_text.specs.declared.refusal.Cause.{Cause}
 use Rattle.trace_text.specs.declared.refusal.Cause.TheVariants.{TooManyCommands, RepliesTooLarge}
 use Rattle.trace_text.specs.declared.refusal.ParseRefusal.{ParseRefusal}
 use Rattle.trace_text.specs.declared.refusal.ParseRefusal.TheVariants as refusals
-use Rattle.trace_text.specs.Line.{Asked, asked_in, is_passed}
+use Rattle.trace_text.specs.Line.{Fields, fields_of, is_passed}
 use Rattle.trace_text.specs.Operation.{Operation}
 use Rattle.trace_text.specs.Parts.{replies_room}
+use Rattle.trace_text.specs.Trace.{Trace, trace_with}
 
 -- why a trace is refused: it is too long as a whole, or a line has a cause; line 0 stands for all of them
 pub data Refusal : Type 0 where
@@ -37,28 +38,28 @@ abbrev pub lines : List ℕ → List (List ℕ)
 lines bytes = map without_cr (slice_split (λ b. b == 10) bytes)
 
 -- the lines that are not passed over, each with its number, where the first of these lines has this one
-abbrev pub told : ℕ → List (List ℕ) → List (ℕ × List ℕ)
-told first texts = filter (λ line. not (is_passed line.1)) (enumerate_from first texts)
+abbrev pub command_lines : ℕ → List (List ℕ) → List (ℕ × List ℕ)
+command_lines first texts = filter (λ line. not (is_passed line.1)) (enumerate_from first texts)
 
 -- what a line asks, as the command with this number
-abbrev pub numbered : ℕ → ℕ → Asked → Operation
-numbered number line asked = record {
+abbrev pub numbered : ℕ → ℕ → Fields → Operation
+numbered number line fields = record {
   number = number;
   line = line;
-  kind = asked.kind;
-  key = asked.key;
-  value = asked.value;
-  count = asked.count;
+  kind = fields.kind;
+  key = fields.key;
+  value = fields.value;
+  count = fields.count;
 }
 
-abbrev pub said : ℕ → ℕ → Result Asked Cause → Result Operation Refusal
-said number line (Err cause) = Err (AtLine line cause)
-said number line (Ok asked) = Ok (numbered number line asked)
+abbrev pub numbered_reading : ℕ → ℕ → Result Fields Cause → Result Operation Refusal
+numbered_reading number line (Err cause) = Err (AtLine line cause)
+numbered_reading number line (Ok fields) = Ok (numbered number line fields)
 
 -- a line by itself is a command or has a cause, but of a command too many nothing is read
-abbrev pub judged : ℕ × (ℕ × List ℕ) → Result Operation Refusal
-judged (number, (line, text)) =
-    if nat_lt most_commands number then Err (AtLine line TooManyCommands) else said number line (asked_in text)
+abbrev pub line_reading : ℕ × (ℕ × List ℕ) → Result Operation Refusal
+line_reading (number, (line, text)) =
+    if nat_lt most_commands number then Err (AtLine line TooManyCommands) else numbered_reading number line (fields_of text)
 
 -- all the commands, or the first refusal
 abbrev pub with_front : List Operation → Result (List Operation) Refusal → Result (List Operation) Refusal
@@ -75,19 +76,20 @@ collected (reading ∷ readings) = with_first reading (collected readings)
 
 -- the commands that these lines are, where the first of them has this number
 abbrev pub operations_of : ℕ → List (ℕ × List ℕ) → Result (List Operation) Refusal
-operations_of first texts = collected (map judged (enumerate_from first texts))
+operations_of first texts = collected (map line_reading (enumerate_from first texts))
 
 -- of n shards: the replies must have room
-abbrev pub answerable : ℕ → Result (List Operation) Refusal → Result (List Operation) Refusal
+abbrev pub answerable : ℕ → Result (List Operation) Refusal → Result Trace Refusal
 answerable n (Err refusal) = Err refusal
-answerable n (Ok trace) = if nat_lt most_replies (replies_room trace n) then Err (AtLine 0 RepliesTooLarge) else Ok trace
+answerable n (Ok operations) =
+    if nat_lt most_replies (replies_room (trace_with operations) n) then Err (AtLine 0 RepliesTooLarge) else Ok (trace_with operations)
 
 -- what the bytes of a trace mean for a run of n shards
-abbrev pub trace_of : List ℕ → ℕ → Result (List Operation) Refusal
+abbrev pub trace_of : List ℕ → ℕ → Result Trace Refusal
 trace_of bytes n =
-    if nat_lt most_bytes (length bytes) then Err TooLong else answerable n (operations_of 1 (told 1 (lines bytes)))
+    if nat_lt most_bytes (length bytes) then Err TooLong else answerable n (operations_of 1 (command_lines 1 (lines bytes)))
 
 -- the refusal of `parse` is the one of the reading; want of memory says nothing of it
-abbrev pub IsRefusedAs : ParseRefusal → Result (List Operation) Refusal → Type 0
+abbrev pub IsRefusedAs : {T : Type 0} → ParseRefusal → Result T Refusal → Type 0
 IsRefusedAs (refusals.Trace line cause) reading = reading ≡ Err (AtLine line cause)
 IsRefusedAs refusals.Memory reading = Unit {0}

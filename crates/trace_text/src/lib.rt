@@ -5,14 +5,14 @@
 #![tactic(auto)]
 
 mod command;
-mod held;
 mod line;
 mod parts;
 mod reading;
 mod refusal;
+mod trace;
 
 pub use command::{Command, Kind, Span};
-pub use held::Trace;
-pub use parts::{Needs, origin_of, owner_of};
-pub use reading::parse;
+pub use parts::{MOST_SHARDS, Needs, origin_of, owner_of};
+pub use reading::{MOST_BYTES, parse};
 pub use refusal::{Cause, ParseRefusal};
+pub use trace::Trace;

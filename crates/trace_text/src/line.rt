@@ -3,16 +3,14 @@ ghost use Rattle.std.specs.Prelude.{◌≡◌, ◌⊎◌, ◌==◌, ◌&&◌, na
 ghost use Rattle.std.specs.List.{list_all};
 ghost use Rattle.std.specs.Option.{option_map};
 ghost use Rattle.std.specs.Str.{bytes_eq};
-ghost use Rattle.trace_text.specs.Line.{is_passed, cut_at, is_key_byte, is_value_byte, key_fault, value_fault, kind_of, count_of, keyed_in, asked_in};
-ghost use Rattle.trace_text.specs.Found.{digits_in, reading_of, IsRestOf, LieIn};
+ghost use Rattle.layout.specs.Sizes.{most_keys};
+ghost use Rattle.trace_text.specs.Line.{is_passed, cut_at, is_key_byte, is_value_byte, key_fault, value_fault, kind_of, count_of, from_key, fields_of};
+ghost use Rattle.trace_text.specs.inside.Found.{digits_in, reading_of, IsRestOf, LieIn};
 
 use crate::command::Kind;
 use crate::refusal::Cause;
 use itoa::Buffer;
-
-const LONGEST_KEY: usize = 256;
-
-const LONGEST_VALUE: usize = 12_000;
+use layout::{GREATEST_KEY, GREATEST_VALUE, MOST_KEYS};
 
 /// What a line asks, and where its key and its value stand in it.
 #[derive(Clone, Copy)]
@@ -35,7 +33,7 @@ pub fn is_passed(line: &[u8]) -> bool
     }
 }
 
-fn place_of(text: &[u8], byte: u8) -> Option<usize>
+fn position_of(text: &[u8], byte: u8) -> Option<usize>
     ensures { result ≡ position (λ b. b == byte) text.now }
 {
     text.iter().position(|b| *b == byte)
@@ -46,7 +44,7 @@ pub fn cut(text: &[u8], byte: u8) -> (&[u8], Option<&[u8]>)
     ensures parts { (result.0.now, option_map (λ behind. behind.now) result.1) ≡ cut_at byte text.now }
     ensures rest { IfSome result.1 (λ behind. IsRestOf text.now behind.now) }
 {
-    match place_of(text, byte) {
+    match position_of(text, byte) {
         None => (text, None),
         Some(at) => (&text[..at], Some(&text[at + 1..])),
     }
@@ -68,7 +66,7 @@ fn are_value_bytes(value: &[u8]) -> bool
 fn key_fault(key: &[u8]) -> Option<Cause>
     ensures { result ≡ key_fault key.now }
 {
-    if key.is_empty() || key.len() > LONGEST_KEY {
+    if key.is_empty() || key.len() > GREATEST_KEY {
         Some(Cause::KeyLength)
     } else if are_key_bytes(key) {
         None
@@ -81,7 +79,7 @@ fn key_fault(key: &[u8]) -> Option<Cause>
 fn value_fault(value: &[u8]) -> Option<Cause>
     ensures { result ≡ value_fault value.now }
 {
-    if value.len() > LONGEST_VALUE {
+    if value.len() > GREATEST_VALUE {
         Some(Cause::ValueLength)
     } else if are_value_bytes(value) {
         None
@@ -110,9 +108,9 @@ fn spells(field: &[u8], number: u32) -> bool
 }
 
 fn is_count(field: &[u8], number: u32) -> bool
-    ensures { result ≡ (nat_le 1 number && nat_lt number 33 && bytes_eq (decimal number) field.now) }
+    ensures { result ≡ (nat_le 1 number && nat_le number most_keys && bytes_eq (decimal number) field.now) }
 {
-    number >= 1 && number < 33 && spells(field, number)
+    number >= 1 && number <= MOST_KEYS && spells(field, number)
 }
 
 /// The number from 1 to 32 that a field spells, without a leading zero.
@@ -143,7 +141,7 @@ fn key_in(fields: &[u8]) -> Result<(&[u8], Option<&[u8]>), Cause>
 
 /// The key, a space, and the value, which is all that follows.
 fn put_in(fields: &[u8]) -> Result<Found<'_>, Cause>
-    ensures asked { reading_of result ≡ keyed_in Kind.Put (cut_at 32 fields.now) }
+    ensures fields { reading_of result ≡ from_key Kind.Put (cut_at 32 fields.now) }
     ensures places { IfOk result (LieIn fields.now) }
 {
     let (key, behind) = key_in(fields)?;
@@ -164,7 +162,7 @@ fn put_in(fields: &[u8]) -> Result<Found<'_>, Cause>
 /// A key, and nothing behind it.
 fn bare_in(kind: Kind, fields: &[u8]) -> Result<Found<'_>, Cause>
     requires { (kind ≡ Kind.Get) ⊎ (kind ≡ Kind.Erase) }
-    ensures asked { reading_of result ≡ keyed_in kind (cut_at 32 fields.now) }
+    ensures fields { reading_of result ≡ from_key kind (cut_at 32 fields.now) }
     ensures places { IfOk result (LieIn fields.now) }
 {
     let (key, behind) = key_in(fields)?;
@@ -183,7 +181,7 @@ fn bare_in(kind: Kind, fields: &[u8]) -> Result<Found<'_>, Cause>
 
 /// A key, a space, and a count.
 fn scan_in(fields: &[u8]) -> Result<Found<'_>, Cause>
-    ensures asked { reading_of result ≡ keyed_in Kind.Scan (cut_at 32 fields.now) }
+    ensures fields { reading_of result ≡ from_key Kind.Scan (cut_at 32 fields.now) }
     ensures places { IfOk result (LieIn fields.now) }
 {
     let (key, behind) = key_in(fields)?;
@@ -216,8 +214,8 @@ fn kind_of(word: &[u8]) -> Option<Kind>
     }
 }
 
-fn fields_in(kind: Kind, fields: &[u8]) -> Result<Found<'_>, Cause>
-    ensures asked { reading_of result ≡ keyed_in kind (cut_at 32 fields.now) }
+fn fields_behind(kind: Kind, fields: &[u8]) -> Result<Found<'_>, Cause>
+    ensures fields { reading_of result ≡ from_key kind (cut_at 32 fields.now) }
     ensures places { IfOk result (LieIn fields.now) }
 {
     match kind {
@@ -228,14 +226,14 @@ fn fields_in(kind: Kind, fields: &[u8]) -> Result<Found<'_>, Cause>
 }
 
 /// What a line asks, or the first thing that is wrong with it.
-pub fn asked_in(line: &[u8]) -> Result<Found<'_>, Cause>
-    ensures asked { reading_of result ≡ asked_in line.now }
+pub fn fields_of(line: &[u8]) -> Result<Found<'_>, Cause>
+    ensures fields { reading_of result ≡ fields_of line.now }
     ensures places { IfOk result (LieIn line.now) }
 {
     let (word, fields) = cut(line, b' ');
     let kind = kind_of(word).ok_or(Cause::UnknownWord)?;
     let fields = fields.ok_or(Cause::MissingField)?;
-    let found = fields_in(kind, fields)?;
+    let found = fields_behind(kind, fields)?;
     let before = line.len() - fields.len();
     Ok(Found {
         key_at: before + found.key_at,

@@ -1,13 +1,17 @@
 //! Where the parts of a command are issued and done.
 ghost use Rattle.std.specs.Prelude.{◌≡◌, ℕ, ◌<◌, ◌≤◌, List, length, count_by, fold, max, true, if◌then◌else◌, All};
-ghost use Rattle.trace_text.specs.Found.{LiesWithin};
+ghost use Rattle.trace_text.specs.Parsed.{LiesWithin, trace_in};
 ghost use Rattle.trace_text.specs.Operation.{operations};
-ghost use Rattle.trace_text.specs.Parsed.{trace_in};
-ghost use Rattle.trace_text.specs.Parts.{hash, owner, origin, is_put, is_get, is_scan, issued, done_at, own_parts, here_parts, here_puts, reply_bytes, replies_room};
+ghost use Rattle.trace_text.specs.Parts.{most_shards, hash, owner, origin, is_put, is_get, is_scan, issued, done_at, own_parts, here_parts, here_puts, reply_bytes, replies_room};
 ghost use Rattle.trace_text.specs.Reading.{most_commands};
+ghost use Rattle.trace_text.specs.Trace.{trace_with};
 
 use crate::command::{Command, Kind};
-use crate::held::Trace;
+use crate::trace::Trace;
+use layout::SCAN_ROOM;
+
+/// The most shards of a run.
+pub const MOST_SHARDS: u32 = 16;
 
 const OFFSET: u64 = 14_695_981_039_346_656_037;
 
@@ -19,20 +23,22 @@ fn hash(key: &[u8]) -> u64
     key.iter().fold(OFFSET, |hash, b| (hash ^ u64::from(*b)).wrapping_mul(PRIME))
 }
 
-/// The shard that owns a key, of `shards` shards: the key's FNV-1a hash of 64 bits, modulo their number.
+/// The shard that owns a key, of `shards` shards, 1 to 16: the key's FNV-1a hash of 64 bits, modulo their number.
+/// The rule is this project's own.
 pub fn owner_of(key: &[u8], shards: u32) -> u32
     requires some { 1 ≤ shards }
-    requires most { shards ≤ 16 }
+    requires most { shards ≤ most_shards }
     ensures { result ≡ owner key.now shards }
 {
     (hash(key) % u64::from(shards)) as u32
 }
 
-/// The shard at which a command is issued, of `shards` shards: they take turns, in the order of the numbers.
+/// The shard at which a command is issued, of `shards` shards, 1 to 16: they take turns, in the order of the
+/// commands' numbers, which begin with 1. The rule is this project's own.
 pub fn origin_of(number: u32, shards: u32) -> u32
     requires number { 1 ≤ number }
     requires some { 1 ≤ shards }
-    requires most { shards ≤ 16 }
+    requires most { shards ≤ most_shards }
     ensures { result ≡ origin number shards }
 {
     (number - 1) % shards
@@ -47,13 +53,14 @@ pub struct Needs {
     pub here_parts: u32,
     /// The puts whose key the shard owns.
     pub here_puts: u32,
-    /// Room for the replies to what the shard issues, in bytes: the trace's greatest value for each get, and
-    /// 8,272 bytes for each part of a scan.
+    /// Room for the replies to what the shard issues, in bytes: the trace's longest value for each get, and
+    /// [`SCAN_ROOM`] bytes for each part of a scan.
     pub reply_bytes: u32,
 }
 
 impl Trace {
-    /// What a shard will need for this trace. `shards` is the number that the trace was parsed for.
+    /// What a shard will need for this trace: counts of parts, of puts, and bytes. `shards` is the number that the
+    /// trace was parsed for, and shards are numbered from 0.
     pub fn needs(&self, shard: u32, shards: u32) -> Needs
         requires below { shard < shards }
         requires parsed_for { shards ≡ self.now.shards }
@@ -85,22 +92,22 @@ impl Trace {
             own_parts,
             here_parts,
             here_puts,
-            reply_bytes: gets * greatest + scans * (shards * 8272),
+            reply_bytes: gets * greatest + scans * (shards * SCAN_ROOM),
         }
     }
 }
 
-/// The room for all replies to these commands, with so many shards, in bytes: the greatest value for each get, and
-/// 8,272 bytes for each shard's part of a scan.
+/// The room for all replies to these commands, with so many shards, in bytes: the longest value for each get, and
+/// [`SCAN_ROOM`] bytes for each shard's part of a scan.
 pub(crate) fn replies_room(commands: &[Command], shards: u32) -> u64
     requires few { length commands.now ≤ most_commands }
-    requires most { shards ≤ 16 }
+    requires most { shards ≤ most_shards }
     ensures { (bytes : List ℕ) → All (LiesWithin bytes) commands.now
-        → result ≡ replies_room (operations bytes commands.now) shards }
+        → result ≡ replies_room (trace_with (operations bytes commands.now)) shards }
 {
     let gets = gets_among(commands) as u64;
     let scans = scans_among(commands) as u64;
-    gets * u64::from(greatest_among(commands)) + scans * u64::from(shards * 8272)
+    gets * u64::from(greatest_among(commands)) + scans * u64::from(shards * SCAN_ROOM)
 }
 
 fn gets_among(commands: &[Command]) -> usize

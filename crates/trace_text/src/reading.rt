@@ -1,15 +1,19 @@
 //! The reading of a trace.
 ghost use Rattle.std.specs.Prelude.{◌≡◌, ℕ, ◌+◌, ◌<◌, ◌≤◌, ◌^◌, ◌∷◌, length, IfOk, IfErr, OnOk, Ok, Err, vec_len};
-ghost use Rattle.trace_text.specs.Found.{AddsLine, IsCommandAt, IsRestOf, LiesAt, RefusesLine};
+ghost use Rattle.trace_text.specs.inside.Found.{AddsLine, IsCommandAt, IsRestOf, LiesAt, RefusesLine};
 ghost use Rattle.trace_text.specs.Parsed.{AreSpelled, trace_in};
-ghost use Rattle.trace_text.specs.Reading.{AtLine, is_cr, judged, lines, most_bytes, most_commands, most_replies, operations_of, told, trace_of, without_cr, IsRefusedAs};
+ghost use Rattle.trace_text.specs.Parts.{most_shards};
+ghost use Rattle.trace_text.specs.Reading.{AtLine, is_cr, line_reading, lines, most_bytes, most_commands, most_replies, operations_of, command_lines, trace_of, without_cr, IsRefusedAs};
 
 use crate::command::{Command, Span};
-use crate::held::Trace;
-use crate::line::{asked_in, cut, is_passed};
+use crate::line::{cut, fields_of, is_passed};
 use crate::parts::replies_room;
 use crate::refusal::{Cause, ParseRefusal};
+use crate::trace::Trace;
 use std::alloc::Global;
+
+/// The most bytes of a trace.
+pub const MOST_BYTES: u32 = 67_108_864;
 
 /// The most commands of a trace.
 const MOST_COMMANDS: usize = 1_048_576;
@@ -43,7 +47,7 @@ fn cut_line(text: &[u8]) -> (&[u8], &[u8])
     ensures front { LiesAt text.now 0 result.0.now }
     ensures rest { IsRestOf text.now result.1.now }
     ensures progress { 0 < length text.now → length result.1.now < length text.now }
-    ensures told { (line : ℕ) → told line (lines text.now) ≡ told line (result.0.now ∷ lines result.1.now) }
+    ensures lines { (line : ℕ) → command_lines line (lines text.now) ≡ command_lines line (result.0.now ∷ lines result.1.now) }
 {
     match cut(text, b'\n') {
         (line, None) => (without_cr(line), &[]),
@@ -56,9 +60,9 @@ fn command_at(text: &[u8], start: usize, number: u32, line: u32) -> Result<Comma
     requires place { start + length text.now < 2 ^ 32 }
     requires few { number ≤ most_commands }
     ensures found { IfOk result (IsCommandAt text.now start number line) }
-    ensures refused { IfErr result (λ cause. judged (number, (line, text.now)) ≡ Err (AtLine line cause)) }
+    ensures refused { IfErr result (λ cause. line_reading (number, (line, text.now)) ≡ Err (AtLine line cause)) }
 {
-    let found = asked_in(text)?;
+    let found = fields_of(text)?;
     Ok(Command {
         number,
         line,
@@ -110,7 +114,7 @@ fn add_line(
 fn commands_of(alloc: Global, bytes: &[u8]) -> Result<Vec<Command>, ParseRefusal>
     requires { length bytes.now ≤ most_bytes }
     ensures read { IfOk result (λ commands. AreSpelled bytes.now commands.items) }
-    ensures refused { IfErr result (λ refusal. IsRefusedAs refusal (operations_of 1 (told 1 (lines bytes.now)))) }
+    ensures refused { IfErr result (λ refusal. IsRefusedAs refusal (operations_of 1 (command_lines 1 (lines bytes.now)))) }
 {
     let mut commands = Vec::new(alloc);
     let mut rest = bytes;
@@ -125,12 +129,21 @@ fn commands_of(alloc: Global, bytes: &[u8]) -> Result<Vec<Command>, ParseRefusal
     Ok(commands)
 }
 
-/// Reads a trace of at most 67,108,864 bytes for a run with `shards` shards, 1 to 16. The refusal of a trace names
-/// the first line with a cause, or line 0 where the replies would be too large, and gives up the bytes.
+/// Reads a trace of at most [`MOST_BYTES`] bytes for a run with `shards` shards, 1 to 16.
+///
+/// The bytes are cut at each LF, what stands behind the last LF is a line too, and one CR at a line's end is dropped.
+/// A line that is empty or begins with `#` is passed over; each other line is a command. The format is this project's
+/// own.
+///
+/// # Errors
+///
+/// [`ParseRefusal::Trace`] names the first line with a cause, lines counted from 1, and its cause; or line 0 where no
+/// line has one and the replies would be too large. [`ParseRefusal::Memory`] says that memory ran out. Both give up
+/// the bytes.
 pub fn parse(alloc: Global, bytes: Vec<u8>, shards: u32) -> Result<Trace, ParseRefusal>
     requires short { length bytes.items ≤ most_bytes }
     requires some_shards { 1 ≤ shards }
-    requires most_shards { shards ≤ 16 }
+    requires most_shards { shards ≤ most_shards }
     ensures bytes { IfOk result (λ trace. trace.bytes ≡ bytes.items) }
     ensures shards { IfOk result (λ trace. trace.shards ≡ shards) }
     ensures read { IfOk result (λ trace. trace_of bytes.items shards ≡ Ok (trace_in trace)) }

@@ -1,10 +1,12 @@
+//! Why a trace is refused.
 ghost use Rattle.std.specs.Prelude.{◌≡◌};
+ghost use Rattle.trace_text.specs.Causes.{cause_name};
 ghost use Rattle.trace_text.specs.declared.refusal.ParseRefusal.TheVariants.{Memory};
 
 use std::alloc::{AllocError, AllocFailed};
 use thiserror::Error;
 
-/// Why a trace is refused, at the first line that is no command.
+/// Why a trace is refused, at the first line that is no command. The causes and their order are this project's own.
 #[derive(Clone, Copy, Debug, PartialEq, Eq, Drop, Error)]
 pub enum Cause {
     /// The word is none of `put`, `get`, `erase` and `scan`.
@@ -34,10 +36,30 @@ pub enum Cause {
     /// 1,048,576 commands stand before this one.
     #[error("too many commands")]
     TooManyCommands,
-    /// The replies may have more than 536,870,912 bytes: the greatest value for each get, and 8,272 bytes for
+    /// The replies may have more than 536,870,912 bytes: the longest value for each get, and 8,272 bytes for
     /// each shard's part of a scan. It has line 0.
     #[error("replies too large")]
     RepliesTooLarge,
+}
+
+impl Cause {
+    /// The name of a cause, as it is printed.
+    pub fn name(self) -> &'static str
+        ensures { result.now ≡ cause_name self }
+    {
+        match self {
+            Cause::UnknownWord => "UnknownWord",
+            Cause::MissingField => "MissingField",
+            Cause::KeyLength => "KeyLength",
+            Cause::KeyByte => "KeyByte",
+            Cause::ValueLength => "ValueLength",
+            Cause::ValueByte => "ValueByte",
+            Cause::Count => "Count",
+            Cause::ExtraField => "ExtraField",
+            Cause::TooManyCommands => "TooManyCommands",
+            Cause::RepliesTooLarge => "RepliesTooLarge",
+        }
+    }
 }
 
 /// Why a trace is not parsed.

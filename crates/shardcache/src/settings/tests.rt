@@ -2,7 +2,7 @@ use super::*;
 use std::test::Fail;
 
 /// What the words of a line ask for.
-fn asked(alloc: Global, line: &str) -> Result<Option<Settings>, AllocError> {
+fn settings_from(alloc: Global, line: &str) -> Result<Option<Settings>, AllocError> {
     let mut words = Vec::new(alloc);
     for word in line.split_whitespace() {
         words.push(String::from_str(alloc, word)?)?;
@@ -43,7 +43,7 @@ fn words_ask_for_settings(rt: HostRuntime) -> Result<(), Fail> {
             number,
             commands,
         };
-        assert!(rt; asked(rt.alloc(), line)? == Some(wanted), "{line}");
+        assert!(rt; settings_from(rt.alloc(), line)? == Some(wanted), "{line}");
     }
     Ok(())
 }
@@ -93,7 +93,7 @@ fn other_words_are_refused(rt: HostRuntime) -> Result<(), Fail> {
         "--shards 2",
     ];
     for line in rows {
-        assert!(rt; asked(rt.alloc(), line)?.is_none(), "{line}");
+        assert!(rt; settings_from(rt.alloc(), line)?.is_none(), "{line}");
     }
     Ok(())
 }

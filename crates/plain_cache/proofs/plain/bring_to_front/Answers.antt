@@ -19,7 +19,7 @@ returns-clause-distinct_still c =
     let all : c.args.rows.now.len ≡ length rows = omega arith in
     let is = turned c.args.key.now rows c.slice_mut.result.now front c.args.at c.args.rows.now.len c.requires.of_key c.requires.distinct all
     c.slice_mut.ensures.value c.rotate_right.ensures.len c.rotate_right.ensures.after in
-    turned_distinct c.args.key.now rows (written c.args.rows.now.len front rows) is.0 is.1 c.requires.distinct
+    turned_distinct c.other_rows_are_distinct.ensures.brought c.args.key.now rows (written c.args.rows.now.len front rows) is.0 is.1 c.requires.distinct
 
 pub returns-clause-small : goal.returns-clause-small
 returns-clause-small c =

@@ -1,26 +1,25 @@
 -- What stays are the rows of other keys.
-use Rattle.std.proofs.Common.{◌≡◌, ap, false, map, not, sym, ◌∙◌}
-use Rattle.plain_cache.specs.Apply.{has, is_of, without}
+use Rattle.std.proofs.Common.{◌≡◌, ap, false, map, sym, ◌∙◌}
+use Rattle.cache_model.specs.Apply.{has, without}
 use Rattle.plain_cache.specs.Kept.{row_in}
-use Rattle.plain_cache.proofs.Distinct.{distinct-filter, has-without, without-absent}
 use Rattle.plain_cache.proofs.plain.drop_row.Goals as goal
 
 pub returns-in_default-clause-rows : goal.returns-in_default-clause-rows
 returns-in_default-clause-rows c =
     let none : has c.args.key.now (map row_in c.args.rows.now.items) ≡ false =
     ap (λ ks. has c.args.key.now (map row_in ks)) (sym c.as_slice.ensures.value) ∙ sym c.in_default.ensures.has in
-    sym (without-absent c.args.key.now (map row_in c.args.rows.now.items) none)
+    sym (c.other_rows_are_distinct.ensures.all c.args.key.now (map row_in c.args.rows.now.items) none)
 
 pub returns-clause-absent : goal.returns-clause-absent
 returns-clause-absent c =
     let place = rw c.as_slice.ensures.value at c.in-Some.ensures.place in
     let others : map row_in c.remove.new.self.items ≡ without c.args.key.now (map row_in c.args.rows.now.items) =
     ap (map row_in) c.remove.ensures.items ∙ place.others c.requires in
-    rw others (has-without c.args.key.now (map row_in c.args.rows.now.items))
+    rw others (c.other_rows_are_distinct.ensures.absent c.args.key.now (map row_in c.args.rows.now.items))
 
 pub returns-clause-distinct : goal.returns-clause-distinct
 returns-clause-distinct c =
     let place = rw c.as_slice.ensures.value at c.in-Some.ensures.place in
     let others : map row_in c.remove.new.self.items ≡ without c.args.key.now (map row_in c.args.rows.now.items) =
     ap (map row_in) c.remove.ensures.items ∙ place.others c.requires in
-    rw others (distinct-filter (λ row. not (is_of c.args.key.now row)) (map row_in c.args.rows.now.items) c.requires)
+    rw others (c.other_rows_are_distinct.ensures.distinct c.args.key.now (map row_in c.args.rows.now.items) c.requires)

@@ -1,6 +1,6 @@
 -- The keys of the rows so far.
 use Rattle.std.proofs.Common.{◌≡◌, map, take, filter}
-use Rattle.plain_cache.specs.Apply.{is_at_most}
+use Rattle.cache_model.specs.Apply.{is_at_most}
 use Rattle.plain_cache.specs.Kept.{row_in}
 use Rattle.plain_cache.proofs.plain.keys_from.Given as goal
 

@@ -9,4 +9,4 @@ pub returns-clause-has : goal.returns-clause-has
 returns-clause-has c = rw c.place_of.ensures (has-position c.args.key.now c.args.rows.now)
 
 pub returns-clause-place : goal.returns-clause-place
-returns-clause-place c = is_place_where c.args.key.now c.args.rows.now c.place_of.result c.place_of.ensures
+returns-clause-place c = is_place_where c.other_rows_are_distinct.ensures.all c.args.key.now c.args.rows.now c.place_of.result c.place_of.ensures

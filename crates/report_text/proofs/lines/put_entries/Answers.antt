@@ -1,12 +1,12 @@
-use Rattle.plain_cache.specs.declared.journal.Entry.TheVariants.{Done}
-use Rattle.report_text.proofs.Laid.{Wrote-next, Wrote-broken, Wrote-exit}
+use Rattle.cache_model.specs.declared.entry.Entry.TheVariants.{Done}
+use Rattle.report_text.proofs.Outputs.{Writes-next, Writes-broken, Writes-exit}
 use Rattle.report_text.proofs.Texts.{entry_piece}
 use Rattle.report_text.proofs.lines.put_entries.Goals as goal
 
 pub loop-entry-preserved : goal.loop-entry-preserved
 loop-entry-preserved g c =
-    Wrote-next entry_piece c.args.entries.now c.loop-entry.entry-index (Done 0) c.loop-entry-test.true c.loop-entry.invariant c.in_ok-put_entry.ensures
+    Writes-next entry_piece c.args.entries.now c.loop-entry.entry-index (Done 0) c.loop-entry-test.true c.loop-entry.invariant c.in_ok-put_entry.ensures
 
 pub returns-in_err-put_entry : goal.returns-in_err-put_entry
 returns-in_err-put_entry g c =
-    Wrote-exit _ c.from_residual.ensures.1 (Wrote-broken entry_piece c.args.entries.now c.loop-entry.entry-index (Done 0) c.loop-entry-test.true c.loop-entry.invariant c.in_err-put_entry.ensures)
+    Writes-exit _ c.from_residual.ensures.1 (Writes-broken entry_piece c.args.entries.now c.loop-entry.entry-index (Done 0) c.loop-entry-test.true c.loop-entry.invariant c.in_err-put_entry.ensures)

@@ -1,13 +1,16 @@
 -- The keys so far were laid, and the others are the rest.
-use Rattle.std.proofs.Common.{ℕ, List, length}
-use Rattle.plain_cache.specs.KeyBody.{AreKeys}
-use Rattle.report_text.specs.Laid.{stand}
-use Rattle.report_text.proofs.Keys.{AreLaid}
+use Rattle.std.proofs.Common.{ℕ, ◌-◌, ◌≤◌, List, drop, length}
+use Rattle.cache_model.specs.KeyBody.{AreKeys}
+use Rattle.report_text.specs.inside.Output.{output}
+use Rattle.report_text.proofs.Keys.{AreAdded}
 use Rattle.report_text.proofs.lines.put_keys.Given as goal
 
-abbrev pub invariant-loop-key : goal.invariant-loop-key
-invariant-loop-key g l = (keys : List (List ℕ)) → AreKeys l.body keys →
-    AreLaid (stand (g.K.Sink.written l.fn.sink) (g.K.Sink.faults l.fn.sink) l.fn.block.items) (stand (g.K.Sink.written l.sink) (g.K.Sink.faults l.sink) l.block.items) l.rest keys
+abbrev pub invariant-loop-span : goal.invariant-loop-span
+invariant-loop-span g l = record {
+  within : l.at ≤ length l.body;
+  added : (keys : List (List ℕ)) → AreKeys l.body keys →
+      AreAdded (output (g.K.Sink.written l.fn.sink) (g.K.Sink.faults l.fn.sink) l.fn.buffer.items) (output (g.K.Sink.written l.sink) (g.K.Sink.faults l.sink) l.buffer.items) (drop l.at l.body) keys;
+}
 
-abbrev pub decreases-loop-key : goal.decreases-loop-key
-decreases-loop-key g l = length l.rest
+abbrev pub decreases-loop-span : goal.decreases-loop-span
+decreases-loop-span g l = length l.body - l.at

@@ -1,7 +1,9 @@
-use Rattle.std.proofs.Common.{◌≡◌, ◌+◌, ◌-◌, ◌∙◌, suc, Some, length, slice_set, ap, sym, subst, arith}
+use Rattle.std.proofs.Common.{◌≡◌, ◌+◌, ◌-◌, ◌<◌, ◌∙◌, suc, Some, length, map, slice_set, ap, sym, subst, arith}
+use Rattle.std.proofs.lemmas.List.{length-map}
 use Rattle.trace_text.specs.declared.command.Command.{Command}
 use Rattle.trace_text.specs.declared.command.Kind.TheVariants.{Put}
-use Rattle.report_text.proofs.Said.{IsSaid, one_more_said, held_when_said}
+use Rattle.trace_text.specs.Operation.{operation}
+use Rattle.report_text.proofs.Logs.{IsFilled, fits_at, logged_when_filled, one_more_filled}
 use Rattle.report_text.proofs.tests.log_of.Goals as goal
 
 abbrev none : Command
@@ -9,22 +11,30 @@ none = record { number = 0; line = 0; kind = Put; key = record { start = 0; len 
 
 pub loop-part-preserved : goal.loop-part-preserved
 loop-part-preserved g c =
+    let bytes = c.args.trace.now.bytes in
+    let commands = c.commands-commands.result.now in
     let part = c.loop-part.part in
     let rest = length c.args.replies.now - (part + 1) in
     let old = c.loop-part.log.replies in
-    let reply = c.reply_of-kind.ensures.spelled in
+    let reply = c.reply_to-kind.ensures.fits in
     let one : length c.args.replies.now - part ≡ suc rest = omega (arith, c.loop-part-test.true) in
-    let new = c.record.ensures.replies ∙ ap (λ r. slice_set old part (Some r)) reply.1.spelled in
+    let below : part < length commands = omega (arith, c.loop-part-test.true) in
+    let within : part < length (map (operation bytes) commands) = simp length-map below in
+    let new = c.record.ensures.replies ∙ ap (λ r. slice_set old part (Some r)) reply.1 in
     record {
-      said = subst (λ parts. IsSaid parts (part + 1) rest) (sym new) (one_more_said old part rest reply.0 reply.1.short (subst (IsSaid old part) one c.loop-part.invariant.said));
-      room = omega (arith, c.record.ensures.room, c.reply_of-kind.ensures.short, c.loop-part.invariant.room);
+      filled = subst (λ parts. IsFilled (map (operation bytes) commands) parts (part + 1) rest) (sym new)
+          (one_more_filled (map (operation bytes) commands) old part rest reply.0 (operation bytes none) within (fits_at bytes commands part _ none reply.0 below reply.2)
+          (subst (IsFilled (map (operation bytes) commands) old part) one c.loop-part.invariant.filled));
+      room = omega (arith, c.record.ensures.room, c.reply_to-kind.ensures.short, c.loop-part.invariant.room);
     }
 
 pub returns : goal.returns
 returns g c =
     let k = c.commands-commands in
+    let operations = map (operation c.args.trace.now.bytes) k.result.now in
     let part = c.loop-part.part in
     let many : part ≡ length k.result.now = omega arith in
     let over : length c.args.replies.now - part ≡ 0 = omega arith in
-    held_when_said c.args.trace.now k.result.now c.loop-part.log none k.ensures.value k.ensures.numbered
-    (subst (λ n. IsSaid c.loop-part.log.replies n 0) many (subst (IsSaid c.loop-part.log.replies part) over c.loop-part.invariant.said))
+    let law = c.one_shard_answers_alone.ensures in
+    logged_when_filled law.part law.parts law.fitting c.args.trace.now k.result.now c.loop-part.log.replies k.ensures.value k.ensures.numbered
+    (subst (λ n. IsFilled operations c.loop-part.log.replies n 0) many (subst (IsFilled operations c.loop-part.log.replies part) over c.loop-part.invariant.filled))

@@ -2,7 +2,7 @@
 use Rattle.std.proofs.Common.{append_assoc, ◌∙◌}
 use Rattle.shardcache.proofs.call.refuse.Goals as goal
 
-pub returns-clause-said : goal.returns-clause-said
-returns-clause-said g c =
-    let text = rw c.name_of-name.ensures at (c.as_bytes.ensures.value ∙ c.in-Ok.ensures.ok) in
-    rw (append_assoc, append_assoc) (rw text at c.say.ensures.said)
+pub returns-clause-written : goal.returns-clause-written
+returns-clause-written g c =
+    let text = rw c.name-name.ensures at (c.as_bytes.ensures.value ∙ c.in-Ok.ensures.ok) in
+    rw (append_assoc, append_assoc) (rw text at c.write_line.ensures.written)

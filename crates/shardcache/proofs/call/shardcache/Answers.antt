@@ -1,23 +1,19 @@
 -- The table of the top call.
-use Rattle.std.proofs.Common.{inl, refl, sym}
+use Rattle.std.proofs.Common.{refl, sym}
 use Rattle.shardcache.specs.declared.status.Status.TheVariants as status
 use Rattle.shardcache.specs.Settings.{view}
-use Rattle.shardcache.proofs.Answered.{accepted, answered_said, takes_none}
+use Rattle.shardcache.specs.TraceFor.{NotYetShards}
+use Rattle.shardcache.proofs.TableRows.{accepted, follows_ending, means_not_yet, refused, takes_none}
 use Rattle.shardcache.proofs.call.shardcache.Goals as goal
 
-pub returns-in_default-asked-clause-told : goal.returns-in_default-asked-clause-told
-returns-in_default-asked-clause-told g c =
-    let none = rw c.in_default-asked.is at (sym c.in-Ok.ensures.asked) in
-    answered_said _ status.Usage _ _ _ _ _ _ _ (takes_none _) (none, refl, refl) c.say.ensures.said
+pub returns-in_default-found-clause-headline : goal.returns-in_default-found-clause-headline
+returns-in_default-found-clause-headline g c =
+    let none = rw c.in_default-found.is at (sym c.in-Ok.ensures.settings) in
+    follows_ending _ status.Usage _ _ _ _ _ _ _ (takes_none _) (none, refl, refl) c.write_line.ensures.written
 
-pub returns-then-asked-gt1-clause-told : goal.returns-then-asked-gt1-clause-told
-returns-then-asked-gt1-clause-told g c =
-    let some = rw c.in-Some.is at (sym c.in-Ok.ensures.asked) in
-    answered_said _ status.Refused _ _ _ _ _ _ _ (takes_none _) (view c.in-Some.asked, some, inl (c.if-asked-gt1.true, refl, refl))
-    c.say-then-asked-gt1.ensures.said
-
-pub returns-clause-accepted : goal.returns-clause-accepted
-returns-clause-accepted g c bytes asked left are one ok nr nw =
-    let some = rw c.in-Some.is at (sym c.in-Ok.ensures.asked) in
-    accepted _ _ bytes asked _ _ _ _ _ _ _ (rw left at (c.read_and_work.ensures.told _ some)) c.read_and_work.ensures.read_fault
-    c.read_and_work.ensures.write_fault are one ok nr nw
+pub returns-then-settings-gt1-clause-headline : goal.returns-then-settings-gt1-clause-headline
+returns-then-settings-gt1-clause-headline g c =
+    let some = rw c.in-Some.is at (sym c.in-Ok.ensures.settings) in
+    let means = means_not_yet (view c.in-Some.settings) _ _ some c.if-settings-gt1.true in
+    follows_ending _ status.Refused _ _ _ _ _ _ _ (takes_none _) (view c.in-Some.settings, NotYetShards, means, refl)
+    c.write_line-then-settings-gt1.ensures.written

@@ -1,13 +1,13 @@
 -- What clap makes of the words, and what they ask.
 use Rattle.std.proofs.Common.{◌∙◌, map, string_bytes, sym}
-use Rattle.shardcache.proofs.Words.{asked_in, refused_in}
+use Rattle.shardcache.proofs.Words.{found_in, refused_in}
 use Rattle.shardcache.proofs.settings.settings_of.Goals as goal
 
-pub returns-in-Ok-clause-asked : goal.returns-in-Ok-clause-asked
-returns-in-Ok-clause-asked c =
-    asked_in _ (map (λ word. string_bytes word) c.args.words.now) _ _ c.in_ok-command.ensures c.in-Ok.ensures.matches c.in-Ok.ensures.kinds c.asked_by.ensures.value
+pub returns-in-Ok-clause-settings : goal.returns-in-Ok-clause-settings
+returns-in-Ok-clause-settings c =
+    found_in _ (map (λ word. string_bytes word) c.args.words.now) _ _ c.in_ok-command.ensures c.in-Ok.ensures.matches c.in-Ok.ensures.kinds c.settings_in.ensures.value
 
-pub returns-clause-asked : goal.returns-clause-asked
-returns-clause-asked c =
+pub returns-clause-settings : goal.returns-clause-settings
+returns-clause-settings c =
     sym (refused_in _ (map (λ word. string_bytes word) c.args.words.now) c.in-Err.error c.in_ok-command.ensures c.in-Err.ensures.kinds
     (λ memory. c.in_default.not-OutOfMemory (c.kind.ensures ∙ memory)))

@@ -1,14 +1,14 @@
 -- What the commands count is what their operations count.
 use Rattle.std.proofs.Common.{refl}
 use Rattle.trace_text.specs.Parts.{is_get, is_scan}
-use Rattle.trace_text.proofs.Tallies.{count_in, greatest_in}
+use Rattle.trace_text.proofs.Tallies.{count_in, longest_in}
 use Rattle.trace_text.proofs.parts.replies_room.Goals as goal
 
 pub returns : goal.returns
 returns c bytes lie = rw (
   ← count_in bytes (λ o. is_get o.kind) c.args.commands.now,
   ← count_in bytes (λ o. is_scan o.kind) c.args.commands.now,
-  ← greatest_in bytes c.args.commands.now lie,
+  ← longest_in bytes c.args.commands.now lie,
 ) (rw (
   c.gets_among-gets.ensures.value,
   c.from.ensures,

@@ -1,0 +1,11 @@
+pub mod Along
+pub mod Bodies
+pub mod Distinct
+pub mod Holds
+pub mod KeyBodies
+pub mod KeyOrder
+pub mod Logged
+pub mod OneShard
+pub mod OwnParts
+pub mod Printed
+pub mod TextLines

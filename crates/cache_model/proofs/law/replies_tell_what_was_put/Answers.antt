@@ -1,0 +1,14 @@
+use Rattle.cache_model.proofs.Holds.{answer-holds, part-holds, reply-holds, rows-hold}
+use Rattle.cache_model.proofs.law.replies_tell_what_was_put.Goals as goal
+
+pub returns-clause-part : goal.returns-clause-part
+returns-clause-part c k v operation cache put holds = part-holds k v operation cache put holds
+
+pub returns-clause-rows : goal.returns-clause-rows
+returns-clause-rows c k v trace pages journal cache puts leads = rows-hold k v trace pages journal cache puts leads
+
+pub returns-clause-replies : goal.returns-clause-replies
+returns-clause-replies c k v trace pages journal i reply puts e = reply-holds k v trace pages journal i reply puts e
+
+pub returns-clause-answers : goal.returns-clause-answers
+returns-clause-answers c k v trace n pages journals operation reply puts e = answer-holds k v trace n pages journals operation reply puts e

@@ -1,0 +1,108 @@
+-- Examples on which the definitions are checked.
+use Rattle.std.specs.Prelude.{◌≡◌, ℕ, true, false, List, [], ◌∷◌, length, replicate, codes, Some, None}
+use Rattle.layout.specs.Sizes.{dense}
+use Rattle.trace_text.specs.declared.command.Kind.{Kind}
+use Rattle.trace_text.specs.declared.command.Kind.TheVariants.{Put, Get, Scan}
+use Rattle.trace_text.specs.Operation.{Operation}
+use Rattle.trace_text.specs.Trace.{Trace, trace_with}
+use Rattle.cache_model.specs.declared.entry.Entry.{Entry}
+use Rattle.cache_model.specs.declared.entry.Entry.TheVariants.{Done, Evicted}
+use Rattle.cache_model.specs.Row.{Row, floor, live, tight_floor}
+use Rattle.cache_model.specs.Apply.{Stored, Missing, Keys}
+use Rattle.cache_model.specs.Legal.{IsLegal, IsComplete, can_evict, reply_at}
+use Rattle.cache_model.specs.OwnParts.{issued_parts}
+use Rattle.cache_model.specs.Report.{report}
+use Rattle.cache_model.specs.Answer.{answer}
+
+abbrev pub asks : ℕ → Kind → List ℕ → List ℕ → ℕ → Operation
+asks number kind key value count = record { number = number; line = number; kind = kind; key = key; value = value; count = count }
+
+abbrev pub joined_scan : Operation
+joined_scan = asks 7 Scan (codes "a") [] 3
+
+-- shard 0 owns a and c, shard 1 owns b and z
+abbrev pub two_shards : Trace
+two_shards = trace_with (
+    asks 1 Put (codes "a") (codes "1") 0 ∷ asks 2 Get (codes "z") [] 0 ∷ asks 3 Put (codes "b") (codes "2") 0
+    ∷ asks 4 Get (codes "z") [] 0 ∷ asks 5 Put (codes "c") (codes "3") 0 ∷ asks 6 Get (codes "z") [] 0 ∷ joined_scan ∷ [])
+
+abbrev pub first : List Entry
+first = Done 1 ∷ Done 5 ∷ Done 7 ∷ []
+
+abbrev pub second : List Entry
+second = Done 2 ∷ Done 3 ∷ Done 4 ∷ Done 6 ∷ Done 7 ∷ []
+
+-- the scan of shard 1 is done before the gets of the other origin: they come in any order
+abbrev pub second_merged : List Entry
+second_merged = Done 3 ∷ Done 7 ∷ Done 2 ∷ Done 4 ∷ Done 6 ∷ []
+
+-- an entry changed: two commands of one origin in the other order, one left out, one twice, an eviction of nothing
+abbrev pub swapped : List Entry
+swapped = Done 2 ∷ Done 3 ∷ Done 6 ∷ Done 4 ∷ Done 7 ∷ []
+
+abbrev pub shortened : List Entry
+shortened = Done 2 ∷ Done 3 ∷ Done 4 ∷ Done 7 ∷ []
+
+abbrev pub doubled : List Entry
+doubled = Done 2 ∷ Done 3 ∷ Done 4 ∷ Done 6 ∷ Done 7 ∷ Done 7 ∷ []
+
+abbrev pub evicting : List Entry
+evicting = Done 1 ∷ Evicted 1 ∷ Done 5 ∷ Done 7 ∷ []
+
+-- of two shards: which journals are legal and complete, and what is answered
+pub record TwoShardsAreRight : Type 0 where
+  pub legal_first : IsLegal two_shards 1280 first
+  pub legal_second : IsLegal two_shards 1280 second
+  pub legal_merged : IsLegal two_shards 1280 second_merged
+  pub complete_first : IsComplete two_shards 2 0 first
+  pub complete_second : IsComplete two_shards 2 1 second
+  pub complete_merged : IsComplete two_shards 2 1 second_merged
+  pub wrong_shard : IsComplete two_shards 2 1 first → ⊥
+  pub wrong_order : IsComplete two_shards 2 1 swapped → ⊥
+  pub left_out : IsComplete two_shards 2 1 shortened → ⊥
+  pub twice : IsComplete two_shards 2 1 doubled → ⊥
+  pub below_floor : IsLegal two_shards 1280 evicting → ⊥
+  pub counted : length (issued_parts two_shards 2 0) ≡ 5
+  pub issued : issued_parts two_shards 2 0 ≡ (1, 0) ∷ (3, 1) ∷ (5, 0) ∷ (7, 0) ∷ (7, 1) ∷ []
+  pub missing : reply_at two_shards 1280 second 4 ≡ Some Missing
+  pub joined : answer two_shards 2 1280 (first ∷ second ∷ []) joined_scan ≡ Some (Keys (codes "a" ∷ codes "b" ∷ codes "c" ∷ []))
+  pub owner_stored : answer two_shards 2 1280 (first ∷ second ∷ []) (asks 3 Put (codes "b") (codes "2") 0) ≡ Some Stored
+  pub owner_alone : answer two_shards 2 1280 (second ∷ first ∷ []) (asks 3 Put (codes "b") (codes "2") 0) ≡ None
+
+-- whole reports
+abbrev pub put_a : Trace
+put_a = trace_with (asks 1 Put (codes "a") (codes "1") 0 ∷ [])
+
+abbrev pub put_b : Trace
+put_b = trace_with (asks 1 Put (codes "b") (codes "1") 0 ∷ [])
+
+pub record ReportsAreRight : Type 0 where
+  pub at_home : report put_a 2 8192 ((Done 1 ∷ []) ∷ [] ∷ [])
+      ≡ codes "1 stored\njournal 0 1\njournal 1\nshard 0 rows 1 live 48 lent 0 back 0\nshard 1 rows 0 live 0 lent 0 back 0\n"
+  pub away : report put_b 2 8192 ([] ∷ (Done 1 ∷ []) ∷ [])
+      ≡ codes "1 stored\njournal 0\njournal 1 1\nshard 0 rows 0 live 0 lent 1 back 1\nshard 1 rows 1 live 48 lent 1 back 1\n"
+  pub both : report two_shards 2 8192 (first ∷ second ∷ [])
+      ≡ codes "1 stored\n2 missing\n3 stored\n4 missing\n5 stored\n6 missing\n7 keys a b c\njournal 0 1 5 7\njournal 1 2 3 4 6 7\nshard 0 rows 2 live 96 lent 2 back 2\nshard 1 rows 1 live 48 lent 2 back 2\n"
+
+-- evictions: with 1,088 pages the floor is 0, and with 1,120 it is that of one dense segment
+abbrev pub puts : Trace
+puts = trace_with (asks 1 Put (codes "a") (codes "1") 0 ∷ asks 2 Put (codes "b") (codes "2") 0 ∷ [])
+
+-- a row whose key is one letter
+abbrev pub wide_row : ℕ → ℕ → Row
+wide_row number bytes = record { key = number ∷ []; value = replicate bytes 120; number = number }
+
+-- ten rows, the last of so many bytes
+abbrev pub ten_rows : ℕ → List Row
+ten_rows bytes =
+    wide_row 1 12000 ∷ wide_row 2 12000 ∷ wide_row 3 12000 ∷ wide_row 4 12000 ∷ wide_row 5 12000 ∷ wide_row 6 12000 ∷ wide_row 7 12000
+    ∷ wide_row 8 12000 ∷ wide_row 9 12000 ∷ wide_row 10 bytes ∷ []
+
+pub record EvictionsAreRight : Type 0 where
+  pub floors : (floor 1088 ≡ 0) × (floor 1120 ≡ dense) × (floor 1280 ≡ 712656) × (floor 8192 ≡ 26368272)
+  pub tight : tight_floor 1280 32 ≡ floor 1280
+  pub oldest : IsLegal puts 1088 (Done 1 ∷ Done 2 ∷ Evicted 1 ∷ [])
+  pub another : IsLegal puts 1088 (Done 1 ∷ Done 2 ∷ Evicted 2 ∷ []) → ⊥
+  pub gone : IsLegal puts 1088 (Done 1 ∷ Evicted 1 ∷ Evicted 1 ∷ []) → ⊥
+  pub at_floor : (live (ten_rows 10303) ≡ dense) × (can_evict 1120 10 (ten_rows 10303) ≡ false)
+  pub above_floor : (live (ten_rows 10304) ≡ 118784) × (can_evict 1120 10 (ten_rows 10304) ≡ true)

@@ -1,0 +1,13 @@
+pub mod Answer
+pub mod Apply
+pub mod Bodies
+pub mod Examples
+pub mod Holds
+pub mod KeyBody
+pub mod Legal
+pub mod Logged
+pub mod OwnParts
+pub mod Report
+pub mod Row
+pub mod Spelled
+pub mod Unbroken

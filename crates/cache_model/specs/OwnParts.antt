@@ -1,0 +1,32 @@
+-- The parts that a shard issues, and the replies to them.
+use Rattle.std.specs.Prelude.{◌≡◌, ℕ, ◌==◌, List, [], ◌∷◌, map, filter, flat_map, if◌then◌else◌, Option}
+use Rattle.std.specs.List.{range_with_len, slice_get}
+use Rattle.std.specs.Option.{option_map, option_and_then}
+use Rattle.trace_text.specs.Operation.{Operation}
+use Rattle.trace_text.specs.Parts.{is_scan, origin, owner}
+use Rattle.trace_text.specs.Trace.{Trace}
+use Rattle.cache_model.specs.declared.entry.Entry.{Entry}
+use Rattle.cache_model.specs.declared.reply_kind.ReplyKind.{ReplyKind}
+use Rattle.cache_model.specs.Apply.{Reply}
+use Rattle.cache_model.specs.Legal.{reply_at}
+use Rattle.cache_model.specs.Spelled.{spelled}
+
+-- A part is named by the number of its command and the shard that does it.
+
+-- the parts of a command with n shards, in the order in which they are issued: of a scan one for each shard, of another
+-- command the one of the key's owner
+abbrev pub parts_of : ℕ → Operation → List (ℕ × ℕ)
+parts_of n operation =
+    if is_scan operation.kind then map (λ s. (operation.number, s)) (range_with_len 0 n) else (operation.number, owner operation.key n) ∷ []
+
+-- the parts that shard o issues, in order. Part k of its log, from 0, is the k-th.
+abbrev pub issued_parts : Trace → ℕ → ℕ → List (ℕ × ℕ)
+issued_parts trace n o = flat_map (parts_of n) (filter (λ operation. origin operation.number n == o) trace.operations)
+
+-- the reply to a part: the one at its entry in the journal of its shard
+abbrev pub part_reply : Trace → ℕ → List (List Entry) → ℕ × ℕ → Option Reply
+part_reply trace pages journals (i, s) = option_and_then (λ journal. reply_at trace pages journal i) (slice_get journals s)
+
+-- the log of shard o holds these replies, each as its kind and its body
+abbrev pub HoldsReplies : Trace → ℕ → ℕ → (ℕ × ℕ → Option Reply) → List (Option (ReplyKind × List ℕ)) → Type 0
+HoldsReplies trace n o reply log = log ≡ map (λ part. option_map spelled (reply part)) (issued_parts trace n o)

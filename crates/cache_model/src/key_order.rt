@@ -1,0 +1,18 @@
+//! Keys in the order of their bytes.
+ghost use Rattle.std.specs.Prelude.{◌≡◌, map};
+ghost use Rattle.cache_model.specs.Apply.{in_order, is_at_most};
+
+/// Whether one key is at most another, by their bytes.
+#[tactic(auto, using(crate::proofs::KeyOrder::tells_at_most))]
+pub fn is_at_most(key: &[u8], other: &[u8]) -> bool
+    ensures { result ≡ is_at_most key.now other.now }
+{
+    key <= other
+}
+
+/// Puts keys in the order of their bytes.
+pub fn sort_keys(keys: &mut Vec<&[u8]>)
+    ensures { map (λ key. key.now) keys.new.items ≡ in_order (map (λ key. key.now) keys.old.items) }
+{
+    keys.sort_unstable();
+}

@@ -1,0 +1,123 @@
+//! Laws of the definitions.
+ghost use Rattle.std.specs.Prelude.{◌≡◌, ◌==◌, ◌+◌, ◌<◌, ◌≤◌, ℕ, Bool, false, List, [], ◌∷◌, ◌++◌, length, map, take, filter, Option, Some, IsSome, All, Contains};
+ghost use Rattle.trace_text.specs.Trace.{Trace};
+ghost use Rattle.cache_model.specs.declared.entry.Entry.{Entry as JournalEntry};
+ghost use Rattle.cache_model.specs.Row.{Row};
+ghost use Rattle.cache_model.specs.Apply.{Reply, apply, has, in_order, row_of, without, HasDistinctKeys};
+ghost use Rattle.cache_model.specs.Answer.{answer, answer_from};
+ghost use Rattle.cache_model.specs.Logged.{AreLogged, Fits};
+ghost use Rattle.cache_model.specs.declared.reply_kind.ReplyKind.{ReplyKind};
+ghost use Rattle.cache_model.specs.Bodies.{HasKeys, HasShortKeys, most_of_body};
+ghost use Rattle.cache_model.specs.KeyBody.{AreKeys};
+ghost use Rattle.cache_model.specs.Report.{HasNumbers, Occupancy, PrintsJournals, answers, answer_text, journal_text, occupancy_text, report_of, text_lines};
+ghost use Rattle.cache_model.specs.Spelled.{spelled};
+ghost use Rattle.cache_model.specs.Unbroken.{IsUnbroken};
+ghost use Rattle.std.specs.List.{slice_get, slice_index_or, enumerate_from};
+ghost use Rattle.std.specs.Option.{option_map};
+ghost use Rattle.cache_model.specs.OwnParts.{HoldsReplies, issued_parts, part_reply, parts_of};
+ghost use Rattle.trace_text.specs.Parts.{longest_value, own_parts, parts};
+ghost use Rattle.cache_model.specs.Holds.{PutHolds, PutsHold, RowsHold, ReplyHolds};
+ghost use Rattle.trace_text.specs.Operation.{Operation};
+ghost use Rattle.cache_model.specs.Legal.{cache_after, command_of, reply_at};
+
+/// No two rows of the cache to which a journal leads have one key.
+pub fn keys_are_distinct()
+    ensures { (trace : Trace) (pages : ℕ) (journal : List JournalEntry) (cache : List Row)
+        → cache_after trace pages journal ≡ Some cache → HasDistinctKeys cache }
+{}
+
+/// What the rows of other keys are: where no row has the key they are all rows, and no two of them have one key. A row
+/// that was found may stand before them.
+pub fn other_rows_are_distinct()
+    ensures absent { (key : List ℕ) (cache : List Row) → has key (without key cache) ≡ false }
+    ensures all { (key : List ℕ) (cache : List Row) → has key cache ≡ false → without key cache ≡ cache }
+    ensures distinct { (key : List ℕ) (cache : List Row) → HasDistinctKeys cache → HasDistinctKeys (without key cache) }
+    ensures brought { (key : List ℕ) (cache : List Row) (row : Row) → row_of key cache ≡ Some row → HasDistinctKeys cache → HasDistinctKeys (row ∷ without key cache) }
+    ensures front { (count : ℕ) (cache : List Row) → HasDistinctKeys cache → HasDistinctKeys (take count cache) }
+{}
+
+/// The keys of a scan are among those that it was taken from, and stay as they are where they are put in order once more.
+pub fn scanned_keys_are_in_order()
+    ensures among { (count : ℕ) (test : List ℕ → Bool) (keys : List (List ℕ)) → All (Contains keys) (take count (in_order (filter test keys))) }
+    ensures stay { (count : ℕ) (keys : List (List ℕ)) → in_order (take count (in_order keys)) ≡ take count (in_order keys) }
+{}
+
+/// What holds of the keys and the values of a trace's puts holds of each row of a cache to which a journal leads, and of
+/// the value or the keys in each reply and each answer.
+pub fn replies_tell_what_was_put()
+    ensures part { (on_key on_value : List ℕ → Bool) (operation : Operation) (cache : List Row)
+        → PutHolds on_key on_value operation → RowsHold on_key on_value cache
+        → RowsHold on_key on_value (apply operation cache).0 × ReplyHolds on_key on_value (apply operation cache).1 }
+    ensures rows { (on_key on_value : List ℕ → Bool) (trace : Trace) (pages : ℕ) (journal : List JournalEntry) (cache : List Row)
+        → PutsHold on_key on_value trace → cache_after trace pages journal ≡ Some cache → RowsHold on_key on_value cache }
+    ensures replies { (on_key on_value : List ℕ → Bool) (trace : Trace) (pages : ℕ) (journal : List JournalEntry) (i : ℕ) (reply : Reply)
+        → PutsHold on_key on_value trace → reply_at trace pages journal i ≡ Some reply → ReplyHolds on_key on_value reply }
+    ensures answers { (on_key on_value : List ℕ → Bool) (trace : Trace) (n pages : ℕ) (journals : List (List JournalEntry)) (operation : Operation) (reply : Reply)
+        → PutsHold on_key on_value trace → answer trace n pages journals operation ≡ Some reply → ReplyHolds on_key on_value reply }
+{}
+
+/// The body of a reply is no longer than the greatest value of a trace, or than the room of each key that is asked.
+pub fn bodies_have_room()
+    ensures { (trace : Trace) (pages : ℕ) (journal : List JournalEntry) (operation : Operation) (reply : Reply)
+        → HasShortKeys trace → command_of trace operation.number ≡ Some operation → reply_at trace pages journal operation.number ≡ Some reply
+        → length (spelled reply).1 ≤ most_of_body (longest_value trace) operation }
+{}
+
+/// Where no reply has an LF, the lines of a report are the texts that it is made of, and behind the answers there is one
+/// line for each journal.
+pub fn a_report_has_its_lines()
+    ensures lines { (answers : List (ℕ × Reply)) (journals : List (List JournalEntry)) (occupancies : List Occupancy)
+        → All (λ answer. IsUnbroken answer.1) answers
+        → text_lines (report_of answers journals occupancies)
+        ≡ map answer_text answers ++ (map journal_text (enumerate_from 0 journals) ++ (map occupancy_text (enumerate_from 0 occupancies) ++ [] ∷ [])) }
+    ensures journals { (answers : List (ℕ × Reply)) (journals : List (List JournalEntry)) (occupancies : List Occupancy) (s : ℕ)
+        → All (λ answer. IsUnbroken answer.1) answers → s < length journals
+        → slice_get (text_lines (report_of answers journals occupancies)) (length answers + s) ≡ option_map (λ journal. journal_text (s, journal)) (slice_get journals s) }
+{}
+
+/// A body spells at most one list of keys.
+pub fn a_body_spells_one_list()
+    ensures { (body : List ℕ) (keys others : List (List ℕ)) → AreKeys body keys → AreKeys body others → keys ≡ others }
+{}
+
+/// Printed lines spell at most one list of journals, where commands are numbered in 32 bits.
+pub fn lines_print_one_list()
+    ensures { (trace : Trace) (n : ℕ) (bytes : List ℕ) (journals others : List (List JournalEntry))
+        → PrintsJournals trace n bytes journals → PrintsJournals trace n bytes others
+        → All HasNumbers journals → All HasNumbers others → journals ≡ others }
+{}
+
+/// With one shard the parts are the commands, and the answer to a command is the reply in its journal, or one that fits
+/// its command: joining the one reply to a scan changes nothing.
+pub fn one_shard_answers_alone()
+    ensures part { (operation : Operation) → parts_of 1 operation ≡ (operation.number, 0) ∷ [] }
+    ensures parts { (trace : Trace) → issued_parts trace 1 0 ≡ map (λ operation. (operation.number, 0)) trace.operations }
+    ensures answers { (trace : Trace) (pages : ℕ) (journal : List JournalEntry) (operation : Operation) (reply : Reply)
+        → command_of trace operation.number ≡ Some operation → reply_at trace pages journal operation.number ≡ Some reply
+        → answer trace 1 pages (journal ∷ []) operation ≡ Some reply }
+    ensures fitting { (operation : Operation) (reply : Reply) → Fits operation.kind operation.count (Some reply) → answer_from 1 operation (Some reply ∷ []) ≡ Some reply }
+{}
+
+/// The list of the parts that a shard issues has their count as its length, and those that one shard does among them are
+/// the parts of that peer.
+pub fn issued_parts_are_counted()
+    ensures count { (trace : Trace) (n o : ℕ) → length (issued_parts trace n o) ≡ own_parts trace n o }
+    ensures peer { (trace : Trace) (n o q : ℕ) → q < n → map (λ part. part.0) (filter (λ part. part.1 == q) (issued_parts trace n o)) ≡ parts trace n o q }
+{}
+
+/// The reply to each part of a command, at its entry in a journal, fits its command.
+pub fn replies_fit_their_commands()
+    ensures { (trace : Trace) (pages : ℕ) (journal : List JournalEntry) (operation : Operation) (reply : Reply)
+        → HasKeys trace → command_of trace operation.number ≡ Some operation → reply_at trace pages journal operation.number ≡ Some reply
+        → Fits operation.kind operation.count (Some reply) }
+{}
+
+/// Where the journals of n shards reply to each part, and the logs hold these replies, the logs hold the answers.
+pub fn logs_hold_the_answers()
+    ensures { (trace : Trace) (n pages : ℕ) (journals : List (List JournalEntry)) (logs : List (List (Option (ReplyKind × List ℕ))))
+        → length journals ≡ n → HasKeys trace
+        → All (λ operation. command_of trace operation.number ≡ Some operation) trace.operations
+        → All (λ operation. All (λ part. IsSome (part_reply trace pages journals part)) (parts_of n operation)) trace.operations
+        → ((o : ℕ) (d : List (Option (ReplyKind × List ℕ))) → o < n → HoldsReplies trace n o (part_reply trace pages journals) (slice_index_or logs o d))
+        → AreLogged trace n logs (answers trace n pages journals) }
+{}

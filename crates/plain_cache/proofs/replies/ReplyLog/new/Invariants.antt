@@ -1,6 +1,0 @@
--- So many parts are not answered.
-use Rattle.std.proofs.Common.{◌≡◌, None, replicate}
-use Rattle.plain_cache.proofs.replies.ReplyLog.new.Given as goal
-
-abbrev pub invariant-loop : goal.invariant-loop
-invariant-loop l = l.recorded.items ≡ replicate l.counter None

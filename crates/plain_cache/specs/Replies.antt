@@ -1,9 +1,0 @@
--- What contracts see of the replies that a log has.
-use Rattle.std.specs.Prelude.{ℕ, List, Option}
-use Rattle.plain_cache.specs.declared.replies.ReplyKind.{ReplyKind}
-
-pub record Replies : Type 0 where
-  -- by the number of the part, from 0: the reply and its body, where one was recorded
-  pub replies : List (Option (ReplyKind × List ℕ))
-  -- how many bytes of bodies may be recorded still
-  pub room : ℕ

@@ -1,0 +1,16 @@
+-- The lines of the answers so far were added.
+use Rattle.std.proofs.Common.{ℕ, List, take}
+use Rattle.std.specs.List.{flat_map}
+use Rattle.cache_model.specs.Apply.{Reply}
+use Rattle.cache_model.specs.Logged.{AreLogged}
+use Rattle.cache_model.specs.Report.{line, answer_text}
+use Rattle.trace_text.specs.Parsed.{trace_in}
+use Rattle.report_text.specs.Views.{replies_in}
+use Rattle.report_text.specs.inside.Output.{output}
+use Rattle.report_text.proofs.Outputs.{Added}
+use Rattle.report_text.proofs.report.put_answers.Given as goal
+
+abbrev pub invariant-loop-command : goal.invariant-loop-command
+invariant-loop-command g l = (answers : List (ℕ × Reply)) → AreLogged (trace_in l.trace) 1 (replies_in l.logs) answers →
+    Added (output (g.K.Sink.written l.fn.sink) (g.K.Sink.faults l.fn.sink) l.fn.buffer.items) (output (g.K.Sink.written l.sink) (g.K.Sink.faults l.sink) l.buffer.items)
+    (flat_map (λ answer. line (answer_text answer)) (take l.command-index answers))

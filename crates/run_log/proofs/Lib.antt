@@ -1,0 +1,2 @@
+pub mod KeyBodies
+pub mod ReplyLists

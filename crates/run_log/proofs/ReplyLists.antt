@@ -1,0 +1,39 @@
+-- The lists of a reply log.
+use Rattle.std.proofs.Common.{◌≡◌, ℕ, ◌+◌, ◌≤◌, zero, suc, List, [], ◌∷◌, ◌++◌, length, take, drop, map, Option, Some, None, arith, refl, ap, replicate, slice_set}
+use Rattle.std.specs.Prelude.{All}
+use Rattle.std.proofs.lemmas.List.{map-set, drop-append-le, take-append-le, length-drop, take_all}
+use Rattle.std.proofs.lemmas.List.Elements.{All-head, All-tail}
+use Rattle.std.proofs.Math.Seq.{drop-append_seam}
+use Rattle.cache_model.specs.declared.reply_kind.ReplyKind.{ReplyKind}
+use Rattle.run_log.specs.declared.reply_log.Recorded.{Recorded}
+use Rattle.run_log.specs.Recorded.{reply_in, LiesIn}
+
+pub unanswered : (bytes : List ℕ) (n : ℕ) → map (reply_in bytes) (replicate n None) ≡ replicate n None
+unanswered bytes zero = refl
+unanswered bytes (suc n) = ap (λ rs. None ∷ rs) (unanswered bytes n)
+
+-- bytes added at the end leave each body that lies before them
+same_body : (bytes more : List ℕ) (recorded : Option Recorded) → LiesIn (length bytes) recorded
+    → reply_in (bytes ++ more) recorded ≡ reply_in bytes recorded
+same_body bytes more None lies = refl
+same_body bytes more (Some r) lies =
+    let within : r.start + r.len ≤ length bytes = lies r refl in
+    let start : r.start ≤ length bytes = omega arith in
+    let room : r.len ≤ length (drop r.start bytes) = rw length-drop (omega arith) in
+    ap (λ body. Some (r.kind, body)) (rw (drop-append-le r.start bytes more start, take-append-le r.len (drop r.start bytes) more room) refl)
+
+same_bodies : (bytes more : List ℕ) (recorded : List (Option Recorded)) → All (LiesIn (length bytes)) recorded
+    → map (reply_in (bytes ++ more)) recorded ≡ map (reply_in bytes) recorded
+same_bodies bytes more [] lie = refl
+same_bodies bytes more (r ∷ rs) lie =
+    rw (same_body bytes more r (All-head (LiesIn (length bytes)) r rs lie))
+    (ap (λ xs. reply_in bytes r ∷ xs) (same_bodies bytes more rs (All-tail (LiesIn (length bytes)) r rs lie)))
+
+-- what is recorded last has its body at the end
+pub recorded_last : (bytes body : List ℕ) (recorded : List (Option Recorded)) (i start len : ℕ) (kind : ReplyKind)
+    → start ≡ length bytes → len ≡ length body → All (LiesIn (length bytes)) recorded
+    → map (reply_in (bytes ++ body)) (slice_set recorded i (Some (record { kind = kind; start = start; len = len })))
+    ≡ slice_set (map (reply_in bytes) recorded) i (Some (kind, body))
+recorded_last bytes body recorded i start len kind start_is len_is lie =
+    let body_is : take (length body) (drop (length bytes) (bytes ++ body)) ≡ body = rw (drop-append_seam bytes body) (take_all (length body) body (omega arith)) in
+    rw (start_is, len_is, map-set, same_bodies bytes body recorded lie, body_is) refl

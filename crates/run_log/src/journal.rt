@@ -1,0 +1,58 @@
+ghost use Rattle.std.specs.Prelude.{◌≡◌, ◌+◌, ◌≤◌, [], ◌∷◌, ◌++◌, IfOk};
+
+use cache_model::Entry;
+use std::alloc::{AllocError, Global};
+use std::marker::Model;
+
+/// The journal of a shard: what it did, in order. It grows within the room that `new` reserves.
+#[derive(Drop)]
+pub struct Journal {
+    entries: Vec<Entry>,
+    room: u32,
+}
+
+impl Model for Journal {
+    ghost use Rattle.std.specs.Prelude.{◌≡◌, ◌-◌, ◌≤◌, vec_len, vec_capacity};
+    ghost use Rattle.run_log.specs.Written.{Written};
+
+    ghost Value = { Written };
+
+    ghost view = { λ j. record { entries = j.entries.items; spare = j.room - vec_len j.entries } };
+
+    ghost invariant = { λ j. (vec_len j.entries ≤ j.room) × (j.room ≤ vec_capacity j.entries) };
+}
+
+impl Journal {
+    /// An empty journal with room for so many entries.
+    pub fn new(alloc: Global, room: u32) -> Result<Journal, AllocError>
+        ensures { IfOk result (λ journal. journal ≡ record { entries = []; spare = room }) }
+    {
+        Ok(Journal {
+            entries: Vec::with_capacity(alloc, room as usize)?,
+            room,
+        })
+    }
+
+    /// What was written, in order.
+    pub fn entries(&self) -> &[Entry]
+        ensures { result.now ≡ self.now.entries }
+    {
+        self.entries.as_slice()
+    }
+
+    /// How many entries may be added still.
+    pub fn spare(&self) -> u32
+        ensures { result ≡ self.now.spare }
+    {
+        self.room - self.entries.len() as u32
+    }
+
+    /// Adds an entry at the end.
+    pub fn add(&mut self, entry: Entry)
+        requires { 1 ≤ self.old.spare }
+        ensures entries { self.new.entries ≡ self.old.entries ++ entry ∷ [] }
+        ensures spare { self.new.spare + 1 ≡ self.old.spare }
+    {
+        self.entries.push(entry).unwrap();
+    }
+}

@@ -1,0 +1,120 @@
+//! The keys of a body of keys.
+ghost use Rattle.std.specs.Prelude.{◌≡◌, ℕ, ◌+◌, ◌^◌, ◌<◌, ◌≤◌, ◌↔◌, List, [], ◌∷◌, ◌++◌, length, map, take, flat_map, replicate, vec_len, All, IsNone, IfNone, IfSome, OnOk, OnErr};
+ghost use Rattle.trace_text.specs.Operation.{part};
+ghost use Rattle.cache_model.specs.KeyBody.{AreKeys, AreKeysAt};
+ghost use Rattle.cache_model.specs.Spelled.{key_field};
+
+use std::alloc::{AllocError, Global};
+use trace_text::Span;
+
+/// The first key of a body of keys, and the body of the other keys; None where there is no key.
+fn first_key(body: &[u8]) -> Option<(&[u8], &[u8])>
+    requires { (keys : List (List ℕ)) × AreKeys body.now keys }
+    ensures end { IsNone result ↔ (body.now ≡ []) }
+    ensures none { IfNone result ((keys : List (List ℕ)) → AreKeys body.now keys → keys ≡ []) }
+    ensures first { IfSome result (λ cut. (keys : List (List ℕ)) → AreKeys body.now keys → (rest : List (List ℕ)) × (keys ≡ cut.0.now ∷ rest) × AreKeys cut.1.now rest) }
+    ensures shorter { IfSome result (λ cut. 2 + length cut.0.now + length cut.1.now ≡ length body.now) }
+{
+    let [low, high, behind @ ..] = body else {
+        return None;
+    };
+    let len = u16::from_le_bytes([*low, *high]);
+    Some(behind.split_at(len as usize))
+}
+
+/// Where the key stands whose length stands at `at` of a body of keys; None at the body's end. Its
+/// length is two bytes, low byte first, and the key stands behind them. The body from `at` on is
+/// keys, each behind its length.
+pub fn next_key(body: &[u8], at: u32) -> Option<Span>
+    requires keys { (keys : List (List ℕ)) × AreKeysAt body.now at keys }
+    requires short { length body.now < 2 ^ 32 }
+    ensures end { IsNone result ↔ (at ≡ length body.now) }
+    ensures none { IfNone result ((keys : List (List ℕ)) → AreKeysAt body.now at keys → keys ≡ []) }
+    ensures start { IfSome result (λ span. span.start ≡ at + 2) }
+    ensures within { IfSome result (λ span. span.start + span.len ≤ length body.now) }
+    ensures first { IfSome result (λ span. (keys : List (List ℕ)) → AreKeysAt body.now at keys → (rest : List (List ℕ)) × (keys ≡ part body.now span ∷ rest) × AreKeysAt body.now (span.start + span.len) rest) }
+{
+    let (key, _) = first_key(&body[at as usize..])?;
+    Some(Span {
+        start: at + 2,
+        len: key.len() as u32,
+    })
+}
+
+/// Appends a key: its length in two bytes, low byte first, and its bytes.
+fn append_key(body: &mut Vec<u8>, key: &[u8]) -> Result<(), AllocError>
+    requires { length key.now ≤ 256 }
+    ensures appended { OnOk result (body.new.items ≡ body.old.items ++ key_field key.now) }
+    ensures kept { OnErr result (body.new.items ≡ body.old.items) }
+{
+    body.reserve(2 + key.len())?;
+    body.extend_from_slice((key.len() as u16).to_le_bytes().as_slice())
+        .unwrap();
+    body.extend_from_slice(key).unwrap();
+    Ok(())
+}
+
+/// Appends these keys. Without the memory for one of them, the ones before it stand.
+pub fn append_keys(body: &mut Vec<u8>, keys: &[&[u8]]) -> Result<(), AllocError>
+    requires { All (λ key. length key.now ≤ 256) keys.now }
+    ensures appended { OnOk result (body.new.items ≡ body.old.items ++ flat_map key_field (map (λ key. key.now) keys.now)) }
+    ensures front { OnErr result (take (vec_len body.old) body.new.items ≡ body.old.items) }
+{
+    for key in keys {
+        append_key(body, key)?;
+    }
+    Ok(())
+}
+
+#[cfg(test)]
+mod tests {
+    use super::*;
+    use std::alloc::{AllocError, Global};
+    use std::test::Fail;
+
+    /// Where each key of a body stands.
+    fn spans_of(alloc: Global, body: &[u8]) -> Result<Vec<Span>, AllocError>
+        requires keys { (keys : List (List ℕ)) × AreKeysAt body.now 0 keys }
+        requires short { length body.now < 2 ^ 32 }
+    {
+        let mut spans = Vec::new(alloc);
+        let mut at = 0;
+        while let Some(span) = next_key(body, at) {
+            spans.push(span)?;
+            at = span.start + span.len;
+        }
+        Ok(spans)
+    }
+
+    /// The body of one key of 256 letters k.
+    fn long_key() -> [u8; 258]
+        ensures { result ≡ 0 ∷ 1 ∷ replicate 256 107 }
+    {
+        let mut body = [b'k'; 258];
+        body[0] = 0;
+        body[1] = 1;
+        body
+    }
+
+    #[test]
+    fn keys_stand_behind_their_lengths(rt: HostRuntime) -> Result<(), Fail> {
+        let spans = spans_of(rt.alloc(), b"\x02\0ab\x01\0c")?;
+        assert!(rt;
+            spans.as_slice() == [Span { start: 2, len: 2 }, Span { start: 6, len: 1 }].as_slice()
+        );
+        Ok(())
+    }
+
+    #[test]
+    fn an_empty_body_has_no_key(rt: HostRuntime) -> Result<(), Fail> {
+        assert!(rt; spans_of(rt.alloc(), b"")?.is_empty());
+        Ok(())
+    }
+
+    #[test]
+    fn a_length_has_a_high_byte(rt: HostRuntime) -> Result<(), Fail> {
+        let spans = spans_of(rt.alloc(), &long_key())?;
+        assert!(rt; spans.as_slice() == [Span { start: 2, len: 256 }].as_slice());
+        Ok(())
+    }
+}

@@ -1,0 +1,14 @@
+//! What a run writes down: the [`Journal`] of a shard, the [`ReplyLog`] of the parts that it issued, and the bodies of
+//! keys that replies carry.
+#![tactic(auto)]
+
+mod journal;
+mod keys;
+mod reply_log;
+
+pub use journal::Journal;
+pub use keys::{append_keys, next_key};
+pub use reply_log::ReplyLog;
+
+#[cfg(test)]
+mod tests;

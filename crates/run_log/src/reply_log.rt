@@ -1,0 +1,83 @@
+ghost use Rattle.std.specs.Prelude.{◌≡◌, ◌+◌, ◌^◌, ◌<◌, ◌≤◌, length, replicate, slice_set, unwrap_or, None, Some, IfOk, IfSome};
+ghost use Rattle.std.specs.List.{slice_get};
+ghost use Rattle.std.specs.Option.{option_map};
+
+use cache_model::ReplyKind;
+use std::alloc::{AllocError, Global};
+use std::marker::Model;
+
+/// A reply that was recorded, and where its body stands in the log's bytes.
+#[derive(Clone, Copy)]
+struct Recorded {
+    kind: ReplyKind,
+    start: u32,
+    len: u32,
+}
+
+/// The replies to the parts that a shard issued, numbered from 0. It grows within the room that `new`
+/// reserves.
+#[derive(Drop)]
+pub struct ReplyLog {
+    recorded: Vec<Option<Recorded>>,
+    bytes: Vec<u8>,
+    room: u32,
+}
+
+impl Model for ReplyLog {
+    ghost use Rattle.run_log.specs.Replies.{Replies};
+
+    ghost Value = { Replies };
+
+    ghost use Rattle.std.specs.Prelude.{◌≡◌, ◌-◌, ◌≤◌, vec_len, vec_capacity, length, map, All};
+    ghost use Rattle.run_log.specs.Recorded.{reply_in, LiesIn};
+
+    ghost view = { λ l. record { replies = map (reply_in l.bytes.items) l.recorded.items; room = l.room - vec_len l.bytes } };
+
+    ghost invariant = { λ l. (vec_len l.bytes ≤ l.room) × (l.room ≤ vec_capacity l.bytes) × All (LiesIn (length l.bytes.items)) l.recorded.items };
+}
+
+impl ReplyLog {
+    /// A log of so many parts, none of them answered, with room for so many bytes of replies.
+    pub fn new(alloc: Global, parts: u32, bytes: u32) -> Result<ReplyLog, AllocError>
+        ensures { IfOk result (λ log. log ≡ record { replies = replicate parts None; room = bytes }) }
+    {
+        let mut recorded = Vec::with_capacity(alloc, parts as usize)?;
+        for _ in 0..parts {
+            recorded.push(None)?;
+        }
+        Ok(ReplyLog {
+            recorded,
+            bytes: Vec::with_capacity(alloc, bytes as usize)?,
+            room: bytes,
+        })
+    }
+
+    /// Records the reply to a part that has none yet.
+    pub fn record(&mut self, part: u32, kind: ReplyKind, body: &[u8])
+        requires part { slice_get self.old.replies part ≡ Some None }
+        requires fits { length body.now ≤ self.old.room }
+        ensures replies { self.new.replies ≡ slice_set self.old.replies part (Some (kind, body.now)) }
+        ensures room { self.new.room + length body.now ≡ self.old.room }
+    {
+        let start = self.bytes.len() as u32;
+        self.bytes.extend_from_slice(body).unwrap();
+        self.recorded[part as usize] = Some(Recorded {
+            kind,
+            start,
+            len: body.len() as u32,
+        });
+    }
+
+    /// The reply to a part; None where none was recorded.
+    pub fn reply(&self, part: u32) -> Option<(ReplyKind, &[u8])>
+        ensures reply { option_map (λ reply. (reply.0, reply.1.now)) result ≡ unwrap_or (slice_get self.now.replies part) None }
+        ensures short { IfSome result (λ reply. length reply.1.now < 2 ^ 32) }
+    {
+        let recorded = self.recorded.get(part as usize).copied()??;
+        let start = recorded.start as usize;
+        Some((
+            recorded.kind,
+            &self.bytes[start..start + recorded.len as usize],
+        ))
+    }
+}

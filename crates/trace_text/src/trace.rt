@@ -1,0 +1,67 @@
+//! A trace that was read.
+ghost use Rattle.std.specs.Prelude.{◌≡◌, ◌≤◌, length, All, Ok, Contains};
+ghost use Rattle.layout.specs.Sizes.{greatest_key, greatest_value};
+ghost use Rattle.trace_text.specs.Operation.{part};
+ghost use Rattle.trace_text.specs.Parsed.{trace_in, AreNumbered, IsWellFormed, LiesWithin};
+ghost use Rattle.trace_text.specs.Parts.{most_shards, replies_room};
+ghost use Rattle.trace_text.specs.Reading.{most_commands, most_replies, trace_of};
+
+use crate::command::Command;
+use std::marker::Model;
+
+/// The commands of a trace, with its bytes. Contracts see the bytes, the commands, and the number of
+/// shards that the trace was parsed for.
+#[derive(Drop)]
+pub struct Trace {
+    pub(crate) bytes: Vec<u8>,
+    pub(crate) commands: Vec<Command>,
+    pub(crate) shards: u32,
+}
+
+impl Model for Trace {
+    ghost use Rattle.trace_text.specs.Parsed.{Parsed, IsConsistent};
+
+    ghost Value = { Parsed };
+
+    ghost view = { λ t. record { bytes = t.bytes.items; commands = t.commands.items; shards = t.shards } };
+
+    ghost invariant = { λ t. IsConsistent (record { bytes = t.bytes.items; commands = t.commands.items; shards = t.shards }) };
+}
+
+impl Trace {
+    /// The commands, in order.
+    pub fn commands(&self) -> &[Command]
+        ensures value { result.now ≡ self.now.commands }
+        ensures read { trace_of self.now.bytes self.now.shards ≡ Ok (trace_in self.now) }
+        ensures numbered { AreNumbered result.now }
+        ensures well_formed { All IsWellFormed (trace_in self.now).operations }
+        ensures lie { All (LiesWithin self.now.bytes) result.now }
+        ensures few { length result.now ≤ most_commands }
+        ensures room { replies_room (trace_in self.now) self.now.shards ≤ most_replies }
+        ensures some_shards { 1 ≤ self.now.shards }
+        ensures most_shards { self.now.shards ≤ most_shards }
+    {
+        self.commands.as_slice()
+    }
+
+    /// The bytes of a command's key, 1 to 256 of them. The command is of this trace.
+    pub fn key(&self, command: &Command) -> &[u8]
+        requires { Contains self.now.commands command.now }
+        ensures value { result.now ≡ part self.now.bytes command.now.key }
+        ensures some { 1 ≤ length result.now }
+        ensures most { length result.now ≤ greatest_key }
+    {
+        let start = command.key.start as usize;
+        &self.bytes[start..start + command.key.len as usize]
+    }
+
+    /// The bytes of a command's value: of a put at most 12,000; else none. The command is of this trace.
+    pub fn value(&self, command: &Command) -> &[u8]
+        requires { Contains self.now.commands command.now }
+        ensures value { result.now ≡ part self.now.bytes command.now.value }
+        ensures most { length result.now ≤ greatest_value }
+    {
+        let start = command.value.start as usize;
+        &self.bytes[start..start + command.value.len as usize]
+    }
+}
