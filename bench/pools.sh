@@ -1,17 +1,20 @@
 #!/usr/bin/env bash
-# Nanoseconds per pair of a take and a put: the small pools, and malloc and free of glibc and, where it is
-# installed, of jemalloc, on one sequence of classes. The least of some runs, user and system time together.
-#   bench/pools.sh [ROUNDS] [RUNS]        a round is 32 pairs
+# Nanoseconds per pair of a take and a put: the small pools, and malloc and free of glibc and, where they are
+# installed, of jemalloc and mimalloc, on one sequence of classes. Two patterns: 32 objects nested in one another, and
+# objects replaced at random among 400,000 live ones of at most 1,024 bytes. The least of some runs, user and system
+# time together; the time to fill is taken off.
+#   bench/pools.sh [ROUNDS] [RUNS]        a round is 32 pairs; as many objects are replaced as pairs are nested
 set -euo pipefail
 top=$(cd "$(dirname "${BASH_SOURCE[0]}")/.." && pwd)
 rounds=${1:-312500}
 runs=${2:-5}
+objects=400000
 work=$(mktemp -d)
 trap 'rm -rf "$work"' EXIT
 (cd "$top/crates/pool_pairs" && rt run >"$work/build.log" 2>&1) || { cat "$work/build.log" >&2; exit 1; }
 g++ -O2 -o "$work/malloc_pairs" "$top/bench/malloc_pairs.cpp"
 
-# the least time of some runs, in nanoseconds per pair, less that of a run of no rounds
+# the least time of some runs, in nanoseconds
 time_of() {
     local least=
     for _ in $(seq "$runs"); do
@@ -21,15 +24,19 @@ time_of() {
     done
     echo "$least"
 }
-per_pair() {
-    local name=$1 full empty
+row() {
+    local name=$1 pairs=$((rounds * 32)) nested empty replaced filled
     shift
-    full=$(time_of "$@" "$rounds")
-    empty=$(time_of "$@" 0)
-    awk -v n="$name" -v t="$((full - empty))" -v p="$((rounds * 32))" 'BEGIN { printf "%-12s %6.1f ns a pair\n", n, t / p }'
+    nested=$(time_of "$@" "$rounds" 0 0)
+    empty=$(time_of "$@" 0 0 0)
+    replaced=$(time_of "$@" 0 "$objects" "$pairs")
+    filled=$(time_of "$@" 0 "$objects" 0)
+    awk -v n="$name" -v a="$((nested - empty))" -v b="$((replaced - filled))" -v p="$pairs" \
+        'BEGIN { printf "%-10s nested %6.1f ns a pair, replaced at random %6.1f ns\n", n, a / p, b / p }'
 }
-per_pair pools "$top/crates/pool_pairs/out/pool_pairs"
-per_pair glibc "$work/malloc_pairs"
-for library in /usr/lib/x86_64-linux-gnu/libjemalloc.so.2; do
-    if [ -e "$library" ]; then per_pair jemalloc env LD_PRELOAD="$library" "$work/malloc_pairs"; fi
+row pools "$top/crates/pool_pairs/out/pool_pairs"
+row glibc "$work/malloc_pairs"
+for name in jemalloc mimalloc; do
+    library=/usr/lib/x86_64-linux-gnu/lib$name.so.2
+    if [ -e "$library" ]; then row "$name" env LD_PRELOAD="$library" "$work/malloc_pairs"; fi
 done

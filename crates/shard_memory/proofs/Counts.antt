@@ -1,35 +1,36 @@
 -- How many pieces are out where no segment is left.
 use Rattle.std.proofs.Common.{◌≡◌, ℕ, zero, suc, ◌+◌, ◌*◌, ◌/◌, ◌%◌, ◌^◌, ◌<◌, ◌≤◌, ◌⊎◌, inl, inr, List, [], ◌∷◌, length, refl, sym, subst, ◌∙◌, arith}
 use Rattle.std.specs.Prelude.{Contains}
-use Rattle.place_lists.specs.Lists.{times, without}
-use Rattle.place_lists.proofs.Times.{times_here, times_cons_le, times-without_other, length-without}
-use Rattle.raw_range.specs.Places.{Place, place}
-use Rattle.span_lists.specs.Layout.{Layout, IsBlocked}
-use Rattle.span_lists.proofs.Halves.{aligned_step, coarser, nested, start_is}
+use Rattle.std.proofs.Math.Nat.{mul-le-mul_right}
+use Rattle.layout.specs.Sizes.{page}
+use Rattle.common_lemmas.proofs.Orders.{lt_or_ge}
+use Rattle.common_lemmas.specs.Lists.{times, delete}
+use Rattle.common_lemmas.proofs.Counts.{times_here, times_cons_le, times-delete_other, length-delete}
+use Rattle.layout.specs.Extents.{Extent, extent}
+use Rattle.span_lists.specs.Layout.{Layout, HasNone, IsBlocked}
+use Rattle.common_lemmas.proofs.Powers.{aligned_step, coarser, nested, start_is}
 use Rattle.std.proofs.lemmas.Nat.{pow_pos}
-use Rattle.small_pools.specs.Classes.{size_of, order_of}
+use Rattle.small_pools.specs.Classes.{IsClass, capacity_of, order_of, size_of}
 use Rattle.small_pools.specs.Objects.{Objects, slot_place, IsHeld, HasObject}
-use Rattle.small_pools.proofs.ClassFacts.{sound}
-use Rattle.small_pools.proofs.Places.{slot_within}
-use Rattle.shard_memory.specs.Shards.{Together, segments_out, blocks_out}
+use Rattle.shard_memory.specs.Shards.{IsConsistent, segments_out, blocks_out}
 use Rattle.shard_memory.proofs.Lists.{has_cases, both_kinds}
 
 -- the aligned runs of 131,072 bytes in which the pieces begin
-runs : List Place → List ℕ
+runs : List Extent → List ℕ
 runs [] = []
-runs (p ∷ ps) = (p.at / 131072) ∷ runs ps
+runs (p ∷ ps) = (p.start / 131072) ∷ runs ps
 
-runs_len : (ps : List Place) → length (runs ps) ≡ length ps
+runs_len : (ps : List Extent) → length (runs ps) ≡ length ps
 unfolding runs
 runs_len [] = refl
 runs_len (p ∷ ps) = (let rest = runs_len ps in omega (arith, rest))
 
-has_run : (p : Place) (ps : List Place) → Contains ps p → 1 ≤ times (p.at / 131072) (runs ps)
+has_run : (p : Extent) (ps : List Extent) → Contains ps p → 1 ≤ times (p.start / 131072) (runs ps)
 unfolding runs
 has_run p [] h = absurd (let l = h.1 in omega (arith, l))
 has_run p (q ∷ ps) h = elim (has_cases q p ps h) [
-  | inl same ↦ (let here = times_here (p.at / 131072) (runs ps) in subst (λ (z : Place). 1 ≤ times (p.at / 131072) ((z.at / 131072) ∷ runs ps)) (sym same) (omega (arith, here)))
-  | inr later ↦ (let rest = has_run p ps later in let more = times_cons_le (p.at / 131072) (q.at / 131072) (runs ps) in omega (arith, rest, more))
+  | inl same ↦ (let here = times_here (p.start / 131072) (runs ps) in subst (λ (z : Extent). 1 ≤ times (p.start / 131072) ((z.start / 131072) ∷ runs ps)) (sym same) (omega (arith, here)))
+  | inr later ↦ (let rest = has_run p ps later in let more = times_cons_le (p.start / 131072) (q.start / 131072) (runs ps) in omega (arith, rest, more))
 ]
 
 -- a list that has each number below m has m numbers or more
@@ -37,12 +38,9 @@ all_there : (m : ℕ) (xs : List ℕ) → ((x : ℕ) → x < m → 1 ≤ times x
 all_there zero xs h = omega arith
 all_there (suc m) xs h =
     let one = h m (omega arith) in
-    let less = length-without m xs one in
-    let rest = all_there m (without m xs) (λ x l. subst (λ t. 1 ≤ t) (sym (times-without_other x m xs (λ e. omega (arith, l, e)))) (h x (omega (arith, l)))) in
+    let less = length-delete m xs one in
+    let rest = all_there m (delete m xs) (λ x l. subst (λ t. 1 ≤ t) (sym (times-delete_other x m xs (λ e. omega (arith, l, e)))) (h x (omega (arith, l)))) in
     omega (arith, less, rest)
-
-below_or : (a b : ℕ) → (a < b) ⊎ (b ≤ a)
-below_or a b = grind arith
 
 in_run : (at b : ℕ) → 131072 * b ≤ at → at < 131072 * b + 131072 → at / 131072 ≡ b
 in_run at b low high = omega (arith, low, high)
@@ -53,9 +51,16 @@ start_of_run b = omega arith
 run_inside : (b n : ℕ) → b < n / 32 → 32 * b + 2 ^ 5 ≤ n
 run_inside b n l = omega (arith, l)
 
+-- a slot of a span lies in its pages
+slot_within : (first class slot : ℕ) → IsClass class → slot < capacity_of class → (page * first ≤ slot_place first class slot) × (slot_place first class slot + size_of class ≤ page * (first + 2 ^ order_of class))
+slot_within first class slot is within =
+    let fits = is.fits in
+    let more : (slot + 1) * size_of class ≤ capacity_of class * size_of class = mul-le-mul_right (size_of class) (omega arith) in
+    (omega arith, omega (arith, more, fits))
+
 -- a piece begins in each aligned run
-in_each_run : (n : ℕ) (out : List Place) (spans : Layout) (pools : Objects) (b : ℕ) → Together n out spans pools → IsBlocked spans 5 → ((first class : ℕ) → IsHeld pools first class → HasObject pools first class) → b < n / 32
-    → (p : Place) × Contains out p × (p.at / 131072 ≡ b)
+in_each_run : (n : ℕ) (out : List Extent) (spans : Layout) (pools : Objects) (b : ℕ) → IsConsistent n out spans pools → IsBlocked spans 5 → ((first class : ℕ) → IsHeld pools first class → HasObject pools first class) → b < n / 32
+    → (p : Extent) × Contains out p × (p.start / 131072 ≡ b)
 in_each_run n out spans pools b h blocked used small =
     let a = start_of_run b in
     let x = blocked (32 * b) a (subst (λ z. 32 * b + 2 ^ 5 ≤ z) (sym h.same) (run_inside b n small)) in
@@ -67,26 +72,30 @@ in_each_run n out spans pools b h blocked used small =
       | inl s ↦
           (let same : first ≡ 32 * b =
           sym (start_is page first 5 (subst (λ j. first % 2 ^ j ≡ 0) s.0 aligned) from (subst (λ j. page < first + 2 ^ j) s.0 to)) ∙ start_is page (32 * b) 5 a low high in
-          (place (4096 * first) 131072, s.1, in_run (4096 * first) b (omega (arith, same)) (omega (arith, same))))
+          (extent (4096 * first) 131072, s.1, in_run (4096 * first) b (omega (arith, same)) (omega (arith, same))))
       | inr c ↦
-          (let small_class = (h.objects.spans first c.0 c.1).0 in
+          (let facts = (h.objects.spans first c.0 c.1).0 in
           let o = used first c.0 c.1 in
           let out_at = h.objects_out (slot_place first c.0 o.0) (size_of c.0) o.2 in
-          let w = slot_within first c.0 o.0 small_class o.1 in
-          let facts = sound c.0 small_class in
+          let w = slot_within first c.0 o.0 facts o.1 in
           let few = facts.order_most in let some = facts.size_least in
           let k_is : k ≡ order_of c.0 = c.2 in
           let most : k ≤ 5 = omega (arith, few, k_is) in
           let ends = nested first (32 * b) k 5 most aligned a (omega (arith, from, high)) in
-          let begins : 32 * b ≤ first = (elim (below_or first (32 * b)) [ inr g ↦ g | inl l ↦ absurd (let t = aligned_step first (32 * b) (2 ^ k) (pow_pos k) aligned (coarser (32 * b) k 5 most a) l in omega (arith, t, low, to)) ]) in
+          let begins : 32 * b ≤ first = (elim (lt_or_ge first (32 * b)) [ inr g ↦ g | inl l ↦ absurd (let t = aligned_step first (32 * b) (2 ^ k) (pow_pos k) aligned (coarser (32 * b) k 5 most a) l in omega (arith, t, low, to)) ]) in
           let low_at = w.0 in
           let high_at : slot_place first c.0 o.0 + size_of c.0 ≤ 4096 * (first + 2 ^ k) = subst (λ j. slot_place first c.0 o.0 + size_of c.0 ≤ 4096 * (first + 2 ^ j)) (sym k_is) w.1 in
-          (place (slot_place first c.0 o.0) out_at.0, out_at.2, in_run (slot_place first c.0 o.0) b (omega (arith, low_at, begins)) (omega (arith, high_at, ends, some))))
+          (extent (slot_place first c.0 o.0) out_at.0, out_at.2, in_run (slot_place first c.0 o.0) b (omega (arith, low_at, begins)) (omega (arith, high_at, ends, some))))
     ]
 
-pub pieces_enough : (n : ℕ) (out : List Place) (spans : Layout) (pools : Objects) → Together n out spans pools → IsBlocked spans 5 → ((first class : ℕ) → IsHeld pools first class → HasObject pools first class) → n / 32 ≤ segments_out out + blocks_out out
+pub pieces_enough : (n : ℕ) (out : List Extent) (spans : Layout) (pools : Objects) → IsConsistent n out spans pools → IsBlocked spans 5 → ((first class : ℕ) → IsHeld pools first class → HasObject pools first class) → n / 32 ≤ segments_out out + blocks_out out
 pieces_enough n out spans pools h blocked used =
     let all = all_there (n / 32) (runs out) (λ b l. (let p = in_each_run n out spans pools b h blocked used l in subst (λ z. 1 ≤ times z (runs out)) p.2 (has_run p.0 out p.1))) in
     let len = runs_len out in
     let both = both_kinds out in
     omega (arith, all, len, both)
+
+-- where no span of a small order is free, and each pool span has an object out
+pub crowded : (n order : ℕ) (out : List Extent) (spans : Layout) (pools : Objects) → IsConsistent n out spans pools → order ≤ 4 → HasNone spans order → ((o : ℕ) → o ≤ 16 → HasNone spans o → IsBlocked spans o)
+    → ((first class : ℕ) → IsHeld pools first class → HasObject pools first class) → n / 32 ≤ segments_out out + blocks_out out
+crowded n order out spans pools h small none blocked used = pieces_enough n out spans pools h (blocked 5 (omega arith) (λ k low high. none k (omega arith) high)) used

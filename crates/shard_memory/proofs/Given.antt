@@ -2,12 +2,12 @@
 use Rattle.std.proofs.Common.{◌≡◌, List, ◌∷◌, sym, subst, ◌∙◌}
 use Rattle.std.specs.Prelude.{Contains}
 use Rattle.std.proofs.lemmas.List.Elements.{All-weaker}
-use Rattle.raw_range.specs.Places.{Place}
-use Rattle.raw_range.specs.Memory.{Lent, place_of}
+use Rattle.layout.specs.Extents.{Extent}
+use Rattle.raw_range.specs.Memory.{Lent, extent_of}
 use Rattle.shard_memory.specs.Shards.{Shard, IsSegmentOf}
 use Rattle.shard_memory.specs.Taken.{AreSegmentsOf}
 use Rattle.shard_memory.proofs.Lists.{has_later}
 
-pub segments_kept : (s t : Shard) (p : Place) (pieces : List Lent) → t.home ≡ s.home → t.out ≡ p ∷ s.out → AreSegmentsOf s pieces → AreSegmentsOf t pieces
+pub segments_kept : (s t : Shard) (p : Extent) (pieces : List Lent) → t.home ≡ s.home → t.out ≡ p ∷ s.out → AreSegmentsOf s pieces → AreSegmentsOf t pieces
 segments_kept s t p pieces home out h =
-    All-weaker (IsSegmentOf s) (IsSegmentOf t) (λ q i. (i.0 ∙ sym home, subst (λ o. Contains o (place_of q)) (sym out) (has_later p (place_of q) s.out i.1), i.2)) pieces h
+    All-weaker (IsSegmentOf s) (IsSegmentOf t) (λ q i. (i.0 ∙ sym home, subst (λ o. Contains o (extent_of q)) (sym out) (has_later p (extent_of q) s.out i.1), i.2)) pieces h

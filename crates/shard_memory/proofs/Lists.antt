@@ -5,27 +5,29 @@ use Rattle.std.proofs.lemmas.List.{get_or_default}
 use Rattle.std.proofs.lemmas.Bool.{ne_eqb, cases_eq}
 use Rattle.std.proofs.lemmas.Bool.Decides.{eqb_tells}
 use Rattle.std.proofs.lemmas.List.Elements.{All-tail, All-head, All-weaker, All-filter, All-contains, All-contains_itself, filter_passes, Contains-append_left, Contains-append_right, Contains-append_cases, Contains-push, Contains-push_cases}
-use Rattle.place_lists.specs.Lists.{times}
-use Rattle.place_lists.proofs.Times.{times_here, times_there, length_below}
-use Rattle.raw_range.specs.Places.{Place, Apart, IsWithin, AreBlocks, without}
+use Rattle.common_lemmas.proofs.Orders.{trichotomy}
+use Rattle.common_lemmas.specs.Lists.{times}
+use Rattle.common_lemmas.proofs.Counts.{times_here, times_there, length_below}
+use Rattle.layout.specs.Extents.{Extent, Disjoint, IsWithin, AreDisjoint}
+use Rattle.raw_range.specs.Memory.{remove_extent}
 use Rattle.shard_memory.specs.Shards.{is_segment, is_block, segments_out, blocks_out}
 
-pub has_first : (p : Place) (ps : List Place) → Contains (p ∷ ps) p
+pub has_first : (p : Extent) (ps : List Extent) → Contains (p ∷ ps) p
 has_first p ps = Contains-append_left (p ∷ []) ps p (Contains-push [] p)
 
-pub has_later : (p q : Place) (ps : List Place) → Contains ps q → Contains (p ∷ ps) q
+pub has_later : (p q : Extent) (ps : List Extent) → Contains ps q → Contains (p ∷ ps) q
 has_later p q ps h = Contains-append_right (p ∷ []) ps q h
 
-pub has_cases : (p q : Place) (ps : List Place) → Contains (p ∷ ps) q → (p ≡ q) ⊎ Contains ps q
+pub has_cases : (p q : Extent) (ps : List Extent) → Contains (p ∷ ps) q → (p ≡ q) ⊎ Contains ps q
 has_cases p q ps h = elim (Contains-append_cases (p ∷ []) ps q h) [
   | inl one ↦ elim (Contains-push_cases [] p q one) [ inl none ↦ absurd (let l = none.1 in omega (arith, l)) | inr e ↦ inl e ]
   | inr rest ↦ inr rest
 ]
 
-pub all_of : (P : Place → Type 0) (ps : List Place) → ((q : Place) → Contains ps q → P q) → All P ps
+pub all_of : (P : Extent → Type 0) (ps : List Extent) → ((q : Extent) → Contains ps q → P q) → All P ps
 all_of P ps h = All-weaker (Contains ps) P h ps (All-contains_itself ps)
 
-kept_by : (t : Place → Bool) (q : Place) (ps : List Place) → Contains ps q → t q ≡ true → Contains (filter t ps) q
+kept_by : (t : Extent → Bool) (q : Extent) (ps : List Extent) → Contains ps q → t q ≡ true → Contains (filter t ps) q
 kept_by t q [] h e = absurd (let l = h.1 in omega (arith, l))
 kept_by t q (p ∷ ps) h e = elim (has_cases p q ps h) [
   | inl same ↦ subst (λ b. Contains (cond b (p ∷ filter t ps) (filter t ps)) q) (sym (ap t same ∙ e)) (subst (λ z. Contains (z ∷ filter t ps) q) (sym same) (has_first q (filter t ps)))
@@ -33,39 +35,36 @@ kept_by t q (p ∷ ps) h e = elim (has_cases p q ps h) [
 ]
 
 -- the places that begin elsewhere are still there, and no others
-pub kept : (p q : Place) (ps : List Place) → Contains ps q → q.at ≢ p.at → Contains (without p ps) q
-kept p q ps h n = kept_by (λ z. not (z.at == p.at)) q ps h (ap not (ne_eqb q.at p.at n))
+pub kept : (p q : Extent) (ps : List Extent) → Contains ps q → q.start ≢ p.start → Contains (remove_extent p ps) q
+kept p q ps h n = kept_by (λ z. not (z.start == p.start)) q ps h (ap not (ne_eqb q.start p.start n))
 
-pub still_has : (p q : Place) (ps : List Place) → Contains (without p ps) q → Contains ps q × (q.at ≢ p.at)
+pub still_has : (p q : Extent) (ps : List Extent) → Contains (remove_extent p ps) q → Contains ps q × (q.start ≢ p.start)
 still_has p q ps h =
-    let t : Place → Bool = λ z. not (z.at == p.at) in
+    let t : Extent → Bool = λ z. not (z.start == p.start) in
     let passes : t q ≡ true = All-contains (λ x. t x ≡ true) (filter t ps) q (filter_passes t ps) h in (
       All-contains (Contains ps) (filter t ps) q (All-filter t (Contains ps) ps (All-contains_itself ps)) h,
-      λ e. (let clash : false ≡ true = sym (ap not (eq-eqb q.at p.at e)) ∙ passes in cc),
+      λ e. (let clash : false ≡ true = sym (ap not (eq-eqb q.start p.start e)) ∙ passes in cc),
     )
 
-three : (a b : ℕ) → (a ≡ b) ⊎ ((a < b) ⊎ (b < a))
-three a b = grind arith
-
-not_apart : (p q : Place) → 0 < p.len → 0 < q.len → p.at ≡ q.at → ¬ Apart p q
+not_apart : (p q : Extent) → 0 < p.len → 0 < q.len → p.start ≡ q.start → ¬ Disjoint p q
 not_apart p q some more e (inl a) = omega (arith, a, some, e)
 not_apart p q some more e (inr a) = omega (arith, a, more, e)
 
 -- two blocks that begin at one place are one
-pub same_place : (size : ℕ) (out : List Place) (p q : Place) → AreBlocks size out → Contains out p → Contains out q → p.at ≡ q.at → p ≡ q
+pub same_place : (size : ℕ) (out : List Extent) (p q : Extent) → AreDisjoint size out → Contains out p → Contains out q → p.start ≡ q.start → p ≡ q
 same_place size out p q blocks hp hq e =
     let at_q : slice_index_or out hq.0 p ≡ q = get_or_default out hq.0 p q hq.1 ∙ hq.2 in
     let wp : IsWithin size p = All-contains (IsWithin size) out p blocks.0 hp in
     let wq : IsWithin size q = All-contains (IsWithin size) out q blocks.0 hq in
-    elim (three hp.0 hq.0) [
+    elim (trichotomy hp.0 hq.0) [
       | inl s ↦ sym hp.2 ∙ ap (λ k. slice_index_or out k p) s ∙ at_q
-      | inr (inl l) ↦ absurd (not_apart p q wp.0 wq.0 e (subst (λ z. Apart z q) hp.2 (subst (λ z. Apart (slice_index_or out hp.0 p) z) at_q (blocks.1 hp.0 hq.0 p l hq.1))))
-      | inr (inr l) ↦ absurd (not_apart q p wq.0 wp.0 (sym e) (subst (λ z. Apart q z) hp.2 (subst (λ z. Apart z (slice_index_or out hp.0 p)) at_q (blocks.1 hq.0 hp.0 p l hp.1))))
+      | inr (inl l) ↦ absurd (not_apart p q wp.0 wq.0 e (subst (λ z. Disjoint z q) hp.2 (subst (λ z. Disjoint (slice_index_or out hp.0 p) z) at_q (blocks.1 hp.0 hq.0 p l hq.1))))
+      | inr (inr l) ↦ absurd (not_apart q p wq.0 wp.0 (sym e) (subst (λ z. Disjoint q z) hp.2 (subst (λ z. Disjoint z (slice_index_or out hp.0 p)) at_q (blocks.1 hq.0 hp.0 p l hp.1))))
     ]
 
 -- ---- how many
 
-fewer_left : (t u : Place → Bool) (ps : List Place) → length (filter t (filter u ps)) ≤ length (filter t ps)
+fewer_left : (t u : Extent → Bool) (ps : List Extent) → length (filter t (filter u ps)) ≤ length (filter t ps)
 fewer_left t u [] = omega arith
 fewer_left t u (p ∷ ps) =
     let rest = fewer_left t u ps in
@@ -75,10 +74,10 @@ fewer_left t u (p ∷ ps) =
       | false ↦ omega (arith, rest, more)
     ]
 
-pub fewer_blocks : (p : Place) (ps : List Place) → blocks_out (without p ps) ≤ blocks_out ps
-fewer_blocks p ps = fewer_left is_block (λ z. not (z.at == p.at)) ps
+pub fewer_blocks : (p : Extent) (ps : List Extent) → blocks_out (remove_extent p ps) ≤ blocks_out ps
+fewer_blocks p ps = fewer_left is_block (λ z. not (z.start == p.start)) ps
 
-pub both_kinds : (ps : List Place) → length ps ≡ segments_out ps + blocks_out ps
+pub both_kinds : (ps : List Extent) → length ps ≡ segments_out ps + blocks_out ps
 both_kinds [] = refl
 both_kinds (p ∷ ps) =
     let rest = both_kinds ps in
@@ -88,49 +87,49 @@ both_kinds (p ∷ ps) =
     ]
 
 -- the numbers of the aligned runs of 131,072 bytes in which the segments begin
-starts : List Place → List ℕ
+starts : List Extent → List ℕ
 starts [] = []
-starts (p ∷ ps) = cond (is_segment p) ((p.at / 131072) ∷ starts ps) (starts ps)
+starts (p ∷ ps) = cond (is_segment p) ((p.start / 131072) ∷ starts ps) (starts ps)
 
-starts_len : (ps : List Place) → length (starts ps) ≡ segments_out ps
+starts_len : (ps : List Extent) → length (starts ps) ≡ segments_out ps
 unfolding starts
 starts_len [] = refl
 starts_len (p ∷ ps) =
     let rest = starts_len ps in
-    elim (is_segment p) as (λ b. length (cond b ((p.at / 131072) ∷ starts ps) (starts ps)) ≡ length (cond b (p ∷ filter is_segment ps) (filter is_segment ps))) [ true ↦ omega (arith, rest) | false ↦ rest ]
+    elim (is_segment p) as (λ b. length (cond b ((p.start / 131072) ∷ starts ps) (starts ps)) ≡ length (cond b (p ∷ filter is_segment ps) (filter is_segment ps))) [ true ↦ omega (arith, rest) | false ↦ rest ]
 
-none_step : (z : ℕ) (p : Place) (xs : List ℕ) (b : Bool) → is_segment p ≡ b → (is_segment p ≡ true → (p.at / 131072) ≢ z) → times z xs ≡ 0 → times z (cond b ((p.at / 131072) ∷ xs) xs) ≡ 0
-none_step z p xs true e n rest = times_there z (p.at / 131072) xs (n e) ∙ rest
+none_step : (z : ℕ) (p : Extent) (xs : List ℕ) (b : Bool) → is_segment p ≡ b → (is_segment p ≡ true → (p.start / 131072) ≢ z) → times z xs ≡ 0 → times z (cond b ((p.start / 131072) ∷ xs) xs) ≡ 0
+none_step z p xs true e n rest = times_there z (p.start / 131072) xs (n e) ∙ rest
 none_step z p xs false e n rest = rest
 
-none_starts : (z : ℕ) (ps : List Place) → All (λ q. is_segment q ≡ true → (q.at / 131072) ≢ z) ps → times z (starts ps) ≡ 0
+none_starts : (z : ℕ) (ps : List Extent) → All (λ q. is_segment q ≡ true → (q.start / 131072) ≢ z) ps → times z (starts ps) ≡ 0
 unfolding starts
 none_starts z [] h = refl
 none_starts z (p ∷ ps) h =
-    let P : Place → Type 0 = λ q. is_segment q ≡ true → (q.at / 131072) ≢ z in
+    let P : Extent → Type 0 = λ q. is_segment q ≡ true → (q.start / 131072) ≢ z in
     none_step z p (starts ps) (is_segment p) refl (All-head P p ps h) (none_starts z ps (All-tail P p ps h))
 
-len_of : (p : Place) → is_segment p ≡ true → p.len ≡ 131072
+len_of : (p : Extent) → is_segment p ≡ true → p.len ≡ 131072
 len_of p e = elim (eqb_tells p.len 131072) [ inl h ↦ h.1 | inr h ↦ absurd (let clash : false ≡ true = sym h.0 ∙ e in cc) ]
 
 quotient : (x : ℕ) → (131072 * (x / 131072) ≤ x) × (x < 131072 * (x / 131072) + 131072)
 quotient x = (omega arith, omega arith)
 
-two_starts : (p q : Place) → Apart p q → p.len ≡ 131072 → q.len ≡ 131072 → (q.at / 131072) ≢ (p.at / 131072)
-two_starts p q (inl a) lp lq e = (let x = quotient p.at in let y = quotient q.at in omega (arith, a, lp, lq, e, x.0, x.1, y.0, y.1))
-two_starts p q (inr a) lp lq e = (let x = quotient p.at in let y = quotient q.at in omega (arith, a, lp, lq, e, x.0, x.1, y.0, y.1))
+two_starts : (p q : Extent) → Disjoint p q → p.len ≡ 131072 → q.len ≡ 131072 → (q.start / 131072) ≢ (p.start / 131072)
+two_starts p q (inl a) lp lq e = (let x = quotient p.start in let y = quotient q.start in omega (arith, a, lp, lq, e, x.0, x.1, y.0, y.1))
+two_starts p q (inr a) lp lq e = (let x = quotient p.start in let y = quotient q.start in omega (arith, a, lp, lq, e, x.0, x.1, y.0, y.1))
 
-once_step : (z : ℕ) (p : Place) (ps : List Place) (b : Bool) → is_segment p ≡ b → All (Apart p) ps → times z (starts ps) ≤ 1 → times z (cond b ((p.at / 131072) ∷ starts ps) (starts ps)) ≤ 1
+once_step : (z : ℕ) (p : Extent) (ps : List Extent) (b : Bool) → is_segment p ≡ b → All (Disjoint p) ps → times z (starts ps) ≤ 1 → times z (cond b ((p.start / 131072) ∷ starts ps) (starts ps)) ≤ 1
 once_step z p ps false e apart rest = rest
-once_step z p ps true e apart rest = elim (cases_eq (p.at / 131072) z) [
+once_step z p ps true e apart rest = elim (cases_eq (p.start / 131072) z) [
   | inl s ↦
-      (let none : times z (starts ps) ≡ 0 = none_starts z ps (All-weaker (Apart p) (λ (q : Place). is_segment q ≡ true → (q.at / 131072) ≢ z) (λ q a f g. two_starts p q a (len_of p e) (len_of q f) (g ∙ sym s)) ps apart) in
-      let here : times z ((p.at / 131072) ∷ starts ps) ≡ 1 + times z (starts ps) = subst (λ w. times z (w ∷ starts ps) ≡ 1 + times z (starts ps)) (sym s) (times_here z (starts ps)) in
+      (let none : times z (starts ps) ≡ 0 = none_starts z ps (All-weaker (Disjoint p) (λ (q : Extent). is_segment q ≡ true → (q.start / 131072) ≢ z) (λ q a f g. two_starts p q a (len_of p e) (len_of q f) (g ∙ sym s)) ps apart) in
+      let here : times z ((p.start / 131072) ∷ starts ps) ≡ 1 + times z (starts ps) = subst (λ w. times z (w ∷ starts ps) ≡ 1 + times z (starts ps)) (sym s) (times_here z (starts ps)) in
       omega (arith, none, here))
-  | inr n ↦ (let there = times_there z (p.at / 131072) (starts ps) n in omega (arith, there, rest))
+  | inr n ↦ (let there = times_there z (p.start / 131072) (starts ps) n in omega (arith, there, rest))
 ]
 
-once_starts : (z : ℕ) (ps : List Place) → AllPairs Apart ps → times z (starts ps) ≤ 1
+once_starts : (z : ℕ) (ps : List Extent) → AllPairs Disjoint ps → times z (starts ps) ≤ 1
 unfolding starts
 once_starts z [] h = omega arith
 once_starts z (p ∷ ps) h =
@@ -138,14 +137,15 @@ once_starts z (p ∷ ps) h =
     (once_starts z ps (λ i j d l w. h (suc i) (suc j) d (omega (arith, l)) (omega (arith, w))))
 
 -- disjoint segments inside the bytes are as many as fit, at most
-pub few_segments : (n size : ℕ) (ps : List Place) → AreBlocks size ps → size ≤ 131072 * n → segments_out ps ≤ n
+pub few_segments : (n size : ℕ) (ps : List Extent) → AreDisjoint size ps → size ≤ 131072 * n → segments_out ps ≤ n
 few_segments n size ps blocks small =
-    let low = length_below n (starts ps) (λ z. once_starts z ps blocks.1) (λ z g. none_starts z ps (All-weaker (IsWithin size) (λ (q : Place). is_segment q ≡ true → (q.at / 131072) ≢ z) (λ q w e s. (let l = len_of q e in let x = quotient q.at in let w1 = w.1 in omega (arith, l, w1, s, g, x.0, x.1, small))) ps blocks.0)) in
+    let low = length_below n (starts ps) (λ z. once_starts z ps blocks.1)
+    (λ z g. none_starts z ps (All-weaker (IsWithin size) (λ (q : Extent). is_segment q ≡ true → (q.start / 131072) ≢ z) (λ q w e s. (let l = len_of q e in let x = quotient q.start in let w1 = w.1 in omega (arith, l, w1, s, g, x.0, x.1, small))) ps blocks.0)) in
     let len = starts_len ps in
     omega (arith, low, len)
 
 -- with so few pages there is room for one more piece
-pub few_pieces : (pages : ℕ) (out : List Place) → pages ≤ 65536 → AreBlocks (4096 * pages) out → blocks_out out ≤ 1024 → length out < 4096
+pub few_pieces : (pages : ℕ) (out : List Extent) → pages ≤ 65536 → AreDisjoint (4096 * pages) out → blocks_out out ≤ 1024 → length out < 4096
 few_pieces pages out most blocks few =
     let segs = few_segments 2048 (4096 * pages) out blocks (omega (arith, most)) in
     let both = both_kinds out in
@@ -157,38 +157,38 @@ page_of_start first = omega arith
 pub whole_start : (first : ℕ) → first % 2 ^ 5 ≡ 0 → 4096 * first % 131072 ≡ 0
 whole_start first h = omega (arith, h)
 
-filter_swap : (t u : Place → Bool) (ps : List Place) → filter t (filter u ps) ≡ filter u (filter t ps)
+filter_swap : (t u : Extent → Bool) (ps : List Extent) → filter t (filter u ps) ≡ filter u (filter t ps)
 filter_swap t u [] = refl
 filter_swap t u (p ∷ ps) = swap_step t u p ps (t p) (u p) refl refl (filter_swap t u ps)
   where
-    swap_step : (t u : Place → Bool) (p : Place) (ps : List Place) (a b : Bool) → t p ≡ a → u p ≡ b → filter t (filter u ps) ≡ filter u (filter t ps) → filter t (cond b (p ∷ filter u ps) (filter u ps)) ≡ filter u (cond a (p ∷ filter t ps) (filter t ps))
+    swap_step : (t u : Extent → Bool) (p : Extent) (ps : List Extent) (a b : Bool) → t p ≡ a → u p ≡ b → filter t (filter u ps) ≡ filter u (filter t ps) → filter t (cond b (p ∷ filter u ps) (filter u ps)) ≡ filter u (cond a (p ∷ filter t ps) (filter t ps))
     swap_step t u p ps true true et eu rest = ap (λ b. cond b (p ∷ filter t (filter u ps)) (filter t (filter u ps))) et ∙ ap (λ xs. p ∷ xs) rest ∙ sym (ap (λ b. cond b (p ∷ filter u (filter t ps)) (filter u (filter t ps))) eu)
     swap_step t u p ps true false et eu rest = rest ∙ sym (ap (λ b. cond b (p ∷ filter u (filter t ps)) (filter u (filter t ps))) eu)
     swap_step t u p ps false true et eu rest = ap (λ b. cond b (p ∷ filter t (filter u ps)) (filter t (filter u ps))) et ∙ rest
     swap_step t u p ps false false et eu rest = rest
 
-all_kept : (t : Place → Bool) (ps : List Place) → All (λ q. t q ≡ true) ps → filter t ps ≡ ps
+all_kept : (t : Extent → Bool) (ps : List Extent) → All (λ q. t q ≡ true) ps → filter t ps ≡ ps
 all_kept t [] h = refl
 all_kept t (p ∷ ps) h =
-    ap (λ b. cond b (p ∷ filter t ps) (filter t ps)) (All-head (λ (q : Place). t q ≡ true) p ps h) ∙ ap (λ xs. p ∷ xs) (all_kept t ps (All-tail (λ (q : Place). t q ≡ true) p ps h))
+    ap (λ b. cond b (p ∷ filter t ps) (filter t ps)) (All-head (λ (q : Extent). t q ≡ true) p ps h) ∙ ap (λ xs. p ∷ xs) (all_kept t ps (All-tail (λ (q : Extent). t q ≡ true) p ps h))
 
-segment_is : (p : Place) → p.len ≡ 131072 → is_segment p ≡ true
+segment_is : (p : Extent) → p.len ≡ 131072 → is_segment p ≡ true
 segment_is p e = eq-eqb p.len 131072 e
 
 -- a segment that is no longer out leaves the blocks
-pub same_blocks : (size : ℕ) (out : List Place) (p : Place) → AreBlocks size out → Contains out p → p.len ≡ 131072 → blocks_out (without p out) ≡ blocks_out out
+pub same_blocks : (size : ℕ) (out : List Extent) (p : Extent) → AreDisjoint size out → Contains out p → p.len ≡ 131072 → blocks_out (remove_extent p out) ≡ blocks_out out
 same_blocks size out p blocks has len =
-    let u : Place → Bool = λ z. not (z.at == p.at) in
-    let stays : (q : Place) → Contains (filter is_block out) q → u q ≡ true = λ q h.
+    let u : Extent → Bool = λ z. not (z.start == p.start) in
+    let stays : (q : Extent) → Contains (filter is_block out) q → u q ≡ true = λ q h.
     (let in_out : Contains out q = All-contains (Contains out) (filter is_block out) q (All-filter is_block (Contains out) out (All-contains_itself out)) h in
     let is : is_block q ≡ true = All-contains (λ x. is_block x ≡ true) (filter is_block out) q (filter_passes is_block out) h in
-    ap not (ne_eqb q.at p.at (λ e.
+    ap not (ne_eqb q.start p.start (λ e.
     (let one : p ≡ q = same_place size out p q blocks has in_out (sym e) in
     let seg : is_segment q ≡ true = subst (λ z. is_segment z ≡ true) one (segment_is p len) in
     let clash : false ≡ true = sym (ap not seg) ∙ is in cc)))) in
     ap length (filter_swap is_block u out ∙ all_kept u (filter is_block out) (all_of (λ q. u q ≡ true) (filter is_block out) stays))
 
-one_less : (t u : Place → Bool) (p : Place) (ps : List Place) → Contains ps p → t p ≡ true → u p ≡ false → length (filter t (filter u ps)) < length (filter t ps)
+one_less : (t u : Extent → Bool) (p : Extent) (ps : List Extent) → Contains ps p → t p ≡ true → u p ≡ false → length (filter t (filter u ps)) < length (filter t ps)
 one_less t u p [] h et eu = absurd (let l = h.1 in omega (arith, l))
 one_less t u p (q ∷ ps) h et eu = elim (has_cases q p ps h) [
   | inl same ↦
@@ -205,15 +205,54 @@ one_less t u p (q ∷ ps) h et eu = elim (has_cases q p ps h) [
       ])
 ]
 
-block_is : (p : Place) → p.len ≤ 16384 → is_block p ≡ true
+block_is : (p : Extent) → p.len ≤ 16384 → is_block p ≡ true
 block_is p l = ap not (ne_eqb p.len 131072 (λ e. omega (arith, e, l)))
 
 -- a block that is no longer out is one less
-pub block_less : (out : List Place) (p : Place) → Contains out p → p.len ≤ 16384 → blocks_out (without p out) < blocks_out out
-block_less out p has len = one_less is_block (λ z. not (z.at == p.at)) p out has (block_is p len) (ap not (eq-eqb p.at p.at refl))
+pub block_less : (out : List Extent) (p : Extent) → Contains out p → p.len ≤ 16384 → blocks_out (remove_extent p out) < blocks_out out
+block_less out p has len = one_less is_block (λ z. not (z.start == p.start)) p out has (block_is p len) (ap not (eq-eqb p.start p.start refl))
 
-pub block_more : (out : List Place) (p : Place) → p.len ≤ 16384 → blocks_out (p ∷ out) ≡ blocks_out out + 1
+-- of disjoint pieces one alone begins at a place
+remove_one : (size : ℕ) (p : Extent) (ps : List Extent) → AreDisjoint size ps → Contains ps p → length (remove_extent p ps) + 1 ≡ length ps
+remove_one size p [] h has = absurd (let l = has.1 in omega (arith, l))
+remove_one size p (q ∷ ps) h has =
+    let tail : AreDisjoint size ps = (All-tail (IsWithin size) q ps h.0, λ i j d l w. h.1 (suc i) (suc j) d (omega (arith, l)) (omega (arith, w))) in
+    let inside : IsWithin size q = All-head (IsWithin size) q ps h.0 in
+    let apart : All (Disjoint q) ps = (λ k d w. h.1 0 (suc k) d (omega arith) (omega (arith, w))) in
+    let u : Extent → Bool = λ z. not (z.start == p.start) in
+    elim (has_cases q p ps has) [
+      | inl same ↦
+          (let gone : u q ≡ false = ap not (eq-eqb q.start p.start (ap (λ (z : Extent). z.start) same)) in
+          let start : q.start ≡ p.start = ap (λ (z : Extent). z.start) same in
+          let stay : filter u ps ≡ ps = all_kept u ps (λ k d w. ap not (ne_eqb _ p.start (λ e. not_apart q _ inside.0 (tail.0 k d w).0 (start ∙ sym e) (apart k d w)))) in
+          ap (λ b. length (cond b (q ∷ filter u ps) (filter u ps)) + 1) gone ∙ ap (λ xs. length xs + 1) stay ∙ omega arith)
+      | inr later ↦
+          (let other : q.start ≢ p.start = (λ e. not_apart q p inside.0 (All-contains (IsWithin size) ps p tail.0 later).0 e (All-contains (Disjoint q) ps p apart later)) in
+          let kept_q : u q ≡ true = ap not (ne_eqb q.start p.start other) in
+          let rest = remove_one size p ps tail later in
+          ap (λ b. length (cond b (q ∷ filter u ps) (filter u ps)) + 1) kept_q ∙ omega (arith, rest))
+    ]
+
+pub one_block_less : (size : ℕ) (out : List Extent) (p : Extent) → AreDisjoint size out → Contains out p → p.len ≤ 16384 → blocks_out (remove_extent p out) + 1 ≡ blocks_out out
+one_block_less size out p blocks has len =
+    let less = block_less out p has len in
+    let segments = fewer_left is_segment (λ z. not (z.start == p.start)) out in
+    let one = remove_one size p out blocks has in
+    let before = both_kinds out in let after = both_kinds (remove_extent p out) in
+    omega (arith, less, segments, one, before, after)
+
+pub one_segment_less : (size : ℕ) (out : List Extent) (p : Extent) → AreDisjoint size out → Contains out p → p.len ≡ 131072 → segments_out (remove_extent p out) + 1 ≡ segments_out out
+one_segment_less size out p blocks has len =
+    let same = same_blocks size out p blocks has len in
+    let one = remove_one size p out blocks has in
+    let before = both_kinds out in let after = both_kinds (remove_extent p out) in
+    omega (arith, same, one, before, after)
+
+pub one_segment_more : (out : List Extent) (p : Extent) → p.len ≡ 131072 → segments_out (p ∷ out) ≡ segments_out out + 1
+one_segment_more out p len = ap (λ b. length (cond b (p ∷ filter is_segment out) (filter is_segment out))) (segment_is p len) ∙ omega arith
+
+pub block_more : (out : List Extent) (p : Extent) → p.len ≤ 16384 → blocks_out (p ∷ out) ≡ blocks_out out + 1
 block_more out p len = ap (λ b. length (cond b (p ∷ filter is_block out) (filter is_block out))) (block_is p len) ∙ omega arith
 
-pub segment_more : (out : List Place) (p : Place) → p.len ≡ 131072 → blocks_out (p ∷ out) ≡ blocks_out out
+pub segment_more : (out : List Extent) (p : Extent) → p.len ≡ 131072 → blocks_out (p ∷ out) ≡ blocks_out out
 segment_more out p len = ap (λ b. length (cond (not b) (p ∷ filter is_block out) (filter is_block out))) (segment_is p len)

@@ -23,27 +23,21 @@ ghost use Rattle.std.specs.Prelude.{
 };
 ghost use Rattle.std.specs.Ordering.{nat_cmp};
 ghost use Rattle.std.specs.FinMap as map;
-ghost use Rattle.raw_range.specs.Places.{place, Apart, AreBlocks, without};
-ghost use Rattle.raw_range.specs.Memory.{place_of};
+ghost use Rattle.layout.specs.Extents.{extent, Disjoint, AreDisjoint};
+ghost use Rattle.layout.specs.Sizes.{page, segment, segment_pages, segment_order, greatest_block, ArePages};
+ghost use Rattle.raw_range.specs.Memory.{extent_of, remove_extent};
 ghost use Rattle.span_lists.specs.Layout.{HasNone, IsOut, free_pages};
 ghost use Rattle.small_pools.specs.Objects.{Trims};
-ghost use Rattle.shard_memory.specs.Shards.{AreTogether, segments_out, blocks_out, IsTrimmed, IsBlockOf, IsSegmentOf, HasNoRoom, TakesFor};
-ghost use Rattle.shard_memory.specs.Refusals.{RefusesFor};
+ghost use Rattle.shard_memory.specs.Shards.{AreTogether, segments_out, blocks_out, IsTrimmed, IsBlockOf, IsSegmentOf, HasNoRoom, TakesFor, IsCrowded, IsLeastObject};
+ghost use Rattle.shard_memory.specs.Refusals.{RefusesFor, MeansCrowded};
 
 use crate::give_refusal::GiveRefusal;
+use layout::{PAGE, SEGMENT, SEGMENT_ORDER};
 use raw_range::{Piece, Range};
 use small_pools::{Pools, class_of};
 use span_lists::Spans;
 use std::alloc::{AllocError, Global};
 use std::marker::Model;
-
-const PAGE: u32 = 4096;
-
-/// A segment is a span of this order.
-const SEGMENT_ORDER: u8 = 5;
-
-/// The bytes of a segment.
-const SEGMENT: u32 = 131_072;
 
 /// The memory of one shard. One that is dropped is not freed: only `finish` gives its memory back.
 #[derive(Drop)]
@@ -56,28 +50,28 @@ pub struct ShardMemory {
 
 impl Model for ShardMemory {
     ghost use Rattle.std.specs.Prelude.{◌≡◌};
-    ghost use Rattle.shard_memory.specs.Shards.{Shard, shard_code, Together};
+    ghost use Rattle.shard_memory.specs.Shards.{Shard, shard_code, IsConsistent};
 
     ghost Value = { Shard };
 
     ghost coded = { shard_code };
 
-    ghost view = { λ a. record { home = a.range.home; owner = a.range.owner; pages = a.range.pages; out = a.range.out; spans = a.spans; pools = a.pools } };
+    ghost view = { λ a. record { home = a.range.home; owner = a.range.owner; pages = a.range.pages; out = a.range.allocated; spans = a.spans; pools = a.pools } };
 
-    ghost invariant = { λ a. (a.pages ≡ a.range.pages) × Together a.range.pages a.range.out a.spans a.pools };
+    ghost invariant = { λ a. (a.pages ≡ a.range.pages) × IsConsistent a.range.pages a.range.allocated a.spans a.pools };
 }
 
 impl ShardMemory {
-    /// The memory of a shard, all of it free.
+    /// The memory of a shard of so many pages, all of it free.
+    ///
+    /// # Errors
+    /// Want of memory.
     pub fn open(alloc: Global, shard: u32, pages: u32) -> Result<ShardMemory, AllocError>
-        requires whole { pages % 32 ≡ 0 }
-        requires least { 1280 ≤ pages }
-        requires most { pages ≤ 65536 }
+        requires { ArePages pages }
         ensures numbers { IfOk result (λ memory. (memory.owner ≡ shard) × (memory.pages ≡ pages)) }
         ensures none_out { IfOk result (λ memory. memory.out ≡ []) }
         ensures all_free { IfOk result (λ memory. memory.spans.out ≡ map.empty) }
         ensures none_held { IfOk result (λ memory. memory.pools.held ≡ map.empty) }
-        ensures together { IfOk result AreTogether }
     {
         let range = Range::new(alloc, shard, pages)?;
         let spans = Spans::new(alloc, pages)?;
@@ -90,27 +84,39 @@ impl ShardMemory {
         })
     }
 
+    /// What holds of the memory at each time.
+    pub fn facts(&self)
+        ensures together { AreTogether self.now }
+        ensures segments { segment_pages * segments_out self.now.out ≤ self.now.pages }
+    {
+        let _ = &self.pages;
+    }
+
     /// Gives a block of so many bytes, all of them 0, that stays with this shard.
+    ///
+    /// # Errors
+    /// `TooLarge` above 16,384 bytes, and `NoSpan` where neither the pool of the size's class nor the pages have room.
     pub fn give_here(&mut self, size: u32) -> Result<Piece, GiveRefusal>
         requires some { 1 ≤ size }
         requires few { blocks_out self.old.out < 1024 }
         ensures refused { IfErr result (RefusesFor self.old size) }
-        ensures room { IfOk result (λ _. (size ≤ 16384) × ¬ HasNoRoom self.old size) }
+        ensures room { IfOk result (λ _. (size ≤ greatest_block) × ¬ HasNoRoom self.old size) }
+        ensures crowded { IfErr result (MeansCrowded self.old) }
         ensures unchanged { IfErr result (λ _. self.new ≡ self.old) }
         ensures mine { IfOk result (λ piece. (piece.home ≡ self.old.home) × (piece.owner ≡ self.old.owner)) }
         ensures given { IfOk result (IsBlockOf self.new) }
         ensures zeros { IfOk result (λ piece. piece.bytes ≡ replicate size 0) }
-        ensures out { IfOk result (λ piece. self.new.out ≡ place_of piece ∷ self.old.out) }
+        ensures out { IfOk result (λ piece. self.new.out ≡ extent_of piece ∷ self.old.out) }
         ensures more { IfOk result (λ _. blocks_out self.new.out ≡ blocks_out self.old.out + 1) }
+        ensures least { IfOk result (λ piece. IsLeastObject self.old self.new size piece.at) }
         ensures spans { IfOk result (λ _. TakesFor self.old self.new size) }
         ensures same { (self.new.home ≡ self.old.home) × (self.new.owner ≡ self.old.owner) × (self.new.pages ≡ self.old.pages) }
-        ensures together { AreTogether self.new }
     {
         let Some(class) = class_of(size) else {
-            let _open = &self.pages;
             return Err(GiveRefusal::TooLarge);
         };
         let Some(place) = self.pools.take(&mut self.spans, class) else {
+            self.spans.facts();
             return Err(GiveRefusal::NoSpan);
         };
         Ok(cleared(self.range.take(place, size)))
@@ -119,12 +125,11 @@ impl ShardMemory {
     /// Takes a block back.
     pub fn back_here(&mut self, piece: Piece)
         requires { IsBlockOf self.old piece }
-        ensures out { self.new.out ≡ without (place_of piece) self.old.out }
-        ensures fewer { blocks_out self.new.out < blocks_out self.old.out }
+        ensures out { self.new.out ≡ remove_extent (extent_of piece) self.old.out }
+        ensures one_less { blocks_out self.new.out + 1 ≡ blocks_out self.old.out }
         ensures objects { self.new.pools ≡ record self.old.pools { out = map.remove self.old.pools.out piece.at } }
         ensures spans { self.new.spans ≡ self.old.spans }
         ensures same { (self.new.home ≡ self.old.home) × (self.new.owner ≡ self.old.owner) × (self.new.pages ≡ self.old.pages) }
-        ensures together { AreTogether self.new }
     {
         self.pools.put(piece.at());
         self.range.put(piece);
@@ -136,25 +141,24 @@ impl ShardMemory {
         ensures trims { Trims self.old.pools self.new.pools self.old.spans self.new.spans }
         ensures out { self.new.out ≡ self.old.out }
         ensures same { (self.new.home ≡ self.old.home) × (self.new.owner ≡ self.old.owner) × (self.new.pages ≡ self.old.pages) }
-        ensures together { AreTogether self.new }
     {
         self.pools.trim(&mut self.spans);
     }
 
     /// Gives a segment of 131,072 bytes, at a multiple of that.
     pub fn give_segment(&mut self) -> Option<Piece>
-        ensures none { IsNone result ↔ HasNone self.old.spans 5 }
+        ensures none { IsNone result ↔ HasNone self.old.spans segment_order }
         ensures unchanged { IfNone result (self.new ≡ self.old) }
-        ensures enough_out { IfNone result (IsTrimmed self.old → self.old.pages / 32 ≤ segments_out self.old.out + blocks_out self.old.out) }
+        ensures crowded { IfNone result (IsTrimmed self.old → IsCrowded self.old) }
         ensures mine { IfSome result (λ piece. (piece.home ≡ self.old.home) × (piece.owner ≡ self.old.owner)) }
         ensures given { IfSome result (IsSegmentOf self.new) }
-        ensures whole { IfSome result (λ piece. (length piece.bytes ≡ 131072) × (piece.at % 131072 ≡ 0)) }
-        ensures out { IfSome result (λ piece. self.new.out ≡ place_of piece ∷ self.old.out) }
-        ensures spans { IfSome result (λ piece. self.new.spans.out ≡ map.insert self.old.spans.out (piece.at / 4096) 5) }
+        ensures whole { IfSome result (λ piece. (length piece.bytes ≡ segment) × (piece.at % segment ≡ 0)) }
+        ensures out { IfSome result (λ piece. self.new.out ≡ extent_of piece ∷ self.old.out) }
+        ensures one_more { IfSome result (λ _. segments_out self.new.out ≡ segments_out self.old.out + 1) }
+        ensures spans { IfSome result (λ piece. self.new.spans.out ≡ map.insert self.old.spans.out (piece.at / page) segment_order) }
         ensures pools { self.new.pools ≡ self.old.pools }
         ensures blocks { blocks_out self.new.out ≡ blocks_out self.old.out }
         ensures same { (self.new.home ≡ self.old.home) × (self.new.owner ≡ self.old.owner) × (self.new.pages ≡ self.old.pages) }
-        ensures together { AreTogether self.new }
     {
         let first = self.spans.take(SEGMENT_ORDER)?;
         Some(self.range.take(PAGE * first, SEGMENT))
@@ -163,12 +167,12 @@ impl ShardMemory {
     /// Takes a segment back.
     pub fn segment_back(&mut self, piece: Piece)
         requires { IsSegmentOf self.old piece }
-        ensures out { self.new.out ≡ without (place_of piece) self.old.out }
-        ensures spans { self.new.spans.out ≡ map.remove self.old.spans.out (piece.at / 4096) }
+        ensures out { self.new.out ≡ remove_extent (extent_of piece) self.old.out }
+        ensures one_less { segments_out self.new.out + 1 ≡ segments_out self.old.out }
+        ensures spans { self.new.spans.out ≡ map.remove self.old.spans.out (piece.at / page) }
         ensures pools { self.new.pools ≡ self.old.pools }
         ensures blocks { blocks_out self.new.out ≡ blocks_out self.old.out }
         ensures same { (self.new.home ≡ self.old.home) × (self.new.owner ≡ self.old.owner) × (self.new.pages ≡ self.old.pages) }
-        ensures together { AreTogether self.new }
     {
         self.spans.put(piece.at() / PAGE, SEGMENT_ORDER);
         self.range.put(piece);

@@ -1,9 +1,10 @@
 pub mod ClassFacts
 pub mod Maps
 pub mod Places
-pub mod Stored
-pub mod Found
+pub mod Stands
 pub mod Lists
-pub mod Steps
+pub mod Tables
+pub mod Found
 pub mod Fresh
+pub mod Steps
 pub mod Trimmed

@@ -3,11 +3,10 @@ use Rattle.std.proofs.Common.{◌≡◌, ◌≢◌, ℕ, zero, suc, ◌+◌, ◌
 use Rattle.std.proofs.lemmas.Bool.{cases_eq}
 use Rattle.std.specs.Ordering.{nat_cmp}
 use Rattle.std.specs.FinMap as map
-use Rattle.span_lists.proofs.Outs.{maps_same, get_inserted, get_past_insert, get_removed, get_past_remove}
-use Rattle.small_pools.specs.Slots.{map_below, with_entry}
-
-below_or : (a b : ℕ) → (a < b) ⊎ (b ≤ a)
-below_or a b = grind arith
+use Rattle.common_lemmas.proofs.Orders.{lt_or_ge}
+use Rattle.common_lemmas.proofs.Orders.{lt_or_ge}
+use Rattle.common_lemmas.proofs.Maps.{maps_same, get_inserted, get_past_insert, get_removed, get_past_remove}
+use Rattle.small_pools.specs.inside.Tables.{map_below, with_entry}
 
 pub get-with_entry_same : (m : map.FinMap nat_cmp ℕ) (k : ℕ) (o : Option ℕ) → map.get m k ≡ None → map.get (with_entry m k o) k ≡ o
 get-with_entry_same m k None e = e
@@ -32,19 +31,19 @@ get_below (suc n) f q h = elim (cases_eq q n) [
 
 -- a function that has nothing from the number on is its map
 pub get-map_below : (n : ℕ) (f : ℕ → Option ℕ) → ((q : ℕ) → n ≤ q → f q ≡ None) → (q : ℕ) → map.get (map_below n f) q ≡ f q
-get-map_below n f none q = elim (below_or q n) [ inl l ↦ get_below n f q l | inr g ↦ get_beyond n f q g ∙ sym (none q g) ]
+get-map_below n f none q = elim (lt_or_ge q n) [ inl l ↦ get_below n f q l | inr g ↦ get_beyond n f q g ∙ sym (none q g) ]
 
 pub same_below : (n : ℕ) (f g : ℕ → Option ℕ) → ((q : ℕ) → q < n → g q ≡ f q) → map_below n g ≡ map_below n f
-same_below n f g same = maps_same _ _ (λ q. elim (below_or q n) [ inl l ↦ get_below n g q l ∙ same q l ∙ sym (get_below n f q l) | inr h ↦ get_beyond n g q h ∙ sym (get_beyond n f q h) ])
+same_below n f g same = maps_same _ _ (λ q. elim (lt_or_ge q n) [ inl l ↦ get_below n g q l ∙ same q l ∙ sym (get_below n f q l) | inr h ↦ get_beyond n g q h ∙ sym (get_beyond n f q h) ])
 
 pub insert_below : (n : ℕ) (f g : ℕ → Option ℕ) (k v : ℕ) → k < n → g k ≡ Some v → ((q : ℕ) → q ≢ k → g q ≡ f q) → map_below n g ≡ map.insert (map_below n f) k v
 insert_below n f g k v inside here others = maps_same _ _ (λ q. elim (cases_eq q k) [
   | inl e ↦ get_below n g q (omega arith) ∙ ap g e ∙ here ∙ sym (get_inserted (map_below n f) k v q e)
-  | inr d ↦ (elim (below_or q n) [ inl l ↦ get_below n g q l ∙ others q d ∙ sym (get_below n f q l) | inr h ↦ get_beyond n g q h ∙ sym (get_beyond n f q h) ]) ∙ sym (get_past_insert (map_below n f) k v q d)
+  | inr d ↦ (elim (lt_or_ge q n) [ inl l ↦ get_below n g q l ∙ others q d ∙ sym (get_below n f q l) | inr h ↦ get_beyond n g q h ∙ sym (get_beyond n f q h) ]) ∙ sym (get_past_insert (map_below n f) k v q d)
 ])
 
 pub remove_below : (n : ℕ) (f g : ℕ → Option ℕ) (k : ℕ) → k < n → g k ≡ None → ((q : ℕ) → q ≢ k → g q ≡ f q) → map_below n g ≡ map.remove (map_below n f) k
 remove_below n f g k inside here others = maps_same _ _ (λ q. elim (cases_eq q k) [
   | inl e ↦ get_below n g q (omega arith) ∙ ap g e ∙ here ∙ sym (get_removed (map_below n f) k q e)
-  | inr d ↦ (elim (below_or q n) [ inl l ↦ get_below n g q l ∙ others q d ∙ sym (get_below n f q l) | inr h ↦ get_beyond n g q h ∙ sym (get_beyond n f q h) ]) ∙ sym (get_past_remove (map_below n f) k q d)
+  | inr d ↦ (elim (lt_or_ge q n) [ inl l ↦ get_below n g q l ∙ others q d ∙ sym (get_below n f q l) | inr h ↦ get_beyond n g q h ∙ sym (get_beyond n f q h) ]) ∙ sym (get_past_remove (map_below n f) k q d)
 ])

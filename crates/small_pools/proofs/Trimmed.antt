@@ -6,13 +6,12 @@ use Rattle.std.proofs.lemmas.Cmp.{nat_cmp_total}
 use Rattle.std.specs.Ordering.{nat_cmp}
 use Rattle.std.specs.FinMap as map
 use Rattle.span_lists.specs.Layout.{Layout, IsOut, Divides, IsMerged, HasNone}
-use Rattle.span_lists.proofs.Outs.{get_inserted, get_past_insert, get_removed, get_past_remove}
-use Rattle.span_lists.proofs.Cuts.{some_is}
+use Rattle.common_lemmas.proofs.Orders.{trichotomy}
+use Rattle.common_lemmas.proofs.Orders.{trichotomy}
+use Rattle.common_lemmas.proofs.Maps.{get_inserted, get_past_insert, get_removed, get_past_remove}
+use Rattle.common_lemmas.proofs.Options.{some_is}
 use Rattle.small_pools.specs.Classes.{size_of, order_of, capacity_of}
 use Rattle.small_pools.specs.Objects.{Objects, slot_place, IsHeld, HasObject, HasRoom, IsUsedUp, AreObjects, AreHeldIn, Trims}
-
-three : (a b : ℕ) → (a ≡ b) ⊎ ((a < b) ⊎ (b < a))
-three a b = grind arith
 
 -- a span with room keeps the class from being used up
 pub not_used_up : (s : Objects) (f c : ℕ) → IsHeld s f c → HasRoom s f c → ¬ IsUsedUp s c
@@ -25,7 +24,7 @@ clear_of s old new f c held free e divided g d h =
     let apart : g ≢ f = (λ q. (let clash : Some (order_of d) ≡ None = sym out_g ∙ ap (map.get old.out) q ∙ free in cc)) in
     let now_g : IsOut new g (order_of d) = ap (λ m. map.get m g) e ∙ get_past_insert old.out f (order_of c) g apart ∙ out_g in
     let now_f : IsOut new f (order_of c) = ap (λ m. map.get m f) e ∙ get_inserted old.out f (order_of c) f refl in
-    elim (three g f) [
+    elim (trichotomy g f) [
       | inl q ↦ absurd (apart q)
       | inr (inl l) ↦ inl (divided.apart g f (order_of d) (order_of c) (inr now_g) (inr now_f) l)
       | inr (inr l) ↦ inr (divided.apart f g (order_of c) (order_of d) (inr now_f) (inr now_g) l)

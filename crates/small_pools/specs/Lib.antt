@@ -1,4 +1,3 @@
 pub mod Classes
 pub mod Objects
-pub mod Slots
-pub mod Given
+pub mod inside

@@ -1,12 +1,12 @@
 -- Small objects, and the spans that the pools hold for them.
-use Rattle.std.specs.Prelude.{◌≡◌, ◌≢◌, ℕ, ◌+◌, ◌*◌, ◌<◌, ◌≤◌, ◌^◌, Option, Some, None, refl}
+use Rattle.std.specs.Prelude.{◌≡◌, ◌≢◌, ◌⊎◌, ℕ, ◌+◌, ◌*◌, ◌<◌, ◌≤◌, ◌^◌, Option, Some, None, refl}
 use Rattle.std.specs.Ordering.{nat_cmp}
 use Rattle.std.specs.FinMap as map
 use Rattle.std.specs.Coded.{Coded, code_by, coded×, coded_ℕ}
-use Rattle.span_lists.specs.Blocks.{Blocks}
+use Rattle.layout.specs.Sizes.{page}
+use Rattle.layout.specs.Extents.{Blocks}
 use Rattle.span_lists.specs.Layout.{Layout, IsOut}
-use Rattle.std.specs.Prelude.{◌⊎◌}
-use Rattle.small_pools.specs.Classes.{size_of, order_of, capacity_of}
+use Rattle.small_pools.specs.Classes.{size_of, order_of, capacity_of, IsClass}
 
 -- held: the class of each span that the pools hold, by its first page. out: the size of each object that is out, by its first byte
 pub record Objects : Type 0 where
@@ -26,7 +26,7 @@ IsHeld s first class = map.get s.held first ≡ Some class
 
 -- where the objects of a span stand
 abbrev pub slot_place : ℕ → ℕ → ℕ → ℕ
-slot_place first class slot = 4096 * first + slot * size_of class
+slot_place first class slot = page * first + slot * size_of class
 
 -- a span has an object out; a span has a free one
 abbrev pub HasObject : Objects → ℕ → ℕ → Type 0
@@ -39,11 +39,23 @@ HasRoom s first class = (slot : ℕ) × (slot < capacity_of class) × (map.get s
 abbrev pub IsUsedUp : Objects → ℕ → Type 0
 IsUsedUp s class = (first slot : ℕ) → IsHeld s first class → slot < capacity_of class → map.get s.out (slot_place first class slot) ≡ Some (size_of class)
 
--- the objects out are disjoint, and each stands in a span of its class, in a slot of it; the spans are disjoint too
+-- an object stands in a slot of a span of its class, and within the pages of the span
+pub record IsObject (s : Objects) (place size : ℕ) : Type 0 where
+  pub first : ℕ
+  pub class : ℕ
+  pub slot : ℕ
+  pub held : IsHeld s first class
+  pub in_slot : slot < capacity_of class
+  pub at : place ≡ slot_place first class slot
+  pub size_is : size ≡ size_of class
+  pub from : page * first ≤ place
+  pub to : place + size ≤ page * (first + 2 ^ order_of class)
+
+-- the objects out are disjoint, and each stands in a slot of a span of its class; the spans are disjoint too
 pub record AreObjects (s : Objects) : Type 0 where
-  pub blocks : Blocks (4096 * s.pages) (map.get s.out)
-  pub slots : (place size : ℕ) → map.get s.out place ≡ Some size → (first : ℕ) × (class : ℕ) × (slot : ℕ) × IsHeld s first class × (slot < capacity_of class) × (place ≡ slot_place first class slot) × (size ≡ size_of class)
-  pub spans : (first class : ℕ) → IsHeld s first class → (class < 37) × (first + 2 ^ order_of class ≤ s.pages)
+  pub blocks : Blocks (page * s.pages) (map.get s.out)
+  pub slots : (place size : ℕ) → map.get s.out place ≡ Some size → IsObject s place size
+  pub spans : (first class : ℕ) → IsHeld s first class → IsClass class × (first + 2 ^ order_of class ≤ s.pages)
   pub apart : (p q c d : ℕ) → IsHeld s p c → IsHeld s q d → p < q → p + 2 ^ order_of c ≤ q
 
 -- each span that the pools hold is out with its order
@@ -65,7 +77,3 @@ pub record Trims (old new : Objects) (spans spans' : Layout) : Type 0 where
   pub left : (first class : ℕ) → IsHeld old first class → HasObject old first class → IsHeld new first class
   pub given : (first class : ℕ) → IsHeld old first class → map.get new.held first ≡ None → map.get spans'.out first ≡ None
   pub others : (first : ℕ) → map.get old.held first ≡ None → map.get spans'.out first ≡ map.get spans.out first
-
--- each span of the class has an object out
-abbrev pub IsTrim : Objects → ℕ → Type 0
-IsTrim s class = (first : ℕ) → IsHeld s first class → HasObject s first class

@@ -1,5 +1,8 @@
 ghost use Rattle.std.specs.Prelude.{◌≡◌, ℕ, ◌+◌, ◌<◌, ◌≤◌, ◌↔◌, IsNone, IfSome};
-ghost use Rattle.small_pools.specs.Classes.{size_of, order_of, capacity_of, IsLeastClass};
+ghost use Rattle.layout.specs.Sizes.{greatest_block};
+ghost use Rattle.small_pools.specs.Classes.{size_of, order_of, capacity_of, IsClass, IsLeastClass};
+
+use layout::{GREATEST_BLOCK, PAGE};
 
 /// How many classes there are.
 pub const CLASSES: u8 = 37;
@@ -7,31 +10,57 @@ pub const CLASSES: u8 = 37;
 /// The bytes of an object of each class.
 const SIZES: [u32; 37] = [
     32, 40, 48, 56, 64, 80, 96, 112, 128, 160, 192, 224, 256, 320, 384, 448, 512, 640, 768, 896,
-    1024, 1280, 1536, 1792, 2048, 2560, 3072, 3584, 4096, 5120, 6144, 7168, 8192, 10240, 12288,
+    1024, 1280, 1536, 1792, 2048, 2560, 3072, 3584, PAGE, 5120, 6144, 7168, 8192, 10240, 12288,
     14336, 16384,
 ];
 
+/// The order of the spans of each class.
+const ORDERS: [u8; 37] = [
+    0, 0, 0, 0, 0, 0, 0, 0, 0, 0, 0, 0, 0, 0, 0, 0, 0, 0, 0, 0, 0, 1, 1, 1, 1, 2, 2, 2, 2, 3, 3, 3,
+    3, 4, 4, 4, 4,
+];
+
+/// How many objects a span of each class holds.
+const CAPACITIES: [u8; 37] = [
+    128, 102, 85, 73, 64, 51, 42, 36, 32, 25, 21, 18, 16, 12, 10, 9, 8, 6, 5, 4, 4, 6, 5, 4, 4, 6,
+    5, 4, 4, 6, 5, 4, 4, 6, 5, 4, 4,
+];
+
 /// The least class that holds an object of the size in bytes. There is none above 16,384 bytes.
+///
+/// Classes are four per doubling, so the highest bit of the last byte's number gives the doubling, and the two bits
+/// below it the class within it.
 pub fn class_of(size: u32) -> Option<u8>
-    ensures none { IsNone result ↔ (16384 < size) }
+    ensures none { IsNone result ↔ (greatest_block < size) }
     ensures some { IfSome result (IsLeastClass size) }
+    ensures bounds { IfSome result IsClass }
 {
-    if size > 16384 {
+    if size > GREATEST_BLOCK {
         return None;
     }
-    let mut class = 0;
-    while size > class_size(class) {
-        class += 1;
+    if size <= 32 {
+        return Some(0);
     }
-    Some(class)
+    Some(class_above(size - 1))
+}
+
+/// The class of the objects that are greater than so many bytes, by the least step.
+fn class_above(last: u32) -> u8
+    requires least { 32 ≤ last }
+    requires most { last < greatest_block }
+    ensures least { IsLeastClass (last + 1) result }
+    ensures bounds { IsClass result }
+{
+    let doubling = 31 - last.leading_zeros();
+    let quarter = (last >> (doubling - 2)) & 3;
+    (4 * (doubling - 5) + quarter + 1) as u8
 }
 
 /// The bytes of an object of the class.
 pub fn class_size(class: u8) -> u32
     requires { class < 37 }
     ensures value { result ≡ size_of class }
-    ensures least { 32 ≤ result }
-    ensures most { result ≤ 16384 }
+    ensures bounds { IsClass class }
 {
     SIZES[class as usize]
 }
@@ -42,13 +71,7 @@ pub fn class_order(class: u8) -> u8
     ensures value { result ≡ order_of class }
     ensures most { result ≤ 4 }
 {
-    match class_size(class) {
-        0..=1024 => 0,
-        1025..=2048 => 1,
-        2049..=4096 => 2,
-        4097..=8192 => 3,
-        _ => 4,
-    }
+    ORDERS[class as usize]
 }
 
 /// How many objects a span of the class holds.
@@ -58,5 +81,5 @@ pub fn class_capacity(class: u8) -> u8
     ensures least { 4 ≤ result }
     ensures most { result ≤ 128 }
 {
-    ((4096u32 << class_order(class)) / class_size(class)) as u8
+    CAPACITIES[class as usize]
 }

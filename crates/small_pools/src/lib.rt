@@ -9,5 +9,6 @@ pub use classes::class_of;
 pub use pools::Pools;
 
 mod classes;
-mod free_slots;
+mod listing;
+mod masks;
 mod pools;

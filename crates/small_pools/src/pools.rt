@@ -3,8 +3,6 @@ ghost use Rattle.std.specs.Prelude.{
   ◌⊎◌,
   ℕ,
   ◌+◌,
-  ◌*◌,
-  ◌%◌,
   ◌<◌,
   ◌≤◌,
   ◌≢◌,
@@ -14,6 +12,7 @@ ghost use Rattle.std.specs.Prelude.{
   List,
   length,
   slice_index,
+  vec_len,
   replicate,
   IfOk,
   IfSome,
@@ -25,12 +24,11 @@ ghost use Rattle.std.specs.Prelude.{
 };
 ghost use Rattle.std.specs.Ordering.{nat_cmp};
 ghost use Rattle.std.specs.FinMap as map;
-ghost use Rattle.place_lists.specs.Lists.{times, list_at};
+ghost use Rattle.layout.specs.Sizes.{ArePages, most_pages};
 ghost use Rattle.span_lists.specs.Layout.{Divides, IsMerged, HasNone, IsOut};
 ghost use Rattle.small_pools.specs.Classes.{size_of, order_of, capacity_of};
 ghost use Rattle.small_pools.specs.Objects.{
   Objects,
-  slot_place,
   IsHeld,
   HasObject,
   HasRoom,
@@ -39,53 +37,53 @@ ghost use Rattle.small_pools.specs.Objects.{
   AreHeldIn,
   HoldsFor,
   Trims,
-  IsTrim,
+  slot_place,
 };
-ghost use Rattle.small_pools.specs.Slots.{list_of, stands_on};
 
 use crate::classes::{CLASSES, class_capacity, class_order, class_size};
-use crate::free_slots::FreeSlots;
-use place_lists::PlaceLists;
+use crate::listing::{list_for, relist};
+use crate::masks::{all_free, least_free, occupied, released};
+use index_lists::IndexLists;
+use layout::PAGE;
 use span_lists::Spans;
 use std::alloc::{AllocError, Global};
 use std::marker::Model;
 
-const PAGE: u32 = 4096;
-
-/// The pools of all classes.
+/// The pools of all classes of one shard.
 #[derive(Drop)]
 pub struct Pools {
     pages: u32,
     // the class of each span that is held, at its first page
     classes: Vec<Option<u8>>,
-    // the first page of the span in which a page lies
+    // of each page of a span that is held, the span's first page
     firsts: Vec<u32>,
-    slots: Vec<FreeSlots>,
-    // of each class the spans with an object out and a free one, and then the spans without an object out
-    lists: PlaceLists,
+    // of each span, at its first page, the free slots
+    masks: Vec<u128>,
+    // of each class the spans with a free slot
+    lists: IndexLists,
 }
 
 impl Model for Pools {
-    ghost use Rattle.std.specs.Prelude.{◌*◌};
     ghost use Rattle.small_pools.specs.Objects.{Objects, objects_code};
 
     ghost Value = { Objects };
 
     ghost coded = { objects_code };
 
-    ghost use Rattle.small_pools.specs.Slots.{map_below, class_at, object_at, IsStored};
+    ghost use Rattle.small_pools.specs.inside.Tables.{objects_of, IsConsistent};
 
-    ghost view = { λ a. record { pages = a.pages; held = map_below a.pages (class_at a.classes.items); out = map_below (4096 * a.pages) (object_at a.classes.items a.firsts.items a.slots.items) } };
+    ghost view = { λ a. objects_of (record { pages = a.pages; classes = a.classes.items; firsts = a.firsts.items; masks = a.masks.items; lists = a.lists }) };
 
-    ghost invariant = { λ a. IsStored a.pages a.classes.items a.firsts.items a.slots.items a.lists };
+    ghost invariant = { λ a. IsConsistent (record { pages = a.pages; classes = a.classes.items; firsts = a.firsts.items; masks = a.masks.items; lists = a.lists }) };
 }
 
 impl Pools {
-    /// Pools that hold nothing.
+    /// Pools that hold nothing of so many pages.
+    ///
+    /// # Errors
+    /// Want of memory.
     pub fn new(alloc: Global, pages: u32) -> Result<Pools, AllocError>
-        requires whole { pages % 32 ≡ 0 }
-        requires least { 1280 ≤ pages }
-        requires most { pages ≤ 65536 }
+        requires { ArePages pages }
         ensures pages { IfOk result (λ pools. pools.pages ≡ pages) }
         ensures none_held { IfOk result (λ pools. pools.held ≡ map.empty) }
         ensures none_out { IfOk result (λ pools. pools.out ≡ map.empty) }
@@ -93,18 +91,27 @@ impl Pools {
     {
         let classes = no_classes(alloc, pages)?;
         let firsts = zeros(alloc, pages)?;
-        let slots = no_slots(alloc, pages)?;
-        let lists = PlaceLists::new(alloc, pages, 2 * CLASSES as u32)?;
+        let masks = no_masks(alloc, pages)?;
+        let lists = IndexLists::new(alloc, pages, CLASSES as u32)?;
         Ok(Pools {
             pages,
             classes,
             firsts,
-            slots,
+            masks,
             lists,
         })
     }
 
+    /// What holds of the pools at each time.
+    pub fn facts(&self)
+        ensures objects { AreObjects self.now }
+    {
+        let _ = &self.lists;
+    }
+
     /// Takes an object of the class out, and answers its first byte.
+    ///
+    /// It comes from a span that the pools hold, where one has a free object, and otherwise from a new span of the pages.
     pub fn take(&mut self, spans: &mut Spans, class: u8) -> Option<u32>
         requires class { class < 37 }
         requires held { AreHeldIn self.old spans.old }
@@ -123,6 +130,21 @@ impl Pools {
         Some(self.pop(first, class))
     }
 
+    /// Gives an object back that is out, by its first byte.
+    pub fn put(&mut self, place: u32)
+        requires { IsSome (map.get self.old.out place) }
+        ensures out { self.new.out ≡ map.remove self.old.out place }
+        ensures held { self.new.held ≡ self.old.held }
+        ensures pages { self.new.pages ≡ self.old.pages }
+        ensures objects { AreObjects self.new }
+    {
+        let first = self.firsts[(place / PAGE) as usize];
+        if let Some(class) = self.classes[first as usize] {
+            let slot = (place - PAGE * first) / class_size(class);
+            self.release(first, class, slot as u8);
+        }
+    }
+
     /// Gives each span back to the pages that has no object out.
     pub fn trim(&mut self, spans: &mut Spans)
         requires { AreHeldIn self.old spans.old }
@@ -133,31 +155,55 @@ impl Pools {
         ensures divided { Divides spans.new }
         ensures merged { IsMerged spans.new }
     {
-        let _open = &self.lists;
-        let _known = spans.largest();
-        for class in 0..CLASSES {
-            self.trim_class(spans, class);
+        self.facts();
+        spans.facts();
+        for first in 0..self.pages() {
+            self.trim_span(spans, first);
         }
     }
 
-    /// Gives each span of the class back to the pages that has no object out.
-    fn trim_class(&mut self, spans: &mut Spans, class: u8)
-        requires class { class < 37 }
+    fn pages(&self) -> u32
+        ensures { result ≡ self.now.pages }
+    {
+        self.pages
+    }
+
+    /// Gives the span that begins at the page back to the pages where it has no object out.
+    fn trim_span(&mut self, spans: &mut Spans, first: u32)
+        requires page { first < self.old.pages }
         requires held { AreHeldIn self.old spans.old }
         requires objects { AreObjects self.old }
         requires divided { Divides spans.old }
         requires merged { IsMerged spans.old }
-        ensures used { IsTrim self.new class }
+        ensures used { (class : ℕ) → IsHeld self.new first class → HasObject self.new first class }
         ensures trims { Trims self.old self.new spans.old spans.new }
         ensures held { AreHeldIn self.new spans.new }
         ensures objects { AreObjects self.new }
         ensures divided { Divides spans.new }
         ensures merged { IsMerged spans.new }
     {
-        while let Some(first) = self.first_empty(class) {
-            self.remove(first, class);
-            spans.put(first, class_order(class));
+        let Some(class) = self.unused_at(first) else {
+            return;
+        };
+        self.remove(first, class);
+        spans.put(first, class_order(class));
+    }
+
+    /// The class of the span that begins at the page, where it has no object out.
+    fn unused_at(&self, first: u32) -> Option<u8>
+        requires { first < self.now.pages }
+        ensures none { IfNone result ((class : ℕ) → IsHeld self.now first class → HasObject self.now first class) }
+        ensures class { IfSome result (λ class. class < 37) }
+        ensures held { IfSome result (λ class. IsHeld self.now first class) }
+        ensures unused { IfSome result (λ class. ¬ HasObject self.now first class) }
+    {
+        let Some(class) = self.classes[first as usize] else {
+            return None;
+        };
+        if self.masks[first as usize] != all_free(class_capacity(class)) {
+            return None;
         }
+        Some(class)
     }
 
     /// A held span of the class with a free object, taken from the pages where the pools hold none.
@@ -177,7 +223,7 @@ impl Pools {
         ensures merged { IsMerged spans.new }
     {
         if let Some(first) = self.find(class) {
-            let _known = spans.largest();
+            spans.facts();
             return Some(first);
         }
         let first = spans.take(class_order(class))?;
@@ -185,7 +231,7 @@ impl Pools {
         Some(first)
     }
 
-    /// A held span of the class with a free object: one with an object out before one without.
+    /// A held span of the class with a free object.
     fn find(&self, class: u8) -> Option<u32>
         requires { class < 37 }
         ensures none { IfNone result (IsUsedUp self.now class) }
@@ -193,21 +239,7 @@ impl Pools {
         ensures room { IfSome result (λ first. HasRoom self.now first class) }
         ensures objects { AreObjects self.now }
     {
-        let partly = self.lists.first(2 * class as u32);
-        if partly.is_some() {
-            return partly;
-        }
-        self.lists.first(2 * class as u32 + 1)
-    }
-
-    /// A held span of the class without an object out.
-    fn first_empty(&self, class: u8) -> Option<u32>
-        requires { class < 37 }
-        ensures none { IfNone result ((first : ℕ) → IsHeld self.now first class → HasObject self.now first class) }
-        ensures held { IfSome result (λ first. IsHeld self.now first class) }
-        ensures empty { IfSome result (λ first. ¬ HasObject self.now first class) }
-    {
-        self.lists.first(2 * class as u32 + 1)
+        self.lists.front(class as u32)
     }
 
     /// Takes an object out of a span that has a free one, and answers its first byte.
@@ -218,40 +250,34 @@ impl Pools {
         ensures moves { self.new ≡ record self.old { out = map.insert self.old.out result (size_of class) } }
         ensures objects { AreObjects self.new }
     {
-        let _open = &self.lists;
-        let slots = &mut self.slots[first as usize];
-        let before = slots.len();
-        let slot = slots.pop();
+        let before = self.masks[first as usize];
+        let slot = least_free(before);
+        let mask = occupied(before, slot);
+        self.masks[first as usize] = mask;
         relist(
             &mut self.lists,
             first,
-            list_for(class, before),
-            list_for(class, before - 1),
+            Some(class as u32),
+            list_for(class, mask),
         );
         PAGE * first + slot as u32 * class_size(class)
     }
 
-    /// Gives an object back that is out.
-    pub fn put(&mut self, place: u32)
-        requires { IsSome (map.get self.old.out place) }
-        ensures out { self.new.out ≡ map.remove self.old.out place }
-        ensures held { self.new.held ≡ self.old.held }
-        ensures pages { self.new.pages ≡ self.old.pages }
+    /// Makes a slot of a span free.
+    fn release(&mut self, first: u32, class: u8, slot: u8)
+        requires held { IsHeld self.old first class }
+        requires slot { slot < capacity_of class }
+        ensures moves { self.new ≡ record self.old { out = map.remove self.old.out (slot_place first class slot) } }
         ensures objects { AreObjects self.new }
     {
-        let first = self.firsts[(place / PAGE) as usize];
-        if let Some(class) = self.classes[first as usize] {
-            let slot = (place - PAGE * first) / class_size(class);
-            let slots = &mut self.slots[first as usize];
-            let before = slots.len();
-            slots.push(slot as u8);
-            relist(
-                &mut self.lists,
-                first,
-                list_for(class, before),
-                list_for(class, before + 1),
-            );
-        }
+        let before = self.masks[first as usize];
+        self.masks[first as usize] = released(before, slot);
+        relist(
+            &mut self.lists,
+            first,
+            list_for(class, before),
+            Some(class as u32),
+        );
     }
 
     /// Holds a span for a class.
@@ -263,94 +289,32 @@ impl Pools {
         ensures room { HasRoom self.new first class }
         ensures objects { AreObjects self.new }
     {
-        let capacity = class_capacity(class);
         own(&mut self.firsts, first, 1 << class_order(class));
         self.classes[first as usize] = Some(class);
-        self.slots[first as usize] = FreeSlots::below(capacity);
-        relist(&mut self.lists, first, None, list_for(class, capacity));
+        self.masks[first as usize] = all_free(class_capacity(class));
+        relist(&mut self.lists, first, None, Some(class as u32));
     }
 
     /// Lets a span go that has no object out.
     fn remove(&mut self, first: u32, class: u8)
         requires held { IsHeld self.old first class }
-        requires empty { ¬ HasObject self.old first class }
+        requires unused { ¬ HasObject self.old first class }
         ensures moves { self.new ≡ record self.old { held = map.remove self.old.held first } }
         ensures objects { AreObjects self.new }
     {
-        let free = self.slots[first as usize].len();
-        relist(&mut self.lists, first, list_for(class, free), None);
+        let mask = self.masks[first as usize];
+        relist(&mut self.lists, first, list_for(class, mask), None);
         self.classes[first as usize] = None;
     }
 }
 
-/// The list on which a span of the class stands that has so many free slots.
-fn list_for(class: u8, free: u8) -> Option<u32>
-    requires { class < 37 }
-    ensures value { result ≡ list_of (Some class) free }
-    ensures within { IfSome result (λ list. list < 74) }
-{
-    if free == 0 {
-        return None;
-    }
-    if free == class_capacity(class) {
-        return Some(2 * class as u32 + 1);
-    }
-    Some(2 * class as u32)
-}
-
-/// Moves a place from one list to another.
-fn relist(lists: &mut PlaceLists, place: u32, from: Option<u32>, to: Option<u32>)
-    requires place { place < lists.old.places }
-    requires from { IfSome from (λ list. list < length lists.old.lists) }
-    requires to { IfSome to (λ list. list < length lists.old.lists) }
-    requires stands { (list : ℕ) → list < length lists.old.lists → times place (list_at lists.old list) ≡ stands_on from list }
-    ensures stands { (list : ℕ) → list < length lists.new.lists → times place (list_at lists.new list) ≡ stands_on to list }
-    ensures others { (list other : ℕ) → other ≢ place → times other (list_at lists.new list) ≡ times other (list_at lists.old list) }
-    ensures places { lists.new.places ≡ lists.old.places }
-    ensures lists { length lists.new.lists ≡ length lists.old.lists }
-{
-    if from == to {
-        return;
-    }
-    unlist(lists, place, from);
-    enlist(lists, place, to);
-}
-
-/// Takes a place off the list that it is on.
-fn unlist(lists: &mut PlaceLists, place: u32, from: Option<u32>)
-    requires from { IfSome from (λ list. list < length lists.old.lists) }
-    requires stands { (list : ℕ) → list < length lists.old.lists → times place (list_at lists.old list) ≡ stands_on from list }
-    ensures gone { (list : ℕ) → list < length lists.new.lists → times place (list_at lists.new list) ≡ 0 }
-    ensures others { (list other : ℕ) → other ≢ place → times other (list_at lists.new list) ≡ times other (list_at lists.old list) }
-    ensures places { lists.new.places ≡ lists.old.places }
-    ensures lists { length lists.new.lists ≡ length lists.old.lists }
-{
-    if let Some(list) = from {
-        lists.remove(list, place);
-    }
-}
-
-/// Puts a place that is on no list on one.
-fn enlist(lists: &mut PlaceLists, place: u32, to: Option<u32>)
-    requires place { place < lists.old.places }
-    requires to { IfSome to (λ list. list < length lists.old.lists) }
-    requires gone { (list : ℕ) → list < length lists.old.lists → times place (list_at lists.old list) ≡ 0 }
-    ensures stands { (list : ℕ) → list < length lists.new.lists → times place (list_at lists.new list) ≡ stands_on to list }
-    ensures others { (list other : ℕ) → other ≢ place → times other (list_at lists.new list) ≡ times other (list_at lists.old list) }
-    ensures places { lists.new.places ≡ lists.old.places }
-    ensures lists { length lists.new.lists ≡ length lists.old.lists }
-{
-    if let Some(list) = to {
-        lists.push(list, place);
-    }
-}
-
 /// Makes a page the first one of so many.
-fn own(firsts: &mut [u32], first: u32, count: u32)
-    requires within { first + count ≤ length firsts.old }
-    requires small { length firsts.old ≤ 65536 }
-    ensures mine { (page : ℕ) → first ≤ page → page < first + count → slice_index firsts.new page ≡ first }
-    ensures others { (page : ℕ) → (page < first) ⊎ (first + count ≤ page) → slice_index firsts.new page ≡ slice_index firsts.old page }
+fn own(firsts: &mut Vec<u32>, first: u32, count: u32)
+    requires within { first + count ≤ vec_len firsts.old }
+    requires small { vec_len firsts.old ≤ most_pages }
+    ensures len { vec_len firsts.new ≡ vec_len firsts.old }
+    ensures mine { (page : ℕ) → first ≤ page → page < first + count → slice_index firsts.new.items page ≡ first }
+    ensures others { (page : ℕ) → (page < first) ⊎ (first + count ≤ page) → slice_index firsts.new.items page ≡ slice_index firsts.old.items page }
 {
     for page in first..first + count {
         firsts[page as usize] = first;
@@ -373,14 +337,10 @@ fn zeros(alloc: Global, pages: u32) -> Result<Vec<u32>, AllocError>
     vec![in alloc; 0; pages as usize]
 }
 
-fn no_slots(alloc: Global, pages: u32) -> Result<Vec<FreeSlots>, AllocError>
-    ensures { IfOk result (λ slots. slots.items ≡ replicate pages []) }
+fn no_masks(alloc: Global, pages: u32) -> Result<Vec<u128>, AllocError>
+    ensures { IfOk result (λ masks. masks.items ≡ replicate pages 0) }
 {
-    let mut slots = Vec::with_capacity(alloc, pages as usize)?;
-    for _ in 0..pages {
-        slots.push(FreeSlots::new())?;
-    }
-    Ok(slots)
+    vec![in alloc; 0; pages as usize]
 }
 
 #[cfg(test)]

@@ -3,10 +3,10 @@ use Rattle.std.proofs.Common.{◌≡◌, ◌≢◌, ℕ, ◌+◌, ◌%◌, ◌^�
 use Rattle.std.proofs.lemmas.Nat.{pow_pos}
 use Rattle.std.proofs.lemmas.Bool.{cases_eq}
 use Rattle.span_lists.specs.Pages.{IsSpanAt, IsCut}
-use Rattle.span_lists.proofs.Halves.{pow_twice, coarser, aligned_add, aligned_pow}
-
-pub some_is : {a b : ℕ} {o : Option ℕ} → o ≡ Some a → o ≡ Some b → a ≡ b
-some_is {a} {b} {o} p q = (let e : Some a ≡ Some b = sym p ∙ q in cc)
+use Rattle.common_lemmas.proofs.Orders.{lt_or_ge, trichotomy}
+use Rattle.common_lemmas.proofs.Orders.{lt_or_ge, trichotomy}
+use Rattle.common_lemmas.proofs.Options.{some_is}
+use Rattle.common_lemmas.proofs.Powers.{pow_twice, coarser, aligned_add, aligned_pow}
 
 -- orders that are the same at each page cut alike
 pub same_cut : (pages : ℕ) (at at' : ℕ → Option ℕ) → ((x : ℕ) → at' x ≡ at x) → IsCut pages at → IsCut pages at'
@@ -18,14 +18,11 @@ same_cut pages at at' same h = record {
 -- two spans of a cut that share a page are one
 pub shared_page : (pages : ℕ) (at : ℕ → Option ℕ) (p q j k x : ℕ) → IsCut pages at → at p ≡ Some j → at q ≡ Some k → p ≤ x → x < p + 2 ^ j → q ≤ x → x < q + 2 ^ k → p ≡ q
 shared_page pages at p q j k x h ep eq pl ph ql qh =
-    elim (three p q) [
+    elim (trichotomy p q) [
       | inl e ↦ e
       | inr (inl l) ↦ absurd (let none = (h.spans p j ep).alone q l (omega arith) in let clash : Some k ≡ None = sym eq ∙ none in cc)
       | inr (inr l) ↦ absurd (let none = (h.spans q k eq).alone p l (omega arith) in let clash : Some j ≡ None = sym ep ∙ none in cc)
     ]
-  where
-    three : (a b : ℕ) → (a ≡ b) ⊎ ((a < b) ⊎ (b < a))
-    three a b = grind arith
 
 -- a span is halved
 pub cut_halved : (pages : ℕ) (at at' : ℕ → Option ℕ) (x k : ℕ) → IsCut pages at → at x ≡ Some (k + 1)
@@ -75,7 +72,7 @@ cut_halved pages at at' x k h was low high others =
                 (let ck : c.1 ≡ k + 1 = some_is c.2 (ap at cx ∙ was) in
                 let upper : y < x + 2 ^ (k + 1) = subst (λ z. y < x + 2 ^ z) ck (subst (λ z. y < z + 2 ^ c.1) cx c.4) in
                 let lower : x ≤ y = subst (λ z. z ≤ y) cx c.3 in
-                elim (below_or y (x + 2 ^ k)) [
+                elim (lt_or_ge y (x + 2 ^ k)) [
                   | inl l ↦ (x, k, low, lower, l)
                   | inr g ↦ (x + 2 ^ k, k, high, g, omega arith)
                 ])
@@ -85,9 +82,6 @@ cut_halved pages at at' x k h was low high others =
             ]
           ]);
     }
-  where
-    below_or : (a b : ℕ) → (a < b) ⊎ (b ≤ a)
-    below_or a b = grind arith
 
 -- two buddies are joined
 pub cut_joined : (pages : ℕ) (at at' : ℕ → Option ℕ) (x k : ℕ) → IsCut pages at → k < 16 → x % 2 ^ (k + 1) ≡ 0 → at x ≡ Some k → at (x + 2 ^ k) ≡ Some k
@@ -109,7 +103,7 @@ cut_joined pages at at' x k h small aligned was_low was_high low high others =
               alone = λ i l u.
                   elim (cases_eq i (x + 2 ^ k)) [
                     | inl ih ↦ ap at' ih ∙ high
-                    | inr inh ↦ others i (λ z. absurd (omega arith)) inh ∙ (elim (below_or i (x + 2 ^ k)) [ inl b ↦ s.alone i l b | inr b ↦ t.alone i (omega arith) (omega arith) ])
+                    | inr inh ↦ others i (λ z. absurd (omega arith)) inh ∙ (elim (lt_or_ge i (x + 2 ^ k)) [ inl b ↦ s.alone i l b | inr b ↦ t.alone i (omega arith) (omega arith) ])
                   ];
             } in
             subst (λ z. IsSpanAt pages at' z j) (sym yx) (subst (λ z. IsSpanAt pages at' x z) jk made))
@@ -150,6 +144,3 @@ cut_joined pages at at' x k h small aligned was_low was_high low high others =
             ]
           ]);
     }
-  where
-    below_or : (a b : ℕ) → (a < b) ⊎ (b ≤ a)
-    below_or a b = grind arith

@@ -3,16 +3,16 @@ use Rattle.std.proofs.Common.{◌≡◌, ◌≢◌, ℕ, zero, suc, ◌%◌, ◌
 use Rattle.std.proofs.lemmas.List.{get_or_past, get_or-replicate, length-replicate}
 use Rattle.std.proofs.lemmas.List.Folds.{sum_by-replicate}
 use Rattle.std.specs.FinMap as map
-use Rattle.place_lists.specs.Lists.{Lists, times}
+use Rattle.index_lists.specs.Lists.{Lists}
+use Rattle.common_lemmas.proofs.Orders.{lt_or_ge}
+use Rattle.common_lemmas.proofs.Orders.{lt_or_ge}
+use Rattle.common_lemmas.specs.Lists.{times}
 use Rattle.span_lists.specs.declared.spans.PageState.{PageState}
 use Rattle.span_lists.specs.declared.spans.PageState.TheVariants.{Inside, Free, Out}
 use Rattle.span_lists.specs.Pages.{order_of, out_order_of, mark, out_pages_of, state_at, IsSpanAt, IsLaid, out_of}
 use Rattle.span_lists.proofs.Laid.{pages_from-replicate}
 use Rattle.span_lists.proofs.Outs.{get-out_of}
-use Rattle.span_lists.proofs.Cuts.{some_is}
-
-below_or : (a b : ℕ) → (a < b) ⊎ (b ≤ a)
-below_or a b = grind arith
+use Rattle.common_lemmas.proofs.Options.{some_is}
 
 pub state_single : (pages x : ℕ) → x < pages → state_at (replicate pages (Out 0)) x ≡ Out 0
 state_single pages x h = get_or-replicate pages x (Out 0) Inside h
@@ -21,13 +21,13 @@ pub state_beyond : (pages x : ℕ) → pages ≤ x → state_at (replicate pages
 state_beyond pages x h = get_or_past (replicate pages (Out 0)) x Inside (let l = length-replicate pages (Out 0) in omega (arith, l))
 
 not_free : (pages x k : ℕ) → state_at (replicate pages (Out 0)) x ≢ Free k
-not_free pages x k e = elim (below_or x pages) [
+not_free pages x k e = elim (lt_or_ge x pages) [
   | inl l ↦ (let clash : Out 0 ≡ Free k = sym (state_single pages x l) ∙ e in cc)
   | inr g ↦ (let clash : Inside ≡ Free k = sym (state_beyond pages x g) ∙ e in cc)
 ]
 
 order_single : (pages x k : ℕ) → order_of (state_at (replicate pages (Out 0)) x) ≡ Some k → (x < pages) × (0 ≡ k)
-order_single pages x k e = elim (below_or x pages) [
+order_single pages x k e = elim (lt_or_ge x pages) [
   | inl l ↦ (l, some_is (ap order_of (state_single pages x l)) e)
   | inr g ↦ absurd (let clash : None ≡ Some k = sym (ap order_of (state_beyond pages x g)) ∙ e in cc)
 ]
@@ -38,15 +38,15 @@ no_list (suc m) zero = refl
 no_list (suc m) (suc k) = no_list m k
 
 no_mark : (pages x k : ℕ) → mark k (state_at (replicate pages (Out 0)) x) ≡ 0
-no_mark pages x k = elim (below_or x pages) [ inl l ↦ ap (mark k) (state_single pages x l) | inr g ↦ ap (mark k) (state_beyond pages x g) ]
+no_mark pages x k = elim (lt_or_ge x pages) [ inl l ↦ ap (mark k) (state_single pages x l) | inr g ↦ ap (mark k) (state_beyond pages x g) ]
 
-laid_single : (pages : ℕ) → pages ≤ 65536 → IsLaid pages (replicate pages (Out 0)) (record { places = pages; lists = replicate 17 [] }) 0
+laid_single : (pages : ℕ) → pages ≤ 65536 → IsLaid pages (replicate pages (Out 0)) (record { indices = pages; lists = replicate 17 [] }) 0
 laid_single pages small =
     let one : 2 ^ 0 ≡ 1 = refl in
     record {
       small = small;
       states_len = length-replicate pages (Out 0);
-      places = refl;
+      indices = refl;
       orders = length-replicate {A = List ℕ} 17 [];
       cut = record {
         spans = λ x k e. (let o = order_single pages x k e in
@@ -63,7 +63,7 @@ laid_single pages small =
     aligned_one : (x : ℕ) → x % 2 ^ 0 ≡ 0
     aligned_one x = omega arith
 
-pub laid_new : (pages : ℕ) (states : List PageState) (lists : Lists) → pages ≤ 65536 → states ≡ replicate pages (Out 0) → lists ≡ record { places = pages; lists = replicate 17 [] } → IsLaid pages states lists 0
+pub laid_new : (pages : ℕ) (states : List PageState) (lists : Lists) → pages ≤ 65536 → states ≡ replicate pages (Out 0) → lists ≡ record { indices = pages; lists = replicate 17 [] } → IsLaid pages states lists 0
 laid_new pages states lists small es el = subst (λ s. IsLaid pages s lists 0) (sym es) (subst (λ l. IsLaid pages (replicate pages (Out 0)) l 0) (sym el) (laid_single pages small))
 
 pub each_out : (pages : ℕ) (states : List PageState) → states ≡ replicate pages (Out 0) → (x : ℕ) → x < pages → map.get (out_of states) x ≡ Some 0

@@ -1,18 +1,23 @@
 -- What each step leaves of pages that are laid out.
-use Rattle.std.proofs.Common.{◌≡◌, ◌≢◌, ℕ, zero, suc, ◌+◌, ◌-◌, ◌*◌, ◌%◌, ◌^◌, ◌<◌, ◌≤◌, ◌⊎◌, inl, inr, List, [], ◌∷◌, length, get_or, set, replicate, Some, None, refl, sym, ap, subst, ◌∙◌, arith, get_or-set_other, get_or-set_same, zero-add}
+use Rattle.std.proofs.Common.{◌≡◌, ◌≢◌, ℕ, zero, suc, ◌+◌, ◌-◌, ◌*◌, ◌%◌, ◌^◌, ◌<◌, ◌≤◌, ◌⊎◌, inl, inr, List}
+use Rattle.std.proofs.Common.{[], ◌∷◌, length, get_or, set, replicate, Some, None, refl, sym, ap, subst, ◌∙◌, arith, get_or-set_other, get_or-set_same, zero-add}
 use Rattle.std.proofs.Math.ListN.{length-set}
 use Rattle.std.proofs.lemmas.List.{get_or_past}
 use Rattle.std.proofs.lemmas.List.Sums.{sum_by-set}
 use Rattle.std.proofs.lemmas.Bool.{cases_eq}
 use Rattle.std.proofs.lemmas.Bool.Decides.{nat_tests}
-use Rattle.place_lists.specs.Lists.{Lists, list_at, with_list, times, without}
-use Rattle.place_lists.proofs.Times.{times_here, times_there, times-without_same, times-without_other, length-without}
+use Rattle.index_lists.specs.Lists.{Lists, list_at, with_list}
+use Rattle.common_lemmas.proofs.Orders.{lt_or_ge}
+use Rattle.common_lemmas.proofs.Orders.{lt_or_ge}
+use Rattle.common_lemmas.specs.Lists.{times, delete}
+use Rattle.common_lemmas.proofs.Counts.{times_here, times_there, times-delete_same, times-delete_other, length-delete}
 use Rattle.span_lists.specs.declared.spans.PageState.{PageState}
 use Rattle.span_lists.specs.declared.spans.PageState.TheVariants.{Inside, Free, Out}
-use Rattle.span_lists.specs.Blocks.{buddy}
+use Rattle.span_lists.specs.Buddies.{buddy}
 use Rattle.span_lists.specs.Layout.{pages_from}
 use Rattle.span_lists.specs.Pages.{order_of, mark, out_pages_of, state_at, IsSpanAt, IsLaid}
-use Rattle.span_lists.proofs.Halves.{pow_twice, buddy_twice, buddy_of_upper}
+use Rattle.common_lemmas.proofs.Powers.{pow_twice}
+use Rattle.span_lists.proofs.Halves.{buddy_twice, buddy_of_upper}
 use Rattle.span_lists.proofs.Cuts.{same_cut, cut_halved, cut_joined}
 use Rattle.span_lists.proofs.Outs.{state_same, state_other}
 use Rattle.std.proofs.lemmas.Nat.{pow_pos}
@@ -31,12 +36,9 @@ free_of_mark k Inside h = absurd (omega arith)
 free_of_mark k (Free j) h = elim (cases_eq j k) [ inl e ↦ ap (λ z. Free z) e | inr n ↦ absurd (let none = mark_other k j n in omega (arith, none, h)) ]
 free_of_mark k (Out j) h = absurd (omega arith)
 
-below_or : (a b : ℕ) → (a < b) ⊎ (b ≤ a)
-below_or a b = grind arith
-
 -- a page at which a span begins is one of the pages
 pub state_within : (states : List PageState) (x : ℕ) → state_at states x ≢ Inside → x < length states
-state_within states x n = elim (below_or x (length states)) [ inl l ↦ l | inr g ↦ absurd (n (get_or_past states x Inside g)) ]
+state_within states x n = elim (lt_or_ge x (length states)) [ inl l ↦ l | inr g ↦ absurd (n (get_or_past states x Inside g)) ]
 
 inside_of : (v : PageState) → order_of v ≡ None → v ≡ Inside
 inside_of Inside e = refl
@@ -55,16 +57,16 @@ IsListed lists states = (k x : ℕ) → k < 17 → times x (get_or lists k []) �
 
 listed_remove : (lists : List (List ℕ)) (states states' : List PageState) (k b : ℕ) → length lists ≡ 17 → k < 17 → IsListed lists states → state_at states b ≡ Free k
     → ((j : ℕ) → mark j (state_at states' b) ≡ 0) → ((z j : ℕ) → z ≢ b → mark j (state_at states' z) ≡ mark j (state_at states z))
-    → IsListed (set lists k (without b (get_or lists k []))) states'
+    → IsListed (set lists k (delete b (get_or lists k []))) states'
 listed_remove lists states states' k b len small listed was none others j x h =
     let held : times b (get_or lists k []) ≡ 1 = listed k b small ∙ ap (mark k) was ∙ mark_same k in
     elim (cases_eq j k) [
       | inl jk ↦
-          (let there : get_or (set lists k (without b (get_or lists k []))) j [] ≡ without b (get_or lists k []) = ap (λ z. get_or (set lists k (without b (get_or lists k []))) z []) jk ∙ get_or-set_same lists k _ [] (omega arith) in
+          (let there : get_or (set lists k (delete b (get_or lists k []))) j [] ≡ delete b (get_or lists k []) = ap (λ z. get_or (set lists k (delete b (get_or lists k []))) z []) jk ∙ get_or-set_same lists k _ [] (omega arith) in
           ap (times x) there ∙
           (elim (cases_eq x b) [
-            | inl e ↦ ap (λ z. times z (without b (get_or lists k []))) e ∙ (let w = times-without_same b (get_or lists k []) (omega arith) in let z : times b (without b (get_or lists k [])) ≡ 0 = omega arith in z) ∙ sym (ap (λ z. mark j (state_at states' z)) e ∙ none j)
-            | inr n ↦ times-without_other x b (get_or lists k []) n ∙ listed k x small ∙ sym (others x k n) ∙ ap (λ z. mark z (state_at states' x)) (sym jk)
+            | inl e ↦ ap (λ z. times z (delete b (get_or lists k []))) e ∙ (let w = times-delete_same b (get_or lists k []) (omega arith) in let z : times b (delete b (get_or lists k [])) ≡ 0 = omega arith in z) ∙ sym (ap (λ z. mark j (state_at states' z)) e ∙ none j)
+            | inr n ↦ times-delete_other x b (get_or lists k []) n ∙ listed k x small ∙ sym (others x k n) ∙ ap (λ z. mark z (state_at states' x)) (sym jk)
           ]))
       | inr jk ↦
           (ap (times x) (get_or-set_other lists k j _ [] jk) ∙ listed j x h ∙
@@ -83,7 +85,8 @@ listed_push lists states states' k b len small listed now none others j x h =
           (let there : get_or (set lists k (b ∷ get_or lists k [])) j [] ≡ b ∷ get_or lists k [] = ap (λ z. get_or (set lists k (b ∷ get_or lists k [])) z []) jk ∙ get_or-set_same lists k _ [] (omega arith) in
           ap (times x) there ∙
           (elim (cases_eq b x) [
-            | inl e ↦ ap (λ z. times z (b ∷ get_or lists k [])) (sym e) ∙ (let w = times_here b (get_or lists k []) in let l = listed k b small in let o = none k in let z : times b (b ∷ get_or lists k []) ≡ 1 = omega (arith, w, l, o) in z) ∙ sym (ap (λ z. mark z (state_at states' x)) jk ∙ ap (λ z. mark k (state_at states' z)) (sym e) ∙ ap (mark k) now ∙ mark_same k)
+            | inl e ↦ ap (λ z. times z (b ∷ get_or lists k [])) (sym e) ∙ (let w = times_here b (get_or lists k []) in let l = listed k b small in let o = none k in let z : times b (b ∷ get_or lists k []) ≡ 1 = omega (arith, w, l, o) in z)
+                ∙ sym (ap (λ z. mark z (state_at states' x)) jk ∙ ap (λ z. mark k (state_at states' z)) (sym e) ∙ ap (mark k) now ∙ mark_same k)
             | inr n ↦ times_there x b (get_or lists k []) n ∙ listed k x small ∙ sym (others x k (λ q. n (sym q))) ∙ ap (λ z. mark z (state_at states' x)) (sym jk)
           ]))
       | inr jk ↦
@@ -126,7 +129,7 @@ pages_from-replicate o (suc n) = (let rest = pages_from-replicate (o + 1) n in o
 
 -- a free span goes out
 pub laid_pull : (pages : ℕ) (states : List PageState) (lists : Lists) (free x k : ℕ) → IsLaid pages states lists free → k < 17 → 1 ≤ times x (list_at lists k)
-    → (2 ^ k ≤ free) × IsLaid pages (set states x (Out k)) (with_list lists k (without x (list_at lists k))) (free - 2 ^ k)
+    → (2 ^ k ≤ free) × IsLaid pages (set states x (Out k)) (with_list lists k (delete x (list_at lists k))) (free - 2 ^ k)
 laid_pull pages states lists free x k h small held =
     let was : state_at states x ≡ Free k = free_of_mark k _ (subst (λ n. 1 ≤ n) (h.listed k x small) held) in
     let inside : x < length states = state_within states x (λ e. (let clash : Inside ≡ Free k = sym e ∙ was in cc)) in
@@ -139,7 +142,7 @@ laid_pull pages states lists free x k h small held =
     ]) in
     let len = h.orders in
     let at : 2 ^ (0 + k) ≡ 2 ^ k = ap (λ n. 2 ^ n) (zero-add k) in
-    let less = pages_from-less 0 lists.lists k (without x (list_at lists k)) (omega arith) (length-without x (list_at lists k) held) in
+    let less = pages_from-less 0 lists.lists k (delete x (list_at lists k)) (omega arith) (length-delete x (list_at lists k) held) in
     let sums = sum_by-set out_pages_of states x (Out k) Inside inside in
     let none : out_pages_of (state_at states x) ≡ 0 = ap out_pages_of was in
     let c = h.count in
@@ -149,7 +152,7 @@ laid_pull pages states lists free x k h small held =
       record {
         small = h.small;
         states_len = length-set states x (Out k) ∙ h.states_len;
-        places = h.places;
+        indices = h.indices;
         orders = length-set lists.lists k _ ∙ h.orders;
         cut = same_cut pages _ _ (λ y. elim (cases_eq y x) [
           | inl e ↦ ap (λ z. order_of (state_at states' z)) e ∙ ap order_of now ∙ sym (ap (λ z. order_of (state_at states z)) e ∙ ap order_of was)
@@ -183,7 +186,7 @@ laid_release pages states lists free x k h small was apart =
       record {
         small = h.small;
         states_len = length-set states x (Free k) ∙ h.states_len;
-        places = h.places;
+        indices = h.indices;
         orders = length-set lists.lists k _ ∙ h.orders;
         cut = same_cut pages _ _ (λ y. elim (cases_eq y x) [
           | inl e ↦ ap (λ z. order_of (state_at states' z)) e ∙ ap order_of now ∙ sym (ap (λ z. order_of (state_at states z)) e ∙ ap order_of was)
@@ -253,7 +256,7 @@ laid_halve pages states lists free x k h was =
       record {
         small = h.small;
         states_len = length-set mid u (Free k) ∙ mid_len ∙ states_len;
-        places = h.places;
+        indices = h.indices;
         orders = length-set lists.lists k _ ∙ h.orders;
         cut = cut_halved pages _ _ x k h.cut (ap order_of was) (ap order_of now_x) (ap order_of now) (λ y nx nu. ap order_of (others y nx nu));
         listed = listed_push lists.lists states states' k u h.orders (omega arith) h.listed now (λ j. ap (mark j) empty)
@@ -319,7 +322,7 @@ laid_join pages states lists free x k h small aligned was was_u =
       record {
         small = h.small;
         states_len = length-set mid x (Out (k + 1)) ∙ mid_len ∙ states_len;
-        places = h.places;
+        indices = h.indices;
         orders = h.orders;
         cut = cut_joined pages _ _ x k h.cut small aligned (ap order_of was) (ap order_of was_u) (ap order_of now) (ap order_of now_u) (λ y nx nu. ap order_of (others y nx nu));
         listed = λ j z q. h.listed j z q ∙ (elim (cases_eq z x) [

@@ -1,34 +1,13 @@
 -- The spans that are out, as a map.
 use Rattle.std.proofs.Common.{◌≡◌, ◌≢◌, ℕ, zero, suc, ◌+◌, ◌<◌, inl, inr, true, false, cond, List, [], ◌∷◌, length, set, Some, None, refl, sym, ap, ◌∙◌, arith, get_or-set_other, get_or-set_same}
 use Rattle.std.proofs.lemmas.Bool.{cases_eq}
-use Rattle.std.proofs.lemmas.Bool.Decides.{nat_tests}
 use Rattle.std.proofs.lemmas.Cmp.{nat_cmp_total}
-use Rattle.std.specs.Ordering.{nat_cmp, eq_by_cmp}
-use Rattle.std.specs.FinMap.{FinMap, get, insert, remove, find, get-insert, get-remove, get-from_entries, same_map, nat_cmp-IsAntisymmetric}
+use Rattle.std.specs.Ordering.{nat_cmp}
+use Rattle.std.specs.FinMap.{FinMap, get, insert, remove, find, get-from_entries}
+use Rattle.common_lemmas.proofs.Maps.{tie_same, tie_apart, get_inserted, get_past_insert, get_removed, get_past_remove, maps_same}
 use Rattle.span_lists.specs.declared.spans.PageState.{PageState}
 use Rattle.span_lists.specs.declared.spans.PageState.TheVariants.{Inside, Free, Out}
 use Rattle.span_lists.specs.Pages.{out_of, out_entries, out_order_of, state_at}
-
-pub tie_same : (a b : ℕ) → a ≡ b → eq_by_cmp nat_cmp a b ≡ true
-tie_same a b e = grind (arith, nat_tests)
-
-pub tie_apart : (a b : ℕ) → a ≢ b → eq_by_cmp nat_cmp a b ≡ false
-tie_apart a b n = grind (arith, nat_tests)
-
-pub get_inserted : (m : FinMap nat_cmp ℕ) (k v q : ℕ) → q ≡ k → get (insert m k v) q ≡ Some v
-get_inserted m k v q e = get-insert nat_cmp_total m k v q ∙ ap (λ b. cond b (Some v) (get m q)) (tie_same q k e)
-
-pub get_past_insert : (m : FinMap nat_cmp ℕ) (k v q : ℕ) → q ≢ k → get (insert m k v) q ≡ get m q
-get_past_insert m k v q n = get-insert nat_cmp_total m k v q ∙ ap (λ b. cond b (Some v) (get m q)) (tie_apart q k n)
-
-pub get_removed : (m : FinMap nat_cmp ℕ) (k q : ℕ) → q ≡ k → get (remove m k) q ≡ None
-get_removed m k q e = get-remove nat_cmp_total m k q ∙ ap (λ b. cond b None (get m q)) (tie_same q k e)
-
-pub get_past_remove : (m : FinMap nat_cmp ℕ) (k q : ℕ) → q ≢ k → get (remove m k) q ≡ get m q
-get_past_remove m k q n = get-remove nat_cmp_total m k q ∙ ap (λ b. cond b None (get m q)) (tie_apart q k n)
-
-pub maps_same : (m n : FinMap nat_cmp ℕ) → ((q : ℕ) → get m q ≡ get n q) → m ≡ n
-maps_same m n same = same_map nat_cmp_total nat_cmp-IsAntisymmetric m n same
 
 found_here : (p k q : ℕ) (es : List (ℕ × ℕ)) → q ≡ p → find nat_cmp q ((p, k) ∷ es) ≡ Some k
 found_here p k q es e = ap (λ b. cond b (Some k) (find nat_cmp q es)) (tie_same q p e)

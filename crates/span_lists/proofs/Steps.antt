@@ -4,13 +4,16 @@ use Rattle.std.proofs.lemmas.Bool.{cases_eq}
 use Rattle.std.proofs.lemmas.Nat.{pow_pos}
 use Rattle.std.specs.Ordering.{nat_cmp}
 use Rattle.std.specs.FinMap as map
-use Rattle.place_lists.specs.Lists.{times, without}
-use Rattle.place_lists.proofs.Times.{times_here}
-use Rattle.span_lists.specs.Blocks.{buddy}
+use Rattle.common_lemmas.proofs.Orders.{lt_or_ge}
+use Rattle.common_lemmas.proofs.Orders.{lt_or_ge}
+use Rattle.common_lemmas.specs.Lists.{times, delete}
+use Rattle.common_lemmas.proofs.Counts.{times_here}
+use Rattle.span_lists.specs.Buddies.{buddy}
 use Rattle.span_lists.specs.Layout.{Layout, free_at, IsFree, IsOut, Divides, IsMerged, HasNone, TakesFrom, MergesInto, IsFirstOf, span_start}
 use Rattle.span_lists.specs.Steps.{IsHalvedTo, IsMergedTo}
-use Rattle.span_lists.proofs.Halves.{start_is, start_of_start, buddy_ends}
-use Rattle.span_lists.proofs.Outs.{maps_same, get_inserted, get_past_insert, get_removed, get_past_remove}
+use Rattle.common_lemmas.proofs.Powers.{start_is, start_of_start}
+use Rattle.span_lists.proofs.Halves.{buddy_ends}
+use Rattle.common_lemmas.proofs.Maps.{maps_same, get_inserted, get_past_insert, get_removed, get_past_remove}
 
 -- ---- lists and maps that are written
 
@@ -88,12 +91,12 @@ free_in_front s order first from h = held_of_front (free_at s from) first h.in_f
 pub found_some : (s : Layout) (order first from : ℕ) → IsFirstOf s order first from → ¬ HasNone s order
 found_some s order first from h none = (let clash : Some first ≡ None = sym h.in_front ∙ ap (λ l. slice_get l 0) (none from h.from_order h.from_within) in cc)
 
-pub took : (old mid new : Layout) (order first from : ℕ) → IsFirstOf old order first from → Divides old → mid ≡ record old { free = set old.free from (without first (free_at old from)); out = map.insert old.out first from }
+pub took : (old mid new : Layout) (order first from : ℕ) → IsFirstOf old order first from → Divides old → mid ≡ record old { free = set old.free from (delete first (free_at old from)); out = map.insert old.out first from }
     → IsHalvedTo mid new first from order → TakesFrom old new order first × (new.out ≡ map.insert old.out first order) × (new.pages ≡ old.pages)
 took old mid new order first from found divided e h =
     let orders = divided.orders in
     let within = found.from_within in
-    let free : (k : ℕ) → free_at mid k ≡ get_or (set old.free from (without first (free_at old from))) k [] = λ k. ap (λ (s : Layout). free_at s k) e in (
+    let free : (k : ℕ) → free_at mid k ≡ get_or (set old.free from (delete first (free_at old from))) k [] = λ k. ap (λ (s : Layout). free_at s k) e in (
       record {
         from = from;
         from_order = found.from_order;
@@ -134,13 +137,13 @@ pub out_of_merged : (old now : Layout) (first order at to : ℕ) → IsMergedTo 
 out_of_merged old now first order at to h = ap (λ m. map.get m at) h.out ∙ get_inserted (map.remove old.out first) at to at refl
 
 pub merged_more : (old now new : Layout) (first order at to joined : ℕ) → IsMergedTo old now first order at to → to < 16 → IsFree now (buddy at to) to → joined ≡ span_start at (to + 1)
-    → new ≡ record now { free = set now.free to (without (buddy at to) (free_at now to)); out = map.insert (map.remove now.out at) joined (to + 1) } → map.get now.out (buddy at to) ≡ None
+    → new ≡ record now { free = set now.free to (delete (buddy at to) (free_at now to)); out = map.insert (map.remove now.out at) joined (to + 1) } → map.get now.out (buddy at to) ≡ None
     → Divides new → IsMerged new → IsMergedTo old new first order joined (to + 1)
 merged_more old now new first order at to joined h small held start e none_buddy divided merged =
     let orders = h.divided.orders in
     let low = h.to_order in
     let base = map.remove old.out first in
-    let free : (k : ℕ) → free_at new k ≡ get_or (set now.free to (without (buddy at to) (free_at now to))) k [] = λ k. ap (λ (s : Layout). free_at s k) e in
+    let free : (k : ℕ) → free_at new k ≡ get_or (set now.free to (delete (buddy at to) (free_at now to))) k [] = λ k. ap (λ (s : Layout). free_at s k) e in
     let same : free_at now to ≡ free_at old to = h.upper to (omega arith) in
     let start_b : buddy at to ≡ buddy (span_start first to) to = ap (λ z. buddy z to) h.start in
     let held_old : IsFree old (buddy (span_start first to) to) to = subst (λ z. IsFree old z to) start_b (subst (λ l. 1 ≤ times (buddy at to) l) same held) in
@@ -167,7 +170,7 @@ merged_more old now new first order at to joined h small held start e none_buddy
         | inr n ↦ h.joined k l (omega arith)
       ];
       buddies = λ k l u. free k ∙ (elim (cases_eq k to) [
-        | inl kt ↦ free_same now.free to k _ (omega arith) kt ∙ ap (λ l. without (buddy at to) l) same ∙ ap (λ z. without z (free_at old to)) start_b ∙ ap (λ z. without (buddy (span_start first z) z) (free_at old z)) (sym kt)
+        | inl kt ↦ free_same now.free to k _ (omega arith) kt ∙ ap (λ l. delete (buddy at to) l) same ∙ ap (λ z. delete z (free_at old to)) start_b ∙ ap (λ z. delete (buddy (span_start first z) z) (free_at old z)) (sym kt)
         | inr n ↦ free_other now.free to k _ n ∙ h.buddies k l (omega arith)
       ]);
       lower = λ k l. free k ∙ free_other now.free to k _ (λ z. absurd (omega arith)) ∙ h.lower k l;
@@ -219,10 +222,7 @@ put_more old new pages page h within e same divided merged = record {
 }
 
 pub none_left : (s : Layout) (pages : ℕ) → IsPutTo s pages pages → (x : ℕ) → map.get s.out x ≡ None
-none_left s pages h x = elim (below_or x pages) [ inl l ↦ h.given x l | inr g ↦ h.beyond x g ]
-  where
-    below_or : (a b : ℕ) → (a < b) ⊎ (b ≤ a)
-    below_or a b = grind arith
+none_left s pages h x = elim (lt_or_ge x pages) [ inl l ↦ h.given x l | inr g ↦ h.beyond x g ]
 
 pub empty_out : (s : Layout) → ((x : ℕ) → map.get s.out x ≡ None) → s.out ≡ map.empty
 empty_out s none = maps_same _ _ (λ q. none q ∙ sym (map.get-empty nat_cmp q))

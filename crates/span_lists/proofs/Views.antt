@@ -4,28 +4,30 @@ use Rattle.std.proofs.lemmas.List.{get_or_past}
 use Rattle.std.proofs.lemmas.Bool.{cases_eq}
 use Rattle.std.specs.Ordering.{nat_cmp}
 use Rattle.std.specs.FinMap as map
-use Rattle.place_lists.specs.Lists.{Lists, list_at, with_list, times, without}
+use Rattle.index_lists.specs.Lists.{Lists, list_at, with_list}
+use Rattle.common_lemmas.proofs.Orders.{lt_or_ge, trichotomy}
+use Rattle.common_lemmas.proofs.Orders.{lt_or_ge, trichotomy}
+use Rattle.common_lemmas.specs.Lists.{times, delete}
 use Rattle.span_lists.specs.declared.spans.PageState.{PageState}
 use Rattle.span_lists.specs.declared.spans.PageState.TheVariants.{Inside, Free, Out}
-use Rattle.span_lists.specs.Blocks.{buddy}
+use Rattle.span_lists.specs.Buddies.{buddy}
 use Rattle.span_lists.specs.Layout.{Layout, free_at, IsFree, IsOut, IsSpan, Divides, IsMerged, span_start}
 use Rattle.span_lists.specs.Pages.{order_of, out_order_of, mark, state_at, IsLaid, out_of}
-use Rattle.span_lists.proofs.Cuts.{some_is}
-use Rattle.span_lists.proofs.Outs.{get-out_of, state_of_out, out_with, out_without, state_same, state_other, maps_same, get_inserted, get_past_insert, get_removed, get_past_remove}
+use Rattle.common_lemmas.proofs.Options.{some_is}
+use Rattle.common_lemmas.proofs.Maps.{maps_same, get_inserted, get_past_insert, get_removed, get_past_remove}
+use Rattle.span_lists.proofs.Outs.{get-out_of, state_of_out, out_with, out_without, state_same, state_other}
 use Rattle.span_lists.proofs.Laid.{mark_same, free_of_mark, state_within, laid_join}
-use Rattle.span_lists.proofs.Halves.{buddy_ends, pow_twice}
+use Rattle.common_lemmas.proofs.Powers.{pow_twice}
+use Rattle.span_lists.proofs.Halves.{buddy_ends}
 use Rattle.std.proofs.lemmas.Nat.{pow_pos, pow_below}
 use Rattle.std.proofs.Math.ListN.{length-set}
 
 abbrev pub layout_of : ℕ → List PageState → Lists → Layout
 layout_of pages states lists = record { pages = pages; free = lists.lists; out = out_of states }
 
-below_or : (a b : ℕ) → (a < b) ⊎ (b ≤ a)
-below_or a b = grind arith
-
 -- only an order has a list
 order_of_free : (pages : ℕ) (states : List PageState) (lists : Lists) (free p k : ℕ) → IsLaid pages states lists free → IsFree (layout_of pages states lists) p k → k < 17
-order_of_free pages states lists free p k h held = elim (below_or k 17) [
+order_of_free pages states lists free p k h held = elim (lt_or_ge k 17) [
   | inl l ↦ l
   | inr g ↦ absurd (let o = h.orders in let none : times p (list_at lists k) ≡ 0 = ap (times p) (get_or_past lists.lists k [] (omega arith)) in omega (arith, none, held))
 ]
@@ -67,7 +69,7 @@ pages_is (Some k) n e = (k, refl, (let s : Some (2 ^ k) ≡ Some n = e in cc))
 pub divides_of : (pages : ℕ) (states : List PageState) (lists : Lists) (free : ℕ) → IsLaid pages states lists free → Divides (layout_of pages states lists)
 divides_of pages states lists free h =
     let apart : (p q j k : ℕ) → order_of (state_at states p) ≡ Some j → order_of (state_at states q) ≡ Some k → p < q → p + 2 ^ j ≤ q = (λ p q j k ep eq l.
-    elim (below_or q (p + 2 ^ j)) [
+    elim (lt_or_ge q (p + 2 ^ j)) [
       | inl u ↦ absurd (let none = (h.cut.spans p j ep).alone q l u in let clash : Some k ≡ None = sym eq ∙ none in cc)
       | inr g ↦ g
     ]) in
@@ -82,16 +84,21 @@ divides_of pages states lists free h =
       either = λ p k f. get-out_of states p ∙ ap out_order_of (state_of_free pages states lists free p k h f);
       once = λ p k small. subst (λ n. n ≤ 1) (sym (h.listed k p small)) (mark_le_one k (state_at states p));
       blocks = record {
-        inside = λ p n e. (let k = pages_is (map.get (out_of states) p) n e in
+        within = λ p n e. (let k = pages_is (map.get (out_of states) p) n e in
             let a = h.cut.spans p k.0 (ap order_of (state_out pages states lists p k.0 k.1)) in
             let pos = pow_pos k.0 in
             let w = a.within in
             let kn = k.2 in
             (omega arith, omega arith));
-        apart = λ p q m n ep eq l. (let j = pages_is (map.get (out_of states) p) m ep in let k = pages_is (map.get (out_of states) q) n eq in
-            let r = apart p q j.0 k.0 (ap order_of (state_out pages states lists p j.0 j.1)) (ap order_of (state_out pages states lists q k.0 k.1)) l in
-            let jm = j.2 in
-            omega arith);
+        disjoint = λ p q m n ep eq d. (let j = pages_is (map.get (out_of states) p) m ep in let k = pages_is (map.get (out_of states) q) n eq in
+            let at_p = ap order_of (state_out pages states lists p j.0 j.1) in
+            let at_q = ap order_of (state_out pages states lists q k.0 k.1) in
+            let jm = j.2 in let kn = k.2 in
+            elim (trichotomy p q) [
+              | inl e ↦ absurd (d e)
+              | inr (inl l) ↦ inl (let r = apart p q j.0 k.0 at_p at_q l in omega arith)
+              | inr (inr l) ↦ inr (let r = apart q p k.0 j.0 at_q at_p l in omega arith)
+            ]);
       };
     }
 
@@ -100,15 +107,15 @@ merged_of pages states lists free h = λ p k small f g. h.merged p k small (stat
 
 -- ---- the value that each step leaves
 
-pub pulled : (pages : ℕ) (states : List PageState) (lists lists' : Lists) (free x k : ℕ) (s : Layout) → IsLaid pages states lists free → IsFree (layout_of pages states lists) x k → lists' ≡ with_list lists k (without x (list_at lists k)) → layout_of pages states lists ≡ s
-    → layout_of pages (set states x (Out k)) lists' ≡ record s { free = set s.free k (without x (free_at s k)); out = map.insert s.out x k }
+pub pulled : (pages : ℕ) (states : List PageState) (lists lists' : Lists) (free x k : ℕ) (s : Layout) → IsLaid pages states lists free → IsFree (layout_of pages states lists) x k → lists' ≡ with_list lists k (delete x (list_at lists k)) → layout_of pages states lists ≡ s
+    → layout_of pages (set states x (Out k)) lists' ≡ record s { free = set s.free k (delete x (free_at s k)); out = map.insert s.out x k }
 pulled pages states lists lists' free x k s h held e view =
     let was = state_of_free pages states lists free x k h held in
     let inside = state_within states x (λ q. (let clash : Inside ≡ Free k = sym q ∙ was in cc)) in
     ap (λ l. layout_of pages (set states x (Out k)) l) e
-    ∙ ap (λ o. let r : Layout = record { pages = pages; free = set lists.lists k (without x (list_at lists k)); out = o } in r)
+    ∙ ap (λ o. let r : Layout = record { pages = pages; free = set lists.lists k (delete x (list_at lists k)); out = o } in r)
     (out_with states (set states x (Out k)) x k (state_same states x x (Out k) inside refl) (λ y n. ap out_order_of (state_other states x y (Out k) n)))
-    ∙ ap (λ (t : Layout). let r : Layout = record t { free = set t.free k (without x (free_at t k)); out = map.insert t.out x k } in r) view
+    ∙ ap (λ (t : Layout). let r : Layout = record t { free = set t.free k (delete x (free_at t k)); out = map.insert t.out x k } in r) view
 
 pub released : (pages : ℕ) (states : List PageState) (lists lists' : Lists) (x k : ℕ) (s : Layout) → IsOut (layout_of pages states lists) x k → lists' ≡ with_list lists k (x ∷ list_at lists k) → layout_of pages states lists ≡ s
     → layout_of pages (set states x (Free k)) lists' ≡ record s { free = set s.free k (x ∷ free_at s k); out = map.remove s.out x }
@@ -120,7 +127,8 @@ released pages states lists lists' x k s out e view =
     (out_without states (set states x (Free k)) x (ap out_order_of (state_same states x x (Free k) inside refl)) (λ y n. ap out_order_of (state_other states x y (Free k) n)))
     ∙ ap (λ (t : Layout). let r : Layout = record t { free = set t.free k (x ∷ free_at t k); out = map.remove t.out x } in r) view
 
-pub halved : (pages : ℕ) (states : List PageState) (lists lists' : Lists) (free x k u : ℕ) (s : Layout) → IsLaid pages states lists free → IsOut (layout_of pages states lists) x (k + 1) → u ≡ x + 2 ^ k → lists' ≡ with_list lists k (u ∷ list_at lists k) → layout_of pages states lists ≡ s
+pub halved : (pages : ℕ) (states : List PageState) (lists lists' : Lists) (free x k u : ℕ) (s : Layout) → IsLaid pages states lists free
+    → IsOut (layout_of pages states lists) x (k + 1) → u ≡ x + 2 ^ k → lists' ≡ with_list lists k (u ∷ list_at lists k) → layout_of pages states lists ≡ s
     → layout_of pages (set (set states x (Out k)) u (Free k)) lists' ≡ record s { free = set s.free k (u ∷ free_at s k); out = map.insert s.out x k }
 halved pages states lists lists' free x k u s h out ue e view =
     let was = state_out pages states lists x (k + 1) out in

@@ -2,10 +2,13 @@
 use Rattle.std.proofs.Common.{◌≡◌, ℕ, zero, suc, ◌+◌, ◌%◌, ◌^◌, ◌<◌, ◌≤◌, ◌⊎◌, inl, inr, [], refl, sym, ap, subst, ◌∙◌, arith}
 use Rattle.std.proofs.lemmas.Nat.{pow_pos}
 use Rattle.std.proofs.lemmas.Bool.{cases_eq}
-use Rattle.place_lists.specs.Lists.{times}
-use Rattle.span_lists.specs.Blocks.{buddy}
+use Rattle.common_lemmas.proofs.Orders.{lt_or_ge}
+use Rattle.common_lemmas.proofs.Orders.{lt_or_ge}
+use Rattle.common_lemmas.specs.Lists.{times}
+use Rattle.span_lists.specs.Buddies.{buddy}
 use Rattle.span_lists.specs.Layout.{Layout, free_at, IsFree, IsOut, Divides, IsMerged, HasNone, IsGreatest, IsBlocked}
-use Rattle.span_lists.proofs.Halves.{pow_twice, coarser, ends_aligned, nested, aligned_step, buddy_of_lower}
+use Rattle.common_lemmas.proofs.Powers.{pow_twice, coarser, ends_aligned, nested, aligned_step}
+use Rattle.span_lists.proofs.Halves.{buddy_of_lower}
 
 -- the page lies in a free span
 abbrev pub LiesFree : Layout → ℕ → Type 0
@@ -16,9 +19,6 @@ LiesOut s x = (p : ℕ) × (k : ℕ) × IsOut s p k × (p ≤ x) × (x < p + 2 ^
 
 abbrev LiesWhole : Layout → ℕ → ℕ → Type 0
 LiesWhole s b k = (q : ℕ) × (j : ℕ) × IsFree s q j × (k ≤ j) × (q ≤ b) × (b + 2 ^ k ≤ q + 2 ^ j)
-
-below_or : (a b : ℕ) → (a < b) ⊎ (b ≤ a)
-below_or a b = grind arith
 
 pub free_whole : (s : Layout) → Divides s → IsMerged s → (k b : ℕ) → k ≤ 16 → b % 2 ^ k ≡ 0 → ((x : ℕ) → b ≤ x → x < b + 2 ^ k → LiesFree s x) → LiesWhole s b k
 free_whole s divided merged zero b small aligned lies =
@@ -38,15 +38,15 @@ free_whole s divided merged (suc k) b small aligned lies =
     let high_k = high.3 in let high_l = high.4 in let high_u = high.5 in
     let low_span = divided.spans low.0 low.1 (inl low.2) in
     let high_span = divided.spans high.0 high.1 (inl high.2) in
-    elim (below_or k low.1) [
+    elim (lt_or_ge k low.1) [
       | inl longer ↦ (low.0, low.1, low.2, (omega arith), low_l, (let n = nested b low.0 (suc k) low.1 (omega arith) aligned low_span.1 (omega arith) in n))
-      | inr same ↦ elim (below_or k high.1) [
+      | inr same ↦ elim (lt_or_ge k high.1) [
         | inl longer ↦ (
           high.0,
           high.1,
           high.2,
           (omega arith),
-          (elim (below_or b high.0) [
+          (elim (lt_or_ge b high.0) [
             | inl after ↦ absurd (let n = aligned_step b high.0 (2 ^ suc k) (pow_pos (suc k)) aligned (coarser high.0 (suc k) high.1 (omega arith) high_span.1) after in omega (arith, n))
             | inr g ↦ g
           ]),

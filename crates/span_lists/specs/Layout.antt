@@ -3,8 +3,9 @@ use Rattle.std.specs.Prelude.{◌≡◌, ◌≢◌, ℕ, ◌+◌, ◌*◌, ◌/�
 use Rattle.std.specs.Ordering.{nat_cmp}
 use Rattle.std.specs.FinMap as map
 use Rattle.std.specs.Coded.{Coded, code_by, coded×, coded_ℕ, coded_list}
-use Rattle.place_lists.specs.Lists.{times, without}
-use Rattle.span_lists.specs.Blocks.{Blocks, buddy}
+use Rattle.common_lemmas.specs.Lists.{times, delete}
+use Rattle.layout.specs.Extents.{Blocks}
+use Rattle.span_lists.specs.Buddies.{buddy}
 
 -- free: the first pages of the free spans of each order, the span put there last in front. out: the order of each span that is out, by its first page
 pub record Layout : Type 0 where
@@ -72,7 +73,7 @@ pub record TakesFrom (old new : Layout) (order first : ℕ) : Type 0 where
   pub from_within : from < 17
   pub none_below : (k : ℕ) → order ≤ k → k < from → free_at old k ≡ []
   pub in_front : slice_get (free_at old from) 0 ≡ Some first
-  pub source : free_at new from ≡ without first (free_at old from)
+  pub source : free_at new from ≡ delete first (free_at old from)
   pub halves : (k : ℕ) → order ≤ k → k < from → free_at new k ≡ (first + 2 ^ k) ∷ []
   pub lower : (k : ℕ) → k < order → free_at new k ≡ free_at old k
   pub upper : (k : ℕ) → from < k → free_at new k ≡ free_at old k
@@ -87,7 +88,7 @@ pub record MergesInto (old new : Layout) (first order : ℕ) : Type 0 where
   pub to_order : order ≤ to
   pub to_within : to < 17
   pub merged : (k : ℕ) → order ≤ k → k < to → IsFree old (buddy (span_start first k) k) k
-  pub buddies : (k : ℕ) → order ≤ k → k < to → free_at new k ≡ without (buddy (span_start first k) k) (free_at old k)
+  pub buddies : (k : ℕ) → order ≤ k → k < to → free_at new k ≡ delete (buddy (span_start first k) k) (free_at old k)
   pub in_front : free_at new to ≡ span_start first to ∷ free_at old to
   pub lower : (k : ℕ) → k < order → free_at new k ≡ free_at old k
   pub upper : (k : ℕ) → to < k → free_at new k ≡ free_at old k

@@ -1,4 +1,4 @@
-pub mod Blocks
+pub mod Buddies
 pub mod Layout
 pub mod Pages
 pub mod Steps

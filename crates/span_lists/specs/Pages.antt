@@ -2,8 +2,9 @@
 use Rattle.std.specs.Prelude.{◌≡◌, ◌≢◌, ℕ, suc, ◌+◌, ◌<◌, ◌≤◌, ◌%◌, ◌^◌, ◌==◌, if◌then◌else◌, List, [], ◌∷◌, length, slice_index_or, Option, Some, None, sum_by}
 use Rattle.std.specs.Ordering.{nat_cmp}
 use Rattle.std.specs.FinMap as map
-use Rattle.place_lists.specs.Lists.{Lists, times}
-use Rattle.span_lists.specs.Blocks.{buddy}
+use Rattle.index_lists.specs.Lists.{Lists}
+use Rattle.common_lemmas.specs.Lists.{times}
+use Rattle.span_lists.specs.Buddies.{buddy}
 use Rattle.span_lists.specs.Layout.{pages_from}
 use Rattle.span_lists.specs.declared.spans.PageState.{PageState}
 use Rattle.span_lists.specs.declared.spans.PageState.TheVariants.{Inside, Free, Out}
@@ -60,7 +61,7 @@ pub record IsCut (pages : ℕ) (at : ℕ → Option ℕ) : Type 0 where
 pub record IsLaid (pages : ℕ) (states : List PageState) (lists : Lists) (free : ℕ) : Type 0 where
   pub small : pages ≤ 65536
   pub states_len : length states ≡ pages
-  pub places : lists.places ≡ pages
+  pub indices : lists.indices ≡ pages
   pub orders : length lists.lists ≡ 17
   pub cut : IsCut pages (λ x. order_of (state_at states x))
   pub listed : (k x : ℕ) → k < 17 → times x (slice_index_or lists.lists k []) ≡ mark k (state_at states x)

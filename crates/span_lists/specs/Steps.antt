@@ -1,8 +1,8 @@
 -- What the spans have become part of the way through a request, and part of the way through giving a span back.
 use Rattle.std.specs.Prelude.{◌≡◌, ℕ, ◌+◌, ◌<◌, ◌≤◌, ◌^◌, ◌∷◌, None}
 use Rattle.std.specs.FinMap as map
-use Rattle.place_lists.specs.Lists.{without}
-use Rattle.span_lists.specs.Blocks.{buddy}
+use Rattle.common_lemmas.specs.Lists.{delete}
+use Rattle.span_lists.specs.Buddies.{buddy}
 use Rattle.span_lists.specs.Layout.{Layout, free_at, IsFree, Divides, IsMerged, span_start}
 
 -- a span that was out with the order `from` has been halved down to the order `at`
@@ -24,7 +24,7 @@ pub record IsMergedTo (old now : Layout) (first order at to : ℕ) : Type 0 wher
   pub out : now.out ≡ map.insert (map.remove old.out first) at to
   pub none : map.get (map.remove old.out first) at ≡ None
   pub joined : (k : ℕ) → order ≤ k → k < to → IsFree old (buddy (span_start first k) k) k
-  pub buddies : (k : ℕ) → order ≤ k → k < to → free_at now k ≡ without (buddy (span_start first k) k) (free_at old k)
+  pub buddies : (k : ℕ) → order ≤ k → k < to → free_at now k ≡ delete (buddy (span_start first k) k) (free_at old k)
   pub lower : (k : ℕ) → k < order → free_at now k ≡ free_at old k
   pub upper : (k : ℕ) → to ≤ k → free_at now k ≡ free_at old k
   pub divided : Divides now

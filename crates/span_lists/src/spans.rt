@@ -26,8 +26,8 @@ ghost use Rattle.std.specs.Prelude.{
 };
 ghost use Rattle.std.specs.Ordering.{nat_cmp};
 ghost use Rattle.std.specs.FinMap as map;
-ghost use Rattle.place_lists.specs.Lists.{times, without};
-ghost use Rattle.span_lists.specs.Blocks.{buddy};
+ghost use Rattle.common_lemmas.specs.Lists.{times, delete};
+ghost use Rattle.span_lists.specs.Buddies.{buddy};
 ghost use Rattle.span_lists.specs.Layout.{
   Layout,
   free_at,
@@ -47,7 +47,7 @@ ghost use Rattle.span_lists.specs.Layout.{
 };
 ghost use Rattle.span_lists.specs.Steps.{IsHalvedTo, IsMergedTo};
 
-use place_lists::PlaceLists;
+use index_lists::IndexLists;
 use std::alloc::{AllocError, Global};
 use std::marker::Model;
 
@@ -67,7 +67,7 @@ pub enum PageState {
 pub struct Spans {
     pages: u32,
     states: Vec<PageState>,
-    lists: PlaceLists,
+    lists: IndexLists,
     free: u32,
 }
 
@@ -104,6 +104,15 @@ impl Spans {
         Ok(spans)
     }
 
+    /// What holds of the spans at each time.
+    pub fn facts(&self)
+        ensures divided { Divides self.now }
+        ensures merged { IsMerged self.now }
+        ensures blocked { (order : ℕ) → order ≤ 16 → HasNone self.now order → IsBlocked self.now order }
+    {
+        let _ = &self.states;
+    }
+
     /// Takes a span of the order out, and answers its first page.
     pub fn take(&mut self, order: u8) -> Option<u32>
         requires { order ≤ 16 }
@@ -132,7 +141,7 @@ impl Spans {
         ensures divided { Divides self.new }
         ensures merged { IsMerged self.new }
     {
-        let _open = &self.states;
+        self.facts();
         let (at, to) = self.merge(first, order);
         self.release(at, to);
     }
@@ -147,7 +156,7 @@ impl Spans {
         let mut above = GREATEST_ORDER + 1;
         while above > 0 {
             let order = above - 1;
-            if self.lists.first(order as u32).is_some() {
+            if self.lists.front(order as u32).is_some() {
                 return Some(order);
             }
             above = order;
@@ -173,7 +182,7 @@ impl Spans {
         ensures merged { IfOk result IsMerged }
     {
         let states = single_pages(alloc, pages)?;
-        let lists = PlaceLists::new(alloc, pages, GREATEST_ORDER as u32 + 1)?;
+        let lists = IndexLists::new(alloc, pages, GREATEST_ORDER as u32 + 1)?;
         Ok(Spans {
             pages,
             states,
@@ -187,7 +196,7 @@ impl Spans {
         requires order { order < 17 }
         requires free { IsFree self.old first order }
         ensures moves { self.new ≡ record self.old {
-          free = slice_set self.old.free order (without first (free_at self.old order));
+          free = slice_set self.old.free order (delete first (free_at self.old order));
           out = map.insert self.old.out first order;
         } }
         ensures was_free { map.get self.old.out first ≡ None }
@@ -211,7 +220,7 @@ impl Spans {
         ensures divided { Divides self.new }
         ensures merged { IsMerged self.new }
     {
-        self.lists.push(order as u32, first);
+        self.lists.push_front(order as u32, first);
         self.states[first as usize] = PageState::Free(order);
         self.free += span_pages(order);
     }
@@ -226,9 +235,9 @@ impl Spans {
         ensures divided { Divides self.new }
         ensures merged { IsMerged self.new }
     {
-        let _open = &self.states;
+        self.facts();
         let upper = first + span_pages(order);
-        self.lists.push(order as u32, upper);
+        self.lists.push_front(order as u32, upper);
         self.states[first as usize] = PageState::Out(order);
         self.states[upper as usize] = PageState::Free(order);
         self.free += span_pages(order);
@@ -261,7 +270,7 @@ impl Spans {
         requires buddy { IsFree self.old (buddy first order) order }
         ensures first { result ≡ span_start first (order + 1) }
         ensures moves { self.new ≡ record self.old {
-          free = slice_set self.old.free order (without (buddy first order) (free_at self.old order));
+          free = slice_set self.old.free order (delete (buddy first order) (free_at self.old order));
           out = map.insert (map.remove self.old.out first) result (order + 1);
         } }
         ensures was_free { map.get self.old.out (buddy first order) ≡ None }
@@ -294,7 +303,7 @@ impl Spans {
         ensures merged { IsMerged self.now }
     {
         for from in order..=GREATEST_ORDER {
-            if let Some(first) = self.lists.first(from as u32) {
+            if let Some(first) = self.lists.front(from as u32) {
                 return Some((first, from));
             }
         }

@@ -1,7 +1,7 @@
 ghost use Rattle.std.specs.Prelude.{◌≡◌, ◌<◌, OnOk, IfOk};
 ghost use Rattle.std.specs.FinMap as map;
 ghost use Rattle.small_pools.specs.Objects.{AreHeldIn};
-ghost use Rattle.small_pools.specs.Given.{AreOut};
+ghost use Rattle.small_pools.specs.inside.Given.{AreOut};
 
 use super::*;
 use crate::class_of;

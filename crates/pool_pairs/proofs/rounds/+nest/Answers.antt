@@ -1,7 +1,7 @@
 -- The object that was taken is out until it is put back.
 use Rattle.std.proofs.Common.{ap, ◌∙◌}
 use Rattle.std.specs.FinMap as map
-use Rattle.pool_pairs.proofs.Taken.{inserted_is_some, remove-insert}
+use Rattle.common_lemmas.proofs.Maps.{inserted_is_some, remove-insert}
 use Rattle.pool_pairs.proofs.rounds.+nest.Goals as goal
 
 pub put-requires : goal.put-requires

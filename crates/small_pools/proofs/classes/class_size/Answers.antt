@@ -1,16 +1,11 @@
-use Rattle.std.proofs.Common.{◌≡◌, ◌≤◌, sym, subst, ap, ◌∙◌, arith, refl}
+use Rattle.std.proofs.Common.{refl}
 use Rattle.small_pools.specs.Classes.{size_of}
-use Rattle.small_pools.proofs.ClassFacts.{sound}
+use Rattle.small_pools.proofs.ClassFacts.{is_class}
 use Rattle.small_pools.proofs.classes.class_size.Goals as goal
 
 pub returns-clause-value : goal.returns-clause-value
 unfolding size_of
 returns-clause-value c = refl
 
-pub returns-clause-least : goal.returns-clause-least
-unfolding size_of
-returns-clause-least c = (sound c.args.class c.requires).size_least
-
-pub returns-clause-most : goal.returns-clause-most
-unfolding size_of
-returns-clause-most c = (sound c.args.class c.requires).size_most
+pub returns-clause-bounds : goal.returns-clause-bounds
+returns-clause-bounds c = is_class c.args.class c.requires

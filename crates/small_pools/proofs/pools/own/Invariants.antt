@@ -2,4 +2,7 @@ use Rattle.std.proofs.Common.{◌≡◌, ◌+◌, ◌<◌, ◌≤◌, ◌⊎◌,
 use Rattle.small_pools.proofs.pools.own.Given as goal
 
 abbrev pub invariant-loop-page : goal.invariant-loop-page
-invariant-loop-page l = ((x : ℕ) → l.first ≤ x → x < l.page → get_or l.firsts x 0 ≡ l.first) × ((x : ℕ) → (x < l.first) ⊎ (l.page ≤ x) → get_or l.firsts x 0 ≡ get_or l.fn.firsts x 0)
+invariant-loop-page l =
+    (length l.firsts.items ≡ length l.fn.firsts.items)
+    × ((x : ℕ) → l.first ≤ x → x < l.page → get_or l.firsts.items x 0 ≡ l.first)
+    × ((x : ℕ) → (x < l.first) ⊎ (l.page ≤ x) → get_or l.firsts.items x 0 ≡ get_or l.fn.firsts.items x 0)

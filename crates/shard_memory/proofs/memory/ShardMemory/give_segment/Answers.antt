@@ -1,38 +1,39 @@
 use Rattle.std.proofs.Common.{◌≡◌, ◌+◌, ◌*◌, ◌/◌, ◌%◌, ◌≤◌, ◌∷◌, true, false, inr, Option, Some, None, IfNone, refl, sym, ap, subst, ◌∙◌, arith}
 use Rattle.std.specs.FinMap as map
 use Rattle.std.specs.Prelude.{Contains}
-use Rattle.raw_range.specs.Places.{Place, place, Apart, AreBlocks}
-use Rattle.raw_range.specs.Memory.{Memory, Lent, place_of}
+use Rattle.layout.specs.Extents.{Extent, extent, Disjoint, AreDisjoint}
+use Rattle.raw_range.specs.Memory.{Memory, Lent, extent_of}
 use Rattle.span_lists.specs.Layout.{HasNone}
-use Rattle.span_lists.proofs.Outs.{get_inserted}
-use Rattle.shard_memory.specs.Shards.{Shard, Together, IsTrimmed, segments_out, blocks_out}
-use Rattle.shard_memory.proofs.Lists.{all_of, has_first, few_pieces, page_of_start, whole_start}
+use Rattle.common_lemmas.proofs.Maps.{get_inserted}
+use Rattle.shard_memory.specs.Shards.{Shard, IsConsistent, IsTrimmed, segments_out, blocks_out}
+use Rattle.shard_memory.proofs.Lists.{all_of, has_first, few_pieces, one_segment_more, page_of_start, whole_start}
 use Rattle.shard_memory.proofs.Counts.{pieces_enough}
 use Rattle.shard_memory.proofs.Steps.{inside_pages, apart_from_span, gave_segment}
 use Rattle.shard_memory.proofs.memory.ShardMemory.give_segment.Goals as goal
 
 pub take-requires-2-clause-inside : goal.take-requires-2-clause-inside
 take-requires-2-clause-inside c =
-    (let i = inside_pages c.self.inside.range.pages c.self.inside.range.out c.self.inside.spans c.take.new.self c.self.inside.pools c.in_ok-first.first 5 c.self.invariant.1 c.in_ok-first.ensures.out c.in_ok-first.ensures.pages c.in_ok-first.ensures.divided in
+    (let i = inside_pages c.self.inside.range.pages c.self.inside.range.allocated c.self.inside.spans c.take.new.self c.self.inside.pools c.in_ok-first.first 5 c.self.invariant.1 c.in_ok-first.ensures.out c.in_ok-first.ensures.pages c.in_ok-first.ensures.divided in
     omega (arith, i))
 
 pub overflow_mul-first : goal.overflow_mul-first
 overflow_mul-first c = (let i = take-requires-2-clause-inside c in let m = c.self.invariant.1.most in omega (arith, i, m))
 
-pub take-requires-2-clause-apart : goal.take-requires-2-clause-apart
-take-requires-2-clause-apart c =
-    all_of (Apart (place (4096 * c.in_ok-first.first) 131072)) c.self.inside.range.out
-    (apart_from_span c.self.inside.range.pages c.self.inside.range.out c.self.inside.spans c.take.new.self c.self.inside.pools c.in_ok-first.first 5 c.self.invariant.1 c.in_ok-first.ensures.was_free c.in_ok-first.ensures.out c.in_ok-first.ensures.divided)
+pub take-requires-2-clause-disjoint : goal.take-requires-2-clause-disjoint
+take-requires-2-clause-disjoint c =
+    all_of (Disjoint (extent (4096 * c.in_ok-first.first) 131072)) c.self.inside.range.allocated
+    (apart_from_span c.self.inside.range.pages c.self.inside.range.allocated c.self.inside.spans c.take.new.self c.self.inside.pools c.in_ok-first.first 5 c.self.invariant.1 c.in_ok-first.ensures.was_free c.in_ok-first.ensures.out c.in_ok-first.ensures.divided)
 
 pub take-requires-2-clause-few : goal.take-requires-2-clause-few
-take-requires-2-clause-few c = few_pieces c.self.inside.range.pages c.self.inside.range.out c.self.invariant.1.most c.self.invariant.1.blocks c.self.invariant.1.few
+take-requires-2-clause-few c = few_pieces c.self.inside.range.pages c.self.inside.range.allocated c.self.invariant.1.most c.self.invariant.1.blocks c.self.invariant.1.few
 
 pub invariant_of-self-2 : goal.invariant_of-self-2
 invariant_of-self-2 c = (
-  c.self.invariant.0 ∙ sym (ap (λ (m : Memory). m.pages) c.take-2.ensures.out),
-  subst (λ (m : Memory). Together m.pages m.out c.take.new.self c.self.inside.pools) (sym c.take-2.ensures.out)
-      (gave_segment c.self.inside.range.pages c.self.inside.range.out c.self.inside.spans c.take.new.self c.self.inside.pools c.in_ok-first.first c.self.invariant.1 c.in_ok-first.ensures.was_free c.in_ok-first.ensures.out c.in_ok-first.ensures.pages c.in_ok-first.ensures.divided c.in_ok-first.ensures.merged
-      (subst (λ (m : Memory). AreBlocks (4096 * m.pages) m.out) c.take-2.ensures.out c.take-2.ensures.blocks)),
+  c.self.invariant.0 ∙ sym (ap (λ (m : Memory). m.pages) c.take-2.ensures.allocated),
+  subst (λ (m : Memory). IsConsistent m.pages m.allocated c.take.new.self c.self.inside.pools) (sym c.take-2.ensures.allocated)
+      (gave_segment c.self.inside.range.pages c.self.inside.range.allocated c.self.inside.spans c.take.new.self c.self.inside.pools c.in_ok-first.first
+      c.self.invariant.1 c.in_ok-first.ensures.was_free c.in_ok-first.ensures.out c.in_ok-first.ensures.pages c.in_ok-first.ensures.divided c.in_ok-first.ensures.merged
+      (subst (λ (m : Memory). AreDisjoint (4096 * m.pages) m.allocated) c.take-2.ensures.allocated c.take-2.ensures.blocks)),
 )
 
 pub returns-clause-none : goal.returns-clause-none
@@ -40,33 +41,37 @@ returns-clause-none c = (λ e. absurd (let clash : true ≡ false = e in cc), λ
 
 pub returns-clause-whole : goal.returns-clause-whole
 returns-clause-whole c =
-    (let at = ap (λ (p : Place). p.at) c.take-2.ensures.place in
+    (let at = ap (λ (p : Extent). p.start) c.take-2.ensures.extent in
     let s = (c.in_ok-first.ensures.divided.spans c.in_ok-first.first 5 (inr (ap (λ m. map.get m c.in_ok-first.first) c.in_ok-first.ensures.out ∙ get_inserted c.self.inside.spans.out c.in_ok-first.first 5 c.in_ok-first.first refl))).1 in
-    (ap (λ (p : Place). p.len) c.take-2.ensures.place, ap (λ z. z % 131072) at ∙ whole_start c.in_ok-first.first s))
+    (ap (λ (p : Extent). p.len) c.take-2.ensures.extent, ap (λ z. z % 131072) at ∙ whole_start c.in_ok-first.first s))
 
 pub returns-clause-spans : goal.returns-clause-spans
 returns-clause-spans c =
-    (let at = ap (λ (p : Place). p.at) c.take-2.ensures.place in
+    (let at = ap (λ (p : Extent). p.start) c.take-2.ensures.extent in
     subst (λ (s : Shard). c.take.new.self.out ≡ map.insert s.spans.out (c.take-2.result.at / 4096) 5) c.self.view_is
     (c.in_ok-first.ensures.out ∙ ap (λ z. map.insert c.self.inside.spans.out z 5) (sym (ap (λ z. z / 4096) at ∙ page_of_start c.in_ok-first.first))))
-
-pub returns-clause-together : goal.returns-clause-together
-returns-clause-together c = (invariant_of-self-2 c).1
 
 if_none : (o : Option Lent) (A : Type 0) → A → IfNone o A
 if_none None A a = a
 if_none (Some x) A a = tt
 
-pub returns-in_err-first-clause-enough_out : goal.returns-in_err-first-clause-enough_out
-returns-in_err-first-clause-enough_out c =
+pub returns-in_err-first-clause-crowded : goal.returns-in_err-first-clause-crowded
+returns-in_err-first-clause-crowded c =
     if_none c.from_residual.result (IsTrimmed c.args.self.now → c.args.self.now.pages / 32 ≤ segments_out c.args.self.now.out + blocks_out c.args.self.now.out)
     (subst (λ (s : Shard). IsTrimmed s → s.pages / 32 ≤ segments_out s.out + blocks_out s.out) c.self.view_is
-    (λ trimmed. pieces_enough c.self.inside.range.pages c.self.inside.range.out c.self.inside.spans c.self.inside.pools c.self.invariant.1 c.in_err-first.ensures.blocked trimmed))
+    (λ trimmed. pieces_enough c.self.inside.range.pages c.self.inside.range.allocated c.self.inside.spans c.self.inside.pools c.self.invariant.1 c.in_err-first.ensures.blocked trimmed))
 
 pub returns-clause-given : goal.returns-clause-given
 returns-clause-given c =
-    (let p = place (4096 * c.in_ok-first.first) 131072 in (
-      ap (λ (l : Lent). l.home) c.take-2.ensures.piece ∙ sym (ap (λ (m : Memory). m.home) c.take-2.ensures.out),
-      subst (λ (m : Memory). Contains m.out (place_of c.take-2.result)) (sym c.take-2.ensures.out) (subst (λ q. Contains (p ∷ c.self.inside.range.out) q) (sym c.take-2.ensures.place) (has_first p c.self.inside.range.out)),
-      ap (λ (q : Place). q.len) c.take-2.ensures.place,
+    (let p = extent (4096 * c.in_ok-first.first) 131072 in (
+      ap (λ (l : Lent). l.home) c.take-2.ensures.piece ∙ sym (ap (λ (m : Memory). m.home) c.take-2.ensures.allocated),
+      subst (λ (m : Memory). Contains m.allocated (extent_of c.take-2.result)) (sym c.take-2.ensures.allocated) (subst (λ q. Contains (p ∷ c.self.inside.range.allocated) q) (sym c.take-2.ensures.extent) (has_first p c.self.inside.range.allocated)),
+      ap (λ (q : Extent). q.len) c.take-2.ensures.extent,
     ))
+
+pub returns-clause-one_more : goal.returns-clause-one_more
+returns-clause-one_more c =
+    (let p = extent (4096 * c.in_ok-first.first) 131072 in
+    subst (λ (s : Shard). segments_out c.take-2.new.self.allocated ≡ segments_out s.out + 1) c.self.view_is
+    (subst (λ (m : Memory). segments_out m.allocated ≡ segments_out c.self.inside.range.allocated + 1) (sym c.take-2.ensures.allocated)
+    (one_segment_more c.self.inside.range.allocated p refl)))

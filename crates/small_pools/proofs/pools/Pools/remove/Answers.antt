@@ -1,39 +1,39 @@
-use Rattle.std.proofs.Common.{◌≡◌, ◌≢◌, ◌+◌, ◌-◌, ◌*◌, ◌/◌, ◌^◌, ◌<◌, ◌≤◌, ◌++◌, ◌∷◌, [], ℕ, List, Option, Some, None, IsSome, IsNone, length, set, get_or, refl, sym, subst, ap, ◌∙◌, arith}
+use Rattle.std.proofs.Common.{◌≡◌, refl, sym, ap, subst, ◌∙◌, arith}
 use Rattle.std.specs.FinMap as map
-use Rattle.place_lists.specs.Lists.{times, list_at}
-use Rattle.small_pools.specs.Classes.{size_of, order_of, capacity_of}
-use Rattle.small_pools.specs.Objects.{Objects, slot_place, IsHeld, HasObject, HasRoom, AreObjects}
-use Rattle.small_pools.specs.Slots.{class_at, free_slots, object_at, map_below, IsStored, stands_on, list_of}
-use Rattle.small_pools.proofs.ClassFacts.{sound}
-use Rattle.small_pools.proofs.Places.{slot_within, slot_back}
-use Rattle.small_pools.proofs.Stored.{objects_of, are_objects}
-use Rattle.small_pools.proofs.Steps.{IsRelisted, held_facts, some_free, on_its_list, popped, out_facts, room_to_push, pushed, dropped, not_listed}
-use Rattle.std.proofs.lemmas.List.{get_or_read}
+use Rattle.small_pools.specs.Objects.{Objects}
+use Rattle.small_pools.proofs.Tables.{are_objects}
+use Rattle.small_pools.proofs.Steps.{same_fields, held_at, stands_by_mask, dropped}
 use Rattle.small_pools.proofs.pools.Pools.remove.Goals as goal
 
-pub index-requires : goal.index-requires
-index-requires c = (let f = (held_facts c.self.inside.pages c.self.inside.classes.items c.self.inside.firsts.items c.self.inside.slots.items c.self.inside.lists c.args.first c.args.class c.self.invariant (subst (λ s. IsHeld s c.args.first c.args.class) (sym c.self.view_is) c.requires.held)).1 in let l = c.self.invariant.free_len in omega arith)
-
-pub index_mut-requires : goal.index_mut-requires
-index_mut-requires c = (let f = (held_facts c.self.inside.pages c.self.inside.classes.items c.self.inside.firsts.items c.self.inside.slots.items c.self.inside.lists c.args.first c.args.class c.self.invariant (subst (λ s. IsHeld s c.args.first c.args.class) (sym c.self.view_is) c.requires.held)).1 in let l = c.self.invariant.classes_len in omega arith)
+pub index-mask-requires : goal.index-mask-requires
+index-mask-requires c = (let inside = (held_at c.self.invariant c.self.view_is c.args.first c.args.class c.requires.held).in_masks in omega arith)
 
 pub list_for-requires : goal.list_for-requires
-list_for-requires c = (held_facts c.self.inside.pages c.self.inside.classes.items c.self.inside.firsts.items c.self.inside.slots.items c.self.inside.lists c.args.first c.args.class c.self.invariant (subst (λ s. IsHeld s c.args.first c.args.class) (sym c.self.view_is) c.requires.held)).0
+list_for-requires c = (held_at c.self.invariant c.self.view_is c.args.first c.args.class c.requires.held).class.within
 
-pub relist-requires-clause-place : goal.relist-requires-clause-place
-relist-requires-clause-place c = (let f = (held_facts c.self.inside.pages c.self.inside.classes.items c.self.inside.firsts.items c.self.inside.slots.items c.self.inside.lists c.args.first c.args.class c.self.invariant (subst (λ s. IsHeld s c.args.first c.args.class) (sym c.self.view_is) c.requires.held)).1 in let l = c.self.invariant.places in omega arith)
+pub relist-requires-clause-index : goal.relist-requires-clause-index
+relist-requires-clause-index c = (held_at c.self.invariant c.self.view_is c.args.first c.args.class c.requires.held).in_lists
 
 pub relist-requires-clause-stands : goal.relist-requires-clause-stands
-relist-requires-clause-stands c = on_its_list c.self.inside.pages c.self.inside.classes.items c.self.inside.firsts.items c.self.inside.slots.items c.self.inside.lists c.args.first c.args.class c.len-free.result c.index.result.now c.list_for.result c.self.invariant (held_facts c.self.inside.pages c.self.inside.classes.items c.self.inside.firsts.items c.self.inside.slots.items c.self.inside.lists c.args.first c.args.class c.self.invariant (subst (λ s. IsHeld s c.args.first c.args.class) (sym c.self.view_is) c.requires.held)).2 c.index.ensures c.len-free.ensures.value c.list_for.ensures.value
+relist-requires-clause-stands c =
+    let span = held_at c.self.invariant c.self.view_is c.args.first c.args.class c.requires.held in
+    stands_by_mask c.self.invariant c.args.first c.args.class c.index-mask.result.now c.list_for.result span c.index-mask.ensures c.list_for.ensures.value
+
+pub index_mut-requires : goal.index_mut-requires
+index_mut-requires c = (let inside = (held_at c.self.invariant c.self.view_is c.args.first c.args.class c.requires.held).in_classes in omega arith)
 
 pub invariant_of-self : goal.invariant_of-self
-invariant_of-self c = (dropped c.self.inside.pages c.self.inside.classes.items c.self.inside.firsts.items c.self.inside.slots.items c.self.inside.lists c.relist.new.lists c.args.first c.args.class c.self.invariant (held_facts c.self.inside.pages c.self.inside.classes.items c.self.inside.firsts.items c.self.inside.slots.items c.self.inside.lists c.args.first c.args.class c.self.invariant (subst (λ s. IsHeld s c.args.first c.args.class) (sym c.self.view_is) c.requires.held)).2 (subst (λ s. ¬ HasObject s c.args.first c.args.class) (sym c.self.view_is) c.requires.empty) (let r : IsRelisted c.self.inside.lists c.relist.new.lists c.args.first None = record { stands = c.relist.ensures.stands; others = c.relist.ensures.others; places = c.relist.ensures.places; lists = c.relist.ensures.lists } in r)).0
+invariant_of-self c =
+    let span = held_at c.self.invariant c.self.view_is c.args.first c.args.class c.requires.held in
+    (dropped c.self.invariant c.self.view_is c.args.first c.args.class c.relist.new.lists span c.requires.unused
+    (record { stands = c.relist.ensures.stands; others = c.relist.ensures.others; indices = c.relist.ensures.indices; lists = c.relist.ensures.lists })).consistent
 
 pub returns-clause-moves : goal.returns-clause-moves
 returns-clause-moves c =
-    ap (λ o. let r : Objects = record { pages = c.self.inside.pages; held = map_below c.self.inside.pages (class_at (set c.self.inside.classes.items c.args.first None)); out = o } in r) (dropped c.self.inside.pages c.self.inside.classes.items c.self.inside.firsts.items c.self.inside.slots.items c.self.inside.lists c.relist.new.lists c.args.first c.args.class c.self.invariant (held_facts c.self.inside.pages c.self.inside.classes.items c.self.inside.firsts.items c.self.inside.slots.items c.self.inside.lists c.args.first c.args.class c.self.invariant (subst (λ s. IsHeld s c.args.first c.args.class) (sym c.self.view_is) c.requires.held)).2 (subst (λ s. ¬ HasObject s c.args.first c.args.class) (sym c.self.view_is) c.requires.empty) (let r : IsRelisted c.self.inside.lists c.relist.new.lists c.args.first None = record { stands = c.relist.ensures.stands; others = c.relist.ensures.others; places = c.relist.ensures.places; lists = c.relist.ensures.lists } in r)).1
-    ∙ ap (λ m. let r : Objects = record { pages = c.self.inside.pages; held = m; out = map_below (4096 * c.self.inside.pages) (object_at c.self.inside.classes.items c.self.inside.firsts.items c.self.inside.slots.items) } in r) (dropped c.self.inside.pages c.self.inside.classes.items c.self.inside.firsts.items c.self.inside.slots.items c.self.inside.lists c.relist.new.lists c.args.first c.args.class c.self.invariant (held_facts c.self.inside.pages c.self.inside.classes.items c.self.inside.firsts.items c.self.inside.slots.items c.self.inside.lists c.args.first c.args.class c.self.invariant (subst (λ s. IsHeld s c.args.first c.args.class) (sym c.self.view_is) c.requires.held)).2 (subst (λ s. ¬ HasObject s c.args.first c.args.class) (sym c.self.view_is) c.requires.empty) (let r : IsRelisted c.self.inside.lists c.relist.new.lists c.args.first None = record { stands = c.relist.ensures.stands; others = c.relist.ensures.others; places = c.relist.ensures.places; lists = c.relist.ensures.lists } in r)).2
-    ∙ ap (λ (s : Objects). let r : Objects = record s { held = map.remove s.held c.args.first } in r) c.self.view_is
+    let span = held_at c.self.invariant c.self.view_is c.args.first c.args.class c.requires.held in
+    let step = dropped c.self.invariant c.self.view_is c.args.first c.args.class c.relist.new.lists span c.requires.unused
+    (record { stands = c.relist.ensures.stands; others = c.relist.ensures.others; indices = c.relist.ensures.indices; lists = c.relist.ensures.lists }) in
+    same_fields _ _ (ap (λ (s : Objects). s.pages) c.self.view_is) (step.held ∙ ap (λ (s : Objects). map.remove s.held c.args.first) c.self.view_is) (step.out ∙ ap (λ (s : Objects). s.out) c.self.view_is)
 
 pub returns-clause-objects : goal.returns-clause-objects
-returns-clause-objects c = are_objects _ _ _ _ _ (invariant_of-self c)
+returns-clause-objects c = are_objects (invariant_of-self c)

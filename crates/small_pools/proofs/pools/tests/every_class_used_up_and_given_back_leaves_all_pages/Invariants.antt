@@ -1,5 +1,5 @@
 use Rattle.small_pools.specs.Objects.{AreHeldIn}
-use Rattle.small_pools.specs.Given.{AreOut}
+use Rattle.small_pools.specs.inside.Given.{AreOut}
 use Rattle.small_pools.proofs.pools.tests.every_class_used_up_and_given_back_leaves_all_pages.Given as goal
 
 abbrev pub invariant-loop-class : goal.invariant-loop-class

@@ -1,6 +1,6 @@
 use Rattle.std.proofs.Common.{length}
 use Rattle.small_pools.specs.Objects.{AreHeldIn}
-use Rattle.small_pools.specs.Given.{AreOut}
+use Rattle.small_pools.specs.inside.Given.{AreOut}
 use Rattle.small_pools.proofs.pools.tests.give_all.Given as goal
 
 abbrev pub invariant-loop-place : goal.invariant-loop-place

@@ -2,8 +2,8 @@ use Rattle.std.proofs.Common.{◌≡◌, ℕ, List, ◌∷◌, [], Option, Some,
 use Rattle.std.proofs.lemmas.Bool.{cases_eq}
 use Rattle.std.specs.Ordering.{nat_cmp}
 use Rattle.std.specs.FinMap as map
-use Rattle.span_lists.proofs.Outs.{maps_same, get_inserted, get_past_insert, get_removed, get_past_remove}
-use Rattle.small_pools.specs.Given.{AreOut}
+use Rattle.common_lemmas.proofs.Maps.{maps_same, get_inserted, get_past_insert, get_removed, get_past_remove}
+use Rattle.small_pools.specs.inside.Given.{AreOut}
 use Rattle.small_pools.proofs.pools.tests.take_many.Goals as goal
 
 out_more : (m m' : map.FinMap nat_cmp ℕ) (p n : ℕ) (xs ys : List ℕ) → map.get m p ≡ None → m' ≡ map.insert m p n → ys ≡ p ∷ xs → AreOut m xs → AreOut m' ys

@@ -1,5 +1,5 @@
 use Rattle.small_pools.specs.Objects.{AreHeldIn}
-use Rattle.small_pools.specs.Given.{AreOut}
+use Rattle.small_pools.specs.inside.Given.{AreOut}
 use Rattle.small_pools.proofs.pools.tests.take_many.Given as goal
 
 abbrev pub invariant-loop-count : goal.invariant-loop-count

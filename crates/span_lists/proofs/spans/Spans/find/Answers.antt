@@ -16,13 +16,13 @@ returns-in-Some-clause-found c =
       from_order = c.loop-from.auto.from;
       from_within = (let t = c.loop-from-test.true in omega arith);
       none_below = c.loop-from.invariant;
-      in_front = sym c.first.ensures ∙ c.in-Some.is;
+      in_front = sym c.front.ensures ∙ c.in-Some.is;
     })
 
 pub loop-from-preserved : goal.loop-from-preserved
 loop-from-preserved c = λ k low high.
     elim (cases_eq k c.loop-from.from) [
-      | inl e ↦ ap (λ z. get_or c.self.inside.lists.lists z []) e ∙ nil_of_get (get_or c.self.inside.lists.lists c.loop-from.from []) (sym c.in_default.is ∙ c.first.ensures)
+      | inl e ↦ ap (λ z. get_or c.self.inside.lists.lists z []) e ∙ nil_of_get (get_or c.self.inside.lists.lists c.loop-from.from []) (sym c.in_default.is ∙ c.front.ensures)
       | inr n ↦ c.loop-from.invariant k low (omega arith)
     ]
 

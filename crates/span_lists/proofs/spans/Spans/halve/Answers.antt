@@ -2,7 +2,7 @@ use Rattle.std.proofs.Common.{◌+◌, set, ◌∷◌, sym, subst, ap, ◌∙◌
 use Rattle.std.proofs.lemmas.Nat.{pow_pos}
 use Rattle.std.specs.FinMap as map
 use Rattle.span_lists.specs.Layout.{Layout, IsOut, free_at}
-use Rattle.span_lists.proofs.Halves.{pow_twice}
+use Rattle.common_lemmas.proofs.Powers.{pow_twice}
 use Rattle.span_lists.proofs.Laid.{laid_halve}
 use Rattle.span_lists.proofs.Views.{halved, divides_of, merged_of, state_out}
 use Rattle.span_lists.proofs.spans.Spans.halve.Goals as goal
@@ -28,22 +28,22 @@ overflow_add-upper c =
     let within = after.0 in let two = pow_twice c.args.order in let small = c.self.invariant.small in let len = c.span_pages.ensures.value in
     omega arith
 
-pub push-requires-clause-list : goal.push-requires-clause-list
-push-requires-clause-list c =
+pub push_front-requires-clause-list : goal.push_front-requires-clause-list
+push_front-requires-clause-list c =
     let was = state_out c.self.inside.pages c.self.inside.states.items c.self.inside.lists c.args.first (c.args.order + 1) (subst (λ s. IsOut s c.args.first (c.args.order + 1)) (sym c.self.view_is) c.requires) in
     let after = laid_halve c.self.inside.pages c.self.inside.states.items c.self.inside.lists c.self.inside.free c.args.first c.args.order c.self.invariant was in
     let order = after.1 in let o = c.self.invariant.orders in
     omega arith
 
-pub push-requires-clause-place : goal.push-requires-clause-place
-push-requires-clause-place c =
+pub push_front-requires-clause-index : goal.push_front-requires-clause-index
+push_front-requires-clause-index c =
     let was = state_out c.self.inside.pages c.self.inside.states.items c.self.inside.lists c.args.first (c.args.order + 1) (subst (λ s. IsOut s c.args.first (c.args.order + 1)) (sym c.self.view_is) c.requires) in
     let after = laid_halve c.self.inside.pages c.self.inside.states.items c.self.inside.lists c.self.inside.free c.args.first c.args.order c.self.invariant was in
-    let within = after.0 in let two = pow_twice c.args.order in let pos = pow_pos c.args.order in let p = c.self.invariant.places in let len = c.span_pages.ensures.value in
+    let within = after.0 in let two = pow_twice c.args.order in let pos = pow_pos c.args.order in let p = c.self.invariant.indices in let len = c.span_pages.ensures.value in
     omega arith
 
-pub push-requires-clause-absent : goal.push-requires-clause-absent
-push-requires-clause-absent c =
+pub push_front-requires-clause-absent : goal.push_front-requires-clause-absent
+push_front-requires-clause-absent c =
     let was = state_out c.self.inside.pages c.self.inside.states.items c.self.inside.lists c.args.first (c.args.order + 1) (subst (λ s. IsOut s c.args.first (c.args.order + 1)) (sym c.self.view_is) c.requires) in
     let after = laid_halve c.self.inside.pages c.self.inside.states.items c.self.inside.lists c.self.inside.free c.args.first c.args.order c.self.invariant was in
     λ k h. rw c.span_pages.ensures.value (after.3 k (let o = c.self.invariant.orders in omega arith))
@@ -73,13 +73,13 @@ pub invariant_of-self : goal.invariant_of-self
 invariant_of-self c =
     let was = state_out c.self.inside.pages c.self.inside.states.items c.self.inside.lists c.args.first (c.args.order + 1) (subst (λ s. IsOut s c.args.first (c.args.order + 1)) (sym c.self.view_is) c.requires) in
     let after = laid_halve c.self.inside.pages c.self.inside.states.items c.self.inside.lists c.self.inside.free c.args.first c.args.order c.self.invariant was in
-    rw (c.push.ensures, c.span_pages.ensures.value, c.span_pages-2.ensures.value) after.4
+    rw (c.push_front.ensures, c.span_pages.ensures.value, c.span_pages-2.ensures.value) after.4
 
 pub returns-clause-moves : goal.returns-clause-moves
 returns-clause-moves c =
     let out = subst (λ s. IsOut s c.args.first (c.args.order + 1)) (sym c.self.view_is) c.requires in
     let upper = ap (λ n. c.args.first + n) c.span_pages.ensures.value in
-    halved c.self.inside.pages c.self.inside.states.items c.self.inside.lists c.push.new.self c.self.inside.free c.args.first c.args.order (c.args.first + c.span_pages.result) c.args.self.now c.self.invariant out upper c.push.ensures c.self.view_is
+    halved c.self.inside.pages c.self.inside.states.items c.self.inside.lists c.push_front.new.self c.self.inside.free c.args.first c.args.order (c.args.first + c.span_pages.result) c.args.self.now c.self.invariant out upper c.push_front.ensures c.self.view_is
     ∙ ap (λ u. let r : Layout = record c.args.self.now { free = set c.args.self.now.free c.args.order (u ∷ free_at c.args.self.now c.args.order); out = map.insert c.args.self.now.out c.args.first c.args.order } in r) upper
 
 pub returns-clause-divided : goal.returns-clause-divided

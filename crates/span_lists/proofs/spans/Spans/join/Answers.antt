@@ -1,5 +1,5 @@
 use Rattle.std.proofs.Common.{sym, subst, arith}
-use Rattle.span_lists.specs.Blocks.{buddy}
+use Rattle.span_lists.specs.Buddies.{buddy}
 use Rattle.span_lists.specs.Layout.{IsOut}
 use Rattle.span_lists.proofs.Views.{joined, divides_of, merged_of}
 use Rattle.span_lists.proofs.spans.Spans.join.Goals as goal

@@ -18,14 +18,14 @@ returns-then-is_some-clause-some c =
     subst (λ s. IsLargest s (c.loop-above.above - 1)) c.self.view_is
     (record {
       within = omega arith;
-      some = full_of_get _ (sym c.if-is_some.true ∙ c.is_some.ensures ∙ ap is_some c.first.ensures);
+      some = full_of_get _ (sym c.if-is_some.true ∙ c.is_some.ensures ∙ ap is_some c.front.ensures);
       none_above = λ k low high. c.loop-above.invariant.1 k (omega arith) high;
     })
 
 pub returns-then-is_some-clause-none : goal.returns-then-is_some-clause-none
 returns-then-is_some-clause-none c =
     let t = c.loop-above-test.true in let i = c.loop-above.invariant.0 in
-    let full = full_of_get _ (sym c.if-is_some.true ∙ c.is_some.ensures ∙ ap is_some c.first.ensures) in
+    let full = full_of_get _ (sym c.if-is_some.true ∙ c.is_some.ensures ∙ ap is_some c.front.ensures) in
     ((λ e. absurd (let clash : true ≡ false = e in cc)), λ none. absurd (full ((subst (λ s. HasNone s 0) (sym c.self.view_is) none) (c.loop-above.above - 1) (omega arith) (omega arith))))
 
 pub returns-then-is_some-clause-divided : goal.returns-then-is_some-clause-divided
@@ -39,7 +39,7 @@ loop-above-preserved c =
     let t = c.loop-above-test.true in let i = c.loop-above.invariant.0 in (
       omega arith,
       λ k low high. elim (cases_eq k (c.loop-above.above - 1)) [
-        | inl e ↦ ap (λ z. get_or c.self.inside.lists.lists z []) e ∙ nil_of_get _ (sym c.if-is_some.false ∙ c.is_some.ensures ∙ ap is_some c.first.ensures)
+        | inl e ↦ ap (λ z. get_or c.self.inside.lists.lists z []) e ∙ nil_of_get _ (sym c.if-is_some.false ∙ c.is_some.ensures ∙ ap is_some c.front.ensures)
         | inr n ↦ c.loop-above.invariant.1 k (omega arith) high
       ],
     )

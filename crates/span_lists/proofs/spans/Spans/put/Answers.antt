@@ -1,14 +1,5 @@
-use Rattle.std.proofs.Common.{subst}
-use Rattle.span_lists.specs.Layout.{Divides, IsMerged}
-use Rattle.span_lists.proofs.Views.{divides_of, merged_of}
 use Rattle.span_lists.proofs.Steps.{gave, out_of_merged}
 use Rattle.span_lists.proofs.spans.Spans.put.Goals as goal
-
-pub merge-at-requires-clause-divided : goal.merge-at-requires-clause-divided
-merge-at-requires-clause-divided c = subst Divides c.self.view_is (divides_of _ _ _ _ c.self.invariant)
-
-pub merge-at-requires-clause-merged : goal.merge-at-requires-clause-merged
-merge-at-requires-clause-merged c = subst IsMerged c.self.view_is (merged_of _ _ _ _ c.self.invariant)
 
 pub release-requires-clause-out : goal.release-requires-clause-out
 release-requires-clause-out c = out_of_merged _ _ _ _ _ _ c.merge-at.ensures.merges

@@ -1,5 +1,5 @@
 use Rattle.std.proofs.Common.{◌≢◌, ◌<◌, sym, subst, arith}
-use Rattle.span_lists.specs.Blocks.{buddy}
+use Rattle.span_lists.specs.Buddies.{buddy}
 use Rattle.span_lists.specs.Layout.{IsFree, IsOut}
 use Rattle.span_lists.specs.Pages.{state_at}
 use Rattle.span_lists.specs.declared.spans.PageState.TheVariants.{Free}
@@ -7,19 +7,19 @@ use Rattle.span_lists.proofs.Laid.{laid_release}
 use Rattle.span_lists.proofs.Views.{released, divides_of, merged_of, state_out, is_free_of, none_listed, out_within}
 use Rattle.span_lists.proofs.spans.Spans.release.Goals as goal
 
-pub push-requires-clause-place : goal.push-requires-clause-place
-push-requires-clause-place c =
+pub push_front-requires-clause-index : goal.push_front-requires-clause-index
+push_front-requires-clause-index c =
     let out = subst (λ s. IsOut s c.args.first c.args.order) (sym c.self.view_is) c.requires.out in
     let w = out_within c.self.inside.pages c.self.inside.states.items c.self.inside.lists c.self.inside.free c.args.first c.args.order c.self.invariant out in
-    let p = c.self.invariant.places in
+    let p = c.self.invariant.indices in
     let l = w.1 in
     omega arith
 
-pub push-requires-clause-list : goal.push-requires-clause-list
-push-requires-clause-list c = (let o = c.self.invariant.orders in let small = c.requires.order in omega arith)
+pub push_front-requires-clause-list : goal.push_front-requires-clause-list
+push_front-requires-clause-list c = (let o = c.self.invariant.orders in let small = c.requires.order in omega arith)
 
-pub push-requires-clause-absent : goal.push-requires-clause-absent
-push-requires-clause-absent c =
+pub push_front-requires-clause-absent : goal.push_front-requires-clause-absent
+push_front-requires-clause-absent c =
     let out = subst (λ s. IsOut s c.args.first c.args.order) (sym c.self.view_is) c.requires.out in
     none_listed c.self.inside.pages c.self.inside.states.items c.self.inside.lists c.self.inside.free c.args.first c.args.order c.self.invariant out
 
@@ -35,7 +35,8 @@ pub overflow_add-self : goal.overflow_add-self
 overflow_add-self c =
     let out = subst (λ s. IsOut s c.args.first c.args.order) (sym c.self.view_is) c.requires.out in
     let was = state_out c.self.inside.pages c.self.inside.states.items c.self.inside.lists c.args.first c.args.order out in
-    let alone : c.args.order < 16 → state_at c.self.inside.states.items (buddy c.args.first c.args.order) ≢ Free c.args.order = (λ h e. c.requires.alone h (subst (λ s. IsFree s (buddy c.args.first c.args.order) c.args.order) c.self.view_is (is_free_of c.self.inside.pages c.self.inside.states.items c.self.inside.lists c.self.inside.free _ _ c.self.invariant c.requires.order e))) in
+    let alone : c.args.order < 16 → state_at c.self.inside.states.items (buddy c.args.first c.args.order) ≢ Free
+    c.args.order = (λ h e. c.requires.alone h (subst (λ s. IsFree s (buddy c.args.first c.args.order) c.args.order) c.self.view_is (is_free_of c.self.inside.pages c.self.inside.states.items c.self.inside.lists c.self.inside.free _ _ c.self.invariant c.requires.order e))) in
     let after = laid_release c.self.inside.pages c.self.inside.states.items c.self.inside.lists c.self.inside.free c.args.first c.args.order c.self.invariant c.requires.order was alone in
     let bound = after.0 in let small = c.self.invariant.small in let len = c.span_pages.ensures.value in
     omega arith
@@ -44,14 +45,15 @@ pub invariant_of-self : goal.invariant_of-self
 invariant_of-self c =
     let out = subst (λ s. IsOut s c.args.first c.args.order) (sym c.self.view_is) c.requires.out in
     let was = state_out c.self.inside.pages c.self.inside.states.items c.self.inside.lists c.args.first c.args.order out in
-    let alone : c.args.order < 16 → state_at c.self.inside.states.items (buddy c.args.first c.args.order) ≢ Free c.args.order = (λ h e. c.requires.alone h (subst (λ s. IsFree s (buddy c.args.first c.args.order) c.args.order) c.self.view_is (is_free_of c.self.inside.pages c.self.inside.states.items c.self.inside.lists c.self.inside.free _ _ c.self.invariant c.requires.order e))) in
+    let alone : c.args.order < 16 → state_at c.self.inside.states.items (buddy c.args.first c.args.order) ≢ Free
+    c.args.order = (λ h e. c.requires.alone h (subst (λ s. IsFree s (buddy c.args.first c.args.order) c.args.order) c.self.view_is (is_free_of c.self.inside.pages c.self.inside.states.items c.self.inside.lists c.self.inside.free _ _ c.self.invariant c.requires.order e))) in
     let after = laid_release c.self.inside.pages c.self.inside.states.items c.self.inside.lists c.self.inside.free c.args.first c.args.order c.self.invariant c.requires.order was alone in
-    rw (c.push.ensures, c.span_pages.ensures.value) after.1
+    rw (c.push_front.ensures, c.span_pages.ensures.value) after.1
 
 pub returns-clause-moves : goal.returns-clause-moves
 returns-clause-moves c =
     let out = subst (λ s. IsOut s c.args.first c.args.order) (sym c.self.view_is) c.requires.out in
-    released c.self.inside.pages c.self.inside.states.items c.self.inside.lists c.push.new.self c.args.first c.args.order c.args.self.now out c.push.ensures c.self.view_is
+    released c.self.inside.pages c.self.inside.states.items c.self.inside.lists c.push_front.new.self c.args.first c.args.order c.args.self.now out c.push_front.ensures c.self.view_is
 
 pub returns-clause-divided : goal.returns-clause-divided
 returns-clause-divided c = divides_of _ _ _ _ (invariant_of-self c)

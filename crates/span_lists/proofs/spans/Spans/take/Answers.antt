@@ -1,7 +1,7 @@
 use Rattle.std.proofs.Common.{refl, ap, ◌∙◌}
 use Rattle.std.specs.FinMap as map
 use Rattle.span_lists.specs.Layout.{Layout}
-use Rattle.span_lists.proofs.Outs.{get_inserted}
+use Rattle.common_lemmas.proofs.Maps.{get_inserted}
 use Rattle.span_lists.proofs.Steps.{free_in_front, took}
 use Rattle.span_lists.proofs.spans.Spans.take.Goals as goal
 

@@ -1,0 +1,3 @@
+-- Words that only the private functions and the tests cite.
+pub mod Tables
+pub mod Given
