@@ -3,9 +3,10 @@ use Rattle.std.proofs.Common.{◌≡◌, ℕ, ◌+◌, ◌-◌, ◌<◌, ◌≤�
 use Rattle.std.specs.Prelude.{slice_index}
 use Rattle.std.proofs.lemmas.List.{get_or-take, get_or_append_left, get_or-append-add, drop-take, take-take, length-replicate}
 use Rattle.std.proofs.Math.Seq.{drop-append-add, take-append_seam}
+use Rattle.layout.specs.Sizes.{segment, descriptor}
 use Rattle.byteorder.specs.Endian.{little_number}
 use Rattle.byteorder.specs.Numbers.{little_number-reads_back}
-use Rattle.object_log.specs.Made.{object_bytes}
+use Rattle.object_log.specs.inside.Made.{object_bytes}
 use Rattle.object_log.specs.Objects.{Object, live, object_at, objects, IsObject, IsSize, AreObjects, IsSegment, IsEnd}
 use Rattle.object_log.proofs.Reading.{SameOn, objects-are, objects-same, objects-snoc, object-same, object-is}
 
@@ -61,15 +62,15 @@ module _ (old mid new : List ℕ) (used kind size : ℕ) (long : length old ≡ 
 
   module _ (known : (used ≡ 0) ⊎ IsSegment old used) where
     listed : AreObjects old 0 used (objects old used)
-    listed = elim known [ inl e ↦ subst (λ k. AreObjects old 0 k (objects old k)) (sym e) refl | inr s ↦ s.whole ]
+    listed = elim known [ inl e ↦ subst (λ k. AreObjects old 0 k (objects old k)) (sym e) refl | inr s ↦ s.objects ]
 
     pub objects-added : objects new (used + size) ≡ objects old used ++ live used kind size ∷ []
     objects-added = objects-are new (used + size) _ (snoc (objects old used) listed)
 
-    pub IsSegment-added : length new ≡ 131072 → (used + size ≤ 131064 → IsEnd new (used + size)) → IsSegment new (used + size)
+    pub IsSegment-added : length new ≡ 131072 → (used + size + descriptor ≤ segment → IsEnd new (used + size)) → IsSegment new (used + size)
     IsSegment-added same ends = record {
       long = same;
       inside = room;
-      whole = subst (AreObjects new 0 (used + size)) (sym objects-added) (snoc (objects old used) listed);
+      objects = subst (AreObjects new 0 (used + size)) (sym objects-added) (snoc (objects old used) listed);
       ended = ends;
     }

@@ -56,14 +56,14 @@ module _ (bytes : List ℕ) (at : ℕ) (inside : at < length bytes) where
 
 -- a live object has its place in the segment
 pub lives-inside : (bytes : List ℕ) (used at : ℕ) → IsSegment bytes used → LivesAt at (objects bytes used) → at + 16 ≤ used
-lives-inside bytes used at s lives = (stands-within bytes 0 used at (objects bytes used) s.whole (stands at (objects bytes used) lives)).1
+lives-inside bytes used at s lives = (stands-within bytes 0 used at (objects bytes used) s.objects (stands at (objects bytes used) lives)).1
 
 module _ (bytes : List ℕ) (used at : ℕ) (s : IsSegment bytes used) (lives : LivesAt at (objects bytes used)) where
   near : at + 16 ≤ used
   near = lives-inside bytes used at s lives
 
   listed : AreObjects (slice_set bytes at 2) 0 used (killed at (objects bytes used))
-  listed = kills bytes at (omega (arith, near, s.inside, s.long)) 0 used (objects bytes used) s.whole lives
+  listed = kills bytes at (omega (arith, near, s.inside, s.long)) 0 used (objects bytes used) s.objects lives
 
   pub objects-killed : objects (slice_set bytes at 2) used ≡ killed at (objects bytes used)
   objects-killed = objects-are (slice_set bytes at 2) used (killed at (objects bytes used)) listed
@@ -72,6 +72,6 @@ module _ (bytes : List ℕ) (used at : ℕ) (s : IsSegment bytes used) (lives : 
   IsSegment-killed = record {
     long = length-set bytes at 2 ∙ s.long;
     inside = s.inside;
-    whole = subst (AreObjects (slice_set bytes at 2) 0 used) (sym objects-killed) listed;
+    objects = subst (AreObjects (slice_set bytes at 2) 0 used) (sym objects-killed) listed;
     ended = λ h. ap (take 8) (drop-set-lt used bytes at 2 (omega (arith, near))) ∙ s.ended h;
   }

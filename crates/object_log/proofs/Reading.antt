@@ -109,12 +109,12 @@ offsets-rise bytes at used (o ∷ (p ∷ ps)) h (suc k) w =
     subst (λ n. slice_index (offsets (p ∷ ps)) k < slice_index (offsets (o ∷ (p ∷ ps))) n) e rest
 
 -- an object is what its descriptor says
-pub objects-told : (bytes : List ℕ) (a used at : ℕ) (os : List Object) → AreObjects bytes a used os → All (λ o. o.at ≡ at → o ≡ object_at bytes at) os
-objects-told bytes a used at [] h = λ k d w. absurd (omega (arith, w))
-objects-told bytes a used at (o ∷ os) h =
+pub objects-described : (bytes : List ℕ) (a used at : ℕ) (os : List Object) → AreObjects bytes a used os → All (λ o. o.at ≡ at → o ≡ object_at bytes at) os
+objects-described bytes a used at [] h = λ k d w. absurd (omega (arith, w))
+objects-described bytes a used at (o ∷ os) h =
     let P : Object → Type 0 = λ p. p.at ≡ at → p ≡ object_at bytes at in
     let here : o.at ≡ a = ap (λ x. x.at) h.0 in
-    All-cons P o os (λ e. subst (λ k. o ≡ object_at bytes k) (sym here ∙ e) h.0) (objects-told bytes (a + o.size) used at os h.2)
+    All-cons P o os (λ e. subst (λ k. o ≡ object_at bytes k) (sym here ∙ e) h.0) (objects-described bytes (a + o.size) used at os h.2)
 
 -- the bytes ys are those of xs but in the content of an object
 pub content-kept : (a used at size : ℕ) (xs ys : List ℕ) (os : List Object) → AreObjects xs a used os → Any (λ o. (o.at ≡ at) × (o.size ≡ size)) os

@@ -1,7 +1,8 @@
--- The objects of a segment, as they are read from its bytes. A segment has 131,072 bytes. Its objects
--- stand from offset 0 to `used` without gaps, each behind a descriptor of 8 bytes.
-use Rattle.std.specs.Prelude.{◌≡◌, ℕ, zero, suc, ◌+◌, ◌%◌, ◌≤◌, ◌⊎◌, ◌==◌, nat_lt, if◌then◌else◌, List, [], ◌∷◌, length, take, drop, replicate, map, slice_index, Any}
+-- The objects of a segment, as they are read from its bytes. A segment has 131,072 bytes. Its objects stand from
+-- offset 0 to `used` without gaps, each behind a descriptor of 8 bytes.
+use Rattle.std.specs.Prelude.{◌≡◌, ℕ, zero, suc, ◌+◌, ◌-◌, ◌%◌, ◌≤◌, ◌⊎◌, ◌==◌, nat_lt, if◌then◌else◌, List, [], ◌∷◌, ◌++◌, length, take, drop, replicate, map, slice_index, Any}
 use Rattle.byteorder.specs.Endian.{little_number}
+use Rattle.layout.specs.Sizes.{segment, descriptor, least_object, greatest_object}
 use Rattle.object_log.specs.declared.descriptor.Descriptor.{Descriptor}
 
 -- an object: the offset of its descriptor, and what that says. A state is 1 for live and 2 for dead,
@@ -17,12 +18,12 @@ pub record Object : Type 0 where
 abbrev pub descriptor_at : List ℕ → ℕ → Descriptor
 descriptor_at bytes at = record { state = slice_index bytes at; kind = slice_index bytes (at + 1); size = little_number 4 (drop (at + 4) bytes) }
 
--- the object that a descriptor tells of
-abbrev pub told : ℕ → Descriptor → Object
-told at d = record { at = at; state = d.state; kind = d.kind; size = d.size }
+-- the object that a descriptor describes
+abbrev pub described : ℕ → Descriptor → Object
+described at d = record { at = at; state = d.state; kind = d.kind; size = d.size }
 
 abbrev pub object_at : List ℕ → ℕ → Object
-object_at bytes at = told at (descriptor_at bytes at)
+object_at bytes at = described at (descriptor_at bytes at)
 
 -- at most n objects: the one at the offset `at`, then the one behind it, and so on up to `used`
 abbrev pub objects_from : ℕ → List ℕ → ℕ → ℕ → List Object
@@ -35,7 +36,7 @@ abbrev pub objects : List ℕ → ℕ → List Object
 objects bytes used = objects_from used bytes 0 used
 
 abbrev pub IsSize : ℕ → Type 0
-IsSize n = (16 ≤ n) × (n ≤ 12296) × (n % 8 ≡ 0)
+IsSize n = (least_object ≤ n) × (n ≤ greatest_object) × (n % 8 ≡ 0)
 
 -- what stands there may be an object: bytes 2 and 3 of its descriptor are zero
 abbrev pub IsObject : List ℕ → Object → Type 0
@@ -49,14 +50,14 @@ AreObjects bytes at used (o ∷ os) = (o ≡ object_at bytes at) × IsObject byt
 
 -- an end descriptor stands there
 abbrev pub IsEnd : List ℕ → ℕ → Type 0
-IsEnd bytes at = take 8 (drop at bytes) ≡ replicate 8 0
+IsEnd bytes at = take descriptor (drop at bytes) ≡ replicate descriptor 0
 
 -- the bytes are a segment whose objects end at `used`, and an end descriptor follows where it has room
 pub record IsSegment (bytes : List ℕ) (used : ℕ) : Type 0 where
-  pub long : length bytes ≡ 131072
-  pub inside : used ≤ 131072
-  pub whole : AreObjects bytes 0 used (objects bytes used)
-  pub ended : used ≤ 131064 → IsEnd bytes used
+  pub long : length bytes ≡ segment
+  pub inside : used ≤ segment
+  pub objects : AreObjects bytes 0 used (objects bytes used)
+  pub ended : used + descriptor ≤ segment → IsEnd bytes used
 
 -- one of the objects stands at the offset
 abbrev pub StandsAt : ℕ → List Object → Type 0
@@ -72,6 +73,13 @@ live at kind size = record { at = at; state = 1; kind = kind; size = size }
 -- the objects, of which the one at the offset is dead
 abbrev pub killed : ℕ → List Object → List Object
 killed at os = map {A = Object} (λ o. if o.at == at then record o { state = 2 } else o) os
+
+-- the content of an object of that size at the offset, and the bytes with ws as that content
+abbrev pub content_at : ℕ → ℕ → List ℕ → List ℕ
+content_at at size bytes = take (size - descriptor) (drop (at + descriptor) bytes)
+
+abbrev pub with_content : ℕ → List ℕ → List ℕ → List ℕ
+with_content at ws bytes = take (at + descriptor) bytes ++ (ws ++ drop (at + descriptor + length ws) bytes)
 
 -- where the objects stand
 abbrev pub offsets : List Object → List ℕ

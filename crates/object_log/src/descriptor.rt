@@ -1,33 +1,48 @@
-ghost use Rattle.std.specs.Prelude.{◌≡◌, ℕ, ◌+◌, ◌≤◌, ◌⊎◌, length, All};
-ghost use Rattle.object_log.specs.Objects.{descriptor_at, told, objects, IsSize, IsSegment, StandsAt};
+ghost use Rattle.std.specs.Prelude.{◌≡◌, ℕ, ◌+◌, ◌≤◌, ◌⊎◌, List, length, All};
+ghost use Rattle.layout.specs.Sizes as sizes;
+ghost use Rattle.object_log.specs.Objects.{descriptor_at, described, objects, with_content, IsSize, IsSegment, StandsAt};
 
 use byteorder::{ByteOrder, LittleEndian};
+use layout::DESCRIPTOR;
 
 /// The 8 bytes in front of an object's content.
 #[derive(Clone, Copy, Debug)]
 pub struct Descriptor {
     /// 0 is the end, 1 a live object, 2 a dead one.
     pub state: u8,
+    /// At least 1; what it means is the caller's.
     pub kind: u8,
     /// In bytes, of the whole object with its descriptor.
     pub size: u32,
 }
 
-pub(crate) const DESCRIPTOR: usize = 8;
-
 /// The descriptor at the offset, where an object or the end stands.
 pub fn read_descriptor(segment: &[u8], at: u32) -> Descriptor
-    requires { (used : ℕ) × IsSegment segment.now used × (StandsAt at (objects segment.now used) ⊎ ((at ≡ used) × (used ≤ 131064))) }
+    requires { (used : ℕ) × IsSegment segment.now used × (StandsAt at (objects segment.now used) ⊎ ((at ≡ used) × (used + sizes.descriptor ≤ sizes.segment))) }
     ensures read { result ≡ descriptor_at segment.now at }
-    ensures object { (used : ℕ) → IsSegment segment.now used → All (λ o. o.at ≡ at → o ≡ told at result) (objects segment.now used) }
+    ensures object { (used : ℕ) → IsSegment segment.now used → All (λ o. o.at ≡ at → o ≡ described at result) (objects segment.now used) }
     ensures fits { (used : ℕ) → IsSegment segment.now used → StandsAt at (objects segment.now used) → IsSize result.size × (at + result.size ≤ used) }
     ensures end { IsSegment segment.now at → result.state ≡ 0 }
 {
     descriptor_in(segment, at as usize)
 }
 
+/// Where the content of the object at the offset lies: the number of its first byte, and how many bytes it has.
+/// Whatever is written there, the objects of the segment are the same.
+pub fn content_extent(segment: &[u8], at: u32) -> (usize, usize)
+    requires { (used : ℕ) × IsSegment segment.now used × StandsAt at (objects segment.now used) }
+    ensures start { result.0 ≡ at + sizes.descriptor }
+    ensures size { result.1 + sizes.descriptor ≡ (descriptor_at segment.now at).size }
+    ensures inside { (used : ℕ) → IsSegment segment.now used → StandsAt at (objects segment.now used) → result.0 + result.1 ≤ used }
+    ensures segment { (used : ℕ) (ws : List ℕ) → IsSegment segment.now used → StandsAt at (objects segment.now used) → length ws ≡ result.1 → IsSegment (with_content at ws segment.now) used }
+    ensures objects { (used : ℕ) (ws : List ℕ) → IsSegment segment.now used → StandsAt at (objects segment.now used) → length ws ≡ result.1 → objects (with_content at ws segment.now) used ≡ objects segment.now used }
+{
+    let size = read_descriptor(segment, at).size;
+    ((at + DESCRIPTOR) as usize, (size - DESCRIPTOR) as usize)
+}
+
 pub(crate) fn descriptor_in(segment: &[u8], at: usize) -> Descriptor
-    requires { at + 8 ≤ length segment.now }
+    requires { at + sizes.descriptor ≤ length segment.now }
     ensures { result ≡ descriptor_at segment.now at }
 {
     Descriptor {

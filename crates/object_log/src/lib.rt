@@ -12,6 +12,6 @@ mod log;
 mod tests;
 mod walking;
 
-pub use descriptor::{Descriptor, read_descriptor};
+pub use descriptor::{Descriptor, content_extent, read_descriptor};
 pub use log::{append, kill};
 pub use walking::Walk;

@@ -1,28 +1,28 @@
 ghost use Rattle.std.specs.Prelude.{◌≡◌, ℕ, ◌+◌, ◌-◌, ◌≤◌, ◌⊎◌, ◌++◌, [], ◌∷◌, length, take, drop, replicate, slice_set};
-ghost use Rattle.object_log.specs.Made.{object_bytes};
-ghost use Rattle.object_log.specs.Objects.{objects, live, killed, IsSize, IsSegment, IsEnd, LivesAt};
+ghost use Rattle.object_log.specs.inside.Made.{object_bytes};
+ghost use Rattle.layout.specs.Sizes as sizes;
+ghost use Rattle.object_log.specs.Objects.{objects, live, killed, content_at, IsSize, IsSegment, IsEnd, LivesAt};
 
-use crate::descriptor::DESCRIPTOR;
 use byteorder::{ByteOrder, LittleEndian};
-
-const SEGMENT: usize = 131_072;
+use layout::{DESCRIPTOR, SEGMENT};
 
 const LIVE: u8 = 1;
 
 const DEAD: u8 = 2;
 
-/// Puts a live object behind the others, and answers the new `used`, in bytes. Its content is zero. An
-/// end descriptor follows where it has room. With a `used` of 0 the bytes before do not matter.
+/// Puts a live object of `size` bytes behind the others, which end at the byte `used`, and answers where the objects
+/// end now. Its content is zero. An end descriptor follows where it has room. With a `used` of 0 the bytes before do
+/// not matter.
 pub fn append(segment: &mut [u8], used: u32, kind: u8, size: u32) -> u32
-    requires segment { length segment.old ≡ 131072 }
+    requires segment { length segment.old ≡ sizes.segment }
     requires objects { (used ≡ 0) ⊎ IsSegment segment.old used }
     requires kind { 1 ≤ kind }
     requires size { IsSize size }
-    requires fits { used + size ≤ 131072 }
+    requires fits { used + size ≤ sizes.segment }
     ensures used { result ≡ used + size }
     ensures added { objects segment.new result ≡ objects segment.old used ++ live used kind size ∷ [] }
     ensures segment { IsSegment segment.new result }
-    ensures content { take (size - 8) (drop (used + 8) segment.new) ≡ replicate (size - 8) 0 }
+    ensures content { content_at used size segment.new ≡ replicate (size - sizes.descriptor) 0 }
     ensures below { take used segment.new ≡ take used segment.old }
 {
     write_object(segment, used as usize, kind, size);
@@ -31,14 +31,14 @@ pub fn append(segment: &mut [u8], used: u32, kind: u8, size: u32) -> u32
 }
 
 fn write_object(segment: &mut [u8], at: usize, kind: u8, size: u32)
-    requires { (at + size ≤ length segment.old) × (8 ≤ size) }
+    requires { (at + size ≤ length segment.old) × (sizes.descriptor ≤ size) }
     ensures { segment.new ≡ take at segment.old ++ (object_bytes kind size ++ drop (at + size) segment.old) }
 {
     make_object(&mut segment[at..at + size as usize], kind, size);
 }
 
 fn make_object(object: &mut [u8], kind: u8, size: u32)
-    requires { (length object.old ≡ size) × (8 ≤ size) }
+    requires { (length object.old ≡ size) × (sizes.descriptor ≤ size) }
     ensures { object.new ≡ object_bytes kind size }
 {
     object.fill(0);
@@ -48,16 +48,16 @@ fn make_object(object: &mut [u8], kind: u8, size: u32)
 }
 
 fn write_end(segment: &mut [u8], at: usize)
-    requires { (length segment.old ≡ 131072) × (at ≤ 131072) }
-    ensures end { at ≤ 131064 → IsEnd segment.new at }
+    requires { (length segment.old ≡ sizes.segment) × (at ≤ sizes.segment) }
+    ensures end { at + sizes.descriptor ≤ sizes.segment → IsEnd segment.new at }
     ensures below { take at segment.new ≡ take at segment.old }
 {
-    if at <= SEGMENT - DESCRIPTOR {
-        segment[at..at + DESCRIPTOR].fill(0);
+    if at <= (SEGMENT - DESCRIPTOR) as usize {
+        segment[at..at + DESCRIPTOR as usize].fill(0);
     }
 }
 
-/// The live object at the offset is dead from now on. It keeps its place.
+/// The live object at the offset is dead from now on. It keeps its place and its content.
 pub fn kill(segment: &mut [u8], at: u32)
     requires { (used : ℕ) × IsSegment segment.old used × LivesAt at (objects segment.old used) }
     ensures dead { (used : ℕ) → IsSegment segment.old used → LivesAt at (objects segment.old used) → objects segment.new used ≡ killed at (objects segment.old used) }

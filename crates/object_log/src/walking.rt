@@ -17,13 +17,15 @@ pub struct Walk<'a> {
 
 impl<'a> Model for Walk<'a> {
     ghost use Rattle.std.specs.Prelude.{◌≡◌, ℕ, ◌-◌, ◌≤◌, List, length};
+    ghost use Rattle.layout.specs.Sizes as sizes;
     ghost use Rattle.object_log.specs.Objects.{objects_from, offsets, AreObjects};
 
     ghost Value = { List ℕ };
 
     ghost view = { λ w. offsets (objects_from (w.used - w.at) w.segment.now w.at w.used) };
 
-    ghost invariant = { λ w. (length w.segment.now ≡ 131072) × (w.used ≤ 131072) × AreObjects w.segment.now w.at w.used (objects_from (w.used - w.at) w.segment.now w.at w.used) };
+    ghost invariant = { λ w. (length w.segment.now ≡ sizes.segment) × (w.used ≤ sizes.segment)
+        × AreObjects w.segment.now w.at w.used (objects_from (w.used - w.at) w.segment.now w.at w.used) };
 }
 
 impl<'a> Walk<'a> {

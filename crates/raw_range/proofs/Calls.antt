@@ -3,21 +3,21 @@ use Rattle.std.proofs.Common.{◌≡◌, ℕ, List, [], ◌∷◌, length, refl,
 use Rattle.std.specs.Prelude.{All, Contains}
 use Rattle.std.specs.List.{refill, length_refill}
 use Rattle.std.proofs.lemmas.List.Elements.{All-cons}
-use Rattle.raw_range.specs.Places.{Place, place, Apart}
-use Rattle.raw_range.specs.Memory.{Lent, place_of}
+use Rattle.layout.specs.Extents.{Extent, extent, Disjoint}
+use Rattle.raw_range.specs.Memory.{Lent, extent_of}
 
-pub apart_none : (p : Place) (out : List Place) → out ≡ [] → All (Apart p) out
-apart_none p out e = let none : All (Apart p) [] = λ k d w. absurd (omega (arith, w)) in subst (All (Apart p)) (sym e) none
+pub apart_none : (p : Extent) (out : List Extent) → out ≡ [] → All (Disjoint p) out
+apart_none p out e = let none : All (Disjoint p) [] = λ k d w. absurd (omega (arith, w)) in subst (All (Disjoint p)) (sym e) none
 
-pub apart_more : (p q : Place) (out rest : List Place) → out ≡ q ∷ rest → Apart p q → All (Apart p) rest → All (Apart p) out
-apart_more p q out rest e a h = subst (All (Apart p)) (sym e) (All-cons (Apart p) q rest a h)
+pub apart_more : (p q : Extent) (out rest : List Extent) → out ≡ q ∷ rest → Disjoint p q → All (Disjoint p) rest → All (Disjoint p) out
+apart_more p q out rest e a h = subst (All (Disjoint p)) (sym e) (All-cons (Disjoint p) q rest a h)
 
-pub has_first : (p q : Place) (out rest : List Place) → out ≡ q ∷ rest → p ≡ q → Contains out p
+pub has_first : (p q : Extent) (out rest : List Extent) → out ≡ q ∷ rest → p ≡ q → Contains out p
 has_first p q out rest e f = let has : Contains (q ∷ rest) p = (0, omega arith, sym f) in subst (λ ps. Contains ps p) (sym e) has
 
-pub has_second : (p q r : Place) (out rest : List Place) → out ≡ r ∷ (q ∷ rest) → p ≡ q → Contains out p
+pub has_second : (p q r : Extent) (out rest : List Extent) → out ≡ r ∷ (q ∷ rest) → p ≡ q → Contains out p
 has_second p q r out rest e f = let has : Contains (r ∷ (q ∷ rest)) p = (1, omega arith, sym f) in subst (λ ps. Contains ps p) (sym e) has
 
 -- a piece stays where it is when its bytes are written
-pub same_place : (p : Lent) (ws : List ℕ) → place_of (record p { bytes = refill (length p.bytes) p.bytes ws }) ≡ place_of p
-same_place p ws = ap (place p.at) (sym (length_refill (length p.bytes) p.bytes ws refl))
+pub same_place : (p : Lent) (ws : List ℕ) → extent_of (record p { bytes = refill (length p.bytes) p.bytes ws }) ≡ extent_of p
+same_place p ws = ap (extent p.at) (sym (length_refill (length p.bytes) p.bytes ws refl))

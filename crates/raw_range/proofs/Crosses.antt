@@ -15,8 +15,9 @@ use Rattle.raw_range.specs.contracts.memory.Held as Held
 use Rattle.raw_range.specs.contracts.memory.Run as Run
 use Rattle.raw_range.specs.contracts.memory.Sole as Sole
 use Rattle.raw_range.specs.contracts.memory.Sole.TheInside as Inside
-use Rattle.raw_range.specs.Places.{Place, is_out}
-use Rattle.raw_range.specs.Ownership.{run_owns, byte_owns, rest_owns}
+use Rattle.layout.specs.Extents.{Extent}
+use Rattle.raw_range.specs.inside.Covered.{is_allocated}
+use Rattle.raw_range.specs.inside.Ownership.{run_owns, byte_owns, rest_owns}
 
 pub u8-send : IsSend u8
 u8-send = search sendable
@@ -44,9 +45,9 @@ byte_owns-keyless : (y : Bool) (b o x : ℕ) → Keyless (byte_owns y b o x)
 byte_owns-keyless true b o x = tt
 byte_owns-keyless false b o x = part_keyless u8 u8-send full_share x b o
 
-rest_owns-keyless : (out : List Place) (b o i : ℕ) (xs : List ℕ) → Keyless (rest_owns out b o i xs)
+rest_owns-keyless : (out : List Extent) (b o i : ℕ) (xs : List ℕ) → Keyless (rest_owns out b o i xs)
 rest_owns-keyless out b o i [] = tt
-rest_owns-keyless out b o i (x ∷ xs) = (byte_owns-keyless (is_out out i) b o x, rest_owns-keyless out b (o + 1) (i + 1) xs)
+rest_owns-keyless out b o i (x ∷ xs) = (byte_owns-keyless (is_allocated out i) b o x, rest_owns-keyless out b (o + 1) (i + 1) xs)
 
 pub run-send : IsSend Run.the_row
 run-send = owning_send Run.the_type tt (λ d. run_owns-keyless d.ptr d.items) (λ k x w. tt)

@@ -36,7 +36,7 @@ use Rattle.std_alloc.specs.contracts.vec.lodge as LG
 use Rattle.std_alloc.specs.contracts.vec.lodged.Vec+T+Lodged.dislodge as DL
 use Rattle.std_alloc.proofs.vec.Vec.TheLaws as vec_laws
 use Rattle.std_alloc.proofs.vec.lodged.Lodged.TheLaws as lodged-laws
-use Rattle.raw_range.specs.Ownership.{run_owns}
+use Rattle.raw_range.specs.inside.Ownership.{run_owns}
 
 abbrev pub byte_laws : Laws u8
 byte_laws = of_field u8-field u8-laws refl (copy_shared u8-field u8-copy)

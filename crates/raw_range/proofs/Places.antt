@@ -1,5 +1,6 @@
 -- Which bytes are out, as places come and go.
-use Rattle.std.proofs.Common.{◌≡◌, ℕ, ◌+◌, ◌<◌, ◌≤◌, Bool, true, false, cond, not, ◌==◌, ◌&&◌, ◌||◌, List, [], ◌∷◌, ◌++◌, length, take, drop, refl, sym, ap, ◌∙◌, subst, ◌⊎◌, inl, inr, arith, take-append-drop, length-take-le, length-drop, length-append, leb, ltb, eqb, eq-eqb}
+use Rattle.std.proofs.Common.{◌≡◌, ℕ, ◌+◌, ◌<◌, ◌≤◌, Bool, true, false, cond, not, ◌==◌, ◌&&◌, ◌||◌, List, [], ◌∷◌, ◌++◌, length}
+use Rattle.std.proofs.Common.{take, drop, refl, sym, ap, ◌∙◌, subst, ◌⊎◌, inl, inr, arith, take-append-drop, length-take-le, length-drop, length-append, leb, ltb, eqb, eq-eqb}
 use Rattle.std.specs.Prelude.{All, Contains, filter, slice_index_or}
 use Rattle.std.specs.List.{list_any}
 use Rattle.std.proofs.Math.Nat.{eq-or-lt_of_le}
@@ -9,42 +10,44 @@ use Rattle.std.proofs.lemmas.Bool.{le-leb, lt-leb, lt-ltb, le-ltb, ne_eqb}
 use Rattle.std.proofs.lemmas.List.Elements.{All-cons, All-head, All-tail, All-filter, All-contains}
 use Rattle.std.proofs.lemmas.List.Kept.{AllPairs-cons, AllPairs-filter}
 use Rattle.std.proofs.lemmas.List.Folds.{list_any_none, list_any_at}
-use Rattle.raw_range.specs.Places.{Place, Apart, IsWithin, AreBlocks, without, covers, is_out, written}
+use Rattle.layout.specs.Extents.{Extent, Disjoint, IsWithin, AreDisjoint}
+use Rattle.raw_range.specs.Memory.{remove_extent, written}
+use Rattle.raw_range.specs.inside.Covered.{covers, is_allocated}
 
 eqb-same : (n : ℕ) → eqb n n ≡ true
 eqb-same n = eq-eqb n n refl
 
-abbrev pub IsIn : Place → ℕ → Type 0
-IsIn p k = (p.at ≤ k) × (k < p.at + p.len)
+abbrev pub IsIn : Extent → ℕ → Type 0
+IsIn p k = (p.start ≤ k) × (k < p.start + p.len)
 
-abbrev pub IsBeside : Place → ℕ → Type 0
-IsBeside p k = (k < p.at) ⊎ (p.at + p.len ≤ k)
+abbrev pub IsBeside : Extent → ℕ → Type 0
+IsBeside p k = (k < p.start) ⊎ (p.start + p.len ≤ k)
 
-pub covers-in : (p : Place) (k : ℕ) → IsIn p k → covers p k ≡ true
-covers-in p k h = rw (le-leb p.at k h.0, lt-ltb k (p.at + p.len) h.1) refl
+pub covers-in : (p : Extent) (k : ℕ) → IsIn p k → covers p k ≡ true
+covers-in p k h = rw (le-leb p.start k h.0, lt-ltb k (p.start + p.len) h.1) refl
 
-pub covers-beside : (p : Place) (k : ℕ) → IsBeside p k → covers p k ≡ false
-covers-beside p k (inl h) = rw (lt-leb p.at k h) refl
-covers-beside p k (inr h) = elim (leb p.at k) as (λ b. (b && ltb k (p.at + p.len)) ≡ false) [ true ↦ le-ltb k (p.at + p.len) h | false ↦ refl ]
+pub covers-beside : (p : Extent) (k : ℕ) → IsBeside p k → covers p k ≡ false
+covers-beside p k (inl h) = rw (lt-leb p.start k h) refl
+covers-beside p k (inr h) = elim (leb p.start k) as (λ b. (b && ltb k (p.start + p.len)) ≡ false) [ true ↦ le-ltb k (p.start + p.len) h | false ↦ refl ]
 
-pub beside-apart : (p q : Place) (k : ℕ) → Apart p q → IsIn p k → IsBeside q k
+pub beside-apart : (p q : Extent) (k : ℕ) → Disjoint p q → IsIn p k → IsBeside q k
 beside-apart p q k (inl a) h = inl (omega (arith, a, h.0, h.1))
 beside-apart p q k (inr a) h = inr (omega (arith, a, h.0, h.1))
 
-pub apart-sym : (p q : Place) → Apart p q → Apart q p
+pub apart-sym : (p q : Extent) → Disjoint p q → Disjoint q p
 apart-sym p q (inl a) = inr a
 apart-sym p q (inr a) = inl a
 
 -- a place that is apart from those out has no byte out
-pub is_out-apart : (out : List Place) (p : Place) (k : ℕ) → All (Apart p) out → IsIn p k → is_out out k ≡ false
-is_out-apart out p k apart h =
+pub is_allocated-apart : (out : List Extent) (p : Extent) (k : ℕ) → All (Disjoint p) out → IsIn p k → is_allocated out k ≡ false
+is_allocated-apart out p k apart h =
     list_any_none (λ q. covers q k) out (λ i d w. covers-beside (slice_index_or out i d) k (beside-apart p (slice_index_or out i d) k (apart i d w) h))
 
-pub is_out-cons_in : (out : List Place) (p : Place) (k : ℕ) → IsIn p k → is_out (p ∷ out) k ≡ true
-is_out-cons_in out p k h = rw (covers-in p k h) refl
+pub is_allocated-cons_in : (out : List Extent) (p : Extent) (k : ℕ) → IsIn p k → is_allocated (p ∷ out) k ≡ true
+is_allocated-cons_in out p k h = rw (covers-in p k h) refl
 
-pub is_out-cons_beside : (out : List Place) (p : Place) (k : ℕ) → IsBeside p k → is_out out k ≡ is_out (p ∷ out) k
-is_out-cons_beside out p k h = rw (covers-beside p k h) refl
+pub is_allocated-cons_beside : (out : List Extent) (p : Extent) (k : ℕ) → IsBeside p k → is_allocated out k ≡ is_allocated (p ∷ out) k
+is_allocated-cons_beside out p k h = rw (covers-beside p k h) refl
 
 any-filter_same : {X : Type 0} (t f : X → Bool) (xs : List X) → All (λ x. (t x ≡ true) ⊎ (f x ≡ false)) xs → list_any f (filter t xs) ≡ list_any f xs
 any-filter_same t f [] h = refl
@@ -67,63 +70,63 @@ any-filter_none {X} t f (x ∷ xs) h =
     ]
 
 -- two blocks that begin at one place are one, and others are apart
-same_or_apart : (size : ℕ) (out : List Place) (p : Place) → AreBlocks size out → Contains out p → (i : ℕ) (d : Place) → i < length out
-    → (slice_index_or out i d ≡ p) ⊎ Apart p (slice_index_or out i d)
+same_or_apart : (size : ℕ) (out : List Extent) (p : Extent) → AreDisjoint size out → Contains out p → (i : ℕ) (d : Extent) → i < length out
+    → (slice_index_or out i d ≡ p) ⊎ Disjoint p (slice_index_or out i d)
 same_or_apart size out p blocks has i d w =
     let j = has.0 in
     let at_j : slice_index_or out j d ≡ p = get_or_default out j d p has.1 ∙ has.2 in
     elim (leb_tells i j) [
       | inl low ↦ elim (eq-or-lt_of_le low.1) [
         | inl e ↦ inl (ap (λ k. slice_index_or out k d) e ∙ at_j)
-        | inr below ↦ inr (apart-sym (slice_index_or out i d) p (subst (λ q. Apart (slice_index_or out i d) q) at_j (blocks.1 i j d below has.1)))
+        | inr below ↦ inr (apart-sym (slice_index_or out i d) p (subst (λ q. Disjoint (slice_index_or out i d) q) at_j (blocks.1 i j d below has.1)))
       ]
-      | inr high ↦ inr (subst (λ q. Apart q (slice_index_or out i d)) at_j (blocks.1 j i d high.1 w))
+      | inr high ↦ inr (subst (λ q. Disjoint q (slice_index_or out i d)) at_j (blocks.1 j i d high.1 w))
     ]
 
 -- a place that begins where p does is not apart from p
-begins_elsewhere : (p q : Place) → 0 < p.len → 0 < q.len → Apart p q → eqb q.at p.at ≡ false
-begins_elsewhere p q some more (inl a) = ne_eqb q.at p.at (λ e. omega (arith, a, some, e))
-begins_elsewhere p q some more (inr a) = ne_eqb q.at p.at (λ e. omega (arith, a, more, e))
+begins_elsewhere : (p q : Extent) → 0 < p.len → 0 < q.len → Disjoint p q → eqb q.start p.start ≡ false
+begins_elsewhere p q some more (inl a) = ne_eqb q.start p.start (λ e. omega (arith, a, some, e))
+begins_elsewhere p q some more (inr a) = ne_eqb q.start p.start (λ e. omega (arith, a, more, e))
 
-pub is_out-has : (out : List Place) (p : Place) (k : ℕ) → Contains out p → IsIn p k → is_out out k ≡ true
-is_out-has out p k has h = list_any_at (λ q. covers q k) out has.0 p has.1 (rw has.2 (covers-in p k h))
+pub is_allocated-has : (out : List Extent) (p : Extent) (k : ℕ) → Contains out p → IsIn p k → is_allocated out k ≡ true
+is_allocated-has out p k has h = list_any_at (λ q. covers q k) out has.0 p has.1 (rw has.2 (covers-in p k h))
 
-module _ (size : ℕ) (out : List Place) (p : Place) (blocks : AreBlocks size out) (has : Contains out p) where
+module _ (size : ℕ) (out : List Extent) (p : Extent) (blocks : AreDisjoint size out) (has : Contains out p) where
   pub within_blocks : IsWithin size p
   within_blocks = All-contains (IsWithin size) out p blocks.0 has
 
-  pub is_out-without_in : (k : ℕ) → IsIn p k → is_out (without p out) k ≡ false
-  is_out-without_in k h =
-      any-filter_none (λ q. not (q.at == p.at)) (λ q. covers q k) out (λ i d w.
+  pub is_allocated-without_in : (k : ℕ) → IsIn p k → is_allocated (remove_extent p out) k ≡ false
+  is_allocated-without_in k h =
+      any-filter_none (λ q. not (q.start == p.start)) (λ q. covers q k) out (λ i d w.
       elim (same_or_apart size out p blocks has i d w) [
-        | inl e ↦ inl (rw e (rw (eqb-same p.at) refl))
+        | inl e ↦ inl (rw e (rw (eqb-same p.start) refl))
         | inr a ↦ inr (covers-beside (slice_index_or out i d) k (beside-apart p (slice_index_or out i d) k a h))
       ])
 
-  pub is_out-without_beside : (k : ℕ) → IsBeside p k → is_out out k ≡ is_out (without p out) k
-  is_out-without_beside k h =
-      sym (any-filter_same (λ q. not (q.at == p.at)) (λ q. covers q k) out (λ i d w.
+  pub is_allocated-without_beside : (k : ℕ) → IsBeside p k → is_allocated out k ≡ is_allocated (remove_extent p out) k
+  is_allocated-without_beside k h =
+      sym (any-filter_same (λ q. not (q.start == p.start)) (λ q. covers q k) out (λ i d w.
       elim (same_or_apart size out p blocks has i d w) [
         | inl e ↦ inr (rw e (covers-beside p k h))
         | inr a ↦ inl (rw (begins_elsewhere p (slice_index_or out i d) within_blocks.0 (blocks.0 i d w).0 a) refl)
       ]))
 
-  pub AreBlocks-without : AreBlocks size (without p out)
-  AreBlocks-without = (All-filter (λ q. not (q.at == p.at)) (IsWithin size) out blocks.0, AllPairs-filter Apart (λ q. not (q.at == p.at)) out blocks.1)
+  pub AreDisjoint-remove_extent : AreDisjoint size (remove_extent p out)
+  AreDisjoint-remove_extent = (All-filter (λ q. not (q.start == p.start)) (IsWithin size) out blocks.0, AllPairs-filter Disjoint (λ q. not (q.start == p.start)) out blocks.1)
 
 -- the bytes before a place, in it and behind it
 pub three_parts : (at n : ℕ) (xs : List ℕ) → xs ≡ take at xs ++ (take n (drop at xs) ++ drop n (drop at xs))
 three_parts at n xs = sym (take-append-drop at xs) ∙ ap (λ ys. take at xs ++ ys) (sym (take-append-drop n (drop at xs)))
 
-pub in_place : (p : Place) (k m l : ℕ) → m ≡ p.at → l ≡ p.len → m ≤ k → k < m + l → IsIn p k
+pub in_place : (p : Extent) (k m l : ℕ) → m ≡ p.start → l ≡ p.len → m ≤ k → k < m + l → IsIn p k
 in_place p k m l e f low high = (omega (arith, e, f, low), omega (arith, e, f, high))
 
-pub beside_place : (p : Place) (k m l : ℕ) → m ≡ p.at → l ≡ p.len → (k < m) ⊎ (m + l ≤ k) → IsBeside p k
+pub beside_place : (p : Extent) (k m l : ℕ) → m ≡ p.start → l ≡ p.len → (k < m) ⊎ (m + l ≤ k) → IsBeside p k
 beside_place p k m l e f (inl h) = inl (omega (arith, e, f, h))
 beside_place p k m l e f (inr h) = inr (omega (arith, e, f, h))
 
-pub AreBlocks-cons : (size : ℕ) (p : Place) (out : List Place) → IsWithin size p → All (Apart p) out → AreBlocks size out → AreBlocks size (p ∷ out)
-AreBlocks-cons size p out within apart blocks = (All-cons (IsWithin size) p out within blocks.0, AllPairs-cons Apart p out apart blocks.1)
+pub AreDisjoint-cons : (size : ℕ) (p : Extent) (out : List Extent) → IsWithin size p → All (Disjoint p) out → AreDisjoint size out → AreDisjoint size (p ∷ out)
+AreDisjoint-cons size p out within apart blocks = (All-cons (IsWithin size) p out within blocks.0, AllPairs-cons Disjoint p out apart blocks.1)
 
 pub length-written : (bytes ws : List ℕ) (at : ℕ) → at + length ws ≤ length bytes → length (written bytes at ws) ≡ length bytes
 length-written bytes ws at h =

@@ -9,18 +9,19 @@ use types.Kit.{‵, ◌⊛◌, ◌$◌, ◌∵◌, !, qed, move, drop as skip, u
 use denote.RawPtr.{Ptr, block_ptr, null_ptr, block_of, count_of}
 use denote.RawPtr.Bytes.{bytes, bytes_apart, bytes_whole}
 use denote.Steps.{nothing}
-use Rattle.raw_range.specs.Places.{Place, is_out}
-use Rattle.raw_range.specs.Ownership.{IsPlaced, run_owns, byte_owns, rest_owns}
+use Rattle.layout.specs.Extents.{Extent}
+use Rattle.raw_range.specs.inside.Covered.{is_allocated}
+use Rattle.raw_range.specs.inside.Ownership.{IsPlaced, run_owns, byte_owns, rest_owns}
 
 -- where no byte is out, all are owned
-pub rest-free : (out : List Place) (b o i : ℕ) (xs : List ℕ) → ((k : ℕ) → i ≤ k → k < i + length xs → is_out out k ≡ false) → rest_owns out b o i xs ≡ bytes full_share xs b o
+pub rest-free : (out : List Extent) (b o i : ℕ) (xs : List ℕ) → ((k : ℕ) → i ≤ k → k < i + length xs → is_allocated out k ≡ false) → rest_owns out b o i xs ≡ bytes full_share xs b o
 rest-free out b o i [] h = refl
 rest-free out b o i (x ∷ xs) h =
     ap₂ (λ (f g : Fml). fsep f g) (ap (λ y. byte_owns y b o x) (h i (omega arith) (omega arith)))
     (rest-free out b (o + 1) (i + 1) xs (λ k low high. h k (omega (arith, low)) (omega (arith, high))))
 
 -- it matters only which of these bytes are out
-pub rest-same : (out out' : List Place) (b o i : ℕ) (xs : List ℕ) → ((k : ℕ) → i ≤ k → k < i + length xs → is_out out k ≡ is_out out' k) → rest_owns out b o i xs ≡ rest_owns out' b o i xs
+pub rest-same : (out out' : List Extent) (b o i : ℕ) (xs : List ℕ) → ((k : ℕ) → i ≤ k → k < i + length xs → is_allocated out k ≡ is_allocated out' k) → rest_owns out b o i xs ≡ rest_owns out' b o i xs
 rest-same out out' b o i [] h = refl
 rest-same out out' b o i (x ∷ xs) h =
     ap₂ (λ (f g : Fml). fsep f g) (ap (λ y. byte_owns y b o x) (h i (omega arith) (omega arith)))
@@ -31,14 +32,14 @@ module _ {M : Type 1} {𝓤 : Ura M} (𝓛 : Logic 𝓤) where
   ⟦ P ⟧ = sem 𝓛 P
 
   -- where all bytes are out, none is owned
-  pub rest-gone : (out : List Place) (b o i : ℕ) (xs : List ℕ) → ((k : ℕ) → i ≤ k → k < i + length xs → is_out out k ≡ true) → ent 𝓤 (emp 𝓤) ⟦ rest_owns out b o i xs ⟧
+  pub rest-gone : (out : List Extent) (b o i : ℕ) (xs : List ℕ) → ((k : ℕ) → i ≤ k → k < i + length xs → is_allocated out k ≡ true) → ent 𝓤 (emp 𝓤) ⟦ rest_owns out b o i xs ⟧
   rest-gone out b o i [] h = id⊢ 𝓤 _
   rest-gone out b o i (x ∷ xs) h =
-      let more : (k : ℕ) → i + 1 ≤ k → k < i + 1 + length xs → is_out out k ≡ true = λ k low high. h k (omega (arith, low)) (omega (arith, high)) in
+      let more : (k : ℕ) → i + 1 ≤ k → k < i + 1 + length xs → is_allocated out k ≡ true = λ k low high. h k (omega (arith, low)) (omega (arith, high)) in
       qed 𝓛 [] ∵ use0 𝓛 (‵ (rest_owns out b (o + 1) (i + 1) xs)) (rest-gone out b (o + 1) (i + 1) xs more) $
       nothing ! $ rewrite ! 0 (λ y. ‵ (byte_owns y b o x)) (sym (h i (omega arith) (omega arith))) refl $ fjoin ! $ done !
 
-  pub rest-cut : (out : List Place) (b o i : ℕ) (xs ys : List ℕ) → ent 𝓤 ⟦ rest_owns out b o i (xs ++ ys) ⟧ (sep 𝓤 ⟦ rest_owns out b o i xs ⟧ ⟦ rest_owns out b (o + length xs) (i + length xs) ys ⟧)
+  pub rest-cut : (out : List Extent) (b o i : ℕ) (xs ys : List ℕ) → ent 𝓤 ⟦ rest_owns out b o i (xs ++ ys) ⟧ (sep 𝓤 ⟦ rest_owns out b o i xs ⟧ ⟦ rest_owns out b (o + length xs) (i + length xs) ys ⟧)
   rest-cut out b o i [] ys =
       qed 𝓛 (‵ (rest_owns out b o i ys) ∷ []) ∵ rewrite ! 0 (λ k. ‵ (rest_owns out b k i ys)) (sym (add-zero o)) refl $
       rewrite ! 0 (λ k. ‵ (rest_owns out b (o + 0) k ys)) (sym (add-zero i)) refl $ nothing ! $ done !
@@ -50,7 +51,7 @@ module _ {M : Type 1} {𝓤 : Ura M} (𝓛 : Logic 𝓤) where
       move ! (1 ∷ []) $ rewrite ! 0 (λ k. ‵ (rest_owns out b k (i + 1 + length xs) ys)) e refl $ rewrite ! 0 (λ k. ‵ (rest_owns out b (o + length (x ∷ xs)) k ys)) f refl $
       move ! (2 ∷ 1 ∷ []) $ fjoin ! $ done !
 
-  pub rest-glue : (out : List Place) (b o i : ℕ) (xs ys : List ℕ) → ent 𝓤 (sep 𝓤 ⟦ rest_owns out b o i xs ⟧ ⟦ rest_owns out b (o + length xs) (i + length xs) ys ⟧) ⟦ rest_owns out b o i (xs ++ ys) ⟧
+  pub rest-glue : (out : List Extent) (b o i : ℕ) (xs ys : List ℕ) → ent 𝓤 (sep 𝓤 ⟦ rest_owns out b o i xs ⟧ ⟦ rest_owns out b (o + length xs) (i + length xs) ys ⟧) ⟦ rest_owns out b o i (xs ++ ys) ⟧
   rest-glue out b o i [] ys =
       qed 𝓛 (‵ ftrue ∷ ‵ (rest_owns out b (o + 0) (i + 0) ys) ∷ []) ∵ skip ! $ rewrite ! 0 (λ k. ‵ (rest_owns out b k (i + 0) ys)) (add-zero o) refl $
       rewrite ! 0 (λ k. ‵ (rest_owns out b o k ys)) (add-zero i) refl $ done !
@@ -61,7 +62,7 @@ module _ {M : Type 1} {𝓤 : Ura M} (𝓛 : Logic 𝓤) where
       rewrite ! 0 (λ k. ‵ (rest_owns out b k (i + length (x ∷ xs)) ys)) e refl $ rewrite ! 0 (λ k. ‵ (rest_owns out b (o + 1 + length xs) k ys)) f refl $
       move ! (2 ∷ 0 ∷ []) $ use2 𝓛 (‵ (rest_owns out b (o + 1) (i + 1) (xs ++ ys))) (rest-glue out b (o + 1) (i + 1) xs ys) $ move ! (1 ∷ 0 ∷ []) $ fjoin ! $ done !
 
-  module _ (out out' : List Place) (b o : ℕ) (front part back : List ℕ) where
+  module _ (out out' : List Extent) (b o : ℕ) (front part back : List ℕ) where
     abbrev mid : ℕ
     mid = length front
 
@@ -69,10 +70,10 @@ module _ {M : Type 1} {𝓤 : Ura M} (𝓛 : Logic 𝓤) where
     end = length front + length part
 
     abbrev Beside : Type 0
-    Beside = (k : ℕ) → (k < mid) ⊎ (end ≤ k) → is_out out k ≡ is_out out' k
+    Beside = (k : ℕ) → (k < mid) ⊎ (end ≤ k) → is_allocated out k ≡ is_allocated out' k
 
     -- the bytes of the part go out
-    pub rest-lend : Beside → ((k : ℕ) → mid ≤ k → k < end → is_out out k ≡ false) → ((k : ℕ) → mid ≤ k → k < end → is_out out' k ≡ true)
+    pub rest-lend : Beside → ((k : ℕ) → mid ≤ k → k < end → is_allocated out k ≡ false) → ((k : ℕ) → mid ≤ k → k < end → is_allocated out' k ≡ true)
         → ent 𝓤 ⟦ rest_owns out b o 0 (front ++ (part ++ back)) ⟧ (sep 𝓤 ⟦ rest_owns out' b o 0 (front ++ (part ++ back)) ⟧ ⟦ bytes full_share part b (o + mid) ⟧)
     rest-lend beside free gone =
         let m = o + mid in let n = o + mid + length part in let j = 0 + mid in let l = 0 + mid + length part in
@@ -88,9 +89,9 @@ module _ {M : Type 1} {𝓤 : Ura M} (𝓛 : Logic 𝓤) where
         move ! (1 ∷ 0 ∷ []) $ use2 𝓛 (‵ (rest_owns out' b o 0 (front ++ (part ++ back)))) (rest-glue out' b o 0 front (part ++ back)) $ done !
 
   -- the bytes of the part come back, in the place of as many that were there
-  pub rest-regain : (out out' : List Place) (b o : ℕ) (front old part back : List ℕ) → length old ≡ length part
-      → ((k : ℕ) → (k < length front) ⊎ (length front + length part ≤ k) → is_out out k ≡ is_out out' k)
-      → ((k : ℕ) → length front ≤ k → k < length front + length part → is_out out' k ≡ false)
+  pub rest-regain : (out out' : List Extent) (b o : ℕ) (front old part back : List ℕ) → length old ≡ length part
+      → ((k : ℕ) → (k < length front) ⊎ (length front + length part ≤ k) → is_allocated out k ≡ is_allocated out' k)
+      → ((k : ℕ) → length front ≤ k → k < length front + length part → is_allocated out' k ≡ false)
       → ent 𝓤 (sep 𝓤 ⟦ rest_owns out b o 0 (front ++ (old ++ back)) ⟧ ⟦ bytes full_share part b (o + length front) ⟧) ⟦ rest_owns out' b o 0 (front ++ (part ++ back)) ⟧
   rest-regain out out' b o front old part back long beside free =
       let m = o + length front in let j = 0 + length front in

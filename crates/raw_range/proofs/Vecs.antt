@@ -18,7 +18,7 @@ use Rattle.std.specs.Allocator.{block_with_items}
 use Rattle.std.specs.Vec.{with_items}
 use Rattle.std_alloc.specs.Vec.Ownership.{owns_if, has_block}
 use Rattle.std_alloc.specs.contracts.vec.Vec as V
-use Rattle.raw_range.specs.Ownership.{run_owns}
+use Rattle.raw_range.specs.inside.Ownership.{run_owns}
 use Rattle.raw_range.specs.contracts.memory.Sole as Sole
 use Rattle.raw_range.proofs.Walks.{plainly, one, one_made}
 

@@ -1,4 +1,3 @@
 pub mod Memory
-pub mod Ownership
-pub mod Places
 pub mod Writes
+pub mod inside

@@ -8,7 +8,7 @@ use Rattle.std_alloc.specs.contracts.vec.Vec as V
 use Rattle.std_alloc.specs.contracts.vec.lodged.Lodged as L
 use Rattle.std_alloc.specs.contracts.vec.lodged.LodgedAllocator.TheImpl.{ghosts}
 use Rattle.raw_range.specs.Memory.{Lent}
-use Rattle.raw_range.specs.Places.{written}
+use Rattle.raw_range.specs.Memory.{written}
 use Rattle.raw_range.specs.contracts.piece.Piece.{the_row}
 
 -- only the bytes of the piece change: they are those last written through r

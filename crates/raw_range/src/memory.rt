@@ -3,8 +3,9 @@ ghost use Rattle.std.specs.Prelude.{◌≡◌, ℕ, ◌+◌, ◌≤◌, List, []
 ghost use Rattle.std.specs.Vec.{with_items};
 ghost use base.Fml.{ftrue, fex, fall, fwand, fsep, feq};
 ghost use denote.RawPtr.{Ptr, ◌+ₚ◌};
-ghost use Rattle.raw_range.specs.Places.{Place, place, Apart, AreBlocks, IsWithin, without, written};
-ghost use Rattle.raw_range.specs.Ownership.{Extent, extent_code, IsPlaced, run_owns, held_owns};
+ghost use Rattle.layout.specs.Extents.{Extent, extent, Disjoint, AreDisjoint, IsWithin};
+ghost use Rattle.raw_range.specs.Memory.{remove_extent, written};
+ghost use Rattle.raw_range.specs.inside.Ownership.{Buffer, buffer_code, IsPlaced, run_owns, held_owns};
 
 use std::alloc::Allocator;
 use std::marker::{Model, Move, Owns};
@@ -36,9 +37,9 @@ pub(crate) struct Sole<A: Allocator> {
 }
 
 impl<A: Allocator> Owns for Sole<A> {
-    ghost Value = { Extent };
+    ghost Value = { Buffer };
 
-    ghost coded = { extent_code };
+    ghost coded = { buffer_code };
 
     ghost shr_at = { λ _ _ _. ftrue };
 }
@@ -51,7 +52,7 @@ impl<A: Allocator> Move for Sole<A> {
 #[derive(Drop)]
 pub(crate) struct Held {
     ghost ptr: { Ptr },
-    ghost out: { List Place },
+    ghost out: { List Extent },
     ghost bytes: { List ℕ },
 }
 
@@ -92,8 +93,8 @@ impl Held {
 
     // Takes the bytes of a place out.
     pub(crate) fn lend(self, at: usize, len: usize) -> (Held, Run)
-        requires { IsPlaced self.ptr × (at + len ≤ length self.bytes) × All (Apart (place at len)) self.out }
-        ensures { (result.0.ptr ≡ self.ptr) × (result.0.out ≡ place at len ∷ self.out) × (result.0.bytes ≡ self.bytes)
+        requires { IsPlaced self.ptr × (at + len ≤ length self.bytes) × All (Disjoint (extent at len)) self.out }
+        ensures { (result.0.ptr ≡ self.ptr) × (result.0.out ≡ extent at len ∷ self.out) × (result.0.bytes ≡ self.bytes)
             × (result.1.ptr ≡ self.ptr +ₚ at) × (result.1.items ≡ take len (drop at self.bytes)) }
     {
         let Held {} = self;
@@ -102,8 +103,8 @@ impl Held {
 
     // Takes the bytes of a place that is out back.
     pub(crate) fn regain(self, at: usize, run: Run) -> Held
-        requires { IsPlaced self.ptr × (run.ptr ≡ self.ptr +ₚ at) × AreBlocks (length self.bytes) self.out × Contains self.out (place at (length run.items)) }
-        ensures { (result.ptr ≡ self.ptr) × (result.out ≡ without (place at (length run.items)) self.out) × (result.bytes ≡ written self.bytes at run.items) }
+        requires { IsPlaced self.ptr × (run.ptr ≡ self.ptr +ₚ at) × AreDisjoint (length self.bytes) self.out × Contains self.out (extent at (length run.items)) }
+        ensures { (result.ptr ≡ self.ptr) × (result.out ≡ remove_extent (extent at (length run.items)) self.out) × (result.bytes ≡ written self.bytes at run.items) }
     {
         let Held {} = self;
         let Run {} = run;

@@ -36,6 +36,6 @@ pub(crate) fn vacate(vec: Vec<u8, Lodged>) -> Run
     requires { 0 < vec.len }
     ensures { (result.ptr ≡ vec.ptr) × (result.items ≡ vec.items) }
 {
-    let _len = vec.dislodge();
+    let _len = vec.dislodge(); // the bytes stay where they are
     Run {}
 }

@@ -52,12 +52,14 @@ impl Piece {
         self.owner
     }
 
+    /// Its bytes, the first of which is the byte `at` of the range.
     pub fn bytes(&self) -> &[u8]
         ensures { result.now ≡ self.now.bytes }
     {
         self.memory.as_slice()
     }
 
+    /// The same, for writing. The piece keeps its place, length, owner and range.
     pub fn bytes_mut(&mut self) -> &mut [u8]
         ensures* lends { sem 𝓛 (LendsBytes self.entry result) }
         ensures value { result.now ≡ self.old.bytes }

@@ -4,9 +4,10 @@ use Rattle.std.specs.Prelude.{None, Some, option_map}
 use Rattle.std.specs.List.{refill}
 use Rattle.object_log.specs.Objects.{objects, live, IsSegment}
 use Rattle.raw_range.specs.Memory.{Lent}
-use Rattle.regions.specs.Held.{Held, identity}
-use Rattle.regions.specs.Contents.{Standing, standing, standing_among, standing_in, live_bytes}
-use Rattle.regions.specs.Calls.{zeros, ChangesIn, Appends}
+use Rattle.regions.specs.Segments.{SegmentState}
+use Rattle.regions.specs.Shapes.{identity, slot_of}
+use Rattle.regions.specs.Counts.{live_bytes, live_in}
+use Rattle.regions.specs.Contents.{Standing, standing, standing_among, standing_in, zeros, ChangesIn}
 use Rattle.regions.proofs.Objects.{standing-below, none-behind, with-added, added-there, live-added}
 use Rattle.std.proofs.lemmas.Grind.{common_steps}
 
@@ -15,7 +16,7 @@ refill-same n xs ws e f = grind (arith, common_steps)
 
 module _ (p : Lent) (free : Bool) (now new : List ℕ) (used kind size r : ℕ) (long : length p.bytes ≡ 131072) (is-now : now ≡ p.bytes) (same-long : length new ≡ length now) (segment : IsSegment p.bytes used) (ends : r ≡ used + size)
     (grown : objects new r ≡ objects now used ++ live used kind size ∷ []) (zero-content : take (size - 8) (drop (used + 8) new) ≡ replicate (size - 8) 0)
-    (kept : take used new ≡ take used now) (old : Held) (is-old : record { piece = p; used = used; free = free } ≡ old) where
+    (kept : take used new ≡ take used now) (old : SegmentState) (is-old : record { piece = p; used = used; free = free } ≡ old) where
   added : objects new r ≡ objects p.bytes used ++ live used kind size ∷ []
   added = rw is-now at grown
 
@@ -28,25 +29,21 @@ module _ (p : Lent) (free : Bool) (now new : List ℕ) (used kind size r : ℕ) 
   pub is-new : refill (length p.bytes) p.bytes new ≡ new
   is-new = refill-same (length p.bytes) p.bytes new refl as-long
 
-  abbrev after : List ℕ → Held
+  abbrev after : List ℕ → SegmentState
   after bytes = record { piece = record p { bytes = bytes }; used = r; free = free }
 
-  pub live-grown : live_bytes (objects (refill (length p.bytes) p.bytes new) r) ≡ live_bytes (objects p.bytes used) + size
-  live-grown = ap (λ b. live_bytes (objects b r)) is-new ∙ ap live_bytes added ∙ live-added (objects p.bytes used) used kind size
+  pub live-grown : live_in (Some (after (refill (length p.bytes) p.bytes new))) ≡ live_in (Some old) + size
+  live-grown =
+      subst (λ h. live_in (Some (after (refill (length p.bytes) p.bytes new))) ≡ live_in (Some h) + size) is-old
+      (ap (λ b. live_in (Some (after b))) is-new ∙ ap live_bytes added ∙ live-added (objects p.bytes used) used kind size)
 
-  pub appended : Appends kind size old (record { piece = record p { bytes = refill (length p.bytes) p.bytes new }; used = r; free = free })
-  appended =
-      subst (λ h. Appends kind size h (after (refill (length p.bytes) p.bytes new))) is-old (subst (λ b. Appends kind size (record { piece = p; used = used; free = free }) (after b)) (sym is-new)
-      (record {
-        used = ends;
-        free = refl;
-        piece = ap (λ n. record (identity p) { length = n }) as-long;
-        objects = added;
-        live = ap live_bytes added ∙ live-added (objects p.bytes used) used kind size;
-      }))
+  pub slot-same : slot_of (after (refill (length p.bytes) p.bytes new)) ≡ slot_of old
+  slot-same =
+      subst (λ h. slot_of (after (refill (length p.bytes) p.bytes new)) ≡ slot_of h) is-old
+      (ap (λ n. record { piece = record (identity p) { length = n }; free = free }) (ap length is-new ∙ as-long))
 
   pub unused : standing_in (Some old) used ≡ None
-  unused = subst (λ h. standing_in (Some h) used ≡ None) is-old (ap (option_map (standing p.bytes)) (none-behind p.bytes 0 used used (objects p.bytes used) segment.whole (omega arith)))
+  unused = subst (λ h. standing_in (Some h) used ≡ None) is-old (ap (option_map (standing p.bytes)) (none-behind p.bytes 0 used used (objects p.bytes used) segment.objects (omega arith)))
 
   pub changed : ChangesIn used (Some (zeros kind size)) (Some old) (Some (record { piece = record p { bytes = refill (length p.bytes) p.bytes new }; used = r; free = free }))
   changed =
@@ -54,10 +51,10 @@ module _ (p : Lent) (free : Bool) (now new : List ℕ) (used kind size r : ℕ) 
       (record {
         here =
             ap (λ os. standing_among new used os) added
-            ∙ ap (option_map (standing new)) (added-there (objects p.bytes used) (live used kind size) used refl (none-behind p.bytes 0 used used (objects p.bytes used) segment.whole (omega arith)))
+            ∙ ap (option_map (standing new)) (added-there (objects p.bytes used) (live used kind size) used refl (none-behind p.bytes 0 used used (objects p.bytes used) segment.objects (omega arith)))
             ∙ ap (λ c. let s : Standing = record { live = true; item = record { kind = kind; content = c } } in Some s) zero-content;
         others = λ a ne.
             ap (λ os. standing_among new a os) added
             ∙ ap (option_map (standing new)) (with-added (objects p.bytes used) (live used kind size) a (λ e. ne (sym e)))
-            ∙ standing-below p.bytes new 0 used a (objects p.bytes used) segment.whole below;
+            ∙ standing-below p.bytes new 0 used a (objects p.bytes used) segment.objects below;
       }))

@@ -6,9 +6,10 @@ use Rattle.std.proofs.lemmas.Bool.{ne_eqb, cases_eq}
 use Rattle.std.proofs.lemmas.List.{take-set, drop-set-lt, length-set}
 use Rattle.object_log.specs.Objects.{Object, objects, killed, AreObjects, IsSegment}
 use Rattle.raw_range.specs.Memory.{Lent}
-use Rattle.regions.specs.Held.{Held, identity}
-use Rattle.regions.specs.Contents.{Standing, standing, standing_among, standing_in, object_with, live_bytes}
-use Rattle.regions.specs.Calls.{dead, ChangesIn, Buries}
+use Rattle.regions.specs.Segments.{SegmentState}
+use Rattle.regions.specs.Shapes.{identity, slot_of}
+use Rattle.regions.specs.Counts.{live_bytes, live_in}
+use Rattle.regions.specs.Contents.{Standing, standing, standing_among, standing_in, object_with, dead, ChangesIn}
 use Rattle.regions.proofs.Objects.{found, standing-beside, content-same, window-behind}
 use Rattle.regions.proofs.Appended.{refill-same}
 
@@ -64,7 +65,7 @@ live-killed bytes a used at (o ∷ os) it h e one =
     ]
 
 module _ (p : Lent) (free : Bool) (now new : List ℕ) (used at : ℕ) (is-now : now ≡ p.bytes) (stated : new ≡ slice_set now at 2) (buried-now : objects new used ≡ killed at (objects now used))
-    (segment : IsSegment p.bytes used) (it : Object) (is-it : object_with at (objects p.bytes used) ≡ Some it) (one : it.state ≡ 1) (old : Held) (is-old : record { piece = p; used = used; free = free } ≡ old) where
+    (segment : IsSegment p.bytes used) (it : Object) (is-it : object_with at (objects p.bytes used) ≡ Some it) (one : it.state ≡ 1) (old : SegmentState) (is-old : record { piece = p; used = used; free = free } ≡ old) where
   state : new ≡ slice_set p.bytes at 2
   state = rw is-now at stated
 
@@ -77,14 +78,24 @@ module _ (p : Lent) (free : Bool) (now new : List ℕ) (used at : ℕ) (is-now :
   pub is-new : refill (length p.bytes) p.bytes new ≡ new
   is-new = refill-same (length p.bytes) p.bytes new refl as-long
 
-  abbrev after : List ℕ → Held
+  abbrev after : List ℕ → SegmentState
   after bytes = record { piece = record p { bytes = bytes }; used = used; free = free }
 
   live-less : live_bytes (objects new used) + it.size ≡ live_bytes (objects p.bytes used)
-  live-less = ap (λ os. live_bytes os + it.size) gone ∙ live-killed p.bytes 0 used at (objects p.bytes used) it segment.whole is-it one
+  live-less = ap (λ os. live_bytes os + it.size) gone ∙ live-killed p.bytes 0 used at (objects p.bytes used) it segment.objects is-it one
 
-  pub live-shrunk : live_bytes (objects (refill (length p.bytes) p.bytes new) used) + it.size ≡ live_bytes (objects p.bytes used)
-  live-shrunk = ap (λ b. live_bytes (objects b used) + it.size) is-new ∙ live-less
+  live-shrunk : live_in (Some old) ≡ live_in (Some (after (refill (length p.bytes) p.bytes new))) + it.size
+  live-shrunk =
+      subst (λ h. live_in (Some h) ≡ live_in (Some (after (refill (length p.bytes) p.bytes new))) + it.size) is-old
+      (sym (ap (λ b. live_in (Some (after b)) + it.size) is-new ∙ live-less))
+
+  pub live-less-size : {n : ℕ} → it.size ≡ n → live_in (Some old) ≡ live_in (Some (after (refill (length p.bytes) p.bytes new))) + n
+  live-less-size size = live-shrunk ∙ ap (λ n. live_in (Some (after (refill (length p.bytes) p.bytes new))) + n) size
+
+  pub slot-same : slot_of (after (refill (length p.bytes) p.bytes new)) ≡ slot_of old
+  slot-same =
+      subst (λ h. slot_of (after (refill (length p.bytes) p.bytes new)) ≡ slot_of h) is-old
+      (ap (λ n. record { piece = record (identity p) { length = n }; free = free }) (ap length is-new ∙ as-long))
 
   front : take at new ≡ take at p.bytes
   front = ap (take at) state ∙ take-set p.bytes at 2
@@ -92,26 +103,14 @@ module _ (p : Lent) (free : Bool) (now new : List ℕ) (used at : ℕ) (is-now :
   back : drop (at + 1) new ≡ drop (at + 1) p.bytes
   back = ap (drop (at + 1)) state ∙ drop-set-lt (at + 1) p.bytes at 2 (omega arith)
 
-  pub buried : Buries at old (record { piece = record p { bytes = refill (length p.bytes) p.bytes new }; used = used; free = free })
-  buried =
-      subst (λ h. Buries at h (after (refill (length p.bytes) p.bytes new))) is-old
-      (subst (λ b. Buries at (record { piece = p; used = used; free = free }) (after b)) (sym is-new)
-      (record {
-        used = refl;
-        free = refl;
-        piece = ap (λ n. record (identity p) { length = n }) as-long;
-        objects = gone;
-        live = λ o e. (let same : it ≡ o = (let both : Some it ≡ Some o = sym is-it ∙ e in cc) in subst (λ (q : Object). live_bytes (objects new used) + q.size ≡ live_bytes (objects p.bytes used)) same live-less);
-      }))
-
   beside : (b : ℕ) → standing_among new b (objects p.bytes used) ≡ standing_among p.bytes b (objects p.bytes used)
   beside b =
-      let f = found p.bytes 0 used at (objects p.bytes used) it segment.whole is-it in
-      standing-beside p.bytes new at (at + 1) 0 used at b (objects p.bytes used) it segment.whole is-it (omega arith) (omega (arith, f.least)) front back (inr (omega arith))
+      let f = found p.bytes 0 used at (objects p.bytes used) it segment.objects is-it in
+      standing-beside p.bytes new at (at + 1) 0 used at b (objects p.bytes used) it segment.objects is-it (omega arith) (omega (arith, f.least)) front back (inr (omega arith))
 
   lies : standing new it ≡ standing p.bytes it
   lies =
-      let f = found p.bytes 0 used at (objects p.bytes used) it segment.whole is-it in
+      let f = found p.bytes 0 used at (objects p.bytes used) it segment.objects is-it in
       content-same it p.bytes new (ap (take (it.size - 8)) (window-behind (at + 1) (it.at + 8) p.bytes new (omega (arith, f.place)) back))
 
   pub changed : ChangesIn at (option_map dead (standing_in (Some old) at)) (Some old) (Some (record { piece = record p { bytes = refill (length p.bytes) p.bytes new }; used = used; free = free }))

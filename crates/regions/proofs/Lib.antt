@@ -1,6 +1,13 @@
 pub mod Objects
 pub mod Appended
 pub mod Killed
-pub mod Tables
 pub mod Written
-pub mod Named
+pub mod Tables
+pub mod Updates
+pub mod Consistency
+pub mod Regions
+pub mod Emptied
+pub mod Sums
+pub mod Stores
+pub mod Places
+pub mod Walked

@@ -4,7 +4,8 @@ use Rattle.std.specs.Prelude.{◌==◌, Option, None, Some, option_map, IsSome, 
 use Rattle.std.proofs.lemmas.Bool.{eq-eqb, ne_eqb, eqb-true, cases_eq}
 use Rattle.std.proofs.lemmas.List.{take-take, drop-take, drop-drop}
 use Rattle.object_log.specs.Objects.{Object, object_at, objects, AreObjects, IsSegment, live}
-use Rattle.regions.specs.Contents.{Item, Standing, standing, standing_among, item_if_live, if_live, object_with, live_bytes}
+use Rattle.regions.specs.Counts.{live_bytes}
+use Rattle.regions.specs.Contents.{Item, Standing, standing, standing_among, item_if_live, if_live, object_with}
 
 -- objects end where they end
 pub objects-below : (bytes : List ℕ) (a used : ℕ) (os : List Object) → AreObjects bytes a used os → a ≤ used
@@ -216,4 +217,47 @@ none-live bytes a used at (o ∷ os) h z =
 pub dead-segment : (bytes : List ℕ) (used : ℕ) (free : Bool) → (free ≡ true → used ≡ 0) → (free ≡ false → IsSegment bytes used) → live_bytes (objects bytes used) ≡ 0
     → (at : ℕ) → item_if_live (standing_among bytes at (objects bytes used)) ≡ None
 dead-segment bytes used true unused s z at = subst (λ k. item_if_live (standing_among bytes at (objects bytes k)) ≡ None) (sym (unused refl)) refl
-dead-segment bytes used false unused s z at = none-live bytes 0 used at (objects bytes used) (s refl).whole z
+dead-segment bytes used false unused s z at = none-live bytes 0 used at (objects bytes used) (s refl).objects z
+
+-- no more bytes are live than are used
+pub live-within : (bytes : List ℕ) (used : ℕ) (free : Bool) → (free ≡ true → used ≡ 0) → (free ≡ false → IsSegment bytes used) → live_bytes (objects bytes used) ≤ used
+live-within bytes used true unused s = subst (λ k. live_bytes (objects bytes k) ≤ k) (sym (unused refl)) (omega arith)
+live-within bytes used false unused s = let b = live-below bytes 0 used (objects bytes used) (s refl).objects in omega (arith, b)
+
+next-of : (bytes : List ℕ) (a used at : ℕ) (p : Object) (os : List Object) → AreObjects bytes a used os → a ≡ at → p.at < at → (at ≡ used) ⊎ IsSome (object_with at (p ∷ os))
+next-of bytes a used at p [] h e low = inl (sym e ∙ h)
+next-of bytes a used at p (q ∷ os) h e low =
+    let here : q.at ≡ at = ap (λ x. x.at) h.0 ∙ e in
+    inr (rw (ne_eqb p.at at (λ g. omega (arith, g, low))) (rw (eq-eqb q.at at here) refl))
+
+-- behind an object stands the next one, or the end, and none between
+pub after-found : (bytes : List ℕ) (a used at : ℕ) (os : List Object) (o : Object) → AreObjects bytes a used os → object_with at os ≡ Some o
+    → ((at + o.size ≡ used) ⊎ IsSome (object_with (at + o.size) os)) × ((b : ℕ) → at < b → b < at + o.size → object_with b os ≡ None)
+after-found bytes a used at [] o h e = absurd (let clash : None ≡ Some o = e in cc)
+after-found bytes a used at (p ∷ os) o h e =
+    let here : p.at ≡ a = ap (λ q. q.at) h.0 in let some = h.1.4.0 in
+    elim (cases_eq p.at at) [
+      | inl is ↦
+          let first : object_with at (p ∷ os) ≡ Some p = rw (eq-eqb p.at at is) refl in
+          let same : p ≡ o = (let both : Some p ≡ Some o = sym first ∙ e in cc) in
+          let size : p.size ≡ o.size = ap (λ q. q.size) same in (
+            next-of bytes (a + p.size) used (at + o.size) p os h.2 (omega (arith, here, is, size)) (omega (arith, is, some, size)),
+            λ b low high. rw (ne_eqb p.at b (λ g. omega (arith, g, is, low))) (none-before bytes (a + p.size) used b os h.2 (omega (arith, high, here, is, size))),
+          )
+      | inr far ↦
+          let later : object_with at (p ∷ os) ≡ object_with at os = rw (ne_eqb p.at at far) refl in
+          let it = sym later ∙ e in
+          let f = found bytes (a + p.size) used at os o h.2 it in
+          let rest = after-found bytes (a + p.size) used at os o h.2 it in (
+            elim rest.0 [
+              | inl ends ↦ inl ends
+              | inr more ↦ inr (rw (ne_eqb p.at (at + o.size) (λ g. omega (arith, g, here, f.low, some))) more)
+            ],
+            λ b low high. rw (ne_eqb p.at b (λ g. omega (arith, g, here, f.low, some, low))) (rest.1 b low high),
+          )
+    ]
+
+-- the first object begins where all begin, or they end there
+pub first-start : (bytes : List ℕ) (a used : ℕ) (os : List Object) → AreObjects bytes a used os → IsSome (standing_among bytes a os) ⊎ (a ≡ used)
+first-start bytes a used [] h = inr h
+first-start bytes a used (o ∷ os) h = inl (ap (λ b. is_some (option_map (standing bytes) (cond b (Some o) (object_with a os)))) (eq-eqb o.at a (ap (λ p. p.at) h.0)))

@@ -3,41 +3,89 @@ use Rattle.std.proofs.Common.{◌≡◌, ℕ, ◌+◌, ◌-◌, inl, Bool, true,
 use Rattle.std.specs.Prelude.{Option, None, Some, IsSome, option_map}
 use Rattle.std.specs.List.{refill, length_refill}
 use Rattle.std.proofs.lemmas.List.{take_at, drop_at}
-use Rattle.object_log.specs.Objects.{Object, objects, descriptor_at, IsSegment}
-use Rattle.object_log.specs.declared.descriptor.Descriptor.{Descriptor}
-use Rattle.object_log.proofs.Writing.{HasObject, with_content, objects-written, IsSegment-written}
-use Rattle.raw_range.specs.Memory.{Lent}
-use Rattle.regions.specs.Held.{Held, identity}
-use Rattle.regions.specs.Contents.{Standing, standing, standing_among, item_if_live, object_with}
-use Rattle.regions.specs.Calls.{rewritten, with_bytes, ChangesIn, Fills}
+use Rattle.object_log.specs.Objects.{Object, objects, descriptor_at, content_at, with_content, IsSegment}
+use Rattle.raw_range.specs.Memory.{Lent, written}
+use Rattle.regions.specs.Segments.{SegmentState}
+use Rattle.regions.specs.Shapes.{identity, slot_of}
+use Rattle.regions.specs.Counts.{live_bytes, live_in}
+use Rattle.regions.specs.Contents.{Standing, standing, standing_among, item_if_live, object_with, rewritten, with_bytes, ChangesIn}
 use Rattle.regions.specs.Lends.{bytes_with}
-use Rattle.regions.proofs.Objects.{IsFound, found, found-any, standing-beside, live-found, live-standing, begun-if}
+use Rattle.regions.proofs.Objects.{IsFound, found, standing-beside, live-found, live-standing, some-found, begun-if}
 
--- an object that is live at the offset, in a segment that is not free
+-- an object that stands at the offset, in a segment that is not free
+pub record IsThere (bytes : List ℕ) (used at : ℕ) : Type 0 where
+  pub segment : IsSegment bytes used
+  pub it : Object
+  pub is-it : object_with at (objects bytes used) ≡ Some it
+  pub found : IsFound bytes 0 used at it
+
+pub is-there : (bytes : List ℕ) (used at : ℕ) (free : Bool) → (free ≡ true → used ≡ 0) → (free ≡ false → IsSegment bytes used)
+    → IsSome (standing_among bytes at (objects bytes used)) → IsThere bytes used at
+is-there bytes used at free unused begun there =
+    let segment = begun (begun-if bytes used at free unused there) in
+    let f = some-found bytes at (objects bytes used) there in record { segment = segment; it = f.0; is-it = f.1; found = found bytes 0 used at (objects bytes used) f.0 segment.objects f.1 }
+
+-- one that is live
 pub record IsLive (bytes : List ℕ) (used at : ℕ) : Type 0 where
   pub segment : IsSegment bytes used
   pub it : Object
   pub is-it : object_with at (objects bytes used) ≡ Some it
+  pub alive : it.state ≡ 1
   pub found : IsFound bytes 0 used at it
 
 pub is-live : (bytes : List ℕ) (used at : ℕ) (free : Bool) → (free ≡ true → used ≡ 0) → (free ≡ false → IsSegment bytes used)
     → IsSome (item_if_live (standing_among bytes at (objects bytes used))) → IsLive bytes used at
 is-live bytes used at free unused begun alive =
     let segment = begun (begun-if bytes used at free unused (live-standing _ alive)) in
-    let f = live-found bytes at (objects bytes used) alive in record { segment = segment; it = f.0; is-it = f.1; found = found bytes 0 used at (objects bytes used) f.0 segment.whole f.1 }
+    let f = live-found bytes at (objects bytes used) alive in
+    record { segment = segment; it = f.0; is-it = f.1; alive = f.2; found = found bytes 0 used at (objects bytes used) f.0 segment.objects f.1 }
 
--- the size that was read is the object's
-pub size-read : (bytes now : List ℕ) (used at : ℕ) (d : Descriptor) (live : IsLive bytes used at) → now ≡ bytes → d ≡ descriptor_at now at
-    → ((live.it).size ≡ d.size) × (d.size ≡ (descriptor_at bytes at).size)
-size-read bytes now used at d live is read =
-    let same : d.size ≡ (descriptor_at bytes at).size = ap (λ e. e.size) read ∙ ap (λ b. (descriptor_at b at).size) is in (ap (λ o. o.size) (live.found).is ∙ sym same, same)
+abbrev pub as-there : (bytes : List ℕ) (used at : ℕ) → IsLive bytes used at → IsThere bytes used at
+as-there bytes used at live = record { segment = live.segment; it = live.it; is-it = live.is-it; found = live.found }
 
-module _ (p : Lent) (ws : List ℕ) (used at size : ℕ) (live : IsLive p.bytes used at) (is-size : (live.it).size ≡ size) where
+-- the content is read where it lies
+pub content-read : (bytes now : List ℕ) (used at start len : ℕ) (there : IsThere bytes used at) → now ≡ bytes → start ≡ at + 8 → len + 8 ≡ (descriptor_at now at).size
+    → option_map (λ s. s.item.content) (standing_among bytes at (objects bytes used)) ≡ Some (take len (drop start bytes))
+content-read bytes now used at start len there is begins ends =
+    let f = there.found in
+    let size : (there.it).size ≡ (descriptor_at bytes at).size = ap (λ o. o.size) f.is in
+    let here : (there.it).size ≡ len + 8 = size ∙ ap (λ b. (descriptor_at b at).size) (sym is) ∙ sym ends in
+    ap (λ o. option_map (λ s. s.item.content) (option_map (standing bytes) o)) there.is-it ∙ ap (λ k. Some (take k (drop ((there.it).at + 8) bytes))) (omega (arith, here) ∙ refl)
+    ∙ ap (λ k. Some (take len (drop k bytes))) (ap (λ k. k + 8) f.place ∙ sym begins)
+
+-- what was left there lies there
+pub bytes-same : (bytes ws : List ℕ) (at start len size : ℕ) {now : ℕ} → start ≡ at + 8 → now ≡ size → len + 8 ≡ now
+    → written bytes start (refill len (take len (drop start bytes)) ws) ≡ bytes_with at size ws bytes
+bytes-same bytes ws at start len size begins is ends =
+    let n : len ≡ size - 8 = omega (arith, is, ends) in
+    ap (λ k. written bytes k (refill len (take len (drop k bytes)) ws)) begins ∙ ap (λ k. written bytes (at + 8) (refill k (take k (drop (at + 8) bytes)) ws)) n
+
+-- the content has the bytes of the object behind its descriptor
+pub content-size : (bytes : List ℕ) (used at : ℕ) (live : IsThere bytes used at) → (live.it).size ≡ length (content_at (live.it).at (live.it).size bytes) + 8
+content-size bytes used at live =
+    let f = live.found in let s = live.segment in let d = length-drop ((live.it).at + 8) bytes in
+    let n = length-take-le ((live.it).size - 8) (drop ((live.it).at + 8) bytes) (omega (arith, d, f.place, f.high, f.least, s.inside, s.long)) in omega (arith, n, f.least)
+
+-- what writing a content of that length leaves
+pub record IsWritten (bytes : List ℕ) (used at size : ℕ) : Type 0 where
+  pub segment : (ws : List ℕ) → length ws ≡ size - 8 → IsSegment (with_content at ws bytes) used
+  pub objects : (ws : List ℕ) → length ws ≡ size - 8 → objects (with_content at ws bytes) used ≡ objects bytes used
+
+pub is-written : (bytes now : List ℕ) (used at len : ℕ) → now ≡ bytes → len + 8 ≡ (descriptor_at now at).size
+    → ((ws : List ℕ) → length ws ≡ len → IsSegment (with_content at ws now) used) → ((ws : List ℕ) → length ws ≡ len → objects (with_content at ws now) used ≡ objects now used)
+    → IsWritten bytes used at (descriptor_at bytes at).size
+is-written bytes now used at len is ends s o =
+    let n : (descriptor_at bytes at).size ≡ len + 8 = ap (λ b. (descriptor_at b at).size) (sym is) ∙ sym ends in record {
+      segment = λ ws long. subst (λ b. IsSegment (with_content at ws b) used) is (s ws (omega (arith, long, n)));
+      objects = λ ws long. subst (λ b. objects (with_content at ws b) used ≡ objects b used) is (o ws (omega (arith, long, n)));
+    }
+
+module _ (p : Lent) (ws : List ℕ) (used at size : ℕ) (live : IsLive p.bytes used at) (is-size : (live.it).size ≡ size) (law : IsWritten p.bytes used at size) where
   open live use {segment, it, is-it, found as place}
 
   -- the content as it was, and as it is left
   abbrev content : List ℕ
-  content = take (size - 8) (drop (at + 8) p.bytes)
+  content = content_at at size p.bytes
 
   abbrev fit : List ℕ
   fit = refill (size - 8) content ws
@@ -52,20 +100,17 @@ module _ (p : Lent) (ws : List ℕ) (used at size : ℕ) (live : IsLive p.bytes 
   fit-long : length fit ≡ size - 8
   fit-long = sym (length_refill (size - 8) content ws (sym content-long))
 
-  is-new : new ≡ with_content at it.size p.bytes fit
-  is-new = let e : at + 8 + length fit ≡ at + it.size = omega (arith, fit-long, place.least, is-size) in ap (λ k. take (at + 8) p.bytes ++ (fit ++ drop k p.bytes)) e
+  is-new : new ≡ with_content at fit p.bytes
+  is-new = refl
 
-  has : HasObject at it.size (objects p.bytes used)
-  has = found-any (λ (o : Object). (o.at ≡ at) × (o.size ≡ it.size)) at (objects p.bytes used) it is-it (place.place, refl)
-
-  fills : length fit ≡ it.size - 8
-  fills = fit-long ∙ ap (λ k. k - 8) (sym is-size)
+  ends-at : at + 8 + length fit ≡ at + it.size
+  ends-at = omega (arith, fit-long, place.least, is-size)
 
   pub objects-same : objects new used ≡ objects p.bytes used
-  objects-same = ap (λ b. objects b used) is-new ∙ objects-written p.bytes fit used at it.size segment has place.least place.high fills
+  objects-same = law.objects fit fit-long
 
   pub segment-kept : IsSegment new used
-  segment-kept = subst (λ b. IsSegment b used) (sym is-new) (IsSegment-written p.bytes fit used at it.size segment has place.least place.high fills)
+  segment-kept = law.segment fit fit-long
 
   front-long : length (take (at + 8) p.bytes) ≡ at + 8
   front-long = length-take-le (at + 8) p.bytes (omega (arith, place.high, place.least, segment.inside, segment.long))
@@ -75,8 +120,8 @@ module _ (p : Lent) (ws : List ℕ) (used at size : ℕ) (live : IsLive p.bytes 
 
   back : drop (at + it.size) new ≡ drop (at + it.size) p.bytes
   back =
-      let both : length (take (at + 8) p.bytes ++ fit) ≡ at + it.size = length-append (take (at + 8) p.bytes) fit ∙ omega (arith, front-long, fills, place.least) in
-      ap (drop (at + it.size)) (is-new ∙ sym (append_assoc (take (at + 8) p.bytes) fit (drop (at + it.size) p.bytes)))
+      let both : length (take (at + 8) p.bytes ++ fit) ≡ at + it.size = length-append (take (at + 8) p.bytes) fit ∙ omega (arith, front-long, fit-long, is-size, place.least) in
+      ap (drop (at + it.size)) (ap (λ k. take (at + 8) p.bytes ++ (fit ++ drop k p.bytes)) ends-at ∙ sym (append_assoc (take (at + 8) p.bytes) fit (drop (at + it.size) p.bytes)))
       ∙ drop_at (take (at + 8) p.bytes ++ fit) (drop (at + it.size) p.bytes) (at + it.size) both
 
   -- the content is read where it was written
@@ -91,11 +136,14 @@ module _ (p : Lent) (ws : List ℕ) (used at size : ℕ) (live : IsLive p.bytes 
       let there : Reads it.size it.at = subst (λ k. Reads k it.at) (sym is-size) (subst (λ a. Reads size a) (sym place.place) reads) in
       ap (λ c. let s : Standing = record (standing p.bytes it) { item = record { kind = it.kind; content = c } } in s) there
 
-  abbrev after : Bool → Held
+  abbrev after : Bool → SegmentState
   after free = record { piece = record p { bytes = new }; used = used; free = free }
 
-  pub filled : (free : Bool) → Fills (record { piece = p; used = used; free = free }) (after free)
-  filled free = record { used = refl; free = refl; piece = ap (λ n. record (identity p) { length = n }) (segment-kept.long ∙ sym segment.long); objects = objects-same }
+  pub slot-same : (free : Bool) → slot_of (after free) ≡ slot_of (record { piece = p; used = used; free = free })
+  slot-same free = ap (λ n. record { piece = record (identity p) { length = n }; free = free }) (segment-kept.long ∙ sym segment.long)
+
+  pub live-same : (free : Bool) → live_in (Some (after free)) ≡ live_in (Some (record { piece = p; used = used; free = free }))
+  live-same free = ap live_bytes objects-same
 
   pub changed : (free : Bool) → ChangesIn at (option_map (rewritten ws) (standing_among p.bytes at (objects p.bytes used))) (Some (record { piece = p; used = used; free = free })) (Some (after free))
   changed free = record {
@@ -104,7 +152,7 @@ module _ (p : Lent) (ws : List ℕ) (used at size : ℕ) (live : IsLive p.bytes 
         ∙ sym (ap (λ o. option_map (rewritten ws) (option_map (standing p.bytes) o)) is-it);
     others = λ b ne.
         ap (λ os. standing_among new b os) objects-same
-        ∙ standing-beside p.bytes new (at + 8) (at + it.size) 0 used at b (objects p.bytes used) it segment.whole is-it (omega arith) (omega arith) front back (inl ne);
+        ∙ standing-beside p.bytes new (at + 8) (at + it.size) 0 used at b (objects p.bytes used) it segment.objects is-it (omega arith) (omega arith) front back (inl ne);
   }
 
 -- what is as long as the content is the whole content

@@ -1,8 +1,10 @@
 -- What stands in the segments of a region.
-use Rattle.std.specs.Prelude.{ℕ, ◌+◌, ◌-◌, Bool, true, false, cond, ◌==◌, List, [], ◌∷◌, take, drop, Option, None, Some, option_map}
-use Rattle.std.specs.List.{find}
-use Rattle.object_log.specs.Objects.{Object, objects}
-use Rattle.regions.specs.Held.{Held, Holding, held}
+use Rattle.std.specs.Prelude.{◌≡◌, ◌≢◌, ℕ, ◌+◌, ◌-◌, ◌<◌, ◌≤◌, ◌⊎◌, Bool, true, false, ◌==◌, List, length, replicate, Option, None, Some, IsSome, option_map}
+use Rattle.std.specs.List.{find, refill}
+use Rattle.layout.specs.Sizes.{descriptor}
+use Rattle.object_log.specs.Objects.{Object, content_at}
+use Rattle.regions.specs.Segments.{SegmentState, RegionState, segment_at}
+use Rattle.regions.specs.Counts.{objects_in, used_in, used_at}
 use Rattle.regions.specs.declared.place.Place.{Place}
 
 -- what a store has under a name
@@ -15,12 +17,13 @@ pub record Standing : Type 0 where
   pub live : Bool
   pub item : Item
 
--- the object as its descriptor and its bytes tell it. The content follows the 8 bytes of the descriptor
-abbrev pub standing : List ℕ → Object → Standing
-standing bytes o = record { live = o.state == 1; item = record { kind = o.kind; content = take (o.size - 8) (drop (o.at + 8) bytes) } }
+-- the bytes of the whole object, its descriptor included
+abbrev pub size_of : Item → ℕ
+size_of i = length i.content + descriptor
 
-abbrev pub objects_in : Held → List Object
-objects_in h = objects h.piece.bytes h.used
+-- the object as its descriptor and its bytes tell it
+abbrev pub standing : List ℕ → Object → Standing
+standing bytes o = record { live = o.state == 1; item = record { kind = o.kind; content = content_at o.at o.size bytes } }
 
 -- the one of the objects that stands at the offset
 abbrev pub object_with : ℕ → List Object → Option Object
@@ -29,13 +32,13 @@ object_with at os = find (λ o. o.at == at) os
 abbrev pub standing_among : List ℕ → ℕ → List Object → Option Standing
 standing_among bytes at os = option_map (standing bytes) (object_with at os)
 
-abbrev pub standing_in : Option Held → ℕ → Option Standing
+abbrev pub standing_in : Option SegmentState → ℕ → Option Standing
 standing_in None at = None
 standing_in (Some h) at = standing_among h.piece.bytes at (objects_in h)
 
 -- the object at a place of the region
-abbrev pub standing_at : Holding → Place → Option Standing
-standing_at r p = standing_in (held r p.segment) p.at
+abbrev pub standing_at : RegionState → Place → Option Standing
+standing_at r p = standing_in (segment_at r p.segment) p.at
 
 abbrev pub if_live : Bool → Item → Option Item
 if_live true item = Some item
@@ -47,14 +50,55 @@ item_if_live None = None
 item_if_live (Some s) = if_live s.live s.item
 
 -- the live object at a place
-abbrev pub live_at : Holding → Place → Option Item
+abbrev pub live_at : RegionState → Place → Option Item
 live_at r p = item_if_live (standing_at r p)
 
--- the sum of the sizes of the live objects
-abbrev pub live_bytes : List Object → ℕ
-live_bytes [] = 0
-live_bytes (o ∷ os) = cond (o.state == 1) o.size 0 + live_bytes os
+-- a new object of the size, whose content is zero
+abbrev pub zeros : ℕ → ℕ → Standing
+zeros kind size = record { live = true; item = record { kind = kind; content = replicate (size - descriptor) 0 } }
 
-abbrev pub live_bytes_in : Option Held → ℕ
-live_bytes_in None = 0
-live_bytes_in (Some h) = live_bytes (objects_in h)
+abbrev pub dead : Standing → Standing
+dead s = record s { live = false }
+
+-- its content is ws
+abbrev pub with_bytes : List ℕ → Standing → Standing
+with_bytes ws s = record s { item = record { kind = s.item.kind; content = ws } }
+
+-- its content is ws, cut or filled up to the length that it had
+abbrev pub rewritten : List ℕ → Standing → Standing
+rewritten ws s = with_bytes (refill (length s.item.content) s.item.content ws) s
+
+-- at one offset stands what is said, and at each other offset what stood there
+pub record ChangesIn (at : ℕ) (is : Option Standing) (old new : Option SegmentState) : Type 0 where
+  pub here : standing_in new at ≡ is
+  pub others : (a : ℕ) → a ≢ at → standing_in new a ≡ standing_in old a
+
+-- at one place stands what is said, and at each other place what stood there
+pub record ChangesAt (p : Place) (is : Option Standing) (old new : RegionState) : Type 0 where
+  pub here : standing_at new p ≡ is
+  pub others : (q : Place) → q ≢ p → standing_at new q ≡ standing_at old q
+
+-- what stands at each place, live or dead, is as it was
+abbrev pub Keeps : RegionState → RegionState → Type 0
+Keeps old new = (p : Place) → standing_at new p ≡ standing_at old p
+
+-- an object of the segment begins there, or its objects end there
+abbrev pub starts_in : Option SegmentState → ℕ → Type 0
+starts_in s at = IsSome (standing_in s at) ⊎ (at ≡ used_in s)
+
+abbrev pub IsStart : RegionState → ℕ → ℕ → Type 0
+IsStart r n at = IsSome (standing_at r (record { segment = n; at = at })) ⊎ (at ≡ used_at r n)
+
+-- no object lives from one offset up to another
+abbrev pub NoneLives : RegionState → ℕ → ℕ → ℕ → Type 0
+NoneLives r n from to = (a : ℕ) → from ≤ a → a < to → live_at r (record { segment = n; at = a }) ≡ None
+
+abbrev pub none_lives_in : Option SegmentState → ℕ → ℕ → Type 0
+none_lives_in s from to = (a : ℕ) → from ≤ a → a < to → item_if_live (standing_in s a) ≡ None
+
+-- a live object, by its offset, kind and size
+pub record IsLiveAt (live : Option Item) (kind size : ℕ) : Type 0 where
+  pub item : Item
+  pub is : live ≡ Some item
+  pub kind_is : item.kind ≡ kind
+  pub size_is : size_of item ≡ size

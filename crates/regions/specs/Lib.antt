@@ -1,6 +1,7 @@
-pub mod Held
+pub mod Segments
+pub mod Shapes
+pub mod Counts
 pub mod Contents
 pub mod Stores
-pub mod Calls
 pub mod Lends
-pub mod Whole
+pub mod inside

@@ -4,6 +4,8 @@
 //! are appended to the active one. An object that was killed stays until its segment is freed.
 #![tactic(auto)]
 
+mod live_table;
+mod movers;
 mod place;
 mod region;
 mod segment;
@@ -11,5 +13,6 @@ mod slots;
 #[cfg(test)]
 mod tests;
 
+pub use movers::Movers;
 pub use place::{NeedSegment, Place};
 pub use region::Region;

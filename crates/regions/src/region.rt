@@ -1,68 +1,29 @@
-ghost use Rattle.std.specs.Prelude.{
-  ◌≡◌,
-  ◌≢◌,
-  ◌↔◌,
-  ◌⊎◌,
-  ℕ,
-  ◌+◌,
-  ◌-◌,
-  ◌<◌,
-  ◌≤◌,
-  false,
-  true,
-  List,
-  length,
-  Some,
-  None,
-  option_map,
-  replicate,
-  IfOk,
-  IfErr,
-  IfSome,
-  IsSome,
-  IsNone,
-  IsErr,
-  IsTrue,
-};
-ghost use Rattle.object_log.specs.Objects.{IsSize, IsSegment};
-ghost use Rattle.regions.specs.Held.{
-  Held,
-  held,
-  fresh,
-  emptied,
-  used_of,
-  held_count,
-  free_count,
-  left,
-  IsHeld,
-  IsClosed,
-  IsLeastFree,
-  IsGreatestFree,
-  IsGreatestHeld,
-  all_emptied,
-  IsLeastUnused,
-  with_segment,
-  pieces,
-};
-ghost use Rattle.regions.specs.Contents.{standing_at, live_at, live_bytes_in};
-ghost use Rattle.regions.specs.Stores.{StandsFor, store_of, itself};
-ghost use Rattle.regions.specs.Calls.{zeros, dead, rewritten, with_bytes, ChangesAt, Keeps, Places, Kills, Writes, Activates, Removes};
-ghost use Rattle.regions.specs.Lends.{LendsContent, with_content};
+ghost use Rattle.std.specs.Prelude.{◌≡◌, ◌≢◌, ◌↔◌, ◌⊎◌, ℕ, ◌+◌, ◌-◌, ◌<◌, ◌≤◌, List, true, false, cond, length, slice_index, Some, None, option_map, replicate, slice_set, IfOk, IfErr, IfSome, IsSome, IsNone, IsErr};
 ghost use Rattle.std.specs.Borrow.{sem};
+ghost use Rattle.layout.specs.Sizes as sizes;
+ghost use Rattle.object_log.specs.Objects.{IsSize};
+ghost use Rattle.regions.specs.Segments.{segment_at, with_segment, fresh, emptied, all_emptied};
+ghost use Rattle.regions.specs.Shapes.{shape, active_of, guards_of, pieces, is_active, held_count, free_count, activated, IsClosed, IsLeastFree, IsGreatestFree, IsGreatestHeld, IsLeastUnused};
+ghost use Rattle.regions.specs.Counts.{used_counts, live_counts, used_at, used_total, live_total, plus, left};
+ghost use Rattle.regions.specs.Contents.{standing_at, live_at, size_of, zeros, dead, with_bytes, rewritten, ChangesAt, Keeps};
+ghost use Rattle.regions.specs.Lends.{LendsContent, with_content};
+ghost use Rattle.regions.specs.inside.Consistent.{with_closed};
 
+mod closed;
+mod reading;
+
+use crate::live_table::{LiveTable, NOT_CLOSED};
 use crate::place::{NeedSegment, Place};
 use crate::segment::Segment;
 use crate::slots::{
-    append_in, begin, bytes_in, clear_all, clear_in, content_in, content_mut_in, count_free,
-    greatest_free, greatest_held, is_begun, kill_in, least_free, least_unused, live_in_slot,
-    piece_of, used_in,
+    clear, clear_all, count_free, greatest_free, greatest_held, is_begun, least_free, least_unused,
+    piece_of, segment_in, segment_mut,
 };
+use layout::SEGMENT;
 use raw_range::Piece;
 use std::alloc::{AllocError, Global};
 use std::marker::Model;
 use std::mem;
-
-const SEGMENT: u32 = 131_072;
 
 /// The segments of one shard, by number, and the objects in them.
 #[derive(Drop)]
@@ -70,26 +31,32 @@ pub struct Region {
     most: u32,
     guards: u32,
     active: Option<u32>,
+    active_live: u32,
     free: u32,
+    table: LiveTable,
     slots: Vec<Option<Segment>>,
 }
 
 impl Model for Region {
-    ghost use Rattle.regions.specs.Held.{Holding, region_code};
+    ghost use Rattle.regions.specs.Segments.{RegionState, region_code};
+    ghost use Rattle.regions.specs.Shapes.{slots_of};
+    ghost use Rattle.regions.specs.Counts.{used_in_each, live_in_each};
+    ghost use Rattle.regions.specs.inside.Consistent.{IsConsistent};
 
-    ghost Value = { Holding };
+    ghost Value = { RegionState };
 
     ghost coded = { region_code };
 
-    ghost use Rattle.regions.specs.Whole.{IsWhole};
-
     ghost view = { λ r. record { most = r.most; guards = r.guards; active = r.active; segments = r.slots.items } };
 
-    ghost invariant = { λ r. IsWhole r.most r.active r.free r.slots.items };
+    ghost invariant = { λ r. IsConsistent r.most r.active r.free r.active_live r.table (slots_of r.slots.items) (used_in_each r.slots.items) (live_in_each r.slots.items) };
 }
 
 impl Region {
     /// A region that holds no segment. Numbers of segments are below `most`.
+    ///
+    /// # Errors
+    /// `AllocError` where memory is not found.
     pub fn new(alloc: Global, most: u32) -> Result<Region, AllocError>
         requires { most ≤ 2048 }
         ensures { IfOk result (λ r. r ≡ record { most = most; guards = 0; active = None; segments = replicate most None }) }
@@ -102,28 +69,23 @@ impl Region {
             most,
             guards: 0,
             active: None,
+            active_live: 0,
             free: 0,
+            table: LiveTable::new(alloc, most)?,
             slots,
         })
     }
 
-    /// The number given to `new`. A region stands for a store, in which each live object is named by its
-    /// place.
-    pub fn most(&self) -> u32
-        ensures most { result ≡ self.now.most }
-        ensures store { StandsFor (store_of self.now) (itself self.now) self.now }
-    {
-        self.most
-    }
-
     /// The piece becomes a free segment, with the least number that no segment has.
     pub fn add_segment(&mut self, piece: Piece)
-        requires room { held_count self.old < self.old.most }
-        requires segment { length piece.bytes ≡ 131072 }
+        requires room { held_count self.old < (shape self.old).most }
+        requires segment { length piece.bytes ≡ sizes.segment }
         ensures added { (n : ℕ) × IsLeastUnused self.old n × (self.new ≡ with_segment self.old n (Some (fresh piece))) }
         ensures objects { Keeps self.old self.new }
         ensures held { held_count self.new ≡ held_count self.old + 1 }
         ensures free { free_count self.new ≡ free_count self.old + 1 }
+        ensures counts { (used_counts self.new ≡ used_counts self.old) × (live_counts self.new ≡ live_counts self.old) }
+        ensures live_total { live_total self.new ≡ live_total self.old }
     {
         let number = least_unused(&self.slots);
         self.slots[number] = Some(Segment::new(piece));
@@ -134,8 +96,12 @@ impl Region {
     pub fn take_free(&mut self) -> Option<Piece>
         ensures none { IsNone result ↔ free_count self.old ≤ 1 }
         ensures unchanged { IsNone result → self.new ≡ self.old }
-        ensures taken { IfSome result (λ piece. (n : ℕ) × IsGreatestFree self.old n × Removes n piece self.old self.new) }
+        ensures taken { IfSome result (λ piece. (n : ℕ) × IsGreatestFree self.old n × (segment_at self.old n ≡ Some (fresh piece)) × (self.new ≡ with_segment self.old n None)) }
         ensures objects { Keeps self.old self.new }
+        ensures held { IsSome result → held_count self.new + 1 ≡ held_count self.old }
+        ensures free { IsSome result → free_count self.new + 1 ≡ free_count self.old }
+        ensures counts { (used_counts self.new ≡ used_counts self.old) × (live_counts self.new ≡ live_counts self.old) }
+        ensures live_total { live_total self.new ≡ live_total self.old }
     {
         if self.free <= 1 {
             return None;
@@ -149,29 +115,45 @@ impl Region {
     /// Closes the active segment, and makes the free one with the least number active.
     pub fn next_active(&mut self)
         requires free { 1 ≤ free_count self.old }
-        requires full { IsSome self.old.active → left self.old < 12296 }
-        ensures activated { (n : ℕ) × IsLeastFree self.old n × Activates n self.old self.new }
+        requires full { IsSome (active_of self.old) → left self.old < sizes.greatest_object }
+        ensures activated { (n : ℕ) × IsLeastFree self.old n × (shape self.new ≡ activated n (shape self.old)) }
+        ensures closed { (n : ℕ) → IsClosed self.old n ⊎ (active_of self.old ≡ Some n) → IsClosed self.new n }
         ensures objects { Keeps self.old self.new }
         ensures pieces { pieces self.new ≡ pieces self.old }
+        ensures left { left self.new ≡ sizes.segment }
+        ensures held { held_count self.new ≡ held_count self.old }
         ensures free { free_count self.new + 1 ≡ free_count self.old }
+        ensures counts { (used_counts self.new ≡ used_counts self.old) × (live_counts self.new ≡ live_counts self.old) }
+        ensures live_total { live_total self.new ≡ live_total self.old }
     {
+        close(&mut self.table, self.active, self.active_live);
         let number = least_free(&self.slots);
-        begin(&mut self.slots[number]);
+        segment_mut(&mut self.slots[number]).begin();
         self.free -= 1;
         self.active = Some(number as u32);
+        self.active_live = 0;
     }
 
-    /// Adds an object to the active segment, and answers where it stands. Its content is zero.
+    /// Adds a live object of `size` bytes, its descriptor included, to the active segment, and answers where it stands.
+    /// Its content is zero.
+    ///
+    /// # Errors
+    /// `NeedSegment` where the active segment has less than `size` bytes left. Nothing changed.
     pub fn place(&mut self, kind: u8, size: u32) -> Result<Place, NeedSegment>
-        requires active { IsSome self.old.active }
+        requires active { IsSome (active_of self.old) }
         requires kind { 1 ≤ kind }
         requires size { IsSize size }
         ensures full { IsErr result ↔ left self.old < size }
         ensures unchanged { IfErr result (λ _. self.new ≡ self.old) }
-        ensures placed { IfOk result (Places kind size self.old self.new) }
+        ensures segment { IfOk result (λ place. active_of self.old ≡ Some place.segment) }
+        ensures offset { IfOk result (λ place. place.at ≡ used_at self.old place.segment) }
         ensures unused { IfOk result (λ place. standing_at self.old place ≡ None) }
         ensures added { IfOk result (λ place. ChangesAt place (Some (zeros kind size)) self.old self.new) }
-        ensures pieces { pieces self.new ≡ pieces self.old }
+        ensures used { IfOk result (λ place. used_counts self.new ≡ plus place.segment size (used_counts self.old)) }
+        ensures live { IfOk result (λ place. live_counts self.new ≡ plus place.segment size (live_counts self.old)) }
+        ensures used_total { IfOk result (λ _. used_total self.new ≡ used_total self.old + size) }
+        ensures live_total { IfOk result (λ _. live_total self.new ≡ live_total self.old + size) }
+        ensures shape { shape self.new ≡ shape self.old }
     {
         if self.left() < size {
             return Err(NeedSegment);
@@ -179,26 +161,24 @@ impl Region {
         let Some(segment) = self.active else {
             unreachable!()
         };
-        let at = append_in(&mut self.slots[segment as usize], kind, size);
+        let at = segment_mut(&mut self.slots[segment as usize]).append(kind, size);
+        self.active_live += size;
         Ok(Place { segment, at })
     }
 
-    /// The live object at the place is dead from now on. It keeps its place.
+    /// The live object at the place is dead from now on. It keeps its place and its content.
     pub fn kill(&mut self, place: Place)
         requires { IsSome (live_at self.old place) }
         ensures killed { ChangesAt place (option_map dead (standing_at self.old place)) self.old self.new }
-        ensures buried { Kills place self.old self.new }
-        ensures pieces { pieces self.new ≡ pieces self.old }
+        ensures used { used_counts self.new ≡ used_counts self.old }
+        ensures live { IfSome (standing_at self.old place) (λ s. live_counts self.old ≡ plus place.segment (size_of s.item) (live_counts self.new)) }
+        ensures live_total { IfSome (standing_at self.old place) (λ s. live_total self.new + size_of s.item ≡ live_total self.old) }
+        ensures shape { shape self.new ≡ shape self.old }
     {
-        kill_in(&mut self.slots[place.segment as usize], place.at);
-    }
-
-    /// The content of the live object at the place, without its descriptor. Under a guard it may be dead.
-    pub fn bytes(&self, place: Place) -> &[u8]
-        requires { IsSome (live_at self.now place) ⊎ ((1 ≤ self.now.guards) × IsSome (standing_at self.now place)) }
-        ensures { option_map (λ s. s.item.content) (standing_at self.now place) ≡ Some result.now }
-    {
-        content_in(&self.slots[place.segment as usize], place.at)
+        let number = place.segment;
+        let size = segment_mut(&mut self.slots[number as usize]).kill(place.at);
+        let active = is_active(self.active, number);
+        lose(&mut self.table, &mut self.active_live, active, number, size);
     }
 
     /// The content of the live object at the place, for writing, without its descriptor.
@@ -208,112 +188,64 @@ impl Region {
         ensures value { option_map (λ s. s.item.content) (standing_at self.old place) ≡ Some result.now }
         ensures left { (ws : List ℕ) → length ws ≡ length result.now → ChangesAt place (option_map (with_bytes ws) (standing_at self.old place)) self.old (with_content self.old place ws) }
         ensures fitted { (ws : List ℕ) → ChangesAt place (option_map (rewritten ws) (standing_at self.old place)) self.old (with_content self.old place ws) }
-        ensures filled { (ws : List ℕ) → Writes place self.old (with_content self.old place ws) }
-        ensures pieces { (ws : List ℕ) → pieces (with_content self.old place ws) ≡ pieces self.old }
+        ensures used { (ws : List ℕ) → used_counts (with_content self.old place ws) ≡ used_counts self.old }
+        ensures live { (ws : List ℕ) → live_counts (with_content self.old place ws) ≡ live_counts self.old }
+        ensures live_total { (ws : List ℕ) → live_total (with_content self.old place ws) ≡ live_total self.old }
+        ensures shape { (ws : List ℕ) → shape (with_content self.old place ws) ≡ shape self.old }
     {
-        content_mut_in(&mut self.slots[place.segment as usize], place.at)
+        segment_mut(&mut self.slots[place.segment as usize]).content_mut(place.at)
     }
 
-    /// One guard more. While one stands, no object is moved and none of its bytes is used again.
+    /// Writes the content of the live object at `from` over that of the live object at `to`, which has the same size and
+    /// stands in another segment.
+    pub fn copy(&mut self, from: Place, to: Place)
+        requires from { IsSome (live_at self.old from) }
+        requires to { IsSome (live_at self.old to) }
+        requires apart { from.segment ≢ to.segment }
+        requires size { option_map size_of (live_at self.old from) ≡ option_map size_of (live_at self.old to) }
+        ensures copied { IfSome (live_at self.old from) (λ i. ChangesAt to (option_map (with_bytes i.content) (standing_at self.old to)) self.old self.new) }
+        ensures used { used_counts self.new ≡ used_counts self.old }
+        ensures live { live_counts self.new ≡ live_counts self.old }
+        ensures live_total { live_total self.new ≡ live_total self.old }
+        ensures shape { shape self.new ≡ shape self.old }
+    {
+        let mut target = mem::replace(&mut self.slots[to.segment as usize], None);
+        let content = segment_in(&self.slots[from.segment as usize]).content(from.at);
+        overwrite(segment_mut(&mut target).content_mut(to.at), content);
+        self.slots[to.segment as usize] = target;
+    }
+
+    /// One guard more. While one stands, no object is moved and none of its bytes is used again. Guards nest.
     pub fn guard(&mut self)
-        requires { self.old.guards < 1000000 }
-        ensures { self.new ≡ record self.old { guards = self.old.guards + 1 } }
+        requires { guards_of self.old < 1000000 }
+        ensures guards { self.new ≡ record self.old { guards = guards_of self.old + 1 } }
+        ensures live_total { live_total self.new ≡ live_total self.old }
     {
         self.guards += 1;
     }
 
     /// One guard less.
     pub fn unguard(&mut self)
-        requires { 1 ≤ self.old.guards }
-        ensures { self.new ≡ record self.old { guards = self.old.guards - 1 } }
+        requires { 1 ≤ guards_of self.old }
+        ensures guards { self.new ≡ record self.old { guards = guards_of self.old - 1 } }
+        ensures live_total { live_total self.new ≡ live_total self.old }
     {
         self.guards -= 1;
     }
 
-    pub fn guards(&self) -> u32
-        ensures { result ≡ self.now.guards }
-    {
-        self.guards
-    }
-
-    /// How many segments are free.
-    pub fn free_segments(&self) -> u32
-        ensures { result ≡ free_count self.now }
-    {
-        self.free
-    }
-
-    /// The bytes that the active segment has left, or 0 where there is none.
-    pub fn left(&self) -> u32
-        ensures left { result ≡ left self.now }
-    {
-        let Some(segment) = self.active else {
-            return 0;
-        };
-        SEGMENT - used_in(&self.slots[segment as usize])
-    }
-
-    /// The sum of the sizes of the segment's live objects.
-    pub fn live_in(&self, segment: u32) -> u32
-        requires { IsHeld self.now segment }
-        ensures { result ≡ live_bytes_in (held self.now segment) }
-    {
-        live_in_slot(&self.slots[segment as usize])
-    }
-
-    /// Whether a closed segment has the number.
-    pub fn is_closed(&self, segment: u32) -> bool
-        ensures { IsTrue result ↔ IsClosed self.now segment }
-    {
-        segment < self.most
-            && self.active != Some(segment)
-            && is_begun(&self.slots[segment as usize])
-    }
-
-    /// The number of the active segment.
-    pub fn active(&self) -> Option<u32>
-        ensures { result ≡ self.now.active }
-    {
-        self.active
-    }
-
-    /// The bytes of a closed segment.
-    pub fn segment_bytes(&self, segment: u32) -> &[u8]
-        requires { IsClosed self.now segment }
-        ensures bytes { option_map (λ (h : Held). h.piece.bytes) (held self.now segment) ≡ Some result.now }
-        ensures segment { IsSegment result.now (used_of (held self.now segment)) }
-    {
-        bytes_in(&self.slots[segment as usize])
-    }
-
-    /// Where the objects of a closed segment end.
-    pub fn used(&self, segment: u32) -> u32
-        requires { IsClosed self.now segment }
-        ensures { result ≡ used_of (held self.now segment) }
-    {
-        used_in(&self.slots[segment as usize])
-    }
-
-    /// Makes a closed segment free, in which no object is live.
-    pub fn free_closed(&mut self, segment: u32)
-        requires closed { IsClosed self.old segment }
-        requires dead { live_bytes_in (held self.old segment) ≡ 0 }
-        requires guards { self.old.guards ≡ 0 }
-        ensures freed { self.new ≡ with_segment self.old segment (option_map emptied (held self.old segment)) }
-        ensures store { (p : Place) → store_of self.new p ≡ store_of self.old p }
-    {
-        clear_in(&mut self.slots[segment as usize]);
-        self.free += 1;
-    }
-
-    /// Removes all objects, makes every segment free, and takes the one with the greatest number out. None
-    /// where no segment is held.
+    /// Removes all objects, makes every segment free, and takes the one with the greatest number out. None where no
+    /// segment is held.
     pub fn give_up(&mut self) -> Option<Piece>
-        requires { self.old.guards ≡ 0 }
+        requires { guards_of self.old ≡ 0 }
         ensures none { IsNone result ↔ held_count self.old ≡ 0 }
         ensures emptied { IsNone result → self.new ≡ all_emptied self.old }
-        ensures given { IfSome result (λ piece. (n : ℕ) × IsGreatestHeld self.old n × Removes n piece (all_emptied self.old) self.new) }
+        ensures given { IfSome result (λ piece. (n : ℕ) × IsGreatestHeld self.old n × (segment_at (all_emptied self.old) n ≡ Some (fresh piece)) × (self.new ≡ with_segment (all_emptied self.old) n None)) }
         ensures objects { (p : Place) → standing_at self.new p ≡ None }
+        ensures held { IsSome result → held_count self.new + 1 ≡ held_count self.old }
+        ensures free { free_count self.new ≡ held_count self.new }
+        ensures used { used_counts self.new ≡ replicate (shape self.old).most 0 }
+        ensures live { live_counts self.new ≡ replicate (shape self.old).most 0 }
+        ensures live_total { live_total self.new ≡ 0 }
     {
         let greatest = greatest_held(&self.slots);
         self.empty();
@@ -327,7 +259,51 @@ impl Region {
         ensures { self.new ≡ all_emptied self.old }
     {
         self.active = None;
+        self.active_live = 0;
         clear_all(&mut self.slots);
+        self.table.clear();
         self.free = count_free(&self.slots);
+    }
+}
+
+// The bytes are the content from now on.
+fn overwrite(content: &mut [u8], bytes: &[u8])
+    requires { length content.old ≡ length bytes.now }
+    ensures { content.new ≡ bytes.now }
+{
+    content.copy_from_slice(bytes);
+}
+
+fn is_active(active: Option<u32>, number: u32) -> bool
+    ensures { result ≡ is_active active number }
+{
+    match active {
+        Some(active) => number == active,
+        None => false,
+    }
+}
+
+// The active segment is closed, which has that many live bytes.
+fn close(table: &mut LiveTable, active: Option<u32>, live: u32)
+    requires { IfSome active (λ n. n < length table.old) }
+    ensures { table.new ≡ with_closed active live table.old }
+{
+    if let Some(number) = active {
+        table.set(number, live);
+    }
+}
+
+// An object of the size is dead, in the active segment or in a closed one.
+fn lose(table: &mut LiveTable, active_live: &mut u32, is_active: bool, number: u32, size: u32)
+    requires active { is_active ≡ true → size ≤ active_live.old }
+    requires closed { is_active ≡ false → (number < length table.old) × (size ≤ slice_index table.old number) }
+    ensures active { active_live.new ≡ cond is_active (active_live.old - size) active_live.old }
+    ensures closed { table.new ≡ cond is_active table.old (slice_set table.old number (slice_index table.old number - size)) }
+{
+    if is_active {
+        *active_live -= size;
+    } else {
+        let live = table.bytes()[number as usize] - size;
+        table.set(number, live);
     }
 }

@@ -1,87 +1,81 @@
-ghost use Rattle.std.specs.Prelude.{◌≡◌, ℕ, ◌+◌, ◌≤◌, ◌⊎◌, List, true, false, length, take, drop, Some, None, option_map, IsSome};
+ghost use Rattle.std.specs.Prelude.{◌≡◌, ℕ, ◌+◌, ◌<◌, ◌≤◌, List, true, false, length, take, drop, Some, None, option_map, IsSome, IsNone, IfSome};
 ghost use Rattle.std.specs.Borrow.{Array, Lends, sem, u8 as byte};
+ghost use Rattle.layout.specs.Sizes as sizes;
 ghost use Rattle.object_log.specs.Objects.{IsSize, IsSegment};
-ghost use Rattle.regions.specs.Held.{fresh, emptied};
-ghost use Rattle.regions.specs.Contents.{standing_in, item_if_live, objects_in, live_bytes};
-ghost use Rattle.regions.specs.Calls.{zeros, dead, rewritten, ChangesIn, Appends, Buries, Fills, Begins};
+ghost use Rattle.regions.specs.Segments.{fresh, emptied};
+ghost use Rattle.regions.specs.Shapes.{slot_of};
+ghost use Rattle.regions.specs.Counts.{live_in};
+ghost use Rattle.regions.specs.Contents.{standing_in, item_if_live, size_of, zeros, dead, rewritten, starts_in, none_lives_in, ChangesIn, IsLiveAt};
 
-use object_log::{append, kill, read_descriptor};
+use layout::DESCRIPTOR;
+use object_log::{append, content_extent, kill, read_descriptor};
 use raw_range::Piece;
 use std::marker::Model;
 
-const DESCRIPTOR: usize = 8;
-
-// A piece of 131,072 bytes with its objects.
+// A piece of the size of a segment, with its objects.
 #[derive(Drop)]
 pub(crate) struct Segment {
     piece: Piece,
     used: u32,
-    live: u32,
     free: bool,
 }
 
 impl Model for Segment {
     ghost use Rattle.std.specs.Prelude.{◌≡◌, true, false, length};
-    ghost use Rattle.object_log.specs.Objects.{objects, IsSegment};
-    ghost use Rattle.regions.specs.Held.{Held, held_code};
+    ghost use Rattle.layout.specs.Sizes as sizes;
+    ghost use Rattle.object_log.specs.Objects.{IsSegment};
+    ghost use Rattle.regions.specs.Segments.{SegmentState, segment_code};
 
-    ghost Value = { Held };
+    ghost Value = { SegmentState };
 
-    ghost coded = { held_code };
-
-    ghost use Rattle.regions.specs.Contents.{live_bytes};
+    ghost coded = { segment_code };
 
     ghost view = { λ s. record { piece = s.piece; used = s.used; free = s.free } };
 
-    ghost invariant = { λ s. (length s.piece.bytes ≡ 131072) × (s.free ≡ true → s.used ≡ 0) × (s.free ≡ false → IsSegment s.piece.bytes s.used) × (s.live ≡ live_bytes (objects s.piece.bytes s.used)) };
+    ghost invariant = { λ s. (length s.piece.bytes ≡ sizes.segment) × (s.free ≡ true → s.used ≡ 0) × (s.free ≡ false → IsSegment s.piece.bytes s.used) };
 }
 
 impl Segment {
-    ghost use Rattle.regions.specs.Lends.{held_with};
+    ghost use Rattle.regions.specs.Lends.{segment_with};
     ghost use Rattle.regions.specs.contracts.segment.Segment.{the_row};
 
     pub(crate) fn new(piece: Piece) -> Segment
-        requires { length piece.bytes ≡ 131072 }
+        requires { length piece.bytes ≡ sizes.segment }
         ensures { result ≡ fresh piece }
     {
         Segment {
             piece,
             used: 0,
-            live: 0,
             free: true,
         }
     }
 
     pub(crate) fn into_piece(self) -> Piece
         ensures piece { result ≡ self.piece }
-        ensures long { length self.piece.bytes ≡ 131072 }
+        ensures long { length self.piece.bytes ≡ sizes.segment }
+        ensures unused { self.free ≡ true → self.used ≡ 0 }
     {
         let Segment {
             piece,
             used: _,
-            live: _,
             free: _,
         } = self;
         piece
     }
 
     pub(crate) fn is_free(&self) -> bool
-        ensures { result ≡ self.now.free }
+        ensures free { result ≡ self.now.free }
+        ensures unused { result ≡ true → self.now.used ≡ 0 }
     {
         self.free
     }
 
     pub(crate) fn used(&self) -> u32
         ensures used { result ≡ self.now.used }
-        ensures inside { self.now.used ≤ 131072 }
+        ensures inside { self.now.used ≤ sizes.segment }
+        ensures start { self.now.free ≡ false → starts_in (Some self.now) 0 }
     {
         self.used
-    }
-
-    pub(crate) fn live(&self) -> u32
-        ensures { result ≡ live_bytes (objects_in self.now) }
-    {
-        self.live
     }
 
     pub(crate) fn bytes(&self) -> &[u8]
@@ -94,7 +88,8 @@ impl Segment {
     // A free segment becomes active.
     pub(crate) fn begin(&mut self)
         requires { self.old.free ≡ true }
-        ensures { Begins self.old self.new }
+        ensures slot { slot_of self.new ≡ record (slot_of self.old) { free = false } }
+        ensures unused { (self.old.used ≡ 0) × (self.new.used ≡ 0) }
     {
         write_end(self.piece.bytes_mut());
         self.free = false;
@@ -105,25 +100,33 @@ impl Segment {
         requires begun { self.old.free ≡ false }
         requires kind { 1 ≤ kind }
         requires size { IsSize size }
-        requires fits { self.old.used + size ≤ 131072 }
+        requires fits { self.old.used + size ≤ sizes.segment }
         ensures at { result ≡ self.old.used }
-        ensures appended { Appends kind size self.old self.new }
+        ensures slot { slot_of self.new ≡ slot_of self.old }
+        ensures used { self.new.used ≡ self.old.used + size }
+        ensures live { live_in (Some self.new) ≡ live_in (Some self.old) + size }
+        ensures inside { live_in (Some self.new) ≤ sizes.segment }
         ensures unused { standing_in (Some self.old) result ≡ None }
         ensures added { ChangesIn result (Some (zeros kind size)) (Some self.old) (Some self.new) }
     {
         let at = self.used;
         self.used = append(self.piece.bytes_mut(), at, kind, size);
-        self.live += size;
         at
     }
 
-    pub(crate) fn kill(&mut self, at: u32)
+    // Answers the object's size.
+    pub(crate) fn kill(&mut self, at: u32) -> u32
         requires { IsSome (item_if_live (standing_in (Some self.old) at)) }
-        ensures buried { Buries at self.old self.new }
+        ensures size { IfSome (standing_in (Some self.old) at) (λ s. result ≡ size_of s.item) }
+        ensures begun { self.old.free ≡ false }
+        ensures slot { slot_of self.new ≡ slot_of self.old }
+        ensures used { self.new.used ≡ self.old.used }
+        ensures live { live_in (Some self.old) ≡ live_in (Some self.new) + result }
         ensures killed { ChangesIn at (option_map dead (standing_in (Some self.old) at)) (Some self.old) (Some self.new) }
     {
-        self.live -= read_descriptor(self.piece.bytes(), at).size;
+        let size = read_descriptor(self.piece.bytes(), at).size;
         kill(self.piece.bytes_mut(), at);
+        size
     }
 
     // What the object's descriptor stands in front of.
@@ -132,29 +135,52 @@ impl Segment {
         ensures { option_map (λ s. s.item.content) (standing_in (Some self.now) at) ≡ Some result.now }
     {
         let bytes = self.piece.bytes();
-        let size = read_descriptor(bytes, at).size;
-        part(bytes, at as usize + DESCRIPTOR, size as usize - DESCRIPTOR)
+        let (start, len) = content_extent(bytes, at);
+        part(bytes, start, len)
     }
 
     // The content of a live object, for writing.
     pub(crate) fn content_mut(&mut self, at: u32) -> &mut [u8]
         requires { IsSome (item_if_live (standing_in (Some self.old) at)) }
-        ensures* lends { sem 𝓛 (Lends the_row (Array byte 0) self.entry result (λ ws. held_with at ws self.old)) }
+        ensures* lends { sem 𝓛 (Lends the_row (Array byte 0) self.entry result (λ ws. segment_with at ws self.old)) }
         ensures value { option_map (λ s. s.item.content) (standing_in (Some self.old) at) ≡ Some result.now }
-        ensures filled { (ws : List ℕ) → Fills self.old (held_with at ws self.old) }
-        ensures written { (ws : List ℕ) → ChangesIn at (option_map (rewritten ws) (standing_in (Some self.old) at)) (Some self.old) (Some (held_with at ws self.old)) }
+        ensures slot { (ws : List ℕ) → slot_of (segment_with at ws self.old) ≡ slot_of self.old }
+        ensures live { (ws : List ℕ) → live_in (Some (segment_with at ws self.old)) ≡ live_in (Some self.old) }
+        ensures written { (ws : List ℕ) → ChangesIn at (option_map (rewritten ws) (standing_in (Some self.old) at)) (Some self.old) (Some (segment_with at ws self.old)) }
     {
-        let size = read_descriptor(self.piece.bytes(), at).size;
-        self.piece
-            .part_mut(at as usize + DESCRIPTOR, size as usize - DESCRIPTOR)
+        let (start, len) = content_extent(self.piece.bytes(), at);
+        self.piece.part_mut(start, len)
     }
 
+    // The first live object from the offset on: its own offset, its kind and its size.
+    pub(crate) fn next_live(&self, from: u32) -> Option<(u32, u8, u32)>
+        requires begun { self.now.free ≡ false }
+        requires start { starts_in (Some self.now) from }
+        ensures none { IsNone result → none_lives_in (Some self.now) from self.now.used }
+        ensures skipped { IfSome result (λ f. (from ≤ f.0) × none_lives_in (Some self.now) from f.0) }
+        ensures found { IfSome result (λ f. IsLiveAt (item_if_live (standing_in (Some self.now) f.0)) f.1 f.2) }
+        ensures size { IfSome result (λ f. (1 ≤ f.1) × IsSize f.2) }
+        ensures next { IfSome result (λ f. starts_in (Some self.now) (f.0 + f.2)) }
+        ensures between { IfSome result (λ f. (a : ℕ) → f.0 < a → a < f.0 + f.2 → standing_in (Some self.now) a ≡ None) }
+    {
+        let bytes = self.piece.bytes();
+        let mut at = from;
+        while at < self.used {
+            let found = read_descriptor(bytes, at);
+            if found.state == 1 {
+                return Some((at, found.kind, found.size));
+            }
+            at += found.size;
+        }
+        None
+    }
+
+    // Where no byte is live no object is lost.
     pub(crate) fn clear(&mut self)
         ensures cleared { self.new ≡ emptied self.old }
-        ensures dead { live_bytes (objects_in self.old) ≡ 0 → (at : ℕ) → item_if_live (standing_in (Some self.old) at) ≡ None }
+        ensures dead { live_in (Some self.old) ≡ 0 → (at : ℕ) → item_if_live (standing_in (Some self.old) at) ≡ None }
     {
         self.used = 0;
-        self.live = 0;
         self.free = true;
     }
 }
@@ -169,8 +195,8 @@ fn part(bytes: &[u8], at: usize, len: usize) -> &[u8]
 
 // The bytes are a segment without objects from now on.
 fn write_end(segment: &mut [u8])
-    requires { length segment.old ≡ 131072 }
+    requires { length segment.old ≡ sizes.segment }
     ensures { IsSegment segment.new 0 }
 {
-    segment[..DESCRIPTOR].fill(0);
+    segment[..DESCRIPTOR as usize].fill(0);
 }

@@ -1,16 +1,16 @@
 // Segments filled to the end, contents written and read, guards, and which segments are given.
 ghost use Rattle.std.specs.Prelude.{◌≡◌, ◌≤◌, length, IfOk, IfSome, IsSome, option_map};
 ghost use Rattle.object_log.specs.Objects.{IsSize};
-ghost use Rattle.regions.specs.Contents.{standing_at, live_at};
-ghost use Rattle.regions.specs.Calls.{with_bytes, ChangesAt};
+ghost use Rattle.layout.specs.Sizes as sizes;
+ghost use Rattle.regions.specs.Contents.{standing_at, live_at, with_bytes, ChangesAt};
 
-use crate::{NeedSegment, Place, Region};
+use crate::{Movers, NeedSegment, Place, Region};
 use raw_range::{Piece, Range};
 use std::alloc::{AllocError, Global};
 use std::test::Fail;
 
 fn piece(alloc: Global, owner: u32) -> Result<Piece, AllocError>
-    ensures { IfOk result (λ p. length p.bytes ≡ 131072) }
+    ensures { IfOk result (λ p. length p.bytes ≡ sizes.segment) }
 {
     let mut range = Range::new(alloc, owner, 32)?;
     Ok(range.take(0, 131_072))
@@ -63,6 +63,8 @@ fn a_segment_is_filled_with_and_without_room_for_the_end(rt: HostRuntime) -> Res
     };
     assert_eq!(rt; (put(&mut region, 1, 8112), region.left()), (Ok(last), 0));
     assert_eq!(rt; go_on(&mut region), Some(1));
+    assert!(rt; has_live(&region, &[131_072, NOT_CLOSED, NOT_CLOSED]));
+    assert_eq!(rt; region.sparse_segments(), 0);
     let last = Place {
         segment: 1,
         at: 122_960,
@@ -126,12 +128,37 @@ fn counts(region: &Region, segment: u32) -> Option<(u32, u32)> {
     Some((region.used(segment), region.live_in(segment)))
 }
 
+// Where the objects of a closed segment end, its first live one, and the next one behind that.
+fn two_live(region: &Region, segment: u32) -> Option<(u32, Live, Live)> {
+    if !region.is_closed(segment) {
+        return None;
+    }
+    let used = region.used(segment);
+    let Some((at, kind, size)) = region.next_live(segment, 0) else {
+        return Some((used, None, None));
+    };
+    let first = Some((at, kind, size));
+    let Some(behind) = at.checked_add(size) else {
+        return Some((used, first, None));
+    };
+    Some((used, first, region.next_live(segment, behind)))
+}
+
+type Live = Option<(u32, u8, u32)>;
+
 fn has(region: &Region, segment: u32, from: usize, bytes: &[u8]) -> bool {
     if !region.is_closed(segment) {
         return false;
     }
     let all = region.segment_bytes(segment);
     from <= all.len() && all[from..].starts_with(bytes)
+}
+
+// What the table of live bytes has for a segment that is not closed.
+const NOT_CLOSED: u32 = 4_294_967_295;
+
+fn has_live(region: &Region, live: &[u32]) -> bool {
+    region.closed_live() == live
 }
 
 fn free(region: &mut Region, segment: u32) -> bool {
@@ -154,6 +181,12 @@ fn a_content_is_written_through_and_its_neighbours_stand(rt: HostRuntime) -> Res
     assert_eq!(rt; counts(&region, 0), None);
     assert_eq!(rt; go_on(&mut region), Some(1));
     assert_eq!(rt; counts(&region, 0), Some((123_024, 64)));
+    assert_eq!(rt;
+        two_live(&region, 0),
+        Some((123_024, Some((0, 1, 48)), Some((48, 2, 16))))
+    );
+    assert!(rt; has_live(&region, &[64, NOT_CLOSED, NOT_CLOSED]));
+    assert_eq!(rt; region.sparse_segments(), 1);
     assert!(rt; has(&region, 0, 0, &[1, 1, 0, 0, 48, 0, 0, 0]));
     assert!(rt; has(&region, 0, 8, &[7; 40]));
     assert!(rt; has(&region, 0, 48, &[1, 2, 0, 0, 16, 0, 0, 0]));
@@ -177,10 +210,17 @@ fn a_closed_segment_is_freed_once_none_of_its_objects_lives(rt: HostRuntime) -> 
     assert_eq!(rt; counts(&region, 0), Some((123_008, 48)));
     assert!(rt; has(&region, 0, 0, &[1, 1, 0, 0, 48, 0, 0, 0]));
     assert!(rt; has(&region, 0, 8, &[0; 40]));
+    assert_eq!(rt;
+        two_live(&region, 0),
+        Some((123_008, Some((0, 1, 48)), None))
+    );
     assert_eq!(rt; counts(&region, 1), Some((122_960, 0)));
+    assert_eq!(rt; two_live(&region, 1), Some((122_960, None, None)));
     assert!(rt; has(&region, 1, 0, &[2, 1, 0, 0, 0x08, 0x30, 0, 0]));
     // Behind the last object stands the end.
     assert!(rt; has(&region, 1, 122_960, &[0; 8]));
+    assert!(rt; has_live(&region, &[48, 0, NOT_CLOSED]));
+    assert_eq!(rt; region.sparse_segments(), 2);
     assert!(rt; !free(&mut region, 0));
     assert!(rt; free(&mut region, 1));
     assert!(rt; !free(&mut region, 1));
@@ -188,6 +228,8 @@ fn a_closed_segment_is_freed_once_none_of_its_objects_lives(rt: HostRuntime) -> 
     assert_eq!(rt; (region.is_closed(0), region.is_closed(1)), (true, false));
     assert!(rt; !region.is_closed(9));
     assert_eq!(rt; region.free_segments(), 1);
+    assert!(rt; has_live(&region, &[48, NOT_CLOSED, NOT_CLOSED]));
+    assert_eq!(rt; region.sparse_segments(), 1);
     Ok(())
 }
 
@@ -242,4 +284,26 @@ fn the_last_free_segment_stays_until_all_is_given_up(rt: HostRuntime) -> Result<
     assert_eq!(rt; give_up(&mut region), Some(0));
     assert_eq!(rt; give_up(&mut region), None);
     Ok(())
+}
+
+// A mover with one name, 0, whose objects refer to none.
+#[derive(Drop)]
+struct One {
+    place: Place,
+}
+
+impl Movers for One {
+    ghost use Rattle.std.specs.Prelude.{◌≡◌, ◌==◌, cond, Some, None, IsSome};
+    ghost use Rattle.regions.specs.Contents.{Item};
+    ghost use Rattle.regions.specs.declared.place.Place.{Place as At};
+
+    ghost fits = { λ m live. IsSome (live m.place) × ((p : At) (i : Item) → live p ≡ Some i → p ≡ m.place) };
+
+    ghost place_of = { λ m n. cond (n == 0) (Some m.place) None };
+
+    ghost bare = { λ i. i };
+
+    fn moved(&mut self, _store: &mut Region, _kind: u8, _from: Place, to: Place) {
+        self.place = to;
+    }
 }

@@ -1,14 +1,15 @@
 use Rattle.std.proofs.Common.{◌≡◌, ℕ, arith, ◌⊎◌, inl, inr, List, ◌≤◌, ◌+◌, length, take, drop, sym, ap, ◌∙◌, subst}
 use Rattle.std.specs.Prelude.{All, slice_index}
 use Rattle.std.proofs.lemmas.List.{get_or-drop, get_or-take}
+use Rattle.layout.specs.Sizes.{segment, descriptor}
 use Rattle.object_log.specs.declared.descriptor.Descriptor.{Descriptor}
-use Rattle.object_log.specs.Objects.{Object, told, objects, IsSize, IsSegment, StandsAt}
-use Rattle.object_log.proofs.Reading.{stands-within, stands-fits, objects-told}
+use Rattle.object_log.specs.Objects.{Object, described, objects, IsSize, IsSegment, StandsAt}
+use Rattle.object_log.proofs.Reading.{stands-within, stands-fits, objects-described}
 use Rattle.object_log.proofs.descriptor.read_descriptor.Goals as goal
 
 -- the descriptor lies in the segment
-room : (bytes : List ℕ) (at : ℕ) → (used : ℕ) × IsSegment bytes used × (StandsAt at (objects bytes used) ⊎ ((at ≡ used) × (used ≤ 131064))) → at + 8 ≤ length bytes
-room bytes at (used, s, inl stands) = omega (arith, s.inside, s.long, (stands-within bytes 0 used at (objects bytes used) s.whole stands).1)
+room : (bytes : List ℕ) (at : ℕ) → (used : ℕ) × IsSegment bytes used × (StandsAt at (objects bytes used) ⊎ ((at ≡ used) × (used + descriptor ≤ segment))) → at + 8 ≤ length bytes
+room bytes at (used, s, inl stands) = omega (arith, s.inside, s.long, (stands-within bytes 0 used at (objects bytes used) s.objects stands).1)
 room bytes at (used, s, inr end) = omega (arith, s.long, end.0, end.1)
 
 pub descriptor_in-requires : goal.descriptor_in-requires
@@ -16,8 +17,8 @@ descriptor_in-requires c = room c.args.segment.now c.args.at c.requires
 
 pub returns-clause-object : goal.returns-clause-object
 returns-clause-object c used s =
-    subst (λ (d : Descriptor). All (λ (o : Object). o.at ≡ c.args.at → o ≡ told c.args.at d) (objects c.args.segment.now used)) (sym c.descriptor_in.ensures)
-    (objects-told c.args.segment.now 0 used c.args.at (objects c.args.segment.now used) s.whole)
+    subst (λ (d : Descriptor). All (λ (o : Object). o.at ≡ c.args.at → o ≡ described c.args.at d) (objects c.args.segment.now used)) (sym c.descriptor_in.ensures)
+    (objects-described c.args.segment.now 0 used c.args.at (objects c.args.segment.now used) s.objects)
 
 pub returns-clause-end : goal.returns-clause-end
 returns-clause-end c s =
@@ -31,4 +32,4 @@ returns-clause-end c s =
 pub returns-clause-fits : goal.returns-clause-fits
 returns-clause-fits c used s stands =
     let at = c.args.at in let bytes = c.args.segment.now in
-    subst (λ (d : Descriptor). IsSize d.size × (at + d.size ≤ used)) (sym c.descriptor_in.ensures) (stands-fits bytes 0 used at (objects bytes used) s.whole stands)
+    subst (λ (d : Descriptor). IsSize d.size × (at + d.size ≤ used)) (sym c.descriptor_in.ensures) (stands-fits bytes 0 used at (objects bytes used) s.objects stands)

@@ -43,7 +43,7 @@ use Rattle.std_alloc.specs.contracts.vec.Vec as Vec
 use Rattle.std_alloc.proofs.vec.Vec.TheLaws as vec_laws
 use Rattle.std.specs.Vec.{with_items}
 use Rattle.std.proofs.lemmas.List.{with_items_is}
-use Rattle.raw_range.specs.Ownership.{run_owns}
+use Rattle.raw_range.specs.inside.Ownership.{run_owns}
 use Rattle.raw_range.specs.contracts.parts.attach as F
 use Rattle.raw_range.specs.contracts.parts.attach.Key.{name as #self}
 use Rattle.raw_range.proofs.parts.attach.Statement as stated

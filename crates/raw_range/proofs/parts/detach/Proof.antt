@@ -42,7 +42,7 @@ use Rattle.std_alloc.specs.contracts.vec.Vec as Vec
 use Rattle.std_alloc.proofs.vec.Vec.TheLaws as vec_laws
 use denote.Laws.{Typed}
 use denote.Struct.Struct.{as_fields}
-use Rattle.raw_range.specs.Ownership.{run_owns}
+use Rattle.raw_range.specs.inside.Ownership.{run_owns}
 use Rattle.raw_range.proofs.Vecs.{carve}
 use Rattle.raw_range.specs.contracts.parts.detach as F
 use Rattle.raw_range.specs.contracts.parts.detach.Key.{name as #self}

@@ -34,7 +34,7 @@ use denote.Triple.Statement.{Triple}
 use Rattle.std_alloc.specs.declared.vec.lodged.Lodged.{Lodged}
 use Rattle.std_alloc.specs.contracts.vec.lodge.Key.{name as callee_name}
 use Rattle.std_alloc.proofs.vec.lodge.Met as callee
-use Rattle.raw_range.specs.Ownership.{run_owns}
+use Rattle.raw_range.specs.inside.Ownership.{run_owns}
 use Rattle.raw_range.proofs.Lodging.{byte_laws, Housed, housed-laws, Lodges, at_lodge, IsLodged, lodge_goes, lodge_gives}
 use Rattle.raw_range.specs.contracts.parts.house as F
 use Rattle.raw_range.specs.contracts.parts.house.Key.{name as #self}

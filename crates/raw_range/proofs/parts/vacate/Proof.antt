@@ -33,7 +33,7 @@ use denote.Triple.Call.{calls_at}
 use denote.Triple.Statement.{Triple}
 use Rattle.std_alloc.specs.contracts.vec.lodged.Vec+T+Lodged.dislodge.Key.{name as callee_name}
 use Rattle.std_alloc.proofs.vec.lodged.Vec+T+Lodged.dislodge.Met as callee
-use Rattle.raw_range.specs.Ownership.{run_owns}
+use Rattle.raw_range.specs.inside.Ownership.{run_owns}
 use Rattle.raw_range.proofs.Lodging.{byte_laws, Housed, housed-laws, Dislodges, at_dislodge, dislodge_goes, dislodge_gives}
 use Rattle.raw_range.specs.contracts.parts.vacate as F
 use Rattle.raw_range.specs.contracts.parts.vacate.Key.{name as #self}

@@ -1,31 +1,32 @@
 use Rattle.std.proofs.Common.{[], ◌∷◌, ap, ap₂, ◌∙◌, inr, arith}
-use Rattle.raw_range.specs.Places.{Place, place, without}
+use Rattle.layout.specs.Extents.{Extent, extent}
+use Rattle.raw_range.specs.Memory.{remove_extent}
 use Rattle.raw_range.proofs.Calls.{apart_none, apart_more, has_first, has_second, same_place}
 use Rattle.raw_range.proofs.tests.two_pages_are_written_apart_and_put_back.Goals as goal
 
-abbrev low : Place
-low = place 0 4096
+abbrev low : Extent
+low = extent 0 4096
 
-abbrev high : Place
-high = place 4096 4096
+abbrev high : Extent
+high = extent 4096 4096
 
-pub take-first-requires-clause-apart : goal.take-first-requires-clause-apart
-take-first-requires-clause-apart g c = apart_none low c.in_ok-range.range.out c.in_ok-range.ensures.none_out
+pub take-first-requires-clause-disjoint : goal.take-first-requires-clause-disjoint
+take-first-requires-clause-disjoint g c = apart_none low c.in_ok-range.range.allocated c.in_ok-range.ensures.none_allocated
 
-pub take-second-requires-clause-apart : goal.take-second-requires-clause-apart
-take-second-requires-clause-apart g c =
-    apart_more high low c.take-first.new.self.out c.in_ok-range.range.out (ap (λ m. m.out) c.take-first.ensures.out) (inr (omega arith))
-    (apart_none high c.in_ok-range.range.out c.in_ok-range.ensures.none_out)
+pub take-second-requires-clause-disjoint : goal.take-second-requires-clause-disjoint
+take-second-requires-clause-disjoint g c =
+    apart_more high low c.take-first.new.self.allocated c.in_ok-range.range.allocated (ap (λ m. m.allocated) c.take-first.ensures.allocated) (inr (omega arith))
+    (apart_none high c.in_ok-range.range.allocated c.in_ok-range.ensures.none_allocated)
 
-pub put-requires-clause-out : goal.put-requires-clause-out
-put-requires-clause-out g c =
-    let second = ap (λ m. m.out) c.take-second.ensures.out in let first = ap (λ m. high ∷ m.out) c.take-first.ensures.out in
-    has_second _ low high c.take-second.new.self.out c.in_ok-range.range.out (second ∙ first) (same_place c.take-first.result _ ∙ c.take-first.ensures.place)
+pub put-requires-clause-piece : goal.put-requires-clause-piece
+put-requires-clause-piece g c =
+    let second = ap (λ m. m.allocated) c.take-second.ensures.allocated in let first = ap (λ m. high ∷ m.allocated) c.take-first.ensures.allocated in
+    has_second _ low high c.take-second.new.self.allocated c.in_ok-range.range.allocated (second ∙ first) (same_place c.take-first.result _ ∙ c.take-first.ensures.extent)
 
-pub put-requires-2-clause-out : goal.put-requires-2-clause-out
-put-requires-2-clause-out g c =
-    let put = ap (λ m. m.out) c.put.ensures.back in
-    let place_is = same_place c.take-first.result c.fill.new.self ∙ c.take-first.ensures.place in
-    let second = ap (λ m. m.out) c.take-second.ensures.out in let first = ap (λ m. high ∷ m.out) c.take-first.ensures.out in
-    let none = ap (λ ps. high ∷ (low ∷ ps)) c.in_ok-range.ensures.none_out in
-    has_first _ high c.put.new.self.out [] (put ∙ ap₂ (λ p ps. without p ps) place_is (second ∙ first ∙ none)) (same_place c.take-second.result _ ∙ c.take-second.ensures.place)
+pub put-requires-2-clause-piece : goal.put-requires-2-clause-piece
+put-requires-2-clause-piece g c =
+    let put = ap (λ m. m.allocated) c.put.ensures.back in
+    let place_is = same_place c.take-first.result c.fill.new.self ∙ c.take-first.ensures.extent in
+    let second = ap (λ m. m.allocated) c.take-second.ensures.allocated in let first = ap (λ m. high ∷ m.allocated) c.take-first.ensures.allocated in
+    let none = ap (λ ps. high ∷ (low ∷ ps)) c.in_ok-range.ensures.none_allocated in
+    has_first _ high c.put.new.self.allocated [] (put ∙ ap₂ (λ p ps. remove_extent p ps) place_is (second ∙ first ∙ none)) (same_place c.take-second.result _ ∙ c.take-second.ensures.extent)

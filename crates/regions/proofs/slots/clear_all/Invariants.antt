@@ -1,6 +1,6 @@
 use Rattle.std.proofs.Common.{◌≡◌, ◌++◌, map, take, drop}
 use Rattle.std.specs.Prelude.{option_map}
-use Rattle.regions.specs.Held.{emptied}
+use Rattle.regions.specs.Segments.{emptied}
 use Rattle.regions.proofs.slots.clear_all.Given as goal
 
 abbrev pub invariant-loop-number : goal.invariant-loop-number

@@ -28,7 +28,7 @@ use denote.Triple.Walked.{says, Stays, stay_dropped, walk_of, ends_at, walk_Meet
 use Rattle.std.proofs.alloc.Calls.{Goes-blank}
 use denote.RawPtr.{block_of, count_of}
 use denote.RawPtr.Bytes.{bytes}
-use Rattle.raw_range.specs.Ownership.{IsPlaced}
+use Rattle.raw_range.specs.inside.Ownership.{IsPlaced}
 use Rattle.raw_range.proofs.Rest.{rest-free, run-out}
 use Rattle.raw_range.proofs.Walks.{none, none_made, none_had}
 use Rattle.raw_range.specs.contracts.memory.Held as Held

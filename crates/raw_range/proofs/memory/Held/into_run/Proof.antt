@@ -26,7 +26,7 @@ use denote.Triple.Table.{entered}
 use denote.Triple.Walked.{says, Stays, stay_dropped, walk_of, ends_at, walk_Meets}
 use Rattle.std.proofs.alloc.Calls.{Goes-blank}
 use denote.RawPtr.{block_ptr, block_of, count_of}
-use Rattle.raw_range.specs.Ownership.{IsPlaced, run_owns, rest_owns}
+use Rattle.raw_range.specs.inside.Ownership.{IsPlaced, run_owns, rest_owns}
 use Rattle.raw_range.proofs.Rest.{rest-free, run-in}
 use Rattle.raw_range.proofs.Walks.{none, none_made, none_had}
 use Rattle.raw_range.specs.contracts.memory.Held as Held

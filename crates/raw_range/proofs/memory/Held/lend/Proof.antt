@@ -31,9 +31,9 @@ use Rattle.std.specs.Prelude.{All}
 use lib.ListN.{drop as drop_l}
 use denote.RawPtr.{block_ptr, block_of, count_of, ◌+ₚ◌}
 use denote.RawPtr.Bytes.{bytes}
-use Rattle.raw_range.specs.Places.{place, Apart}
-use Rattle.raw_range.specs.Ownership.{IsPlaced, run_owns, rest_owns}
-use Rattle.raw_range.proofs.Places.{three_parts, in_place, beside_place, is_out-apart, is_out-cons_in, is_out-cons_beside}
+use Rattle.layout.specs.Extents.{extent, Disjoint}
+use Rattle.raw_range.specs.inside.Ownership.{IsPlaced, run_owns, rest_owns}
+use Rattle.raw_range.proofs.Places.{three_parts, in_place, beside_place, is_allocated-apart, is_allocated-cons_in, is_allocated-cons_beside}
 use Rattle.raw_range.proofs.Rest.{rest-lend, run-in}
 use Rattle.raw_range.proofs.Walks.{none, two, none_made, two_made, none_had}
 use Rattle.raw_range.specs.contracts.memory.Held as Held
@@ -77,10 +77,10 @@ module _ {M : Type 1} {𝓤 : Ura M} (𝓛 : Logic 𝓤) (at_mem : Memory → SP
         let front = take at h.bytes in
         let part = take n (drop_l at h.bytes) in
         let back = drop_l n (drop_l at h.bytes) in
-        let p = place at n in
+        let p = extent at n in
         let h' : (Held.the_row).Denot = record { ptr = h.ptr; out = p ∷ h.out; bytes = h.bytes } in
         let r : (Run.the_row).Denot = record { ptr = h.ptr +ₚ at; items = part } in
-        let Asked = IsPlaced h.ptr × (at + n ≤ length h.bytes) × All (Apart p) h.out in
+        let Asked = IsPlaced h.ptr × (at + n ≤ length h.bytes) × All (Disjoint p) h.out in
         qed 𝓛 ((raw toks ⊛ ‵ (owns (types_at ended.signature.params z.0.0) a vss)) ∷ raw (fact 𝓤 Asked) ∷ []) ∵
         move ! (1 ∷ []) $ heard ! Asked (λ asked. split ! $ move ! (1 ∷ []) $
         fsplit ! $ fsplit ! $ none_had ! vss.0 (λ is₀. move ! (1 ∷ []) $ fsplit ! $ fsplit ! $ feq_l ! (λ is₁. flt_l ! (λ fits₁. fsplit ! $ fsplit ! $ feq_l ! (λ is₂. flt_l ! (λ fits₂. drop ! $
@@ -96,9 +96,9 @@ module _ {M : Type 1} {𝓤 : Ura M} (𝓛 : Logic 𝓤) (at_mem : Memory → SP
         sets ! (agg ! (and_then ! (get ! refl) (and_then ! (get ! refl) (no_more !)))) refl (tt, (tt, (tt, tt))) $
         rewrite ! 0 (λ xs. ‵ (rest_owns h.out b o 0 xs)) whole refl $
         use1 𝓛 (‵ (rest_owns (p ∷ h.out) b o 0 (front ++ (part ++ back))) ⊛ ‵ (bytes full_share part b (o + length front)))
-        (rest-lend 𝓛 h.out (p ∷ h.out) b o front part back (λ k beside. is_out-cons_beside h.out p k (beside_place p k (length front) (length part) long fills beside))
-        (λ k low high. is_out-apart h.out p k asked.2 (in_place p k (length front) (length part) long fills low high))
-        (λ k low high. is_out-cons_in h.out p k (in_place p k (length front) (length part) long fills low high))) $ split ! $
+        (rest-lend 𝓛 h.out (p ∷ h.out) b o front part back (λ k beside. is_allocated-cons_beside h.out p k (beside_place p k (length front) (length part) long fills beside))
+        (λ k low high. is_allocated-apart h.out p k asked.2 (in_place p k (length front) (length part) long fills low high))
+        (λ k low high. is_allocated-cons_in h.out p k (in_place p k (length front) (length part) long fills low high))) $ split ! $
         rewrite ! 0 (λ xs. ‵ (rest_owns (p ∷ h.out) b o 0 xs)) (sym whole) refl $
         none_made ! $ fjoin ! $ move ! (1 ∷ []) $
         rewrite ! 0 (λ k. ‵ (bytes full_share part b (o + k))) long refl $

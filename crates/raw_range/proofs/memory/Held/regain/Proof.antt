@@ -31,9 +31,10 @@ use Rattle.std.specs.Prelude.{Contains}
 use lib.ListN.{drop as drop_l}
 use denote.RawPtr.{block_ptr, block_of, count_of, ◌+ₚ◌}
 use denote.RawPtr.Bytes.{bytes}
-use Rattle.raw_range.specs.Places.{place, AreBlocks, without, written}
-use Rattle.raw_range.specs.Ownership.{IsPlaced, run_owns, rest_owns}
-use Rattle.raw_range.proofs.Places.{three_parts, in_place, beside_place, within_blocks, is_out-without_in, is_out-without_beside}
+use Rattle.layout.specs.Extents.{extent, AreDisjoint}
+use Rattle.raw_range.specs.Memory.{remove_extent, written}
+use Rattle.raw_range.specs.inside.Ownership.{IsPlaced, run_owns, rest_owns}
+use Rattle.raw_range.proofs.Places.{three_parts, in_place, beside_place, within_blocks, is_allocated-without_in, is_allocated-without_beside}
 use Rattle.raw_range.proofs.Rest.{rest-regain, run-out}
 use Rattle.raw_range.proofs.Walks.{none, none_made, none_had}
 use Rattle.raw_range.specs.contracts.memory.Held as Held
@@ -75,12 +76,12 @@ module _ {M : Type 1} {𝓤 : Ura M} (𝓛 : Logic 𝓤) (at_mem : Memory → SP
         let n = length r.items in
         let b = block_of h.ptr in
         let o = count_of h.ptr in
-        let p = place at n in
+        let p = extent at n in
         let front = take at h.bytes in
         let old = take n (drop_l at h.bytes) in
         let back = drop_l n (drop_l at h.bytes) in
-        let h' : (Held.the_row).Denot = record { ptr = h.ptr; out = without p h.out; bytes = written h.bytes at r.items } in
-        let Asked = IsPlaced h.ptr × (r.ptr ≡ h.ptr +ₚ at) × AreBlocks (length h.bytes) h.out × Contains h.out p in
+        let h' : (Held.the_row).Denot = record { ptr = h.ptr; out = remove_extent p h.out; bytes = written h.bytes at r.items } in
+        let Asked = IsPlaced h.ptr × (r.ptr ≡ h.ptr +ₚ at) × AreDisjoint (length h.bytes) h.out × Contains h.out p in
         qed 𝓛 ((raw toks ⊛ ‵ (owns (types_at ended.signature.params z.0.0) a vss)) ∷ raw (fact 𝓤 Asked) ∷ []) ∵
         move ! (1 ∷ []) $ heard ! Asked (λ asked. split ! $ move ! (1 ∷ []) $
         fsplit ! $ fsplit ! $ none_had ! vss.0 (λ is₀. move ! (1 ∷ []) $ fsplit ! $ fsplit ! $ feq_l ! (λ is₁. flt_l ! (λ fits₁. fsplit ! $ fsplit ! $ none_had ! vss.1.1.0 (λ is₂. move ! (1 ∷ []) $ drop ! $
@@ -99,11 +100,11 @@ module _ {M : Type 1} {𝓤 : Ura M} (𝓛 : Logic 𝓤) (at_mem : Memory → SP
         use1 𝓛 (given (IsPlaced (block_ptr b (o + at))) (‵ (bytes full_share r.items b (o + at)))) (run-out 𝓛 (block_ptr b (o + at)) r.items) $ learn ! (λ placed.
         rewrite ! 0 (λ k. ‵ (bytes full_share r.items b (o + k))) (sym long) refl $ move ! (1 ∷ []) $
         rewrite ! 0 (λ xs. ‵ (rest_owns h.out b o 0 xs)) whole refl $
-        use2 𝓛 (‵ (rest_owns (without p h.out) b o 0 (front ++ (r.items ++ back))))
-        (rest-regain 𝓛 h.out (without p h.out) b o front old r.items back fills
-        (λ k beside. is_out-without_beside (length h.bytes) h.out p asked.2 asked.3 k (beside_place p k (length front) n long refl beside))
-        (λ k low high. is_out-without_in (length h.bytes) h.out p asked.2 asked.3 k (in_place p k (length front) n long refl low high))) $
-        rewrite ! 0 (λ xs. ‵ (rest_owns (without p h.out) b o 0 xs)) new refl $
+        use2 𝓛 (‵ (rest_owns (remove_extent p h.out) b o 0 (front ++ (r.items ++ back))))
+        (rest-regain 𝓛 h.out (remove_extent p h.out) b o front old r.items back fills
+        (λ k beside. is_allocated-without_beside (length h.bytes) h.out p asked.2 asked.3 k (beside_place p k (length front) n long refl beside))
+        (λ k low high. is_allocated-without_in (length h.bytes) h.out p asked.2 asked.3 k (in_place p k (length front) n long refl low high))) $
+        rewrite ! 0 (λ xs. ‵ (rest_owns (remove_extent p h.out) b o 0 xs)) new refl $
         none_made ! $ fjoin ! $
         returns ! (look_at ! 0 refl) $ free_all ! refl $
         suffices ! _ (ends_at 𝓛 ended stayed held z none h' (tt, (tt, (tt, tt))) (tt, (tt, (tt, tt)))) $ says ! (refl, refl, refl) $

@@ -1,56 +1,56 @@
-use Rattle.std.proofs.Common.{◌≡◌, None, Some, get_or, refl, sym, ap, ◌∙◌, subst}
-use Rattle.std.specs.Prelude.{slice_set, option_map, IsSome}
-use Rattle.regions.specs.Held.{Holding, held, with_segment, pieces}
-use Rattle.regions.specs.Contents.{standing_at, standing_in, item_if_live, live_at}
-use Rattle.regions.specs.Calls.{rewritten, with_bytes, ChangesIn, ChangesAt, Writes}
-use Rattle.regions.specs.Lends.{slot_with, with_content}
-use Rattle.regions.specs.Whole.{IsWhole}
-use Rattle.regions.proofs.Tables.{whole-set, pieces-set, changes-set, live-within, slot-is}
+use Rattle.std.proofs.Common.{◌≡◌, ℕ, List, get_or, sym, ap, ◌∙◌, subst, refl}
+use Rattle.std.specs.Prelude.{None, Some, IsSome, option_map}
+use Rattle.std.specs.List.{sum}
+use Rattle.regions.specs.Segments.{RegionState, with_segment}
+use Rattle.regions.specs.Shapes.{shape}
+use Rattle.regions.specs.Counts.{used_counts, live_counts}
+use Rattle.regions.specs.Contents.{standing_in, standing_at, item_if_live, live_at, rewritten, with_bytes, ChangesIn, ChangesAt}
+use Rattle.regions.specs.Lends.{segment_with, with_content}
+use Rattle.regions.proofs.Updates.{slots-same, used-same, live-same}
 use Rattle.regions.proofs.Written.{whole-content}
+use Rattle.regions.proofs.Regions.{found-there, live-within, kept-in, changes-set}
 use Rattle.regions.proofs.region.Region.bytes_mut.Goals as goal
 
 pub invariant_of-self-lent : goal.invariant_of-self-lent
 invariant_of-self-lent c ws =
-    let i = c.self.inside in let slots = i.slots.items in let n = c.args.place.segment in let now = c.index_mut.result.now in
-    let b = c.content_mut_in.ensures.filled ws in
-    let alive : IsSome (item_if_live (standing_in (get_or slots n None) c.args.place.at)) = subst (λ r. IsSome (live_at r c.args.place)) (sym c.self.view_is) c.requires in
-    let inside = live-within slots n c.args.place.at alive in
-    let is : get_or slots n None ≡ now = slot-is slots n now None inside c.index_mut.ensures.value in
-    subst (λ s. IsWhole i.most i.active i.free (slice_set slots n s)) (sym b.3) (whole-set i.most i.active i.free slots n b.0 b.1 c.self.invariant (is ∙ b.2) b.4.free)
+    let i = c.self.inside in let slots = i.slots.items in let n = c.args.place.segment in let at = c.args.place.at in let e = c.content_mut.ensures in let h = c.segment_mut.result.now in
+    let alive : IsSome (item_if_live (standing_in (get_or slots n None) at)) = subst (λ r. IsSome (live_at r c.args.place)) (sym c.self.view_is) c.requires in
+    let inside = live-within slots n at alive in
+    let is = found-there slots n c.index_mut.result.now h inside c.index_mut.ensures.value c.segment_mut.ensures.value in
+    kept-in i.most i.active i.free i.active_live i.table slots c.self.invariant n h (segment_with at ws h) is (e.slot ws) refl (e.live ws)
 
 pub returns : goal.returns
 unfolding with_content
 returns c =
-    let i = c.self.inside in let slots = i.slots.items in let n = c.args.place.segment in let at = c.args.place.at in let now = c.index_mut.result.now in
+    let i = c.self.inside in let slots = i.slots.items in let n = c.args.place.segment in let at = c.args.place.at in let e = c.content_mut.ensures in let h = c.segment_mut.result.now in
     let alive : IsSome (item_if_live (standing_in (get_or slots n None) at)) = subst (λ r. IsSome (live_at r c.args.place)) (sym c.self.view_is) c.requires in
     let inside = live-within slots n at alive in
-    let is : get_or slots n None ≡ now = slot-is slots n now None inside c.index_mut.ensures.value in
-    let r : Holding = record { most = i.most; guards = i.guards; active = i.active; segments = slots } in (
-      (refl, λ ws. ap (λ s. with_segment r n (slot_with at ws s)) (sym is) ∙ ap (λ q. with_content q c.args.place ws) c.self.view_is),
+    let is = found-there slots n c.index_mut.result.now h inside c.index_mut.ensures.value c.segment_mut.ensures.value in
+    let r : RegionState = record { most = i.most; guards = i.guards; active = i.active; segments = slots } in
+    let there : option_map (λ t. t.item.content) (standing_in (get_or slots n None) at) ≡ Some c.content_mut.result.now = subst (λ s. option_map (λ t. t.item.content) (standing_in s at) ≡ Some c.content_mut.result.now) (sym is) e.value in
+    let left-as : (ws : List ℕ) → with_segment r n (Some (segment_with at ws h)) ≡ with_content r c.args.place ws = λ ws. ap (λ s. with_segment r n (option_map (segment_with at ws) s)) (sym is) in
+    let changed : (ws : List ℕ) → ChangesAt c.args.place (option_map (rewritten ws) (standing_at r c.args.place)) r (with_segment r n (Some (segment_with at ws h))) =
+    λ ws. changes-set r n at (option_map (rewritten ws) (standing_at r c.args.place)) (Some (segment_with at ws h)) inside
+    (subst (λ s. ChangesIn at (option_map (rewritten ws) (standing_in s at)) s (Some (segment_with at ws h))) (sym is) (e.written ws)) in (
+      (refl, λ ws. left-as ws ∙ ap (λ q. with_content q c.args.place ws) c.self.view_is),
       record {
         lends = tt;
-        value =
-            subst (λ q. option_map (λ s. s.item.content) (standing_at q c.args.place) ≡ Some c.content_mut_in.result.now) c.self.view_is
-            (ap (λ s. option_map (λ t. t.item.content) (standing_in s at)) is ∙ c.content_mut_in.ensures.value);
+        value = subst (λ q. option_map (λ s. s.item.content) (standing_at q c.args.place) ≡ Some c.content_mut.result.now) c.self.view_is there;
         left = λ ws long.
-            let ch : ChangesIn at (option_map (rewritten ws) (standing_in (held r n) at)) (held r n) (slot_with at ws (held r n)) =
-            subst (λ s. ChangesIn at (option_map (rewritten ws) (standing_in s at)) s (slot_with at ws s)) (sym is) (c.content_mut_in.ensures.written ws) in
-            let there : option_map (λ t. t.item.content) (standing_at r c.args.place) ≡ Some c.content_mut_in.result.now = ap (λ s. option_map (λ t. t.item.content) (standing_in s at)) is ∙ c.content_mut_in.ensures.value in
             subst (λ q. ChangesAt c.args.place (option_map (with_bytes ws) (standing_at q c.args.place)) q (with_content q c.args.place ws)) c.self.view_is
-            (subst (λ s. ChangesAt c.args.place s r (with_content r c.args.place ws)) (whole-content (standing_at r c.args.place) c.content_mut_in.result.now ws there long)
-            (changes-set r n at (option_map (rewritten ws) (standing_at r c.args.place)) (slot_with at ws (held r n)) inside ch));
+            (subst (λ t. ChangesAt c.args.place (option_map (with_bytes ws) (standing_at r c.args.place)) r t) (left-as ws)
+            (subst (λ s. ChangesAt c.args.place s r (with_segment r n (Some (segment_with at ws h)))) (whole-content (standing_at r c.args.place) c.content_mut.result.now ws there long) (changed ws)));
         fitted = λ ws.
-            let ch : ChangesIn at (option_map (rewritten ws) (standing_in (held r n) at)) (held r n) (slot_with at ws (held r n)) =
-            subst (λ s. ChangesIn at (option_map (rewritten ws) (standing_in s at)) s (slot_with at ws s)) (sym is) (c.content_mut_in.ensures.written ws) in
             subst (λ q. ChangesAt c.args.place (option_map (rewritten ws) (standing_at q c.args.place)) q (with_content q c.args.place ws)) c.self.view_is
-            (changes-set r n at (option_map (rewritten ws) (standing_at r c.args.place)) (slot_with at ws (held r n)) inside ch);
-        filled = λ ws.
-            let b = c.content_mut_in.ensures.filled ws in
-            subst (λ q. Writes c.args.place q (with_content q c.args.place ws)) c.self.view_is
-            (record { before = b.0; after = b.1; held = is ∙ b.2; filled = b.4; rest = ap (with_segment r n) (ap (slot_with at ws) is ∙ b.3) });
-        pieces = λ ws.
-            let b = c.content_mut_in.ensures.filled ws in
-            subst (λ q. pieces (with_content q c.args.place ws) ≡ pieces q) c.self.view_is
-            (subst (λ s. pieces (with_segment r n s) ≡ pieces r) (sym (ap (slot_with at ws) is ∙ b.3)) (pieces-set r n b.0 b.1 (is ∙ b.2) b.4.piece));
+            (subst (λ t. ChangesAt c.args.place (option_map (rewritten ws) (standing_at r c.args.place)) r t) (left-as ws) (changed ws));
+        used = λ ws.
+            subst (λ q. used_counts (with_content q c.args.place ws) ≡ used_counts q) c.self.view_is (ap used_counts (sym (left-as ws)) ∙ used-same slots n h (segment_with at ws h) is refl);
+        live = λ ws.
+            subst (λ q. live_counts (with_content q c.args.place ws) ≡ live_counts q) c.self.view_is (ap live_counts (sym (left-as ws)) ∙ live-same slots n h (segment_with at ws h) is (e.live ws));
+        live_total = λ ws.
+            ap sum (subst (λ q. live_counts (with_content q c.args.place ws) ≡ live_counts q) c.self.view_is (ap live_counts (sym (left-as ws)) ∙ live-same slots n h (segment_with at ws h) is (e.live ws)));
+        shape = λ ws.
+            subst (λ q. shape (with_content q c.args.place ws) ≡ shape q) c.self.view_is
+            (ap shape (sym (left-as ws)) ∙ ap (λ s. record (shape r) { slots = s }) (slots-same slots n h (segment_with at ws h) is (e.slot ws)));
       },
     )

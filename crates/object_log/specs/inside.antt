@@ -1,0 +1,2 @@
+-- What only the private parts of the log cite.
+pub mod Made

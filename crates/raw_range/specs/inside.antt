@@ -1,0 +1,3 @@
+-- What only the private parts of a range cite.
+pub mod Covered
+pub mod Ownership

@@ -1,0 +1,84 @@
+-- From one object of a segment to the next one.
+use Rattle.std.proofs.Common.{◌≡◌, ◌≢◌, ℕ, ◌+◌, ◌<◌, ◌≤◌, ◌⊎◌, inl, inr, List, [], ◌∷◌, refl, sym, ap, ◌∙◌, subst, arith, eq-eqb}
+use Rattle.std.specs.Prelude.{Option, None, Some, IsSome, option_map}
+use Rattle.std.proofs.lemmas.Bool.{cases_eq, ne_eqb}
+use Rattle.std.proofs.Math.Nat.{eq-or-lt_of_le}
+use Rattle.std.proofs.lemmas.Bool.Decides.{leb_tells}
+use Rattle.object_log.specs.Objects.{Object, objects, descriptor_at, AreObjects, IsObject, IsSegment}
+use Rattle.object_log.specs.declared.descriptor.Descriptor.{Descriptor}
+use Rattle.regions.specs.Contents.{IsLiveAt, standing, standing_among, item_if_live, if_live, object_with}
+use Rattle.regions.proofs.Objects.{found, some-found, after-found}
+use Rattle.regions.proofs.Written.{IsThere, content-size}
+
+pub there-at : (bytes : List ℕ) (used at : ℕ) → IsSegment bytes used → at < used → IsSome (standing_among bytes at (objects bytes used)) ⊎ (at ≡ used) → IsThere bytes used at
+there-at bytes used at s low start =
+    let there : IsSome (standing_among bytes at (objects bytes used)) = elim start [ inl h ↦ h | inr e ↦ absurd (omega (arith, e, low)) ] in
+    let f = some-found bytes at (objects bytes used) there in record { segment = s; it = f.0; is-it = f.1; found = found bytes 0 used at (objects bytes used) f.0 s.objects f.1 }
+
+is-object : (bytes : List ℕ) (a used at : ℕ) (os : List Object) (o : Object) → AreObjects bytes a used os → object_with at os ≡ Some o → IsObject bytes o
+is-object bytes a used at [] o h e = absurd (let clash : None ≡ Some o = e in cc)
+is-object bytes a used at (p ∷ os) o h e =
+    elim (cases_eq p.at at) [
+      | inl is ↦
+          let first : object_with at (p ∷ os) ≡ Some p = rw (eq-eqb p.at at is) refl in
+          let same : p ≡ o = (let both : Some p ≡ Some o = sym first ∙ e in cc) in subst (IsObject bytes) same h.1
+      | inr far ↦
+          let later : object_with at (p ∷ os) ≡ object_with at os = rw (ne_eqb p.at at far) refl in is-object bytes (a + p.size) used at os o h.2 (sym later ∙ e)
+    ]
+
+some-standing : (bytes : List ℕ) (o : Option Object) → IsSome o → IsSome (option_map (standing bytes) o)
+some-standing bytes None h = h
+some-standing bytes (Some o) h = refl
+
+module _ (bytes : List ℕ) (used at : ℕ) (t : IsThere bytes used at) (d : Descriptor) (is : d ≡ descriptor_at bytes at) where
+  open t use {segment, it, is-it, found as f}
+
+  pub state-is : it.state ≡ d.state
+  state-is = ap (λ o. o.state) f.is ∙ sym (ap (λ e. e.state) is)
+
+  pub kind-is : it.kind ≡ d.kind
+  kind-is = ap (λ o. o.kind) f.is ∙ sym (ap (λ e. e.kind) is)
+
+  pub size-is : it.size ≡ d.size
+  size-is = ap (λ o. o.size) f.is ∙ sym (ap (λ e. e.size) is)
+
+  pub some-kind : 1 ≤ d.kind
+  some-kind = let k = (is-object bytes 0 used at (objects bytes used) it segment.objects is-it).1 in omega (arith, k, kind-is)
+
+  pub step : (16 ≤ d.size) × (at + d.size ≤ used) × (used ≤ 131072)
+  step = (omega (arith, f.least, size-is), omega (arith, f.high, size-is), segment.inside)
+
+  pub live-there : d.state ≡ 1 → IsLiveAt (item_if_live (standing_among bytes at (objects bytes used))) d.kind d.size
+  live-there one = record {
+    item = (standing bytes it).item;
+    is = ap (λ o. item_if_live (option_map (standing bytes) o)) is-it ∙ ap (λ b. if_live b (standing bytes it).item) (eq-eqb it.state 1 (state-is ∙ one));
+    kind_is = kind-is;
+    size_is = sym (content-size bytes used at t) ∙ size-is;
+  }
+
+  after : ((at + it.size ≡ used) ⊎ IsSome (object_with (at + it.size) (objects bytes used))) × ((b : ℕ) → at < b → b < at + it.size → object_with b (objects bytes used) ≡ None)
+  after = after-found bytes 0 used at (objects bytes used) it segment.objects is-it
+
+  pub next-starts : IsSome (standing_among bytes (at + d.size) (objects bytes used)) ⊎ (at + d.size ≡ used)
+  next-starts =
+      elim after.0 [
+        | inl ends ↦ inr (ap (λ n. at + n) (sym size-is) ∙ ends)
+        | inr more ↦ inl (subst (λ n. IsSome (standing_among bytes (at + n) (objects bytes used))) size-is (some-standing bytes (object_with (at + it.size) (objects bytes used)) more))
+      ]
+
+  pub none-between : (b : ℕ) → at < b → b < at + d.size → standing_among bytes b (objects bytes used) ≡ None
+  none-between b low high = ap (option_map (standing bytes)) (after.1 b low (omega (arith, high, size-is)))
+
+  -- a dead object is passed over
+  pub passed : (from : ℕ) → d.state ≢ 1 → ((b : ℕ) → from ≤ b → b < at → item_if_live (standing_among bytes b (objects bytes used)) ≡ None)
+      → (b : ℕ) → from ≤ b → b < at + d.size → item_if_live (standing_among bytes b (objects bytes used)) ≡ None
+  passed from dead before b low high =
+      elim (leb_tells at b) [
+        | inl up ↦ elim (eq-or-lt_of_le up.1) [
+          | inl e ↦
+              subst (λ k. item_if_live (standing_among bytes k (objects bytes used)) ≡ None) e
+              (ap (λ o. item_if_live (option_map (standing bytes) o)) is-it ∙ ap (λ b. if_live b (standing bytes it).item) (ne_eqb it.state 1 (λ one. dead (sym state-is ∙ one))))
+          | inr over ↦ ap item_if_live (none-between b over high)
+        ]
+        | inr under ↦ before b low under.1
+      ]

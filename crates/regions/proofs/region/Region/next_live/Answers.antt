@@ -1,0 +1,39 @@
+use Rattle.std.proofs.Common.{◌≡◌, ◌+◌, ◌<◌, ◌≤◌, ◌⊎◌, ℕ, true, get_or, sym, ◌∙◌, subst}
+use Rattle.std.specs.Prelude.{None, Some, IsSome, IfSome}
+use Rattle.regions.specs.Shapes.{slots_of, is_closed, IsClosed}
+use Rattle.regions.specs.Contents.{standing_in, standing_at}
+use Rattle.regions.proofs.Tables as tables
+use Rattle.regions.proofs.Updates.{used-is}
+use Rattle.regions.proofs.Consistency.{closed-begun}
+use Rattle.regions.specs.Contents.{NoneLives, IsStart, starts_in, none_lives_in}
+use Rattle.regions.specs.declared.place.Place.{Place}
+use Rattle.regions.proofs.Regions.{begun-within}
+use Rattle.regions.proofs.region.Region.next_live.Goals as goal
+
+pub returns-clause-skipped : goal.returns-clause-skipped
+returns-clause-skipped c =
+    let i = c.self.inside in let slots = i.slots.items in let n = c.args.segment in
+    let shut : is_closed i.active (slots_of slots) n ≡ true = subst (λ q. IsClosed q n) (sym c.self.view_is) c.requires.closed in
+    let inside = begun-within i.most i.active i.free i.active_live i.table slots c.self.invariant n (closed-begun i.active (slots_of slots) n shut).0 in
+    let is : get_or slots n None ≡ Some c.segment_in.result.now = tables.slot-is slots n c.index.result.now None inside c.index.ensures ∙ c.segment_in.ensures in
+    subst (λ q. IfSome c.next_live.result (λ f. (c.args.from ≤ f.0) × NoneLives q n c.args.from f.0)) c.self.view_is
+    (subst (λ s. IfSome c.next_live.result (λ f. (c.args.from ≤ f.0) × none_lives_in s c.args.from f.0)) (sym is) c.next_live.ensures.skipped)
+
+pub returns-clause-next : goal.returns-clause-next
+returns-clause-next c =
+    let i = c.self.inside in let slots = i.slots.items in let n = c.args.segment in
+    let shut : is_closed i.active (slots_of slots) n ≡ true = subst (λ q. IsClosed q n) (sym c.self.view_is) c.requires.closed in
+    let inside = begun-within i.most i.active i.free i.active_live i.table slots c.self.invariant n (closed-begun i.active (slots_of slots) n shut).0 in
+    let is : get_or slots n None ≡ Some c.segment_in.result.now = tables.slot-is slots n c.index.result.now None inside c.index.ensures ∙ c.segment_in.ensures in
+    subst (λ q. IfSome c.next_live.result (λ f. IsStart q n (f.0 + f.2))) c.self.view_is
+    (subst (λ u. IfSome c.next_live.result (λ f. IsSome (standing_in (get_or slots n None) (f.0 + f.2)) ⊎ (f.0 + f.2 ≡ u))) (sym (used-is slots n))
+    (subst (λ s. IfSome c.next_live.result (λ f. starts_in s (f.0 + f.2))) (sym is) c.next_live.ensures.next))
+
+pub returns-clause-between : goal.returns-clause-between
+returns-clause-between c =
+    let i = c.self.inside in let slots = i.slots.items in let n = c.args.segment in
+    let shut : is_closed i.active (slots_of slots) n ≡ true = subst (λ q. IsClosed q n) (sym c.self.view_is) c.requires.closed in
+    let inside = begun-within i.most i.active i.free i.active_live i.table slots c.self.invariant n (closed-begun i.active (slots_of slots) n shut).0 in
+    let is : get_or slots n None ≡ Some c.segment_in.result.now = tables.slot-is slots n c.index.result.now None inside c.index.ensures ∙ c.segment_in.ensures in
+    subst (λ q. IfSome c.next_live.result (λ f. (a : ℕ) → f.0 < a → a < f.0 + f.2 → standing_at q (let p : Place = record { segment = n; at = a } in p) ≡ None)) c.self.view_is
+    (subst (λ s. IfSome c.next_live.result (λ f. (a : ℕ) → f.0 < a → a < f.0 + f.2 → standing_in s a ≡ None)) (sym is) c.next_live.ensures.between)

@@ -1,0 +1,86 @@
+use Rattle.std.proofs.Common.{◌≡◌, ◌<◌, inl, sym, ap, ◌∙◌, subst, arith}
+use Rattle.object_log.specs.Objects.{Object, objects, descriptor_at, IsSegment, StandsAt}
+use Rattle.regions.proofs.Objects.{found-any}
+use Rattle.regions.proofs.Walked.{there-at, some-kind, step, live-there, next-starts, none-between, passed}
+use Rattle.regions.proofs.segment.Segment.next_live.Goals as goal
+
+pub read_descriptor-found-requires : goal.read_descriptor-found-requires
+read_descriptor-found-requires c =
+    let h = c.args.self.now in let at = c.loop-at.at in
+    let s : IsSegment h.piece.bytes h.used = subst (λ k. IsSegment k.piece.bytes k.used) c.self.view_is (c.self.invariant.2 (ap (λ k. k.free) c.self.view_is ∙ c.requires.begun)) in
+    let low : at < h.used = subst (λ k. at < k.used) c.self.view_is c.loop-at-test.true in
+    let t = there-at h.piece.bytes h.used at s low c.loop-at.invariant.1 in
+    let is : c.bytes-bytes.result.now ≡ h.piece.bytes = c.bytes-bytes.ensures ∙ ap (λ k. k.piece.bytes) c.self.view_is in
+    (h.used, subst (λ b. IsSegment b h.used) (sym is) s, inl (subst (λ b. StandsAt at (objects b h.used)) (sym is) (found-any (λ (o : Object). o.at ≡ at) at (objects h.piece.bytes h.used) t.it t.is-it (t.found).place)))
+
+pub returns-then-found-eq1-clause-found : goal.returns-then-found-eq1-clause-found
+returns-then-found-eq1-clause-found c =
+    let h = c.args.self.now in let at = c.loop-at.at in
+    let s : IsSegment h.piece.bytes h.used = subst (λ k. IsSegment k.piece.bytes k.used) c.self.view_is (c.self.invariant.2 (ap (λ k. k.free) c.self.view_is ∙ c.requires.begun)) in
+    let low : at < h.used = subst (λ k. at < k.used) c.self.view_is c.loop-at-test.true in
+    let t = there-at h.piece.bytes h.used at s low c.loop-at.invariant.1 in
+    let is : c.bytes-bytes.result.now ≡ h.piece.bytes = c.bytes-bytes.ensures ∙ ap (λ k. k.piece.bytes) c.self.view_is in
+    let d = c.read_descriptor-found.result in let d-is : d ≡ descriptor_at h.piece.bytes at = c.read_descriptor-found.ensures.read ∙ ap (λ b. descriptor_at b at) is in
+    live-there h.piece.bytes h.used at t d d-is c.if-found-eq1.true
+
+pub returns-then-found-eq1-clause-size : goal.returns-then-found-eq1-clause-size
+returns-then-found-eq1-clause-size c =
+    let h = c.args.self.now in let at = c.loop-at.at in
+    let s : IsSegment h.piece.bytes h.used = subst (λ k. IsSegment k.piece.bytes k.used) c.self.view_is (c.self.invariant.2 (ap (λ k. k.free) c.self.view_is ∙ c.requires.begun)) in
+    let low : at < h.used = subst (λ k. at < k.used) c.self.view_is c.loop-at-test.true in
+    let t = there-at h.piece.bytes h.used at s low c.loop-at.invariant.1 in
+    let is : c.bytes-bytes.result.now ≡ h.piece.bytes = c.bytes-bytes.ensures ∙ ap (λ k. k.piece.bytes) c.self.view_is in
+    let d = c.read_descriptor-found.result in let d-is : d ≡ descriptor_at h.piece.bytes at = c.read_descriptor-found.ensures.read ∙ ap (λ b. descriptor_at b at) is in
+    let stands : StandsAt at (objects c.bytes-bytes.result.now h.used) = subst (λ b. StandsAt at (objects b h.used)) (sym is) (found-any (λ (o : Object). o.at ≡ at) at (objects h.piece.bytes h.used) t.it t.is-it (t.found).place) in
+    (some-kind h.piece.bytes h.used at t d d-is, (c.read_descriptor-found.ensures.fits h.used (subst (λ b. IsSegment b h.used) (sym is) s) stands).0)
+
+pub returns-then-found-eq1-clause-next : goal.returns-then-found-eq1-clause-next
+returns-then-found-eq1-clause-next c =
+    let h = c.args.self.now in let at = c.loop-at.at in
+    let s : IsSegment h.piece.bytes h.used = subst (λ k. IsSegment k.piece.bytes k.used) c.self.view_is (c.self.invariant.2 (ap (λ k. k.free) c.self.view_is ∙ c.requires.begun)) in
+    let low : at < h.used = subst (λ k. at < k.used) c.self.view_is c.loop-at-test.true in
+    let t = there-at h.piece.bytes h.used at s low c.loop-at.invariant.1 in
+    let is : c.bytes-bytes.result.now ≡ h.piece.bytes = c.bytes-bytes.ensures ∙ ap (λ k. k.piece.bytes) c.self.view_is in
+    let d = c.read_descriptor-found.result in let d-is : d ≡ descriptor_at h.piece.bytes at = c.read_descriptor-found.ensures.read ∙ ap (λ b. descriptor_at b at) is in
+    next-starts h.piece.bytes h.used at t d d-is
+
+pub returns-then-found-eq1-clause-between : goal.returns-then-found-eq1-clause-between
+returns-then-found-eq1-clause-between c =
+    let h = c.args.self.now in let at = c.loop-at.at in
+    let s : IsSegment h.piece.bytes h.used = subst (λ k. IsSegment k.piece.bytes k.used) c.self.view_is (c.self.invariant.2 (ap (λ k. k.free) c.self.view_is ∙ c.requires.begun)) in
+    let low : at < h.used = subst (λ k. at < k.used) c.self.view_is c.loop-at-test.true in
+    let t = there-at h.piece.bytes h.used at s low c.loop-at.invariant.1 in
+    let is : c.bytes-bytes.result.now ≡ h.piece.bytes = c.bytes-bytes.ensures ∙ ap (λ k. k.piece.bytes) c.self.view_is in
+    let d = c.read_descriptor-found.result in let d-is : d ≡ descriptor_at h.piece.bytes at = c.read_descriptor-found.ensures.read ∙ ap (λ b. descriptor_at b at) is in
+    none-between h.piece.bytes h.used at t d d-is
+
+pub overflow_add-at : goal.overflow_add-at
+overflow_add-at c =
+    let h = c.args.self.now in let at = c.loop-at.at in
+    let s : IsSegment h.piece.bytes h.used = subst (λ k. IsSegment k.piece.bytes k.used) c.self.view_is (c.self.invariant.2 (ap (λ k. k.free) c.self.view_is ∙ c.requires.begun)) in
+    let low : at < h.used = subst (λ k. at < k.used) c.self.view_is c.loop-at-test.true in
+    let t = there-at h.piece.bytes h.used at s low c.loop-at.invariant.1 in
+    let is : c.bytes-bytes.result.now ≡ h.piece.bytes = c.bytes-bytes.ensures ∙ ap (λ k. k.piece.bytes) c.self.view_is in
+    let d = c.read_descriptor-found.result in let d-is : d ≡ descriptor_at h.piece.bytes at = c.read_descriptor-found.ensures.read ∙ ap (λ b. descriptor_at b at) is in
+    let w = step h.piece.bytes h.used at t d d-is in record { fits = omega (arith, w.1, w.2) }
+
+pub loop-at-smaller : goal.loop-at-smaller
+loop-at-smaller c =
+    let h = c.args.self.now in let at = c.loop-at.at in
+    let s : IsSegment h.piece.bytes h.used = subst (λ k. IsSegment k.piece.bytes k.used) c.self.view_is (c.self.invariant.2 (ap (λ k. k.free) c.self.view_is ∙ c.requires.begun)) in
+    let low : at < h.used = subst (λ k. at < k.used) c.self.view_is c.loop-at-test.true in
+    let t = there-at h.piece.bytes h.used at s low c.loop-at.invariant.1 in
+    let is : c.bytes-bytes.result.now ≡ h.piece.bytes = c.bytes-bytes.ensures ∙ ap (λ k. k.piece.bytes) c.self.view_is in
+    let d = c.read_descriptor-found.result in let d-is : d ≡ descriptor_at h.piece.bytes at = c.read_descriptor-found.ensures.read ∙ ap (λ b. descriptor_at b at) is in
+    let w = step h.piece.bytes h.used at t d d-is in omega (arith, w.0, c.loop-at-test.true)
+
+pub loop-at-preserved : goal.loop-at-preserved
+loop-at-preserved c =
+    let h = c.args.self.now in let at = c.loop-at.at in
+    let s : IsSegment h.piece.bytes h.used = subst (λ k. IsSegment k.piece.bytes k.used) c.self.view_is (c.self.invariant.2 (ap (λ k. k.free) c.self.view_is ∙ c.requires.begun)) in
+    let low : at < h.used = subst (λ k. at < k.used) c.self.view_is c.loop-at-test.true in
+    let t = there-at h.piece.bytes h.used at s low c.loop-at.invariant.1 in
+    let is : c.bytes-bytes.result.now ≡ h.piece.bytes = c.bytes-bytes.ensures ∙ ap (λ k. k.piece.bytes) c.self.view_is in
+    let d = c.read_descriptor-found.result in let d-is : d ≡ descriptor_at h.piece.bytes at = c.read_descriptor-found.ensures.read ∙ ap (λ b. descriptor_at b at) is in
+    let w = step h.piece.bytes h.used at t d d-is in let before = c.loop-at.invariant.0 in
+    (omega (arith, before), next-starts h.piece.bytes h.used at t d d-is, passed h.piece.bytes h.used at t d d-is c.args.from c.if-found-eq1.false c.loop-at.invariant.2)

@@ -1,0 +1,31 @@
+ghost use Rattle.std.specs.Prelude.{◌≡◌, ◌≢◌, ℕ, Option, Some, option_map};
+ghost use Rattle.regions.specs.Contents.{Item, live_at};
+ghost use Rattle.regions.specs.Stores.{Live, Bare, StandsFor, SameBut, store_of, less, renamed};
+ghost use Rattle.regions.specs.declared.place.Place.{Place};
+
+use crate::place::Place;
+use crate::region::Region;
+
+/// Whoever keeps places of a region's objects, and mends them when an object is moved: what ScyllaDB calls a migrator.
+///
+/// A mover tells a map from names to places, and which live objects it fits. Where it fits the live objects of a region,
+/// the two stand for a store, in which nothing has a place. Items are compared without their reference fields, which the
+/// mover names by `bare`.
+pub trait Movers {
+    ghost fits: { Self → Live → Type 0 };
+
+    ghost place_of: { Self → ℕ → Option Place };
+
+    ghost bare: { Bare };
+
+    /// The live object at `from` was copied to `to`, where it is live too. Each reference to `from`, in the mover's own
+    /// tables and in the live objects' reference fields, is `to` from now on.
+    fn moved(&mut self, store: &mut Region, kind: u8, from: Place, to: Place)
+        requires copied { (i : Item) × (i.kind ≡ kind) × (live_at store.old from ≡ Some i) × (live_at store.old to ≡ Some i) }
+        requires apart { from ≢ to }
+        requires fits { fits self.old (less to (live_at store.old)) }
+        ensures stands { (m : Self) (live : Live) → fits m live → StandsFor bare (store_of bare (place_of m) live) (place_of m) live }
+        ensures names { (n : ℕ) → place_of self.new n ≡ option_map (renamed from to) (place_of self.old n) }
+        ensures fits { fits self.new (less from (live_at store.new)) }
+        ensures store { SameBut bare store.old store.new };
+}
