@@ -12,11 +12,11 @@ use Rattle.foreign_core.proofs.RunLemmas.{at_position, before_is, state_at, next
 
 -- where a function of the position stops having a value
 pub record Change (f : ℕ → ℕ) (v low high : ℕ) : Type 0 where
-  pub place : ℕ
-  pub from_low : low ≤ place
-  pub to_high : place < high
-  pub same : (l : ℕ) → low ≤ l → l ≤ place → f l ≡ v
-  pub changed : f (suc place) ≡ v → ⊥
+  pub position : ℕ
+  pub from_low : low ≤ position
+  pub to_high : position < high
+  pub same : (l : ℕ) → low ≤ l → l ≤ position → f l ≡ v
+  pub changed : f (suc position) ≡ v → ⊥
 
 pub first_change : (f : ℕ → ℕ) (v n low high : ℕ) → low + n ≡ high → f low ≡ v → (f high ≡ v → ⊥) → Change f v low high
 first_change f v zero low high e here there = absurd (there (let same : low ≡ high = omega arith in rw (← same) here))
@@ -25,7 +25,7 @@ first_change f v (suc n) low high e here there =
       | inl still ↦
           let later : Change f v (suc low) high = first_change f v n (suc low) high (omega arith) still there in
           record {
-            place = later.place;
+            position = later.position;
             from_low = omega (arith, later.from_low);
             to_high = later.to_high;
             same = λ l a b. elim (cases_eq l low) [
@@ -37,7 +37,7 @@ first_change f v (suc n) low high e here there =
       | inr ne ↦
           let below : low < high = omega arith in
           record {
-            place = low;
+            position = low;
             from_low = omega arith;
             to_high = below;
             same = λ l a b. let same : l ≡ low = omega arith in rw same here;
@@ -177,26 +177,26 @@ course n events possible t lent again two_lends =
     let at_end : f again ≡ 0 = (lend_phases n events t again possible two_lends.at_second).0 in
     let a : Change f 1 (suc lent) again =
     first_change f 1 (again - suc lent) (suc lent) again (omega arith) (lend_phases n events t lent possible two_lends.at_first).1 (λ e. omega arith) in
-    let a_to : a.place < again = a.to_high in
-    let win = leaves_carried n events t a.place possible (omega arith) (a.same a.place a.from_low (omega arith)) a.changed in
-    let b : Change f 2 (suc a.place) again = first_change f 2 (again - suc a.place) (suc a.place) again (omega arith) win.1 (λ e. omega arith) in
-    let b_to : b.place < again = b.to_high in
-    let take = leaves_list n events t b.place possible (omega arith) (b.same b.place b.from_low (omega arith)) b.changed in
-    let c : Change f 3 (suc b.place) again = first_change f 3 (again - suc b.place) (suc b.place) again (omega arith) take.1 (λ e. omega arith) in
-    let c_to : c.place < again = c.to_high in
-    let return = leaves_walk n events t c.place possible (omega arith) (c.same c.place c.from_low (omega arith)) c.changed in
-    let a_from : suc lent ≤ a.place = a.from_low in
-    let b_from : suc a.place ≤ b.place = b.from_low in
-    let c_from : suc b.place ≤ c.place = c.from_low in
-    let stay : (l : ℕ) → suc c.place ≤ l → l < suc c.place + (again - suc c.place) → f l ≡ 0 → f (suc l) ≡ 0 =
+    let a_to : a.position < again = a.to_high in
+    let win = leaves_carried n events t a.position possible (omega arith) (a.same a.position a.from_low (omega arith)) a.changed in
+    let b : Change f 2 (suc a.position) again = first_change f 2 (again - suc a.position) (suc a.position) again (omega arith) win.1 (λ e. omega arith) in
+    let b_to : b.position < again = b.to_high in
+    let take = leaves_list n events t b.position possible (omega arith) (b.same b.position b.from_low (omega arith)) b.changed in
+    let c : Change f 3 (suc b.position) again = first_change f 3 (again - suc b.position) (suc b.position) again (omega arith) take.1 (λ e. omega arith) in
+    let c_to : c.position < again = c.to_high in
+    let return = leaves_walk n events t c.position possible (omega arith) (c.same c.position c.from_low (omega arith)) c.changed in
+    let a_from : suc lent ≤ a.position = a.from_low in
+    let b_from : suc a.position ≤ b.position = b.from_low in
+    let c_from : suc b.position ≤ c.position = c.from_low in
+    let stay : (l : ℕ) → suc c.position ≤ l → l < suc c.position + (again - suc c.position) → f l ≡ 0 → f (suc l) ≡ 0 =
     λ l low high here. elim (cases_eq (f (suc l)) 0) [
       | inl e ↦ e
       | inr ne ↦ absurd (two_lends.none_between l (omega arith, omega arith) (leaves_idle n events t l possible (omega arith) here ne))
     ] in
     record {
-      won = a.place;
-      taken = b.place;
-      came_back = c.place;
+      won = a.position;
+      taken = b.position;
+      came_back = c.position;
       lent_won = omega arith;
       won_taken = omega arith;
       taken_back = omega arith;
@@ -204,7 +204,7 @@ course n events possible t lent again two_lends =
       carried = λ l low high. a.same l (omega arith) high;
       listed = λ l low high. b.same l (omega arith) high;
       walked = λ l low high. c.same l (omega arith) high;
-      idle = λ l low high. along (λ k. f k ≡ 0) (suc c.place) (again - suc c.place) return.1 stay l (omega arith) (omega arith);
+      idle = λ l low high. along (λ k. f k ≡ 0) (suc c.position) (again - suc c.position) return.1 stay l (omega arith) (omega arith);
       win = win.0;
       take = take.0;
       return = return.0;

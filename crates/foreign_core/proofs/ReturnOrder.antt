@@ -182,14 +182,14 @@ newest_returns_first n events possible old new won_old won_new taken came_back n
     let change : Change g 3 (suc taken) came_back =
     first_change g 3 (came_back - suc taken) (suc taken) came_back (omega arith)
     ((take_phases n events new taken possible take).1 (new_listed taken (omega arith) (omega arith))) off in
-    let low : suc taken ≤ change.place = change.from_low in
-    let high : change.place < came_back = change.to_high in
-    let return = leaves_walk n events new change.place possible (omega arith) (change.same change.place low (omega arith)) change.changed in
-    let after : (l : ℕ) → change.place < l → l ≤ came_back → g l ≡ 3 → ⊥ =
-    λ l a b. along (λ k. g k ≡ 3 → ⊥) (suc change.place) (came_back - suc change.place) (λ e. omega (arith, return.1))
+    let low : suc taken ≤ change.position = change.from_low in
+    let high : change.position < came_back = change.to_high in
+    let return = leaves_walk n events new change.position possible (omega arith) (change.same change.position low (omega arith)) change.changed in
+    let after : (l : ℕ) → change.position < l → l ≤ came_back → g l ≡ 3 → ⊥ =
+    λ l a b. along (λ k. g k ≡ 3 → ⊥) (suc change.position) (came_back - suc change.position) (λ e. omega (arith, return.1))
     (λ k c d here. stays_off n events new old k possible (omega arith) (old_walked k (omega arith) (omega arith)) here)
     l (omega arith) (omega arith) in
-    (change.place, only_return n events new taken came_back change.place possible (omega arith, high) return.0 (λ l a b. change.same l (omega arith) b) after)
+    (change.position, only_return n events new taken came_back change.position possible (omega arith, high) return.0 (λ l a b. change.same l (omega arith) b) after)
 
 pub each_taken_returns : (n : ℕ) (events : List Event) → IsPossible n events → (t won taken next : ℕ)
     → Takes n events t won taken → AreSuccessive (TakesWhole events) taken next
@@ -206,11 +206,11 @@ each_taken_returns n events possible t won taken next took takings =
     let change : Change f 3 (suc taken) next =
     first_change f 3 (next - suc taken) (suc taken) next (omega arith)
     ((take_phases n events t taken possible takings.at_first).1 listed) (take_phases n events t next possible takings.at_second).0 in
-    let low : suc taken ≤ change.place = change.from_low in
-    let high : change.place < next = change.to_high in
-    let return = leaves_walk n events t change.place possible (omega arith) (change.same change.place low (omega arith)) change.changed in
-    let after : (l : ℕ) → change.place < l → l ≤ next → f l ≡ 3 → ⊥ =
-    λ l a b. along (λ k. f k ≡ 3 → ⊥) (suc change.place) (next - suc change.place) (λ e. omega (arith, return.1))
+    let low : suc taken ≤ change.position = change.from_low in
+    let high : change.position < next = change.to_high in
+    let return = leaves_walk n events t change.position possible (omega arith) (change.same change.position low (omega arith)) change.changed in
+    let after : (l : ℕ) → change.position < l → l ≤ next → f l ≡ 3 → ⊥ =
+    λ l a b. along (λ k. f k ≡ 3 → ⊥) (suc change.position) (next - suc change.position) (λ e. omega (arith, return.1))
     (λ k c d here. stays_untaken n events t k possible (omega arith) (takings.none_between k (omega arith, omega arith)) here)
     l (omega arith) (omega arith) in
-    (change.place, only_return n events t taken next change.place possible (omega arith, high) return.0 (λ l a b. change.same l (omega arith) b) after)
+    (change.position, only_return n events t taken next change.position possible (omega arith, high) return.0 (λ l a b. change.same l (omega arith) b) after)

@@ -1,7 +1,10 @@
 //! The core of the foreign free list: the list on which other shards put the blocks that they free, and
 //! which the owner takes as a whole, after `xcpu_freelist` of Seastar's `core/memory.cc`.
 //!
-//! It is the list as a pure state machine, without atomics and without the blocks. A block is lent with
+//! It is a Treiber stack that is drained whole by one exchange: many push onto it, each by one
+//! compare-and-exchange of the head, and no single element is ever popped.
+//!
+//! It stands here as a pure state machine, without atomics and without the blocks. A block is lent with
 //! a ticket, a number below the number of tickets, and the list is one of tickets. Each [`Event`] is one
 //! atomic step of one actor: the owner lends, takes the list whole and takes the tickets back; the
 //! holder of a block looks at the head, links its ticket to it and swings the head.

@@ -1,4 +1,5 @@
-ghost use Rattle.std.specs.Prelude.{◌≡◌, ◌<◌, ◌≤◌, ◌↔◌, length, IsTrue, IsSome, IfOk, Some, unwrap_or, map};
+ghost use Rattle.std.specs.Prelude.{◌≡◌, ◌<◌, ◌≤◌, ◌↔◌, [], length, IsTrue, IsSome, IfOk, Some, unwrap_or, map, slice_set, vec_capacity};
+ghost use Rattle.foreign_core.specs.declared.ticket_state.TicketState.TheVariants.{Idle};
 ghost use Rattle.foreign_core.specs.Tickets.{start, state_of, head_of, step, becomes, listed_first, taken};
 ghost use Rattle.foreign_core.specs.Places.{IsOff};
 
@@ -138,7 +139,7 @@ impl Core {
         if !self.walk.is_empty() {
             return false;
         }
-        mem::swap(&mut self.list, &mut self.walk);
+        move_whole(&mut self.list, &mut self.walk);
         take_listed(&mut self.states);
         true
     }
@@ -150,7 +151,7 @@ impl Core {
         let Some(ticket) = self.walk.pop() else {
             return false;
         };
-        self.states[ticket as usize] = TicketState::Idle;
+        make_idle(&mut self.states, ticket);
         true
     }
 
@@ -177,6 +178,23 @@ impl Core {
         self.states[ticket as usize] = TicketState::Listed;
         let _ = self.list.push(ticket);
     }
+}
+
+// The list becomes the walk, by the empty walk that there is.
+fn move_whole(list: &mut Vec<u32>, walk: &mut Vec<u32>)
+    requires { walk.old.items ≡ [] }
+    ensures walk { (walk.new.items ≡ list.old.items) × (vec_capacity walk.new ≡ vec_capacity list.old) }
+    ensures list { (list.new.items ≡ []) × (vec_capacity list.new ≡ vec_capacity walk.old) }
+{
+    mem::swap(list, walk);
+}
+
+// The ticket came back.
+fn make_idle(states: &mut Vec<TicketState>, ticket: u32)
+    requires { ticket < length states.old.items }
+    ensures { states.new.items ≡ slice_set states.old.items ticket Idle }
+{
+    states[ticket as usize] = TicketState::Idle;
 }
 
 // Each ticket that is listed is walked now.

@@ -13,7 +13,7 @@ invariant_of-self c =
     let s : Tickets = record { states = c.self.inside.states.items; listed = reverse c.self.inside.list.items; walk = reverse c.self.inside.walk.items } in
     let none : c.self.inside.walk.items ≡ [] = nil_from_length c.self.inside.walk.items (sym (c.self.inside.walk.ok.0) ∙ eqb-true (vec_len c.self.inside.walk) 0 (sym c.if-not-is_empty.ensures)) in
     let place = take_place s c.self.invariant.place (ap reverse none) in
-    rw (states, c.swap.ensures.x_after, c.swap.ensures.y_after, none) (record {
+    rw (states, c.move_whole.ensures.walk.0, c.move_whole.ensures.walk.1, c.move_whole.ensures.list.0, c.move_whole.ensures.list.1) (record {
       place = place;
       list_room = simp length-map c.self.invariant.walk_room;
       walk_room = simp length-map c.self.invariant.list_room;

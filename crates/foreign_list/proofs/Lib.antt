@@ -1,0 +1,12 @@
+pub mod Counts
+pub mod Chains
+pub mod Once
+pub mod Bounds
+pub mod ChangeSteps
+pub mod PlaceSteps
+pub mod PassSteps
+pub mod OwnerSteps
+pub mod HistorySteps
+pub mod TableSteps
+pub mod Rules
+pub mod Seating

@@ -1,0 +1,43 @@
+-- A block that was lent, as contracts see it.
+use Rattle.std.specs.Prelude.{◌≡◌, ℕ, suc, Option, length}
+use Rattle.raw_range.specs.Memory.{Lent}
+use Rattle.foreign_list.specs.declared.piece_id.PieceId.{PieceId}
+use Rattle.foreign_list.specs.Lists.{ListId}
+
+-- which piece it is, whatever its bytes are
+abbrev pub piece_id_of : Lent → PieceId
+piece_id_of piece = record { range = piece.home; owner = piece.owner; at = piece.at; len = length piece.bytes }
+
+-- The ticket and the piece that it was lent with; the number of its pass, which is another for each lend; how many changes of the
+-- list's head its lost tries have seen; and the head that the last of them found.
+pub record Block : Type 0 where
+  pub list : ListId
+  pub pass : ℕ
+  pub ticket : ℕ
+  pub piece : Lent
+  pub seen : ℕ
+  pub found : Option ℕ
+
+-- it was just lent, and has made no try
+pub record IsFresh (list : ListId) (ticket : ℕ) (piece : Lent) (block : Block) : Type 0 where
+  pub list_is : block.list ≡ list
+  pub ticket_is : block.ticket ≡ ticket
+  pub piece_is : block.piece ≡ piece
+  pub none_seen : block.seen ≡ 0
+
+-- a block that is linked to the head that it saw
+pub record Linked : Type 0 where
+  pub block : Block
+  pub expected : Option ℕ
+
+-- the pass of a block that came on the list
+pub record SpentPass : Type 0 where
+  pub list : ListId
+  pub pass : ℕ
+
+-- a try of this block found another head than it expected: one change more is seen, and nothing else changes
+abbrev pub raced : Block → Option ℕ → Block
+raced block found = record block { seen = suc block.seen; found = found }
+
+abbrev pub spent : Block → SpentPass
+spent block = record { list = block.list; pass = block.pass }

@@ -1,0 +1,70 @@
+-- What a block, a linked block and the owner's seat keep of their seats at the table.
+use Rattle.std.specs.Prelude.{◌≡◌, ◌≤◌, ◌<◌, ℕ, Bool, true, false, List, [], ◌∷◌, length, map, Option, Some, None}
+use Rattle.raw_range.specs.Memory.{Lent}
+use Rattle.atomic_table.specs.declared.shared.Seat.{Seat}
+use Rattle.atomic_table.specs.Seated.{TableId}
+use Rattle.foreign_list.specs.declared.piece_id.PieceId.{PieceId}
+use Rattle.foreign_list.specs.declared.list_table.ListTable.{ListTable}
+use Rattle.foreign_list.specs.declared.views.View.{View}
+use Rattle.foreign_list.specs.declared.views.Stage.{Stage}
+use Rattle.foreign_list.specs.Blocks.{Block, piece_id_of}
+use Rattle.foreign_list.specs.OwnerSeats.{OwnerState}
+use Rattle.foreign_list.specs.inside.Words.{link_to, ticket_of}
+use Rattle.foreign_list.specs.inside.Views.{holder_of, ledger_of, IsPass, IsOwner}
+
+abbrev pub TableSeat : Type 0
+TableSeat = Seat (Option Lent) View
+
+abbrev pub id_of : ListTable → TableId
+id_of home = home.table.shared.table_id
+
+abbrev pub IsAt : ListTable → TableSeat → Type 0
+IsAt home seat = seat.table_id ≡ id_of home
+
+abbrev pub SameSeat : TableSeat → TableSeat → Type 0
+SameSeat old new = (new.table_id ≡ old.table_id) × (new.id ≡ old.id)
+
+-- the slots that a pass has, empty
+abbrev pub slots_held : Bool → ℕ → List (ℕ × Option Lent)
+slots_held true t = (t, None) ∷ []
+slots_held false t = []
+
+-- the pass is at this stage, with this ticket and this piece
+pub record IsConsistentPass (id : TableId) (pass : TableSeat) (piece : Lent) (ticket : ℕ) (has_slot : Bool) (stage : Stage) : Type 0 where
+  pub seat : pass.table_id ≡ id
+  pub is_pass : IsPass pass.me.0
+  pub stage_is : (holder_of pass.me.0).stage ≡ stage
+  pub ticket_is : ticket ≡ (holder_of pass.me.0).ticket
+  pub low : ticket < 32
+  pub has_slot_is : (holder_of pass.me.0).has_slot ≡ has_slot
+  pub piece_is : piece_id_of piece ≡ (holder_of pass.me.0).piece_id
+  pub slots : pass.me.1 ≡ slots_held has_slot ticket
+
+-- the block that a pass stands for
+abbrev pub block_of : TableId → TableSeat → Lent → ℕ → Block
+block_of id pass piece ticket =
+    record { list = id; pass = pass.id; ticket = ticket; piece = piece; seen = (holder_of pass.me.0).seen; found = ticket_of (holder_of pass.me.0).met }
+
+abbrev pub is_idle : Option PieceId → Bool
+is_idle None = true
+is_idle (Some piece_id) = false
+
+-- the owner's seat, between its calls, with the tickets that are idle and the word that leads to the walk
+pub record IsConsistentSeat (seat : TableSeat) (idle : List Bool) (first : ℕ) : Type 0 where
+  pub is_owner : IsOwner seat.me.0
+  pub slots : seat.me.1 ≡ []
+  pub hand : (ledger_of seat.me.0).hand ≡ None
+  pub first_is : first ≡ link_to (ledger_of seat.me.0).walk
+  pub low : first ≤ 32
+  pub count : length idle ≡ 32
+  pub idle_are : idle ≡ map is_idle (ledger_of seat.me.0).lent
+
+-- what the owner knows
+abbrev pub state_of : TableSeat → OwnerState
+state_of seat = record {
+  list = seat.table_id;
+  lent = (ledger_of seat.me.0).lent;
+  walk = (ledger_of seat.me.0).walk;
+  lends = (ledger_of seat.me.0).lends;
+  take_wholes = (ledger_of seat.me.0).take_wholes;
+}

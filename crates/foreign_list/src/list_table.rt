@@ -1,0 +1,31 @@
+ghost use Rattle.std.specs.Prelude.{◌≡◌};
+
+use crate::views::View;
+use atomic_table::{Seat, Table, TableRule};
+use raw_range::Piece;
+use std::alloc::Global;
+
+/// A seat at the table: what one thread knows of it. It has no bytes.
+pub(crate) type TableSeat = Seat<Option<Piece>, View>;
+
+/// The rule of the table.
+pub struct ListRule;
+
+impl TableRule<Option<Piece>, View, ()> for ListRule {
+    ghost use Rattle.foreign_list.specs.inside.Rule.{IsConsistent};
+    ghost use Rattle.foreign_list.specs.inside.Views.{idle_ledger};
+    ghost use Rattle.foreign_list.specs.declared.views.View.TheVariants.{Owner};
+
+    ghost holds = { λ _ s. IsConsistent s };
+
+    ghost first = { λ _. Owner idle_ledger };
+}
+
+/// The words and slots of one list: the head, one next word and one slot for each of 32 tickets, and 8 words that stay 0.
+///
+/// These 8 lie behind the others, and make a cache line of 64 bytes: so the words of two lists never share one.
+#[derive(Drop)]
+pub struct ListTable {
+    pub(crate) table: Table<Option<Piece>, View, (), ListRule, Global>,
+    ghost counts: { (table.shared.table_id.words ≡ 41) × (table.shared.table_id.slots ≡ 32) },
+}

@@ -1,0 +1,94 @@
+ghost use Rattle.std.specs.Prelude.{◌≡◌, ℕ, List, [], IfOk, IfSome, IfNone, IsNone, All};
+ghost use Rattle.foreign_list.specs.OwnerSeats.{IsSeatOf, IsIdle, all_idle, after_lend, after_take_whole, ComesBack};
+ghost use Rattle.foreign_list.specs.Blocks.{piece_id_of, IsFresh};
+
+use crate::block::ForeignBlock;
+use crate::foreign::Foreign;
+use crate::list_table::ListTable;
+use crate::owner_seat::{OwnerSeat, mark_idle, mark_lent};
+use raw_range::Piece;
+use std::alloc::{AllocError, Global};
+use std::marker::Brand;
+
+/// What came back of a lent block.
+#[derive(Drop)]
+pub struct Returned {
+    pub ticket: u32,
+    pub piece: Piece,
+}
+
+impl Foreign {
+    /// The list of this owner, with all 32 tickets idle, and the owner's seat at it.
+    ///
+    /// # Errors
+    /// There is no memory.
+    pub fn new(alloc: Global, owner: u32) -> Result<(Foreign, OwnerSeat), AllocError>
+        ensures owner { IfOk result (λ r. r.0.owner ≡ owner) }
+        ensures idle { IfOk result (λ r. r.1 ≡ all_idle r.0.id) }
+    {
+        let (table, seat) = ListTable::new(alloc)?;
+        Ok((
+            Foreign { table, owner },
+            OwnerSeat {
+                seat,
+                idle: [true; 32],
+                first: 0,
+            },
+        ))
+    }
+
+    /// Lends a piece of the owner, with an idle ticket. Nothing else raises the count of lends.
+    pub fn lend<'f>(&'f self, seat: &mut OwnerSeat, ticket: u32, piece: Piece) -> ForeignBlock<'f>
+        requires seat { IsSeatOf self.now seat.old }
+        requires idle { IsIdle seat.old ticket }
+        requires piece { piece.owner ≡ self.now.owner }
+        ensures lent { seat.new ≡ after_lend seat.old ticket (piece_id_of piece) }
+        ensures block { IsFresh self.now.id ticket piece result }
+    {
+        let pass = self.table.split::<Brand>(&mut seat.seat, ticket, &piece);
+        mark_lent(&mut seat.idle, ticket);
+        ForeignBlock {
+            list: &self.table,
+            pass,
+            piece,
+            ticket,
+            has_slot: false,
+        }
+    }
+
+    /// Takes the whole list by one exchange: its tickets, the newest first, are the walk, and the list is empty. The count of
+    /// take-wholes shows it.
+    pub fn take_whole(&self, seat: &mut OwnerSeat)
+        requires seat { IsSeatOf self.now seat.old }
+        requires walk { seat.old.walk ≡ [] }
+        ensures { (taken : List ℕ) × (seat.new ≡ after_take_whole seat.old taken) }
+    {
+        seat.first = self.table.take_head(&mut seat.seat);
+    }
+
+    /// Gives the first of the walk, with the piece that was lent with it. Its ticket is idle again. None exactly where the walk is
+    /// empty.
+    pub fn next_back(&self, seat: &mut OwnerSeat) -> Option<Returned>
+        requires seat { IsSeatOf self.now seat.old }
+        ensures none { IfNone result ((seat.old.walk ≡ []) × (seat.new ≡ seat.old)) }
+        ensures some { IfSome result (λ r. ComesBack seat.old r.ticket r.piece seat.new) }
+    {
+        if seat.first == 0 {
+            return None;
+        }
+        let ticket = (seat.first - 1) as u32;
+        let (next, piece) = self.table.bring_home(&mut seat.seat, ticket);
+        seat.first = next;
+        mark_idle(&mut seat.idle, ticket);
+        Some(Returned { ticket, piece })
+    }
+
+    /// Ends the list.
+    pub fn close(self, seat: OwnerSeat)
+        requires seat { IsSeatOf self seat }
+        requires idle { All IsNone seat.lent }
+    {
+        drop(seat);
+        drop(self);
+    }
+}
