@@ -1,0 +1,40 @@
+#!/usr/bin/env bash
+# Nanoseconds per insertion, find and removal: the index of keys, std::map and std::unordered_map, over keys of several
+# kinds. The least of some runs, user and system time together, less that of a run of one step fewer.
+#   bench/index.sh [ROWS] [RUNS]        at most 524,288 rows
+set -euo pipefail
+top=$(cd "$(dirname "${BASH_SOURCE[0]}")/.." && pwd)
+rows=${1:-500000}
+runs=${2:-5}
+work=$(mktemp -d)
+trap 'rm -rf "$work"' EXIT
+(cd "$top/crates/index_times" && rt run -- random 1000 remove >"$work/build.log" 2>&1) || { cat "$work/build.log" >&2; exit 1; }
+g++ -O2 -std=c++17 -o "$work/index_maps" "$top/bench/index_maps.cpp"
+
+# the least time of some runs, in nanoseconds
+time_of() {
+    local least=
+    for _ in $(seq "$runs"); do
+        local spent
+        spent=$( { TIMEFORMAT='%U %S'; time "$@" >/dev/null; } 2>&1 | awk '{ printf "%.0f", ($1 + $2) * 1e9 }')
+        if [ -z "$least" ] || [ "$spent" -lt "$least" ]; then least=$spent; fi
+    done
+    echo "$least"
+}
+steps_of() {
+    local name=$1 kind=$2 before=
+    shift 2
+    printf '%-6s %-10s' "$name" "$kind"
+    for step in keys insert find remove; do
+        local spent
+        spent=$(time_of "$@" "$kind" "$rows" "$step")
+        if [ -n "$before" ]; then awk -v s="$step" -v t="$((spent - before))" -v n="$rows" 'BEGIN { printf " %s %5.0f", s, t / n }'; fi
+        before=$spent
+    done
+    echo ' ns'
+}
+for kind in random ascending descending prefix12 prefix200 mixed; do
+    steps_of index "$kind" "$top/crates/index_times/out/index_times"
+    steps_of map "$kind" "$work/index_maps" map
+    steps_of hash "$kind" "$work/index_maps" hash
+done

@@ -1,0 +1,64 @@
+// The steps of crates/index_times over a structure of the C++ library.
+//   index_maps map|hash KIND ROWS keys|insert|find|remove
+// map is std::map, whose keys are in order; hash is std::unordered_map, whose keys are not.
+#include <cstdint>
+#include <cstdio>
+#include <cstdlib>
+#include <map>
+#include <string>
+#include <string_view>
+#include <unordered_map>
+#include <vector>
+
+static uint32_t scattered(uint32_t row) {
+    if (row >= 524288) return row;
+    uint64_t x = (uint64_t(row) * 314159 + 271829) % 524288;
+    x ^= x >> 9;
+    x = (x * 141421 + 173205) % 524288;
+    x ^= x >> 11;
+    return uint32_t(x % 524288);
+}
+
+static std::string key_of(const std::string &kind, uint32_t row, uint32_t rows) {
+    uint32_t number = kind == "ascending" ? row : kind == "descending" ? rows - row : scattered(row);
+    std::string key = kind == "prefix12"    ? "prefix_of_12"
+                      : kind == "prefix200" ? std::string(200, 'p')
+                      : kind == "mixed"     ? number % 2 == 0 ? "firstprefix:" : "secondprefix"
+                                            : "key";
+    char digits[16];
+    snprintf(digits, sizeof digits, "%07u", number);
+    return key + digits;
+}
+
+template <class Map> static void run(const std::string &kind, uint32_t rows, int steps) {
+    std::string bytes;
+    std::vector<size_t> starts;
+    for (uint32_t row = 0; row < rows; row++) {
+        starts.push_back(bytes.size());
+        bytes += key_of(kind, row, rows);
+    }
+    starts.push_back(bytes.size());
+    auto key = [&](uint32_t row) { return std::string_view(bytes).substr(starts[row], starts[row + 1] - starts[row]); };
+    Map map;
+    uint32_t found = 0, removed = 0;
+    if (steps >= 1)
+        for (uint32_t row = 0; row < rows; row++) map.emplace(key(row), row);
+    size_t inserted = map.size();
+    for (uint32_t at = 0; steps >= 2 && at < rows; at++) {
+        uint32_t row = uint32_t(uint64_t(at) * 100003 % rows);
+        auto place = map.find(key(row));
+        found += place != map.end() && place->second == row;
+    }
+    for (uint32_t at = 0; steps >= 3 && at < rows; at++) removed += map.erase(key(uint32_t(uint64_t(at) * 100003 % rows)));
+    printf("inserted %zu found %u removed %u\n", inserted, found, removed);
+}
+
+int main(int words, char **word) {
+    if (words < 5) return 1;
+    std::string kind = word[2], last = word[4];
+    uint32_t rows = uint32_t(strtoul(word[3], nullptr, 10));
+    int steps = last == "insert" ? 1 : last == "find" ? 2 : last == "remove" ? 3 : 0;
+    // The keys stand elsewhere, as in the index.
+    if (std::string(word[1]) == "hash") run<std::unordered_map<std::string_view, uint32_t>>(kind, rows, steps);
+    else run<std::map<std::string_view, uint32_t>>(kind, rows, steps);
+}

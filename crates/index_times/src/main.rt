@@ -1,0 +1,60 @@
+//! Puts rows into an index of keys, finds them and takes them out, to be timed.
+//!
+//! The words are a kind of keys, a number of rows, at most 524,288, and what is done: `keys` (they are made and no
+//! more), `insert`, `find` or `remove`, each after those before it. The kinds: `random`, `ascending` and `descending`
+//! are the order in which keys of ten bytes are put in; with `prefix12` and `prefix200` all keys begin with so many
+//! bytes that are the same, with `mixed` each with one of two prefixes, and these come in random order. It prints how
+//! many rows were put in, found and taken out; a script measures the time.
+#![tactic(auto)]
+
+mod arena;
+mod kinds;
+mod rounds;
+
+use arena::fill_arena;
+use key_index::KeyIndex;
+use kinds::Kind;
+use rounds::{count_found, count_removed, fill};
+use std::{env, io};
+
+fn main(rt: HostRuntime) -> io::Result<()> {
+    let kind = match env::args(&rt)?.nth(1) {
+        Some(word) => Kind::of(word.as_str()),
+        None => Kind::Random,
+    };
+    let rows = match env::args(&rt)?.nth(2) {
+        Some(word) => word.as_str().parse::<u32>().unwrap_or(0),
+        None => 0,
+    };
+    let last = match env::args(&rt)?.nth(3) {
+        Some(word) => steps_of(word.as_str()),
+        None => 0,
+    };
+    let arena = fill_arena(rt.alloc(), kind, rows)?;
+    let mut index = KeyIndex::new(rt.alloc(), rows)?;
+    if last >= 1 {
+        fill(&mut index, &arena, rows);
+    }
+    let inserted = index.len();
+    let found = if last >= 2 {
+        count_found(&index, &arena, rows)
+    } else {
+        0
+    };
+    let removed = if last >= 3 {
+        count_removed(&mut index, &arena, rows)
+    } else {
+        0
+    };
+    println!(rt; "inserted {inserted} found {found} removed {removed}")
+}
+
+/// How many of the steps a word asks for.
+fn steps_of(word: &str) -> u32 {
+    match word {
+        "insert" => 1,
+        "find" => 2,
+        "remove" => 3,
+        _ => 0,
+    }
+}

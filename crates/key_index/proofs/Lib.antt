@@ -1,0 +1,17 @@
+pub mod KeyOrder
+pub mod RowOrder
+pub mod InBlocks
+pub mod Leads
+pub mod Shares
+pub mod Bounds
+pub mod Moved
+pub mod Unique
+pub mod Found
+pub mod Places
+pub mod Edits
+pub mod Density
+pub mod Changed
+pub mod Relead
+pub mod Cursor
+pub mod Taken
+pub mod Settled

@@ -1,0 +1,16 @@
+use Rattle.std.proofs.Common.{ℕ, List, length, sym, subst, ◌∙◌, arith, Global}
+use Rattle.std.specs.declared.vec.Vec.{Vec}
+use Rattle.std.proofs.lemmas.List.{length-map}
+use Rattle.key_index.specs.declared.entries.Entry.{Entry}
+use Rattle.key_index.specs.inside.Dense.{HasLost}
+use Rattle.key_index.specs.inside.Blocks.{lens_of}
+use Rattle.key_index.proofs.Edits.{len_at, lens_positive}
+use Rattle.key_index.proofs.Settled.{lost_from}
+use Rattle.key_index.proofs.blocks.take_out.Goals as goal
+
+pub settle-requires-clause-lost : goal.settle-requires-clause-lost
+settle-requires-clause-lost c =
+    let l = lens_of c.args.blocks.now.items in
+    let count = length-map c.args.blocks.now.items (λ (b : Vec Entry Global). length b.items) in
+    subst (λ (ls : List ℕ). HasLost ls c.args.place.block) (sym c.drop_entry.ensures.lens)
+    (lost_from l c.args.place.block c.drop_entry.result c.requires.dense (lens_positive c.args.blocks.now.items c.requires.are_blocks) (omega (arith, count, c.args.blocks.now.ok)) (c.drop_entry.ensures.left ∙ sym (len_at c.args.blocks.now.items c.args.place.block)))

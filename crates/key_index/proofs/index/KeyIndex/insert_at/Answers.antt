@@ -1,0 +1,154 @@
+use Rattle.std.proofs.Common.{◌≡◌, ℕ, ◌+◌, ◌++◌, ◌∷◌, List, length, get_or, sym, ap, subst, ◌∙◌, arith, Global, true, eqb}
+use Rattle.std.specs.Prelude.{All, vec_len}
+use Rattle.std.specs.declared.vec.Vec.{Vec}
+use Rattle.std.proofs.lemmas.Bool.Decides.{nat_tests}
+use Rattle.std.proofs.lemmas.List.{length-map, nil_from_length}
+use Rattle.key_index.specs.declared.entries.Entry.{Entry}
+use Rattle.key_index.specs.Order.{AreRising}
+use Rattle.key_index.specs.Lead.{rows_of, AreBytes, IsLed}
+use Rattle.key_index.specs.Index.{Index, rows, joined, IsPlaceFor}
+use Rattle.key_index.specs.inside.Blocks.{entries_of, lens_of, front, back}
+use Rattle.key_index.proofs.Density.{dense_one}
+use Rattle.key_index.proofs.Leads.{all_same_rows}
+use Rattle.key_index.proofs.RowOrder.{rising_insert}
+use Rattle.key_index.proofs.Found.{cut_at}
+use Rattle.key_index.proofs.Edits.{all_put, rows_put, length_put, len_at}
+use Rattle.key_index.proofs.Relead.{same_len}
+use Rattle.key_index.proofs.Changed.{has_spare}
+use Rattle.key_index.proofs.Places.{stands_at, stand_still, put_between, parted}
+use Rattle.key_index.proofs.index.KeyIndex.insert_at.Goals as goal
+
+is_zero : (n : ℕ) → true ≡ eqb n 0 → n ≡ 0
+is_zero n e = grind (arith, nat_tests)
+
+pub invariant_of-self : goal.invariant_of-self
+invariant_of-self g c =
+    let kept = c.self.invariant in
+    let none = is_zero (vec_len c.self.inside.blocks) c.if-is_empty.ensures in
+    let len = ap (λ (i : Index). length (rows i)) c.self.view_is in
+    let room = ap (λ (i : Index). i.room) c.self.view_is in
+    let less = c.requires.room in
+    let before = length-map (entries_of c.self.inside.blocks.items) (λ (e : Entry). e.row) in
+    let blocks = nil_from_length c.self.inside.blocks.items (omega (arith, none, c.self.inside.blocks.ok)) in
+    let empty : length (entries_of c.self.inside.blocks.items) ≡ 0 = ap (λ (bs : List (Vec Entry Global)). length (entries_of bs)) blocks in
+    let after : length (entries_of c.begin.new.blocks.items) ≡ 1 = ap length c.begin.ensures.entries in
+    record {
+      are_blocks = c.begin.ensures.are_blocks;
+      are_spare = c.begin.ensures.are_spare;
+      dense = dense_one (lens_of c.begin.new.blocks.items) (let count = length-map c.begin.new.blocks.items (λ (b : Vec Entry Global). length b.items) in omega (arith, count, c.begin.ensures.len, c.begin.new.blocks.ok));
+      enough = omega (arith, kept.enough, c.begin.ensures.fewer, c.begin.ensures.len, none, c.begin.new.spare.ok, c.begin.new.blocks.ok, c.self.inside.blocks.ok, c.self.inside.spare.ok);
+      blocks_fit = omega (arith, kept.blocks_fit, c.begin.ensures.fewer, c.begin.ensures.len, none, c.begin.ensures.capacity, c.begin.new.spare.ok, c.begin.new.blocks.ok, c.self.inside.blocks.ok, c.self.inside.spare.ok);
+      spare_fit = omega (arith, kept.spare_fit, c.begin.ensures.fewer, c.begin.ensures.len, none, c.begin.ensures.spare_capacity, c.begin.new.spare.ok, c.begin.new.blocks.ok, c.self.inside.blocks.ok, c.self.inside.spare.ok);
+      counted = omega (arith, kept.counted, empty, after);
+      within = omega (arith, kept.counted, len, room, less, before);
+    }
+
+pub make_room-place-requires-clause-at : goal.make_room-place-requires-clause-at
+make_room-place-requires-clause-at g c =
+    let s = stands_at (g.K.Keys.key_of c.args.keys.now) (g.K.Keys.key_of c.args.keys.now c.args.row) c.self.inside.room c.self.inside.blocks.items c.args.place (subst (λ (i : Index). IsPlaceFor (g.K.Keys.key_of c.args.keys.now) (g.K.Keys.key_of c.args.keys.now c.args.row) i c.args.place)
+    (sym c.self.view_is) c.requires.place) in
+    let k = c.args.place.block in
+    let new = len_at c.sharpen.new.blocks.items k in
+    let old = len_at c.self.inside.blocks.items k in
+    let same = ap (λ (ns : List ℕ). get_or ns k 0) c.sharpen.ensures.lens in
+    let within = s.within in
+    omega (arith, new, old, same, within)
+
+pub make_room-place-requires-clause-spare : goal.make_room-place-requires-clause-spare
+make_room-place-requires-clause-spare g c =
+    let len = ap (λ (i : Index). length (rows i)) c.self.view_is in
+    let room = ap (λ (i : Index). i.room) c.self.view_is in
+    let count = length-map (entries_of c.self.inside.blocks.items) (λ (e : Entry). e.row) in
+    let has = has_spare c.self.inside.room c.self.inside.count c.self.inside.blocks.items c.self.inside.spare.items _ _ c.self.invariant (omega (arith, len, room, count, c.requires.room)) in
+    omega (arith, has, c.self.inside.spare.ok)
+
+pub make_room-place-requires-clause-room : goal.make_room-place-requires-clause-room
+make_room-place-requires-clause-room g c =
+    let len = ap (λ (i : Index). length (rows i)) c.self.view_is in
+    let room = ap (λ (i : Index). i.room) c.self.view_is in
+    let count = length-map (entries_of c.self.inside.blocks.items) (λ (e : Entry). e.row) in
+    let has = has_spare c.self.inside.room c.self.inside.count c.self.inside.blocks.items c.self.inside.spare.items _ _ c.self.invariant (omega (arith, len, room, count, c.requires.room)) in
+    omega (arith, has, c.self.invariant.blocks_fit, c.self.inside.spare.ok, c.self.inside.blocks.ok, c.sharpen.ensures.len, c.sharpen.ensures.capacity)
+
+pub invariant_of-self-2 : goal.invariant_of-self-2
+invariant_of-self-2 g c =
+    let kept = c.self.invariant in
+    let len = ap (λ (i : Index). length (rows i)) c.self.view_is in
+    let room = ap (λ (i : Index). i.room) c.self.view_is in
+    let less = c.requires.room in
+    let before = length-map (entries_of c.self.inside.blocks.items) (λ (e : Entry). e.row) in
+    let more = ap length c.put.ensures.entries ∙ length_put c.make_room-place.new.blocks.items c.make_room-place.result.block c.make_room-place.result.at c.entry_of-entry.result
+    ∙ ap (λ (n : ℕ). n + 1) (ap length c.make_room-place.ensures.entries ∙ same_len (entries_of c.sharpen.new.blocks.items) (entries_of c.self.inside.blocks.items) c.sharpen.ensures.rows) in
+    record {
+      are_blocks = c.put.ensures.are_blocks;
+      are_spare = c.make_room-place.ensures.are_spare;
+      dense = c.put.ensures.dense c.make_room-place.ensures.dense;
+      enough = omega (arith, kept.enough, c.make_room-place.ensures.total, c.put.ensures.len, c.sharpen.ensures.len, c.put.new.blocks.ok, c.make_room-place.new.spare.ok, c.self.inside.blocks.ok, c.self.inside.spare.ok);
+      blocks_fit = omega (
+        arith,
+        kept.blocks_fit,
+        c.make_room-place.ensures.total,
+        c.make_room-place.ensures.capacity,
+        c.put.ensures.capacity,
+        c.sharpen.ensures.capacity,
+        c.put.ensures.len,
+        c.sharpen.ensures.len,
+        c.put.new.blocks.ok,
+        c.make_room-place.new.spare.ok,
+        c.self.inside.blocks.ok,
+        c.self.inside.spare.ok,
+      );
+      spare_fit = omega (arith, kept.spare_fit, c.make_room-place.ensures.total, c.make_room-place.ensures.spare_capacity, c.put.ensures.len, c.sharpen.ensures.len, c.put.new.blocks.ok, c.make_room-place.new.spare.ok, c.self.inside.blocks.ok, c.self.inside.spare.ok);
+      counted = omega (arith, more, kept.counted);
+      within = omega (arith, kept.counted, len, room, less, before);
+    }
+
+pub returns-clause-index : goal.returns-clause-index
+returns-clause-index g c =
+    let key_of = g.K.Keys.key_of c.args.keys.now in
+    let key = key_of c.args.row in
+    let old : entries_of c.self.inside.blocks.items ≡ joined c.args.self.now.blocks = ap (λ (i : Index). joined i.blocks) c.self.view_is in
+    let same : rows_of (entries_of c.sharpen.new.blocks.items) ≡ rows c.args.self.now = c.sharpen.ensures.rows ∙ ap rows_of old in
+    let blocks = c.make_room-place.new.blocks.items in
+    let k = c.make_room-place.result.block in
+    let at = c.make_room-place.result.at in
+    let entry = c.entry_of-entry.result in
+    let P : Entry → Type 0 = λ e. g.K.Keys.has_row c.args.keys.now e.row in
+    let Q : Entry → Type 0 = λ e. AreBytes (key_of e.row) in
+    let R : Entry → Type 0 = IsLed key_of in
+    let s = stands_at key_of key c.self.inside.room c.self.inside.blocks.items c.args.place (subst (λ (i : Index). IsPlaceFor key_of key i c.args.place) (sym c.self.view_is) c.requires.place) in
+    let parts = stand_still key_of key c.self.inside.blocks.items blocks c.args.place.block c.args.place.at k at s (ap rows_of c.make_room-place.ensures.entries ∙ c.sharpen.ensures.rows)
+    (c.make_room-place.ensures.front ∙ c.sharpen.ensures.front c.args.place.at) in
+    record {
+      readable = subst (All P) (sym c.put.ensures.entries) (all_put P blocks k at entry (subst (All P) (sym c.make_room-place.ensures.entries)
+          (all_same_rows (λ r. g.K.Keys.has_row c.args.keys.now r) (entries_of c.sharpen.new.blocks.items) (joined c.args.self.now.blocks) same c.requires.index.readable))
+          (subst (λ r. g.K.Keys.has_row c.args.keys.now r) (sym c.entry_of-entry.ensures.row) c.requires.readable));
+      bytes = subst (All Q) (sym c.put.ensures.entries) (all_put Q blocks k at entry (subst (All Q) (sym c.make_room-place.ensures.entries)
+          (all_same_rows (λ r. AreBytes (key_of r)) (entries_of c.sharpen.new.blocks.items) (joined c.args.self.now.blocks) same c.requires.index.bytes))
+          (subst (λ r. AreBytes (key_of r)) (sym c.entry_of-entry.ensures.row) c.entry_of-entry.ensures.bytes));
+      leads = subst (All R) (sym c.put.ensures.entries) (all_put R blocks k at entry (subst (All R) (sym c.make_room-place.ensures.entries) c.sharpen.ensures.leads) c.entry_of-entry.ensures.led);
+      rising = subst (AreRising key_of) (sym (ap rows_of c.put.ensures.entries ∙ rows_put blocks k at entry ∙ ap (λ (r : ℕ). front blocks k at ++ r ∷ back blocks k at) c.entry_of-entry.ensures.row))
+          (rising_insert key_of (front blocks k at) (back blocks k at) c.args.row
+          (subst (AreRising key_of) (sym same ∙ sym (ap rows_of c.make_room-place.ensures.entries) ∙ cut_at blocks k at) c.requires.index.rising) parts.0 parts.1);
+    }
+
+pub returns-clause-rows : goal.returns-clause-rows
+returns-clause-rows g c =
+    let key_of = g.K.Keys.key_of c.args.keys.now in
+    let key = key_of c.args.row in
+    let old : entries_of c.self.inside.blocks.items ≡ joined c.args.self.now.blocks = ap (λ (i : Index). joined i.blocks) c.self.view_is in
+    let same : rows_of (entries_of c.sharpen.new.blocks.items) ≡ rows c.args.self.now = c.sharpen.ensures.rows ∙ ap rows_of old in
+    let blocks = c.make_room-place.new.blocks.items in
+    let k = c.make_room-place.result.block in
+    let at = c.make_room-place.result.at in
+    let s = stands_at key_of key c.self.inside.room c.self.inside.blocks.items c.args.place (subst (λ (i : Index). IsPlaceFor key_of key i c.args.place) (sym c.self.view_is) c.requires.place) in
+    let parts = stand_still key_of key c.self.inside.blocks.items blocks c.args.place.block c.args.place.at k at s (ap rows_of c.make_room-place.ensures.entries ∙ c.sharpen.ensures.rows)
+    (c.make_room-place.ensures.front ∙ c.sharpen.ensures.front c.args.place.at) in
+    ap rows_of c.put.ensures.entries ∙ rows_put blocks k at c.entry_of-entry.result ∙ ap (λ (r : ℕ). front blocks k at ++ r ∷ back blocks k at) c.entry_of-entry.ensures.row
+    ∙ put_between key_of key (rows c.args.self.now) (front blocks k at) (back blocks k at) c.args.row (sym same ∙ sym (ap rows_of c.make_room-place.ensures.entries) ∙ cut_at blocks k at) parts.0 parts.1
+
+pub returns-clause-others : goal.returns-clause-others
+returns-clause-others g c = parted (g.K.Keys.key_of c.args.keys.now) (g.K.Keys.key_of c.args.keys.now c.args.row) c.args.self.now c.args.place c.requires.place
+
+pub returns-then-is_empty-clause-others : goal.returns-then-is_empty-clause-others
+returns-then-is_empty-clause-others g c = parted (g.K.Keys.key_of c.args.keys.now) (g.K.Keys.key_of c.args.keys.now c.args.row) c.args.self.now c.args.place c.requires.place

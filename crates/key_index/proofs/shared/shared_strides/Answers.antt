@@ -1,0 +1,11 @@
+use Rattle.std.proofs.Common.{◌≡◌, ℕ, ◌+◌, ◌-◌, take, drop, sym, subst, ◌∙◌, arith}
+use Rattle.std.proofs.lemmas.Slice.Eq.{bytes_eq-Decides}
+use Rattle.key_index.proofs.Shares.{share_more}
+use Rattle.key_index.proofs.shared.shared_strides.Goals as goal
+
+pub loop-count-preserved : goal.loop-count-preserved
+loop-count-preserved c =
+    let n = c.loop-count.count in
+    let same : n + 16 - n ≡ 16 = omega arith in
+    share_more n 16 c.args.a.now c.args.b.now c.loop-count.invariant (omega arith) (omega arith)
+    (subst (λ (m : ℕ). take m (drop n c.args.a.now) ≡ take m (drop n c.args.b.now)) same ((bytes_eq-Decides _ _).0 (sym c.eq.ensures ∙ c.if-eq.true)))

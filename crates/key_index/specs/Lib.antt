@@ -1,0 +1,4 @@
+pub mod Order
+pub mod Lead
+pub mod Index
+pub mod inside

@@ -1,0 +1,38 @@
+-- Rows in the order of their keys.
+use Rattle.std.specs.Prelude.{◌≡◌, ℕ, List, [], ◌∷◌, filter}
+use Rattle.std.specs.Ordering.{nat_cmp, is_lt, is_le}
+use Rattle.std.specs.Cmp.Lexicographic.{slice_cmp}
+use Rattle.std.specs.declared.cmp.Ordering.{Ordering}
+use Rattle.std.specs.declared.cmp.Ordering.TheVariants.{Less}
+
+-- keys in the order of their bytes
+unfoldable pub key_cmp : List ℕ → List ℕ → Ordering
+key_cmp a b = slice_cmp nat_cmp a b
+
+-- what holds of each row
+abbrev pub Each : (ℕ → Type 0) → List ℕ → Type 0
+Each P [] = Unit {0}
+Each P (row ∷ rows) = P row × Each P rows
+
+-- the keys of these rows are above a key
+abbrev pub AreAbove : (ℕ → List ℕ) → List ℕ → List ℕ → Type 0
+AreAbove key_of key rows = Each (λ row. key_cmp key (key_of row) ≡ Less) rows
+
+-- the keys of these rows are below a key
+abbrev pub AreBelow : (ℕ → List ℕ) → List ℕ → List ℕ → Type 0
+AreBelow key_of key rows = Each (λ row. key_cmp (key_of row) key ≡ Less) rows
+
+-- each row's key is below the keys of the rows after it
+abbrev pub AreRising : (ℕ → List ℕ) → List ℕ → Type 0
+AreRising key_of [] = Unit {0}
+AreRising key_of (row ∷ rows) = AreAbove key_of (key_of row) rows × AreRising key_of rows
+
+-- those of some rows whose keys are below a key, at or above it, and above it
+abbrev pub rows_below : (ℕ → List ℕ) → List ℕ → List ℕ → List ℕ
+rows_below key_of key rows = filter (λ row. is_lt (key_cmp (key_of row) key)) rows
+
+abbrev pub rows_from : (ℕ → List ℕ) → List ℕ → List ℕ → List ℕ
+rows_from key_of key rows = filter (λ row. is_le (key_cmp key (key_of row))) rows
+
+abbrev pub rows_above : (ℕ → List ℕ) → List ℕ → List ℕ → List ℕ
+rows_above key_of key rows = filter (λ row. is_lt (key_cmp key (key_of row))) rows

@@ -1,0 +1,4 @@
+pub mod Blocks
+pub mod Dense
+pub mod Shared
+pub mod Kept

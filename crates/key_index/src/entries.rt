@@ -1,0 +1,130 @@
+//! The entries of an index.
+ghost use Rattle.std.specs.Prelude.{◌≡◌, ◌≢◌, ℕ, ◌<◌, ◌≤◌, List, length, take, drop, map, true, false, vec_len, vec_capacity, All};
+ghost use Rattle.key_index.specs.Order.{key_cmp};
+ghost use Rattle.key_index.specs.Lead.{rows_of, AreBytes, IsLed};
+ghost use Rattle.key_index.specs.inside.Shared.{Share};
+
+use crate::keys::Keys;
+use crate::shared::{Compared, compare_from, lead_behind, shared_from};
+use std::cmp::Ordering;
+
+/// How many bytes an entry skips fewer than its key shares with its neighbours: so the next bytes are behind those that
+/// a search has seen to be shared some steps before.
+const SLACK: usize = 4;
+
+/// How many bytes more than an entry skips the keys of its block share, where its lead is read anew.
+const GAIN: u32 = 5;
+
+/// A row, and eight bytes of its key, behind so many.
+#[derive(Clone, Copy)]
+pub(crate) struct Entry {
+    pub(crate) lead: u64,
+    pub(crate) row: u32,
+    pub(crate) skip: u32,
+}
+
+/// How many bytes an entry skips best whose key shares so many with its neighbours.
+pub(crate) fn best_skip(shared: usize) -> u32 {
+    u32::try_from(shared.saturating_sub(SLACK)).unwrap_or(0)
+}
+
+/// The entry of a row that skips so many bytes, or none where its key has fewer.
+pub(crate) fn entry_of<K: Keys>(keys: &K, row: u32, skip: u32) -> Entry
+    requires { K.has_row keys.now row }
+    ensures row { result.row ≡ row }
+    ensures led { IsLed (K.key_of keys.now) result }
+    ensures bytes { AreBytes (K.key_of keys.now row) }
+{
+    let key = keys.key(row);
+    let skip = if skip as usize <= key.len() { skip } else { 0 };
+    let lead = lead_behind(key, skip as usize);
+    Entry { lead, row, skip }
+}
+
+/// How the key of an entry compares with a key with which it shares so many bytes. The key in memory is read only where
+/// the entry skips more, or where the leads agree.
+pub(crate) fn compare<K: Keys>(keys: &K, entry: Entry, key: &[u8], shared: usize) -> Compared
+    requires readable { K.has_row keys.now entry.row }
+    requires bytes { AreBytes (K.key_of keys.now entry.row) }
+    requires led { IsLed (K.key_of keys.now) entry }
+    requires shared { Share shared (K.key_of keys.now entry.row) key.now }
+    ensures order { result.order ≡ key_cmp (K.key_of keys.now entry.row) key.now }
+    ensures shared { Share result.shared (K.key_of keys.now entry.row) key.now }
+{
+    let skip = entry.skip as usize;
+    if skip <= shared {
+        let lead = lead_behind(key, skip);
+        if entry.lead < lead {
+            return Compared {
+                order: Ordering::Less,
+                shared,
+            };
+        }
+        if entry.lead > lead {
+            return Compared {
+                order: Ordering::Greater,
+                shared,
+            };
+        }
+    }
+    compare_from(keys.key(entry.row), key, shared)
+}
+
+/// Whether the key of an entry is a key.
+pub(crate) fn has_key<K: Keys>(keys: &K, entry: Entry, key: &[u8]) -> bool
+    requires readable { K.has_row keys.now entry.row }
+    requires led { IsLed (K.key_of keys.now) entry }
+    ensures same { result ≡ true → K.key_of keys.now entry.row ≡ key.now }
+    ensures other { result ≡ false → K.key_of keys.now entry.row ≢ key.now }
+{
+    let skip = entry.skip as usize;
+    if skip <= key.len() {
+        let lead = lead_behind(key, skip);
+        if entry.lead != lead {
+            return false;
+        }
+    }
+    keys.key(entry.row) == key
+}
+
+/// Reads the leads of entries anew, behind so many bytes.
+fn relead<K: Keys>(entries: &mut Vec<Entry>, keys: &K, skip: u32)
+    requires { All (λ entry. K.has_row keys.now entry.row) entries.old.items }
+    ensures rows { rows_of entries.new.items ≡ rows_of entries.old.items }
+    ensures leads { All (IsLed (K.key_of keys.now)) entries.new.items }
+    ensures capacity { vec_capacity entries.new ≡ vec_capacity entries.old }
+{
+    for at in 0..entries.len() {
+        let row = entries[at].row;
+        entries[at] = entry_of(keys, row, skip);
+    }
+}
+
+/// How many first bytes the keys of two entries share.
+fn shared_by<K: Keys>(keys: &K, first: Entry, last: Entry) -> usize
+    requires first { K.has_row keys.now first.row }
+    requires last { K.has_row keys.now last.row }
+{
+    shared_from(keys.key(first.row), keys.key(last.row), 0)
+}
+
+/// Reads the leads of entries anew, where their keys share many more bytes than the entries skip.
+pub(crate) fn refresh<K: Keys>(entries: &mut Vec<Entry>, keys: &K)
+    requires readable { All (λ entry. K.has_row keys.now entry.row) entries.old.items }
+    requires leads { All (IsLed (K.key_of keys.now)) entries.old.items }
+    ensures rows { rows_of entries.new.items ≡ rows_of entries.old.items }
+    ensures leads { All (IsLed (K.key_of keys.now)) entries.new.items }
+    ensures capacity { vec_capacity entries.new ≡ vec_capacity entries.old }
+{
+    if entries.is_empty() {
+        return;
+    }
+    let first = entries[0];
+    let last = entries[entries.len() - 1];
+    let shared = shared_by(keys, first, last);
+    let skip = best_skip(shared);
+    if shared < first.skip as usize + GAIN as usize {
+        return;
+    }
+    relead(entries, keys, skip);
+}

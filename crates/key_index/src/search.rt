@@ -1,0 +1,159 @@
+//! Where a key stands or would stand.
+ghost use Rattle.std.specs.Prelude.{◌≡◌, ℕ, ◌+◌, ◌-◌, ◌<◌, ◌≤◌, List, length, take, drop, All};
+ghost use Rattle.key_index.specs.Order.{key_cmp, AreAbove, AreBelow};
+ghost use Rattle.key_index.specs.Lead.{rows_of};
+ghost use Rattle.key_index.specs.Index.{AreEntriesOf};
+ghost use Rattle.key_index.specs.inside.Blocks.{entries_of, entries_at, AreAtLeast, IsPlaceOf};
+ghost use Rattle.key_index.specs.inside.Shared.{Share};
+
+use crate::entries::{Entry, best_skip, compare};
+use crate::keys::Keys;
+use crate::place::Place;
+
+/// How many of some entries or blocks are passed, and how many bytes a key shares with those at the end.
+#[derive(Clone, Copy)]
+struct Passed {
+    count: usize,
+    shared: usize,
+}
+
+/// The lesser of two counts.
+fn fewer(a: usize, b: usize) -> usize
+    ensures first { result ≤ a }
+    ensures second { result ≤ b }
+{
+    if a < b { a } else { b }
+}
+
+/// How many entries have keys below a key that shares so many bytes with them.
+fn count_below<K: Keys>(keys: &K, entries: &[Entry], key: &[u8], shared: usize) -> usize
+    requires entries { AreEntriesOf (K.has_row keys.now) (K.key_of keys.now) entries.now }
+    requires shared { All (λ entry. Share shared (K.key_of keys.now entry.row) key.now) entries.now }
+    ensures within { result ≤ length entries.now }
+    ensures below { AreBelow (K.key_of keys.now) key.now (take result (rows_of entries.now)) }
+    ensures at_least { AreAtLeast (K.key_of keys.now) key.now (drop result (rows_of entries.now)) }
+{
+    let mut low = 0;
+    let mut high = entries.len();
+    while low < high {
+        let middle = low + (high - low) / 2;
+        let compared = compare(keys, entries[middle], key, shared);
+        if compared.order.is_lt() {
+            low = middle + 1;
+        } else {
+            high = middle;
+        }
+    }
+    low
+}
+
+/// How many entries have keys below a key, by the first and the last of them.
+fn count_between<K: Keys>(keys: &K, entries: &[Entry], key: &[u8]) -> Passed
+    requires entries { AreEntriesOf (K.has_row keys.now) (K.key_of keys.now) entries.now }
+    requires some { 0 < length entries.now }
+    ensures within { result.count ≤ length entries.now }
+    ensures below { AreBelow (K.key_of keys.now) key.now (take result.count (rows_of entries.now)) }
+    ensures at_least { AreAtLeast (K.key_of keys.now) key.now (drop result.count (rows_of entries.now)) }
+{
+    let first = compare(keys, entries[0], key, 0);
+    let last = compare(keys, entries[entries.len() - 1], key, 0);
+    let shared = fewer(first.shared, last.shared);
+    if last.order.is_lt() {
+        return Passed {
+            count: entries.len(),
+            shared,
+        };
+    }
+    if first.order.is_gt() {
+        return Passed { count: 0, shared };
+    }
+    let count = count_below(keys, entries, key, shared);
+    Passed { count, shared }
+}
+
+/// How many entries have keys below a key that is known to share so many bytes with them.
+fn count_in<K: Keys>(keys: &K, entries: &[Entry], key: &[u8], shared: usize) -> Passed
+    requires entries { AreEntriesOf (K.has_row keys.now) (K.key_of keys.now) entries.now }
+    requires some { 0 < length entries.now }
+    requires shared { All (λ entry. Share shared (K.key_of keys.now entry.row) key.now) entries.now }
+    ensures within { result.count ≤ length entries.now }
+    ensures below { AreBelow (K.key_of keys.now) key.now (take result.count (rows_of entries.now)) }
+    ensures at_least { AreAtLeast (K.key_of keys.now) key.now (drop result.count (rows_of entries.now)) }
+{
+    if entries[0].skip as usize > shared {
+        return count_between(keys, entries, key);
+    }
+    let count = count_below(keys, entries, key, shared);
+    Passed { count, shared }
+}
+
+/// How many blocks begin with an entry whose key is not above a key, and how many bytes the key shares with those of
+/// the last of these blocks.
+fn count_upto<K: Keys>(keys: &K, blocks: &[Vec<Entry>], key: &[u8]) -> Passed
+    requires entries { AreEntriesOf (K.has_row keys.now) (K.key_of keys.now) (entries_of blocks.now) }
+    requires full { All (λ block. 0 < length block.items) blocks.now }
+    ensures within { result.count ≤ length blocks.now }
+    ensures below { AreBelow (K.key_of keys.now) key.now (rows_of (entries_of (take (result.count - 1) blocks.now))) }
+    ensures above { AreAbove (K.key_of keys.now) key.now (rows_of (entries_of (drop result.count blocks.now))) }
+    ensures shared { 0 < result.count
+        → All (λ entry. Share result.shared (K.key_of keys.now entry.row) key.now) (entries_at blocks.now (result.count - 1)) }
+{
+    let mut low = 0;
+    let mut high = blocks.len();
+    let mut low_shared = 0;
+    let mut high_shared = 0;
+    while low < high {
+        let middle = low + (high - low) / 2;
+        let block = &blocks[middle];
+        let shared = fewer(low_shared, high_shared);
+        let compared = compare(keys, block[0], key, shared);
+        if compared.order.is_gt() {
+            high = middle;
+            high_shared = compared.shared;
+        } else {
+            low = middle + 1;
+            low_shared = compared.shared;
+        }
+    }
+    let shared = fewer(low_shared, high_shared);
+    Passed { count: low, shared }
+}
+
+/// How many bytes an entry skips best that is put among some with a key that shares so many bytes with theirs.
+fn skip_among(entries: &[Entry], shared: usize) -> u32
+    requires { 0 < length entries.now }
+{
+    let skip = entries[0].skip;
+    if skip as usize <= shared {
+        return skip;
+    }
+    best_skip(shared)
+}
+
+/// Where a key stands or would stand.
+pub(crate) fn seek<K: Keys>(keys: &K, blocks: &[Vec<Entry>], key: &[u8]) -> Place
+    requires entries { AreEntriesOf (K.has_row keys.now) (K.key_of keys.now) (entries_of blocks.now) }
+    requires full { All (λ block. 0 < length block.items) blocks.now }
+    ensures block { 0 < length blocks.now → result.block < length blocks.now }
+    ensures within { result.block ≤ length blocks.now }
+    ensures at { result.at ≤ length (entries_at blocks.now result.block) }
+    ensures place { IsPlaceOf (K.key_of keys.now) key.now blocks.now result.block result.at }
+{
+    let upto = count_upto(keys, blocks, key);
+    if upto.count == 0 {
+        return Place {
+            block: 0,
+            at: 0,
+            skip: 0,
+        };
+    }
+    let block = upto.count - 1;
+    let entries = blocks[block].as_slice();
+    let inside = count_in(keys, entries, key, upto.shared);
+    let skip = skip_among(entries, inside.shared);
+    Place {
+        block,
+        at: inside.count,
+        skip,
+    }
+}
