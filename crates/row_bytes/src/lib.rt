@@ -1,0 +1,15 @@
+//! A row in the content of a segment's object: a header of 32 bytes, the key, the value, and zero bytes up to the size.
+//!
+//! The layout is this project's. What the bytes mean is `specs/Rows.antt`, in both directions: the bytes of a row, and
+//! the row that bytes are read as.
+#![tactic(auto)]
+
+mod law;
+mod reading;
+#[cfg(test)]
+mod tests;
+mod writing;
+
+pub use law::a_row_is_read_as_it_is_written;
+pub use reading::{key_in, number_in, put_in, value_in};
+pub use writing::{row_size, write_row};

@@ -1,0 +1,8 @@
+pub mod Bodies
+pub mod FirstKeys
+pub mod Headers
+pub mod Meshes
+pub mod Messages
+pub mod Replied
+pub mod Rising
+pub mod Unique

@@ -1,0 +1,9 @@
+pub mod Ask
+pub mod Expected
+pub mod Held
+pub mod Lanes
+pub mod Links
+pub mod Mesh
+pub mod Reply
+pub mod Request
+pub mod inside

@@ -1,0 +1,4 @@
+pub mod Body
+pub mod Head
+pub mod Rings
+pub mod Meeting

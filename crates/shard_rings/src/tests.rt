@@ -1,0 +1,230 @@
+//! The layout byte for byte, what is no reply, and the greatest messages.
+ghost use Rattle.std.specs.Prelude.{◌≡◌, ◌+◌, ◌<◌, ◌≤◌, ◌^◌, length, IfOk};
+ghost use Rattle.trace_text.specs.Parsed.{HasItsFields};
+ghost use Rattle.shard_rings.specs.Ask.{asked, IsAskable};
+ghost use Rattle.cache_model.specs.Apply.{Reply};
+ghost use Rattle.shard_rings.specs.Reply.{HoldsReply, IsViewOf};
+ghost use Rattle.shard_rings.specs.Request.{request};
+
+use super::*;
+use cache_model::ReplyKind;
+use rand_core::utils::NextWord;
+use rand_pcg::Lcg64Xsh32;
+use std::alloc::{AllocError, Global};
+use std::test::Fail;
+use trace_text::Kind;
+
+/// The request of a command, in a block of its size.
+fn request_of(alloc: Global, command: &Ask<'_>) -> Result<Vec<u8>, AllocError>
+    requires { IsAskable (asked command.now) }
+    ensures { IfOk result (λ bytes. bytes.items ≡ request (asked command.now)) }
+{
+    let mut bytes = Vec::from_elem(alloc, 255u8, request_size(command) as usize)?;
+    write_request(command, bytes.as_mut_slice());
+    Ok(bytes)
+}
+
+#[test]
+fn a_request_and_its_reply_are_laid_byte_for_byte(rt: HostRuntime) -> Result<(), Fail> {
+    let ask = Ask {
+        kind: Kind::Put,
+        key: b"b",
+        value: b"1",
+        count: 0,
+        number: 1,
+    };
+    let request = request_of(rt.alloc(), &ask)?;
+    assert!(rt;
+        request.as_slice()
+            == [1, 0, 1, 0, 1, 0, 0, 0, 1, 0, 0, 0, 0, 0, 0, 0, 0x62, 0x31].as_slice()
+    );
+    let mut reply = [255; 16];
+    write_reply_header(ReplyKind::Stored, 1, 0, 0, &mut reply);
+    assert!(rt; reply == [0x11, 0, 0, 0, 1, 0, 0, 0, 0, 0, 0, 0, 0, 0, 0, 0]);
+    assert!(rt; read_reply(&reply[..15]).is_none());
+    let view = read_reply(&reply).ok_or("it is a reply")?;
+    assert!(rt; view.kind == ReplyKind::Stored && view.number == 1 && view.body.is_empty());
+    Ok(())
+}
+
+#[test]
+fn what_is_no_reply_is_refused(rt: HostRuntime) {
+    let refused: [(&str, &[u8]); 13] = [
+        ("no bytes", &[]),
+        ("15 bytes", &[17, 0, 0, 0, 1, 0, 0, 0, 0, 0, 0, 0, 0, 0, 0]),
+        (
+            "kind 16",
+            &[16, 0, 0, 0, 1, 0, 0, 0, 0, 0, 0, 0, 0, 0, 0, 0],
+        ),
+        (
+            "kind 23",
+            &[23, 0, 0, 0, 1, 0, 0, 0, 0, 0, 0, 0, 0, 0, 0, 0],
+        ),
+        ("byte 1", &[17, 1, 0, 0, 1, 0, 0, 0, 0, 0, 0, 0, 0, 0, 0, 0]),
+        (
+            "a key of a value",
+            &[19, 0, 1, 0, 1, 0, 0, 0, 0, 0, 0, 0, 0, 0, 0, 0],
+        ),
+        (
+            "byte 12",
+            &[17, 0, 0, 0, 1, 0, 0, 0, 0, 0, 0, 0, 1, 0, 0, 0],
+        ),
+        (
+            "byte 15",
+            &[17, 0, 0, 0, 1, 0, 0, 0, 0, 0, 0, 0, 0, 0, 0, 1],
+        ),
+        (
+            "a body of stored",
+            &[17, 0, 0, 0, 1, 0, 0, 0, 1, 0, 0, 0, 0, 0, 0, 0, 97],
+        ),
+        (
+            "a body beyond",
+            &[19, 0, 0, 0, 1, 0, 0, 0, 2, 0, 0, 0, 0, 0, 0, 0, 97],
+        ),
+        (
+            "an empty key",
+            &[22, 0, 1, 0, 1, 0, 0, 0, 2, 0, 0, 0, 0, 0, 0, 0, 0, 0],
+        ),
+        (
+            "a rest",
+            &[
+                22, 0, 1, 0, 1, 0, 0, 0, 4, 0, 0, 0, 0, 0, 0, 0, 1, 0, 97, 97,
+            ],
+        ),
+        (
+            "half a key",
+            &[22, 0, 1, 0, 1, 0, 0, 0, 3, 0, 0, 0, 0, 0, 0, 0, 2, 0, 97],
+        ),
+    ];
+    for (name, bytes) in refused {
+        assert!(rt; read_reply(bytes).is_none(), "{name}");
+    }
+}
+
+/// A byte that is mostly zero, else small or the byte of a kind.
+fn draw(words: &mut Lcg64Xsh32) -> u8 {
+    let word = words.next_word();
+    match word % 8 {
+        0 => (word / 8 % 4) as u8,
+        1 => 16 + (word / 8 % 8) as u8,
+        _ => 0,
+    }
+}
+
+/// Whether what is read, written over fives, gives the bytes up to the end of its body, and fives behind them.
+fn comes_back(alloc: Global, bytes: &[u8], view: &ReplyView<'_>) -> Result<bool, AllocError>
+    requires { (reply : Reply) × IsViewOf view.now reply × HoldsReply bytes.now view.now.number reply }
+{
+    let end = 16 + view.body.len();
+    if bytes.len() < end {
+        return Ok(false);
+    }
+    let mut written = Vec::from_elem(alloc, 5u8, bytes.len())?;
+    write_reply(view, written.as_mut_slice());
+    Ok(written.as_slice()[..end] == bytes[..end] && written[end..].iter().all(|b| *b == 5))
+}
+
+#[test]
+fn random_bytes_are_no_reply_or_come_back(rt: HostRuntime) -> Result<(), Fail> {
+    let mut words = Lcg64Xsh32::new(1, 1);
+    let mut read = 0u64;
+    for _ in 0..10_000 {
+        let mut bytes = Vec::new(rt.alloc());
+        bytes.push(16 + (words.next_word() % 8) as u8)?;
+        for _ in 0..words.next_word() % 40 {
+            bytes.push(draw(&mut words))?;
+        }
+        if let Some(view) = read_reply(bytes.as_slice()) {
+            assert!(rt; comes_back(rt.alloc(), bytes.as_slice(), &view)?);
+            read = read.wrapping_add(1);
+        }
+    }
+    // Both happen.
+    assert!(rt; 100 < read && read < 9_900);
+    Ok(())
+}
+
+/// The request with the longest key and this value, of the greatest number.
+fn longest_request(
+    alloc: Global,
+    kind: Kind,
+    value: &[u8],
+    count: u32,
+) -> Result<Vec<u8>, AllocError>
+    requires value { length value.now ≤ 12000 }
+    requires fields { HasItsFields kind value.now count }
+{
+    let ask = Ask {
+        kind,
+        key: &[b'k'; 256],
+        value,
+        count,
+        number: u32::MAX,
+    };
+    request_of(alloc, &ask)
+}
+
+#[test]
+fn the_greatest_requests(rt: HostRuntime) -> Result<(), Fail> {
+    let value = [b'v'; 12_000];
+    let put = longest_request(rt.alloc(), Kind::Put, &value, 0)?;
+    assert_eq!(rt; put.len(), 12_272);
+    assert!(rt;
+        put.as_slice().starts_with(&[1, 0, 0, 1, 255, 255, 255, 255, 0xe0, 0x2e, 0, 0, 0, 0, 0, 0])
+    );
+    let get = longest_request(rt.alloc(), Kind::Get, &[], 0)?;
+    assert_eq!(rt; get.len(), 272);
+    let erase = longest_request(rt.alloc(), Kind::Erase, &[], 0)?;
+    assert_eq!(rt; erase.len(), 272);
+    let scan = longest_request(rt.alloc(), Kind::Scan, &[], 32)?;
+    assert_eq!(rt; scan.len(), 272);
+    assert!(rt;
+        scan.as_slice().starts_with(&[
+            4, 0, 0, 1, 255, 255, 255, 255, 0, 0, 32, 0, 0, 0, 0, 0, b'k'
+        ])
+    );
+    Ok(())
+}
+
+/// Bytes of so many letters, the first of them the header of such a reply, number 7. How many keys and bytes of body
+/// are read, where they hold a reply.
+fn read_letters(block: &mut [u8], kind: ReplyKind, keys: u32, len: u32) -> Option<(u32, usize)>
+    requires { (16 + len ≤ length block.old) × (keys < 2 ^ 16) }
+{
+    write_reply_header(kind, 7, keys, len, block);
+    let view = read_reply(block)?;
+    Some((view.keys, view.body.len()))
+}
+
+/// Lays the length of a key in front of each of 32 keys of 256 bytes.
+fn lay_lengths(block: &mut [u8])
+    requires { 8272 ≤ length block.old }
+{
+    for i in 0..32 {
+        block[16 + 258 * i] = 0;
+        block[16 + 258 * i + 1] = 1;
+    }
+}
+
+#[test]
+fn the_greatest_replies(rt: HostRuntime) -> Result<(), Fail> {
+    let mut block = Vec::from_elem(rt.alloc(), 0u8, 12_020)?;
+    let block = block.as_mut_slice();
+    for (kind, len, found) in [
+        (ReplyKind::Value, 12_000, Some((0, 12_000))),
+        (ReplyKind::Value, 12_001, None),
+        (ReplyKind::Stored, 0, Some((0, 0))),
+        (ReplyKind::Replaced, 0, Some((0, 0))),
+        (ReplyKind::Missing, 0, Some((0, 0))),
+        (ReplyKind::Erased, 0, Some((0, 0))),
+        (ReplyKind::Keys, 0, Some((0, 0))),
+    ] {
+        assert!(rt; len <= 12_001);
+        assert!(rt; read_letters(block, kind, 0, len) == found, "{len}");
+    }
+    lay_lengths(block);
+    assert!(rt; read_letters(block, ReplyKind::Keys, 32, 8_256) == Some((32, 8_256)));
+    block[17] = 2;
+    assert!(rt; read_letters(block, ReplyKind::Keys, 1, 514).is_none());
+    Ok(())
+}
