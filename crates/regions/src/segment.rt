@@ -160,6 +160,7 @@ impl Segment {
         ensures skipped { IfSome result (λ f. (from ≤ f.0) × none_lives_in (Some self.now) from f.0) }
         ensures found { IfSome result (λ f. IsLiveAt (item_if_live (standing_in (Some self.now) f.0)) f.1 f.2) }
         ensures size { IfSome result (λ f. (1 ≤ f.1) × IsSize f.2) }
+        ensures within { IfSome result (λ f. f.0 + f.2 ≤ self.now.used) }
         ensures next { IfSome result (λ f. starts_in (Some self.now) (f.0 + f.2)) }
         ensures between { IfSome result (λ f. (a : ℕ) → f.0 < a → a < f.0 + f.2 → standing_in (Some self.now) a ≡ None) }
     {

@@ -59,6 +59,7 @@ impl Region {
         ensures skipped { IfSome result (λ f. (from ≤ f.0) × NoneLives self.now segment from f.0) }
         ensures found { IfSome result (λ f. IsLiveAt (live_at self.now (record { segment = segment; at = f.0 })) f.1 f.2) }
         ensures size { IfSome result (λ f. (1 ≤ f.1) × IsSize f.2) }
+        ensures within { IfSome result (λ f. f.0 + f.2 ≤ used_at self.now segment) }
         ensures next { IfSome result (λ f. IsStart self.now segment (f.0 + f.2)) }
         ensures between { IfSome result (λ f. (a : ℕ) → f.0 < a → a < f.0 + f.2 → standing_at self.now (record { segment = segment; at = a }) ≡ None) }
     {

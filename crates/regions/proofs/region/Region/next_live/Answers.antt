@@ -1,6 +1,7 @@
 use Rattle.std.proofs.Common.{◌≡◌, ◌+◌, ◌<◌, ◌≤◌, ◌⊎◌, ℕ, true, get_or, sym, ◌∙◌, subst}
 use Rattle.std.specs.Prelude.{None, Some, IsSome, IfSome}
 use Rattle.regions.specs.Shapes.{slots_of, is_closed, IsClosed}
+use Rattle.regions.specs.Counts.{used_in, used_at}
 use Rattle.regions.specs.Contents.{standing_in, standing_at}
 use Rattle.regions.proofs.Tables as tables
 use Rattle.regions.proofs.Updates.{used-is}
@@ -18,6 +19,16 @@ returns-clause-skipped c =
     let is : get_or slots n None ≡ Some c.segment_in.result.now = tables.slot-is slots n c.index.result.now None inside c.index.ensures ∙ c.segment_in.ensures in
     subst (λ q. IfSome c.next_live.result (λ f. (c.args.from ≤ f.0) × NoneLives q n c.args.from f.0)) c.self.view_is
     (subst (λ s. IfSome c.next_live.result (λ f. (c.args.from ≤ f.0) × none_lives_in s c.args.from f.0)) (sym is) c.next_live.ensures.skipped)
+
+pub returns-clause-within : goal.returns-clause-within
+returns-clause-within c =
+    let i = c.self.inside in let slots = i.slots.items in let n = c.args.segment in
+    let shut : is_closed i.active (slots_of slots) n ≡ true = subst (λ q. IsClosed q n) (sym c.self.view_is) c.requires.closed in
+    let inside = begun-within i.most i.active i.free i.active_live i.table slots c.self.invariant n (closed-begun i.active (slots_of slots) n shut).0 in
+    let is : get_or slots n None ≡ Some c.segment_in.result.now = tables.slot-is slots n c.index.result.now None inside c.index.ensures ∙ c.segment_in.ensures in
+    subst (λ q. IfSome c.next_live.result (λ f. f.0 + f.2 ≤ used_at q n)) c.self.view_is
+    (subst (λ u. IfSome c.next_live.result (λ f. f.0 + f.2 ≤ u)) (sym (used-is slots n))
+    (subst (λ s. IfSome c.next_live.result (λ f. f.0 + f.2 ≤ used_in s)) (sym is) c.next_live.ensures.within))
 
 pub returns-clause-next : goal.returns-clause-next
 returns-clause-next c =

@@ -34,6 +34,16 @@ returns-then-found-eq1-clause-size c =
     let stands : StandsAt at (objects c.bytes-bytes.result.now h.used) = subst (λ b. StandsAt at (objects b h.used)) (sym is) (found-any (λ (o : Object). o.at ≡ at) at (objects h.piece.bytes h.used) t.it t.is-it (t.found).place) in
     (some-kind h.piece.bytes h.used at t d d-is, (c.read_descriptor-found.ensures.fits h.used (subst (λ b. IsSegment b h.used) (sym is) s) stands).0)
 
+pub returns-then-found-eq1-clause-within : goal.returns-then-found-eq1-clause-within
+returns-then-found-eq1-clause-within c =
+    let h = c.args.self.now in let at = c.loop-at.at in
+    let s : IsSegment h.piece.bytes h.used = subst (λ k. IsSegment k.piece.bytes k.used) c.self.view_is (c.self.invariant.2 (ap (λ k. k.free) c.self.view_is ∙ c.requires.begun)) in
+    let low : at < h.used = subst (λ k. at < k.used) c.self.view_is c.loop-at-test.true in
+    let t = there-at h.piece.bytes h.used at s low c.loop-at.invariant.1 in
+    let is : c.bytes-bytes.result.now ≡ h.piece.bytes = c.bytes-bytes.ensures ∙ ap (λ k. k.piece.bytes) c.self.view_is in
+    let d = c.read_descriptor-found.result in let d-is : d ≡ descriptor_at h.piece.bytes at = c.read_descriptor-found.ensures.read ∙ ap (λ b. descriptor_at b at) is in
+    (step h.piece.bytes h.used at t d d-is).1
+
 pub returns-then-found-eq1-clause-next : goal.returns-then-found-eq1-clause-next
 returns-then-found-eq1-clause-next c =
     let h = c.args.self.now in let at = c.loop-at.at in
