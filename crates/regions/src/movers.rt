@@ -1,4 +1,4 @@
-ghost use Rattle.std.specs.Prelude.{◌≡◌, ◌≢◌, ℕ, Option, Some, option_map};
+ghost use Rattle.std.specs.Prelude.{◌≡◌, ◌≢◌, ℕ, List, Option, Some, map, option_map};
 ghost use Rattle.regions.specs.Contents.{Item, live_at};
 ghost use Rattle.regions.specs.Stores.{Live, Bare, StandsFor, SameBut, store_of, less, renamed};
 ghost use Rattle.regions.specs.declared.place.Place.{Place};
@@ -10,13 +10,19 @@ use crate::region::Region;
 ///
 /// A mover tells a map from names to places, and which live objects it fits. Where it fits the live objects of a region,
 /// the two stand for a store, in which nothing has a place. Items are compared without their reference fields, which the
-/// mover names by `bare`.
+/// mover names by `bare` and reads by `references`. What else it keeps, `rest` tells, and no move changes it.
 pub trait Movers {
     ghost fits: { Self → Live → Type 0 };
 
     ghost place_of: { Self → ℕ → Option Place };
 
     ghost bare: { Bare };
+
+    ghost references: { Item → List Place };
+
+    ghost Rest: { Type 0 };
+
+    ghost rest: { Self → Self.Rest };
 
     /// The live object at `from` was copied to `to`, where it is live too. Each reference to `from`, in the mover's own
     /// tables and in the live objects' reference fields, is `to` from now on.
@@ -27,5 +33,7 @@ pub trait Movers {
         ensures stands { (m : Self) (live : Live) → fits m live → StandsFor bare (store_of bare (place_of m) live) (place_of m) live }
         ensures names { (n : ℕ) → place_of self.new n ≡ option_map (renamed from to) (place_of self.old n) }
         ensures fits { fits self.new (less from (live_at store.new)) }
-        ensures store { SameBut bare store.old store.new };
+        ensures references { (p : Place) → option_map references (less from (live_at store.new) p) ≡ option_map (λ i. map (renamed from to) (references i)) (less from (live_at store.old) p) }
+        ensures store { SameBut bare store.old store.new }
+        ensures rest { Self.rest self.new ≡ Self.rest self.old };
 }

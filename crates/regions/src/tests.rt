@@ -293,7 +293,7 @@ struct One {
 }
 
 impl Movers for One {
-    ghost use Rattle.std.specs.Prelude.{◌≡◌, ◌==◌, cond, Some, None, IsSome};
+    ghost use Rattle.std.specs.Prelude.{◌≡◌, ◌==◌, cond, Some, None, IsSome, List, []};
     ghost use Rattle.regions.specs.Contents.{Item};
     ghost use Rattle.regions.specs.declared.place.Place.{Place as At};
 
@@ -302,6 +302,12 @@ impl Movers for One {
     ghost place_of = { λ m n. cond (n == 0) (Some m.place) None };
 
     ghost bare = { λ i. i };
+
+    ghost references = { λ i. [] };
+
+    ghost Rest = { Unit {0} };
+
+    ghost rest = { λ m. tt };
 
     fn moved(&mut self, _store: &mut Region, _kind: u8, _from: Place, to: Place) {
         self.place = to;
