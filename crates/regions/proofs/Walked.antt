@@ -1,13 +1,14 @@
 -- From one object of a segment to the next one.
-use Rattle.std.proofs.Common.{◌≡◌, ◌≢◌, ℕ, ◌+◌, ◌<◌, ◌≤◌, ◌⊎◌, inl, inr, List, [], ◌∷◌, refl, sym, ap, ◌∙◌, subst, arith, eq-eqb}
-use Rattle.std.specs.Prelude.{Option, None, Some, IsSome, option_map}
+use Rattle.std.proofs.Common.{◌≡◌, ◌≢◌, ℕ, ◌+◌, ◌<◌, ◌≤◌, ◌⊎◌, inl, inr, cond, List, [], ◌∷◌, refl, sym, ap, ◌∙◌, subst, arith, eq-eqb}
+use Rattle.std.specs.Prelude.{◌==◌, Option, None, Some, IsSome, option_map}
 use Rattle.std.proofs.lemmas.Bool.{cases_eq, ne_eqb}
 use Rattle.std.proofs.Math.Nat.{eq-or-lt_of_le}
 use Rattle.std.proofs.lemmas.Bool.Decides.{leb_tells}
 use Rattle.object_log.specs.Objects.{Object, objects, descriptor_at, AreObjects, IsObject, IsSegment}
 use Rattle.object_log.specs.declared.descriptor.Descriptor.{Descriptor}
+use Rattle.regions.specs.Counts.{live_bytes}
 use Rattle.regions.specs.Contents.{IsLiveAt, standing, standing_among, item_if_live, if_live, object_with}
-use Rattle.regions.proofs.Objects.{found, some-found, after-found}
+use Rattle.regions.proofs.Objects.{found, some-found, after-found, objects-below}
 use Rattle.regions.proofs.Written.{IsThere, content-size}
 
 pub there-at : (bytes : List ℕ) (used at : ℕ) → IsSegment bytes used → at < used → IsSome (standing_among bytes at (objects bytes used)) ⊎ (at ≡ used) → IsThere bytes used at
@@ -29,6 +30,38 @@ is-object bytes a used at (p ∷ os) o h e =
 some-standing : (bytes : List ℕ) (o : Option Object) → IsSome o → IsSome (option_map (standing bytes) o)
 some-standing bytes None h = h
 some-standing bytes (Some o) h = refl
+
+-- a live object is counted
+pub live-counted : (at : ℕ) (os : List Object) (o : Object) → object_with at os ≡ Some o → o.state ≡ 1 → o.size ≤ live_bytes os
+live-counted at [] o e one = absurd (let clash : None ≡ Some o = e in cc)
+live-counted at (p ∷ os) o e one =
+    elim (cases_eq p.at at) [
+      | inl is ↦
+          let first : object_with at (p ∷ os) ≡ Some p = rw (eq-eqb p.at at is) refl in
+          let same : p ≡ o = (let both : Some p ≡ Some o = sym first ∙ e in cc) in
+          let counted : live_bytes (p ∷ os) ≡ p.size + live_bytes os = ap (λ b. cond b p.size 0 + live_bytes os) (eq-eqb p.state 1 (ap (λ q. q.state) same ∙ one)) in
+          let size : p.size ≡ o.size = ap (λ q. q.size) same in omega (arith, counted, size)
+      | inr far ↦
+          let later : object_with at (p ∷ os) ≡ object_with at os = rw (ne_eqb p.at at far) refl in
+          let rest = live-counted at os o (sym later ∙ e) one in
+          let counted : live_bytes (p ∷ os) ≡ cond (p.state == 1) p.size 0 + live_bytes os = refl in omega (arith, counted, rest)
+    ]
+
+-- where no object lives no byte is live
+pub none-counted : (bytes : List ℕ) (a used : ℕ) (os : List Object) → AreObjects bytes a used os → ((b : ℕ) → a ≤ b → b < used → item_if_live (standing_among bytes b os) ≡ None) → live_bytes os ≡ 0
+none-counted bytes a used [] h dead = refl
+none-counted bytes a used (o ∷ os) h dead =
+    let here : o.at ≡ a = ap (λ q. q.at) h.0 in let some = h.1.4.0 in let rest = objects-below bytes (a + o.size) used os h.2 in
+    elim (cases_eq o.state 1) [
+      | inl one ↦
+          let there : item_if_live (standing_among bytes a (o ∷ os)) ≡ Some (standing bytes o).item =
+              ap (λ b. item_if_live (option_map (standing bytes) (cond b (Some o) (object_with a os)))) (eq-eqb o.at a here) ∙ ap (λ b. if_live b (standing bytes o).item) (eq-eqb o.state 1 one)
+          in absurd (let clash : None ≡ Some (standing bytes o).item = sym (dead a (omega arith) (omega (arith, some, rest))) ∙ there in cc)
+      | inr other ↦
+          ap (λ b. cond b o.size 0 + live_bytes os) (ne_eqb o.state 1 other)
+          ∙ ap (λ n. 0 + n) (none-counted bytes (a + o.size) used os h.2
+            (λ b low high. sym (ap (λ t. item_if_live (option_map (standing bytes) (cond t (Some o) (object_with b os)))) (ne_eqb o.at b (λ g. omega (arith, g, here, some, low)))) ∙ dead b (omega (arith, low)) high))
+    ]
 
 module _ (bytes : List ℕ) (used at : ℕ) (t : IsThere bytes used at) (d : Descriptor) (is : d ≡ descriptor_at bytes at) where
   open t use {segment, it, is-it, found as f}
@@ -55,6 +88,9 @@ module _ (bytes : List ℕ) (used at : ℕ) (t : IsThere bytes used at) (d : Des
     kind_is = kind-is;
     size_is = sym (content-size bytes used at t) ∙ size-is;
   }
+
+  pub counted : d.state ≡ 1 → d.size ≤ live_bytes (objects bytes used)
+  counted one = let k = live-counted at (objects bytes used) it is-it (state-is ∙ one) in omega (arith, k, size-is)
 
   after : ((at + it.size ≡ used) ⊎ IsSome (object_with (at + it.size) (objects bytes used))) × ((b : ℕ) → at < b → b < at + it.size → object_with b (objects bytes used) ≡ None)
   after = after-found bytes 0 used at (objects bytes used) it segment.objects is-it

@@ -163,6 +163,8 @@ impl Segment {
         ensures within { IfSome result (λ f. f.0 + f.2 ≤ self.now.used) }
         ensures next { IfSome result (λ f. starts_in (Some self.now) (f.0 + f.2)) }
         ensures between { IfSome result (λ f. (a : ℕ) → f.0 < a → a < f.0 + f.2 → standing_in (Some self.now) a ≡ None) }
+        ensures counted { IfSome result (λ f. f.2 ≤ live_in (Some self.now)) }
+        ensures dead { IsNone result → none_lives_in (Some self.now) 0 from → live_in (Some self.now) ≡ 0 }
     {
         let bytes = self.piece.bytes();
         let mut at = from;

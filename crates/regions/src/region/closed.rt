@@ -62,6 +62,8 @@ impl Region {
         ensures within { IfSome result (λ f. f.0 + f.2 ≤ used_at self.now segment) }
         ensures next { IfSome result (λ f. IsStart self.now segment (f.0 + f.2)) }
         ensures between { IfSome result (λ f. (a : ℕ) → f.0 < a → a < f.0 + f.2 → standing_at self.now (record { segment = segment; at = a }) ≡ None) }
+        ensures counted { IfSome result (λ f. f.2 ≤ live_bytes_at self.now segment) }
+        ensures dead { IsNone result → NoneLives self.now segment 0 from → live_bytes_at self.now segment ≡ 0 }
     {
         segment_in(&self.slots[segment as usize]).next_live(from)
     }

@@ -1,10 +1,10 @@
 use Rattle.std.proofs.Common.{◌≡◌, ◌+◌, ◌<◌, ◌≤◌, ◌⊎◌, ℕ, true, get_or, sym, ◌∙◌, subst}
-use Rattle.std.specs.Prelude.{None, Some, IsSome, IfSome}
+use Rattle.std.specs.Prelude.{None, Some, IsSome, IsNone, IfSome}
 use Rattle.regions.specs.Shapes.{slots_of, is_closed, IsClosed}
-use Rattle.regions.specs.Counts.{used_in, used_at}
+use Rattle.regions.specs.Counts.{used_in, live_in, used_at, live_bytes_at}
 use Rattle.regions.specs.Contents.{standing_in, standing_at}
 use Rattle.regions.proofs.Tables as tables
-use Rattle.regions.proofs.Updates.{used-is}
+use Rattle.regions.proofs.Updates.{used-is, live-is}
 use Rattle.regions.proofs.Consistency.{closed-begun}
 use Rattle.regions.specs.Contents.{NoneLives, IsStart, starts_in, none_lives_in}
 use Rattle.regions.specs.declared.place.Place.{Place}
@@ -48,3 +48,23 @@ returns-clause-between c =
     let is : get_or slots n None ≡ Some c.segment_in.result.now = tables.slot-is slots n c.index.result.now None inside c.index.ensures ∙ c.segment_in.ensures in
     subst (λ q. IfSome c.next_live.result (λ f. (a : ℕ) → f.0 < a → a < f.0 + f.2 → standing_at q (let p : Place = record { segment = n; at = a } in p) ≡ None)) c.self.view_is
     (subst (λ s. IfSome c.next_live.result (λ f. (a : ℕ) → f.0 < a → a < f.0 + f.2 → standing_in s a ≡ None)) (sym is) c.next_live.ensures.between)
+
+pub returns-clause-counted : goal.returns-clause-counted
+returns-clause-counted c =
+    let i = c.self.inside in let slots = i.slots.items in let n = c.args.segment in
+    let shut : is_closed i.active (slots_of slots) n ≡ true = subst (λ q. IsClosed q n) (sym c.self.view_is) c.requires.closed in
+    let inside = begun-within i.most i.active i.free i.active_live i.table slots c.self.invariant n (closed-begun i.active (slots_of slots) n shut).0 in
+    let is : get_or slots n None ≡ Some c.segment_in.result.now = tables.slot-is slots n c.index.result.now None inside c.index.ensures ∙ c.segment_in.ensures in
+    subst (λ q. IfSome c.next_live.result (λ f. f.2 ≤ live_bytes_at q n)) c.self.view_is
+    (subst (λ u. IfSome c.next_live.result (λ f. f.2 ≤ u)) (sym (live-is slots n))
+    (subst (λ s. IfSome c.next_live.result (λ f. f.2 ≤ live_in s)) (sym is) c.next_live.ensures.counted))
+
+pub returns-clause-dead : goal.returns-clause-dead
+returns-clause-dead c =
+    let i = c.self.inside in let slots = i.slots.items in let n = c.args.segment in
+    let shut : is_closed i.active (slots_of slots) n ≡ true = subst (λ q. IsClosed q n) (sym c.self.view_is) c.requires.closed in
+    let inside = begun-within i.most i.active i.free i.active_live i.table slots c.self.invariant n (closed-begun i.active (slots_of slots) n shut).0 in
+    let is : get_or slots n None ≡ Some c.segment_in.result.now = tables.slot-is slots n c.index.result.now None inside c.index.ensures ∙ c.segment_in.ensures in
+    subst (λ q. IsNone c.next_live.result → NoneLives q n 0 c.args.from → live_bytes_at q n ≡ 0) c.self.view_is
+    (subst (λ u. IsNone c.next_live.result → none_lives_in (get_or slots n None) 0 c.args.from → u ≡ 0) (sym (live-is slots n))
+    (subst (λ s. IsNone c.next_live.result → none_lives_in s 0 c.args.from → live_in s ≡ 0) (sym is) c.next_live.ensures.dead))

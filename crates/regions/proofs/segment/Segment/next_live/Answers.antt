@@ -1,7 +1,8 @@
-use Rattle.std.proofs.Common.{◌≡◌, ◌<◌, inl, sym, ap, ◌∙◌, subst, arith}
+use Rattle.std.proofs.Common.{◌≡◌, ◌<◌, ◌≤◌, inl, inr, sym, ap, ◌∙◌, subst, arith}
+use Rattle.std.proofs.lemmas.Bool.Decides.{leb_tells}
 use Rattle.object_log.specs.Objects.{Object, objects, descriptor_at, IsSegment, StandsAt}
 use Rattle.regions.proofs.Objects.{found-any}
-use Rattle.regions.proofs.Walked.{there-at, some-kind, step, live-there, next-starts, none-between, passed}
+use Rattle.regions.proofs.Walked.{there-at, some-kind, step, live-there, next-starts, none-between, counted, none-counted, passed}
 use Rattle.regions.proofs.segment.Segment.next_live.Goals as goal
 
 pub read_descriptor-found-requires : goal.read_descriptor-found-requires
@@ -94,3 +95,24 @@ loop-at-preserved c =
     let d = c.read_descriptor-found.result in let d-is : d ≡ descriptor_at h.piece.bytes at = c.read_descriptor-found.ensures.read ∙ ap (λ b. descriptor_at b at) is in
     let w = step h.piece.bytes h.used at t d d-is in let before = c.loop-at.invariant.0 in
     (omega (arith, before), next-starts h.piece.bytes h.used at t d d-is, passed h.piece.bytes h.used at t d d-is c.args.from c.if-found-eq1.false c.loop-at.invariant.2)
+
+pub returns-then-found-eq1-clause-counted : goal.returns-then-found-eq1-clause-counted
+returns-then-found-eq1-clause-counted c =
+    let h = c.args.self.now in let at = c.loop-at.at in
+    let s : IsSegment h.piece.bytes h.used = subst (λ k. IsSegment k.piece.bytes k.used) c.self.view_is (c.self.invariant.2 (ap (λ k. k.free) c.self.view_is ∙ c.requires.begun)) in
+    let low : at < h.used = subst (λ k. at < k.used) c.self.view_is c.loop-at-test.true in
+    let t = there-at h.piece.bytes h.used at s low c.loop-at.invariant.1 in
+    let is : c.bytes-bytes.result.now ≡ h.piece.bytes = c.bytes-bytes.ensures ∙ ap (λ k. k.piece.bytes) c.self.view_is in
+    let d = c.read_descriptor-found.result in let d-is : d ≡ descriptor_at h.piece.bytes at = c.read_descriptor-found.ensures.read ∙ ap (λ b. descriptor_at b at) is in
+    counted h.piece.bytes h.used at t d d-is c.if-found-eq1.true
+
+pub returns-clause-dead : goal.returns-clause-dead
+returns-clause-dead c = λ _ before.
+    let h = c.args.self.now in let at = c.loop-at.at in
+    let s : IsSegment h.piece.bytes h.used = subst (λ k. IsSegment k.piece.bytes k.used) c.self.view_is (c.self.invariant.2 (ap (λ k. k.free) c.self.view_is ∙ c.requires.begun)) in
+    let high : h.used ≤ at = subst (λ k. k.used ≤ at) c.self.view_is c.loop-at-test.false in
+    none-counted h.piece.bytes 0 h.used (objects h.piece.bytes h.used) s.objects (λ b low inside.
+      elim (leb_tells c.args.from b) [
+        | inl up ↦ c.loop-at.invariant.2 b up.1 (omega (arith, high, inside))
+        | inr under ↦ before b low under.1
+      ])
