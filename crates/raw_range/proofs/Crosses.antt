@@ -11,7 +11,7 @@ use denote.Struct.Declared as declared
 use Rattle.std.specs.declared.alloc.Allocator.{Ghosts}
 use Rattle.std.specs.Vec.{with_items}
 use Rattle.std_alloc.proofs.SendSync.{Vec-send}
-use Rattle.raw_range.specs.contracts.memory.Held as Held
+use Rattle.raw_range.specs.contracts.memory.Unallocated as Unallocated
 use Rattle.raw_range.specs.contracts.memory.Run as Run
 use Rattle.raw_range.specs.contracts.memory.Sole as Sole
 use Rattle.raw_range.specs.contracts.memory.Sole.TheInside as Inside
@@ -45,12 +45,12 @@ byte_owns-keyless : (y : Bool) (b o x : ℕ) → Keyless (byte_owns y b o x)
 byte_owns-keyless true b o x = tt
 byte_owns-keyless false b o x = part_keyless u8 u8-send full_share x b o
 
-rest_owns-keyless : (out : List Extent) (b o i : ℕ) (xs : List ℕ) → Keyless (rest_owns out b o i xs)
-rest_owns-keyless out b o i [] = tt
-rest_owns-keyless out b o i (x ∷ xs) = (byte_owns-keyless (is_allocated out i) b o x, rest_owns-keyless out b (o + 1) (i + 1) xs)
+rest_owns-keyless : (allocated : List Extent) (b o i : ℕ) (xs : List ℕ) → Keyless (rest_owns allocated b o i xs)
+rest_owns-keyless allocated b o i [] = tt
+rest_owns-keyless allocated b o i (x ∷ xs) = (byte_owns-keyless (is_allocated allocated i) b o x, rest_owns-keyless allocated b (o + 1) (i + 1) xs)
 
 pub run-send : IsSend Run.the_row
 run-send = owning_send Run.the_type tt (λ d. run_owns-keyless d.ptr d.items) (λ k x w. tt)
 
-pub held-send : IsSend Held.the_row
-held-send = owning_send Held.the_type tt (λ d. rest_owns-keyless d.out (block_of d.ptr) (count_of d.ptr) 0 d.bytes) (λ k x w. tt)
+pub unallocated-send : IsSend Unallocated.the_row
+unallocated-send = owning_send Unallocated.the_type tt (λ d. rest_owns-keyless d.allocated (block_of d.ptr) (count_of d.ptr) 0 d.bytes) (λ k x w. tt)

@@ -1,4 +1,4 @@
--- Which bytes are out, as places come and go.
+-- Which bytes are allocated, as extents come and go.
 use Rattle.std.proofs.Common.{◌≡◌, ℕ, ◌+◌, ◌<◌, ◌≤◌, Bool, true, false, cond, not, ◌==◌, ◌&&◌, ◌||◌, List, [], ◌∷◌, ◌++◌, length}
 use Rattle.std.proofs.Common.{take, drop, refl, sym, ap, ◌∙◌, subst, ◌⊎◌, inl, inr, arith, take-append-drop, length-take-le, length-drop, length-append, leb, ltb, eqb, eq-eqb}
 use Rattle.std.specs.Prelude.{All, Contains, filter, slice_index_or}
@@ -38,16 +38,16 @@ pub apart-sym : (p q : Extent) → Disjoint p q → Disjoint q p
 apart-sym p q (inl a) = inr a
 apart-sym p q (inr a) = inl a
 
--- a place that is apart from those out has no byte out
-pub is_allocated-apart : (out : List Extent) (p : Extent) (k : ℕ) → All (Disjoint p) out → IsIn p k → is_allocated out k ≡ false
-is_allocated-apart out p k apart h =
-    list_any_none (λ q. covers q k) out (λ i d w. covers-beside (slice_index_or out i d) k (beside-apart p (slice_index_or out i d) k (apart i d w) h))
+-- an extent that is apart from those allocated has no byte allocated
+pub is_allocated-apart : (allocated : List Extent) (p : Extent) (k : ℕ) → All (Disjoint p) allocated → IsIn p k → is_allocated allocated k ≡ false
+is_allocated-apart allocated p k apart h =
+    list_any_none (λ q. covers q k) allocated (λ i d w. covers-beside (slice_index_or allocated i d) k (beside-apart p (slice_index_or allocated i d) k (apart i d w) h))
 
-pub is_allocated-cons_in : (out : List Extent) (p : Extent) (k : ℕ) → IsIn p k → is_allocated (p ∷ out) k ≡ true
-is_allocated-cons_in out p k h = rw (covers-in p k h) refl
+pub is_allocated-cons_in : (allocated : List Extent) (p : Extent) (k : ℕ) → IsIn p k → is_allocated (p ∷ allocated) k ≡ true
+is_allocated-cons_in allocated p k h = rw (covers-in p k h) refl
 
-pub is_allocated-cons_beside : (out : List Extent) (p : Extent) (k : ℕ) → IsBeside p k → is_allocated out k ≡ is_allocated (p ∷ out) k
-is_allocated-cons_beside out p k h = rw (covers-beside p k h) refl
+pub is_allocated-cons_beside : (allocated : List Extent) (p : Extent) (k : ℕ) → IsBeside p k → is_allocated allocated k ≡ is_allocated (p ∷ allocated) k
+is_allocated-cons_beside allocated p k h = rw (covers-beside p k h) refl
 
 any-filter_same : {X : Type 0} (t f : X → Bool) (xs : List X) → All (λ x. (t x ≡ true) ⊎ (f x ≡ false)) xs → list_any f (filter t xs) ≡ list_any f xs
 any-filter_same t f [] h = refl
@@ -70,17 +70,17 @@ any-filter_none {X} t f (x ∷ xs) h =
     ]
 
 -- two blocks that begin at one place are one, and others are apart
-same_or_apart : (size : ℕ) (out : List Extent) (p : Extent) → AreDisjoint size out → Contains out p → (i : ℕ) (d : Extent) → i < length out
-    → (slice_index_or out i d ≡ p) ⊎ Disjoint p (slice_index_or out i d)
-same_or_apart size out p blocks has i d w =
+same_or_apart : (size : ℕ) (allocated : List Extent) (p : Extent) → AreDisjoint size allocated → Contains allocated p → (i : ℕ) (d : Extent) → i < length allocated
+    → (slice_index_or allocated i d ≡ p) ⊎ Disjoint p (slice_index_or allocated i d)
+same_or_apart size allocated p blocks has i d w =
     let j = has.0 in
-    let at_j : slice_index_or out j d ≡ p = get_or_default out j d p has.1 ∙ has.2 in
+    let at_j : slice_index_or allocated j d ≡ p = get_or_default allocated j d p has.1 ∙ has.2 in
     elim (leb_tells i j) [
       | inl low ↦ elim (eq-or-lt_of_le low.1) [
-        | inl e ↦ inl (ap (λ k. slice_index_or out k d) e ∙ at_j)
-        | inr below ↦ inr (apart-sym (slice_index_or out i d) p (subst (λ q. Disjoint (slice_index_or out i d) q) at_j (blocks.1 i j d below has.1)))
+        | inl e ↦ inl (ap (λ k. slice_index_or allocated k d) e ∙ at_j)
+        | inr below ↦ inr (apart-sym (slice_index_or allocated i d) p (subst (λ q. Disjoint (slice_index_or allocated i d) q) at_j (blocks.1 i j d below has.1)))
       ]
-      | inr high ↦ inr (subst (λ q. Disjoint q (slice_index_or out i d)) at_j (blocks.1 j i d high.1 w))
+      | inr high ↦ inr (subst (λ q. Disjoint q (slice_index_or allocated i d)) at_j (blocks.1 j i d high.1 w))
     ]
 
 -- a place that begins where p does is not apart from p
@@ -88,31 +88,31 @@ begins_elsewhere : (p q : Extent) → 0 < p.len → 0 < q.len → Disjoint p q �
 begins_elsewhere p q some more (inl a) = ne_eqb q.start p.start (λ e. omega (arith, a, some, e))
 begins_elsewhere p q some more (inr a) = ne_eqb q.start p.start (λ e. omega (arith, a, more, e))
 
-pub is_allocated-has : (out : List Extent) (p : Extent) (k : ℕ) → Contains out p → IsIn p k → is_allocated out k ≡ true
-is_allocated-has out p k has h = list_any_at (λ q. covers q k) out has.0 p has.1 (rw has.2 (covers-in p k h))
+pub is_allocated-has : (allocated : List Extent) (p : Extent) (k : ℕ) → Contains allocated p → IsIn p k → is_allocated allocated k ≡ true
+is_allocated-has allocated p k has h = list_any_at (λ q. covers q k) allocated has.0 p has.1 (rw has.2 (covers-in p k h))
 
-module _ (size : ℕ) (out : List Extent) (p : Extent) (blocks : AreDisjoint size out) (has : Contains out p) where
+module _ (size : ℕ) (allocated : List Extent) (p : Extent) (blocks : AreDisjoint size allocated) (has : Contains allocated p) where
   pub within_blocks : IsWithin size p
-  within_blocks = All-contains (IsWithin size) out p blocks.0 has
+  within_blocks = All-contains (IsWithin size) allocated p blocks.0 has
 
-  pub is_allocated-without_in : (k : ℕ) → IsIn p k → is_allocated (remove_extent p out) k ≡ false
+  pub is_allocated-without_in : (k : ℕ) → IsIn p k → is_allocated (remove_extent p allocated) k ≡ false
   is_allocated-without_in k h =
-      any-filter_none (λ q. not (q.start == p.start)) (λ q. covers q k) out (λ i d w.
-      elim (same_or_apart size out p blocks has i d w) [
+      any-filter_none (λ q. not (q.start == p.start)) (λ q. covers q k) allocated (λ i d w.
+      elim (same_or_apart size allocated p blocks has i d w) [
         | inl e ↦ inl (rw e (rw (eqb-same p.start) refl))
-        | inr a ↦ inr (covers-beside (slice_index_or out i d) k (beside-apart p (slice_index_or out i d) k a h))
+        | inr a ↦ inr (covers-beside (slice_index_or allocated i d) k (beside-apart p (slice_index_or allocated i d) k a h))
       ])
 
-  pub is_allocated-without_beside : (k : ℕ) → IsBeside p k → is_allocated out k ≡ is_allocated (remove_extent p out) k
+  pub is_allocated-without_beside : (k : ℕ) → IsBeside p k → is_allocated allocated k ≡ is_allocated (remove_extent p allocated) k
   is_allocated-without_beside k h =
-      sym (any-filter_same (λ q. not (q.start == p.start)) (λ q. covers q k) out (λ i d w.
-      elim (same_or_apart size out p blocks has i d w) [
+      sym (any-filter_same (λ q. not (q.start == p.start)) (λ q. covers q k) allocated (λ i d w.
+      elim (same_or_apart size allocated p blocks has i d w) [
         | inl e ↦ inr (rw e (covers-beside p k h))
-        | inr a ↦ inl (rw (begins_elsewhere p (slice_index_or out i d) within_blocks.0 (blocks.0 i d w).0 a) refl)
+        | inr a ↦ inl (rw (begins_elsewhere p (slice_index_or allocated i d) within_blocks.0 (blocks.0 i d w).0 a) refl)
       ]))
 
-  pub AreDisjoint-remove_extent : AreDisjoint size (remove_extent p out)
-  AreDisjoint-remove_extent = (All-filter (λ q. not (q.start == p.start)) (IsWithin size) out blocks.0, AllPairs-filter Disjoint (λ q. not (q.start == p.start)) out blocks.1)
+  pub AreDisjoint-remove_extent : AreDisjoint size (remove_extent p allocated)
+  AreDisjoint-remove_extent = (All-filter (λ q. not (q.start == p.start)) (IsWithin size) allocated blocks.0, AllPairs-filter Disjoint (λ q. not (q.start == p.start)) allocated blocks.1)
 
 -- the bytes before a place, in it and behind it
 pub three_parts : (at n : ℕ) (xs : List ℕ) → xs ≡ take at xs ++ (take n (drop at xs) ++ drop n (drop at xs))
@@ -125,8 +125,8 @@ pub beside_place : (p : Extent) (k m l : ℕ) → m ≡ p.start → l ≡ p.len 
 beside_place p k m l e f (inl h) = inl (omega (arith, e, f, h))
 beside_place p k m l e f (inr h) = inr (omega (arith, e, f, h))
 
-pub AreDisjoint-cons : (size : ℕ) (p : Extent) (out : List Extent) → IsWithin size p → All (Disjoint p) out → AreDisjoint size out → AreDisjoint size (p ∷ out)
-AreDisjoint-cons size p out within apart blocks = (All-cons (IsWithin size) p out within blocks.0, AllPairs-cons Disjoint p out apart blocks.1)
+pub AreDisjoint-cons : (size : ℕ) (p : Extent) (allocated : List Extent) → IsWithin size p → All (Disjoint p) allocated → AreDisjoint size allocated → AreDisjoint size (p ∷ allocated)
+AreDisjoint-cons size p allocated within apart blocks = (All-cons (IsWithin size) p allocated within blocks.0, AllPairs-cons Disjoint p allocated apart blocks.1)
 
 pub length-written : (bytes ws : List ℕ) (at : ℕ) → at + length ws ≤ length bytes → length (written bytes at ws) ≡ length bytes
 length-written bytes ws at h =

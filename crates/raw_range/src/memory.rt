@@ -5,7 +5,7 @@ ghost use base.Fml.{ftrue, fex, fall, fwand, fsep, feq};
 ghost use denote.RawPtr.{Ptr, ◌+ₚ◌};
 ghost use Rattle.layout.specs.Extents.{Extent, extent, Disjoint, AreDisjoint, IsWithin};
 ghost use Rattle.raw_range.specs.Memory.{remove_extent, written};
-ghost use Rattle.raw_range.specs.inside.Ownership.{Buffer, buffer_code, IsPlaced, run_owns, held_owns};
+ghost use Rattle.raw_range.specs.inside.Ownership.{Buffer, buffer_code, IsPlaced, run_owns, unallocated_owns};
 
 use std::alloc::Allocator;
 use std::marker::{Model, Move, Owns};
@@ -31,7 +31,7 @@ impl Model for Run {
     ghost also_owns = { λ r. run_owns r.ptr r.items };
 }
 
-// A `Vec` whose elements are out as a `Run`.
+// A `Vec` whose elements are in the hands of a `Run`.
 pub(crate) struct Sole<A: Allocator> {
     pub(crate) vec: Vec<u8, A>,
 }
@@ -48,16 +48,16 @@ impl<A: Allocator> Move for Sole<A> {
     ghost own_val = { λ e vs. fex Inside (λ v. fsep (feq ℕ v.vec.len e.len) (fall (List ℕ) (λ xs. fwand (fsep (feq ℕ (length xs) e.len) (run_owns e.ptr xs)) (Fields.own_val (record { vec = with_items v.vec xs }) vs)))) };
 }
 
-// Those of `bytes` at `ptr` that lie in no place of `out`.
+// The bytes of a range that are not allocated: those of `bytes` at `ptr` that lie in no extent of `allocated`.
 #[derive(Drop)]
-pub(crate) struct Held {
+pub(crate) struct Unallocated {
     ghost ptr: { Ptr },
-    ghost out: { List Extent },
+    ghost allocated: { List Extent },
     ghost bytes: { List ℕ },
 }
 
-impl Model for Held {
-    ghost also_owns = { λ h. held_owns h.ptr h.out h.bytes };
+impl Model for Unallocated {
+    ghost also_owns = { λ h. unallocated_owns h.ptr h.allocated h.bytes };
 }
 
 unsafe impl Send for Run {}
@@ -65,49 +65,49 @@ unsafe impl Send for Run {}
 // A `&` to it shows nothing.
 unsafe impl<A: Allocator + Send> Send for Sole<A> {}
 
-unsafe impl Send for Held {}
+unsafe impl Send for Unallocated {}
 
-impl Held {
+impl Unallocated {
     // No byte at all.
-    pub(crate) fn nothing() -> Held
-        ensures { (result.out ≡ []) × (result.bytes ≡ []) }
+    pub(crate) fn empty() -> Unallocated
+        ensures { (result.allocated ≡ []) × (result.bytes ≡ []) }
     {
-        Held {}
+        Unallocated {}
     }
 
-    pub(crate) fn all(run: Run) -> Held
-        ensures { (result.ptr ≡ run.ptr) × IsPlaced result.ptr × (result.out ≡ []) × (result.bytes ≡ run.items) }
+    pub(crate) fn from_run(run: Run) -> Unallocated
+        ensures { (result.ptr ≡ run.ptr) × IsPlaced result.ptr × (result.allocated ≡ []) × (result.bytes ≡ run.items) }
     {
         let Run {} = run;
-        Held {}
+        Unallocated {}
     }
 
-    // Every byte, once no place is out.
+    // Every byte, once no extent is allocated.
     pub(crate) fn into_run(self) -> Run
-        requires { IsPlaced self.ptr × (self.out ≡ []) }
+        requires { IsPlaced self.ptr × (self.allocated ≡ []) }
         ensures { (result.ptr ≡ self.ptr) × (result.items ≡ self.bytes) }
     {
-        let Held {} = self;
+        let Unallocated {} = self;
         Run {}
     }
 
-    // Takes the bytes of a place out.
-    pub(crate) fn lend(self, at: usize, len: usize) -> (Held, Run)
-        requires { IsPlaced self.ptr × (at + len ≤ length self.bytes) × All (Disjoint (extent at len)) self.out }
-        ensures { (result.0.ptr ≡ self.ptr) × (result.0.out ≡ extent at len ∷ self.out) × (result.0.bytes ≡ self.bytes)
+    // Parts with the bytes of an extent, which is allocated from then on.
+    pub(crate) fn allocate(self, at: usize, len: usize) -> (Unallocated, Run)
+        requires { IsPlaced self.ptr × (at + len ≤ length self.bytes) × All (Disjoint (extent at len)) self.allocated }
+        ensures { (result.0.ptr ≡ self.ptr) × (result.0.allocated ≡ extent at len ∷ self.allocated) × (result.0.bytes ≡ self.bytes)
             × (result.1.ptr ≡ self.ptr +ₚ at) × (result.1.items ≡ take len (drop at self.bytes)) }
     {
-        let Held {} = self;
-        (Held {}, Run {})
+        let Unallocated {} = self;
+        (Unallocated {}, Run {})
     }
 
-    // Takes the bytes of a place that is out back.
-    pub(crate) fn regain(self, at: usize, run: Run) -> Held
-        requires { IsPlaced self.ptr × (run.ptr ≡ self.ptr +ₚ at) × AreDisjoint (length self.bytes) self.out × Contains self.out (extent at (length run.items)) }
-        ensures { (result.ptr ≡ self.ptr) × (result.out ≡ remove_extent (extent at (length run.items)) self.out) × (result.bytes ≡ written self.bytes at run.items) }
+    // Takes the bytes of an allocated extent back.
+    pub(crate) fn deallocate(self, at: usize, run: Run) -> Unallocated
+        requires { IsPlaced self.ptr × (run.ptr ≡ self.ptr +ₚ at) × AreDisjoint (length self.bytes) self.allocated × Contains self.allocated (extent at (length run.items)) }
+        ensures { (result.ptr ≡ self.ptr) × (result.allocated ≡ remove_extent (extent at (length run.items)) self.allocated) × (result.bytes ≡ written self.bytes at run.items) }
     {
-        let Held {} = self;
+        let Unallocated {} = self;
         let Run {} = run;
-        Held {}
+        Unallocated {}
     }
 }

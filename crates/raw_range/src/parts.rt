@@ -23,7 +23,7 @@ pub(crate) fn attach<A: Allocator>(run: Run, sole: Sole<A>) -> Vec<u8, A>
 }
 
 // A `Vec` over the run, which neither grows nor frees it.
-pub(crate) fn house(ptr: *mut u8, len: usize, run: Run) -> Vec<u8, Lodged>
+pub(crate) fn lodge_run(ptr: *mut u8, len: usize, run: Run) -> Vec<u8, Lodged>
     requires { (run.ptr ≡ ptr) × (length run.items ≡ len) × (0 < len) × (len < 2 ^ 63) }
     ensures { (result.items ≡ run.items) × (result.len ≡ len) × (result.cap ≡ len)
         × (result.ptr ≡ ptr) }
@@ -32,7 +32,7 @@ pub(crate) fn house(ptr: *mut u8, len: usize, run: Run) -> Vec<u8, Lodged>
     unsafe { lodge(ptr, len, len) }
 }
 
-pub(crate) fn vacate(vec: Vec<u8, Lodged>) -> Run
+pub(crate) fn dislodge_run(vec: Vec<u8, Lodged>) -> Run
     requires { 0 < vec.len }
     ensures { (result.ptr ≡ vec.ptr) × (result.items ≡ vec.items) }
 {

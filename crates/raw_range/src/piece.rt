@@ -1,13 +1,13 @@
-ghost use Rattle.std.specs.Prelude.{◌≡◌, ◌+◌, ◌≤◌, length, take, drop};
+ghost use Rattle.std.specs.Prelude.{◌≡◌, ◌+◌, ◌≤◌, ℕ, List, length, take, drop};
 ghost use Rattle.std.specs.Borrow.{sem};
-ghost use Rattle.raw_range.specs.Writes.{LendsBytes, LendsPart, LendsRun, LendsFitted};
+ghost use Rattle.raw_range.specs.Writes.{IsSamePiece, rewritten, part_rewritten, LendsBytes, LendsPart, LendsRun, LendsFitted};
 
 use crate::memory::Base;
 use std::marker::Model;
 use std_alloc::vec::Lodged;
 
 /// Bytes of a `Range`, side by side, in the hands of whoever has the piece. No other piece of the range
-/// has one of them. It may go to another thread. One that is dropped stays out for good.
+/// has one of them. It may go to another thread. One that is dropped stays allocated for good.
 #[derive(Drop)]
 pub struct Piece {
     pub(crate) memory: Vec<u8, Lodged>,
@@ -62,16 +62,18 @@ impl Piece {
     /// The same, for writing. The piece keeps its place, length, owner and range.
     pub fn bytes_mut(&mut self) -> &mut [u8]
         ensures* lends { sem 𝓛 (LendsBytes self.entry result) }
+        ensures keeps { (ws : List ℕ) → IsSamePiece self.old (rewritten self.old ws) }
         ensures value { result.now ≡ self.old.bytes }
     {
         let len = self.memory.len();
         self.memory.slice_mut(0..len)
     }
 
-    /// `len` of its bytes, from the byte `at` of the piece on.
+    /// `len` of its bytes, from the byte `at` of the piece on, for writing. The piece keeps what `bytes_mut` says.
     pub fn part_mut(&mut self, at: usize, len: usize) -> &mut [u8]
         requires { at + len ≤ length self.old.bytes }
         ensures* lends { sem 𝓛 (LendsPart self.entry at len result) }
+        ensures keeps { (ws : List ℕ) → IsSamePiece self.old (part_rewritten self.old at len ws) }
         ensures value { result.now ≡ take len (drop at self.old.bytes) }
     {
         fitted(&mut self.memory, at, len)

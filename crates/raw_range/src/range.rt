@@ -3,8 +3,8 @@ ghost use Rattle.layout.specs.Extents.{extent, Disjoint, AreDisjoint};
 ghost use Rattle.layout.specs.Sizes.{page, most_pages, most_pieces};
 ghost use Rattle.raw_range.specs.Memory.{extent_of, with_allocated, remove_extent, written};
 
-use crate::memory::{Base, Held, Sole};
-use crate::parts::{attach, detach, house, vacate};
+use crate::memory::{Base, Sole, Unallocated};
+use crate::parts::{attach, detach, dislodge_run, lodge_run};
 use crate::piece::Piece;
 use layout::PAGE;
 use std::alloc::{AllocError, Global};
@@ -16,7 +16,7 @@ use std::mem::ManuallyDrop;
 /// is not freed: only [`Range::finish`] gives its memory back.
 #[derive(Drop)]
 pub struct Range {
-    held: Held,
+    unallocated: Unallocated,
     sole: ManuallyDrop<Sole<Global>>,
     base: Base,
     owner: u32,
@@ -35,9 +35,9 @@ impl Model for Range {
 
     ghost coded = { memory_code };
 
-    ghost view = { λ r. record { home = r.base.ptr; owner = r.owner; pages = r.pages; allocated = r.held.out; bytes = r.held.bytes } };
+    ghost view = { λ r. record { home = r.base.ptr; owner = r.owner; pages = r.pages; allocated = r.unallocated.allocated; bytes = r.unallocated.bytes } };
 
-    ghost invariant = { λ r. (length r.held.bytes ≡ page * r.pages) × (r.held.ptr ≡ r.base.ptr) × IsPlaced r.base.ptr × AreDisjoint (length r.held.bytes) r.held.out × ((manually_drop_value r.sole).ptr ≡ r.base.ptr) × ((manually_drop_value r.sole).len ≡ page * r.pages) };
+    ghost invariant = { λ r. (length r.unallocated.bytes ≡ page * r.pages) × (r.unallocated.ptr ≡ r.base.ptr) × IsPlaced r.base.ptr × AreDisjoint (length r.unallocated.bytes) r.unallocated.allocated × ((manually_drop_value r.sole).ptr ≡ r.base.ptr) × ((manually_drop_value r.sole).len ≡ page * r.pages) };
 }
 
 impl Range {
@@ -57,7 +57,7 @@ impl Range {
         };
         let (run, sole) = detach(vec);
         Ok(Range {
-            held: Held::all(run),
+            unallocated: Unallocated::from_run(run),
             sole: unsafe { ManuallyDrop::new_unchecked(sole) },
             base,
             owner,
@@ -76,12 +76,12 @@ impl Range {
         ensures allocated { self.new ≡ with_allocated self.old (extent at len ∷ self.old.allocated) self.old.bytes }
         ensures blocks { AreDisjoint (page * self.new.pages) self.new.allocated }
     {
-        let held = mem::replace(&mut self.held, Held::nothing());
-        let (held, run) = held.lend(at as usize, len as usize);
-        self.held = held;
+        let free = mem::replace(&mut self.unallocated, Unallocated::empty());
+        let (free, run) = free.allocate(at as usize, len as usize);
+        self.unallocated = free;
         let start = unsafe { self.base.ptr.byte_add(at as usize) };
         Piece {
-            memory: house(start, len as usize, run),
+            memory: lodge_run(start, len as usize, run),
             base: self.base,
             at,
             owner: self.owner,
@@ -101,23 +101,31 @@ impl Range {
             at,
             owner: _,
         } = piece;
-        let run = vacate(memory);
-        let held = mem::replace(&mut self.held, Held::nothing());
-        self.held = held.regain(at as usize, run);
+        let run = dislodge_run(memory);
+        let free = mem::replace(&mut self.unallocated, Unallocated::empty());
+        self.unallocated = free.deallocate(at as usize, run);
     }
 
     /// Gives the memory back, once every piece is.
     pub fn finish(self)
         requires { self.allocated ≡ [] }
     {
+        drop(self.into_vec());
+    }
+
+    // The vector that the range was made of, whose drop frees it: all pages, with the bytes that they have now.
+    fn into_vec(self) -> Vec<u8, Global>
+        requires { self.allocated ≡ [] }
+        ensures bytes { result.items ≡ self.bytes }
+        ensures len { result.len ≡ page * self.pages }
+    {
         let Range {
-            held,
+            unallocated,
             sole,
             base: _,
             owner: _,
             pages: _,
         } = self;
-        let run = held.into_run();
-        drop(attach(run, ManuallyDrop::into_inner(sole)));
+        attach(unallocated.into_run(), ManuallyDrop::into_inner(sole))
     }
 }

@@ -4,8 +4,8 @@ use std::test::Fail;
 use std::thread;
 
 fn is_filled_with(piece: &Piece, byte: u8) -> bool {
-    for held in piece.bytes() {
-        if *held != byte {
+    for own in piece.bytes() {
+        if *own != byte {
             return false;
         }
     }

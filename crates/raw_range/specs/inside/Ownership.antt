@@ -27,16 +27,16 @@ IsPlaced p = p ≡ block_ptr (block_of p) (count_of p)
 abbrev pub run_owns : Ptr → List ℕ → Fml
 run_owns p xs = lies_at (Array u8 (length xs)) full_share p xs
 
--- the byte x at b, o, unless it is out
+-- the byte x at b, o, unless it is allocated
 abbrev pub byte_owns : Bool → ℕ → ℕ → ℕ → Fml
 byte_owns true b o x = ftrue
 byte_owns false b o x = part_at u8 full_share x b o
 
--- those of the bytes xs that are not out; the first lies at b, o and has the number i
+-- those of the bytes xs that are not allocated; the first lies at b, o and has the number i
 abbrev pub rest_owns : List Extent → ℕ → ℕ → ℕ → List ℕ → Fml
-rest_owns out b o i [] = ftrue
-rest_owns out b o i (x ∷ xs) = fsep (byte_owns (is_allocated out i) b o x) (rest_owns out b (o + 1) (i + 1) xs)
+rest_owns allocated b o i [] = ftrue
+rest_owns allocated b o i (x ∷ xs) = fsep (byte_owns (is_allocated allocated i) b o x) (rest_owns allocated b (o + 1) (i + 1) xs)
 
--- those of the bytes xs at p that are not out
-abbrev pub held_owns : Ptr → List Extent → List ℕ → Fml
-held_owns p out xs = rest_owns out (block_of p) (count_of p) 0 xs
+-- those of the bytes xs at p that are not allocated
+abbrev pub unallocated_owns : Ptr → List Extent → List ℕ → Fml
+unallocated_owns p allocated xs = rest_owns allocated (block_of p) (count_of p) 0 xs

@@ -1,4 +1,4 @@
--- `detach` takes the bytes out, and leaves the way back. Assumes `Logic`.
+-- `detach` takes the bytes away, and leaves the way back. Assumes `Logic`.
 use Rattle.std.proofs.Common.{◌<◌, List, [], ◌∷◌, ◌++◌, refl}
 use seplogic.Ra.Ura.{Ura}
 use mir.Syntax.{Fn, Args, Dict, a_type, dcons, dnil}

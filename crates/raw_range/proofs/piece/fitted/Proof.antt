@@ -3,7 +3,7 @@ use Rattle.std.proofs.Common.{◌≡◌, ℕ, List, [], ◌∷◌, ◌+◌, ◌�
 use Rattle.std.specs.List.{refill}
 use Rattle.std.specs.Vec.{with_items_from}
 use Rattle.std.proofs.raw_atomic.Walks.{proved}
-use Rattle.raw_range.proofs.Lodging.{Housed}
+use Rattle.raw_range.proofs.Lodging.{LodgedBytes}
 use lib.Seq.{take_at as take_front}
 use seplogic.Ra.Ura.{Ura}
 use mir.Syntax.{named}
@@ -43,7 +43,7 @@ use Rattle.raw_range.specs.contracts.piece.part_of as g
 use Rattle.raw_range.proofs.piece.part_of.Met.{met}
 
 abbrev stayed : Stays f.ended.signature.params f.ended.kept
-stayed = (stay_dropped (mut_ref_to (0 ∷ []) tt (plain (λ _. Housed))) no, (stay_dropped (plain (λ _. usize)) yes, (stay_dropped (plain (λ _. usize)) yes, tt)))
+stayed = (stay_dropped (mut_ref_to (0 ∷ []) tt (plain (λ _. LodgedBytes))) no, (stay_dropped (plain (λ _. usize)) yes, (stay_dropped (plain (λ _. usize)) yes, tt)))
 
 module _ {M : Type 1} {𝓤 : Ura M} (𝓛 : Logic 𝓤) (κ : Lft) (q : Share) (b o : ℕ) (γ : GName) (xs : List ℕ) (rm : Room u8 (length xs)) where
   open 𝓛 use {H, A}
@@ -75,9 +75,9 @@ module _ {M : Type 1} {𝓤 : Ura M} (𝓛 : Logic 𝓤) (κ : Lft) (q : Share) 
 pub fitted_spec : {M : Type 1} → statement M
 fitted_spec 𝓤 𝓛 𝓜 𝓡 wired =
     let c = f.clauses 𝓛 𝓜.mem 𝓡.returns in
-    proved 𝓛 f.ended stayed c 𝓜 𝓡 (Goes-spent_ref 𝓛 1 (0 ∷ []) tt (plain (λ _. Housed)), (Goes-dropped 𝓛 1 (plain (λ _. usize)) yes (λ κs x w. refl), (Goes-dropped 𝓛 1 (plain (λ _. usize)) yes (λ κs x w. refl), tt)))
+    proved 𝓛 f.ended stayed c 𝓜 𝓡 (Goes-spent_ref 𝓛 1 (0 ∷ []) tt (plain (λ _. LodgedBytes)), (Goes-dropped 𝓛 1 (plain (λ _. usize)) yes (λ κs x w. refl), (Goes-dropped 𝓛 1 (plain (λ _. usize)) yes (λ κs x w. refl), tt)))
     f.Key.name code.function (code.unfolded 𝓤 𝓛.H 𝓜 𝓡 wired)
-    (λ κs. (mut_vals, (uint_vals w64, (uint_vals w64, tt)))) (λ κs. (mut_Tells (named 0) κs.0 Housed, (uint_Tells w64, (uint_Tells w64, tt)))) (λ κs qs bounds a _ are.
+    (λ κs. (mut_vals, (uint_vals w64, (uint_vals w64, tt)))) (λ κs. (mut_Tells (named 0) κs.0 LodgedBytes, (uint_Tells w64, (uint_Tells w64, tt)))) (λ κs qs bounds a _ are.
     let κ = κs.0 in let q = qs.0 in let m = a.0 in let at = a.1.0 in let len = a.1.1.0 in
     let content = take len (drop_list at m.now.items) in
     let F = with_items_from m.now at in
@@ -93,7 +93,7 @@ fitted_spec 𝓤 𝓛 𝓜 𝓡 wired =
     calls_at ! (framed 𝓤 𝓛.H 𝓜 (tables 𝓤 𝓛.H 𝓜 𝓡 𝓡.env)) G (met 𝓤 𝓛 𝓜 𝓡 (code.calls-raw_range::piece::part_of 𝓡.env wired)) z
     (and_then ! (get ! refl) (and_then ! (get ! refl) (and_then ! (get ! refl) (no_more !)))) (λ v.
     use1 𝓛 (later (some (λ (r : MutBor (List ℕ)). ((‵ (flft κ q) ⊛ ‵ ftrue) ⊛ ‵ ((MutSlice (named 0) κ u8).own_val r (v ∷ []))) ⊛
-    some (λ (ws : Unit {0} × (Unit {0} × (Unit {0} × Unit {0}))). ‵ (lasts g.ended κs a ws) ⊛ (‵ (follows Housed (Array u8 0) m.ghost_name r.ghost_name F) ⊛ raw (fact 𝓤 (r.now ≡ content))))))) (id⊢ 𝓤 _) $
+    some (λ (ws : Unit {0} × (Unit {0} × (Unit {0} × Unit {0}))). ‵ (lasts g.ended κs a ws) ⊛ (‵ (follows LodgedBytes (Array u8 0) m.ghost_name r.ghost_name F) ⊛ raw (fact 𝓤 (r.now ≡ content))))))) (id⊢ 𝓤 _) $
     await ! tt $ pick ! (λ r. split ! $ split ! $ split ! $
     -- [the token; nothing; the bytes; the rest of what the call leaves]
     move ! (3 ∷ []) $ pick ! (λ ws. split ! $ drop ! $ split ! $ move ! (1 ∷ []) $ heard ! (r.now ≡ content) (λ is.
@@ -104,9 +104,9 @@ fitted_spec 𝓤 𝓛 𝓜 𝓡 wired =
     move ! (0 ∷ 1 ∷ 3 ∷ []) $
     use3 𝓛 (later (some (lent 𝓛 κ q r.ref_ptr.0 r.ref_ptr.1 r.ghost_name r.now (few, small)))) (lends 𝓛 κ q r.ref_ptr.0 r.ref_ptr.1 r.ghost_name r.now (few, small)) $ await ! tt $ pick ! (λ δ. split3 ! $
     move ! (3 ∷ 2 ∷ []) $
-    use2 𝓛 (‵ (follows Housed (Array u8 0) m.ghost_name δ (λ ws. F (refill (length r.now) r.now ws)))) (follows_then 𝓛 Housed (Array u8 0) (Array u8 0) F (refill (length r.now) r.now) m.ghost_name r.ghost_name δ) $
-    rewrite ! 0 (λ (l : List ℕ). ‵ (follows Housed (Array u8 0) m.ghost_name δ (λ ws. F (refill (length l) l ws)))) is refl $
-    rewrite ! 0 (λ (k : ℕ). ‵ (follows Housed (Array u8 0) m.ghost_name δ (λ ws. F (refill k content ws)))) long refl $
+    use2 𝓛 (‵ (follows LodgedBytes (Array u8 0) m.ghost_name δ (λ ws. F (refill (length r.now) r.now ws)))) (follows_then 𝓛 LodgedBytes (Array u8 0) (Array u8 0) F (refill (length r.now) r.now) m.ghost_name r.ghost_name δ) $
+    rewrite ! 0 (λ (l : List ℕ). ‵ (follows LodgedBytes (Array u8 0) m.ghost_name δ (λ ws. F (refill (length l) l ws)))) is refl $
+    rewrite ! 0 (λ (k : ℕ). ‵ (follows LodgedBytes (Array u8 0) m.ghost_name δ (λ ws. F (refill k content ws)))) long refl $
     returns ! (look_at ! 0 refl) $ free_all ! refl $ keep ! (1 ∷ 2 ∷ 0 ∷ []) $
     suffices ! _ (ends_at 𝓛 f.ended stayed c z (slice_val r.ref_ptr (length r.now)) (record { ref_ptr = r.ref_ptr; ghost_name = δ; now = r.now }) (tt, (tt, (tt, tt))) (tt, (tt, (tt, tt)))) $
     nothing ! $ nothing ! $ fjoin ! $ nothing ! $ fjoin ! $ nothing ! $ fjoin ! $ join ! $ nothing ! $ move ! (2 ∷ 0 ∷ []) $ join ! $ join ! $ frame ! $ says ! is $ done !)))))))))))

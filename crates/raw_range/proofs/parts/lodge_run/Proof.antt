@@ -1,4 +1,4 @@
--- `house` hands the run to `lodge`. Assumes `Logic`.
+-- `lodge_run` hands the run to `lodge`. Assumes `Logic`.
 use Rattle.std.proofs.Common.{◌≡◌, ℕ, ◌^◌, ◌<◌, List, [], ◌∷◌, ◌++◌, length, refl, sym, ap, ◌∙◌, subst, Vec}
 use seplogic.Ra.Ura.{Ura}
 use mir.Syntax.{Fn, Callee, a_type, w64, seq, assign, place, rv_opd, copy, return}
@@ -35,11 +35,11 @@ use Rattle.std_alloc.specs.declared.vec.lodged.Lodged.{Lodged}
 use Rattle.std_alloc.specs.contracts.vec.lodge.Key.{name as callee_name}
 use Rattle.std_alloc.proofs.vec.lodge.Met as callee
 use Rattle.raw_range.specs.inside.Ownership.{run_owns}
-use Rattle.raw_range.proofs.Lodging.{byte_laws, Housed, housed-laws, Lodges, at_lodge, IsLodged, lodge_goes, lodge_gives}
-use Rattle.raw_range.specs.contracts.parts.house as F
-use Rattle.raw_range.specs.contracts.parts.house.Key.{name as #self}
-use Rattle.raw_range.proofs.parts.house.Statement as stated
-use Rattle.raw_range.proofs.parts.house.Code as code
+use Rattle.raw_range.proofs.Lodging.{byte_laws, LodgedBytes, lodged_bytes-laws, Lodges, at_lodge, IsLodged, lodge_goes, lodge_gives}
+use Rattle.raw_range.specs.contracts.parts.lodge_run as F
+use Rattle.raw_range.specs.contracts.parts.lodge_run.Key.{name as #self}
+use Rattle.raw_range.proofs.parts.lodge_run.Statement as stated
+use Rattle.raw_range.proofs.parts.lodge_run.Code as code
 
 abbrev key : Callee
 key = callee_name (layouts (a_type ∷ []) (u8, tt))
@@ -85,10 +85,10 @@ module _ {M : Type 1} {𝓤 : Ura M} (𝓛 : Logic 𝓤) (at_mem : Memory → SP
         enter ! C Λ function (vptr b o ∷ vint w64 n ∷ none ∷ []) Post $ alloc_all ! (λ l. pass_all ! refl ((tt, tt), ((tt, record { fits = fits }), ((tt, tt), tt))) $
         first ! $ blocks ! $ use1 𝓛 (raw ((Lodges 𝓛 at_mem run).pre y)) (lodge_goes 𝓛 at_mem run b o n xs asked.1 asked.2 asked.3) $
         calls_at_last ! framed (Lodges 𝓛 at_mem run) called y (and_then ! (get ! refl) (and_then ! (get ! refl) (and_then ! (get ! refl) (no_more !)))) (λ v.
-        use1 𝓛 (later (some (λ (r : Vec ℕ Lodged). given (IsLodged 𝓛 at_mem run b o n xs r) (‵ (Housed.own_val r (v ∷ [])))))) (lodge_gives 𝓛 at_mem run b o n xs v) $
-        await ! tt $ pick ! (λ r. learn ! (λ is. tells ! Housed housed-laws r (v ∷ []) (λ u same good.
-        let fine : Good Housed v = subst (Good Housed) (sym (ap only same)) good in
-        rewrite ! 0 (λ w. ‵ (Housed.own_val r (w ∷ []))) (sym (ap only same)) refl $ lands_last ! refl fine $
+        use1 𝓛 (later (some (λ (r : Vec ℕ Lodged). given (IsLodged 𝓛 at_mem run b o n xs r) (‵ (LodgedBytes.own_val r (v ∷ [])))))) (lodge_gives 𝓛 at_mem run b o n xs v) $
+        await ! tt $ pick ! (λ r. learn ! (λ is. tells ! LodgedBytes lodged_bytes-laws r (v ∷ []) (λ u same good.
+        let fine : Good LodgedBytes v = subst (Good LodgedBytes) (sym (ap only same)) good in
+        rewrite ! 0 (λ w. ‵ (LodgedBytes.own_val r (w ∷ []))) (sym (ap only same)) refl $ lands_last ! refl fine $
         exec ! C Λ (env function.locals l) (seq (assign (place 0 []) (rv_opd (copy (place 4 [])))) return) (at_ret (env function.locals l) Post) $
         sets ! (of_opd ! (get ! refl)) refl fine $
         returns ! (look_at ! 0 refl) $ free_all ! refl $
@@ -100,9 +100,9 @@ module _ {M : Type 1} {𝓤 : Ura M} (𝓛 : Logic 𝓤) (at_mem : Memory → SP
       walk_Meets 𝓛 ended stayed (Goes-blank 𝓛 0 (plain (λ _. RawPtr)) yes (λ κs x f. tt), (Goes-blank 𝓛 0 (plain (λ _. usize)) yes (λ κs x f. tt), (Goes-blank 𝓛 0 (plain (λ _. Run.the_row)) yes (λ κs x f. tt), tt))) held
       (WpFn 𝓤 H 𝓣.C 𝓣.Λ function) (WpFn-mono 𝓤 H 𝓛.laws 𝓣 function) (walks 𝓣.C 𝓣.Λ (fm_of 𝓤 H 𝓛.laws 𝓣) called)
 
-pub house_spec : {M : Type 1} → stated.statement M
+pub lodge_run_spec : {M : Type 1} → stated.statement M
 unfolding tables_of
-house_spec 𝓤 𝓛 𝓜 𝓡 wired =
+lodge_run_spec 𝓤 𝓛 𝓜 𝓡 wired =
     let 𝓣 : Tables 𝓤 𝓛.H = tables_of 𝓤 𝓛.H 𝓜 (tables 𝓤 𝓛.H 𝓜 𝓡 𝓡.env) in
     entered 𝓤 𝓛.H (triple_of 𝓛 ended.signature (closing 𝓛 ended (held 𝓛 𝓜.mem 𝓡.returns))) 𝓣.C 𝓣.Λ #self function
     (code.unfolded 𝓤 𝓛.H 𝓜 𝓡 wired) (meets 𝓛 𝓜.mem 𝓡.returns 𝓣 (callee.met 𝓤 𝓛 𝓜 𝓡 (code.calls-std_alloc::vec::lodge 𝓡.env wired) u8 byte_laws))

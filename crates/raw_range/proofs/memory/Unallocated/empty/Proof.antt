@@ -25,11 +25,11 @@ use denote.Triple.Table.{entered}
 use denote.Triple.Walked.{says, Stays, walk_of, ends_at, walk_Meets}
 use denote.RawPtr.{block_ptr}
 use Rattle.raw_range.proofs.Walks.{none, none_made}
-use Rattle.raw_range.specs.contracts.memory.Held as Held
-use Rattle.raw_range.specs.contracts.memory.Held.nothing as F
-use Rattle.raw_range.specs.contracts.memory.Held.nothing.Key.{name as #self}
-use Rattle.raw_range.proofs.memory.Held.nothing.Statement as stated
-use Rattle.raw_range.proofs.memory.Held.nothing.Code as code
+use Rattle.raw_range.specs.contracts.memory.Unallocated as Unallocated
+use Rattle.raw_range.specs.contracts.memory.Unallocated.empty as F
+use Rattle.raw_range.specs.contracts.memory.Unallocated.empty.Key.{name as #self}
+use Rattle.raw_range.proofs.memory.Unallocated.empty.Statement as stated
+use Rattle.raw_range.proofs.memory.Unallocated.empty.Code as code
 
 abbrev function : Fn
 function = code.function
@@ -57,7 +57,7 @@ module _ {M : Type 1} {𝓤 : Ura M} (𝓛 : Logic 𝓤) (at_mem : Memory → SP
     walks =
         let a = z.0.3 in
         let vss = z.0.4 in
-        let h : (Held.the_row).Denot = record { ptr = block_ptr 0 0; out = []; bytes = [] } in
+        let h : (Unallocated.the_row).Denot = record { ptr = block_ptr 0 0; allocated = []; bytes = [] } in
         qed 𝓛 ((raw toks ⊛ ‵ (owns (types_at ended.signature.params z.0.0) a vss)) ∷ raw ((held z.0.0 a).requires z.1) ∷ []) ∵
         keep ! (0 ∷ []) $ split ! $ move ! (1 ∷ []) $ drop ! $
         enter ! C Λ function [] Post $ alloc_all ! (λ l. pass_all ! refl tt $
@@ -72,9 +72,9 @@ module _ {M : Type 1} {𝓤 : Ura M} (𝓛 : Logic 𝓤) (at_mem : Memory → SP
       walk_Meets 𝓛 ended stayed tt held
       (WpFn 𝓤 H 𝓣.C 𝓣.Λ function) (WpFn-mono 𝓤 H 𝓛.laws 𝓣 function) (walks 𝓣.C 𝓣.Λ)
 
-pub nothing_spec : {M : Type 1} → stated.statement M
+pub empty_spec : {M : Type 1} → stated.statement M
 unfolding tables_of
-nothing_spec 𝓤 𝓛 𝓜 𝓡 wired =
+empty_spec 𝓤 𝓛 𝓜 𝓡 wired =
     let 𝓣 : Tables 𝓤 𝓛.H = tables_of 𝓤 𝓛.H 𝓜 (tables 𝓤 𝓛.H 𝓜 𝓡 𝓡.env) in
     entered 𝓤 𝓛.H (triple_of 𝓛 ended.signature (closing 𝓛 ended (held 𝓛 𝓜.mem 𝓡.returns))) 𝓣.C 𝓣.Λ #self function
     (code.unfolded 𝓤 𝓛.H 𝓜 𝓡 wired) (meets 𝓛 𝓜.mem 𝓡.returns 𝓣)

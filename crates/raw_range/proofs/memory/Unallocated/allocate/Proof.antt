@@ -34,14 +34,14 @@ use denote.RawPtr.Bytes.{bytes}
 use Rattle.layout.specs.Extents.{extent, Disjoint}
 use Rattle.raw_range.specs.inside.Ownership.{IsPlaced, run_owns, rest_owns}
 use Rattle.raw_range.proofs.Places.{three_parts, in_place, beside_place, is_allocated-apart, is_allocated-cons_in, is_allocated-cons_beside}
-use Rattle.raw_range.proofs.Rest.{rest-lend, run-in}
+use Rattle.raw_range.proofs.Rest.{rest-allocate, run-in}
 use Rattle.raw_range.proofs.Walks.{none, two, none_made, two_made, none_had}
-use Rattle.raw_range.specs.contracts.memory.Held as Held
+use Rattle.raw_range.specs.contracts.memory.Unallocated as Unallocated
 use Rattle.raw_range.specs.contracts.memory.Run as Run
-use Rattle.raw_range.specs.contracts.memory.Held.lend as F
-use Rattle.raw_range.specs.contracts.memory.Held.lend.Key.{name as #self}
-use Rattle.raw_range.proofs.memory.Held.lend.Statement as stated
-use Rattle.raw_range.proofs.memory.Held.lend.Code as code
+use Rattle.raw_range.specs.contracts.memory.Unallocated.allocate as F
+use Rattle.raw_range.specs.contracts.memory.Unallocated.allocate.Key.{name as #self}
+use Rattle.raw_range.proofs.memory.Unallocated.allocate.Statement as stated
+use Rattle.raw_range.proofs.memory.Unallocated.allocate.Code as code
 
 abbrev function : Fn
 function = code.function
@@ -50,7 +50,7 @@ abbrev ended : Ended
 ended = F.ended
 
 abbrev stayed : Stays ended.signature.params ended.kept
-stayed = (stay_dropped (plain (λ _. Held.the_row)) yes, (stay_dropped (plain (λ _. usize)) yes, (stay_dropped (plain (λ _. usize)) yes, tt)))
+stayed = (stay_dropped (plain (λ _. Unallocated.the_row)) yes, (stay_dropped (plain (λ _. usize)) yes, (stay_dropped (plain (λ _. usize)) yes, tt)))
 
 module _ {M : Type 1} {𝓤 : Ura M} (𝓛 : Logic 𝓤) (at_mem : Memory → SProp 𝓤) (run : Routine → Fun 𝓤) where
   open 𝓛 use {H}
@@ -78,9 +78,9 @@ module _ {M : Type 1} {𝓤 : Ura M} (𝓛 : Logic 𝓤) (at_mem : Memory → SP
         let part = take n (drop_l at h.bytes) in
         let back = drop_l n (drop_l at h.bytes) in
         let p = extent at n in
-        let h' : (Held.the_row).Denot = record { ptr = h.ptr; out = p ∷ h.out; bytes = h.bytes } in
+        let h' : (Unallocated.the_row).Denot = record { ptr = h.ptr; allocated = p ∷ h.allocated; bytes = h.bytes } in
         let r : (Run.the_row).Denot = record { ptr = h.ptr +ₚ at; items = part } in
-        let Asked = IsPlaced h.ptr × (at + n ≤ length h.bytes) × All (Disjoint p) h.out in
+        let Asked = IsPlaced h.ptr × (at + n ≤ length h.bytes) × All (Disjoint p) h.allocated in
         qed 𝓛 ((raw toks ⊛ ‵ (owns (types_at ended.signature.params z.0.0) a vss)) ∷ raw (fact 𝓤 Asked) ∷ []) ∵
         move ! (1 ∷ []) $ heard ! Asked (λ asked. split ! $ move ! (1 ∷ []) $
         fsplit ! $ fsplit ! $ none_had ! vss.0 (λ is₀. move ! (1 ∷ []) $ fsplit ! $ fsplit ! $ feq_l ! (λ is₁. flt_l ! (λ fits₁. fsplit ! $ fsplit ! $ feq_l ! (λ is₂. flt_l ! (λ fits₂. drop ! $
@@ -94,29 +94,29 @@ module _ {M : Type 1} {𝓤 : Ura M} (𝓛 : Logic 𝓤) (at_mem : Memory → SP
         sets ! (agg ! (no_more !)) refl (tt, tt) $
         sets ! (agg ! (no_more !)) refl (tt, tt) $
         sets ! (agg ! (and_then ! (get ! refl) (and_then ! (get ! refl) (no_more !)))) refl (tt, (tt, (tt, tt))) $
-        rewrite ! 0 (λ xs. ‵ (rest_owns h.out b o 0 xs)) whole refl $
-        use1 𝓛 (‵ (rest_owns (p ∷ h.out) b o 0 (front ++ (part ++ back))) ⊛ ‵ (bytes full_share part b (o + length front)))
-        (rest-lend 𝓛 h.out (p ∷ h.out) b o front part back (λ k beside. is_allocated-cons_beside h.out p k (beside_place p k (length front) (length part) long fills beside))
-        (λ k low high. is_allocated-apart h.out p k asked.2 (in_place p k (length front) (length part) long fills low high))
-        (λ k low high. is_allocated-cons_in h.out p k (in_place p k (length front) (length part) long fills low high))) $ split ! $
-        rewrite ! 0 (λ xs. ‵ (rest_owns (p ∷ h.out) b o 0 xs)) (sym whole) refl $
+        rewrite ! 0 (λ xs. ‵ (rest_owns h.allocated b o 0 xs)) whole refl $
+        use1 𝓛 (‵ (rest_owns (p ∷ h.allocated) b o 0 (front ++ (part ++ back))) ⊛ ‵ (bytes full_share part b (o + length front)))
+        (rest-allocate 𝓛 h.allocated (p ∷ h.allocated) b o front part back (λ k beside. is_allocated-cons_beside h.allocated p k (beside_place p k (length front) (length part) long fills beside))
+        (λ k low high. is_allocated-apart h.allocated p k asked.2 (in_place p k (length front) (length part) long fills low high))
+        (λ k low high. is_allocated-cons_in h.allocated p k (in_place p k (length front) (length part) long fills low high))) $ split ! $
+        rewrite ! 0 (λ xs. ‵ (rest_owns (p ∷ h.allocated) b o 0 xs)) (sym whole) refl $
         none_made ! $ fjoin ! $ move ! (1 ∷ []) $
         rewrite ! 0 (λ k. ‵ (bytes full_share part b (o + k))) long refl $
         use1 𝓛 (‵ (run_owns (block_ptr b (o + at)) part)) (run-in 𝓛 b (o + at) part) $
         rewrite ! 0 (λ q. ‵ (run_owns q part)) (sym (ap (λ r. r +ₚ at) asked.0)) refl $
-        none_made ! $ fjoin ! $ move ! (1 ∷ 0 ∷ []) $ two_made ! Held.the_row Run.the_row h' r none none $
+        none_made ! $ fjoin ! $ move ! (1 ∷ 0 ∷ []) $ two_made ! Unallocated.the_row Run.the_row h' r none none $
         returns ! (look_at ! 0 refl) $ free_all ! refl $
         suffices ! _ (ends_at 𝓛 ended stayed held z (two none none) (h', r) (tt, (tt, (tt, tt))) (tt, (tt, (tt, tt)))) $ says ! (refl, refl, refl, refl, refl) $
         nothing ! $ nothing ! $ fjoin ! $ nothing ! $ fjoin ! $ nothing ! $ fjoin ! $ move ! (2 ∷ 0 ∷ 1 ∷ []) $ done !)))))))
 
   meets : (𝓣 : Tables 𝓤 H) → Meets 𝓛 ended.signature (WpFn 𝓤 H 𝓣.C 𝓣.Λ function) (closing 𝓛 ended held)
   meets 𝓣 =
-      walk_Meets 𝓛 ended stayed (Goes-blank 𝓛 0 (plain (λ _. Held.the_row)) yes (λ κs x f. tt), (Goes-blank 𝓛 0 (plain (λ _. usize)) yes (λ κs x f. tt), (Goes-blank 𝓛 0 (plain (λ _. usize)) yes (λ κs x f. tt), tt))) held
+      walk_Meets 𝓛 ended stayed (Goes-blank 𝓛 0 (plain (λ _. Unallocated.the_row)) yes (λ κs x f. tt), (Goes-blank 𝓛 0 (plain (λ _. usize)) yes (λ κs x f. tt), (Goes-blank 𝓛 0 (plain (λ _. usize)) yes (λ κs x f. tt), tt))) held
       (WpFn 𝓤 H 𝓣.C 𝓣.Λ function) (WpFn-mono 𝓤 H 𝓛.laws 𝓣 function) (walks 𝓣.C 𝓣.Λ)
 
-pub lend_spec : {M : Type 1} → stated.statement M
+pub allocate_spec : {M : Type 1} → stated.statement M
 unfolding tables_of
-lend_spec 𝓤 𝓛 𝓜 𝓡 wired =
+allocate_spec 𝓤 𝓛 𝓜 𝓡 wired =
     let 𝓣 : Tables 𝓤 𝓛.H = tables_of 𝓤 𝓛.H 𝓜 (tables 𝓤 𝓛.H 𝓜 𝓡 𝓡.env) in
     entered 𝓤 𝓛.H (triple_of 𝓛 ended.signature (closing 𝓛 ended (held 𝓛 𝓜.mem 𝓡.returns))) 𝓣.C 𝓣.Λ #self function
     (code.unfolded 𝓤 𝓛.H 𝓜 𝓡 wired) (meets 𝓛 𝓜.mem 𝓡.returns 𝓣)

@@ -1,4 +1,4 @@
--- Where no place is out, all bytes are held. Assumes `Logic`.
+-- Where no extent is allocated, every byte of the run is there. Assumes `Logic`.
 use Rattle.std.proofs.Common.{◌≡◌, List, [], ◌∷◌, ◌++◌, refl, sym}
 use seplogic.Ra.Ura.{Ura}
 use mir.Syntax.{Fn}
@@ -29,12 +29,12 @@ use denote.RawPtr.{block_ptr, block_of, count_of}
 use Rattle.raw_range.specs.inside.Ownership.{IsPlaced, run_owns, rest_owns}
 use Rattle.raw_range.proofs.Rest.{rest-free, run-in}
 use Rattle.raw_range.proofs.Walks.{none, none_made, none_had}
-use Rattle.raw_range.specs.contracts.memory.Held as Held
+use Rattle.raw_range.specs.contracts.memory.Unallocated as Unallocated
 use Rattle.raw_range.specs.contracts.memory.Run as Run
-use Rattle.raw_range.specs.contracts.memory.Held.into_run as F
-use Rattle.raw_range.specs.contracts.memory.Held.into_run.Key.{name as #self}
-use Rattle.raw_range.proofs.memory.Held.into_run.Statement as stated
-use Rattle.raw_range.proofs.memory.Held.into_run.Code as code
+use Rattle.raw_range.specs.contracts.memory.Unallocated.into_run as F
+use Rattle.raw_range.specs.contracts.memory.Unallocated.into_run.Key.{name as #self}
+use Rattle.raw_range.proofs.memory.Unallocated.into_run.Statement as stated
+use Rattle.raw_range.proofs.memory.Unallocated.into_run.Code as code
 
 abbrev function : Fn
 function = code.function
@@ -43,7 +43,7 @@ abbrev ended : Ended
 ended = F.ended
 
 abbrev stayed : Stays ended.signature.params ended.kept
-stayed = (stay_dropped (plain (λ _. Held.the_row)) yes, tt)
+stayed = (stay_dropped (plain (λ _. Unallocated.the_row)) yes, tt)
 
 module _ {M : Type 1} {𝓤 : Ura M} (𝓛 : Logic 𝓤) (at_mem : Memory → SProp 𝓤) (run : Routine → Fun 𝓤) where
   open 𝓛 use {H}
@@ -66,7 +66,7 @@ module _ {M : Type 1} {𝓤 : Ura M} (𝓛 : Logic 𝓤) (at_mem : Memory → SP
         let b = block_of h.ptr in
         let o = count_of h.ptr in
         let r : (Run.the_row).Denot = record { ptr = h.ptr; items = h.bytes } in
-        let Asked = IsPlaced h.ptr × (h.out ≡ []) in
+        let Asked = IsPlaced h.ptr × (h.allocated ≡ []) in
         qed 𝓛 ((raw toks ⊛ ‵ (owns (types_at ended.signature.params z.0.0) a vss)) ∷ raw (fact 𝓤 Asked) ∷ []) ∵
         move ! (1 ∷ []) $ heard ! Asked (λ asked. split ! $ move ! (1 ∷ []) $
         fsplit ! $ fsplit ! $ none_had ! vss.0 (λ is₀. move ! (1 ∷ []) $ drop ! $
@@ -84,7 +84,7 @@ module _ {M : Type 1} {𝓤 : Ura M} (𝓛 : Logic 𝓤) (at_mem : Memory → SP
 
   meets : (𝓣 : Tables 𝓤 H) → Meets 𝓛 ended.signature (WpFn 𝓤 H 𝓣.C 𝓣.Λ function) (closing 𝓛 ended held)
   meets 𝓣 =
-      walk_Meets 𝓛 ended stayed (Goes-blank 𝓛 0 (plain (λ _. Held.the_row)) yes (λ κs x f. tt), tt) held
+      walk_Meets 𝓛 ended stayed (Goes-blank 𝓛 0 (plain (λ _. Unallocated.the_row)) yes (λ κs x f. tt), tt) held
       (WpFn 𝓤 H 𝓣.C 𝓣.Λ function) (WpFn-mono 𝓤 H 𝓛.laws 𝓣 function) (walks 𝓣.C 𝓣.Λ)
 
 pub into_run_spec : {M : Type 1} → stated.statement M

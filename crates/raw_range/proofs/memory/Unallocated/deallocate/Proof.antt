@@ -35,14 +35,14 @@ use Rattle.layout.specs.Extents.{extent, AreDisjoint}
 use Rattle.raw_range.specs.Memory.{remove_extent, written}
 use Rattle.raw_range.specs.inside.Ownership.{IsPlaced, run_owns, rest_owns}
 use Rattle.raw_range.proofs.Places.{three_parts, in_place, beside_place, within_blocks, is_allocated-without_in, is_allocated-without_beside}
-use Rattle.raw_range.proofs.Rest.{rest-regain, run-out}
+use Rattle.raw_range.proofs.Rest.{rest-deallocate, run-out}
 use Rattle.raw_range.proofs.Walks.{none, none_made, none_had}
-use Rattle.raw_range.specs.contracts.memory.Held as Held
+use Rattle.raw_range.specs.contracts.memory.Unallocated as Unallocated
 use Rattle.raw_range.specs.contracts.memory.Run as Run
-use Rattle.raw_range.specs.contracts.memory.Held.regain as F
-use Rattle.raw_range.specs.contracts.memory.Held.regain.Key.{name as #self}
-use Rattle.raw_range.proofs.memory.Held.regain.Statement as stated
-use Rattle.raw_range.proofs.memory.Held.regain.Code as code
+use Rattle.raw_range.specs.contracts.memory.Unallocated.deallocate as F
+use Rattle.raw_range.specs.contracts.memory.Unallocated.deallocate.Key.{name as #self}
+use Rattle.raw_range.proofs.memory.Unallocated.deallocate.Statement as stated
+use Rattle.raw_range.proofs.memory.Unallocated.deallocate.Code as code
 
 abbrev function : Fn
 function = code.function
@@ -51,7 +51,7 @@ abbrev ended : Ended
 ended = F.ended
 
 abbrev stayed : Stays ended.signature.params ended.kept
-stayed = (stay_dropped (plain (λ _. Held.the_row)) yes, (stay_dropped (plain (λ _. usize)) yes, (stay_dropped (plain (λ _. Run.the_row)) yes, tt)))
+stayed = (stay_dropped (plain (λ _. Unallocated.the_row)) yes, (stay_dropped (plain (λ _. usize)) yes, (stay_dropped (plain (λ _. Run.the_row)) yes, tt)))
 
 module _ {M : Type 1} {𝓤 : Ura M} (𝓛 : Logic 𝓤) (at_mem : Memory → SProp 𝓤) (run : Routine → Fun 𝓤) where
   open 𝓛 use {H}
@@ -80,13 +80,13 @@ module _ {M : Type 1} {𝓤 : Ura M} (𝓛 : Logic 𝓤) (at_mem : Memory → SP
         let front = take at h.bytes in
         let old = take n (drop_l at h.bytes) in
         let back = drop_l n (drop_l at h.bytes) in
-        let h' : (Held.the_row).Denot = record { ptr = h.ptr; out = remove_extent p h.out; bytes = written h.bytes at r.items } in
-        let Asked = IsPlaced h.ptr × (r.ptr ≡ h.ptr +ₚ at) × AreDisjoint (length h.bytes) h.out × Contains h.out p in
+        let h' : (Unallocated.the_row).Denot = record { ptr = h.ptr; allocated = remove_extent p h.allocated; bytes = written h.bytes at r.items } in
+        let Asked = IsPlaced h.ptr × (r.ptr ≡ h.ptr +ₚ at) × AreDisjoint (length h.bytes) h.allocated × Contains h.allocated p in
         qed 𝓛 ((raw toks ⊛ ‵ (owns (types_at ended.signature.params z.0.0) a vss)) ∷ raw (fact 𝓤 Asked) ∷ []) ∵
         move ! (1 ∷ []) $ heard ! Asked (λ asked. split ! $ move ! (1 ∷ []) $
         fsplit ! $ fsplit ! $ none_had ! vss.0 (λ is₀. move ! (1 ∷ []) $ fsplit ! $ fsplit ! $ feq_l ! (λ is₁. flt_l ! (λ fits₁. fsplit ! $ fsplit ! $ none_had ! vss.1.1.0 (λ is₂. move ! (1 ∷ []) $ drop ! $
-        -- [the run; the bytes held; the tokens]
-        let within = within_blocks (length h.bytes) h.out p asked.2 asked.3 in
+        -- [the run; the unallocated bytes; the tokens]
+        let within = within_blocks (length h.bytes) h.allocated p asked.2 asked.3 in
         let whole : h.bytes ≡ front ++ (old ++ back) = three_parts at n h.bytes in
         let long : length front ≡ at = length-take-le at h.bytes (omega (arith, within.1)) in
         let fills : length old ≡ n = length-take-le n (drop_l at h.bytes) (omega (arith, within.1, length-drop at h.bytes)) in
@@ -99,12 +99,12 @@ module _ {M : Type 1} {𝓤 : Ura M} (𝓛 : Logic 𝓤) (at_mem : Memory → SP
         rewrite ! 0 (λ q. ‵ (run_owns q r.items)) (asked.1 ∙ ap (λ q. q +ₚ at) asked.0) refl $
         use1 𝓛 (given (IsPlaced (block_ptr b (o + at))) (‵ (bytes full_share r.items b (o + at)))) (run-out 𝓛 (block_ptr b (o + at)) r.items) $ learn ! (λ placed.
         rewrite ! 0 (λ k. ‵ (bytes full_share r.items b (o + k))) (sym long) refl $ move ! (1 ∷ []) $
-        rewrite ! 0 (λ xs. ‵ (rest_owns h.out b o 0 xs)) whole refl $
-        use2 𝓛 (‵ (rest_owns (remove_extent p h.out) b o 0 (front ++ (r.items ++ back))))
-        (rest-regain 𝓛 h.out (remove_extent p h.out) b o front old r.items back fills
-        (λ k beside. is_allocated-without_beside (length h.bytes) h.out p asked.2 asked.3 k (beside_place p k (length front) n long refl beside))
-        (λ k low high. is_allocated-without_in (length h.bytes) h.out p asked.2 asked.3 k (in_place p k (length front) n long refl low high))) $
-        rewrite ! 0 (λ xs. ‵ (rest_owns (remove_extent p h.out) b o 0 xs)) new refl $
+        rewrite ! 0 (λ xs. ‵ (rest_owns h.allocated b o 0 xs)) whole refl $
+        use2 𝓛 (‵ (rest_owns (remove_extent p h.allocated) b o 0 (front ++ (r.items ++ back))))
+        (rest-deallocate 𝓛 h.allocated (remove_extent p h.allocated) b o front old r.items back fills
+        (λ k beside. is_allocated-without_beside (length h.bytes) h.allocated p asked.2 asked.3 k (beside_place p k (length front) n long refl beside))
+        (λ k low high. is_allocated-without_in (length h.bytes) h.allocated p asked.2 asked.3 k (in_place p k (length front) n long refl low high))) $
+        rewrite ! 0 (λ xs. ‵ (rest_owns (remove_extent p h.allocated) b o 0 xs)) new refl $
         none_made ! $ fjoin ! $
         returns ! (look_at ! 0 refl) $ free_all ! refl $
         suffices ! _ (ends_at 𝓛 ended stayed held z none h' (tt, (tt, (tt, tt))) (tt, (tt, (tt, tt)))) $ says ! (refl, refl, refl) $
@@ -112,12 +112,12 @@ module _ {M : Type 1} {𝓤 : Ura M} (𝓛 : Logic 𝓤) (at_mem : Memory → SP
 
   meets : (𝓣 : Tables 𝓤 H) → Meets 𝓛 ended.signature (WpFn 𝓤 H 𝓣.C 𝓣.Λ function) (closing 𝓛 ended held)
   meets 𝓣 =
-      walk_Meets 𝓛 ended stayed (Goes-blank 𝓛 0 (plain (λ _. Held.the_row)) yes (λ κs x f. tt), (Goes-blank 𝓛 0 (plain (λ _. usize)) yes (λ κs x f. tt), (Goes-blank 𝓛 0 (plain (λ _. Run.the_row)) yes (λ κs x f. tt), tt))) held
+      walk_Meets 𝓛 ended stayed (Goes-blank 𝓛 0 (plain (λ _. Unallocated.the_row)) yes (λ κs x f. tt), (Goes-blank 𝓛 0 (plain (λ _. usize)) yes (λ κs x f. tt), (Goes-blank 𝓛 0 (plain (λ _. Run.the_row)) yes (λ κs x f. tt), tt))) held
       (WpFn 𝓤 H 𝓣.C 𝓣.Λ function) (WpFn-mono 𝓤 H 𝓛.laws 𝓣 function) (walks 𝓣.C 𝓣.Λ)
 
-pub regain_spec : {M : Type 1} → stated.statement M
+pub deallocate_spec : {M : Type 1} → stated.statement M
 unfolding tables_of
-regain_spec 𝓤 𝓛 𝓜 𝓡 wired =
+deallocate_spec 𝓤 𝓛 𝓜 𝓡 wired =
     let 𝓣 : Tables 𝓤 𝓛.H = tables_of 𝓤 𝓛.H 𝓜 (tables 𝓤 𝓛.H 𝓜 𝓡 𝓡.env) in
     entered 𝓤 𝓛.H (triple_of 𝓛 ended.signature (closing 𝓛 ended (held 𝓛 𝓜.mem 𝓡.returns))) 𝓣.C 𝓣.Λ #self function
     (code.unfolded 𝓤 𝓛.H 𝓜 𝓡 wired) (meets 𝓛 𝓜.mem 𝓡.returns 𝓣)

@@ -1,4 +1,4 @@
--- `vacate` takes the run from `dislodge`. Assumes `Logic`.
+-- `dislodge_run` takes the run from `dislodge`. Assumes `Logic`.
 use Rattle.std.proofs.Common.{◌≡◌, ◌^◌, ◌<◌, List, [], ◌∷◌, ◌++◌, refl}
 use seplogic.Ra.Ura.{Ura}
 use mir.Syntax.{Fn, Callee, a_type, w64}
@@ -34,11 +34,11 @@ use denote.Triple.Statement.{Triple}
 use Rattle.std_alloc.specs.contracts.vec.lodged.Vec+T+Lodged.dislodge.Key.{name as callee_name}
 use Rattle.std_alloc.proofs.vec.lodged.Vec+T+Lodged.dislodge.Met as callee
 use Rattle.raw_range.specs.inside.Ownership.{run_owns}
-use Rattle.raw_range.proofs.Lodging.{byte_laws, Housed, housed-laws, Dislodges, at_dislodge, dislodge_goes, dislodge_gives}
-use Rattle.raw_range.specs.contracts.parts.vacate as F
-use Rattle.raw_range.specs.contracts.parts.vacate.Key.{name as #self}
-use Rattle.raw_range.proofs.parts.vacate.Statement as stated
-use Rattle.raw_range.proofs.parts.vacate.Code as code
+use Rattle.raw_range.proofs.Lodging.{byte_laws, LodgedBytes, lodged_bytes-laws, Dislodges, at_dislodge, dislodge_goes, dislodge_gives}
+use Rattle.raw_range.specs.contracts.parts.dislodge_run as F
+use Rattle.raw_range.specs.contracts.parts.dislodge_run.Key.{name as #self}
+use Rattle.raw_range.proofs.parts.dislodge_run.Statement as stated
+use Rattle.raw_range.proofs.parts.dislodge_run.Code as code
 
 abbrev key : Callee
 key = callee_name (layouts (a_type ∷ []) (u8, tt))
@@ -50,7 +50,7 @@ abbrev ended : Ended
 ended = F.ended
 
 abbrev stayed : Stays ended.signature.params ended.kept
-stayed = (stay_dropped (plain (λ _. Housed)) yes, tt)
+stayed = (stay_dropped (plain (λ _. LodgedBytes)) yes, tt)
 
 module _ {M : Type 1} {𝓤 : Ura M} (𝓛 : Logic 𝓤) (at_mem : Memory → SProp 𝓤) (run : Routine → Fun 𝓤) where
   open 𝓛 use {H}
@@ -74,7 +74,7 @@ module _ {M : Type 1} {𝓤 : Ura M} (𝓛 : Logic 𝓤) (at_mem : Memory → SP
         let Asked = 0 < v.len in
         qed 𝓛 ((raw toks ⊛ ‵ (owns (types_at ended.signature.params z.0.0) a vss)) ∷ raw (fact 𝓤 Asked) ∷ []) ∵
         move ! (1 ∷ []) $ heard ! Asked (λ asked. split ! $ move ! (1 ∷ []) $
-        fsplit ! $ tells ! Housed housed-laws v vss.0 (λ u is good. move ! (1 ∷ []) $ drop ! $
+        fsplit ! $ tells ! LodgedBytes lodged_bytes-laws v vss.0 (λ u is good. move ! (1 ∷ []) $ drop ! $
         let y = at_dislodge 𝓛 at_mem run v u in
         regoal ! (λ (us : List Val). prop (WpFn 𝓤 H C Λ function (us ++ []) Post)) is refl $
         enter ! C Λ function (u ∷ []) Post $ alloc_all ! (λ l. pass_all ! refl (good, tt) $
@@ -90,12 +90,12 @@ module _ {M : Type 1} {𝓤 : Ura M} (𝓛 : Logic 𝓤) (at_mem : Memory → SP
 
   meets : (𝓣 : Tables 𝓤 H) → Triple 𝓤 (𝓣.C key) (Dislodges 𝓛 at_mem run) → Meets 𝓛 ended.signature (WpFn 𝓤 H 𝓣.C 𝓣.Λ function) (closing 𝓛 ended held)
   meets 𝓣 called =
-      walk_Meets 𝓛 ended stayed (Goes-blank 𝓛 0 (plain (λ _. Housed)) yes (λ κs x f. tt), tt) held
+      walk_Meets 𝓛 ended stayed (Goes-blank 𝓛 0 (plain (λ _. LodgedBytes)) yes (λ κs x f. tt), tt) held
       (WpFn 𝓤 H 𝓣.C 𝓣.Λ function) (WpFn-mono 𝓤 H 𝓛.laws 𝓣 function) (walks 𝓣.C 𝓣.Λ (fm_of 𝓤 H 𝓛.laws 𝓣) called)
 
-pub vacate_spec : {M : Type 1} → stated.statement M
+pub dislodge_run_spec : {M : Type 1} → stated.statement M
 unfolding tables_of
-vacate_spec 𝓤 𝓛 𝓜 𝓡 wired =
+dislodge_run_spec 𝓤 𝓛 𝓜 𝓡 wired =
     let 𝓣 : Tables 𝓤 𝓛.H = tables_of 𝓤 𝓛.H 𝓜 (tables 𝓤 𝓛.H 𝓜 𝓡 𝓡.env) in
     entered 𝓤 𝓛.H (triple_of 𝓛 ended.signature (closing 𝓛 ended (held 𝓛 𝓜.mem 𝓡.returns))) 𝓣.C 𝓣.Λ #self function
     (code.unfolded 𝓤 𝓛.H 𝓜 𝓡 wired) (meets 𝓛 𝓜.mem 𝓡.returns 𝓣 (callee.met 𝓤 𝓛 𝓜 𝓡 (code.calls-std_alloc::vec::lodged::Vec+T+Lodged::dislodge 𝓡.env wired) u8 byte_laws))

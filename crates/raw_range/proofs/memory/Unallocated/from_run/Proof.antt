@@ -1,4 +1,4 @@
--- All bytes of a run are held. Assumes `Logic`.
+-- No byte of a run is allocated at first. Assumes `Logic`.
 use Rattle.std.proofs.Common.{List, [], ◌∷◌, ◌++◌, refl, sym}
 use seplogic.Ra.Ura.{Ura}
 use mir.Syntax.{Fn}
@@ -31,12 +31,12 @@ use denote.RawPtr.Bytes.{bytes}
 use Rattle.raw_range.specs.inside.Ownership.{IsPlaced}
 use Rattle.raw_range.proofs.Rest.{rest-free, run-out}
 use Rattle.raw_range.proofs.Walks.{none, none_made, none_had}
-use Rattle.raw_range.specs.contracts.memory.Held as Held
+use Rattle.raw_range.specs.contracts.memory.Unallocated as Unallocated
 use Rattle.raw_range.specs.contracts.memory.Run as Run
-use Rattle.raw_range.specs.contracts.memory.Held.all as F
-use Rattle.raw_range.specs.contracts.memory.Held.all.Key.{name as #self}
-use Rattle.raw_range.proofs.memory.Held.all.Statement as stated
-use Rattle.raw_range.proofs.memory.Held.all.Code as code
+use Rattle.raw_range.specs.contracts.memory.Unallocated.from_run as F
+use Rattle.raw_range.specs.contracts.memory.Unallocated.from_run.Key.{name as #self}
+use Rattle.raw_range.proofs.memory.Unallocated.from_run.Statement as stated
+use Rattle.raw_range.proofs.memory.Unallocated.from_run.Code as code
 
 abbrev function : Fn
 function = code.function
@@ -67,7 +67,7 @@ module _ {M : Type 1} {𝓤 : Ura M} (𝓛 : Logic 𝓤) (at_mem : Memory → SP
         let r = a.0 in
         let b = block_of r.ptr in
         let o = count_of r.ptr in
-        let h : (Held.the_row).Denot = record { ptr = r.ptr; out = []; bytes = r.items } in
+        let h : (Unallocated.the_row).Denot = record { ptr = r.ptr; allocated = []; bytes = r.items } in
         qed 𝓛 ((raw toks ⊛ ‵ (owns (types_at ended.signature.params z.0.0) a vss)) ∷ raw ((held z.0.0 a).requires z.1) ∷ []) ∵
         keep ! (0 ∷ []) $ split ! $ move ! (1 ∷ []) $
         fsplit ! $ fsplit ! $ none_had ! vss.0 (λ is₀. move ! (1 ∷ []) $ drop ! $
@@ -86,9 +86,9 @@ module _ {M : Type 1} {𝓤 : Ura M} (𝓛 : Logic 𝓤) (at_mem : Memory → SP
       walk_Meets 𝓛 ended stayed (Goes-blank 𝓛 0 (plain (λ _. Run.the_row)) yes (λ κs x f. tt), tt) held
       (WpFn 𝓤 H 𝓣.C 𝓣.Λ function) (WpFn-mono 𝓤 H 𝓛.laws 𝓣 function) (walks 𝓣.C 𝓣.Λ)
 
-pub all_spec : {M : Type 1} → stated.statement M
+pub from_run_spec : {M : Type 1} → stated.statement M
 unfolding tables_of
-all_spec 𝓤 𝓛 𝓜 𝓡 wired =
+from_run_spec 𝓤 𝓛 𝓜 𝓡 wired =
     let 𝓣 : Tables 𝓤 𝓛.H = tables_of 𝓤 𝓛.H 𝓜 (tables 𝓤 𝓛.H 𝓜 𝓡 𝓡.env) in
     entered 𝓤 𝓛.H (triple_of 𝓛 ended.signature (closing 𝓛 ended (held 𝓛 𝓜.mem 𝓡.returns))) 𝓣.C 𝓣.Λ #self function
     (code.unfolded 𝓤 𝓛.H 𝓜 𝓡 wired) (meets 𝓛 𝓜.mem 𝓡.returns 𝓣)
