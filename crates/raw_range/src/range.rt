@@ -28,7 +28,7 @@ impl Model for Range {
     ghost use Rattle.std.specs.Mem.{manually_drop_value};
     ghost use Rattle.layout.specs.Extents.{AreDisjoint};
     ghost use Rattle.layout.specs.Sizes.{page};
-    ghost use Rattle.raw_range.specs.inside.Ownership.{IsPlaced};
+    ghost use Rattle.raw_range.specs.inside.Ownership.{IsPlaced, IsBlock};
     ghost use Rattle.raw_range.specs.Memory.{Memory, memory_code};
 
     ghost Value = { Memory };
@@ -37,7 +37,7 @@ impl Model for Range {
 
     ghost view = { λ r. record { home = r.base.ptr; owner = r.owner; pages = r.pages; allocated = r.unallocated.allocated; bytes = r.unallocated.bytes } };
 
-    ghost invariant = { λ r. (length r.unallocated.bytes ≡ page * r.pages) × (r.unallocated.ptr ≡ r.base.ptr) × IsPlaced r.base.ptr × AreDisjoint (length r.unallocated.bytes) r.unallocated.allocated × ((manually_drop_value r.sole).ptr ≡ r.base.ptr) × ((manually_drop_value r.sole).len ≡ page * r.pages) };
+    ghost invariant = { λ r. (length r.unallocated.bytes ≡ page * r.pages) × (r.unallocated.ptr ≡ r.base.ptr) × IsPlaced r.base.ptr × AreDisjoint (length r.unallocated.bytes) r.unallocated.allocated × IsBlock (manually_drop_value r.sole) r.base.ptr (page * r.pages) };
 }
 
 impl Range {

@@ -19,6 +19,10 @@ pub record Buffer : Type 0 where
 abbrev pub buffer_code : Coded Buffer
 buffer_code = code_by (Ptr × ℕ) (coded× coded_ptr coded_ℕ) (λ e. (e.ptr, e.len)) (λ p. record { ptr = p.0; len = p.1 }) (λ _. refl)
 
+-- its n bytes begin at p
+abbrev pub IsBlock : Buffer → Ptr → ℕ → Type 0
+IsBlock e p n = (e.ptr ≡ p) × (e.len ≡ n)
+
 -- p points into a block
 abbrev pub IsPlaced : Ptr → Type 0
 IsPlaced p = p ≡ block_ptr (block_of p) (count_of p)

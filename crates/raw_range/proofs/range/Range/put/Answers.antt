@@ -19,7 +19,7 @@ invariant_of-self c =
     let long : length c.deallocate-self-inside.result.bytes ≡ length h.bytes = ap length bytes ∙ length-written h.bytes xs at within.1 in
     let blocks : AreDisjoint (length h.bytes) (remove_extent p h.allocated) = AreDisjoint-remove_extent (length h.bytes) h.allocated p i.3 has in
     let size : AreDisjoint (length c.deallocate-self-inside.result.bytes) (remove_extent p h.allocated) = subst (λ n. AreDisjoint n (remove_extent p h.allocated)) (sym long) blocks in
-    (long ∙ i.0, e.0 ∙ ap (λ g. g.ptr) v ∙ i.1, i.2, subst (AreDisjoint (length c.deallocate-self-inside.result.bytes)) (sym allocated) size, i.4, i.5)
+    (long ∙ i.0, e.0 ∙ ap (λ g. g.ptr) v ∙ i.1, i.2, subst (AreDisjoint (length c.deallocate-self-inside.result.bytes)) (sym allocated) size, i.4)
 
 pub returns-clause-blocks : goal.returns-clause-blocks
 returns-clause-blocks c =

@@ -15,7 +15,7 @@ invariant_of-self c =
     let apart : All (Disjoint p) h.allocated = subst (λ (m : Memory). All (Disjoint p) m.allocated) (sym c.self.view_is) c.requires.disjoint in
     let blocks : AreDisjoint (length h.bytes) (p ∷ h.allocated) = AreDisjoint-cons (length h.bytes) p h.allocated (c.requires.some, omega (arith, pages, i.0)) apart i.3 in
     let size : AreDisjoint (length c.allocate-free.result.0.bytes) (p ∷ h.allocated) = subst (λ xs. AreDisjoint (length xs) (p ∷ h.allocated)) (sym same) blocks in
-    (ap length same ∙ i.0, e.0 ∙ ap (λ g. g.ptr) v ∙ i.1, i.2, subst (AreDisjoint (length c.allocate-free.result.0.bytes)) (sym allocated) size, i.4, i.5)
+    (ap length same ∙ i.0, e.0 ∙ ap (λ g. g.ptr) v ∙ i.1, i.2, subst (AreDisjoint (length c.allocate-free.result.0.bytes)) (sym allocated) size, i.4)
 
 pub returns-clause-blocks : goal.returns-clause-blocks
 returns-clause-blocks c =
