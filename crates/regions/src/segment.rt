@@ -1,4 +1,4 @@
-ghost use Rattle.std.specs.Prelude.{◌≡◌, ℕ, ◌+◌, ◌<◌, ◌≤◌, List, true, false, length, take, drop, Some, None, option_map, IsSome, IsNone, IfSome};
+ghost use Rattle.std.specs.Prelude.{◌≡◌, ◌⊎◌, ℕ, ◌+◌, ◌<◌, ◌≤◌, List, true, false, length, take, drop, Some, None, option_map, IsSome, IsNone, IfSome};
 ghost use Rattle.std.specs.Borrow.{Array, Lends, sem, u8 as byte};
 ghost use Rattle.layout.specs.Sizes as sizes;
 ghost use Rattle.object_log.specs.Objects.{IsSize, IsSegment};
@@ -155,12 +155,13 @@ impl Segment {
     // The first live object from the offset on: its own offset, its kind and its size.
     pub(crate) fn next_live(&self, from: u32) -> Option<(u32, u8, u32)>
         requires begun { self.now.free ≡ false }
-        requires start { starts_in (Some self.now) from }
+        requires start { (from ≡ 0) ⊎ starts_in (Some self.now) from }
         ensures none { IsNone result → none_lives_in (Some self.now) from self.now.used }
         ensures skipped { IfSome result (λ f. (from ≤ f.0) × none_lives_in (Some self.now) from f.0) }
         ensures found { IfSome result (λ f. IsLiveAt (item_if_live (standing_in (Some self.now) f.0)) f.1 f.2) }
         ensures size { IfSome result (λ f. (1 ≤ f.1) × IsSize f.2) }
         ensures within { IfSome result (λ f. f.0 + f.2 ≤ self.now.used) }
+        ensures inside { IfSome result (λ f. f.0 + f.2 ≤ sizes.segment) }
         ensures next { IfSome result (λ f. starts_in (Some self.now) (f.0 + f.2)) }
         ensures between { IfSome result (λ f. (a : ℕ) → f.0 < a → a < f.0 + f.2 → standing_in (Some self.now) a ≡ None) }
         ensures counted { IfSome result (λ f. f.2 ≤ live_in (Some self.now)) }

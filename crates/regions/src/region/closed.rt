@@ -1,5 +1,5 @@
 //! What compaction reads of closed segments, and how one becomes free.
-ghost use Rattle.std.specs.Prelude.{◌≡◌, ◌≢◌, ℕ, ◌+◌, ◌-◌, ◌<◌, ◌≤◌, length, slice_index, Some, None, option_map, slice_set, IfSome, IsNone};
+ghost use Rattle.std.specs.Prelude.{◌≡◌, ◌≢◌, ◌⊎◌, ℕ, ◌+◌, ◌-◌, ◌<◌, ◌≤◌, length, slice_index, Some, None, option_map, slice_set, IfSome, IsNone};
 ghost use Rattle.regions.specs.declared.place.Place.{Place};
 ghost use Rattle.layout.specs.Sizes as sizes;
 ghost use Rattle.object_log.specs.Objects.{IsSize, IsSegment};
@@ -50,16 +50,17 @@ impl Region {
         segment_in(&self.slots[segment as usize]).used()
     }
 
-    /// The first live object of a closed segment from the offset on, where an object begins or the last one ends: its own
-    /// offset, its kind, and its size in bytes. None where no object is live from there on.
+    /// The first live object of a closed segment from the offset on: its own offset, its kind, and its size in bytes. None
+    /// where no object is live from there on. The offset is 0, or an object begins or the last one ends there.
     pub fn next_live(&self, segment: u32, from: u32) -> Option<(u32, u8, u32)>
         requires closed { IsClosed self.now segment }
-        requires start { IsStart self.now segment from }
+        requires start { (from ≡ 0) ⊎ IsStart self.now segment from }
         ensures none { IsNone result → NoneLives self.now segment from (used_at self.now segment) }
         ensures skipped { IfSome result (λ f. (from ≤ f.0) × NoneLives self.now segment from f.0) }
         ensures found { IfSome result (λ f. IsLiveAt (live_at self.now (record { segment = segment; at = f.0 })) f.1 f.2) }
         ensures size { IfSome result (λ f. (1 ≤ f.1) × IsSize f.2) }
         ensures within { IfSome result (λ f. f.0 + f.2 ≤ used_at self.now segment) }
+        ensures inside { IfSome result (λ f. f.0 + f.2 ≤ sizes.segment) }
         ensures next { IfSome result (λ f. IsStart self.now segment (f.0 + f.2)) }
         ensures between { IfSome result (λ f. (a : ℕ) → f.0 < a → a < f.0 + f.2 → standing_at self.now (record { segment = segment; at = a }) ≡ None) }
         ensures counted { IfSome result (λ f. f.2 ≤ live_bytes_at self.now segment) }
@@ -85,12 +86,13 @@ impl Region {
         self.table.bytes()
     }
 
-    /// Makes a closed segment free, in which no object is live.
+    /// Makes a closed segment free, in which no object is live. It was full, so more than a dense segment's bytes are gained.
     pub fn free_closed(&mut self, segment: u32)
         requires closed { IsClosed self.old segment }
         requires dead { live_bytes_at self.old segment ≡ 0 }
         requires guards { guards_of self.old ≡ 0 }
         ensures freed { self.new ≡ with_segment self.old segment (option_map emptied (segment_at self.old segment)) }
+        ensures gained { sizes.dense < used_at self.old segment }
         ensures is_free { IsFree self.new segment }
         ensures closed { (n : ℕ) → n ≢ segment → IsClosed self.old n → IsClosed self.new n }
         ensures store { (p : Place) → live_at self.new p ≡ live_at self.old p }

@@ -1,7 +1,9 @@
 use Rattle.std.proofs.Common.{◌≡◌, ◌<◌, ◌≤◌, inl, inr, sym, ap, ◌∙◌, subst, arith}
 use Rattle.std.proofs.lemmas.Bool.Decides.{leb_tells}
 use Rattle.object_log.specs.Objects.{Object, objects, descriptor_at, IsSegment, StandsAt}
-use Rattle.regions.proofs.Objects.{found-any}
+use Rattle.std.specs.Prelude.{Some}
+use Rattle.regions.specs.Contents.{starts_in}
+use Rattle.regions.proofs.Objects.{found-any, first-start}
 use Rattle.regions.proofs.Walked.{there-at, some-kind, step, live-there, next-starts, none-between, counted, none-counted, passed}
 use Rattle.regions.proofs.segment.Segment.next_live.Goals as goal
 
@@ -44,6 +46,16 @@ returns-then-found-eq1-clause-within c =
     let is : c.bytes-bytes.result.now ≡ h.piece.bytes = c.bytes-bytes.ensures ∙ ap (λ k. k.piece.bytes) c.self.view_is in
     let d = c.read_descriptor-found.result in let d-is : d ≡ descriptor_at h.piece.bytes at = c.read_descriptor-found.ensures.read ∙ ap (λ b. descriptor_at b at) is in
     (step h.piece.bytes h.used at t d d-is).1
+
+pub returns-then-found-eq1-clause-inside : goal.returns-then-found-eq1-clause-inside
+returns-then-found-eq1-clause-inside c =
+    let h = c.args.self.now in let at = c.loop-at.at in
+    let s : IsSegment h.piece.bytes h.used = subst (λ k. IsSegment k.piece.bytes k.used) c.self.view_is (c.self.invariant.2 (ap (λ k. k.free) c.self.view_is ∙ c.requires.begun)) in
+    let low : at < h.used = subst (λ k. at < k.used) c.self.view_is c.loop-at-test.true in
+    let t = there-at h.piece.bytes h.used at s low c.loop-at.invariant.1 in
+    let is : c.bytes-bytes.result.now ≡ h.piece.bytes = c.bytes-bytes.ensures ∙ ap (λ k. k.piece.bytes) c.self.view_is in
+    let d = c.read_descriptor-found.result in let d-is : d ≡ descriptor_at h.piece.bytes at = c.read_descriptor-found.ensures.read ∙ ap (λ b. descriptor_at b at) is in
+    let w = step h.piece.bytes h.used at t d d-is in omega (arith, w.1, w.2)
 
 pub returns-then-found-eq1-clause-next : goal.returns-then-found-eq1-clause-next
 returns-then-found-eq1-clause-next c =
@@ -116,3 +128,15 @@ returns-clause-dead c = λ _ before.
         | inl up ↦ c.loop-at.invariant.2 b up.1 (omega (arith, high, inside))
         | inr under ↦ before b low under.1
       ])
+
+pub loop-at-init : goal.loop-at-init
+loop-at-init c =
+    let h = c.args.self.now in
+    let s : IsSegment h.piece.bytes h.used = subst (λ k. IsSegment k.piece.bytes k.used) c.self.view_is (c.self.invariant.2 (ap (λ k. k.free) c.self.view_is ∙ c.requires.begun)) in (
+      omega arith,
+      elim c.requires.start [
+        | inl first ↦ subst (starts_in (Some h)) (sym first) (first-start h.piece.bytes 0 h.used (objects h.piece.bytes h.used) s.objects)
+        | inr start ↦ start
+      ],
+      λ a low high. absurd (omega (arith, low, high)),
+    )
