@@ -8,7 +8,7 @@ use Rattle.std.proofs.lemmas.List.Elements.{All-head, All-tail}
 use Rattle.key_index.specs.declared.entries.Entry.{Entry}
 use Rattle.key_index.specs.Order.{key_cmp, Each, AreAbove, AreRising}
 use Rattle.key_index.specs.Lead.{rows_of, AreBytes, IsLed}
-use Rattle.key_index.specs.Index.{AreEntriesOf}
+use Rattle.key_index.specs.inside.Blocks.{AreEntriesOf}
 use Rattle.key_index.specs.inside.Blocks.{entries_of, entries_at, IsPlaceOf}
 use Rattle.key_index.specs.inside.Shared.{Share, AreAtMost, AreNotBelow, IsLowBound, IsHighBound}
 use Rattle.key_index.proofs.RowOrder.{each_left, each_right, each_weaker}

@@ -4,6 +4,7 @@ pub mod InBlocks
 pub mod Leads
 pub mod Shares
 pub mod Bounds
+pub mod Told
 pub mod Moved
 pub mod Unique
 pub mod Found

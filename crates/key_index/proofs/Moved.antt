@@ -1,14 +1,13 @@
 -- Keys that are moved.
-use Rattle.std.proofs.Common.{◌≡◌, ℕ, ◌+◌, List, [], ◌∷◌, ◌++◌, take, drop, refl, sym, ap, subst, ◌∙◌, append_assoc, add-one, get_or, zero, suc}
+use Rattle.std.proofs.Common.{◌≡◌, ℕ, List, [], ◌∷◌, take, drop, refl, sym, ap, subst, ◌∙◌, get_or}
 use Rattle.std.specs.Prelude.{All}
 use Rattle.std.proofs.lemmas.List.{take-append-drop}
 use Rattle.key_index.specs.declared.entries.Entry.{Entry}
 use Rattle.key_index.specs.declared.place.Place.{Place}
 use Rattle.key_index.specs.Order.{key_cmp, Each, AreAbove, AreBelow, AreRising}
-use Rattle.key_index.specs.Lead.{rows_of, first_bytes, AreBytes}
-use Rattle.key_index.specs.Index.{Index, rows, rows_before, rows_behind, joined, block_at, AreEntriesOf, IsPlaceFor}
-use Rattle.key_index.proofs.RowOrder.{each_left, each_right, each_weaker}
-use Rattle.key_index.proofs.InBlocks.{rows_append}
+use Rattle.key_index.specs.Lead.{first_bytes, AreBytes}
+use Rattle.key_index.specs.Index.{Index, IsOrdered, IsPlaceFor, joined, rank}
+use Rattle.key_index.proofs.RowOrder.{each_left, each_right}
 use Rattle.key_index.proofs.Leads.{all_from_each}
 
 abbrev Same : (ℕ → List ℕ) → (ℕ → List ℕ) → List ℕ → Type 0
@@ -26,43 +25,26 @@ rising_same : (f h : ℕ → List ℕ) (rows : List ℕ) → Same f h rows → A
 rising_same f h [] s r = tt
 rising_same f h (row ∷ rows) s r = (above_same f h (f row) (h row) rows s.0 s.1 r.0, rising_same f h rows s.1 r.1)
 
-pub moved_entries : (has had : ℕ → Type 0) (f h : ℕ → List ℕ) (entries : List Entry) → Each (λ row. had row × (h row ≡ f row)) (rows_of entries) → AreEntriesOf has f entries → AreEntriesOf had h entries
-moved_entries has had f h entries s is =
-    let same : All (λ (e : Entry). had e.row × (h e.row ≡ f e.row)) entries = all_from_each (λ row. had row × (h row ≡ f row)) entries s in
+bytes_same : (f h : ℕ → List ℕ) (rows : List ℕ) → Same f h rows → Each (λ row. AreBytes (f row)) rows → Each (λ row. AreBytes (h row)) rows
+bytes_same f h [] s e = tt
+bytes_same f h (row ∷ rows) s e = (subst AreBytes (sym s.0) e.0, bytes_same f h rows s.1 e.1)
+
+pub moved_order : (f h : ℕ → List ℕ) (index : Index) → Same f h index.rows → IsOrdered f index → IsOrdered h index
+moved_order f h index s is =
+    let same : All (λ (e : Entry). h e.row ≡ f e.row) (joined index.kept) = all_from_each (λ row. h row ≡ f row) (joined index.kept) (subst (Same f h) (sym is.beside) s) in
     record {
-      readable = λ k d i. (same k d i).0;
-      bytes = λ k d i. subst AreBytes (sym (same k d i).1) (is.bytes k d i);
-      leads = λ k d i. is.leads k d i ∙ ap (λ (x : List ℕ). first_bytes 8 (drop (get_or entries k d).skip x)) (sym (same k d i).1);
-      rising = rising_same f h (rows_of entries) (each_weaker (λ row. had row × (h row ≡ f row)) (λ row. h row ≡ f row) (λ row e. e.1) (rows_of entries) s) is.rising;
+      beside = is.beside;
+      rising = rising_same f h index.rows s is.rising;
+      bytes = bytes_same f h index.rows s is.bytes;
+      kept = λ k d i. is.kept k d i ∙ ap (λ (x : List ℕ). first_bytes 8 (drop (get_or (joined index.kept) k d).skip x)) (sym (same k d i));
     }
 
-split_place : (bs : List (List Entry)) (k : ℕ) → joined bs ≡ joined (take k bs) ++ (block_at bs k ++ joined (drop (suc k) bs))
-split_place [] zero = refl
-split_place [] (suc k) = refl
-split_place (b ∷ bs) zero = refl
-split_place (b ∷ bs) (suc k) = ap (λ (es : List Entry). b ++ es) (split_place bs k) ∙ sym (append_assoc b (joined (take k bs)) (block_at bs k ++ joined (drop (suc k) bs)))
-
--- the rows are those before a place and those from it on
-pub cut_place : (index : Index) (place : Place) → rows index ≡ rows_before index place ++ rows_behind index place
-cut_place index place =
-    let bs = index.blocks in
-    let a = rows_of (joined (take place.block bs)) in
-    let b = rows_of (block_at bs place.block) in
-    let d = rows_of (joined (drop (place.block + 1) bs)) in
-    ap rows_of (split_place bs place.block)
-    ∙ rows_append (joined (take place.block bs)) (block_at bs place.block ++ joined (drop (suc place.block) bs))
-    ∙ ap (λ (n : ℕ). a ++ rows_of (block_at bs place.block ++ joined (drop n bs))) (sym (add-one place.block))
-    ∙ ap (λ (xs : List ℕ). a ++ xs) (rows_append (block_at bs place.block) (joined (drop (place.block + 1) bs)))
-    ∙ ap (λ (xs : List ℕ). a ++ (xs ++ d)) (sym (take-append-drop place.at b))
-    ∙ ap (λ (xs : List ℕ). a ++ xs) (append_assoc (take place.at b) (drop place.at b) d)
-    ∙ sym (append_assoc a (take place.at b) (drop place.at b ++ d))
-
-pub moved_place : (f h : ℕ → List ℕ) (key : List ℕ) (index : Index) (place : Place) → Each (λ row. h row ≡ f row) (rows index) → IsPlaceFor f key index place → IsPlaceFor h key index place
-moved_place f h key index place same is =
-    let parts = subst (Each (λ row. h row ≡ f row)) (cut_place index place) same in
+pub moved_place : (f h : ℕ → List ℕ) (key : List ℕ) (index : Index) (place : Place) → Same f h index.rows → IsPlaceFor f key index place → IsPlaceFor h key index place
+moved_place f h key index place s is =
+    let n = rank index place in
+    let parts = subst (Same f h) (sym (take-append-drop n index.rows)) s in
     record {
-      block = is.block;
-      at = is.at;
-      before = below_same f h key (rows_before index place) (each_left (λ row. h row ≡ f row) (rows_before index place) (rows_behind index place) parts) is.before;
-      behind = above_same f h key key (rows_behind index place) refl (each_right (λ row. h row ≡ f row) (rows_before index place) (rows_behind index place) parts) is.behind;
+      within = is.within;
+      before = below_same f h key (take n index.rows) (each_left (λ row. h row ≡ f row) (take n index.rows) (drop n index.rows) parts) is.before;
+      behind = above_same f h key key (drop n index.rows) refl (each_right (λ row. h row ≡ f row) (take n index.rows) (drop n index.rows) parts) is.behind;
     }

@@ -52,3 +52,17 @@ one_order key_of (x ∷ xs) (y ∷ ys) f g there back =
       | inl e ↦ absurd (apart y row (each_in (λ r. key_cmp (key_of y) (key_of r) ≡ Less) ys row g.0 h) (sym same ∙ e))
       | inr more ↦ more
     ]
+
+-- rows of one key are one
+pub one_row : (key_of : ℕ → List ℕ) (xs : List ℕ) (x y : ℕ) → AreRising key_of xs → Contains xs x → Contains xs y → key_of x ≡ key_of y → x ≡ y
+one_row key_of [] x y rising h i same = absurd (none_in x h)
+one_row key_of (z ∷ xs) x y rising h i same = elim (cases_in z x xs h) [
+  | inl e ↦ elim (cases_in z y xs i) [
+    | inl f ↦ sym e ∙ f
+    | inr f ↦ absurd (less_apart (key_of z) (key_of y) (each_in (λ r. key_cmp (key_of z) (key_of r) ≡ Less) xs y rising.0 f) (ap key_of e ∙ same))
+  ]
+  | inr e ↦ elim (cases_in z y xs i) [
+    | inl f ↦ absurd (less_apart (key_of z) (key_of x) (each_in (λ r. key_cmp (key_of z) (key_of r) ≡ Less) xs x rising.0 e) (ap key_of f ∙ sym same))
+    | inr f ↦ one_row key_of xs x y rising.1 e f same
+  ]
+]

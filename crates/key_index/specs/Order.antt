@@ -1,6 +1,6 @@
 -- Rows in the order of their keys.
-use Rattle.std.specs.Prelude.{◌≡◌, ℕ, List, [], ◌∷◌, filter}
-use Rattle.std.specs.Ordering.{nat_cmp, is_lt, is_le}
+use Rattle.std.specs.Prelude.{◌≡◌, ℕ, List, [], ◌∷◌, ◌++◌, filter}
+use Rattle.std.specs.Ordering.{nat_cmp, is_le}
 use Rattle.std.specs.Cmp.Lexicographic.{slice_cmp}
 use Rattle.std.specs.declared.cmp.Ordering.{Ordering}
 use Rattle.std.specs.declared.cmp.Ordering.TheVariants.{Less}
@@ -27,12 +27,22 @@ abbrev pub AreRising : (ℕ → List ℕ) → List ℕ → Type 0
 AreRising key_of [] = Unit {0}
 AreRising key_of (row ∷ rows) = AreAbove key_of (key_of row) rows × AreRising key_of rows
 
--- those of some rows whose keys are below a key, at or above it, and above it
-abbrev pub rows_below : (ℕ → List ℕ) → List ℕ → List ℕ → List ℕ
-rows_below key_of key rows = filter (λ row. is_lt (key_cmp (key_of row) key)) rows
-
+-- those of some rows whose keys are at or above a key
 abbrev pub rows_from : (ℕ → List ℕ) → List ℕ → List ℕ → List ℕ
 rows_from key_of key rows = filter (λ row. is_le (key_cmp key (key_of row))) rows
 
-abbrev pub rows_above : (ℕ → List ℕ) → List ℕ → List ℕ → List ℕ
-rows_above key_of key rows = filter (λ row. is_lt (key_cmp key (key_of row))) rows
+-- a row is put in between those whose keys are below its own and those whose keys are above
+pub record PutsIn (key_of : ℕ → List ℕ) (row : ℕ) (before after : List ℕ) : Type 0 where
+  pub front : List ℕ
+  pub back : List ℕ
+  pub were : before ≡ front ++ back
+  pub are : after ≡ front ++ row ∷ back
+  pub below : AreBelow key_of (key_of row) front
+  pub above : AreAbove key_of (key_of row) back
+
+-- a row is taken out, and the others keep their order
+pub record TakesOut (row : ℕ) (before after : List ℕ) : Type 0 where
+  pub front : List ℕ
+  pub back : List ℕ
+  pub were : before ≡ front ++ row ∷ back
+  pub are : after ≡ front ++ back

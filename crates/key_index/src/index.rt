@@ -1,12 +1,12 @@
 //! The index.
 ghost use Rattle.std.specs.Prelude.{◌≡◌, ◌≢◌, ℕ, ◌+◌, ◌<◌, ◌≤◌, ◌++◌, ◌∷◌, [], List, length, take, drop, All, Contains, IfOk, MatchOption, MatchResult};
-ghost use Rattle.key_index.specs.Order.{AreRising, Each, rows_above, rows_below, rows_from};
-ghost use Rattle.key_index.specs.Index.{rows, IsIndexOf, IsPlaceFor};
+ghost use Rattle.key_index.specs.Order.{AreRising, Each, PutsIn, TakesOut, rows_from};
+ghost use Rattle.key_index.specs.Index.{IsIndexOf, IsOrdered, IsPlaceFor, IsRowAt};
 
 use crate::blocks::{HALF, begin, entry_at, make_room, put, sharpen, spare_blocks, take_out};
 use crate::entries::{Entry, entry_of, has_key};
 use crate::keys::Keys;
-use crate::place::Place;
+use crate::place::{Place, RowAt};
 use crate::rows::Rows;
 use crate::search::seek;
 use std::alloc::{AllocError, Global};
@@ -26,13 +26,14 @@ pub struct KeyIndex {
 
 impl Model for KeyIndex {
     ghost use Rattle.key_index.specs.Index.{Index};
-    ghost use Rattle.key_index.specs.inside.Blocks.{contents};
+    ghost use Rattle.key_index.specs.Lead.{rows_of};
+    ghost use Rattle.key_index.specs.inside.Blocks.{contents, entries_of};
     ghost use Rattle.key_index.specs.inside.Kept.{AreKept};
     ghost use Rattle.std.specs.Prelude.{vec_capacity};
 
     ghost Value = { Index };
 
-    ghost view = { λ a. record { room = a.room; blocks = contents a.blocks.items } };
+    ghost view = { λ a. record { rows = rows_of (entries_of a.blocks.items); room = a.room; kept = contents a.blocks.items } };
 
     ghost invariant = { λ a. AreKept a.room a.count a.blocks.items a.spare.items (vec_capacity a.blocks) (vec_capacity a.spare) };
 }
@@ -44,7 +45,7 @@ impl KeyIndex {
     ///
     /// The allocator has no memory.
     pub fn new(alloc: Global, room: u32) -> Result<KeyIndex, AllocError>
-        ensures { IfOk result (λ made. made ≡ record { room = room; blocks = [] }) }
+        ensures { IfOk result (λ made. made ≡ record { rows = []; room = room; kept = [] }) }
     {
         let count = room as usize * 2 / (HALF + 1) + 3;
         let blocks = Vec::with_capacity(alloc, count)?;
@@ -59,7 +60,8 @@ impl KeyIndex {
 
     /// How many rows there are.
     pub fn len(&self) -> u32
-        ensures { result ≡ length (rows self.now) }
+        ensures count { result ≡ length self.now.rows }
+        ensures within { result ≤ self.now.room }
     {
         self.count
     }
@@ -71,12 +73,15 @@ impl KeyIndex {
         self.room
     }
 
-    /// The row of a key, or the place where one would stand, for [`KeyIndex::insert_at`]. The place is good until the
-    /// index changes.
-    pub fn search<K: Keys>(&self, keys: &K, key: &[u8]) -> Result<u32, Place>
+    /// The row of a key and where it stands, for [`KeyIndex::remove_at`].
+    ///
+    /// # Errors
+    ///
+    /// No row has the key. The answer is the place where one would stand, for [`KeyIndex::insert_at`].
+    pub fn search<K: Keys>(&self, keys: &K, key: &[u8]) -> Result<RowAt, Place>
         requires { IsIndexOf (K.has_row keys.now) (K.key_of keys.now) self.now }
         ensures { MatchResult result
-            (λ row. Contains (rows self.now) row × (K.key_of keys.now row ≡ key.now))
+            (λ found. IsRowAt self.now found.place found.row × (K.key_of keys.now found.row ≡ key.now))
             (λ place. IsPlaceFor (K.key_of keys.now) key.now self.now place) }
     {
         let blocks = self.blocks.as_slice();
@@ -88,18 +93,21 @@ impl KeyIndex {
         if !found {
             return Err(place);
         }
-        Ok(entry.row)
+        Ok(RowAt {
+            row: entry.row,
+            place,
+        })
     }
 
-    /// The row of a key.
+    /// The row of a key, if one has it.
     pub fn find<K: Keys>(&self, keys: &K, key: &[u8]) -> Option<u32>
         requires { IsIndexOf (K.has_row keys.now) (K.key_of keys.now) self.now }
         ensures { MatchOption result
-            (Each (λ row. K.key_of keys.now row ≢ key.now) (rows self.now))
-            (λ row. Contains (rows self.now) row × (K.key_of keys.now row ≡ key.now)) }
+            (All (λ row. K.key_of keys.now row ≢ key.now) self.now.rows)
+            (λ row. Contains self.now.rows row × (K.key_of keys.now row ≡ key.now)) }
     {
         match self.search(keys, key) {
-            Ok(row) => Some(row),
+            Ok(found) => Some(found.row),
             Err(_) => None,
         }
     }
@@ -109,15 +117,10 @@ impl KeyIndex {
         requires index { IsIndexOf (K.has_row keys.now) (K.key_of keys.now) self.old }
         requires readable { K.has_row keys.now row }
         requires place { IsPlaceFor (K.key_of keys.now) (K.key_of keys.now row) self.old place }
-        requires room { length (rows self.old) < self.old.room }
+        requires room { length self.old.rows < self.old.room }
         ensures index { IsIndexOf (K.has_row keys.now) (K.key_of keys.now) self.new }
         ensures room { self.new.room ≡ self.old.room }
-        ensures others { rows self.old
-            ≡ rows_below (K.key_of keys.now) (K.key_of keys.now row) (rows self.old)
-            ++ rows_above (K.key_of keys.now) (K.key_of keys.now row) (rows self.old) }
-        ensures rows { rows self.new
-            ≡ rows_below (K.key_of keys.now) (K.key_of keys.now row) (rows self.old)
-            ++ row ∷ rows_above (K.key_of keys.now) (K.key_of keys.now row) (rows self.old) }
+        ensures rows { PutsIn (K.key_of keys.now) row self.old.rows self.new.rows }
     {
         let entry = entry_of(keys, row, place.skip);
         self.count += 1;
@@ -130,20 +133,15 @@ impl KeyIndex {
         put(&mut self.blocks, place, entry);
     }
 
-    /// Puts a row in whose key is not there. No memory is taken.
+    /// Puts a row in whose key no row has. No memory is taken.
     pub fn insert<K: Keys>(&mut self, keys: &K, row: u32)
         requires index { IsIndexOf (K.has_row keys.now) (K.key_of keys.now) self.old }
         requires readable { K.has_row keys.now row }
-        requires absent { Each (λ other. K.key_of keys.now other ≢ K.key_of keys.now row) (rows self.old) }
-        requires room { length (rows self.old) < self.old.room }
+        requires absent { All (λ other. K.key_of keys.now other ≢ K.key_of keys.now row) self.old.rows }
+        requires room { length self.old.rows < self.old.room }
         ensures index { IsIndexOf (K.has_row keys.now) (K.key_of keys.now) self.new }
         ensures room { self.new.room ≡ self.old.room }
-        ensures others { rows self.old
-            ≡ rows_below (K.key_of keys.now) (K.key_of keys.now row) (rows self.old)
-            ++ rows_above (K.key_of keys.now) (K.key_of keys.now row) (rows self.old) }
-        ensures rows { rows self.new
-            ≡ rows_below (K.key_of keys.now) (K.key_of keys.now row) (rows self.old)
-            ++ row ∷ rows_above (K.key_of keys.now) (K.key_of keys.now row) (rows self.old) }
+        ensures rows { PutsIn (K.key_of keys.now) row self.old.rows self.new.rows }
     {
         let Err(place) = self.search(keys, keys.key(row)) else {
             unreachable!();
@@ -151,54 +149,55 @@ impl KeyIndex {
         self.insert_at(keys, place, row);
     }
 
-    /// Takes the row of a key out.
+    /// Takes a row out at its place. The index stays one of the same keys, and needs the row's no longer.
+    pub fn remove_at(&mut self, found: RowAt)
+        requires { IsRowAt self.old found.place found.row }
+        ensures ordered { (key_of : ℕ → List ℕ) → IsOrdered key_of self.old → IsOrdered key_of self.new }
+        ensures room { self.new.room ≡ self.old.room }
+        ensures rows { TakesOut found.row self.old.rows self.new.rows }
+    {
+        take_out(&mut self.blocks, &mut self.spare, found.place);
+        self.count -= 1;
+    }
+
+    /// Takes the row of a key out, if one has it.
     pub fn remove<K: Keys>(&mut self, keys: &K, key: &[u8]) -> Option<u32>
         requires { IsIndexOf (K.has_row keys.now) (K.key_of keys.now) self.old }
         ensures index { IsIndexOf (K.has_row keys.now) (K.key_of keys.now) self.new }
         ensures room { self.new.room ≡ self.old.room }
         ensures rows { MatchOption result
-            (Each (λ row. K.key_of keys.now row ≢ key.now) (rows self.old) × (self.new ≡ self.old))
-            (λ row. (K.key_of keys.now row ≡ key.now)
-            × (rows self.old ≡ rows_below (K.key_of keys.now) key.now (rows self.old) ++ row ∷ rows_above (K.key_of keys.now) key.now (rows self.old))
-            × (rows self.new ≡ rows_below (K.key_of keys.now) key.now (rows self.old) ++ rows_above (K.key_of keys.now) key.now (rows self.old))) }
+            (All (λ row. K.key_of keys.now row ≢ key.now) self.old.rows × (self.new ≡ self.old))
+            (λ row. (K.key_of keys.now row ≡ key.now) × TakesOut row self.old.rows self.new.rows) }
     {
-        let blocks = self.blocks.as_slice();
-        let place = seek(keys, blocks, key);
-        let Some(entry) = entry_at(blocks, place) else {
+        let Ok(found) = self.search(keys, key) else {
             return None;
         };
-        let found = has_key(keys, entry, key);
-        if !found {
-            return None;
-        }
-        take_out(&mut self.blocks, &mut self.spare, place);
-        self.count -= 1;
-        Some(entry.row)
+        self.remove_at(found);
+        Some(found.row)
     }
 
-    /// The rows of the keys that are not below a key, in order.
+    /// The rows of the keys that are at or above a key, in order.
     pub fn rows_from<K: Keys>(&self, keys: &K, key: &[u8]) -> Rows<'_>
         requires { IsIndexOf (K.has_row keys.now) (K.key_of keys.now) self.now }
-        ensures { result ≡ rows_from (K.key_of keys.now) key.now (rows self.now) }
+        ensures { result ≡ rows_from (K.key_of keys.now) key.now self.now.rows }
     {
         let blocks = self.blocks.as_slice();
         let place = seek(keys, blocks, key);
         Rows::new(blocks, place)
     }
 
-    /// What keeps an index, and a place in it, while keys are moved: nothing but the keys of its rows. An empty index
-    /// is one of any keys, and rows have one order, so the rows of an index are any list of them that rises.
-    pub fn law<K: Keys>(&self)
-        ensures empty { rows self.now ≡ [] → (keys : K) → IsIndexOf (K.has_row keys) (K.key_of keys) self.now }
-        ensures index { (before after : K)
-            → Each (λ row. K.has_row after row × (K.key_of after row ≡ K.key_of before row)) (rows self.now)
-            → IsIndexOf (K.has_row before) (K.key_of before) self.now → IsIndexOf (K.has_row after) (K.key_of after) self.now }
-        ensures place { (before after : K) (key : List ℕ) (place : Place)
-            → Each (λ row. K.key_of after row ≡ K.key_of before row) (rows self.now)
-            → IsPlaceFor (K.key_of before) key self.now place → IsPlaceFor (K.key_of after) key self.now place }
-        ensures order { (keys : K) (others : List ℕ) → AreRising (K.key_of keys) others
-            → ((row : ℕ) → Contains (rows self.now) row → Contains others row)
-            → ((row : ℕ) → Contains others row → Contains (rows self.now) row)
-            → IsIndexOf (K.has_row keys) (K.key_of keys) self.now → rows self.now ≡ others }
+    /// What holds of each index, whoever keeps the keys of its rows: nothing but these keys matters, so an index stays
+    /// one, and a place in it stays, where keys are moved.
+    pub fn law(&self)
+        ensures moved { (before after : ℕ → List ℕ) → All (λ row. after row ≡ before row) self.now.rows → IsOrdered before self.now → IsOrdered after self.now }
+        ensures place { (before after : ℕ → List ℕ) (key : List ℕ) (place : Place) → All (λ row. after row ≡ before row) self.now.rows
+            → IsPlaceFor before key self.now place → IsPlaceFor after key self.now place }
+        ensures absent { (key_of : ℕ → List ℕ) (key : List ℕ) (place : Place) → IsPlaceFor key_of key self.now place → All (λ row. key_of row ≢ key) self.now.rows }
+        ensures there { (place : Place) (row : ℕ) → IsRowAt self.now place row → Contains self.now.rows row }
+        ensures one { (key_of : ℕ → List ℕ) (row other : ℕ) → IsOrdered key_of self.now
+            → Contains self.now.rows row → Contains self.now.rows other → key_of row ≡ key_of other → row ≡ other }
+        ensures order { (key_of : ℕ → List ℕ) (others : List ℕ) → AreRising key_of others → IsOrdered key_of self.now
+            → ((row : ℕ) → Contains self.now.rows row → Contains others row)
+            → ((row : ℕ) → Contains others row → Contains self.now.rows row) → self.now.rows ≡ others }
     {}
 }

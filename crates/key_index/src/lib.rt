@@ -18,5 +18,5 @@ mod tests;
 
 pub use index::KeyIndex;
 pub use keys::Keys;
-pub use place::Place;
+pub use place::{Place, RowAt};
 pub use rows::Rows;

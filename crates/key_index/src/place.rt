@@ -1,6 +1,6 @@
-//! Places between the rows of an index.
+//! Places in an index.
 
-/// A place between rows: a block, and how many of its entries stand before the place.
+/// A place before a row, or behind the last one.
 ///
 /// It is good until the index changes.
 #[derive(Clone, Copy)]
@@ -9,4 +9,11 @@ pub struct Place {
     pub(crate) at: usize,
     // how many bytes of its key an entry skips that is put here, best
     pub(crate) skip: u32,
+}
+
+/// A row, and where it stands.
+#[derive(Clone, Copy)]
+pub struct RowAt {
+    pub row: u32,
+    pub place: Place,
 }

@@ -2,8 +2,7 @@
 ghost use Rattle.std.specs.Prelude.{◌≡◌, ℕ, ◌+◌, ◌-◌, ◌<◌, ◌≤◌, List, length, take, drop, All};
 ghost use Rattle.key_index.specs.Order.{key_cmp, AreAbove, AreBelow};
 ghost use Rattle.key_index.specs.Lead.{rows_of};
-ghost use Rattle.key_index.specs.Index.{AreEntriesOf};
-ghost use Rattle.key_index.specs.inside.Blocks.{entries_of, entries_at, AreAtLeast, IsPlaceOf};
+ghost use Rattle.key_index.specs.inside.Blocks.{entries_of, entries_at, AreAtLeast, AreEntriesOf, IsPlaceOf};
 ghost use Rattle.key_index.specs.inside.Shared.{Share};
 
 use crate::entries::{Entry, best_skip, compare};

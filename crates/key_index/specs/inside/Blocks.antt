@@ -1,12 +1,19 @@
 -- Blocks of entries.
-use Rattle.std.specs.Prelude.{◌≡◌, ℕ, ◌+◌, ◌<◌, ◌≤◌, false, List, ◌++◌, length, map, take, drop}
+use Rattle.std.specs.Prelude.{◌≡◌, ℕ, ◌+◌, ◌<◌, ◌≤◌, false, List, ◌++◌, length, map, take, drop, All}
 use Rattle.std.specs.Vec.{vec_capacity}
 use Rattle.std.specs.Ordering.{is_lt}
 use Rattle.std.specs.declared.vec.Vec.{Vec}
 use Rattle.key_index.specs.declared.entries.Entry.{Entry}
-use Rattle.key_index.specs.Lead.{rows_of}
-use Rattle.key_index.specs.Order.{key_cmp, Each, AreAbove, AreBelow}
+use Rattle.key_index.specs.Lead.{rows_of, AreBytes, IsLed}
+use Rattle.key_index.specs.Order.{key_cmp, Each, AreAbove, AreBelow, AreRising}
 use Rattle.key_index.specs.Index.{joined, block_at}
+
+-- entries in the order of keys that can be read
+pub record AreEntriesOf (has_row : ℕ → Type 0) (key_of : ℕ → List ℕ) (entries : List Entry) : Type 0 where
+  pub readable : All (λ entry. has_row entry.row) entries
+  pub bytes : All (λ entry. AreBytes (key_of entry.row)) entries
+  pub leads : All (IsLed key_of) entries
+  pub rising : AreRising key_of (rows_of entries)
 
 -- what blocks hold
 abbrev pub contents : {Z : Type 0} → List (Vec Entry Z) → List (List Entry)

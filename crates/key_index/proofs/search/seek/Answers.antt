@@ -3,7 +3,7 @@ use Rattle.std.specs.Prelude.{All}
 use Rattle.key_index.specs.declared.entries.Entry.{Entry}
 use Rattle.key_index.specs.Order.{AreAbove, AreBelow}
 use Rattle.key_index.specs.Lead.{rows_of}
-use Rattle.key_index.specs.Index.{AreEntriesOf}
+use Rattle.key_index.specs.inside.Blocks.{AreEntriesOf}
 use Rattle.key_index.specs.inside.Blocks.{entries_of, AreAtLeast}
 use Rattle.key_index.specs.inside.Shared.{Share}
 use Rattle.key_index.proofs.InBlocks.{at_read, above_after}

@@ -1,4 +1,4 @@
-use Rattle.std.proofs.Common.{◌≡◌, ℕ, ◌+◌, ◌++◌, ◌∷◌, List, length, get_or, sym, ap, subst, ◌∙◌, arith, Global, true, eqb}
+use Rattle.std.proofs.Common.{◌≡◌, ℕ, ◌+◌, ◌++◌, ◌∷◌, [], List, length, get_or, sym, ap, subst, ◌∙◌, arith, Global, true, eqb}
 use Rattle.std.specs.Prelude.{All, vec_len}
 use Rattle.std.specs.declared.vec.Vec.{Vec}
 use Rattle.std.proofs.lemmas.Bool.Decides.{nat_tests}
@@ -6,8 +6,8 @@ use Rattle.std.proofs.lemmas.List.{length-map, nil_from_length}
 use Rattle.key_index.specs.declared.entries.Entry.{Entry}
 use Rattle.key_index.specs.Order.{AreRising}
 use Rattle.key_index.specs.Lead.{rows_of, AreBytes, IsLed}
-use Rattle.key_index.specs.Index.{Index, rows, joined, IsPlaceFor}
-use Rattle.key_index.specs.inside.Blocks.{entries_of, lens_of, front, back}
+use Rattle.key_index.specs.Index.{Index}
+use Rattle.key_index.specs.inside.Blocks.{entries_of, lens_of, front, back, AreEntriesOf}
 use Rattle.key_index.proofs.Density.{dense_one}
 use Rattle.key_index.proofs.Leads.{all_same_rows}
 use Rattle.key_index.proofs.RowOrder.{rising_insert}
@@ -15,7 +15,9 @@ use Rattle.key_index.proofs.Found.{cut_at}
 use Rattle.key_index.proofs.Edits.{all_put, rows_put, length_put, len_at}
 use Rattle.key_index.proofs.Relead.{same_len}
 use Rattle.key_index.proofs.Changed.{has_spare}
-use Rattle.key_index.proofs.Places.{stands_at, stand_still, put_between, parted}
+use Rattle.key_index.proofs.Places.{stands_at, stand_still}
+use Rattle.key_index.proofs.Told.{entries_told, index_told}
+use Rattle.std.proofs.lemmas.List.Elements.{All-cons, All-nil}
 use Rattle.key_index.proofs.index.KeyIndex.insert_at.Goals as goal
 
 is_zero : (n : ℕ) → true ≡ eqb n 0 → n ≡ 0
@@ -25,7 +27,7 @@ pub invariant_of-self : goal.invariant_of-self
 invariant_of-self g c =
     let kept = c.self.invariant in
     let none = is_zero (vec_len c.self.inside.blocks) c.if-is_empty.ensures in
-    let len = ap (λ (i : Index). length (rows i)) c.self.view_is in
+    let len = ap (λ (i : Index). length i.rows) c.self.view_is in
     let room = ap (λ (i : Index). i.room) c.self.view_is in
     let less = c.requires.room in
     let before = length-map (entries_of c.self.inside.blocks.items) (λ (e : Entry). e.row) in
@@ -43,10 +45,17 @@ invariant_of-self g c =
       within = omega (arith, kept.counted, len, room, less, before);
     }
 
+pub sharpen-requires-clause-readable : goal.sharpen-requires-clause-readable
+sharpen-requires-clause-readable g c =
+    (entries_told (g.K.Keys.has_row c.args.keys.now) (g.K.Keys.key_of c.args.keys.now) c.self.inside.room c.self.inside.blocks.items c.args.self.now c.self.view_is c.requires.index).readable
+
+pub sharpen-requires-clause-leads : goal.sharpen-requires-clause-leads
+sharpen-requires-clause-leads g c =
+    (entries_told (g.K.Keys.has_row c.args.keys.now) (g.K.Keys.key_of c.args.keys.now) c.self.inside.room c.self.inside.blocks.items c.args.self.now c.self.view_is c.requires.index).leads
+
 pub make_room-place-requires-clause-at : goal.make_room-place-requires-clause-at
 make_room-place-requires-clause-at g c =
-    let s = stands_at (g.K.Keys.key_of c.args.keys.now) (g.K.Keys.key_of c.args.keys.now c.args.row) c.self.inside.room c.self.inside.blocks.items c.args.place (subst (λ (i : Index). IsPlaceFor (g.K.Keys.key_of c.args.keys.now) (g.K.Keys.key_of c.args.keys.now c.args.row) i c.args.place)
-    (sym c.self.view_is) c.requires.place) in
+    let s = stands_at (g.K.Keys.key_of c.args.keys.now) (g.K.Keys.key_of c.args.keys.now c.args.row) c.self.inside.room c.self.inside.blocks.items c.args.self.now c.args.place c.self.view_is c.requires.place in
     let k = c.args.place.block in
     let new = len_at c.sharpen.new.blocks.items k in
     let old = len_at c.self.inside.blocks.items k in
@@ -56,7 +65,7 @@ make_room-place-requires-clause-at g c =
 
 pub make_room-place-requires-clause-spare : goal.make_room-place-requires-clause-spare
 make_room-place-requires-clause-spare g c =
-    let len = ap (λ (i : Index). length (rows i)) c.self.view_is in
+    let len = ap (λ (i : Index). length i.rows) c.self.view_is in
     let room = ap (λ (i : Index). i.room) c.self.view_is in
     let count = length-map (entries_of c.self.inside.blocks.items) (λ (e : Entry). e.row) in
     let has = has_spare c.self.inside.room c.self.inside.count c.self.inside.blocks.items c.self.inside.spare.items _ _ c.self.invariant (omega (arith, len, room, count, c.requires.room)) in
@@ -64,7 +73,7 @@ make_room-place-requires-clause-spare g c =
 
 pub make_room-place-requires-clause-room : goal.make_room-place-requires-clause-room
 make_room-place-requires-clause-room g c =
-    let len = ap (λ (i : Index). length (rows i)) c.self.view_is in
+    let len = ap (λ (i : Index). length i.rows) c.self.view_is in
     let room = ap (λ (i : Index). i.room) c.self.view_is in
     let count = length-map (entries_of c.self.inside.blocks.items) (λ (e : Entry). e.row) in
     let has = has_spare c.self.inside.room c.self.inside.count c.self.inside.blocks.items c.self.inside.spare.items _ _ c.self.invariant (omega (arith, len, room, count, c.requires.room)) in
@@ -73,7 +82,7 @@ make_room-place-requires-clause-room g c =
 pub invariant_of-self-2 : goal.invariant_of-self-2
 invariant_of-self-2 g c =
     let kept = c.self.invariant in
-    let len = ap (λ (i : Index). length (rows i)) c.self.view_is in
+    let len = ap (λ (i : Index). length i.rows) c.self.view_is in
     let room = ap (λ (i : Index). i.room) c.self.view_is in
     let less = c.requires.room in
     let before = length-map (entries_of c.self.inside.blocks.items) (λ (e : Entry). e.row) in
@@ -103,52 +112,81 @@ invariant_of-self-2 g c =
       within = omega (arith, kept.counted, len, room, less, before);
     }
 
+pub returns-then-is_empty-clause-index : goal.returns-then-is_empty-clause-index
+returns-then-is_empty-clause-index g c =
+    let has_row = g.K.Keys.has_row c.args.keys.now in
+    let key_of = g.K.Keys.key_of c.args.keys.now in
+    let entry = c.entry_of-entry.result in
+    let P : Entry → Type 0 = λ e. has_row e.row in
+    let Q : Entry → Type 0 = λ e. AreBytes (key_of e.row) in
+    index_told has_row key_of c.self.inside.room c.begin.new.blocks.items (subst (AreEntriesOf has_row key_of) (sym c.begin.ensures.entries) (
+    record {
+      readable = All-cons P entry [] (subst has_row (sym c.entry_of-entry.ensures.row) c.requires.readable) (All-nil P);
+      bytes = All-cons Q entry [] (subst (λ r. AreBytes (key_of r)) (sym c.entry_of-entry.ensures.row) c.entry_of-entry.ensures.bytes) (All-nil Q);
+      leads = All-cons (IsLed key_of) entry [] c.entry_of-entry.ensures.led (All-nil (IsLed key_of));
+      rising = (tt, tt);
+    }
+    ))
+
+pub returns-then-is_empty-clause-rows : goal.returns-then-is_empty-clause-rows
+returns-then-is_empty-clause-rows g c =
+    let none = is_zero (vec_len c.self.inside.blocks) c.if-is_empty.ensures in
+    let blocks = nil_from_length c.self.inside.blocks.items (omega (arith, none, c.self.inside.blocks.ok)) in
+    record {
+      front = [];
+      back = [];
+      were = sym (ap (λ (i : Index). i.rows) c.self.view_is) ∙ ap (λ (bs : List (Vec Entry Global)). rows_of (entries_of bs)) blocks;
+      are = ap rows_of c.begin.ensures.entries ∙ ap (λ (r : ℕ). r ∷ []) c.entry_of-entry.ensures.row;
+      below = tt;
+      above = tt;
+    }
+
 pub returns-clause-index : goal.returns-clause-index
 returns-clause-index g c =
+    let has_row = g.K.Keys.has_row c.args.keys.now in
     let key_of = g.K.Keys.key_of c.args.keys.now in
     let key = key_of c.args.row in
-    let old : entries_of c.self.inside.blocks.items ≡ joined c.args.self.now.blocks = ap (λ (i : Index). joined i.blocks) c.self.view_is in
-    let same : rows_of (entries_of c.sharpen.new.blocks.items) ≡ rows c.args.self.now = c.sharpen.ensures.rows ∙ ap rows_of old in
+    let told = entries_told has_row key_of c.self.inside.room c.self.inside.blocks.items c.args.self.now c.self.view_is c.requires.index in
     let blocks = c.make_room-place.new.blocks.items in
     let k = c.make_room-place.result.block in
     let at = c.make_room-place.result.at in
     let entry = c.entry_of-entry.result in
-    let P : Entry → Type 0 = λ e. g.K.Keys.has_row c.args.keys.now e.row in
+    let P : Entry → Type 0 = λ e. has_row e.row in
     let Q : Entry → Type 0 = λ e. AreBytes (key_of e.row) in
     let R : Entry → Type 0 = IsLed key_of in
-    let s = stands_at key_of key c.self.inside.room c.self.inside.blocks.items c.args.place (subst (λ (i : Index). IsPlaceFor key_of key i c.args.place) (sym c.self.view_is) c.requires.place) in
+    let s = stands_at key_of key c.self.inside.room c.self.inside.blocks.items c.args.self.now c.args.place c.self.view_is c.requires.place in
     let parts = stand_still key_of key c.self.inside.blocks.items blocks c.args.place.block c.args.place.at k at s (ap rows_of c.make_room-place.ensures.entries ∙ c.sharpen.ensures.rows)
     (c.make_room-place.ensures.front ∙ c.sharpen.ensures.front c.args.place.at) in
+    index_told has_row key_of c.self.inside.room c.put.new.blocks.items (
     record {
       readable = subst (All P) (sym c.put.ensures.entries) (all_put P blocks k at entry (subst (All P) (sym c.make_room-place.ensures.entries)
-          (all_same_rows (λ r. g.K.Keys.has_row c.args.keys.now r) (entries_of c.sharpen.new.blocks.items) (joined c.args.self.now.blocks) same c.requires.index.readable))
-          (subst (λ r. g.K.Keys.has_row c.args.keys.now r) (sym c.entry_of-entry.ensures.row) c.requires.readable));
+          (all_same_rows has_row (entries_of c.sharpen.new.blocks.items) (entries_of c.self.inside.blocks.items) c.sharpen.ensures.rows told.readable))
+          (subst has_row (sym c.entry_of-entry.ensures.row) c.requires.readable));
       bytes = subst (All Q) (sym c.put.ensures.entries) (all_put Q blocks k at entry (subst (All Q) (sym c.make_room-place.ensures.entries)
-          (all_same_rows (λ r. AreBytes (key_of r)) (entries_of c.sharpen.new.blocks.items) (joined c.args.self.now.blocks) same c.requires.index.bytes))
+          (all_same_rows (λ r. AreBytes (key_of r)) (entries_of c.sharpen.new.blocks.items) (entries_of c.self.inside.blocks.items) c.sharpen.ensures.rows told.bytes))
           (subst (λ r. AreBytes (key_of r)) (sym c.entry_of-entry.ensures.row) c.entry_of-entry.ensures.bytes));
       leads = subst (All R) (sym c.put.ensures.entries) (all_put R blocks k at entry (subst (All R) (sym c.make_room-place.ensures.entries) c.sharpen.ensures.leads) c.entry_of-entry.ensures.led);
       rising = subst (AreRising key_of) (sym (ap rows_of c.put.ensures.entries ∙ rows_put blocks k at entry ∙ ap (λ (r : ℕ). front blocks k at ++ r ∷ back blocks k at) c.entry_of-entry.ensures.row))
           (rising_insert key_of (front blocks k at) (back blocks k at) c.args.row
-          (subst (AreRising key_of) (sym same ∙ sym (ap rows_of c.make_room-place.ensures.entries) ∙ cut_at blocks k at) c.requires.index.rising) parts.0 parts.1);
+          (subst (AreRising key_of) (sym c.sharpen.ensures.rows ∙ sym (ap rows_of c.make_room-place.ensures.entries) ∙ cut_at blocks k at) told.rising) parts.0 parts.1);
     }
+    )
 
 pub returns-clause-rows : goal.returns-clause-rows
 returns-clause-rows g c =
     let key_of = g.K.Keys.key_of c.args.keys.now in
     let key = key_of c.args.row in
-    let old : entries_of c.self.inside.blocks.items ≡ joined c.args.self.now.blocks = ap (λ (i : Index). joined i.blocks) c.self.view_is in
-    let same : rows_of (entries_of c.sharpen.new.blocks.items) ≡ rows c.args.self.now = c.sharpen.ensures.rows ∙ ap rows_of old in
     let blocks = c.make_room-place.new.blocks.items in
     let k = c.make_room-place.result.block in
     let at = c.make_room-place.result.at in
-    let s = stands_at key_of key c.self.inside.room c.self.inside.blocks.items c.args.place (subst (λ (i : Index). IsPlaceFor key_of key i c.args.place) (sym c.self.view_is) c.requires.place) in
+    let s = stands_at key_of key c.self.inside.room c.self.inside.blocks.items c.args.self.now c.args.place c.self.view_is c.requires.place in
     let parts = stand_still key_of key c.self.inside.blocks.items blocks c.args.place.block c.args.place.at k at s (ap rows_of c.make_room-place.ensures.entries ∙ c.sharpen.ensures.rows)
     (c.make_room-place.ensures.front ∙ c.sharpen.ensures.front c.args.place.at) in
-    ap rows_of c.put.ensures.entries ∙ rows_put blocks k at c.entry_of-entry.result ∙ ap (λ (r : ℕ). front blocks k at ++ r ∷ back blocks k at) c.entry_of-entry.ensures.row
-    ∙ put_between key_of key (rows c.args.self.now) (front blocks k at) (back blocks k at) c.args.row (sym same ∙ sym (ap rows_of c.make_room-place.ensures.entries) ∙ cut_at blocks k at) parts.0 parts.1
-
-pub returns-clause-others : goal.returns-clause-others
-returns-clause-others g c = parted (g.K.Keys.key_of c.args.keys.now) (g.K.Keys.key_of c.args.keys.now c.args.row) c.args.self.now c.args.place c.requires.place
-
-pub returns-then-is_empty-clause-others : goal.returns-then-is_empty-clause-others
-returns-then-is_empty-clause-others g c = parted (g.K.Keys.key_of c.args.keys.now) (g.K.Keys.key_of c.args.keys.now c.args.row) c.args.self.now c.args.place c.requires.place
+    record {
+      front = front blocks k at;
+      back = back blocks k at;
+      were = sym (ap (λ (i : Index). i.rows) c.self.view_is) ∙ sym c.sharpen.ensures.rows ∙ sym (ap rows_of c.make_room-place.ensures.entries) ∙ cut_at blocks k at;
+      are = ap rows_of c.put.ensures.entries ∙ rows_put blocks k at c.entry_of-entry.result ∙ ap (λ (r : ℕ). front blocks k at ++ r ∷ back blocks k at) c.entry_of-entry.ensures.row;
+      below = parts.0;
+      above = parts.1;
+    }

@@ -1,13 +1,24 @@
-use Rattle.key_index.specs.Index.{rows}
-use Rattle.key_index.proofs.Unique.{one_order}
-use Rattle.key_index.proofs.Moved.{moved_entries, moved_place}
+use Rattle.std.proofs.Common.{◌≡◌, ◌≢◌}
+use Rattle.key_index.proofs.Told.{all_each, each_all}
+use Rattle.key_index.proofs.Unique.{one_order, one_row}
+use Rattle.key_index.proofs.Moved.{moved_order, moved_place}
+use Rattle.key_index.proofs.Places.{absent_at, row_there}
 use Rattle.key_index.proofs.index.KeyIndex.law.Goals as goal
 
-pub returns-clause-index : goal.returns-clause-index
-returns-clause-index g c = λ before after same index. moved_entries (g.K.Keys.has_row before) (g.K.Keys.has_row after) (g.K.Keys.key_of before) (g.K.Keys.key_of after) _ same index
+pub returns-clause-moved : goal.returns-clause-moved
+returns-clause-moved c = λ before after same is. moved_order before after c.args.self.now (all_each (λ row. after row ≡ before row) c.args.self.now.rows same) is
 
 pub returns-clause-place : goal.returns-clause-place
-returns-clause-place g c = λ before after key place same is. moved_place (g.K.Keys.key_of before) (g.K.Keys.key_of after) key c.args.self.now place same is
+returns-clause-place c = λ before after key place same is. moved_place before after key c.args.self.now place (all_each (λ row. after row ≡ before row) c.args.self.now.rows same) is
+
+pub returns-clause-absent : goal.returns-clause-absent
+returns-clause-absent c = λ key_of key place is. each_all (λ row. key_of row ≢ key) c.args.self.now.rows (absent_at key_of key c.args.self.now place is)
+
+pub returns-clause-there : goal.returns-clause-there
+returns-clause-there c = λ place row is. row_there c.args.self.now place row is
+
+pub returns-clause-one : goal.returns-clause-one
+returns-clause-one c = λ key_of row other is here there same. one_row key_of c.args.self.now.rows row other is.rising here there same
 
 pub returns-clause-order : goal.returns-clause-order
-returns-clause-order g c = λ keys others rising there back index. one_order (g.K.Keys.key_of keys) (rows c.args.self.now) others index.rising rising there back
+returns-clause-order c = λ key_of others rising is there back. one_order key_of c.args.self.now.rows others is.rising rising there back

@@ -1,44 +1,63 @@
-use Rattle.std.proofs.Common.{◌≡◌, List, sym, ap, subst, ◌∙◌}
-use Rattle.std.specs.Prelude.{All, Contains}
+use Rattle.std.proofs.Common.{◌<◌, ◌≤◌, length, List, Global, ap, sym, subst, slice_get, ◌∙◌}
+use Rattle.std.specs.declared.vec.Vec.{Vec}
 use Rattle.key_index.specs.declared.entries.Entry.{Entry}
-use Rattle.key_index.specs.Order.{AreRising}
-use Rattle.key_index.specs.Lead.{rows_of, IsLed}
-use Rattle.key_index.specs.Index.{Index, joined}
-use Rattle.key_index.specs.inside.Blocks.{entries_of}
-use Rattle.key_index.proofs.Found.{none_at, other_at, found_at, all_got}
-use Rattle.key_index.proofs.Places.{place_told}
+use Rattle.key_index.specs.Lead.{IsLed}
+use Rattle.key_index.specs.inside.Blocks.{entries_of, entries_at, AreEntriesOf, IsPlaceOf}
+use Rattle.key_index.proofs.Found.{none_at, other_at, all_got}
+use Rattle.key_index.proofs.Told.{entries_told}
+use Rattle.key_index.proofs.Places.{place_told, row_told}
 use Rattle.key_index.proofs.index.KeyIndex.search.Goals as goal
+
+pub seek-place-requires-clause-entries : goal.seek-place-requires-clause-entries
+seek-place-requires-clause-entries g c =
+    subst (λ (bs : List (Vec Entry Global)). AreEntriesOf (g.K.Keys.has_row c.args.keys.now) (g.K.Keys.key_of c.args.keys.now) (entries_of bs)) (sym c.as_slice-blocks.ensures.value)
+    (entries_told (g.K.Keys.has_row c.args.keys.now) (g.K.Keys.key_of c.args.keys.now) c.self.inside.room c.self.inside.blocks.items c.args.self.now c.self.view_is c.requires)
 
 pub returns-in_default : goal.returns-in_default
 returns-in_default g c =
-    place_told (g.K.Keys.key_of c.args.keys.now) c.args.key.now c.self.inside.room c.self.inside.blocks.items c.as_slice-blocks.result.now c.args.self.now c.seek-place.result c.as_slice-blocks.ensures.value c.self.view_is
-    c.seek-place.ensures.block c.seek-place.ensures.at c.seek-place.ensures.place
-    (none_at (g.K.Keys.key_of c.args.keys.now) c.args.key.now c.as_slice-blocks.result.now c.seek-place.result.block c.seek-place.result.at c.seek-place.ensures.place c.in_default.ensures)
+    let key_of = g.K.Keys.key_of c.args.keys.now in
+    let key = c.args.key.now in
+    let same = c.as_slice-blocks.ensures.value in
+    let k = c.seek-place.result.block in
+    let at = c.seek-place.result.at in
+    let is = subst (λ (bs : List (Vec Entry Global)). IsPlaceOf key_of key bs k at) same c.seek-place.ensures.place in
+    let within = subst (λ (bs : List (Vec Entry Global)). at ≤ length (entries_at bs k)) same c.seek-place.ensures.at in
+    let inside = subst (λ (bs : List (Vec Entry Global)). 0 < length bs → k < length bs) same c.seek-place.ensures.block in
+    let none = c.in_default.ensures ∙ ap (λ (bs : List (Vec Entry Global)). slice_get (entries_at bs k) at) same in
+    place_told key_of key c.self.inside.room c.self.inside.blocks.items c.args.self.now c.seek-place.result c.self.view_is inside within is (none_at key_of key c.self.inside.blocks.items k at is none)
 
 pub has_key-found-requires-clause-readable : goal.has_key-found-requires-clause-readable
 has_key-found-requires-clause-readable g c =
-    let es : entries_of c.as_slice-blocks.result.now ≡ joined c.args.self.now.blocks = ap entries_of c.as_slice-blocks.ensures.value ∙ ap (λ (i : Index). joined i.blocks) c.self.view_is in
-    let P : Entry → Type 0 = λ e. g.K.Keys.has_row c.args.keys.now e.row in
-    all_got P c.as_slice-blocks.result.now c.seek-place.result.block c.seek-place.result.at c.in-Some.entry c.in-Some.ensures (subst (All P) (sym es) c.requires.readable)
+    let told = entries_told (g.K.Keys.has_row c.args.keys.now) (g.K.Keys.key_of c.args.keys.now) c.self.inside.room c.self.inside.blocks.items c.args.self.now c.self.view_is c.requires in
+    let some = c.in-Some.ensures ∙ ap (λ (bs : List (Vec Entry Global)). slice_get (entries_at bs c.seek-place.result.block) c.seek-place.result.at) c.as_slice-blocks.ensures.value in
+    all_got (λ e. g.K.Keys.has_row c.args.keys.now e.row) c.self.inside.blocks.items c.seek-place.result.block c.seek-place.result.at c.in-Some.entry some told.readable
 
 pub has_key-found-requires-clause-led : goal.has_key-found-requires-clause-led
 has_key-found-requires-clause-led g c =
-    let es : entries_of c.as_slice-blocks.result.now ≡ joined c.args.self.now.blocks = ap entries_of c.as_slice-blocks.ensures.value ∙ ap (λ (i : Index). joined i.blocks) c.self.view_is in
-    let P : Entry → Type 0 = IsLed (g.K.Keys.key_of c.args.keys.now) in
-    all_got P c.as_slice-blocks.result.now c.seek-place.result.block c.seek-place.result.at c.in-Some.entry c.in-Some.ensures (subst (All P) (sym es) c.requires.leads)
+    let told = entries_told (g.K.Keys.has_row c.args.keys.now) (g.K.Keys.key_of c.args.keys.now) c.self.inside.room c.self.inside.blocks.items c.args.self.now c.self.view_is c.requires in
+    let some = c.in-Some.ensures ∙ ap (λ (bs : List (Vec Entry Global)). slice_get (entries_at bs c.seek-place.result.block) c.seek-place.result.at) c.as_slice-blocks.ensures.value in
+    all_got (IsLed (g.K.Keys.key_of c.args.keys.now)) c.self.inside.blocks.items c.seek-place.result.block c.seek-place.result.at c.in-Some.entry some told.leads
 
 pub returns-then-not-found : goal.returns-then-not-found
 returns-then-not-found g c =
-    let es : entries_of c.as_slice-blocks.result.now ≡ joined c.args.self.now.blocks = ap entries_of c.as_slice-blocks.ensures.value ∙ ap (λ (i : Index). joined i.blocks) c.self.view_is in
-    let rising = subst (λ (xs : List Entry). AreRising (g.K.Keys.key_of c.args.keys.now) (rows_of xs)) (sym es) c.requires.rising in
-    place_told (g.K.Keys.key_of c.args.keys.now) c.args.key.now c.self.inside.room c.self.inside.blocks.items c.as_slice-blocks.result.now c.args.self.now c.seek-place.result c.as_slice-blocks.ensures.value c.self.view_is
-    c.seek-place.ensures.block c.seek-place.ensures.at c.seek-place.ensures.place
-    (other_at (g.K.Keys.key_of c.args.keys.now) c.args.key.now c.as_slice-blocks.result.now c.seek-place.result.block c.seek-place.result.at c.in-Some.entry c.seek-place.ensures.place rising c.in-Some.ensures
-    (c.has_key-found.ensures.other c.if-not-found.true))
+    let key_of = g.K.Keys.key_of c.args.keys.now in
+    let key = c.args.key.now in
+    let same = c.as_slice-blocks.ensures.value in
+    let k = c.seek-place.result.block in
+    let at = c.seek-place.result.at in
+    let is = subst (λ (bs : List (Vec Entry Global)). IsPlaceOf key_of key bs k at) same c.seek-place.ensures.place in
+    let within = subst (λ (bs : List (Vec Entry Global)). at ≤ length (entries_at bs k)) same c.seek-place.ensures.at in
+    let inside = subst (λ (bs : List (Vec Entry Global)). 0 < length bs → k < length bs) same c.seek-place.ensures.block in
+    let some = c.in-Some.ensures ∙ ap (λ (bs : List (Vec Entry Global)). slice_get (entries_at bs k) at) same in
+    let told = entries_told (g.K.Keys.has_row c.args.keys.now) key_of c.self.inside.room c.self.inside.blocks.items c.args.self.now c.self.view_is c.requires in
+    place_told key_of key c.self.inside.room c.self.inside.blocks.items c.args.self.now c.seek-place.result c.self.view_is inside within is
+    (other_at key_of key c.self.inside.blocks.items k at c.in-Some.entry is told.rising some (c.has_key-found.ensures.other c.if-not-found.true))
 
 pub returns : goal.returns
-returns g c =
-    let es : entries_of c.as_slice-blocks.result.now ≡ joined c.args.self.now.blocks = ap entries_of c.as_slice-blocks.ensures.value ∙ ap (λ (i : Index). joined i.blocks) c.self.view_is in (
-      subst (λ (xs : List Entry). Contains (rows_of xs) c.in-Some.entry.row) es (found_at c.as_slice-blocks.result.now c.seek-place.result.block c.seek-place.result.at c.in-Some.entry c.in-Some.ensures),
-      c.has_key-found.ensures.same c.if-not-found.false,
-    )
+returns g c = (
+  let k = c.seek-place.result.block in
+      let at = c.seek-place.result.at in
+      let some = c.in-Some.ensures ∙ ap (λ (bs : List (Vec Entry Global)). slice_get (entries_at bs k) at) c.as_slice-blocks.ensures.value in
+      row_told c.self.inside.room c.self.inside.blocks.items c.args.self.now c.seek-place.result c.in-Some.entry c.self.view_is some,
+  c.has_key-found.ensures.same c.if-not-found.false,
+)
