@@ -1,0 +1,3 @@
+pub mod Moves
+pub mod Shut
+pub mod Drains

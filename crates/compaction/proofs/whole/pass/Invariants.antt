@@ -1,0 +1,21 @@
+use Rattle.std.proofs.Common.{◌≡◌, ◌≤◌, ℕ}
+use Rattle.regions.specs.Shapes.{free_count, guards_of}
+use Rattle.regions.specs.Counts.{used_total}
+use Rattle.regions.specs.Contents.{live_at}
+use Rattle.regions.specs.Stores.{store_of}
+use Rattle.compaction.specs.Emptied.{HoldsTheSame}
+use Rattle.compaction.proofs.whole.pass.Given as goal
+
+abbrev pub invariant-loop-region : goal.invariant-loop-region
+invariant-loop-region g l = record {
+  guards : guards_of l.region ≡ 0;
+  free : 1 ≤ free_count l.region;
+  fits : g.M.Movers.fits l.movers (live_at l.region);
+  store : (n : ℕ) → store_of g.M.Movers.bare (g.M.Movers.place_of l.movers) (live_at l.region) n ≡ store_of g.M.Movers.bare (g.M.Movers.place_of l.fn.movers) (live_at l.fn.region) n;
+  rest : g.M.Movers.rest l.movers ≡ g.M.Movers.rest l.fn.movers;
+  holds : HoldsTheSame l.fn.region l.region;
+}
+
+-- dead bytes are used no more
+abbrev pub decreases-loop-region : goal.decreases-loop-region
+decreases-loop-region g l = used_total l.region

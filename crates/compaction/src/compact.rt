@@ -1,0 +1,49 @@
+//! One segment is emptied.
+ghost use Rattle.std.specs.Prelude.{◌≡◌, ◌≢◌, ◌↔◌, ℕ, ◌+◌, ◌<◌, ◌≤◌, ◌⊎◌};
+ghost use Rattle.regions.specs.Shapes.{guards_of, free_count};
+ghost use Rattle.regions.specs.Counts.{used_total};
+ghost use Rattle.regions.specs.Contents.{live_at};
+ghost use Rattle.regions.specs.Stores.{store_of};
+ghost use Rattle.compaction.specs.Sparse.{AreDense, IsSparsest, HasRoom};
+ghost use Rattle.compaction.specs.Emptied.{IsEmptied, HoldsTheSame};
+
+use crate::choice::sparsest;
+use crate::draining::drain;
+use regions::{Movers, Region};
+
+/// What compaction answers.
+#[derive(Clone, Copy, Debug, PartialEq, Eq)]
+pub enum Compacted {
+    /// A segment was freed.
+    Freed,
+    /// Every closed segment is dense.
+    NoneSparse,
+    /// A guard stands, and nothing changed.
+    Guarded,
+}
+
+/// Empties the sparsest closed segment into the active one, and frees it.
+pub fn compact_one<M: Movers>(region: &mut Region, movers: &mut M) -> Compacted
+    requires fits { M.fits movers.old (live_at region.old) }
+    requires room { HasRoom region.old }
+    ensures guarded { result ≡ Compacted.Guarded ↔ 1 ≤ guards_of region.old }
+    ensures none { result ≡ Compacted.NoneSparse ↔ ((guards_of region.old ≡ 0) × AreDense region.old) }
+    ensures unchanged { result ≢ Compacted.Freed → (region.new ≡ region.old) × (movers.new ≡ movers.old) }
+    ensures freed { result ≡ Compacted.Freed → (n : ℕ) × IsSparsest region.old n × IsEmptied M.bare n region.old region.new }
+    ensures free { result ≡ Compacted.Freed → (1 ≤ free_count region.new) × ((free_count region.new ≡ free_count region.old) ⊎ (free_count region.new ≡ free_count region.old + 1)) }
+    ensures lower { result ≡ Compacted.Freed → used_total region.new < used_total region.old }
+    ensures fits { M.fits movers.new (live_at region.new) }
+    ensures store { (n : ℕ) → store_of M.bare (M.place_of movers.new) (live_at region.new) n ≡ store_of M.bare (M.place_of movers.old) (live_at region.old) n }
+    ensures rest { M.rest movers.new ≡ M.rest movers.old }
+    ensures holds { HoldsTheSame region.old region.new }
+{
+    if region.guards() > 0 {
+        return Compacted::Guarded;
+    }
+    let Some(source) = sparsest(region) else {
+        return Compacted::NoneSparse;
+    };
+    drain(region, movers, source);
+    region.free_closed(source);
+    Compacted::Freed
+}

@@ -1,0 +1,79 @@
+//! All live objects, from a closed segment to the active one.
+ghost use Rattle.std.specs.Prelude.{◌≡◌, ◌≢◌, ℕ, ◌+◌, ◌<◌, ◌≤◌, ◌⊎◌, None};
+ghost use Rattle.layout.specs.Sizes as sizes;
+ghost use Rattle.object_log.specs.Objects.{IsSize};
+ghost use Rattle.regions.specs.Shapes.{free_count, IsClosed};
+ghost use Rattle.regions.specs.Counts.{used_counts, live_counts, live_bytes_at, left};
+ghost use Rattle.regions.specs.Contents.{standing_at, live_at, Keeps, IsLiveAt};
+ghost use Rattle.regions.specs.Stores.{store_of};
+ghost use Rattle.regions.specs.declared.place.Place.{Place};
+ghost use Rattle.compaction.specs.Sparse.{IsSparse};
+ghost use Rattle.compaction.specs.Emptied.{IsSameAt, HoldsTheSame};
+ghost use Rattle.compaction.specs.inside.Drained.{IsDrained, HasRoomFor, TookAtMostOne, Took};
+
+use crate::moving::move_object;
+use regions::{Movers, Place, Region};
+
+// Begins the next segment where the active one has less than the size left.
+fn make_room(region: &mut Region, source: u32, size: u32)
+    requires size { size ≤ sizes.greatest_object }
+    requires counted { size ≤ live_bytes_at region.old source }
+    requires room { HasRoomFor source region.old }
+    ensures room { size ≤ left region.new }
+    ensures objects { Keeps region.old region.new }
+    ensures closed { (n : ℕ) → IsClosed region.old n → IsClosed region.new n }
+    ensures used { used_counts region.new ≡ used_counts region.old }
+    ensures live { live_counts region.new ≡ live_counts region.old }
+    ensures holds { HoldsTheSame region.old region.new }
+    ensures begun { ((free_count region.new ≡ free_count region.old) × (left region.new ≡ left region.old)) ⊎ ((left region.old < size) × (free_count region.new + 1 ≡ free_count region.old) × (left region.new ≡ sizes.segment)) }
+{
+    if region.left() < size {
+        region.next_active();
+    }
+}
+
+// Moves a live object out of the closed segment.
+fn take_out<M: Movers>(region: &mut Region, movers: &mut M, place: Place, kind: u8, size: u32)
+    requires closed { IsClosed region.old place.segment }
+    requires live { IsLiveAt (live_at region.old place) kind size }
+    requires kind { 1 ≤ kind }
+    requires size { IsSize size }
+    requires counted { size ≤ live_bytes_at region.old place.segment }
+    requires room { HasRoomFor place.segment region.old }
+    requires fits { M.fits movers.old (live_at region.old) }
+    ensures fits { M.fits movers.new (live_at region.new) }
+    ensures store { (n : ℕ) → store_of M.bare (M.place_of movers.new) (live_at region.new) n ≡ store_of M.bare (M.place_of movers.old) (live_at region.old) n }
+    ensures rest { M.rest movers.new ≡ M.rest movers.old }
+    ensures dead { live_at region.new place ≡ None }
+    ensures others { (p : Place) → p ≢ place → IsClosed region.old p.segment → IsSameAt M.bare region.old region.new p }
+    ensures drained { IsDrained M.bare place.segment region.old region.new }
+    ensures live { live_bytes_at region.new place.segment + size ≡ live_bytes_at region.old place.segment }
+    ensures took { Took size region.old region.new }
+{
+    make_room(region, place.segment, size);
+    move_object(region, movers, place, kind, size);
+}
+
+// Moves the live objects out of the closed segment, the one at the least offset first.
+pub(crate) fn drain<M: Movers>(region: &mut Region, movers: &mut M, source: u32)
+    requires closed { IsClosed region.old source }
+    requires sparse { IsSparse region.old source }
+    requires room { HasRoomFor source region.old }
+    requires fits { M.fits movers.old (live_at region.old) }
+    ensures fits { M.fits movers.new (live_at region.new) }
+    ensures store { (n : ℕ) → store_of M.bare (M.place_of movers.new) (live_at region.new) n ≡ store_of M.bare (M.place_of movers.old) (live_at region.old) n }
+    ensures rest { M.rest movers.new ≡ M.rest movers.old }
+    ensures dead { live_bytes_at region.new source ≡ 0 }
+    ensures drained { IsDrained M.bare source region.old region.new }
+    ensures free { (free_count region.new ≡ free_count region.old) ⊎ (free_count region.new + 1 ≡ free_count region.old) }
+{
+    let mut from = 0;
+    while let Some((at, kind, size)) = region.next_live(source, from) {
+        let place = Place {
+            segment: source,
+            at,
+        };
+        take_out(region, movers, place, kind, size);
+        from = at + size;
+    }
+}

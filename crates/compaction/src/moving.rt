@@ -1,0 +1,64 @@
+//! One live object, from a closed segment to the active one.
+ghost use Rattle.std.specs.Prelude.{◌≡◌, ◌≢◌, ℕ, ◌+◌, ◌≤◌, Option, Some, None, IsSome, IsNone};
+ghost use Rattle.object_log.specs.Objects.{IsSize};
+ghost use Rattle.regions.specs.Shapes.{shape, active_of, free_count, IsClosed};
+ghost use Rattle.regions.specs.Counts.{used_counts, live_counts, live_bytes_at, used_total, live_total, plus, left};
+ghost use Rattle.regions.specs.Contents.{standing_at, live_at, ChangesAt, IsLiveAt};
+ghost use Rattle.regions.specs.Stores.{store_of};
+ghost use Rattle.regions.specs.declared.place.Place.{Place};
+ghost use Rattle.compaction.specs.Emptied.{IsSameAt};
+ghost use Rattle.compaction.specs.inside.Drained.{IsDrained};
+
+use regions::{Movers, Place, Region};
+
+// Appends a copy of the live object to the active segment, which has room for it, and answers where it stands.
+fn append_copy(region: &mut Region, from: Place, kind: u8, size: u32) -> Place
+    requires closed { IsClosed region.old from.segment }
+    requires live { IsLiveAt (live_at region.old from) kind size }
+    requires kind { 1 ≤ kind }
+    requires size { IsSize size }
+    requires room { size ≤ left region.old }
+    ensures copied { ChangesAt result (standing_at region.old from) region.old region.new }
+    ensures unused { standing_at region.old result ≡ None }
+    ensures segment { active_of region.old ≡ Some result.segment }
+    ensures used { used_counts region.new ≡ plus result.segment size (used_counts region.old) }
+    ensures live { live_counts region.new ≡ plus result.segment size (live_counts region.old) }
+    ensures used_total { used_total region.new ≡ used_total region.old + size }
+    ensures live_total { live_total region.new ≡ live_total region.old + size }
+    ensures shape { shape region.new ≡ shape region.old }
+{
+    let Ok(to) = region.place(kind, size) else {
+        unreachable!()
+    };
+    region.copy(from, to);
+    to
+}
+
+// Moves the live object to the active segment, which has room for it, and mends the references to it.
+pub(crate) fn move_object<M: Movers>(
+    region: &mut Region,
+    movers: &mut M,
+    from: Place,
+    kind: u8,
+    size: u32,
+)
+    requires closed { IsClosed region.old from.segment }
+    requires live { IsLiveAt (live_at region.old from) kind size }
+    requires kind { 1 ≤ kind }
+    requires size { IsSize size }
+    requires room { size ≤ left region.old }
+    requires fits { M.fits movers.old (live_at region.old) }
+    ensures fits { M.fits movers.new (live_at region.new) }
+    ensures store { (n : ℕ) → store_of M.bare (M.place_of movers.new) (live_at region.new) n ≡ store_of M.bare (M.place_of movers.old) (live_at region.old) n }
+    ensures rest { M.rest movers.new ≡ M.rest movers.old }
+    ensures dead { live_at region.new from ≡ None }
+    ensures others { (p : Place) → p ≢ from → IsClosed region.old p.segment → IsSameAt M.bare region.old region.new p }
+    ensures drained { IsDrained M.bare from.segment region.old region.new }
+    ensures live { live_bytes_at region.new from.segment + size ≡ live_bytes_at region.old from.segment }
+    ensures free { free_count region.new ≡ free_count region.old }
+    ensures left { left region.new + size ≡ left region.old }
+{
+    let to = append_copy(region, from, kind, size);
+    movers.moved(region, kind, from, to);
+    region.kill(from);
+}

@@ -1,0 +1,68 @@
+//! Segments are emptied until two are free or none is sparse.
+ghost use Rattle.std.specs.Prelude.{◌≡◌, ◌≢◌, ◌↔◌, ◌⊎◌, ℕ, ◌<◌, ◌≤◌, true, false, Some};
+ghost use Rattle.layout.specs.Sizes as sizes;
+ghost use Rattle.regions.specs.Shapes.{guards_of, active_of, free_count};
+ghost use Rattle.regions.specs.Counts.{used_total, left};
+ghost use Rattle.regions.specs.Contents.{live_at};
+ghost use Rattle.regions.specs.Stores.{store_of};
+ghost use Rattle.compaction.specs.Sparse.{IsDense, IsSparse, IsCompacted};
+ghost use Rattle.compaction.specs.Emptied.{HoldsTheSame};
+
+use crate::compact::{Compacted, compact_one};
+use layout::{DENSE, GREATEST_OBJECT};
+use regions::{Movers, Region};
+
+/// Empties segments until two are free, or no closed one is sparse.
+pub fn pass<M: Movers>(region: &mut Region, movers: &mut M) -> Compacted
+    requires fits { M.fits movers.old (live_at region.old) }
+    requires free { 1 ≤ free_count region.old }
+    ensures guarded { result ≡ Compacted.Guarded ↔ 1 ≤ guards_of region.old }
+    ensures unchanged { result ≡ Compacted.Guarded → (region.new ≡ region.old) × (movers.new ≡ movers.old) }
+    ensures freed { result ≡ Compacted.Freed → 2 ≤ free_count region.new }
+    ensures none { result ≡ Compacted.NoneSparse → IsCompacted region.new }
+    ensures free { 1 ≤ free_count region.new }
+    ensures fits { M.fits movers.new (live_at region.new) }
+    ensures store { (n : ℕ) → store_of M.bare (M.place_of movers.new) (live_at region.new) n ≡ store_of M.bare (M.place_of movers.old) (live_at region.old) n }
+    ensures rest { M.rest movers.new ≡ M.rest movers.old }
+    ensures holds { HoldsTheSame region.old region.new }
+{
+    if region.guards() > 0 {
+        return Compacted::Guarded;
+    }
+    while region.free_segments() < 2 {
+        if !free_one(region, movers) {
+            return Compacted::NoneSparse;
+        }
+    }
+    Compacted::Freed
+}
+
+// Empties one more segment, the active one among them if it is sparse and full. Answers whether one was sparse.
+fn free_one<M: Movers>(region: &mut Region, movers: &mut M) -> bool
+    requires guards { guards_of region.old ≡ 0 }
+    requires free { free_count region.old ≡ 1 }
+    requires fits { M.fits movers.old (live_at region.old) }
+    ensures freed { result ≡ true → used_total region.new < used_total region.old }
+    ensures none { result ≡ false → IsCompacted region.new }
+    ensures free { 1 ≤ free_count region.new }
+    ensures fits { M.fits movers.new (live_at region.new) }
+    ensures store { (n : ℕ) → store_of M.bare (M.place_of movers.new) (live_at region.new) n ≡ store_of M.bare (M.place_of movers.old) (live_at region.old) n }
+    ensures rest { M.rest movers.new ≡ M.rest movers.old }
+    ensures holds { HoldsTheSame region.old region.new }
+{
+    if is_spent(region) {
+        region.next_active();
+    }
+    compact_one(region, movers) == Compacted::Freed
+}
+
+// Whether the active segment is sparse and full.
+fn is_spent(region: &Region) -> bool
+    ensures spent { result ≡ true → (n : ℕ) × (active_of region.now ≡ Some n) × IsSparse region.now n × (left region.now < sizes.greatest_object) }
+    ensures other { result ≡ false → (n : ℕ) → active_of region.now ≡ Some n → IsDense region.now n ⊎ (sizes.greatest_object ≤ left region.now) }
+{
+    match region.active() {
+        Some(active) => region.live_in(active) <= DENSE && region.left() < GREATEST_OBJECT,
+        None => false,
+    }
+}
