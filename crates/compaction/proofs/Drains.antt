@@ -1,17 +1,17 @@
 -- Steps that drain a segment, one after the other.
-use Rattle.std.proofs.Common.{◌≡◌, ◌≢◌, ℕ, ◌+◌, ◌≤◌, inl, inr, get_or, true, false, refl, sym, ap, ◌∙◌, subst, arith}
+use Rattle.std.proofs.Common.{◌≡◌, ◌≢◌, ℕ, ◌+◌, ◌<◌, ◌≤◌, inl, inr, get_or, true, false, refl, sym, ap, ◌∙◌, subst, arith}
 use Rattle.std.specs.Prelude.{Bool, Option, None, Some, IsSome, IfSome, is_some, option_map}
 use Rattle.std.proofs.lemmas.List.{get_or-set_same, get_or-set_other}
 use Rattle.regions.specs.Segments.{RegionState}
 use Rattle.std.specs.List.{sum, count_by}
-use Rattle.regions.specs.Shapes.{Shape, shape, is_closed, is_held, active_of, pieces_in, IsClosed}
+use Rattle.regions.specs.Shapes.{activated, is_free, slot_at, Shape, shape, is_closed, is_held, active_of, pieces_in, IsClosed}
 use Rattle.regions.specs.Counts.{used_counts, live_counts, live_bytes_at, used_total, live_total, plus}
 use Rattle.regions.specs.Contents.{Item, Standing, IsLiveAt, size_of, standing_at, item_if_live, if_live, ChangesAt, Keeps}
 use Rattle.regions.specs.Stores.{Bare, SameBut, without_references}
 use Rattle.regions.specs.declared.place.Place.{Place}
 use Rattle.compaction.specs.Emptied.{IsSameAt, HoldsTheSame}
 use Rattle.compaction.specs.Sparse.{IsSparse}
-use Rattle.compaction.specs.inside.Drained.{IsDrained, TookAtMostOne, Took}
+use Rattle.compaction.specs.inside.Drained.{IsDrained, HasRoomFor, BeginsNext, Took, TookOne}
 use Rattle.compaction.proofs.Shut.{not-active, within-live}
 
 pub some-same : (bare : Bare) (a b : Option Standing) → option_map (without_references bare) b ≡ option_map (without_references bare) a → IsSome a → IsSome b
@@ -79,14 +79,35 @@ size-there bare (Some s) (Some t) kind size P live e told =
       item-is true i j h = (let both : Some i ≡ Some j = h in cc)
       item-is false i j h = absurd (let clash : None ≡ Some j = h in cc)
 
--- the size was taken once more
-pub took-on : (n size : ℕ) (old now new : RegionState) → TookAtMostOne n old now → Took size now new → live_bytes_at new n + size ≡ live_bytes_at now n → IsSparse now n → size ≤ live_bytes_at now n
-    → TookAtMostOne n old new
-took-on n size old now new (inl (f, room)) (inl (g, l)) less sparse counted =
-    inl (g ∙ f, elim room [ inl some ↦ inl (omega (arith, some, g)) | inr fits ↦ inr (omega (arith, fits, l, less)) ])
-took-on n size old now new (inl (f, room)) (inr (low, g, l)) less sparse counted = inr (omega (arith, f, g), omega (arith, l, less, sparse))
-took-on n size old now new (inr (f, fits)) (inl (g, l)) less sparse counted = inr (omega (arith, f, g), omega (arith, fits, l, less))
-took-on n size old now new (inr (f, fits)) (inr (low, g, l)) less sparse counted = absurd (omega (arith, low, fits, counted))
+begins-from : (old now new : RegionState) → shape now ≡ shape old → BeginsNext now new → BeginsNext old new
+begins-from old now new same b = record {
+  number = b.number;
+  least = subst (λ (s : Shape). (is_free (slot_at s.slots b.number) ≡ true) × ((k : ℕ) → k < b.number → ¬ (is_free (slot_at s.slots k) ≡ true))) same b.least;
+  shape = b.shape ∙ ap (activated b.number) same;
+  free = b.free ∙ ap (λ (s : Shape). count_by is_free s.slots) same;
+}
+
+begins-on : (old now new : RegionState) → BeginsNext old now → shape new ≡ shape now → BeginsNext old new
+begins-on old now new b same = record {
+  number = b.number;
+  least = b.least;
+  shape = same ∙ b.shape;
+  free = ap (λ (s : Shape). count_by is_free s.slots + 1) same ∙ b.free;
+}
+
+-- one object of the size was taken besides
+pub took-on : (n size : ℕ) (old now new : RegionState) → Took n old now → TookOne size now new → live_bytes_at new n + size ≡ live_bytes_at now n → IsSparse now n → size ≤ live_bytes_at now n → Took n old new
+took-on n size old now new (inl (f, all)) (inl (g, l)) less sparse counted = inl (g ∙ f, omega (arith, all, l, less))
+took-on n size old now new (inl (f, all)) (inr (low, g, l)) less sparse counted =
+    inr (omega (arith, all, low, counted), begins-from old now new f g, omega (arith, l, less, sparse))
+took-on n size old now new (inr (high, f, fits)) (inl (g, l)) less sparse counted = inr (high, begins-on old now new f g, omega (arith, fits, l, less))
+took-on n size old now new (inr (high, f, fits)) (inr (low, g, l)) less sparse counted = absurd (omega (arith, low, fits, counted))
+
+-- what is still live has room
+pub room-for : (n : ℕ) (old now : RegionState) → HasRoomFor n old → Took n old now → HasRoomFor n now
+room-for n old now (inl some) (inl (f, all)) = inl (subst (λ (s : Shape). 1 ≤ count_by is_free s.slots) (sym f) some)
+room-for n old now (inr room) (inl (f, all)) = inr (omega (arith, room, all))
+room-for n old now room (inr (high, f, fits)) = inr fits
 
 -- an object of the size was copied to the active segment, and died in its own
 module _ (bare : Bare) (from to : Place) (size : ℕ) (old copied told new : RegionState) (shut : IsClosed old from.segment) (active : active_of old ≡ Some to.segment)

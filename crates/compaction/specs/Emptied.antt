@@ -1,8 +1,8 @@
 -- What becomes of a segment that is emptied, and of the others.
-use Rattle.std.specs.Prelude.{◌≡◌, ◌≢◌, ℕ, ◌+◌, IsSome, option_map}
+use Rattle.std.specs.Prelude.{◌≡◌, ◌≢◌, ℕ, ◌+◌, ◌<◌, ◌≤◌, IsSome, option_map}
 use Rattle.regions.specs.Segments.{RegionState}
-use Rattle.regions.specs.Shapes.{guards_of, pieces, held_count, IsClosed, IsFree}
-use Rattle.regions.specs.Counts.{used_at, live_bytes_at, used_total, live_total}
+use Rattle.regions.specs.Shapes.{shape, activated, freed, guards_of, pieces, held_count, free_count, IsClosed, IsLeastFree}
+use Rattle.regions.specs.Counts.{used_at, live_bytes_at, used_total, live_total, left}
 use Rattle.regions.specs.Contents.{standing_at}
 use Rattle.regions.specs.Stores.{Bare, without_references}
 use Rattle.regions.specs.declared.place.Place.{Place}
@@ -11,20 +11,28 @@ use Rattle.regions.specs.declared.place.Place.{Place}
 abbrev pub IsSameAt : Bare → RegionState → RegionState → Place → Type 0
 IsSameAt bare old new p = option_map (without_references bare) (standing_at new p) ≡ option_map (without_references bare) (standing_at old p)
 
--- The segment is free, and no other one was closed before and is not now. In the other closed segments stands what stood
--- there, and each object of any other segment stands where it stood. Of the bytes that the segment had used, those that
--- were live are used elsewhere now, and no more.
+-- The segment is free. The next one was begun exactly where the live bytes were more than the active segment had left; else
+-- no other one is free, closed or active that was not before. What stands in the other closed segments is as it was, and
+-- each object of any other segment is where it was. Of the bytes that were used, the live ones are used elsewhere now, and
+-- no more.
 pub record IsEmptied (bare : Bare) (n : ℕ) (old new : RegionState) : Type 0 where
-  pub free : IsFree new n
+  pub within : live_bytes_at old n ≤ left old → shape new ≡ freed n (shape old)
+  pub beyond : left old < live_bytes_at old n → (m : ℕ) × IsLeastFree old m × (shape new ≡ freed n (activated m (shape old)))
+  pub one_more : live_bytes_at old n ≤ left old → free_count new ≡ free_count old + 1
+  pub as_many : left old < live_bytes_at old n → free_count new ≡ free_count old
   pub closed : (m : ℕ) → m ≢ n → IsClosed old m → IsClosed new m
   pub same : (p : Place) → p.segment ≢ n → IsClosed old p.segment → IsSameAt bare old new p
   pub kept : (p : Place) → p.segment ≢ n → IsSome (standing_at old p) → IsSameAt bare old new p
   pub live : (m : ℕ) → m ≢ n → IsClosed old m → live_bytes_at new m ≡ live_bytes_at old m
   pub used : used_total new + used_at old n ≡ used_total old + live_bytes_at old n
 
--- which segments are held, each with its piece, and under how many guards
+-- which segments are held, each with its piece, under how many guards, and how many bytes are live
 pub record HoldsTheSame (old new : RegionState) : Type 0 where
   pub pieces : pieces new ≡ pieces old
   pub held : held_count new ≡ held_count old
   pub guards : guards_of new ≡ guards_of old
   pub live_total : live_total new ≡ live_total old
+
+-- the bytes of dead objects are those used less those live
+abbrev pub HasFewerDead : RegionState → RegionState → Type 0
+HasFewerDead old new = used_total new + live_total old < used_total old + live_total new

@@ -33,7 +33,3 @@ pub record IsCompacted (r : RegionState) : Type 0 where
   pub closed : AreDense r
   pub active : (n : ℕ) → active_of r ≡ Some n → IsDense r n ⊎ (greatest_object ≤ left r)
   pub free : free_count r ≤ 1
-
--- the bytes of objects that are dead
-abbrev pub dead_bytes : RegionState → ℕ
-dead_bytes r = used_total r - live_total r

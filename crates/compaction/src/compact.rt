@@ -1,11 +1,10 @@
 //! One segment is emptied.
 ghost use Rattle.std.specs.Prelude.{◌≡◌, ◌≢◌, ◌↔◌, ℕ, ◌+◌, ◌<◌, ◌≤◌, ◌⊎◌};
-ghost use Rattle.regions.specs.Shapes.{guards_of, free_count};
-ghost use Rattle.regions.specs.Counts.{used_total};
+ghost use Rattle.regions.specs.Shapes.{guards_of, free_count, IsClosed};
 ghost use Rattle.regions.specs.Contents.{live_at};
 ghost use Rattle.regions.specs.Stores.{store_of};
-ghost use Rattle.compaction.specs.Sparse.{AreDense, IsSparsest, HasRoom};
-ghost use Rattle.compaction.specs.Emptied.{IsEmptied, HoldsTheSame};
+ghost use Rattle.compaction.specs.Sparse.{AreDense, IsSparse, IsSparsest, HasRoom};
+ghost use Rattle.compaction.specs.Emptied.{IsEmptied, HoldsTheSame, HasFewerDead};
 
 use crate::choice::sparsest;
 use crate::draining::drain;
@@ -30,8 +29,8 @@ pub fn compact_one<M: Movers>(region: &mut Region, movers: &mut M) -> Compacted
     ensures none { result ≡ Compacted.NoneSparse ↔ ((guards_of region.old ≡ 0) × AreDense region.old) }
     ensures unchanged { result ≢ Compacted.Freed → (region.new ≡ region.old) × (movers.new ≡ movers.old) }
     ensures freed { result ≡ Compacted.Freed → (n : ℕ) × IsSparsest region.old n × IsEmptied M.bare n region.old region.new }
-    ensures free { result ≡ Compacted.Freed → (1 ≤ free_count region.new) × ((free_count region.new ≡ free_count region.old) ⊎ (free_count region.new ≡ free_count region.old + 1)) }
-    ensures lower { result ≡ Compacted.Freed → used_total region.new < used_total region.old }
+    ensures free { result ≡ Compacted.Freed → 1 ≤ free_count region.new }
+    ensures lower { result ≡ Compacted.Freed → HasFewerDead region.old region.new }
     ensures fits { M.fits movers.new (live_at region.new) }
     ensures store { (n : ℕ) → store_of M.bare (M.place_of movers.new) (live_at region.new) n ≡ store_of M.bare (M.place_of movers.old) (live_at region.old) n }
     ensures rest { M.rest movers.new ≡ M.rest movers.old }
@@ -43,7 +42,25 @@ pub fn compact_one<M: Movers>(region: &mut Region, movers: &mut M) -> Compacted
     let Some(source) = sparsest(region) else {
         return Compacted::NoneSparse;
     };
+    empty(region, movers, source);
+    Compacted::Freed
+}
+
+// Moves the live objects out of the closed segment, which has room for them, and frees it.
+fn empty<M: Movers>(region: &mut Region, movers: &mut M, source: u32)
+    requires closed { IsClosed region.old source }
+    requires sparse { IsSparse region.old source }
+    requires room { HasRoom region.old }
+    requires guards { guards_of region.old ≡ 0 }
+    requires fits { M.fits movers.old (live_at region.old) }
+    ensures emptied { IsEmptied M.bare source region.old region.new }
+    ensures free { 1 ≤ free_count region.new }
+    ensures lower { HasFewerDead region.old region.new }
+    ensures fits { M.fits movers.new (live_at region.new) }
+    ensures store { (n : ℕ) → store_of M.bare (M.place_of movers.new) (live_at region.new) n ≡ store_of M.bare (M.place_of movers.old) (live_at region.old) n }
+    ensures rest { M.rest movers.new ≡ M.rest movers.old }
+    ensures holds { HoldsTheSame region.old region.new }
+{
     drain(region, movers, source);
     region.free_closed(source);
-    Compacted::Freed
 }

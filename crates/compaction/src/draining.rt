@@ -2,14 +2,14 @@
 ghost use Rattle.std.specs.Prelude.{◌≡◌, ◌≢◌, ℕ, ◌+◌, ◌<◌, ◌≤◌, ◌⊎◌, None};
 ghost use Rattle.layout.specs.Sizes as sizes;
 ghost use Rattle.object_log.specs.Objects.{IsSize};
-ghost use Rattle.regions.specs.Shapes.{free_count, IsClosed};
+ghost use Rattle.regions.specs.Shapes.{shape, IsClosed};
 ghost use Rattle.regions.specs.Counts.{used_counts, live_counts, live_bytes_at, left};
 ghost use Rattle.regions.specs.Contents.{standing_at, live_at, Keeps, IsLiveAt};
 ghost use Rattle.regions.specs.Stores.{store_of};
 ghost use Rattle.regions.specs.declared.place.Place.{Place};
 ghost use Rattle.compaction.specs.Sparse.{IsSparse};
 ghost use Rattle.compaction.specs.Emptied.{IsSameAt, HoldsTheSame};
-ghost use Rattle.compaction.specs.inside.Drained.{IsDrained, HasRoomFor, TookAtMostOne, Took};
+ghost use Rattle.compaction.specs.inside.Drained.{IsDrained, HasRoomFor, BeginsNext, Took, TookOne};
 
 use crate::moving::move_object;
 use regions::{Movers, Place, Region};
@@ -25,7 +25,7 @@ fn make_room(region: &mut Region, source: u32, size: u32)
     ensures used { used_counts region.new ≡ used_counts region.old }
     ensures live { live_counts region.new ≡ live_counts region.old }
     ensures holds { HoldsTheSame region.old region.new }
-    ensures begun { ((free_count region.new ≡ free_count region.old) × (left region.new ≡ left region.old)) ⊎ ((left region.old < size) × (free_count region.new + 1 ≡ free_count region.old) × (left region.new ≡ sizes.segment)) }
+    ensures begun { ((shape region.new ≡ shape region.old) × (left region.new ≡ left region.old)) ⊎ ((left region.old < size) × BeginsNext region.old region.new × (left region.new ≡ sizes.segment)) }
 {
     if region.left() < size {
         region.next_active();
@@ -48,7 +48,7 @@ fn take_out<M: Movers>(region: &mut Region, movers: &mut M, place: Place, kind: 
     ensures others { (p : Place) → p ≢ place → IsClosed region.old p.segment → IsSameAt M.bare region.old region.new p }
     ensures drained { IsDrained M.bare place.segment region.old region.new }
     ensures live { live_bytes_at region.new place.segment + size ≡ live_bytes_at region.old place.segment }
-    ensures took { Took size region.old region.new }
+    ensures took { TookOne size region.old region.new }
 {
     make_room(region, place.segment, size);
     move_object(region, movers, place, kind, size);
@@ -65,7 +65,7 @@ pub(crate) fn drain<M: Movers>(region: &mut Region, movers: &mut M, source: u32)
     ensures rest { M.rest movers.new ≡ M.rest movers.old }
     ensures dead { live_bytes_at region.new source ≡ 0 }
     ensures drained { IsDrained M.bare source region.old region.new }
-    ensures free { (free_count region.new ≡ free_count region.old) ⊎ (free_count region.new + 1 ≡ free_count region.old) }
+    ensures took { Took source region.old region.new }
 {
     let mut from = 0;
     while let Some((at, kind, size)) = region.next_live(source, from) {

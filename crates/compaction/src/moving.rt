@@ -1,7 +1,7 @@
 //! One live object, from a closed segment to the active one.
 ghost use Rattle.std.specs.Prelude.{◌≡◌, ◌≢◌, ℕ, ◌+◌, ◌≤◌, Option, Some, None, IsSome, IsNone};
 ghost use Rattle.object_log.specs.Objects.{IsSize};
-ghost use Rattle.regions.specs.Shapes.{shape, active_of, free_count, IsClosed};
+ghost use Rattle.regions.specs.Shapes.{shape, active_of, IsClosed};
 ghost use Rattle.regions.specs.Counts.{used_counts, live_counts, live_bytes_at, used_total, live_total, plus, left};
 ghost use Rattle.regions.specs.Contents.{standing_at, live_at, ChangesAt, IsLiveAt};
 ghost use Rattle.regions.specs.Stores.{store_of};
@@ -55,7 +55,7 @@ pub(crate) fn move_object<M: Movers>(
     ensures others { (p : Place) → p ≢ from → IsClosed region.old p.segment → IsSameAt M.bare region.old region.new p }
     ensures drained { IsDrained M.bare from.segment region.old region.new }
     ensures live { live_bytes_at region.new from.segment + size ≡ live_bytes_at region.old from.segment }
-    ensures free { free_count region.new ≡ free_count region.old }
+    ensures shape { shape region.new ≡ shape region.old }
     ensures left { left region.new + size ≡ left region.old }
 {
     let to = append_copy(region, from, kind, size);

@@ -2,10 +2,10 @@
 ghost use Rattle.std.specs.Prelude.{◌≡◌, ◌≢◌, ◌↔◌, ◌⊎◌, ℕ, ◌<◌, ◌≤◌, true, false, Some};
 ghost use Rattle.layout.specs.Sizes as sizes;
 ghost use Rattle.regions.specs.Shapes.{guards_of, active_of, free_count};
-ghost use Rattle.regions.specs.Counts.{used_total, left};
-ghost use Rattle.regions.specs.Contents.{live_at};
+ghost use Rattle.regions.specs.Counts.{used_counts, used_total, left};
+ghost use Rattle.regions.specs.Contents.{live_at, Keeps};
 ghost use Rattle.regions.specs.Stores.{store_of};
-ghost use Rattle.compaction.specs.Sparse.{IsDense, IsSparse, IsCompacted};
+ghost use Rattle.compaction.specs.Sparse.{AreDense, IsDense, IsSparse, IsCompacted, HasRoom};
 ghost use Rattle.compaction.specs.Emptied.{HoldsTheSame};
 
 use crate::compact::{Compacted, compact_one};
@@ -20,6 +20,7 @@ pub fn pass<M: Movers>(region: &mut Region, movers: &mut M) -> Compacted
     ensures unchanged { result ≡ Compacted.Guarded → (region.new ≡ region.old) × (movers.new ≡ movers.old) }
     ensures freed { result ≡ Compacted.Freed → 2 ≤ free_count region.new }
     ensures none { result ≡ Compacted.NoneSparse → IsCompacted region.new }
+    ensures enough { guards_of region.old ≡ 0 → 2 ≤ free_count region.old → (result ≡ Compacted.Freed) × (region.new ≡ region.old) × (movers.new ≡ movers.old) }
     ensures free { 1 ≤ free_count region.new }
     ensures fits { M.fits movers.new (live_at region.new) }
     ensures store { (n : ℕ) → store_of M.bare (M.place_of movers.new) (live_at region.new) n ≡ store_of M.bare (M.place_of movers.old) (live_at region.old) n }
@@ -42,7 +43,7 @@ fn free_one<M: Movers>(region: &mut Region, movers: &mut M) -> bool
     requires guards { guards_of region.old ≡ 0 }
     requires free { free_count region.old ≡ 1 }
     requires fits { M.fits movers.old (live_at region.old) }
-    ensures freed { result ≡ true → used_total region.new < used_total region.old }
+    ensures lower { result ≡ true → used_total region.new < used_total region.old }
     ensures none { result ≡ false → IsCompacted region.new }
     ensures free { 1 ≤ free_count region.new }
     ensures fits { M.fits movers.new (live_at region.new) }
@@ -50,10 +51,22 @@ fn free_one<M: Movers>(region: &mut Region, movers: &mut M) -> bool
     ensures rest { M.rest movers.new ≡ M.rest movers.old }
     ensures holds { HoldsTheSame region.old region.new }
 {
+    close_spent(region);
+    compact_one(region, movers) == Compacted::Freed
+}
+
+// Closes the active segment where it is sparse and full. Where every closed one is dense then, nothing is left to compact.
+fn close_spent(region: &mut Region)
+    requires { free_count region.old ≡ 1 }
+    ensures objects { Keeps region.old region.new }
+    ensures used { used_counts region.new ≡ used_counts region.old }
+    ensures holds { HoldsTheSame region.old region.new }
+    ensures room { HasRoom region.new }
+    ensures dense { AreDense region.new → IsCompacted region.new × (1 ≤ free_count region.new) }
+{
     if is_spent(region) {
         region.next_active();
     }
-    compact_one(region, movers) == Compacted::Freed
 }
 
 // Whether the active segment is sparse and full.

@@ -104,3 +104,7 @@ IsLeastUnused r n = (n < r.most) × (¬ IsHeld r n) × ((m : ℕ) → m < n → 
 -- the free segment with the number is the active one from now on, and the one before is closed
 abbrev pub activated : ℕ → Shape → Shape
 activated n s = record s { active = Some n; slots = slice_set s.slots n (option_map (λ (b : Slot). record b { free = false }) (slot_at s.slots n)) }
+
+-- the segment with the number is free from now on
+abbrev pub freed : ℕ → Shape → Shape
+freed n s = record s { slots = slice_set s.slots n (option_map (λ (b : Slot). record b { free = true }) (slot_at s.slots n)) }

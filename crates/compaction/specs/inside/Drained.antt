@@ -2,7 +2,7 @@
 use Rattle.std.specs.Prelude.{◌≡◌, ◌≢◌, ℕ, ◌+◌, ◌<◌, ◌≤◌, ◌⊎◌, IsSome}
 use Rattle.layout.specs.Sizes.{segment}
 use Rattle.regions.specs.Segments.{RegionState}
-use Rattle.regions.specs.Shapes.{free_count, IsClosed}
+use Rattle.regions.specs.Shapes.{shape, activated, free_count, IsClosed, IsLeastFree}
 use Rattle.regions.specs.Counts.{used_at, live_bytes_at, used_total, left}
 use Rattle.regions.specs.Contents.{standing_at}
 use Rattle.regions.specs.Stores.{Bare}
@@ -18,15 +18,23 @@ pub record IsDrained (bare : Bare) (n : ℕ) (old new : RegionState) : Type 0 wh
   pub end : used_at new n ≡ used_at old n
   pub used : used_total new + live_bytes_at new n ≡ used_total old + live_bytes_at old n
 
--- what is still live in the segment has room
+-- what is live in the segment has room
 abbrev pub HasRoomFor : ℕ → RegionState → Type 0
 HasRoomFor n r = (1 ≤ free_count r) ⊎ (live_bytes_at r n ≤ left r)
 
--- at most one free segment was taken, and then what is still live in the segment has room in it
-abbrev pub TookAtMostOne : ℕ → RegionState → RegionState → Type 0
-TookAtMostOne n old new = ((free_count new ≡ free_count old) × HasRoomFor n new) ⊎ ((free_count new + 1 ≡ free_count old) × (live_bytes_at new n ≤ left new))
+-- the free segment with the least number is the active one from now on
+pub record BeginsNext (old new : RegionState) : Type 0 where
+  pub number : ℕ
+  pub least : IsLeastFree old number
+  pub shape : shape new ≡ activated number (shape old)
+  pub free : free_count new + 1 ≡ free_count old
 
--- the size was taken of the active segment, or, where that had too little left, of a new one
+-- what moved out of the segment went into the active one; or that had too little left for all of it, and the next segment
+-- was begun, which has room for what is still live
 abbrev pub Took : ℕ → RegionState → RegionState → Type 0
-Took size old new =
-    ((free_count new ≡ free_count old) × (left new + size ≡ left old)) ⊎ ((left old < size) × (free_count new + 1 ≡ free_count old) × (left new + size ≡ segment))
+Took n old new =
+    ((shape new ≡ shape old) × (left new + live_bytes_at old n ≡ left old + live_bytes_at new n)) ⊎ ((left old < live_bytes_at old n) × BeginsNext old new × (live_bytes_at new n ≤ left new))
+
+-- the same of one object of the size
+abbrev pub TookOne : ℕ → RegionState → RegionState → Type 0
+TookOne size old new = ((shape new ≡ shape old) × (left new + size ≡ left old)) ⊎ ((left old < size) × BeginsNext old new × (left new + size ≡ segment))

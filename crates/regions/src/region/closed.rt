@@ -4,7 +4,7 @@ ghost use Rattle.regions.specs.declared.place.Place.{Place};
 ghost use Rattle.layout.specs.Sizes as sizes;
 ghost use Rattle.object_log.specs.Objects.{IsSize, IsSegment};
 ghost use Rattle.regions.specs.Segments.{SegmentState, segment_at, with_segment, emptied};
-ghost use Rattle.regions.specs.Shapes.{shape, active_of, guards_of, pieces, is_closed, held_count, free_count, IsHeld, IsFree, IsClosed};
+ghost use Rattle.regions.specs.Shapes.{shape, active_of, guards_of, pieces, is_closed, held_count, free_count, freed, IsHeld, IsFree, IsClosed};
 ghost use Rattle.regions.specs.Counts.{used_counts, live_counts, used_at, live_bytes_at, left, used_total, live_total};
 ghost use Rattle.regions.specs.Contents.{standing_at, live_at, dead, IsStart, NoneLives, IsLiveAt};
 ghost use Rattle.regions.specs.inside.Consistent.{not_closed};
@@ -93,6 +93,7 @@ impl Region {
         requires guards { guards_of self.old ≡ 0 }
         ensures freed { self.new ≡ with_segment self.old segment (option_map emptied (segment_at self.old segment)) }
         ensures gained { sizes.dense < used_at self.old segment }
+        ensures shape { shape self.new ≡ freed segment (shape self.old) }
         ensures is_free { IsFree self.new segment }
         ensures closed { (n : ℕ) → n ≢ segment → IsClosed self.old n → IsClosed self.new n }
         ensures store { (p : Place) → live_at self.new p ≡ live_at self.old p }

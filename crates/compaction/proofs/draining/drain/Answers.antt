@@ -6,7 +6,7 @@ use Rattle.std.proofs.Math.Nat.{eq-or-lt_of_le}
 use Rattle.regions.specs.Contents.{item_if_live, standing_at, live_at}
 use Rattle.regions.specs.declared.place.Place.{Place}
 use Rattle.compaction.proofs.Moves.{same-none}
-use Rattle.compaction.proofs.Drains.{some-same, drained-on, took-on}
+use Rattle.compaction.proofs.Drains.{some-same, drained-on, took-on, room-for}
 use Rattle.compaction.proofs.draining.drain.Goals as goal
 
 pub loop-at-preserved : goal.loop-at-preserved
@@ -46,3 +46,6 @@ loop-at-preserved g c =
             | inr far ↦ same-none bare now new p (e.others p (other a far) shut) (before a far high)
           ];
     }
+
+pub take_out-requires-clause-room : goal.take_out-requires-clause-room
+take_out-requires-clause-room g c = room-for c.args.source c.args.region.now c.loop-at.region c.requires.room c.loop-at.invariant.took

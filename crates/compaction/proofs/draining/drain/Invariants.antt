@@ -3,7 +3,7 @@ use Rattle.regions.specs.Counts.{live_bytes_at}
 use Rattle.regions.specs.Contents.{live_at, IsStart, NoneLives}
 use Rattle.regions.specs.Stores.{store_of}
 use Rattle.compaction.specs.Sparse.{IsSparse}
-use Rattle.compaction.specs.inside.Drained.{IsDrained, TookAtMostOne}
+use Rattle.compaction.specs.inside.Drained.{IsDrained, Took}
 use Rattle.compaction.proofs.draining.drain.Given as goal
 
 -- what stands before the offset is moved
@@ -14,7 +14,7 @@ invariant-loop-at g l = record {
   rest : g.M.Movers.rest l.movers ≡ g.M.Movers.rest l.fn.movers;
   drained : IsDrained g.M.Movers.bare l.source l.fn.region l.region;
   sparse : IsSparse l.region l.source;
-  took : TookAtMostOne l.source l.fn.region l.region;
+  took : Took l.source l.fn.region l.region;
   start : (l.from ≡ 0) ⊎ IsStart l.region l.source l.from;
   none : NoneLives l.region l.source 0 l.from;
 }

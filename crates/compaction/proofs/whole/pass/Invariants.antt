@@ -14,6 +14,7 @@ invariant-loop-region g l = record {
   store : (n : ℕ) → store_of g.M.Movers.bare (g.M.Movers.place_of l.movers) (live_at l.region) n ≡ store_of g.M.Movers.bare (g.M.Movers.place_of l.fn.movers) (live_at l.fn.region) n;
   rest : g.M.Movers.rest l.movers ≡ g.M.Movers.rest l.fn.movers;
   holds : HoldsTheSame l.fn.region l.region;
+  enough : 2 ≤ free_count l.fn.region → (l.region ≡ l.fn.region) × (l.movers ≡ l.fn.movers);
 }
 
 -- dead bytes are used no more

@@ -2,12 +2,12 @@ use Rattle.std.proofs.Common.{◌≡◌, ◌+◌, ◌<◌, length, true, sym, ap
 use Rattle.std.specs.Prelude.{None, Some, option_map, slice_set}
 use Rattle.std.specs.List.{sum}
 use Rattle.regions.specs.Segments.{RegionState, with_segment, emptied}
-use Rattle.regions.specs.Shapes.{slots_of, slot_at, is_free, is_begun, is_closed, IsClosed, free_count, held_count, pieces}
+use Rattle.regions.specs.Shapes.{Slot, shape, slot_of, slots_of, slot_at, freed, is_free, is_begun, is_closed, IsClosed, free_count, held_count, pieces}
 use Rattle.regions.specs.Counts.{used_counts, live_counts, used_in_each, live_in_each, live_bytes_at, used_in, live_in, left, left_of}
 use Rattle.regions.specs.inside.Consistent.{IsConsistent, not_closed}
 use Rattle.std.proofs.lemmas.List.{map-set, length-map}
 use Rattle.regions.proofs.Tables as tables
-use Rattle.regions.proofs.Updates.{live-is, live-same}
+use Rattle.regions.proofs.Updates.{slot-is, live-is, live-same}
 use Rattle.regions.proofs.Consistency.{begun-held, closed-begun, begun-closed}
 use Rattle.regions.proofs.Regions.{held-there, begun-within, frees-in, live-unused, pieces-same, held-same, slot-there, slot-elsewhere, left-same}
 use Rattle.regions.proofs.Sums.{sum-cleared}
@@ -123,3 +123,17 @@ returns-clause-used_total c =
     let sums = sum-cleared (used_counts c.args.self.now) n counted in
     let e = ap sum (returns-clause-used c) in
     omega (arith, e, sums)
+
+pub returns-clause-shape : goal.returns-clause-shape
+returns-clause-shape c =
+    let i = c.self.inside in let slots = i.slots.items in let n = c.args.segment in
+    let closed : is_closed i.active (slots_of slots) n ≡ true = subst (λ q. IsClosed q n) (sym c.self.view_is) c.requires.closed in
+    let begun = closed-begun i.active (slots_of slots) n closed in
+    let there = held-there i.most i.active i.free i.active_live i.table slots c.self.invariant n (begun-held (slot_at (slots_of slots) n) begun.0) in
+    let inside = begun-within i.most i.active i.free i.active_live i.table slots c.self.invariant n begun.0 in
+    let left-as : c.clear.new.slot ≡ Some (emptied there.0) = c.clear.ensures.cleared ∙ ap (λ s. option_map emptied s) (sym (tables.slot-is slots n c.index_mut.result.now None inside c.index_mut.ensures.value) ∙ there.1) in
+    let r : RegionState = record { most = i.most; guards = i.guards; active = i.active; segments = slots } in
+    ap (λ s. shape (with_segment r n s)) left-as
+    ∙ ap (λ s. record (shape r) { slots = s }) (map-set (λ s. option_map slot_of s) slots n (Some (emptied there.0))
+      ∙ ap (slice_set (slots_of slots) n) (sym (ap (option_map (λ (b : Slot). record b { free = true })) (slot-is slots n ∙ ap (λ s. option_map slot_of s) there.1))))
+    ∙ ap (λ q. freed n (shape q)) c.self.view_is
