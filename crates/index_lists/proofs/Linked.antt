@@ -160,10 +160,6 @@ pub held_within : (n : ℕ) (next prev ns : List ℕ) (k x : ℕ) → IsConsiste
 held_within n next prev ns k x h inside held =
     elim (lt_or_ge x n) [ inl l ↦ l | inr g ↦ absurd (let none = h.inside k x inside g in omega (arith, none, held)) ]
 
-first_of_path : (next prev : List ℕ) (a : ℕ) (xs : List ℕ) (b f : ℕ) → Path next prev a xs b → f ≡ get_or next a 0 → (xs ≢ []) → slice_get xs 0 ≡ Some f
-first_of_path next prev a [] b f p e full = absurd (full refl)
-first_of_path next prev a (x ∷ xs) b f p e full = ap (λ z. Some z) (sym p.0 ∙ sym e)
-
 -- ---- the same of the lists that the links say, as the code reads them
 
 abbrev pub lists_of : ℕ → List ℕ → List ℕ → Lists
@@ -175,16 +171,20 @@ keeps_links n next prev ns lists h = subst (IsConsistent n next prev ns) (sym (s
 pub lists_are : (n : ℕ) (next prev ns : List ℕ) (lists : List (List ℕ)) → IsConsistent n next prev ns lists → lists_of n next ns ≡ record { indices = n; lists = lists }
 lists_are n next prev ns lists h = ap (λ l. let r : Lists = record { indices = n; lists = l } in r) (same_rings n next prev ns lists h)
 
-pub pushed : (n : ℕ) (next prev ns : List ℕ) (k x f m : ℕ) → IsConsistent n next prev ns (rings_from n next ns) → k < length (rings_from n next ns) → x < n → IsAbsent (lists_of n next ns) x
-    → f ≡ get_or next (n + k) f → m ≡ get_or ns k m
-    → IsConsistent n (set (set next x f) (n + k) x) (set (set prev f x) x (n + k)) (set ns k (m + 1)) (set (rings_from n next ns) k (x ∷ get_or (rings_from n next ns) k []))
-pushed n next prev ns k x f m h inside below absent fe me =
+-- the two links that a push writes
+pub pushed : (n : ℕ) (next prev ns next' prev' next'' prev'' : List ℕ) (k x f m : ℕ) → IsConsistent n next prev ns (rings_from n next ns) → k < length (rings_from n next ns) → x < n → IsAbsent (lists_of n next ns) x
+    → f ≡ get_or next (n + k) f → m ≡ get_or ns k m → next' ≡ set next x f → prev' ≡ set prev f x → next'' ≡ set next' (n + k) x → prev'' ≡ set prev' x (n + k)
+    → IsConsistent n next'' prev'' (set ns k (m + 1)) (set (rings_from n next ns) k (x ∷ get_or (rings_from n next ns) k []))
+pushed n next prev ns next' prev' next'' prev'' k x f m h inside below absent fe me en ep enn epp =
     let nl = h.next_len in let ll = h.lengths_len in
     let f_is = get_or_read next (n + k) f (omega arith) fe 0 in
     let m_is = get_or_read ns k m (omega arith) me 0 in
-    subst (λ g. IsConsistent n (set (set next x g) (n + k) x) (set (set prev g x) x (n + k)) (set ns k (m + 1)) (set (rings_from n next ns) k (x ∷ get_or (rings_from n next ns) k []))) (sym f_is)
-    (subst (λ l. IsConsistent n (set (set next x (get_or next (n + k) 0)) (n + k) x) (set (set prev (get_or next (n + k) 0) x) x (n + k)) (set ns k (l + 1)) (set (rings_from n next ns) k (x ∷ get_or (rings_from n next ns) k []))) (sym m_is)
-    (linked_push n next prev ns (rings_from n next ns) k x h inside below absent))
+    let to : List (List ℕ) = set (rings_from n next ns) k (x ∷ get_or (rings_from n next ns) k []) in
+    let linked = linked_push n next prev ns (rings_from n next ns) k x h inside below absent in
+    let front = subst (λ g. IsConsistent n (set (set next x g) (n + k) x) (set (set prev g x) x (n + k)) (set ns k (get_or ns k 0 + 1)) to) (sym f_is) linked in
+    let count = subst (λ l. IsConsistent n (set (set next x f) (n + k) x) (set (set prev f x) x (n + k)) (set ns k (l + 1)) to) (sym m_is) front in
+    subst (λ l. IsConsistent n l prev'' (set ns k (m + 1)) to) (sym (enn ∙ ap (λ l. set l (n + k) x) en))
+    (subst (λ l. IsConsistent n (set (set next x f) (n + k) x) l (set ns k (m + 1)) to) (sym (epp ∙ ap (λ l. set l x (n + k)) ep)) count)
 
 -- the place behind the ring's sentinel is within the arrays
 pub front_within : (n : ℕ) (next prev ns : List ℕ) (k f : ℕ) → IsConsistent n next prev ns (rings_from n next ns) → k < length (rings_from n next ns) → f ≡ get_or next (n + k) f → f < n + length (rings_from n next ns)
@@ -201,20 +201,20 @@ length_within n next prev ns k m h inside me =
     let short = length_below n (get_or (rings_from n next ns) k []) (λ z. h.single k z inside) (λ z g. h.inside k z inside g) in
     omega (arith, l, m_is, short)
 
-pub removed : (n : ℕ) (next prev ns : List ℕ) (k x p q m : ℕ) → IsConsistent n next prev ns (rings_from n next ns) → k < length (rings_from n next ns) → 1 ≤ times x (list_at (lists_of n next ns) k)
-    → p ≡ get_or prev x p → q ≡ get_or next x q → m ≡ get_or ns k m
-    → IsConsistent n (set next p q) (set prev q p) (set ns k (m - 1)) (set (rings_from n next ns) k (delete x (get_or (rings_from n next ns) k [])))
-removed n next prev ns k x p q m h inside held pe qe me =
+-- the link that a removal writes, and the count
+pub removed : (n : ℕ) (next prev ns next' prev' ns' : List ℕ) (k x p q : ℕ) → IsConsistent n next prev ns (rings_from n next ns) → k < length (rings_from n next ns) → 1 ≤ times x (list_at (lists_of n next ns) k)
+    → p ≡ get_or prev x p → q ≡ get_or next x q → next' ≡ set next p q → prev' ≡ set prev q p → ns' ≡ set ns k (get_or ns k 0 - 1)
+    → IsConsistent n next' prev' ns' (set (rings_from n next ns) k (delete x (get_or (rings_from n next ns) k [])))
+removed n next prev ns next' prev' ns' k x p q h inside held pe qe en ep el =
     let nl = h.next_len in let pl = h.prev_len in let ll = h.lengths_len in
     let within = held_within n next prev ns k x h inside held in
     let p_is = get_or_read prev x p (omega arith) pe 0 in
     let q_is = get_or_read next x q (omega arith) qe 0 in
-    let m_is = get_or_read ns k m (omega arith) me 0 in
     let to : List (List ℕ) = set (rings_from n next ns) k (delete x (get_or (rings_from n next ns) k [])) in
-    subst (λ z. IsConsistent n (set next z q) (set prev q z) (set ns k (m - 1)) to) (sym p_is)
-    (subst (λ z. IsConsistent n (set next (get_or prev x 0) z) (set prev z (get_or prev x 0)) (set ns k (m - 1)) to) (sym q_is)
-    (subst (λ z. IsConsistent n (set next (get_or prev x 0) (get_or next x 0)) (set prev (get_or next x 0) (get_or prev x 0)) (set ns k (z - 1)) to) (sym m_is)
-    (linked_remove n next prev ns (rings_from n next ns) k x h inside held)))
+    let linked = linked_remove n next prev ns (rings_from n next ns) k x h inside held in
+    let before = subst (λ z. IsConsistent n (set next z (get_or next x 0)) (set prev (get_or next x 0) z) (set ns k (get_or ns k 0 - 1)) to) (sym p_is) linked in
+    let behind = subst (λ z. IsConsistent n (set next p z) (set prev z p) (set ns k (get_or ns k 0 - 1)) to) (sym q_is) before in
+    subst (λ l. IsConsistent n l prev' ns' to) (sym en) (subst (λ l. IsConsistent n (set next p q) l ns' to) (sym ep) (subst (λ l. IsConsistent n (set next p q) (set prev q p) l to) (sym el) behind))
 
 pub before_within : (n : ℕ) (next prev ns : List ℕ) (k x p : ℕ) → IsConsistent n next prev ns (rings_from n next ns) → k < length (rings_from n next ns) → 1 ≤ times x (list_at (lists_of n next ns) k) → p ≡ get_or prev x p → p < n + length (rings_from n next ns)
 before_within n next prev ns k x p h inside held pe =
@@ -230,22 +230,11 @@ after_within n next prev ns k x q h inside held qe =
     let q_is = get_or_read next x q (omega arith) qe 0 in
     subst (λ z. z < n + length (rings_from n next ns)) (sym q_is) (on_ring n next prev ns _ k _ h inside (next_on_path next prev (n + k) _ (n + k) x (h.rings k inside) held)).0
 
-pub front_is : (n : ℕ) (next prev ns : List ℕ) (k f : ℕ) → IsConsistent n next prev ns (rings_from n next ns) → k < length (rings_from n next ns) → f ≡ get_or next (n + k) f → get_or ns k 0 ≢ 0 → slice_get (list_at (lists_of n next ns) k) 0 ≡ Some f
-front_is n next prev ns k f h inside fe full =
-    let nl = h.next_len in
-    let f_is = get_or_read next (n + k) f (omega arith) fe 0 in
-    first_of_path next prev (n + k) _ (n + k) f (h.rings k inside) f_is (λ e. full (h.lens k inside ∙ ap length e))
-
-pub no_front : (n : ℕ) (next prev ns : List ℕ) (k : ℕ) → IsConsistent n next prev ns (rings_from n next ns) → k < length (rings_from n next ns) → get_or ns k 0 ≡ 0 → slice_get (list_at (lists_of n next ns) k) 0 ≡ None
-no_front n next prev ns k h inside none = ap (λ xs. slice_get xs 0) (nil_from_length (list_at (lists_of n next ns) k) (sym (h.lens k inside) ∙ none))
-
-pub some_length : (n : ℕ) (next prev ns : List ℕ) (k x m : ℕ) → IsConsistent n next prev ns (rings_from n next ns) → k < length (rings_from n next ns) → 1 ≤ times x (list_at (lists_of n next ns) k) → m ≡ get_or ns k m → 1 ≤ m
-some_length n next prev ns k x m h inside held me =
-    let ll = h.lengths_len in
-    let m_is = get_or_read ns k m (omega arith) me 0 in
+pub some_length : (n : ℕ) (next prev ns : List ℕ) (k x : ℕ) → IsConsistent n next prev ns (rings_from n next ns) → k < length (rings_from n next ns) → 1 ≤ times x (list_at (lists_of n next ns) k) → 1 ≤ get_or ns k 0
+some_length n next prev ns k x h inside held =
     let l = h.lens k inside in
     let w = length-delete x (get_or (rings_from n next ns) k []) held in
-    omega (arith, l, m_is, w)
+    omega (arith, l, w)
 
 pub linked_new : (n m : ℕ) (next prev ns : List ℕ) → next ≡ range_with_len 0 (n + m) → prev ≡ range_with_len 0 (n + m) → ns ≡ replicate m 0 → n + m < 2 ^ 32 → IsConsistent n next prev ns (replicate m [])
 linked_new n m next prev ns en ep el small =

@@ -1,13 +1,19 @@
 -- What the links of an index say of its neighbours in the list, and those of a sentinel of the ends.
-use Rattle.std.proofs.Common.{◌≡◌, ◌≢◌, ℕ, ◌+◌, ◌<◌, ◌≤◌, ◌⊎◌, inl, inr, List, [], ◌∷◌, length, get_or, cond, Option, Some, None, refl, sym, ap, subst, ◌∙◌, arith}
-use Rattle.std.proofs.lemmas.List.{get_or_read, nil_from_length}
+use Rattle.std.proofs.Common.{◌≡◌, ◌≢◌, ℕ, ◌+◌, ◌<◌, ◌≤◌, ◌⊎◌, inl, inr, List, [], ◌∷◌, length, get_or, slice_get, cond, Option, Some, None, eq-eqb, refl, sym, ap, subst, ◌∙◌, arith}
+use Rattle.std.proofs.lemmas.Bool.{ne_eqb}
 use Rattle.std.proofs.lemmas.Bool.Decides.{eqb_tells}
 use Rattle.std.specs.List.{last_or}
 use Rattle.common_lemmas.specs.Lists.{times}
 use Rattle.common_lemmas.proofs.Counts.{times_here, times_there, times_cons_le}
 use Rattle.index_lists.specs.Lists.{list_at, after, before, before_from}
-use Rattle.index_lists.specs.inside.Links.{Path, IsConsistent, rings_from}
-use Rattle.index_lists.proofs.Linked.{lists_of, held_within}
+use Rattle.index_lists.specs.inside.Links.{Path, IsConsistent, rings_from, leads_to}
+use Rattle.index_lists.proofs.Linked.{lists_of}
+
+leads_end : (s x : ℕ) → x ≡ s → leads_to s x ≡ None
+leads_end s x e = ap (λ b. cond b None (Some x)) (eq-eqb x s e)
+
+leads_on : (s x : ℕ) → x ≢ s → leads_to s x ≡ Some x
+leads_on s x n = ap (λ b. cond b None (Some x)) (ne_eqb x s n)
 
 -- the link out of an index leads to the end, or to the index behind it
 after_on_path : (next prev : List ℕ) (a : ℕ) (xs : List ℕ) (b x : ℕ) → Path next prev a xs b → 1 ≤ times x xs → ((get_or next x 0 ≡ b) × (after x xs ≡ None)) ⊎ ((1 ≤ times (get_or next x 0) xs) × (after x xs ≡ Some (get_or next x 0)))
@@ -47,52 +53,62 @@ before_on_path next prev a o (y ∷ ys) b x p h =
           ])
     ]
 
--- the link back from the end leads to the last index
+-- the link back from the end leads to the start, or to the last index
 last_on_path : (next prev : List ℕ) (a : ℕ) (xs : List ℕ) (b : ℕ) → Path next prev a xs b → last_or (Some a) xs ≡ Some (get_or prev b 0)
 last_on_path next prev a [] b p = ap (λ w. Some w) (sym p.1)
 last_on_path next prev a (x ∷ xs) b p = last_on_path next prev x xs b p.2
 
-last_of_path : (next prev : List ℕ) (a : ℕ) (xs : List ℕ) (b : ℕ) → Path next prev a xs b → xs ≢ [] → last_or None xs ≡ Some (get_or prev b 0)
-last_of_path next prev a [] b p n = absurd (n refl)
-last_of_path next prev a (x ∷ xs) b p n = last_on_path next prev x xs b p.2
+last_held : (next prev : List ℕ) (a : ℕ) (xs : List ℕ) (b : ℕ) → Path next prev a xs b → (get_or prev b 0 ≡ a) ⊎ (1 ≤ times (get_or prev b 0) xs)
+last_held next prev a [] b p = inl p.1
+last_held next prev a (y ∷ ys) b p =
+    inr (elim (last_held next prev y ys b p.2) [
+      | inl e ↦ subst (λ w. 1 ≤ times w (y ∷ ys)) (sym e) (let t = times_here y ys in omega (arith, t))
+      | inr q ↦ (let l = times_cons_le (get_or prev b 0) y ys in omega (arith, l, q))
+    ])
 
--- the same of the arrays
+-- an index of a list is not one that the list lacks
+held_is_other : (xs : List ℕ) (x y : ℕ) → 1 ≤ times x xs → times y xs ≡ 0 → x ≢ y
+held_is_other xs x y held none e = absurd (let some : 1 ≤ times y xs = subst (λ w. 1 ≤ times w xs) e held in omega (arith, some, none))
 
-pub next_is : (n : ℕ) (next prev ns : List ℕ) (k x q : ℕ) → IsConsistent n next prev ns (rings_from n next ns) → k < length (rings_from n next ns) → 1 ≤ times x (list_at (lists_of n next ns) k) → q ≡ get_or next x q
-    → ((q ≡ n + k) × (after x (list_at (lists_of n next ns) k) ≡ None)) ⊎ ((q ≢ n + k) × (after x (list_at (lists_of n next ns) k) ≡ Some q))
-next_is n next prev ns k x q h inside held qe =
-    let nl = h.next_len in
-    let within = held_within n next prev ns k x h inside held in
-    let q_is = get_or_read next x q (omega arith) qe 0 in
-    elim (after_on_path next prev (n + k) _ (n + k) x (h.rings k inside) held) [
-      | inl r ↦ inl (q_is ∙ r.0, r.1)
-      | inr r ↦ inr (
-        (λ e. absurd (let none = h.inside k (n + k) inside (omega arith) in let some : 1 ≤ times (n + k) (list_at (lists_of n next ns) k) = subst (λ w. 1 ≤ times w (list_at (lists_of n next ns) k)) (sym q_is ∙ e) r.0 in omega (arith, none, some))),
-        r.1
-            ∙ ap (λ w. Some w) (sym q_is),
-      )
+-- what the links of a sentinel lead to, and those of an index in the ring
+
+front_on_path : (next prev : List ℕ) (a : ℕ) (xs : List ℕ) (b : ℕ) → Path next prev a xs b → times b xs ≡ 0 → leads_to b (get_or next a 0) ≡ slice_get xs 0
+front_on_path next prev a [] b p none = leads_end b _ p.0
+front_on_path next prev a (x ∷ xs) b p none =
+    let held : 1 ≤ times (get_or next a 0) (x ∷ xs) = subst (λ w. 1 ≤ times w (x ∷ xs)) (sym p.0) (let t = times_here x xs in omega (arith, t)) in
+    leads_on b _ (held_is_other (x ∷ xs) _ b held none) ∙ ap (λ w. Some w) p.0
+
+back_on_path : (next prev : List ℕ) (a : ℕ) (xs : List ℕ) (b : ℕ) → Path next prev a xs b → times a xs ≡ 0 → leads_to a (get_or prev b 0) ≡ last_or None xs
+back_on_path next prev a [] b p none = leads_end a _ p.1
+back_on_path next prev a (x ∷ xs) b p none =
+    elim (last_held next prev a (x ∷ xs) b p) [
+      | inl e ↦ absurd (let here = times_here x xs in elim (last_held next prev x xs b p.2) [
+        | inl f ↦ (let same : x ≡ a = sym f ∙ e in let t = times_here x xs in let z : times x (x ∷ xs) ≡ 0 = subst (λ w. times w (x ∷ xs) ≡ 0) (sym same) none in omega (arith, t, z))
+        | inr q ↦ (let l = times_cons_le (get_or prev b 0) x xs in let z : times (get_or prev b 0) (x ∷ xs) ≡ 0 = subst (λ w. times w (x ∷ xs) ≡ 0) (sym e) none in omega (arith, l, q, z))
+      ])
+      | inr q ↦ leads_on a _ (held_is_other (x ∷ xs) _ a q none) ∙ sym (last_on_path next prev x xs b p.2)
     ]
 
-pub prev_is : (n : ℕ) (next prev ns : List ℕ) (k x q : ℕ) → IsConsistent n next prev ns (rings_from n next ns) → k < length (rings_from n next ns) → 1 ≤ times x (list_at (lists_of n next ns) k) → q ≡ get_or prev x q
-    → ((q ≡ n + k) × (before x (list_at (lists_of n next ns) k) ≡ None)) ⊎ ((q ≢ n + k) × (before x (list_at (lists_of n next ns) k) ≡ Some q))
-prev_is n next prev ns k x q h inside held qe =
-    let pl = h.prev_len in
-    let within = held_within n next prev ns k x h inside held in
-    let q_is = get_or_read prev x q (omega arith) qe 0 in
-    elim (before_on_path next prev (n + k) None _ (n + k) x (h.rings k inside) held) [
-      | inl r ↦ inl (q_is ∙ r.0, r.1)
-      | inr r ↦ inr (
-        (λ e. absurd (let none = h.inside k (n + k) inside (omega arith) in let some : 1 ≤ times (n + k) (list_at (lists_of n next ns) k) = subst (λ w. 1 ≤ times w (list_at (lists_of n next ns) k)) (sym q_is ∙ e) r.0 in omega (arith, none, some))),
-        r.1
-            ∙ ap (λ w. Some w) (sym q_is),
-      )
-    ]
+module _ (n : ℕ) (next prev ns : List ℕ) (h : IsConsistent n next prev ns (rings_from n next ns)) (k : ℕ) (inside : k < length (rings_from n next ns)) where
+  no_sentinel : times (n + k) (list_at (lists_of n next ns) k) ≡ 0
+  no_sentinel = h.inside k (n + k) inside (omega arith)
 
-pub back_is : (n : ℕ) (next prev ns : List ℕ) (k f : ℕ) → IsConsistent n next prev ns (rings_from n next ns) → k < length (rings_from n next ns) → f ≡ get_or prev (n + k) f → get_or ns k 0 ≢ 0 → last_or None (list_at (lists_of n next ns) k) ≡ Some f
-back_is n next prev ns k f h inside fe full =
-    let pl = h.prev_len in
-    let f_is = get_or_read prev (n + k) f (omega arith) fe 0 in
-    last_of_path next prev (n + k) _ (n + k) (h.rings k inside) (λ e. full (h.lens k inside ∙ ap length e)) ∙ ap (λ w. Some w) (sym f_is)
+  pub front_is : leads_to (n + k) (get_or next (n + k) 0) ≡ slice_get (list_at (lists_of n next ns) k) 0
+  front_is = front_on_path next prev (n + k) _ (n + k) (h.rings k inside) no_sentinel
 
-pub no_back : (n : ℕ) (next prev ns : List ℕ) (k : ℕ) → IsConsistent n next prev ns (rings_from n next ns) → k < length (rings_from n next ns) → get_or ns k 0 ≡ 0 → last_or None (list_at (lists_of n next ns) k) ≡ None
-no_back n next prev ns k h inside none = ap (last_or None) (nil_from_length (list_at (lists_of n next ns) k) (sym (h.lens k inside) ∙ none))
+  pub back_is : leads_to (n + k) (get_or prev (n + k) 0) ≡ last_or None (list_at (lists_of n next ns) k)
+  back_is = back_on_path next prev (n + k) _ (n + k) (h.rings k inside) no_sentinel
+
+  pub next_is : (x : ℕ) → 1 ≤ times x (list_at (lists_of n next ns) k) → leads_to (n + k) (get_or next x 0) ≡ after x (list_at (lists_of n next ns) k)
+  next_is x held =
+      elim (after_on_path next prev (n + k) _ (n + k) x (h.rings k inside) held) [
+        | inl r ↦ leads_end (n + k) _ r.0 ∙ sym r.1
+        | inr r ↦ leads_on (n + k) _ (held_is_other _ _ (n + k) r.0 no_sentinel) ∙ sym r.1
+      ]
+
+  pub prev_is : (x : ℕ) → 1 ≤ times x (list_at (lists_of n next ns) k) → leads_to (n + k) (get_or prev x 0) ≡ before x (list_at (lists_of n next ns) k)
+  prev_is x held =
+      elim (before_on_path next prev (n + k) None _ (n + k) x (h.rings k inside) held) [
+        | inl r ↦ leads_end (n + k) _ r.0 ∙ sym r.1
+        | inr r ↦ leads_on (n + k) _ (held_is_other _ _ (n + k) r.0 no_sentinel) ∙ sym r.1
+      ]

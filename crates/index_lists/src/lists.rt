@@ -2,6 +2,7 @@ ghost use Rattle.std.specs.Prelude.{
   ◌≡◌,
   ℕ,
   ◌+◌,
+  ◌-◌,
   ◌<◌,
   ◌≤◌,
   ◌^◌,
@@ -21,6 +22,7 @@ ghost use Rattle.std.specs.Prelude.{
 ghost use Rattle.std.specs.List.{range_with_len, last_or};
 ghost use Rattle.common_lemmas.specs.Lists.{times, delete};
 ghost use Rattle.index_lists.specs.Lists.{list_at, after, before, with_list, IsAbsent};
+ghost use Rattle.index_lists.specs.inside.Links.{leads_to};
 
 use std::alloc::{AllocError, Global};
 use std::marker::Model;
@@ -80,10 +82,8 @@ impl IndexLists {
         requires { list < length self.now.lists }
         ensures { result ≡ slice_get (list_at self.now list) 0 }
     {
-        if self.lengths[list as usize] == 0 {
-            return None;
-        }
-        Some(self.next[(self.indices + list) as usize])
+        let sentinel = self.indices + list;
+        neighbour(&self.next, sentinel, sentinel)
     }
 
     /// The index at the back of the list.
@@ -91,10 +91,8 @@ impl IndexLists {
         requires { list < length self.now.lists }
         ensures { result ≡ last_or None (list_at self.now list) }
     {
-        if self.lengths[list as usize] == 0 {
-            return None;
-        }
-        Some(self.prev[(self.indices + list) as usize])
+        let sentinel = self.indices + list;
+        neighbour(&self.prev, sentinel, sentinel)
     }
 
     /// The index behind one that the list has, toward the back.
@@ -103,11 +101,7 @@ impl IndexLists {
         requires held { 1 ≤ times index (list_at self.now list) }
         ensures { result ≡ after index (list_at self.now list) }
     {
-        let next = self.next[index as usize];
-        if next == self.indices + list {
-            return None;
-        }
-        Some(next)
+        neighbour(&self.next, index, self.indices + list)
     }
 
     /// The index before one that the list has, toward the front.
@@ -116,11 +110,7 @@ impl IndexLists {
         requires held { 1 ≤ times index (list_at self.now list) }
         ensures { result ≡ before index (list_at self.now list) }
     {
-        let prev = self.prev[index as usize];
-        if prev == self.indices + list {
-            return None;
-        }
-        Some(prev)
+        neighbour(&self.prev, index, self.indices + list)
     }
 
     /// Puts an index that is on no list in front of one.
@@ -132,10 +122,8 @@ impl IndexLists {
     {
         let sentinel = self.indices + list;
         let first = self.next[sentinel as usize];
-        self.next[index as usize] = first;
-        self.prev[first as usize] = index;
-        self.next[sentinel as usize] = index;
-        self.prev[index as usize] = sentinel;
+        link(&mut self.next, &mut self.prev, index, first);
+        link(&mut self.next, &mut self.prev, sentinel, index);
         self.lengths[list as usize] += 1;
     }
 
@@ -147,10 +135,41 @@ impl IndexLists {
     {
         let after = self.next[index as usize];
         let before = self.prev[index as usize];
-        self.next[before as usize] = after;
-        self.prev[after as usize] = before;
-        self.lengths[list as usize] -= 1;
+        link(&mut self.next, &mut self.prev, before, after);
+        decrement(&mut self.lengths, list);
     }
+}
+
+/// Where the link of an index leads, and nowhere where that is its list's sentinel.
+fn neighbour(links: &Vec<u32>, index: u32, sentinel: u32) -> Option<u32>
+    requires { index < length links.now.items }
+    ensures { result ≡ leads_to sentinel (slice_index links.now.items index) }
+{
+    let other = links[index as usize];
+    if other == sentinel {
+        return None;
+    }
+    Some(other)
+}
+
+/// Makes one index the one after another, both ways.
+fn link(next: &mut Vec<u32>, prev: &mut Vec<u32>, before: u32, after: u32)
+    requires before { before < length next.old.items }
+    requires after { after < length prev.old.items }
+    ensures next { next.new.items ≡ slice_set next.old.items before after }
+    ensures prev { prev.new.items ≡ slice_set prev.old.items after before }
+{
+    next[before as usize] = after;
+    prev[after as usize] = before;
+}
+
+/// Counts one less.
+fn decrement(lengths: &mut Vec<u32>, list: u32)
+    requires within { list < length lengths.old.items }
+    requires some { 1 ≤ slice_index lengths.old.items list }
+    ensures { lengths.new.items ≡ slice_set lengths.old.items list (slice_index lengths.old.items list - 1) }
+{
+    lengths[list as usize] -= 1;
 }
 
 /// Links of which each leads to its own index.

@@ -19,9 +19,9 @@ pub fn fill(
     drawn: Drawn,
 ) -> Result<Drawn, AllocError>
     requires held { AreHeldIn pools.old spans.old }
-    requires live { AreLive pools.old.out live.old.items }
+    requires live { AreLive pools.old.allocated live.old.items }
     ensures held { AreHeldIn pools.new spans.new }
-    ensures live { OnOk result (AreLive pools.new.out live.new.items) }
+    ensures live { OnOk result (AreLive pools.new.allocated live.new.items) }
 {
     let mut drawn = drawn;
     for _ in 0..count {
@@ -40,9 +40,9 @@ fn replace(pools: &mut Pools, spans: &mut Spans, live: &mut Vec<u32>, index: usi
     requires class { class < 37 }
     requires index { index < vec_len live.old }
     requires held { AreHeldIn pools.old spans.old }
-    requires live { AreLive pools.old.out live.old.items }
+    requires live { AreLive pools.old.allocated live.old.items }
     ensures held { AreHeldIn pools.new spans.new }
-    ensures live { AreLive pools.new.out live.new.items }
+    ensures live { AreLive pools.new.allocated live.new.items }
     ensures len { vec_len live.new ≡ vec_len live.old }
 {
     let Some(place) = pools.take(spans, class) else {
@@ -62,7 +62,7 @@ pub fn replace_many(
     drawn: Drawn,
 ) -> Drawn
     requires held { AreHeldIn pools.old spans.old }
-    requires live { AreLive pools.old.out live.old.items }
+    requires live { AreLive pools.old.allocated live.old.items }
 {
     let mut drawn = drawn;
     let len = live.len();

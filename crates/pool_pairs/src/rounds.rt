@@ -53,7 +53,7 @@ pub fn draw(drawn: Drawn, classes: u32) -> (u8, Drawn)
 /// Takes an object, plays what is deeper, and puts the object back.
 fn nest(pools: &mut Pools, spans: &mut Spans, drawn: Drawn, depth: u32) -> Drawn
     requires { AreHeldIn pools.old spans.old }
-    ensures out { pools.new.out ≡ pools.old.out }
+    ensures allocated { pools.new.allocated ≡ pools.old.allocated }
     ensures held { AreHeldIn pools.new spans.new }
 {
     if depth == 0 {
@@ -71,7 +71,7 @@ fn nest(pools: &mut Pools, spans: &mut Spans, drawn: Drawn, depth: u32) -> Drawn
 /// Plays so many rounds.
 pub fn play(pools: &mut Pools, spans: &mut Spans, rounds: u32, drawn: Drawn) -> Drawn
     requires { AreHeldIn pools.old spans.old }
-    ensures out { pools.new.out ≡ pools.old.out }
+    ensures allocated { pools.new.allocated ≡ pools.old.allocated }
     ensures held { AreHeldIn pools.new spans.new }
 {
     let mut drawn = drawn;

@@ -1,4 +1,4 @@
--- How many pieces are out where no segment is left.
+-- How many pieces are allocated where no segment is left.
 use Rattle.std.proofs.Common.{◌≡◌, ℕ, zero, suc, ◌+◌, ◌*◌, ◌/◌, ◌%◌, ◌^◌, ◌<◌, ◌≤◌, ◌⊎◌, inl, inr, List, [], ◌∷◌, length, refl, sym, subst, ◌∙◌, arith}
 use Rattle.std.specs.Prelude.{Contains}
 use Rattle.std.proofs.Math.Nat.{mul-le-mul_right}
@@ -12,7 +12,7 @@ use Rattle.common_lemmas.proofs.Powers.{aligned_step, coarser, nested, start_is}
 use Rattle.std.proofs.lemmas.Nat.{pow_pos}
 use Rattle.small_pools.specs.Classes.{IsClass, capacity_of, order_of, size_of}
 use Rattle.small_pools.specs.Objects.{Objects, slot_place, IsHeld, HasObject}
-use Rattle.shard_memory.specs.Shards.{IsConsistent, segments_out, blocks_out}
+use Rattle.shard_memory.specs.Shards.{IsConsistent, segments_allocated, blocks_allocated}
 use Rattle.shard_memory.proofs.Lists.{has_cases, both_kinds}
 
 -- the aligned runs of 131,072 bytes in which the pieces begin
@@ -59,16 +59,16 @@ slot_within first class slot is within =
     (omega arith, omega (arith, more, fits))
 
 -- a piece begins in each aligned run
-in_each_run : (n : ℕ) (out : List Extent) (spans : Layout) (pools : Objects) (b : ℕ) → IsConsistent n out spans pools → IsBlocked spans 5 → ((first class : ℕ) → IsHeld pools first class → HasObject pools first class) → b < n / 32
-    → (p : Extent) × Contains out p × (p.start / 131072 ≡ b)
-in_each_run n out spans pools b h blocked used small =
+in_each_run : (n : ℕ) (allocated : List Extent) (spans : Layout) (pools : Objects) (b : ℕ) → IsConsistent n allocated spans pools → IsBlocked spans 5 → ((first class : ℕ) → IsHeld pools first class → HasObject pools first class) → b < n / 32
+    → (p : Extent) × Contains allocated p × (p.start / 131072 ≡ b)
+in_each_run n allocated spans pools b h blocked used small =
     let a = start_of_run b in
     let x = blocked (32 * b) a (subst (λ z. 32 * b + 2 ^ 5 ≤ z) (sym h.same) (run_inside b n small)) in
     let page = x.0 in let first = x.1 in let k = x.2 in
     let low : 32 * b ≤ page = x.3 in let high : page < 32 * b + 2 ^ 5 = x.4 in
     let from : first ≤ page = x.6 in let to : page < first + 2 ^ k = x.7 in
     let aligned : first % 2 ^ k ≡ 0 = (h.divided.spans first k (inr x.5)).1 in
-    elim (h.spans_out first k x.5) [
+    elim (h.spans_allocated first k x.5) [
       | inl s ↦
           (let same : first ≡ 32 * b =
           sym (start_is page first 5 (subst (λ j. first % 2 ^ j ≡ 0) s.0 aligned) from (subst (λ j. page < first + 2 ^ j) s.0 to)) ∙ start_is page (32 * b) 5 a low high in
@@ -76,7 +76,7 @@ in_each_run n out spans pools b h blocked used small =
       | inr c ↦
           (let facts = (h.objects.spans first c.0 c.1).0 in
           let o = used first c.0 c.1 in
-          let out_at = h.objects_out (slot_place first c.0 o.0) (size_of c.0) o.2 in
+          let allocated_at = h.objects_allocated (slot_place first c.0 o.0) (size_of c.0) o.2 in
           let w = slot_within first c.0 o.0 facts o.1 in
           let few = facts.order_most in let some = facts.size_least in
           let k_is : k ≡ order_of c.0 = c.2 in
@@ -85,17 +85,17 @@ in_each_run n out spans pools b h blocked used small =
           let begins : 32 * b ≤ first = (elim (lt_or_ge first (32 * b)) [ inr g ↦ g | inl l ↦ absurd (let t = aligned_step first (32 * b) (2 ^ k) (pow_pos k) aligned (coarser (32 * b) k 5 most a) l in omega (arith, t, low, to)) ]) in
           let low_at = w.0 in
           let high_at : slot_place first c.0 o.0 + size_of c.0 ≤ 4096 * (first + 2 ^ k) = subst (λ j. slot_place first c.0 o.0 + size_of c.0 ≤ 4096 * (first + 2 ^ j)) (sym k_is) w.1 in
-          (extent (slot_place first c.0 o.0) out_at.0, out_at.2, in_run (slot_place first c.0 o.0) b (omega (arith, low_at, begins)) (omega (arith, high_at, ends, some))))
+          (extent (slot_place first c.0 o.0) allocated_at.0, allocated_at.2, in_run (slot_place first c.0 o.0) b (omega (arith, low_at, begins)) (omega (arith, high_at, ends, some))))
     ]
 
-pub pieces_enough : (n : ℕ) (out : List Extent) (spans : Layout) (pools : Objects) → IsConsistent n out spans pools → IsBlocked spans 5 → ((first class : ℕ) → IsHeld pools first class → HasObject pools first class) → n / 32 ≤ segments_out out + blocks_out out
-pieces_enough n out spans pools h blocked used =
-    let all = all_there (n / 32) (runs out) (λ b l. (let p = in_each_run n out spans pools b h blocked used l in subst (λ z. 1 ≤ times z (runs out)) p.2 (has_run p.0 out p.1))) in
-    let len = runs_len out in
-    let both = both_kinds out in
+pub pieces_enough : (n : ℕ) (allocated : List Extent) (spans : Layout) (pools : Objects) → IsConsistent n allocated spans pools → IsBlocked spans 5 → ((first class : ℕ) → IsHeld pools first class → HasObject pools first class) → n / 32 ≤ segments_allocated allocated + blocks_allocated allocated
+pieces_enough n allocated spans pools h blocked used =
+    let all = all_there (n / 32) (runs allocated) (λ b l. (let p = in_each_run n allocated spans pools b h blocked used l in subst (λ z. 1 ≤ times z (runs allocated)) p.2 (has_run p.0 allocated p.1))) in
+    let len = runs_len allocated in
+    let both = both_kinds allocated in
     omega (arith, all, len, both)
 
--- where no span of a small order is free, and each pool span has an object out
-pub crowded : (n order : ℕ) (out : List Extent) (spans : Layout) (pools : Objects) → IsConsistent n out spans pools → order ≤ 4 → HasNone spans order → ((o : ℕ) → o ≤ 16 → HasNone spans o → IsBlocked spans o)
-    → ((first class : ℕ) → IsHeld pools first class → HasObject pools first class) → n / 32 ≤ segments_out out + blocks_out out
-crowded n order out spans pools h small none blocked used = pieces_enough n out spans pools h (blocked 5 (omega arith) (λ k low high. none k (omega arith) high)) used
+-- where no span of a small order is free, and each pool span has an allocated object
+pub crowded : (n order : ℕ) (allocated : List Extent) (spans : Layout) (pools : Objects) → IsConsistent n allocated spans pools → order ≤ 4 → HasNone spans order → ((o : ℕ) → o ≤ 16 → HasNone spans o → IsBlocked spans o)
+    → ((first class : ℕ) → IsHeld pools first class → HasObject pools first class) → n / 32 ≤ segments_allocated allocated + blocks_allocated allocated
+crowded n order allocated spans pools h small none blocked used = pieces_enough n allocated spans pools h (blocked 5 (omega arith) (λ k low high. none k (omega arith) high)) used

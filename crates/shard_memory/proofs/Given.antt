@@ -8,6 +8,6 @@ use Rattle.shard_memory.specs.Shards.{Shard, IsSegmentOf}
 use Rattle.shard_memory.specs.Taken.{AreSegmentsOf}
 use Rattle.shard_memory.proofs.Lists.{has_later}
 
-pub segments_kept : (s t : Shard) (p : Extent) (pieces : List Lent) → t.home ≡ s.home → t.out ≡ p ∷ s.out → AreSegmentsOf s pieces → AreSegmentsOf t pieces
-segments_kept s t p pieces home out h =
-    All-weaker (IsSegmentOf s) (IsSegmentOf t) (λ q i. (i.0 ∙ sym home, subst (λ o. Contains o (extent_of q)) (sym out) (has_later p (extent_of q) s.out i.1), i.2)) pieces h
+pub segments_kept : (s t : Shard) (p : Extent) (pieces : List Lent) → t.home ≡ s.home → t.allocated ≡ p ∷ s.allocated → AreSegmentsOf s pieces → AreSegmentsOf t pieces
+segments_kept s t p pieces home allocated h =
+    All-weaker (IsSegmentOf s) (IsSegmentOf t) (λ q i. (i.0 ∙ sym home, subst (λ o. Contains o (extent_of q)) (sym allocated) (has_later p (extent_of q) s.allocated i.1), i.2)) pieces h

@@ -10,7 +10,7 @@ use Rattle.common_lemmas.specs.Lists.{times}
 use Rattle.common_lemmas.proofs.Counts.{times_here, times_there, length_below}
 use Rattle.layout.specs.Extents.{Extent, Disjoint, IsWithin, AreDisjoint}
 use Rattle.raw_range.specs.Memory.{remove_extent}
-use Rattle.shard_memory.specs.Shards.{is_segment, is_block, segments_out, blocks_out}
+use Rattle.shard_memory.specs.Shards.{is_segment, is_block, segments_allocated, blocks_allocated}
 
 pub has_first : (p : Extent) (ps : List Extent) → Contains (p ∷ ps) p
 has_first p ps = Contains-append_left (p ∷ []) ps p (Contains-push [] p)
@@ -51,15 +51,15 @@ not_apart p q some more e (inl a) = omega (arith, a, some, e)
 not_apart p q some more e (inr a) = omega (arith, a, more, e)
 
 -- two blocks that begin at one place are one
-pub same_place : (size : ℕ) (out : List Extent) (p q : Extent) → AreDisjoint size out → Contains out p → Contains out q → p.start ≡ q.start → p ≡ q
-same_place size out p q blocks hp hq e =
-    let at_q : slice_index_or out hq.0 p ≡ q = get_or_default out hq.0 p q hq.1 ∙ hq.2 in
-    let wp : IsWithin size p = All-contains (IsWithin size) out p blocks.0 hp in
-    let wq : IsWithin size q = All-contains (IsWithin size) out q blocks.0 hq in
+pub same_place : (size : ℕ) (allocated : List Extent) (p q : Extent) → AreDisjoint size allocated → Contains allocated p → Contains allocated q → p.start ≡ q.start → p ≡ q
+same_place size allocated p q blocks hp hq e =
+    let at_q : slice_index_or allocated hq.0 p ≡ q = get_or_default allocated hq.0 p q hq.1 ∙ hq.2 in
+    let wp : IsWithin size p = All-contains (IsWithin size) allocated p blocks.0 hp in
+    let wq : IsWithin size q = All-contains (IsWithin size) allocated q blocks.0 hq in
     elim (trichotomy hp.0 hq.0) [
-      | inl s ↦ sym hp.2 ∙ ap (λ k. slice_index_or out k p) s ∙ at_q
-      | inr (inl l) ↦ absurd (not_apart p q wp.0 wq.0 e (subst (λ z. Disjoint z q) hp.2 (subst (λ z. Disjoint (slice_index_or out hp.0 p) z) at_q (blocks.1 hp.0 hq.0 p l hq.1))))
-      | inr (inr l) ↦ absurd (not_apart q p wq.0 wp.0 (sym e) (subst (λ z. Disjoint q z) hp.2 (subst (λ z. Disjoint z (slice_index_or out hp.0 p)) at_q (blocks.1 hq.0 hp.0 p l hp.1))))
+      | inl s ↦ sym hp.2 ∙ ap (λ k. slice_index_or allocated k p) s ∙ at_q
+      | inr (inl l) ↦ absurd (not_apart p q wp.0 wq.0 e (subst (λ z. Disjoint z q) hp.2 (subst (λ z. Disjoint (slice_index_or allocated hp.0 p) z) at_q (blocks.1 hp.0 hq.0 p l hq.1))))
+      | inr (inr l) ↦ absurd (not_apart q p wq.0 wp.0 (sym e) (subst (λ z. Disjoint q z) hp.2 (subst (λ z. Disjoint z (slice_index_or allocated hp.0 p)) at_q (blocks.1 hq.0 hp.0 p l hp.1))))
     ]
 
 -- ---- how many
@@ -74,10 +74,10 @@ fewer_left t u (p ∷ ps) =
       | false ↦ omega (arith, rest, more)
     ]
 
-pub fewer_blocks : (p : Extent) (ps : List Extent) → blocks_out (remove_extent p ps) ≤ blocks_out ps
+pub fewer_blocks : (p : Extent) (ps : List Extent) → blocks_allocated (remove_extent p ps) ≤ blocks_allocated ps
 fewer_blocks p ps = fewer_left is_block (λ z. not (z.start == p.start)) ps
 
-pub both_kinds : (ps : List Extent) → length ps ≡ segments_out ps + blocks_out ps
+pub both_kinds : (ps : List Extent) → length ps ≡ segments_allocated ps + blocks_allocated ps
 both_kinds [] = refl
 both_kinds (p ∷ ps) =
     let rest = both_kinds ps in
@@ -91,7 +91,7 @@ starts : List Extent → List ℕ
 starts [] = []
 starts (p ∷ ps) = cond (is_segment p) ((p.start / 131072) ∷ starts ps) (starts ps)
 
-starts_len : (ps : List Extent) → length (starts ps) ≡ segments_out ps
+starts_len : (ps : List Extent) → length (starts ps) ≡ segments_allocated ps
 unfolding starts
 starts_len [] = refl
 starts_len (p ∷ ps) =
@@ -137,7 +137,7 @@ once_starts z (p ∷ ps) h =
     (once_starts z ps (λ i j d l w. h (suc i) (suc j) d (omega (arith, l)) (omega (arith, w))))
 
 -- disjoint segments inside the bytes are as many as fit, at most
-pub few_segments : (n size : ℕ) (ps : List Extent) → AreDisjoint size ps → size ≤ 131072 * n → segments_out ps ≤ n
+pub few_segments : (n size : ℕ) (ps : List Extent) → AreDisjoint size ps → size ≤ 131072 * n → segments_allocated ps ≤ n
 few_segments n size ps blocks small =
     let low = length_below n (starts ps) (λ z. once_starts z ps blocks.1)
     (λ z g. none_starts z ps (All-weaker (IsWithin size) (λ (q : Extent). is_segment q ≡ true → (q.start / 131072) ≢ z) (λ q w e s. (let l = len_of q e in let x = quotient q.start in let w1 = w.1 in omega (arith, l, w1, s, g, x.0, x.1, small))) ps blocks.0)) in
@@ -145,10 +145,10 @@ few_segments n size ps blocks small =
     omega (arith, low, len)
 
 -- with so few pages there is room for one more piece
-pub few_pieces : (pages : ℕ) (out : List Extent) → pages ≤ 65536 → AreDisjoint (4096 * pages) out → blocks_out out ≤ 1024 → length out < 4096
-few_pieces pages out most blocks few =
-    let segs = few_segments 2048 (4096 * pages) out blocks (omega (arith, most)) in
-    let both = both_kinds out in
+pub few_pieces : (pages : ℕ) (allocated : List Extent) → pages ≤ 65536 → AreDisjoint (4096 * pages) allocated → blocks_allocated allocated ≤ 1024 → length allocated < 4096
+few_pieces pages allocated most blocks few =
+    let segs = few_segments 2048 (4096 * pages) allocated blocks (omega (arith, most)) in
+    let both = both_kinds allocated in
     omega (arith, segs, both, few)
 
 pub page_of_start : (first : ℕ) → 4096 * first / 4096 ≡ first
@@ -175,18 +175,18 @@ all_kept t (p ∷ ps) h =
 segment_is : (p : Extent) → p.len ≡ 131072 → is_segment p ≡ true
 segment_is p e = eq-eqb p.len 131072 e
 
--- a segment that is no longer out leaves the blocks
-pub same_blocks : (size : ℕ) (out : List Extent) (p : Extent) → AreDisjoint size out → Contains out p → p.len ≡ 131072 → blocks_out (remove_extent p out) ≡ blocks_out out
-same_blocks size out p blocks has len =
+-- a segment that is no longer allocated leaves the blocks
+pub same_blocks : (size : ℕ) (allocated : List Extent) (p : Extent) → AreDisjoint size allocated → Contains allocated p → p.len ≡ 131072 → blocks_allocated (remove_extent p allocated) ≡ blocks_allocated allocated
+same_blocks size allocated p blocks has len =
     let u : Extent → Bool = λ z. not (z.start == p.start) in
-    let stays : (q : Extent) → Contains (filter is_block out) q → u q ≡ true = λ q h.
-    (let in_out : Contains out q = All-contains (Contains out) (filter is_block out) q (All-filter is_block (Contains out) out (All-contains_itself out)) h in
-    let is : is_block q ≡ true = All-contains (λ x. is_block x ≡ true) (filter is_block out) q (filter_passes is_block out) h in
+    let stays : (q : Extent) → Contains (filter is_block allocated) q → u q ≡ true = λ q h.
+    (let in_allocated : Contains allocated q = All-contains (Contains allocated) (filter is_block allocated) q (All-filter is_block (Contains allocated) allocated (All-contains_itself allocated)) h in
+    let is : is_block q ≡ true = All-contains (λ x. is_block x ≡ true) (filter is_block allocated) q (filter_passes is_block allocated) h in
     ap not (ne_eqb q.start p.start (λ e.
-    (let one : p ≡ q = same_place size out p q blocks has in_out (sym e) in
+    (let one : p ≡ q = same_place size allocated p q blocks has in_allocated (sym e) in
     let seg : is_segment q ≡ true = subst (λ z. is_segment z ≡ true) one (segment_is p len) in
     let clash : false ≡ true = sym (ap not seg) ∙ is in cc)))) in
-    ap length (filter_swap is_block u out ∙ all_kept u (filter is_block out) (all_of (λ q. u q ≡ true) (filter is_block out) stays))
+    ap length (filter_swap is_block u allocated ∙ all_kept u (filter is_block allocated) (all_of (λ q. u q ≡ true) (filter is_block allocated) stays))
 
 one_less : (t u : Extent → Bool) (p : Extent) (ps : List Extent) → Contains ps p → t p ≡ true → u p ≡ false → length (filter t (filter u ps)) < length (filter t ps)
 one_less t u p [] h et eu = absurd (let l = h.1 in omega (arith, l))
@@ -208,9 +208,9 @@ one_less t u p (q ∷ ps) h et eu = elim (has_cases q p ps h) [
 block_is : (p : Extent) → p.len ≤ 16384 → is_block p ≡ true
 block_is p l = ap not (ne_eqb p.len 131072 (λ e. omega (arith, e, l)))
 
--- a block that is no longer out is one less
-pub block_less : (out : List Extent) (p : Extent) → Contains out p → p.len ≤ 16384 → blocks_out (remove_extent p out) < blocks_out out
-block_less out p has len = one_less is_block (λ z. not (z.start == p.start)) p out has (block_is p len) (ap not (eq-eqb p.start p.start refl))
+-- a block that is no longer allocated is one less
+pub block_less : (allocated : List Extent) (p : Extent) → Contains allocated p → p.len ≤ 16384 → blocks_allocated (remove_extent p allocated) < blocks_allocated allocated
+block_less allocated p has len = one_less is_block (λ z. not (z.start == p.start)) p allocated has (block_is p len) (ap not (eq-eqb p.start p.start refl))
 
 -- of disjoint pieces one alone begins at a place
 remove_one : (size : ℕ) (p : Extent) (ps : List Extent) → AreDisjoint size ps → Contains ps p → length (remove_extent p ps) + 1 ≡ length ps
@@ -233,26 +233,26 @@ remove_one size p (q ∷ ps) h has =
           ap (λ b. length (cond b (q ∷ filter u ps) (filter u ps)) + 1) kept_q ∙ omega (arith, rest))
     ]
 
-pub one_block_less : (size : ℕ) (out : List Extent) (p : Extent) → AreDisjoint size out → Contains out p → p.len ≤ 16384 → blocks_out (remove_extent p out) + 1 ≡ blocks_out out
-one_block_less size out p blocks has len =
-    let less = block_less out p has len in
-    let segments = fewer_left is_segment (λ z. not (z.start == p.start)) out in
-    let one = remove_one size p out blocks has in
-    let before = both_kinds out in let after = both_kinds (remove_extent p out) in
+pub one_block_less : (size : ℕ) (allocated : List Extent) (p : Extent) → AreDisjoint size allocated → Contains allocated p → p.len ≤ 16384 → blocks_allocated (remove_extent p allocated) + 1 ≡ blocks_allocated allocated
+one_block_less size allocated p blocks has len =
+    let less = block_less allocated p has len in
+    let segments = fewer_left is_segment (λ z. not (z.start == p.start)) allocated in
+    let one = remove_one size p allocated blocks has in
+    let before = both_kinds allocated in let after = both_kinds (remove_extent p allocated) in
     omega (arith, less, segments, one, before, after)
 
-pub one_segment_less : (size : ℕ) (out : List Extent) (p : Extent) → AreDisjoint size out → Contains out p → p.len ≡ 131072 → segments_out (remove_extent p out) + 1 ≡ segments_out out
-one_segment_less size out p blocks has len =
-    let same = same_blocks size out p blocks has len in
-    let one = remove_one size p out blocks has in
-    let before = both_kinds out in let after = both_kinds (remove_extent p out) in
+pub one_segment_less : (size : ℕ) (allocated : List Extent) (p : Extent) → AreDisjoint size allocated → Contains allocated p → p.len ≡ 131072 → segments_allocated (remove_extent p allocated) + 1 ≡ segments_allocated allocated
+one_segment_less size allocated p blocks has len =
+    let same = same_blocks size allocated p blocks has len in
+    let one = remove_one size p allocated blocks has in
+    let before = both_kinds allocated in let after = both_kinds (remove_extent p allocated) in
     omega (arith, same, one, before, after)
 
-pub one_segment_more : (out : List Extent) (p : Extent) → p.len ≡ 131072 → segments_out (p ∷ out) ≡ segments_out out + 1
-one_segment_more out p len = ap (λ b. length (cond b (p ∷ filter is_segment out) (filter is_segment out))) (segment_is p len) ∙ omega arith
+pub one_segment_more : (allocated : List Extent) (p : Extent) → p.len ≡ 131072 → segments_allocated (p ∷ allocated) ≡ segments_allocated allocated + 1
+one_segment_more allocated p len = ap (λ b. length (cond b (p ∷ filter is_segment allocated) (filter is_segment allocated))) (segment_is p len) ∙ omega arith
 
-pub block_more : (out : List Extent) (p : Extent) → p.len ≤ 16384 → blocks_out (p ∷ out) ≡ blocks_out out + 1
-block_more out p len = ap (λ b. length (cond b (p ∷ filter is_block out) (filter is_block out))) (block_is p len) ∙ omega arith
+pub block_more : (allocated : List Extent) (p : Extent) → p.len ≤ 16384 → blocks_allocated (p ∷ allocated) ≡ blocks_allocated allocated + 1
+block_more allocated p len = ap (λ b. length (cond b (p ∷ filter is_block allocated) (filter is_block allocated))) (block_is p len) ∙ omega arith
 
-pub segment_more : (out : List Extent) (p : Extent) → p.len ≡ 131072 → blocks_out (p ∷ out) ≡ blocks_out out
-segment_more out p len = ap (λ b. length (cond (not b) (p ∷ filter is_block out) (filter is_block out))) (segment_is p len)
+pub segment_more : (allocated : List Extent) (p : Extent) → p.len ≡ 131072 → blocks_allocated (p ∷ allocated) ≡ blocks_allocated allocated
+segment_more allocated p len = ap (λ b. length (cond (not b) (p ∷ filter is_block allocated) (filter is_block allocated))) (segment_is p len)

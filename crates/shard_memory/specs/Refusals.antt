@@ -11,7 +11,7 @@ RefusesFor s size TooLarge = greatest_block < size
 RefusesFor s size NoTicket = ⊥
 RefusesFor s size NoSpan = (size ≤ greatest_block) × HasNoRoom s size
 
--- a refusal for want of room, where each pool span has an object out, says that the shard is crowded
+-- a refusal for want of room, where each pool span has an allocated object, says that the shard is crowded
 abbrev pub MeansCrowded : Shard → GiveRefusal → Type 0
 MeansCrowded s TooLarge = Unit {0}
 MeansCrowded s NoTicket = Unit {0}

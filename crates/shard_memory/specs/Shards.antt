@@ -1,4 +1,4 @@
--- The memory of one shard: the pieces that are out, the spans of its pages, and the objects of its pools.
+-- The memory of one shard: the pieces that are allocated, the spans of its pages, and the objects of its pools.
 use Rattle.std.specs.Prelude.{◌≡◌, ℕ, ◌+◌, ◌*◌, ◌/◌, ◌%◌, ◌≤◌, ◌⊎◌, Bool, not, ◌==◌, List, length, Contains, Some, refl}
 use Rattle.std.specs.List.{filter}
 use Rattle.std.specs.FinMap as map
@@ -7,16 +7,16 @@ use denote.RawPtr.{Ptr, coded_ptr}
 use Rattle.layout.specs.Sizes.{page, segment, segment_pages, segment_order, most_pages, greatest_block}
 use Rattle.layout.specs.Extents.{Extent, extent, AreDisjoint, extent_code}
 use Rattle.raw_range.specs.Memory.{Lent, extent_of}
-use Rattle.span_lists.specs.Layout.{Layout, layout_code, IsOut, HasNone, Divides, IsMerged}
+use Rattle.span_lists.specs.Layout.{Layout, layout_code, IsAllocated, HasNone, Divides, IsCoalesced}
 use Rattle.small_pools.specs.Classes.{size_of, order_of, IsLeastClass}
 use Rattle.small_pools.specs.Objects.{Objects, objects_code, IsHeld, HasObject, IsUsedUp, AreHeldIn, AreObjects, HoldsFor}
 
--- home and owner: those of its pieces. out: where the pieces are that are out, each with its length. spans and pools: what they came from
+-- home and owner: those of its pieces. allocated: where the pieces are that are allocated, each with its length. spans and pools: what they came from
 pub record Shard : Type 0 where
   pub home : Ptr
   pub owner : ℕ
   pub pages : ℕ
-  pub out : List Extent
+  pub allocated : List Extent
   pub spans : Layout
   pub pools : Objects
 
@@ -24,63 +24,63 @@ pub record Shard : Type 0 where
 abbrev pub shard_code : Coded Shard
 shard_code =
     code_by (Ptr × (ℕ × (ℕ × (List Extent × (Layout × Objects))))) (coded× coded_ptr (coded× coded_ℕ (coded× coded_ℕ (coded× (coded_list extent_code) (coded× layout_code objects_code)))))
-    (λ s. (s.home, (s.owner, (s.pages, (s.out, (s.spans, s.pools))))))
-    (λ t. record { home = t.0; owner = t.1.0; pages = t.1.1.0; out = t.1.1.1.0; spans = t.1.1.1.1.0; pools = t.1.1.1.1.1 }) (λ _. refl)
+    (λ s. (s.home, (s.owner, (s.pages, (s.allocated, (s.spans, s.pools))))))
+    (λ t. record { home = t.0; owner = t.1.0; pages = t.1.1.0; allocated = t.1.1.1.0; spans = t.1.1.1.1.0; pools = t.1.1.1.1.1 }) (λ _. refl)
 
--- of the pieces that are out those of the bytes of a segment are segments, and the others blocks
+-- of the pieces that are allocated those of the bytes of a segment are segments, and the others blocks
 abbrev pub is_segment : Extent → Bool
 is_segment p = p.len == segment
 
 abbrev pub is_block : Extent → Bool
 is_block p = not (is_segment p)
 
--- how many segments are out, and how many blocks
-abbrev pub segments_out : List Extent → ℕ
-segments_out out = length (filter is_segment out)
+-- how many segments are allocated, and how many blocks
+abbrev pub segments_allocated : List Extent → ℕ
+segments_allocated allocated = length (filter is_segment allocated)
 
-abbrev pub blocks_out : List Extent → ℕ
-blocks_out out = length (filter is_block out)
+abbrev pub blocks_allocated : List Extent → ℕ
+blocks_allocated allocated = length (filter is_block allocated)
 
--- a segment is a span of 32 pages that is out
+-- a segment is a span of 32 pages that is allocated
 abbrev pub IsSegmentAt : Layout → Extent → Type 0
-IsSegmentAt spans p = (p.len ≡ segment) × ((first : ℕ) × (p.start ≡ page * first) × IsOut spans first segment_order)
+IsSegmentAt spans p = (p.len ≡ segment) × ((first : ℕ) × (p.start ≡ page * first) × IsAllocated spans first segment_order)
 
--- a block is an object that is out, or the first bytes of one
+-- a block is an allocated object, or the first bytes of one
 abbrev pub IsBlockAt : Objects → Extent → Type 0
-IsBlockAt pools p = (size : ℕ) × (map.get pools.out p.start ≡ Some size) × (p.len ≤ size)
+IsBlockAt pools p = (size : ℕ) × (map.get pools.allocated p.start ≡ Some size) × (p.len ≤ size)
 
--- the pieces out are disjoint and inside the pages; each is a segment or a block; each span out is a segment or held by the pools; each object out is a block
-pub record IsConsistent (pages : ℕ) (out : List Extent) (spans : Layout) (pools : Objects) : Type 0 where
+-- the pieces allocated are disjoint and inside the pages; each is a segment or a block; each span allocated is a segment or held by the pools; each allocated object is a block
+pub record IsConsistent (pages : ℕ) (allocated : List Extent) (spans : Layout) (pools : Objects) : Type 0 where
   pub most : pages ≤ most_pages
   pub whole : pages % segment_pages ≡ 0
   pub same : spans.pages ≡ pages
-  pub blocks : AreDisjoint (page * pages) out
-  pub few : blocks_out out ≤ 1024
-  pub pieces : (p : Extent) → Contains out p → IsSegmentAt spans p ⊎ IsBlockAt pools p
-  pub spans_out : (first order : ℕ) → IsOut spans first order → ((order ≡ segment_order) × Contains out (extent (page * first) segment)) ⊎ ((class : ℕ) × IsHeld pools first class × (order ≡ order_of class))
-  pub objects_out : (at size : ℕ) → map.get pools.out at ≡ Some size → (len : ℕ) × (len ≤ size) × Contains out (extent at len)
+  pub blocks : AreDisjoint (page * pages) allocated
+  pub few : blocks_allocated allocated ≤ 1024
+  pub pieces : (p : Extent) → Contains allocated p → IsSegmentAt spans p ⊎ IsBlockAt pools p
+  pub spans_allocated : (first order : ℕ) → IsAllocated spans first order → ((order ≡ segment_order) × Contains allocated (extent (page * first) segment)) ⊎ ((class : ℕ) × IsHeld pools first class × (order ≡ order_of class))
+  pub objects_allocated : (at size : ℕ) → map.get pools.allocated at ≡ Some size → (len : ℕ) × (len ≤ size) × Contains allocated (extent at len)
   pub held : AreHeldIn pools spans
   pub objects : AreObjects pools
   pub divided : Divides spans
-  pub merged : IsMerged spans
+  pub coalesced : IsCoalesced spans
 
 abbrev pub AreTogether : Shard → Type 0
-AreTogether s = IsConsistent s.pages s.out s.spans s.pools
+AreTogether s = IsConsistent s.pages s.allocated s.spans s.pools
 
--- the piece is a block of the shard, or a segment of it, and is out
+-- the piece is a block of the shard, or a segment of it, and is allocated
 abbrev pub IsBlockOf : Shard → Lent → Type 0
-IsBlockOf s piece = (piece.home ≡ s.home) × Contains s.out (extent_of piece) × (length piece.bytes ≤ greatest_block)
+IsBlockOf s piece = (piece.home ≡ s.home) × Contains s.allocated (extent_of piece) × (length piece.bytes ≤ greatest_block)
 
 abbrev pub IsSegmentOf : Shard → Lent → Type 0
-IsSegmentOf s piece = (piece.home ≡ s.home) × Contains s.out (extent_of piece) × (length piece.bytes ≡ segment)
+IsSegmentOf s piece = (piece.home ≡ s.home) × Contains s.allocated (extent_of piece) × (length piece.bytes ≡ segment)
 
--- each span that the pools hold has an object out
+-- each span that the pools hold has an allocated object
 abbrev pub IsTrimmed : Shard → Type 0
 IsTrimmed s = (first class : ℕ) → IsHeld s.pools first class → HasObject s.pools first class
 
--- segments and blocks out are together at least a 32nd of the pages
+-- segments and blocks allocated are together at least a 32nd of the pages
 abbrev pub IsCrowded : Shard → Type 0
-IsCrowded s = s.pages / segment_pages ≤ segments_out s.out + blocks_out s.out
+IsCrowded s = s.pages / segment_pages ≤ segments_allocated s.allocated + blocks_allocated s.allocated
 
 -- neither the pool of the size's class nor the pages have room
 abbrev pub HasNoRoom : Shard → ℕ → Type 0
@@ -92,4 +92,4 @@ TakesFor old new size = (class : ℕ) × IsLeastClass size class × HoldsFor old
 
 -- the block is the first bytes of an object of the least class that holds the size
 abbrev pub IsLeastObject : Shard → Shard → ℕ → ℕ → Type 0
-IsLeastObject old new size at = (class : ℕ) × IsLeastClass size class × (new.pools.out ≡ map.insert old.pools.out at (size_of class))
+IsLeastObject old new size at = (class : ℕ) × IsLeastClass size class × (new.pools.allocated ≡ map.insert old.pools.allocated at (size_of class))

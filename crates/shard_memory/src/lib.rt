@@ -2,7 +2,7 @@
 //! pages and segments of 128 KiB are given and to which they are given back.
 //!
 //! A block comes from the pool of its size class, a segment is a span of 32 pages. Pools take their memory in spans
-//! of the same pages, and keep a span until `trim` finds no object of it out.
+//! of the same pages, and keep a span until `trim` finds no object of it allocated.
 #![tactic(auto)]
 
 pub use give_refusal::GiveRefusal;

@@ -26,9 +26,9 @@ ghost use Rattle.std.specs.FinMap as map;
 ghost use Rattle.layout.specs.Extents.{extent, Disjoint, AreDisjoint};
 ghost use Rattle.layout.specs.Sizes.{page, segment, segment_pages, segment_order, greatest_block, ArePages};
 ghost use Rattle.raw_range.specs.Memory.{extent_of, remove_extent};
-ghost use Rattle.span_lists.specs.Layout.{HasNone, IsOut, free_pages};
+ghost use Rattle.span_lists.specs.Layout.{HasNone, IsAllocated, free_pages};
 ghost use Rattle.small_pools.specs.Objects.{Trims};
-ghost use Rattle.shard_memory.specs.Shards.{AreTogether, segments_out, blocks_out, IsTrimmed, IsBlockOf, IsSegmentOf, HasNoRoom, TakesFor, IsCrowded, IsLeastObject};
+ghost use Rattle.shard_memory.specs.Shards.{AreTogether, segments_allocated, blocks_allocated, IsTrimmed, IsBlockOf, IsSegmentOf, HasNoRoom, TakesFor, IsCrowded, IsLeastObject};
 ghost use Rattle.shard_memory.specs.Refusals.{RefusesFor, MeansCrowded};
 
 use crate::give_refusal::GiveRefusal;
@@ -56,7 +56,7 @@ impl Model for ShardMemory {
 
     ghost coded = { shard_code };
 
-    ghost view = { λ a. record { home = a.range.home; owner = a.range.owner; pages = a.range.pages; out = a.range.allocated; spans = a.spans; pools = a.pools } };
+    ghost view = { λ a. record { home = a.range.home; owner = a.range.owner; pages = a.range.pages; allocated = a.range.allocated; spans = a.spans; pools = a.pools } };
 
     ghost invariant = { λ a. (a.pages ≡ a.range.pages) × IsConsistent a.range.pages a.range.allocated a.spans a.pools };
 }
@@ -69,8 +69,8 @@ impl ShardMemory {
     pub fn open(alloc: Global, shard: u32, pages: u32) -> Result<ShardMemory, AllocError>
         requires { ArePages pages }
         ensures numbers { IfOk result (λ memory. (memory.owner ≡ shard) × (memory.pages ≡ pages)) }
-        ensures none_out { IfOk result (λ memory. memory.out ≡ []) }
-        ensures all_free { IfOk result (λ memory. memory.spans.out ≡ map.empty) }
+        ensures none_allocated { IfOk result (λ memory. memory.allocated ≡ []) }
+        ensures all_free { IfOk result (λ memory. memory.spans.allocated ≡ map.empty) }
         ensures none_held { IfOk result (λ memory. memory.pools.held ≡ map.empty) }
     {
         let range = Range::new(alloc, shard, pages)?;
@@ -87,7 +87,7 @@ impl ShardMemory {
     /// What holds of the memory at each time.
     pub fn facts(&self)
         ensures together { AreTogether self.now }
-        ensures segments { segment_pages * segments_out self.now.out ≤ self.now.pages }
+        ensures segments { segment_pages * segments_allocated self.now.allocated ≤ self.now.pages }
     {
         let _ = &self.pages;
     }
@@ -98,7 +98,7 @@ impl ShardMemory {
     /// `TooLarge` above 16,384 bytes, and `NoSpan` where neither the pool of the size's class nor the pages have room.
     pub fn give_here(&mut self, size: u32) -> Result<Piece, GiveRefusal>
         requires some { 1 ≤ size }
-        requires few { blocks_out self.old.out < 1024 }
+        requires few { blocks_allocated self.old.allocated < 1024 }
         ensures refused { IfErr result (RefusesFor self.old size) }
         ensures room { IfOk result (λ _. (size ≤ greatest_block) × ¬ HasNoRoom self.old size) }
         ensures crowded { IfErr result (MeansCrowded self.old) }
@@ -106,8 +106,8 @@ impl ShardMemory {
         ensures mine { IfOk result (λ piece. (piece.home ≡ self.old.home) × (piece.owner ≡ self.old.owner)) }
         ensures given { IfOk result (IsBlockOf self.new) }
         ensures zeros { IfOk result (λ piece. piece.bytes ≡ replicate size 0) }
-        ensures out { IfOk result (λ piece. self.new.out ≡ extent_of piece ∷ self.old.out) }
-        ensures more { IfOk result (λ _. blocks_out self.new.out ≡ blocks_out self.old.out + 1) }
+        ensures allocated { IfOk result (λ piece. self.new.allocated ≡ extent_of piece ∷ self.old.allocated) }
+        ensures more { IfOk result (λ _. blocks_allocated self.new.allocated ≡ blocks_allocated self.old.allocated + 1) }
         ensures least { IfOk result (λ piece. IsLeastObject self.old self.new size piece.at) }
         ensures spans { IfOk result (λ _. TakesFor self.old self.new size) }
         ensures same { (self.new.home ≡ self.old.home) × (self.new.owner ≡ self.old.owner) × (self.new.pages ≡ self.old.pages) }
@@ -125,9 +125,9 @@ impl ShardMemory {
     /// Takes a block back.
     pub fn back_here(&mut self, piece: Piece)
         requires { IsBlockOf self.old piece }
-        ensures out { self.new.out ≡ remove_extent (extent_of piece) self.old.out }
-        ensures one_less { blocks_out self.new.out + 1 ≡ blocks_out self.old.out }
-        ensures objects { self.new.pools ≡ record self.old.pools { out = map.remove self.old.pools.out piece.at } }
+        ensures allocated { self.new.allocated ≡ remove_extent (extent_of piece) self.old.allocated }
+        ensures one_less { blocks_allocated self.new.allocated + 1 ≡ blocks_allocated self.old.allocated }
+        ensures objects { self.new.pools ≡ record self.old.pools { allocated = map.remove self.old.pools.allocated piece.at } }
         ensures spans { self.new.spans ≡ self.old.spans }
         ensures same { (self.new.home ≡ self.old.home) × (self.new.owner ≡ self.old.owner) × (self.new.pages ≡ self.old.pages) }
     {
@@ -135,11 +135,11 @@ impl ShardMemory {
         self.range.put(piece);
     }
 
-    /// Gives each span of the pools back to the pages that has no object out.
+    /// Gives each span of the pools back to the pages that has no allocated object.
     pub fn trim(&mut self)
         ensures trimmed { IsTrimmed self.new }
         ensures trims { Trims self.old.pools self.new.pools self.old.spans self.new.spans }
-        ensures out { self.new.out ≡ self.old.out }
+        ensures allocated { self.new.allocated ≡ self.old.allocated }
         ensures same { (self.new.home ≡ self.old.home) × (self.new.owner ≡ self.old.owner) × (self.new.pages ≡ self.old.pages) }
     {
         self.pools.trim(&mut self.spans);
@@ -153,11 +153,11 @@ impl ShardMemory {
         ensures mine { IfSome result (λ piece. (piece.home ≡ self.old.home) × (piece.owner ≡ self.old.owner)) }
         ensures given { IfSome result (IsSegmentOf self.new) }
         ensures whole { IfSome result (λ piece. (length piece.bytes ≡ segment) × (piece.at % segment ≡ 0)) }
-        ensures out { IfSome result (λ piece. self.new.out ≡ extent_of piece ∷ self.old.out) }
-        ensures one_more { IfSome result (λ _. segments_out self.new.out ≡ segments_out self.old.out + 1) }
-        ensures spans { IfSome result (λ piece. self.new.spans.out ≡ map.insert self.old.spans.out (piece.at / page) segment_order) }
+        ensures allocated { IfSome result (λ piece. self.new.allocated ≡ extent_of piece ∷ self.old.allocated) }
+        ensures one_more { IfSome result (λ _. segments_allocated self.new.allocated ≡ segments_allocated self.old.allocated + 1) }
+        ensures spans { IfSome result (λ piece. self.new.spans.allocated ≡ map.insert self.old.spans.allocated (piece.at / page) segment_order) }
         ensures pools { self.new.pools ≡ self.old.pools }
-        ensures blocks { blocks_out self.new.out ≡ blocks_out self.old.out }
+        ensures blocks { blocks_allocated self.new.allocated ≡ blocks_allocated self.old.allocated }
         ensures same { (self.new.home ≡ self.old.home) × (self.new.owner ≡ self.old.owner) × (self.new.pages ≡ self.old.pages) }
     {
         let first = self.spans.take(SEGMENT_ORDER)?;
@@ -167,11 +167,11 @@ impl ShardMemory {
     /// Takes a segment back.
     pub fn segment_back(&mut self, piece: Piece)
         requires { IsSegmentOf self.old piece }
-        ensures out { self.new.out ≡ remove_extent (extent_of piece) self.old.out }
-        ensures one_less { segments_out self.new.out + 1 ≡ segments_out self.old.out }
-        ensures spans { self.new.spans.out ≡ map.remove self.old.spans.out (piece.at / page) }
+        ensures allocated { self.new.allocated ≡ remove_extent (extent_of piece) self.old.allocated }
+        ensures one_less { segments_allocated self.new.allocated + 1 ≡ segments_allocated self.old.allocated }
+        ensures spans { self.new.spans.allocated ≡ map.remove self.old.spans.allocated (piece.at / page) }
         ensures pools { self.new.pools ≡ self.old.pools }
-        ensures blocks { blocks_out self.new.out ≡ blocks_out self.old.out }
+        ensures blocks { blocks_allocated self.new.allocated ≡ blocks_allocated self.old.allocated }
         ensures same { (self.new.home ≡ self.old.home) × (self.new.owner ≡ self.old.owner) × (self.new.pages ≡ self.old.pages) }
     {
         self.spans.put(piece.at() / PAGE, SEGMENT_ORDER);
@@ -186,9 +186,9 @@ impl ShardMemory {
         self.pages - self.spans.free_pages()
     }
 
-    /// Gives the memory back, once no block and no segment is out.
+    /// Gives the memory back, once no block and no segment is allocated.
     pub fn finish(self)
-        requires { self.out ≡ [] }
+        requires { self.allocated ≡ [] }
     {
         self.range.finish();
     }

@@ -1,6 +1,6 @@
 ghost use Rattle.std.specs.Prelude.{◌≡◌, ◌+◌, ◌<◌, ◌≤◌, List, IfOk};
 ghost use Rattle.raw_range.specs.Memory.{Lent};
-ghost use Rattle.shard_memory.specs.Shards.{blocks_out};
+ghost use Rattle.shard_memory.specs.Shards.{blocks_allocated};
 ghost use Rattle.shard_memory.specs.Taken.{AreSegmentsOf};
 
 use crate::{GiveRefusal, ShardMemory};
@@ -16,7 +16,7 @@ fn take_segments(
 ) -> Result<u32, AllocError>
     requires { AreSegmentsOf memory.old taken.old.items }
     ensures segments { IfOk result (λ _. AreSegmentsOf memory.new taken.new.items) }
-    ensures blocks { blocks_out memory.new.out ≡ blocks_out memory.old.out }
+    ensures blocks { blocks_allocated memory.new.allocated ≡ blocks_allocated memory.old.allocated }
 {
     for count in 0..most {
         let Some(piece) = memory.give_segment() else {
@@ -30,8 +30,8 @@ fn take_segments(
 // Asks for a block, and answers why there is none.
 fn refusal_of(memory: &mut ShardMemory, size: u32) -> Option<GiveRefusal>
     requires some { 1 ≤ size }
-    requires few { blocks_out memory.old.out < 1024 }
-    ensures blocks { blocks_out memory.new.out ≤ blocks_out memory.old.out + 1 }
+    requires few { blocks_allocated memory.old.allocated < 1024 }
+    ensures blocks { blocks_allocated memory.new.allocated ≤ blocks_allocated memory.old.allocated + 1 }
     ensures segments { (pieces : List Lent) → AreSegmentsOf memory.old pieces → AreSegmentsOf memory.new pieces }
 {
     match memory.give_here(size) {

@@ -16,7 +16,7 @@ use Rattle.small_pools.specs.inside.Tables.{Tables, class_at, mask_at, objects_o
 use Rattle.small_pools.proofs.ClassFacts.{is_class}
 use Rattle.small_pools.proofs.Places.{object_hit, object_free}
 use Rattle.small_pools.proofs.Stands.{stands_same, on_list, of_list, list_of_room, held_of_front, none_of_front}
-use Rattle.small_pools.proofs.Tables.{get_held, get_out, class_of_held, first_within}
+use Rattle.small_pools.proofs.Tables.{get_held, get_allocated, class_of_held, first_within}
 
 below_power : (n : ℕ) → n < 2 ^ n
 below_power zero = omega arith
@@ -42,18 +42,18 @@ room_of {t} h f c e n =
     let s = some_bit (mask_at t f) n in
     let free = s.1 in
     let within : s.0 < capacity_of c = (elim (lt_or_ge s.0 (capacity_of c)) [ inl l ↦ l | inr g ↦ absurd (let z = h.within f c s.0 e g in omega (arith, z, free)) ]) in
-    (s.0, within, get_out h (slot_place f c s.0) ∙ object_free h f c s.0 e within free)
+    (s.0, within, get_allocated h (slot_place f c s.0) ∙ object_free h f c s.0 e within free)
 
 pub free_of_room : {t : Tables} → IsConsistent t → (f c : ℕ) → class_at t f ≡ Some c → HasRoom (objects_of t) f c → mask_at t f ≢ 0
 free_of_room h f c e room n =
     let hit = object_hit h f c room.0 e room.1 (ap (λ m. bit_at m room.0) n ∙ bit_at-zero room.0) in
-    some_or_none hit (sym (get_out h (slot_place f c room.0)) ∙ room.2)
+    some_or_none hit (sym (get_allocated h (slot_place f c room.0)) ∙ room.2)
 
--- a span whose slots are all free has no object out, and one with another mask has one
+-- a span whose slots are all free has no allocated object, and one with another mask has one
 pub no_object : {t : Tables} → IsConsistent t → (f c : ℕ) → class_at t f ≡ Some c → ((slot : ℕ) → slot < capacity_of c → bit_at (mask_at t f) slot ≡ 1) → ¬ HasObject (objects_of t) f c
 no_object h f c e free object =
     let gone = object_free h f c object.0 e object.1 (free object.0 object.1) in
-    some_or_none object.2 (get_out h (slot_place f c object.0) ∙ gone)
+    some_or_none object.2 (get_allocated h (slot_place f c object.0) ∙ gone)
 
 bit_cases : (n i : ℕ) → (bit_at n i ≡ 0) ⊎ (bit_at n i ≡ 1)
 bit_cases n i = grind arith
@@ -73,13 +73,13 @@ pub some_object : {t : Tables} → IsConsistent t → (f c m : ℕ) → class_at
     → mask_at t f ≢ m → HasObject (objects_of t) f c
 some_object {t} h f c m e free none n = elim (search_slots (capacity_of c) (mask_at t f)) [
   | inl all ↦ absurd (n (same_from_bits _ _ (λ i. elim (lt_or_ge i (capacity_of c)) [ inl l ↦ all i l ∙ sym (free i l) | inr g ↦ h.within f c i e g ∙ sym (none i g) ])))
-  | inr p ↦ (p.0, p.1, get_out h (slot_place f c p.0) ∙ object_hit h f c p.0 e p.1 p.2)
+  | inr p ↦ (p.0, p.1, get_allocated h (slot_place f c p.0) ∙ object_hit h f c p.0 e p.1 p.2)
 ]
 
 pub all_free_of_none : {t : Tables} → IsConsistent t → (f c : ℕ) → class_at t f ≡ Some c → ¬ HasObject (objects_of t) f c → (s : ℕ) → s < capacity_of c → bit_at (mask_at t f) s ≡ 1
 all_free_of_none {t} h f c e none s within = elim (bit_cases (mask_at t f) s) [
   | inr one ↦ one
-  | inl zero' ↦ absurd (none (s, within, get_out h (slot_place f c s) ∙ object_hit h f c s e within zero'))
+  | inl zero' ↦ absurd (none (s, within, get_allocated h (slot_place f c s) ∙ object_hit h f c s e within zero'))
 ]
 
 -- ---- what stands in front of a list
@@ -97,7 +97,7 @@ used_up {t} h c small none f slot held within =
       | inr n ↦ absurd (let on : times f (list_at t.lists c) ≡ 1 = h.listed c f small ∙ ap (λ o. stands_on (list_of o (mask_at t f)) c) e ∙ ap (λ o. stands_on o c) (list_of_room c (mask_at t f) n) ∙ stands_same c in
           let z = none_of_front (list_at t.lists c) f none in omega (arith, on, z))
     ]) in
-    get_out h (slot_place f c slot) ∙ object_hit h f c slot e within (ap (λ m. bit_at m slot) full ∙ bit_at-zero slot)
+    get_allocated h (slot_place f c slot) ∙ object_hit h f c slot e within (ap (λ m. bit_at m slot) full ∙ bit_at-zero slot)
 
 -- where a span stands before it is moved
 pub stands_before : {t : Tables} → IsConsistent t → (f c : ℕ) (o : Option ℕ) → class_at t f ≡ Some c → o ≡ list_of (Some c) (mask_at t f) → (k : ℕ) → k < length t.lists.lists → times f (list_at t.lists k) ≡ stands_on o k

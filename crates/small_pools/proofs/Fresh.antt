@@ -48,7 +48,7 @@ nothing_held t e =
     let none : (x : ℕ) → class_at t x ≡ None = λ x. ap (λ l. get_or l x None) e ∙ all_alike t.pages x None in
     maps_same _ _ (λ q. get-map_below t.pages (class_at t) (λ x _. none x) q ∙ none q ∙ sym (map.get-empty nat_cmp q))
 
-pub nothing_out : (t : Tables) → t.classes ≡ replicate t.pages None → (objects_of t).out ≡ map.empty
-nothing_out t e =
+pub nothing_allocated : (t : Tables) → t.classes ≡ replicate t.pages None → (objects_of t).allocated ≡ map.empty
+nothing_allocated t e =
     let none : (x : ℕ) → object_at t x ≡ None = λ x. ap (object_in (mask_at t (first_of t (x / page))) x (first_of t (x / page))) (ap (λ l. get_or l (first_of t (x / page)) None) e ∙ all_alike t.pages (first_of t (x / page)) None) in
     maps_same _ _ (λ q. get-map_below (page * t.pages) (object_at t) (λ x _. none x) q ∙ none q ∙ sym (map.get-empty nat_cmp q))

@@ -1,5 +1,6 @@
 pub mod ClassFacts
 pub mod Maps
+pub mod Slots
 pub mod Places
 pub mod Stands
 pub mod Lists

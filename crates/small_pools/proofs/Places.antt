@@ -57,7 +57,7 @@ all_hold true true false n m e = absurd (let clash : None ≡ Some m = e in cc)
 all_hold true false c n m e = absurd (let clash : None ≡ Some m = e in cc)
 all_hold false b c n m e = absurd (let clash : None ≡ Some m = e in cc)
 
--- a slot that is not free is out
+-- a slot that is not free is allocated
 pub object_hit : {t : Tables} → IsConsistent t → (first class slot : ℕ) → class_at t first ≡ Some class → slot < capacity_of class → bit_at (mask_at t first) slot ≡ 0
     → object_at t (slot_place first class slot) ≡ Some (size_of class)
 object_hit {t} h first class slot e s taken =
@@ -71,8 +71,8 @@ object_hit {t} h first class slot e s taken =
     (ltb_same _ _ (subst (λ n. n < capacity_of class) (sym back) s))
     (eqb_same _ _ (ap (bit_at (mask_at t first)) back ∙ taken))
 
--- what is out is in a slot that is not free
-pub record IsOutAt (t : Tables) (place size : ℕ) : Type 0 where
+-- what is allocated is in a slot that is not free
+pub record IsAllocatedAt (t : Tables) (place size : ℕ) : Type 0 where
   pub first : ℕ
   pub class : ℕ
   pub slot : ℕ
@@ -91,7 +91,7 @@ object_in_is mask place first n (Some class) e =
     let a = all_hold (eqb (slot_place first class slot) place) (ltb slot (capacity_of class)) (eqb (bit_at mask slot) 0) (size_of class) n e in
     (class, slot, refl, of_ltb _ _ a.1, sym (of_eqb _ _ a.0), of_eqb _ _ a.2, sym a.3)
 
-pub object_is : (t : Tables) (place n : ℕ) → object_at t place ≡ Some n → IsOutAt t place n
+pub object_is : (t : Tables) (place n : ℕ) → object_at t place ≡ Some n → IsAllocatedAt t place n
 object_is t place n e =
     let first = first_of t (place / page) in
     let o = object_in_is (mask_at t first) place first n (class_at t first) e in
@@ -105,7 +105,7 @@ same_slot {t} h f c i g d j ec ed si sj e =
     let small = (h.spans f c ec).0 in
     (fg, cd, sym (slot_back f c i small) ∙ ap (λ p. (p - page * f) / size_of c) (e ∙ ap (λ z. slot_place z d j) (sym fg) ∙ ap (λ z. slot_place f z j) (sym cd)) ∙ slot_back f c j small)
 
--- a slot that is free is not out
+-- a slot that is free is not allocated
 pub object_free : {t : Tables} → IsConsistent t → (first class slot : ℕ) → class_at t first ≡ Some class → slot < capacity_of class → bit_at (mask_at t first) slot ≡ 1 → object_at t (slot_place first class slot) ≡ None
 object_free {t} h first class slot e s free = none_of _ (λ n q.
     (let o = object_is t (slot_place first class slot) n q in
@@ -113,6 +113,6 @@ object_free {t} h first class slot e s free = none_of _ (λ n q.
     let clash : bit_at (mask_at t first) slot ≡ 0 = ap (λ z. bit_at (mask_at t z) slot) same.0 ∙ ap (bit_at (mask_at t o.first)) same.2 ∙ o.taken in
     absurd (omega (arith, free, clash))))
 
--- what is out stays so in other tables in which its slot is not free
-pub object_stays : {t t' : Tables} → IsConsistent t' → (q n : ℕ) (o : IsOutAt t q n) → class_at t' o.first ≡ Some o.class → bit_at (mask_at t' o.first) o.slot ≡ 0 → object_at t' q ≡ Some n
+-- what is allocated stays so in other tables in which its slot is not free
+pub object_stays : {t t' : Tables} → IsConsistent t' → (q n : ℕ) (o : IsAllocatedAt t q n) → class_at t' o.first ≡ Some o.class → bit_at (mask_at t' o.first) o.slot ≡ 0 → object_at t' q ≡ Some n
 object_stays {t} {t'} h q n o held taken = ap (object_at t') o.at ∙ object_hit h o.first o.class o.slot held o.in_slot taken ∙ ap (λ z. Some z) (sym o.size_is)

@@ -13,17 +13,17 @@ use Rattle.small_pools.specs.Classes.{size_of, order_of, capacity_of, IsClass}
 use Rattle.small_pools.specs.Objects.{Objects, slot_place, IsHeld, HasObject, HasRoom}
 use Rattle.small_pools.specs.inside.Tables.{Tables, class_at, first_of, mask_at, object_at, objects_of, list_of, stands_on, IsRelisted, IsConsistent}
 use Rattle.small_pools.proofs.ClassFacts.{is_class}
-use Rattle.small_pools.proofs.Places.{IsOutAt, object_is, slot_within, slot_back}
+use Rattle.small_pools.proofs.Places.{IsAllocatedAt, object_is, slot_within, slot_back}
 use Rattle.small_pools.proofs.Stands.{list_of_room}
-use Rattle.small_pools.proofs.Tables.{get_held, get_out, class_of_held, first_within, place_below, AreOthers, with_mask, IsTaken, slot_taken, IsReleased, slot_released, IsOwned, IsClear, with_span, IsAdded, span_added, without_span, IsRemoved, span_removed}
+use Rattle.small_pools.proofs.Tables.{get_held, get_allocated, class_of_held, first_within, place_below, AreOthers, with_mask, IsTaken, slot_taken, IsReleased, slot_released, IsOwned, IsClear, with_span, IsAdded, span_added, without_span, IsRemoved, span_removed}
 use Rattle.small_pools.proofs.Found.{free_of_room, room_of, all_free_of_none, stands_before}
 
 -- objects are their fields
-pub same_fields : (a b : Objects) → a.pages ≡ b.pages → a.held ≡ b.held → a.out ≡ b.out → a ≡ b
+pub same_fields : (a b : Objects) → a.pages ≡ b.pages → a.held ≡ b.held → a.allocated ≡ b.allocated → a ≡ b
 same_fields a b p h o =
-    ap (λ x. let r : Objects = record { pages = x; held = a.held; out = a.out } in r) p
-    ∙ ap (λ x. let r : Objects = record { pages = b.pages; held = x; out = a.out } in r) h
-    ∙ ap (λ x. let r : Objects = record { pages = b.pages; held = b.held; out = x } in r) o
+    ap (λ x. let r : Objects = record { pages = x; held = a.held; allocated = a.allocated } in r) p
+    ∙ ap (λ x. let r : Objects = record { pages = b.pages; held = x; allocated = a.allocated } in r) h
+    ∙ ap (λ x. let r : Objects = record { pages = b.pages; held = b.held; allocated = x } in r) o
 
 -- a span that is held, in the tables
 pub record IsSpanAt (t : Tables) (f c : ℕ) : Type 0 where
@@ -48,7 +48,7 @@ held_at {t} {s} h view f c held = span_at h f c (class_of_held h f c (subst (λ 
 pub read_mask : {t : Tables} {f c : ℕ} → IsSpanAt t f c → (now : ℕ) → now ≡ get_or t.masks f now → now ≡ mask_at t f
 read_mask {t} {f} {c} s now read = get_or_read t.masks f now s.in_masks read 0
 
--- ---- a slot goes out
+-- ---- a slot is allocated
 
 pub has_free : {t : Tables} {s : Objects} → IsConsistent t → objects_of t ≡ s → (f c now : ℕ) → IsSpanAt t f c → HasRoom s f c → now ≡ get_or t.masks f now → now ≢ 0
 has_free {t} h view f c now span room read e = free_of_room h f c span.at (subst (λ o. HasRoom o f c) (sym view) room) (sym (read_mask span now read) ∙ e)
@@ -83,11 +83,11 @@ pushed {t} h f c now s m lists span read within free others moved =
     slot_released h f c s m lists span.at within free (λ o d. others o d ∙ ap (λ z. bit_at z o) r)
     (subst (IsRelisted t.lists lists f) (sym (list_of_room c m (bit_not_zero m s free))) moved)
 
--- what a call knows of an object that is out
-pub out_at : {t : Tables} {s : Objects} → IsConsistent t → objects_of t ≡ s → (place : ℕ) → IsSome (map.get s.out place) → (n : ℕ) × IsOutAt t place n
-out_at {t} {s} h view place some = go (object_at t place) refl (subst IsSome (get_out h place) (subst (λ (o : Objects). IsSome (map.get o.out place)) (sym view) some))
+-- what a call knows of an allocated object
+pub allocated_at : {t : Tables} {s : Objects} → IsConsistent t → objects_of t ≡ s → (place : ℕ) → IsSome (map.get s.allocated place) → (n : ℕ) × IsAllocatedAt t place n
+allocated_at {t} {s} h view place some = go (object_at t place) refl (subst IsSome (get_allocated h place) (subst (λ (o : Objects). IsSome (map.get o.allocated place)) (sym view) some))
   where
-    go : (o : Option ℕ) → object_at t place ≡ o → IsSome o → (n : ℕ) × IsOutAt t place n
+    go : (o : Option ℕ) → object_at t place ≡ o → IsSome o → (n : ℕ) × IsAllocatedAt t place n
     go None e q = absurd (let clash : false ≡ true = q in cc)
     go (Some n) e q = (n, object_is t place n e)
 
@@ -100,13 +100,13 @@ pub record IsFoundAt (t : Tables) (place f : ℕ) : Type 0 where
   pub at : place ≡ slot_place f class slot
   pub from : page * f ≤ place
 
-pub page_within : {t : Tables} → IsConsistent t → (place n : ℕ) → IsOutAt t place n → place / page < length t.firsts
+pub page_within : {t : Tables} → IsConsistent t → (place n : ℕ) → IsAllocatedAt t place n → place / page < length t.firsts
 page_within {t} h place n o =
     let b = place_below h o.first o.class o.slot o.held o.in_slot in
     let at = o.at in let fl = h.firsts_len in
     subst (λ z. place / page < z) (sym fl) (div_below place 4096 t.pages (omega arith) (omega arith))
 
-pub found_at : {t : Tables} → IsConsistent t → (place n f : ℕ) → IsOutAt t place n → f ≡ get_or t.firsts (place / page) f → IsFoundAt t place f
+pub found_at : {t : Tables} → IsConsistent t → (place n f : ℕ) → IsAllocatedAt t place n → f ≡ get_or t.firsts (place / page) f → IsFoundAt t place f
 found_at {t} h place n f o read =
     let fo : f ≡ o.first = get_or_read t.firsts (place / page) f (page_within h place n o) read 0 ∙ o.owner in
     let w = slot_within o.first o.class o.slot (h.spans o.first o.class o.held).0 o.in_slot in

@@ -1,4 +1,4 @@
--- What each step leaves of the tables, and of what is out.
+-- What each step leaves of the tables, and of what is allocated.
 use Rattle.std.proofs.Common.{◌≡◌, ◌≢◌, ℕ, zero, suc, ◌+◌, ◌-◌, ◌*◌, ◌/◌, ◌^◌, ◌<◌, ◌≤◌, ◌⊎◌, inl, inr, List, length, get_or, set, Option, Some, None, refl, sym, ap, subst, ◌∙◌, arith, get_or-set_same, get_or-set_other}
 use Rattle.std.proofs.Math.ListN.{length-set}
 use Rattle.std.proofs.Math.Nat.{mul-le-mul_right}
@@ -18,7 +18,7 @@ use Rattle.small_pools.specs.Objects.{Objects, slot_place, IsHeld, AreObjects}
 use Rattle.small_pools.specs.inside.Tables.{Tables, class_at, first_of, mask_at, object_at, objects_of, map_below, list_of, stands_on, IsRelisted, IsConsistent}
 use Rattle.small_pools.proofs.ClassFacts.{is_class}
 use Rattle.small_pools.proofs.Maps.{get-map_below, same_below, insert_below, remove_below}
-use Rattle.small_pools.proofs.Places.{IsOutAt, slot_within, object_hit, object_is, object_free, object_stays, same_slot}
+use Rattle.small_pools.proofs.Places.{IsAllocatedAt, slot_within, object_hit, object_is, object_free, object_stays, same_slot}
 
 -- ---- what callers see
 
@@ -48,8 +48,8 @@ nothing_past {t} h q g = none_of _ (λ n e. (let o = object_is t q n e in
     let at = o.at in
     absurd (omega arith)))
 
-pub get_out : {t : Tables} → IsConsistent t → (p : ℕ) → map.get (objects_of t).out p ≡ object_at t p
-get_out {t} h p = get-map_below (page * t.pages) (object_at t) (nothing_past h) p
+pub get_allocated : {t : Tables} → IsConsistent t → (p : ℕ) → map.get (objects_of t).allocated p ≡ object_at t p
+get_allocated {t} h p = get-map_below (page * t.pages) (object_at t) (nothing_past h) p
 
 -- two slots of which one is before the other do not overlap
 apart_slots : {t : Tables} → IsConsistent t → (f c i g d j : ℕ) → class_at t f ≡ Some c → class_at t g ≡ Some d → i < capacity_of c → j < capacity_of d
@@ -73,26 +73,26 @@ apart_slots {t} h f c i g d j ec ed si sj l =
 
 pub are_objects : {t : Tables} → IsConsistent t → AreObjects (objects_of t)
 are_objects {t} h =
-    let out : (p n : ℕ) → map.get (objects_of t).out p ≡ Some n → IsOutAt t p n = λ p n e. object_is t p n (sym (get_out h p) ∙ e) in
-    let before : (p q m n : ℕ) → IsOutAt t p m → IsOutAt t q n → p < q → p + m ≤ q =
+    let allocated : (p n : ℕ) → map.get (objects_of t).allocated p ≡ Some n → IsAllocatedAt t p n = λ p n e. object_is t p n (sym (get_allocated h p) ∙ e) in
+    let before : (p q m n : ℕ) → IsAllocatedAt t p m → IsAllocatedAt t q n → p < q → p + m ≤ q =
     (λ p q m n a b l. (let l' : slot_place a.first a.class a.slot < slot_place b.first b.class b.slot = subst (λ z. z < slot_place b.first b.class b.slot) a.at (subst (λ z. p < z) b.at l) in
     let r = apart_slots h a.first a.class a.slot b.first b.class b.slot a.held b.held a.in_slot b.in_slot l' in
     let pa = a.at in let ma = a.size_is in let qb = b.at in
     omega arith)) in
     record {
       blocks = record {
-        within = λ p n e. (let o = out p n e in
+        within = λ p n e. (let o = allocated p n e in
             let b = slot_below h o.first o.class o.slot o.held o.in_slot in
             let k = (is_class o.class (h.spans o.first o.class o.held).0).size_least in
             let at = o.at in let size = o.size_is in
             (omega arith, omega arith));
         disjoint = λ p q m n ep eq d. elim (trichotomy p q) [
           | inl e ↦ absurd (d e)
-          | inr (inl l) ↦ inl (before p q m n (out p m ep) (out q n eq) l)
-          | inr (inr l) ↦ inr (before q p n m (out q n eq) (out p m ep) l)
+          | inr (inl l) ↦ inl (before p q m n (allocated p m ep) (allocated q n eq) l)
+          | inr (inr l) ↦ inr (before q p n m (allocated q n eq) (allocated p m ep) l)
         ];
       };
-      slots = λ p n e. (let o = out p n e in
+      slots = λ p n e. (let o = allocated p n e in
           let w = slot_within o.first o.class o.slot (h.spans o.first o.class o.held).0 o.in_slot in
           let at = o.at in let size = o.size_is in let low = w.0 in let high = w.1 in
           record { first = o.first; class = o.class; slot = o.slot; held = get_held h o.first ∙ o.held; in_slot = o.in_slot; at = o.at; size_is = o.size_is; from = omega arith; to = omega arith });
@@ -144,9 +144,9 @@ consistent_mask {t} h f c m lists e within moved =
 abbrev pub AreOthers : ℕ → ℕ → ℕ → Type 0
 AreOthers m m' s = (other : ℕ) → other ≢ s → bit_at m' other ≡ bit_at m other
 
--- what is out in tables of which one slot differs is out in the others too
+-- what is allocated in tables of which one slot differs is allocated in the others too
 elsewhere : {t t' : Tables} → IsConsistent t' → (f c s : ℕ) → ((g d : ℕ) → class_at t g ≡ Some d → class_at t' g ≡ Some d) → class_at t f ≡ Some c
-    → ((g : ℕ) → g ≢ f → mask_at t' g ≡ mask_at t g) → AreOthers (mask_at t f) (mask_at t' f) s → (q n : ℕ) → q ≢ slot_place f c s → IsOutAt t q n → object_at t' q ≡ Some n
+    → ((g : ℕ) → g ≢ f → mask_at t' g ≡ mask_at t g) → AreOthers (mask_at t f) (mask_at t' f) s → (q n : ℕ) → q ≢ slot_place f c s → IsAllocatedAt t q n → object_at t' q ≡ Some n
 elsewhere {t} {t'} h f c s classes e masks others q n nq o =
     object_stays h q n o (classes o.first o.class o.held)
     (elim (cases_eq o.first f) [
@@ -157,12 +157,12 @@ elsewhere {t} {t'} h f c s classes e masks others q n nq o =
           ap (λ y. bit_at (mask_at t' y) o.slot) of ∙ others o.slot ns ∙ ap (λ y. bit_at (mask_at t y) o.slot) (sym of) ∙ o.taken)
     ])
 
--- a slot goes out
+-- a slot is allocated
 pub record IsTaken (t t' : Tables) (f c s : ℕ) : Type 0 where
   pub consistent : IsConsistent t'
   pub in_slot : s < capacity_of c
-  pub was_free : map.get (objects_of t).out (slot_place f c s) ≡ None
-  pub out : (objects_of t').out ≡ map.insert (objects_of t).out (slot_place f c s) (size_of c)
+  pub was_free : map.get (objects_of t).allocated (slot_place f c s) ≡ None
+  pub allocated : (objects_of t').allocated ≡ map.insert (objects_of t).allocated (slot_place f c s) (size_of c)
 
 pub slot_taken : {t : Tables} → IsConsistent t → (f c s m : ℕ) (lists : Lists) → class_at t f ≡ Some c → bit_at (mask_at t f) s ≡ 1 → bit_at m s ≡ 0 → AreOthers (mask_at t f) m s
     → IsRelisted t.lists lists f (list_of (Some c) m) → IsTaken t (with_mask t f m lists) f c s
@@ -177,8 +177,8 @@ slot_taken {t} h f c s m lists e free taken others moved =
     record {
       consistent = h';
       in_slot = within;
-      was_free = get_out h (slot_place f c s) ∙ was;
-      out = insert_below (page * t.pages) (object_at t) (object_at t') (slot_place f c s) (size_of c) (place_below h f c s e within) here
+      was_free = get_allocated h (slot_place f c s) ∙ was;
+      allocated = insert_below (page * t.pages) (object_at t) (object_at t') (slot_place f c s) (size_of c) (place_below h f c s e within) here
           (λ q nq. same_option _ _
           (λ n w. elsewhere h f c s (λ g d x. x) e (λ g d. sym (mask_other t f g m d)) (λ o d. sym (ap (λ z. bit_at z o) now ∙ others o d)) q n nq (object_is t' q n w))
           (λ n w. elsewhere h' f c s (λ g d x. x) e (λ g d. mask_other t f g m d) (λ o d. ap (λ z. bit_at z o) now ∙ others o d) q n nq (object_is t q n w)));
@@ -187,7 +187,7 @@ slot_taken {t} h f c s m lists e free taken others moved =
 -- a slot comes back
 pub record IsReleased (t t' : Tables) (f c s : ℕ) : Type 0 where
   pub consistent : IsConsistent t'
-  pub out : (objects_of t').out ≡ map.remove (objects_of t).out (slot_place f c s)
+  pub allocated : (objects_of t').allocated ≡ map.remove (objects_of t).allocated (slot_place f c s)
 
 pub slot_released : {t : Tables} → IsConsistent t → (f c s m : ℕ) (lists : Lists) → class_at t f ≡ Some c → s < capacity_of c → bit_at m s ≡ 1 → AreOthers (mask_at t f) m s
     → IsRelisted t.lists lists f (list_of (Some c) m) → IsReleased t (with_mask t f m lists) f c s
@@ -198,7 +198,7 @@ slot_released {t} h f c s m lists e within free others moved =
     let h' : IsConsistent t' = consistent_mask h f c m lists e (λ slot l. others slot (λ q. absurd (omega arith)) ∙ h.within f c slot e l) moved in
     record {
       consistent = h';
-      out = remove_below (page * t.pages) (object_at t) (object_at t') (slot_place f c s) (place_below h f c s e within) (object_free h' f c s e within (ap (λ z. bit_at z s) now ∙ free))
+      allocated = remove_below (page * t.pages) (object_at t) (object_at t') (slot_place f c s) (place_below h f c s e within) (object_free h' f c s e within (ap (λ z. bit_at z s) now ∙ free))
           (λ q nq. same_option _ _
           (λ n w. elsewhere h f c s (λ g d x. x) e (λ g d. sym (mask_other t f g m d)) (λ o d. sym (ap (λ z. bit_at z o) now ∙ others o d)) q n nq (object_is t' q n w))
           (λ n w. elsewhere h' f c s (λ g d x. x) e (λ g d. mask_other t f g m d) (λ o d. ap (λ z. bit_at z o) now ∙ others o d) q n nq (object_is t q n w)));
@@ -227,7 +227,7 @@ pub record IsOwned (old new : List ℕ) (f count : ℕ) : Type 0 where
 
 pub record IsAdded (t t' : Tables) (f c : ℕ) : Type 0 where
   pub consistent : IsConsistent t'
-  pub out : (objects_of t').out ≡ (objects_of t).out
+  pub allocated : (objects_of t').allocated ≡ (objects_of t).allocated
   pub held : (objects_of t').held ≡ map.insert (objects_of t).held f c
 
 pub span_added : {t : Tables} → IsConsistent t → (f c m : ℕ) (firsts : List ℕ) (lists : Lists) → c < 37 → f + 2 ^ order_of c ≤ t.pages → IsClear t f (order_of c)
@@ -287,7 +287,7 @@ span_added {t} h f c m firsts lists small inside clear owned free none moved =
     } in
     record {
       consistent = h';
-      out = same_below (page * t.pages) (object_at t) (object_at t') (λ q _. same_option _ _
+      allocated = same_below (page * t.pages) (object_at t) (object_at t') (λ q _. same_option _ _
           (λ n w. (let o = object_is t' q n w in
           elim (cases_eq o.first f) [
             | inl of ↦ absurd (let one = free o.slot (subst (λ w. o.slot < capacity_of w) (sym (at_f o.first o.class of o.held)) o.in_slot) in
@@ -306,7 +306,7 @@ without_span t f lists = record { pages = t.pages; classes = set t.classes f Non
 
 pub record IsRemoved (t t' : Tables) (f : ℕ) : Type 0 where
   pub consistent : IsConsistent t'
-  pub out : (objects_of t').out ≡ (objects_of t).out
+  pub allocated : (objects_of t').allocated ≡ (objects_of t).allocated
   pub held : (objects_of t').held ≡ map.remove (objects_of t).held f
 
 pub span_removed : {t : Tables} → IsConsistent t → (f c : ℕ) (lists : Lists) → class_at t f ≡ Some c → ((slot : ℕ) → slot < capacity_of c → bit_at (mask_at t f) slot ≡ 1)
@@ -337,7 +337,7 @@ span_removed {t} h f c lists e free moved =
     } in
     record {
       consistent = h';
-      out = same_below (page * t.pages) (object_at t) (object_at t') (λ q _. same_option _ _
+      allocated = same_below (page * t.pages) (object_at t) (object_at t') (λ q _. same_option _ _
           (λ n v. (let o = object_is t' q n v in object_stays h q n o (other o.first o.class o.held) o.taken))
           (λ n v. (let o = object_is t q n v in
           let nf : o.first ≢ f = (λ of. absurd (let oc : o.class ≡ c = some_is o.held (ap (class_at t) of ∙ e) in

@@ -5,20 +5,20 @@ use Rattle.std.specs.FinMap as map
 use Rattle.std.specs.Coded.{Coded, code_by, coded×, coded_ℕ}
 use Rattle.layout.specs.Sizes.{page}
 use Rattle.layout.specs.Extents.{Blocks}
-use Rattle.span_lists.specs.Layout.{Layout, IsOut}
+use Rattle.span_lists.specs.Layout.{Layout, IsAllocated}
 use Rattle.small_pools.specs.Classes.{size_of, order_of, capacity_of, IsClass}
 
--- held: the class of each span that the pools hold, by its first page. out: the size of each object that is out, by its first byte
+-- held: the class of each span that the pools hold, by its first page. allocated: the size of each allocated object, by its first byte
 pub record Objects : Type 0 where
   pub pages : ℕ
   pub held : map.FinMap nat_cmp ℕ
-  pub out : map.FinMap nat_cmp ℕ
+  pub allocated : map.FinMap nat_cmp ℕ
 
 -- objects are stored as the tuple of the fields
 abbrev pub objects_code : Coded Objects
 objects_code =
     code_by (ℕ × (map.FinMap nat_cmp ℕ × map.FinMap nat_cmp ℕ)) (coded× coded_ℕ (coded× (map.code coded_ℕ coded_ℕ) (map.code coded_ℕ coded_ℕ)))
-    (λ s. (s.pages, (s.held, s.out))) (λ p. record { pages = p.0; held = p.1.0; out = p.1.1 }) (λ _. refl)
+    (λ s. (s.pages, (s.held, s.allocated))) (λ p. record { pages = p.0; held = p.1.0; allocated = p.1.1 }) (λ _. refl)
 
 -- a span of the class is held, and begins at the page
 abbrev pub IsHeld : Objects → ℕ → ℕ → Type 0
@@ -28,16 +28,16 @@ IsHeld s first class = map.get s.held first ≡ Some class
 abbrev pub slot_place : ℕ → ℕ → ℕ → ℕ
 slot_place first class slot = page * first + slot * size_of class
 
--- a span has an object out; a span has a free one
+-- a span has an allocated object; a span has a free one
 abbrev pub HasObject : Objects → ℕ → ℕ → Type 0
-HasObject s first class = (slot : ℕ) × (slot < capacity_of class) × (map.get s.out (slot_place first class slot) ≡ Some (size_of class))
+HasObject s first class = (slot : ℕ) × (slot < capacity_of class) × (map.get s.allocated (slot_place first class slot) ≡ Some (size_of class))
 
 abbrev pub HasRoom : Objects → ℕ → ℕ → Type 0
-HasRoom s first class = (slot : ℕ) × (slot < capacity_of class) × (map.get s.out (slot_place first class slot) ≡ None)
+HasRoom s first class = (slot : ℕ) × (slot < capacity_of class) × (map.get s.allocated (slot_place first class slot) ≡ None)
 
 -- the class has no free object
 abbrev pub IsUsedUp : Objects → ℕ → Type 0
-IsUsedUp s class = (first slot : ℕ) → IsHeld s first class → slot < capacity_of class → map.get s.out (slot_place first class slot) ≡ Some (size_of class)
+IsUsedUp s class = (first slot : ℕ) → IsHeld s first class → slot < capacity_of class → map.get s.allocated (slot_place first class slot) ≡ Some (size_of class)
 
 -- an object stands in a slot of a span of its class, and within the pages of the span
 pub record IsObject (s : Objects) (place size : ℕ) : Type 0 where
@@ -51,29 +51,29 @@ pub record IsObject (s : Objects) (place size : ℕ) : Type 0 where
   pub from : page * first ≤ place
   pub to : place + size ≤ page * (first + 2 ^ order_of class)
 
--- the objects out are disjoint, and each stands in a slot of a span of its class; the spans are disjoint too
+-- the allocated objects are disjoint, and each stands in a slot of a span of its class; the spans are disjoint too
 pub record AreObjects (s : Objects) : Type 0 where
-  pub blocks : Blocks (page * s.pages) (map.get s.out)
-  pub slots : (place size : ℕ) → map.get s.out place ≡ Some size → IsObject s place size
+  pub blocks : Blocks (page * s.pages) (map.get s.allocated)
+  pub slots : (place size : ℕ) → map.get s.allocated place ≡ Some size → IsObject s place size
   pub spans : (first class : ℕ) → IsHeld s first class → IsClass class × (first + 2 ^ order_of class ≤ s.pages)
   pub apart : (p q c d : ℕ) → IsHeld s p c → IsHeld s q d → p < q → p + 2 ^ order_of c ≤ q
 
--- each span that the pools hold is out with its order
+-- each span that the pools hold is allocated with its order
 pub record AreHeldIn (s : Objects) (spans : Layout) : Type 0 where
   pub pages : spans.pages ≡ s.pages
-  pub out : (first class : ℕ) → IsHeld s first class → IsOut spans first (order_of class)
+  pub allocated : (first class : ℕ) → IsHeld s first class → IsAllocated spans first (order_of class)
 
 -- the pools hold what they held, or, where the class had no free object, one span more of its order
 abbrev pub HoldsFor : Objects → Objects → Layout → Layout → ℕ → Type 0
 HoldsFor old new spans spans' class =
     ((new.held ≡ old.held) × (spans' ≡ spans))
-    ⊎ (IsUsedUp old class × ((first : ℕ) × (new.held ≡ map.insert old.held first class) × (spans'.out ≡ map.insert spans.out first (order_of class)) × (map.get old.held first ≡ None) × (map.get spans.out first ≡ None)))
+    ⊎ (IsUsedUp old class × ((first : ℕ) × (new.held ≡ map.insert old.held first class) × (spans'.allocated ≡ map.insert spans.allocated first (order_of class)) × (map.get old.held first ≡ None) × (map.get spans.allocated first ≡ None)))
 
--- some spans without an object out were let go and given back to the pages; nothing else changed
+-- some spans without an allocated object were let go and given back to the pages; nothing else changed
 pub record Trims (old new : Objects) (spans spans' : Layout) : Type 0 where
   pub pages : new.pages ≡ old.pages
-  pub out : new.out ≡ old.out
+  pub allocated : new.allocated ≡ old.allocated
   pub kept : (first class : ℕ) → IsHeld new first class → IsHeld old first class
   pub left : (first class : ℕ) → IsHeld old first class → HasObject old first class → IsHeld new first class
-  pub given : (first class : ℕ) → IsHeld old first class → map.get new.held first ≡ None → map.get spans'.out first ≡ None
-  pub others : (first : ℕ) → map.get old.held first ≡ None → map.get spans'.out first ≡ map.get spans.out first
+  pub given : (first class : ℕ) → IsHeld old first class → map.get new.held first ≡ None → map.get spans'.allocated first ≡ None
+  pub others : (first : ℕ) → map.get old.held first ≡ None → map.get spans'.allocated first ≡ map.get spans.allocated first

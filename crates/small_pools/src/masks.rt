@@ -12,6 +12,7 @@ pub fn least_free(mask: u128) -> u8
 }
 
 /// The mask after a slot is taken.
+#[tactic(auto, using(crate::proofs::Slots::clear_same, crate::proofs::Slots::clear_other))]
 pub fn occupied(mask: u128, slot: u8) -> u128
     requires { slot < 128 }
     ensures taken { bit_at result slot ≡ 0 }
@@ -21,6 +22,7 @@ pub fn occupied(mask: u128, slot: u8) -> u128
 }
 
 /// The mask after a slot is free again.
+#[tactic(auto, using(crate::proofs::Slots::set_same, crate::proofs::Slots::set_other))]
 pub fn released(mask: u128, slot: u8) -> u128
     requires { slot < 128 }
     ensures free { bit_at result slot ≡ 1 }

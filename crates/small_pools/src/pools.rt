@@ -11,6 +11,7 @@ ghost use Rattle.std.specs.Prelude.{
   [],
   List,
   length,
+  slice_get,
   slice_index,
   vec_len,
   replicate,
@@ -19,13 +20,15 @@ ghost use Rattle.std.specs.Prelude.{
   IfNone,
   IsNone,
   IsSome,
+  IsTrue,
   Some,
   None,
 };
 ghost use Rattle.std.specs.Ordering.{nat_cmp};
 ghost use Rattle.std.specs.FinMap as map;
 ghost use Rattle.layout.specs.Sizes.{ArePages, most_pages};
-ghost use Rattle.span_lists.specs.Layout.{Divides, IsMerged, HasNone, IsOut};
+ghost use Rattle.index_lists.specs.Lists.{list_at};
+ghost use Rattle.span_lists.specs.Layout.{Divides, IsCoalesced, HasNone, IsAllocated};
 ghost use Rattle.small_pools.specs.Classes.{size_of, order_of, capacity_of};
 ghost use Rattle.small_pools.specs.Objects.{
   Objects,
@@ -86,7 +89,7 @@ impl Pools {
         requires { ArePages pages }
         ensures pages { IfOk result (λ pools. pools.pages ≡ pages) }
         ensures none_held { IfOk result (λ pools. pools.held ≡ map.empty) }
-        ensures none_out { IfOk result (λ pools. pools.out ≡ map.empty) }
+        ensures none_allocated { IfOk result (λ pools. pools.allocated ≡ map.empty) }
         ensures objects { IfOk result AreObjects }
     {
         let classes = no_classes(alloc, pages)?;
@@ -109,7 +112,7 @@ impl Pools {
         let _ = &self.lists;
     }
 
-    /// Takes an object of the class out, and answers its first byte.
+    /// Allocates an object of the class, and answers its first byte.
     ///
     /// It comes from a span that the pools hold, where one has a free object, and otherwise from a new span of the pages.
     pub fn take(&mut self, spans: &mut Spans, class: u8) -> Option<u32>
@@ -117,23 +120,23 @@ impl Pools {
         requires held { AreHeldIn self.old spans.old }
         ensures none { IsNone result ↔ (IsUsedUp self.old class × HasNone spans.old (order_of class)) }
         ensures unchanged { IfNone result ((self.new ≡ self.old) × (spans.new ≡ spans.old)) }
-        ensures was_free { IfSome result (λ place. map.get self.old.out place ≡ None) }
-        ensures out { IfSome result (λ place. self.new.out ≡ map.insert self.old.out place (size_of class)) }
+        ensures was_free { IfSome result (λ place. map.get self.old.allocated place ≡ None) }
+        ensures allocated { IfSome result (λ place. self.new.allocated ≡ map.insert self.old.allocated place (size_of class)) }
         ensures spans { IfSome result (λ _. HoldsFor self.old self.new spans.old spans.new class) }
         ensures pages { self.new.pages ≡ self.old.pages }
         ensures held { AreHeldIn self.new spans.new }
         ensures objects { AreObjects self.new }
         ensures divided { Divides spans.new }
-        ensures merged { IsMerged spans.new }
+        ensures coalesced { IsCoalesced spans.new }
     {
         let first = self.span_with_room(spans, class)?;
         Some(self.pop(first, class))
     }
 
-    /// Gives an object back that is out, by its first byte.
+    /// Gives an allocated object back, by its first byte.
     pub fn put(&mut self, place: u32)
-        requires { IsSome (map.get self.old.out place) }
-        ensures out { self.new.out ≡ map.remove self.old.out place }
+        requires { IsSome (map.get self.old.allocated place) }
+        ensures allocated { self.new.allocated ≡ map.remove self.old.allocated place }
         ensures held { self.new.held ≡ self.old.held }
         ensures pages { self.new.pages ≡ self.old.pages }
         ensures objects { AreObjects self.new }
@@ -145,7 +148,7 @@ impl Pools {
         }
     }
 
-    /// Gives each span back to the pages that has no object out.
+    /// Gives each span back to the pages that has no allocated object.
     pub fn trim(&mut self, spans: &mut Spans)
         requires { AreHeldIn self.old spans.old }
         ensures used { (first class : ℕ) → IsHeld self.new first class → HasObject self.new first class }
@@ -153,7 +156,7 @@ impl Pools {
         ensures held { AreHeldIn self.new spans.new }
         ensures objects { AreObjects self.new }
         ensures divided { Divides spans.new }
-        ensures merged { IsMerged spans.new }
+        ensures coalesced { IsCoalesced spans.new }
     {
         self.facts();
         spans.facts();
@@ -168,19 +171,19 @@ impl Pools {
         self.pages
     }
 
-    /// Gives the span that begins at the page back to the pages where it has no object out.
+    /// Gives the span that begins at the page back to the pages where it has no allocated object.
     fn trim_span(&mut self, spans: &mut Spans, first: u32)
         requires page { first < self.old.pages }
         requires held { AreHeldIn self.old spans.old }
         requires objects { AreObjects self.old }
         requires divided { Divides spans.old }
-        requires merged { IsMerged spans.old }
+        requires coalesced { IsCoalesced spans.old }
         ensures used { (class : ℕ) → IsHeld self.new first class → HasObject self.new first class }
         ensures trims { Trims self.old self.new spans.old spans.new }
         ensures held { AreHeldIn self.new spans.new }
         ensures objects { AreObjects self.new }
         ensures divided { Divides spans.new }
-        ensures merged { IsMerged spans.new }
+        ensures coalesced { IsCoalesced spans.new }
     {
         let Some(class) = self.unused_at(first) else {
             return;
@@ -189,7 +192,7 @@ impl Pools {
         spans.put(first, class_order(class));
     }
 
-    /// The class of the span that begins at the page, where it has no object out.
+    /// The class of the span that begins at the page, where it has no allocated object.
     fn unused_at(&self, first: u32) -> Option<u8>
         requires { first < self.now.pages }
         ensures none { IfNone result ((class : ℕ) → IsHeld self.now first class → HasObject self.now first class) }
@@ -200,7 +203,7 @@ impl Pools {
         let Some(class) = self.classes[first as usize] else {
             return None;
         };
-        if self.masks[first as usize] != all_free(class_capacity(class)) {
+        if !is_unused(self.masks[first as usize], all_free(class_capacity(class))) {
             return None;
         }
         Some(class)
@@ -214,13 +217,13 @@ impl Pools {
         ensures unchanged { IfNone result ((self.new ≡ self.old) × (spans.new ≡ spans.old)) }
         ensures found { IfSome result (λ first. IsHeld self.new first class) }
         ensures room { IfSome result (λ first. HasRoom self.new first class) }
-        ensures out { self.new.out ≡ self.old.out }
+        ensures allocated { self.new.allocated ≡ self.old.allocated }
         ensures spans { IfSome result (λ _. HoldsFor self.old self.new spans.old spans.new class) }
         ensures pages { self.new.pages ≡ self.old.pages }
         ensures held { AreHeldIn self.new spans.new }
         ensures objects { AreObjects self.new }
         ensures divided { Divides spans.new }
-        ensures merged { IsMerged spans.new }
+        ensures coalesced { IsCoalesced spans.new }
     {
         if let Some(first) = self.find(class) {
             spans.facts();
@@ -239,15 +242,15 @@ impl Pools {
         ensures room { IfSome result (λ first. HasRoom self.now first class) }
         ensures objects { AreObjects self.now }
     {
-        self.lists.front(class as u32)
+        first_with_room(&self.lists, class)
     }
 
-    /// Takes an object out of a span that has a free one, and answers its first byte.
+    /// Allocates an object of a span that has a free one, and answers its first byte.
     fn pop(&mut self, first: u32, class: u8) -> u32
         requires held { IsHeld self.old first class }
         requires room { HasRoom self.old first class }
-        ensures was_free { map.get self.old.out result ≡ None }
-        ensures moves { self.new ≡ record self.old { out = map.insert self.old.out result (size_of class) } }
+        ensures was_free { map.get self.old.allocated result ≡ None }
+        ensures moves { self.new ≡ record self.old { allocated = map.insert self.old.allocated result (size_of class) } }
         ensures objects { AreObjects self.new }
     {
         let before = self.masks[first as usize];
@@ -267,7 +270,7 @@ impl Pools {
     fn release(&mut self, first: u32, class: u8, slot: u8)
         requires held { IsHeld self.old first class }
         requires slot { slot < capacity_of class }
-        ensures moves { self.new ≡ record self.old { out = map.remove self.old.out (slot_place first class slot) } }
+        ensures moves { self.new ≡ record self.old { allocated = map.remove self.old.allocated (slot_place first class slot) } }
         ensures objects { AreObjects self.new }
     {
         let before = self.masks[first as usize];
@@ -295,7 +298,7 @@ impl Pools {
         relist(&mut self.lists, first, None, Some(class as u32));
     }
 
-    /// Lets a span go that has no object out.
+    /// Lets a span go that has no allocated object.
     fn remove(&mut self, first: u32, class: u8)
         requires held { IsHeld self.old first class }
         requires unused { ¬ HasObject self.old first class }
@@ -306,6 +309,21 @@ impl Pools {
         relist(&mut self.lists, first, list_for(class, mask), None);
         self.classes[first as usize] = None;
     }
+}
+
+/// The span in front of the list of the class.
+fn first_with_room(lists: &IndexLists, class: u8) -> Option<u32>
+    requires { class < length lists.now.lists }
+    ensures { result ≡ slice_get (list_at lists.now class) 0 }
+{
+    lists.front(class as u32)
+}
+
+/// Whether a span that has these free slots has no other.
+fn is_unused(mask: u128, all: u128) -> bool
+    ensures { IsTrue result ↔ (mask ≡ all) }
+{
+    mask == all
 }
 
 /// Makes a page the first one of so many.

@@ -2,7 +2,7 @@
 use Rattle.std.proofs.Common.{◌≡◌, ◌≢◌, ℕ, ◌+◌, ◌%◌, ◌^◌, ◌<◌, ◌≤◌, ◌⊎◌, inl, inr, Option, Some, None, sym, ap, subst, ◌∙◌, arith}
 use Rattle.std.proofs.lemmas.Nat.{pow_pos}
 use Rattle.std.proofs.lemmas.Bool.{cases_eq}
-use Rattle.span_lists.specs.Pages.{IsSpanAt, IsCut}
+use Rattle.span_lists.specs.inside.Pages.{IsSpanAt, IsCut}
 use Rattle.common_lemmas.proofs.Orders.{lt_or_ge, trichotomy}
 use Rattle.common_lemmas.proofs.Orders.{lt_or_ge, trichotomy}
 use Rattle.common_lemmas.proofs.Options.{some_is}
@@ -24,10 +24,10 @@ shared_page pages at p q j k x h ep eq pl ph ql qh =
       | inr (inr l) ↦ absurd (let none = (h.spans q k eq).alone p l (omega arith) in let clash : Some j ≡ None = sym ep ∙ none in cc)
     ]
 
--- a span is halved
-pub cut_halved : (pages : ℕ) (at at' : ℕ → Option ℕ) (x k : ℕ) → IsCut pages at → at x ≡ Some (k + 1)
+-- a span is split
+pub cut_split : (pages : ℕ) (at at' : ℕ → Option ℕ) (x k : ℕ) → IsCut pages at → at x ≡ Some (k + 1)
     → at' x ≡ Some k → at' (x + 2 ^ k) ≡ Some k → ((y : ℕ) → y ≢ x → y ≢ x + 2 ^ k → at' y ≡ at y) → IsCut pages at'
-cut_halved pages at at' x k h was low high others =
+cut_split pages at at' x k h was low high others =
     let s = h.spans x (k + 1) was in
     let two = pow_twice k in
     let pos = pow_pos k in
@@ -83,10 +83,10 @@ cut_halved pages at at' x k h was low high others =
           ]);
     }
 
--- two buddies are joined
-pub cut_joined : (pages : ℕ) (at at' : ℕ → Option ℕ) (x k : ℕ) → IsCut pages at → k < 16 → x % 2 ^ (k + 1) ≡ 0 → at x ≡ Some k → at (x + 2 ^ k) ≡ Some k
+-- two buddies coalesce
+pub cut_coalesced : (pages : ℕ) (at at' : ℕ → Option ℕ) (x k : ℕ) → IsCut pages at → k < 16 → x % 2 ^ (k + 1) ≡ 0 → at x ≡ Some k → at (x + 2 ^ k) ≡ Some k
     → at' x ≡ Some (k + 1) → at' (x + 2 ^ k) ≡ None → ((y : ℕ) → y ≢ x → y ≢ x + 2 ^ k → at' y ≡ at y) → IsCut pages at'
-cut_joined pages at at' x k h small aligned was_low was_high low high others =
+cut_coalesced pages at at' x k h small aligned was_low was_high low high others =
     let s = h.spans x k was_low in
     let t = h.spans (x + 2 ^ k) k was_high in
     let two = pow_twice k in

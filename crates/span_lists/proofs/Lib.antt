@@ -1,7 +1,7 @@
 pub mod Halves
 pub mod Cuts
-pub mod Outs
-pub mod Laid
+pub mod AllocatedSpans
+pub mod Consistent
 pub mod Views
 pub mod Steps
 pub mod Whole

@@ -9,8 +9,8 @@ use Rattle.common_lemmas.proofs.Orders.{lt_or_ge}
 use Rattle.common_lemmas.specs.Lists.{times, delete}
 use Rattle.common_lemmas.proofs.Counts.{times_here}
 use Rattle.span_lists.specs.Buddies.{buddy}
-use Rattle.span_lists.specs.Layout.{Layout, free_at, IsFree, IsOut, Divides, IsMerged, HasNone, TakesFrom, MergesInto, IsFirstOf, span_start}
-use Rattle.span_lists.specs.Steps.{IsHalvedTo, IsMergedTo}
+use Rattle.span_lists.specs.Layout.{Layout, free_at, IsFree, IsAllocated, Divides, IsCoalesced, HasNone, TakesFrom, CoalescesInto, IsFirstOf, span_start}
+use Rattle.span_lists.specs.inside.Steps.{IsSplitTo, IsCoalescedTo}
 use Rattle.common_lemmas.proofs.Powers.{start_is, start_of_start}
 use Rattle.span_lists.proofs.Halves.{buddy_ends}
 use Rattle.common_lemmas.proofs.Maps.{maps_same, get_inserted, get_past_insert, get_removed, get_past_remove}
@@ -49,37 +49,37 @@ remove_inserted m x k e = maps_same _ _ (λ q. elim (cases_eq q x) [
 
 -- ---- a request
 
-pub halved_none : (old : Layout) (first from : ℕ) → IsOut old first from → Divides old → IsMerged old → IsHalvedTo old old first from from
-halved_none old first from out divided merged = record {
+pub split_none : (old : Layout) (first from : ℕ) → IsAllocated old first from → Divides old → IsCoalesced old → IsSplitTo old old first from from
+split_none old first from allocated divided coalesced = record {
   pages = refl;
-  out = sym (insert_known old.out first from out);
-  halves = λ k low high. absurd (omega arith);
+  allocated = sym (insert_known old.allocated first from allocated);
+  upper_halves = λ k low high. absurd (omega arith);
   lower = λ k h. refl;
   upper = λ k h. refl;
   divided = divided;
-  merged = merged;
+  coalesced = coalesced;
 }
 
-pub halved_more : (old now new : Layout) (first from at : ℕ) → IsHalvedTo old now first from (at + 1) → at + 1 ≤ from → from < 17
-    → new ≡ record now { free = set now.free at ((first + 2 ^ at) ∷ free_at now at); out = map.insert now.out first at } → Divides new → IsMerged new → IsHalvedTo old new first from at
-halved_more old now new first from at h below within e divided merged =
+pub split_more : (old now new : Layout) (first from at : ℕ) → IsSplitTo old now first from (at + 1) → at + 1 ≤ from → from < 17
+    → new ≡ record now { free = set now.free at ((first + 2 ^ at) ∷ free_at now at); allocated = map.insert now.allocated first at } → Divides new → IsCoalesced new → IsSplitTo old new first from at
+split_more old now new first from at h below within e divided coalesced =
     let orders = h.divided.orders in
     let free : (k : ℕ) → free_at new k ≡ get_or (set now.free at ((first + 2 ^ at) ∷ free_at now at)) k [] = λ k. ap (λ (s : Layout). free_at s k) e in
     record {
       pages = ap (λ (s : Layout). s.pages) e ∙ h.pages;
-      out = ap (λ (s : Layout). s.out) e ∙ ap (λ m. map.insert m first at) h.out ∙ insert_twice old.out first (at + 1) at;
-      halves = λ k low high. free k ∙ (elim (cases_eq k at) [
+      allocated = ap (λ (s : Layout). s.allocated) e ∙ ap (λ m. map.insert m first at) h.allocated ∙ insert_twice old.allocated first (at + 1) at;
+      upper_halves = λ k low high. free k ∙ (elim (cases_eq k at) [
         | inl ka ↦ free_same now.free at k _ (omega arith) ka ∙ ap (λ l. (first + 2 ^ at) ∷ l) (h.lower at (omega arith)) ∙ ap (λ z. (first + 2 ^ z) ∷ free_at old z) (sym ka)
-        | inr n ↦ free_other now.free at k _ n ∙ h.halves k (omega arith) high
+        | inr n ↦ free_other now.free at k _ n ∙ h.upper_halves k (omega arith) high
       ]);
       lower = λ k l. free k ∙ free_other now.free at k _ (λ z. absurd (omega arith)) ∙ h.lower k (omega arith);
       upper = λ k l. free k ∙ free_other now.free at k _ (λ z. absurd (omega arith)) ∙ h.upper k l;
       divided = divided;
-      merged = merged;
+      coalesced = coalesced;
     }
 
-pub out_of_halved : (old now : Layout) (first from at : ℕ) → IsHalvedTo old now first from at → IsOut now first at
-out_of_halved old now first from at h = ap (λ m. map.get m first) h.out ∙ get_inserted old.out first at first refl
+pub allocated_of_split : (old now : Layout) (first from at : ℕ) → IsSplitTo old now first from at → IsAllocated now first at
+allocated_of_split old now first from at h = ap (λ m. map.get m first) h.allocated ∙ get_inserted old.allocated first at first refl
 
 held_of_front : (xs : List ℕ) (x : ℕ) → slice_get xs 0 ≡ Some x → 1 ≤ times x xs
 held_of_front [] x e = absurd (let clash : None ≡ Some x = e in cc)
@@ -91,8 +91,8 @@ free_in_front s order first from h = held_of_front (free_at s from) first h.in_f
 pub found_some : (s : Layout) (order first from : ℕ) → IsFirstOf s order first from → ¬ HasNone s order
 found_some s order first from h none = (let clash : Some first ≡ None = sym h.in_front ∙ ap (λ l. slice_get l 0) (none from h.from_order h.from_within) in cc)
 
-pub took : (old mid new : Layout) (order first from : ℕ) → IsFirstOf old order first from → Divides old → mid ≡ record old { free = set old.free from (delete first (free_at old from)); out = map.insert old.out first from }
-    → IsHalvedTo mid new first from order → TakesFrom old new order first × (new.out ≡ map.insert old.out first order) × (new.pages ≡ old.pages)
+pub took : (old mid new : Layout) (order first from : ℕ) → IsFirstOf old order first from → Divides old → mid ≡ record old { free = set old.free from (delete first (free_at old from)); allocated = map.insert old.allocated first from }
+    → IsSplitTo mid new first from order → TakesFrom old new order first × (new.allocated ≡ map.insert old.allocated first order) × (new.pages ≡ old.pages)
 took old mid new order first from found divided e h =
     let orders = divided.orders in
     let within = found.from_within in
@@ -104,70 +104,70 @@ took old mid new order first from found divided e h =
         none_below = found.none_below;
         in_front = found.in_front;
         source = h.upper from (omega arith) ∙ free from ∙ free_same old.free from from _ (omega arith) refl;
-        halves = λ k low high. h.halves k low high ∙ ap (λ l. (first + 2 ^ k) ∷ l) (free k ∙ free_other old.free from k _ (λ z. absurd (omega arith)) ∙ found.none_below k low high);
+        upper_halves = λ k low high. h.upper_halves k low high ∙ ap (λ l. (first + 2 ^ k) ∷ l) (free k ∙ free_other old.free from k _ (λ z. absurd (omega arith)) ∙ found.none_below k low high);
         lower = λ k l. h.lower k l ∙ free k ∙ free_other old.free from k _ (λ z. absurd (let o = found.from_order in omega arith));
         upper = λ k l. h.upper k (omega arith) ∙ free k ∙ free_other old.free from k _ (λ z. absurd (omega arith));
       },
-      h.out ∙ ap (λ m. map.insert m first order) (ap (λ (s : Layout). s.out) e) ∙ insert_twice old.out first from order,
+      h.allocated ∙ ap (λ m. map.insert m first order) (ap (λ (s : Layout). s.allocated) e) ∙ insert_twice old.allocated first from order,
       h.pages ∙ ap (λ (s : Layout). s.pages) e,
     )
 
 -- ---- a return
 
-pub merged_none : (old : Layout) (first order : ℕ) → IsOut old first order → Divides old → IsMerged old → IsMergedTo old old first order first order
-merged_none old first order out divided merged =
-    let span = divided.spans first order (inr out) in
+pub coalesced_none : (old : Layout) (first order : ℕ) → IsAllocated old first order → Divides old → IsCoalesced old → IsCoalescedTo old old first order first order
+coalesced_none old first order allocated divided coalesced =
+    let span = divided.spans first order (inr allocated) in
     let o = span.0 in
     record {
       pages = refl;
       to_order = omega arith;
       to_within = omega arith;
       start = sym (start_is first first order span.1 (omega arith) (let pos = pow_pos order in omega arith));
-      out = sym (insert_removed old.out first order out);
-      none = get_removed old.out first first refl;
-      joined = λ k low high. absurd (omega arith);
+      allocated = sym (insert_removed old.allocated first order allocated);
+      none = get_removed old.allocated first first refl;
+      were_free = λ k low high. absurd (omega arith);
       buddies = λ k low high. absurd (omega arith);
       lower = λ k h. refl;
       upper = λ k h. refl;
       divided = divided;
-      merged = merged;
+      coalesced = coalesced;
     }
 
-pub out_of_merged : (old now : Layout) (first order at to : ℕ) → IsMergedTo old now first order at to → IsOut now at to
-out_of_merged old now first order at to h = ap (λ m. map.get m at) h.out ∙ get_inserted (map.remove old.out first) at to at refl
+pub allocated_of_coalesced : (old now : Layout) (first order at to : ℕ) → IsCoalescedTo old now first order at to → IsAllocated now at to
+allocated_of_coalesced old now first order at to h = ap (λ m. map.get m at) h.allocated ∙ get_inserted (map.remove old.allocated first) at to at refl
 
-pub merged_more : (old now new : Layout) (first order at to joined : ℕ) → IsMergedTo old now first order at to → to < 16 → IsFree now (buddy at to) to → joined ≡ span_start at (to + 1)
-    → new ≡ record now { free = set now.free to (delete (buddy at to) (free_at now to)); out = map.insert (map.remove now.out at) joined (to + 1) } → map.get now.out (buddy at to) ≡ None
-    → Divides new → IsMerged new → IsMergedTo old new first order joined (to + 1)
-merged_more old now new first order at to joined h small held start e none_buddy divided merged =
+pub coalesced_more : (old now new : Layout) (first order at to whole : ℕ) → IsCoalescedTo old now first order at to → to < 16 → IsFree now (buddy at to) to → whole ≡ span_start at (to + 1)
+    → new ≡ record now { free = set now.free to (delete (buddy at to) (free_at now to)); allocated = map.insert (map.remove now.allocated at) whole (to + 1) } → map.get now.allocated (buddy at to) ≡ None
+    → Divides new → IsCoalesced new → IsCoalescedTo old new first order whole (to + 1)
+coalesced_more old now new first order at to whole h small held start e none_buddy divided coalesced =
     let orders = h.divided.orders in
     let low = h.to_order in
-    let base = map.remove old.out first in
+    let base = map.remove old.allocated first in
     let free : (k : ℕ) → free_at new k ≡ get_or (set now.free to (delete (buddy at to) (free_at now to))) k [] = λ k. ap (λ (s : Layout). free_at s k) e in
     let same : free_at now to ≡ free_at old to = h.upper to (omega arith) in
     let start_b : buddy at to ≡ buddy (span_start first to) to = ap (λ z. buddy z to) h.start in
     let held_old : IsFree old (buddy (span_start first to) to) to = subst (λ z. IsFree old z to) start_b (subst (λ l. 1 ≤ times (buddy at to) l) same held) in
-    let base_none : (q : ℕ) → q ≢ at → map.get now.out q ≡ None → map.get base q ≡ None = (λ q n g. sym (ap (λ m. map.get m q) h.out ∙ get_past_insert base at to q n) ∙ g) in
-    let aligned = (h.divided.spans at to (inr (out_of_merged old now first order at to h))).1 in
+    let base_none : (q : ℕ) → q ≢ at → map.get now.allocated q ≡ None → map.get base q ≡ None = (λ q n g. sym (ap (λ m. map.get m q) h.allocated ∙ get_past_insert base at to q n) ∙ g) in
+    let aligned = (h.divided.spans at to (inr (allocated_of_coalesced old now first order at to h))).1 in
     let ends = buddy_ends at to aligned in
-    let least : joined ≡ min at (buddy at to) = start ∙ sym ends.2 in
-    let which : (joined ≡ at) ⊎ (joined ≡ buddy at to) = elim ends.3 [ inl p ↦ inl (least ∙ p.0) | inr p ↦ inr (least ∙ p.0) ] in
+    let least : whole ≡ min at (buddy at to) = start ∙ sym ends.2 in
+    let which : (whole ≡ at) ⊎ (whole ≡ buddy at to) = elim ends.3 [ inl p ↦ inl (least ∙ p.0) | inr p ↦ inr (least ∙ p.0) ] in
     record {
       pages = ap (λ (s : Layout). s.pages) e ∙ h.pages;
       to_order = omega arith;
       to_within = omega arith;
       start = start ∙ ap (λ z. span_start z (to + 1)) h.start ∙ start_of_start first to;
-      out = ap (λ (s : Layout). s.out) e ∙ ap (λ m. map.insert (map.remove m at) joined (to + 1)) h.out ∙ ap (λ m. map.insert m joined (to + 1)) (remove_inserted base at to h.none);
+      allocated = ap (λ (s : Layout). s.allocated) e ∙ ap (λ m. map.insert (map.remove m at) whole (to + 1)) h.allocated ∙ ap (λ m. map.insert m whole (to + 1)) (remove_inserted base at to h.none);
       none = elim which [
         | inl q ↦ ap (map.get base) q ∙ h.none
-        | inr q ↦ elim (cases_eq joined at) [
+        | inr q ↦ elim (cases_eq whole at) [
           | inl z ↦ ap (map.get base) z ∙ h.none
-          | inr n ↦ base_none joined n (ap (map.get now.out) q ∙ none_buddy)
+          | inr n ↦ base_none whole n (ap (map.get now.allocated) q ∙ none_buddy)
         ]
       ];
-      joined = λ k l u. elim (cases_eq k to) [
+      were_free = λ k l u. elim (cases_eq k to) [
         | inl kt ↦ subst (λ z. IsFree old (buddy (span_start first z) z) z) (sym kt) held_old
-        | inr n ↦ h.joined k l (omega arith)
+        | inr n ↦ h.were_free k l (omega arith)
       ];
       buddies = λ k l u. free k ∙ (elim (cases_eq k to) [
         | inl kt ↦ free_same now.free to k _ (omega arith) kt ∙ ap (λ l. delete (buddy at to) l) same ∙ ap (λ z. delete z (free_at old to)) start_b ∙ ap (λ z. delete (buddy (span_start first z) z) (free_at old z)) (sym kt)
@@ -176,11 +176,11 @@ merged_more old now new first order at to joined h small held start e none_buddy
       lower = λ k l. free k ∙ free_other now.free to k _ (λ z. absurd (omega arith)) ∙ h.lower k l;
       upper = λ k l. free k ∙ free_other now.free to k _ (λ z. absurd (omega arith)) ∙ h.upper k (omega arith);
       divided = divided;
-      merged = merged;
+      coalesced = coalesced;
     }
 
-pub gave : (old mid new : Layout) (first order at to : ℕ) → IsMergedTo old mid first order at to → new ≡ record mid { free = set mid.free to (at ∷ free_at mid to); out = map.remove mid.out at }
-    → MergesInto old new first order × (new.out ≡ map.remove old.out first) × (new.pages ≡ old.pages)
+pub gave : (old mid new : Layout) (first order at to : ℕ) → IsCoalescedTo old mid first order at to → new ≡ record mid { free = set mid.free to (at ∷ free_at mid to); allocated = map.remove mid.allocated at }
+    → CoalescesInto old new first order × (new.allocated ≡ map.remove old.allocated first) × (new.pages ≡ old.pages)
 gave old mid new first order at to h e =
     let orders = h.divided.orders in
     let within = h.to_within in
@@ -190,39 +190,39 @@ gave old mid new first order at to h e =
         to = to;
         to_order = h.to_order;
         to_within = h.to_within;
-        merged = h.joined;
+        coalesced = h.were_free;
         buddies = λ k l u. free k ∙ free_other mid.free to k _ (λ z. absurd (omega arith)) ∙ h.buddies k l u;
         in_front = free to ∙ free_same mid.free to to _ (omega arith) refl ∙ ap (λ l. at ∷ l) (h.upper to (omega arith)) ∙ ap (λ z. z ∷ free_at old to) h.start;
         lower = λ k l. free k ∙ free_other mid.free to k _ (λ z. absurd (omega arith)) ∙ h.lower k l;
         upper = λ k l. free k ∙ free_other mid.free to k _ (λ z. absurd (omega arith)) ∙ h.upper k (omega arith);
       },
-      ap (λ (s : Layout). s.out) e ∙ ap (λ m. map.remove m at) h.out ∙ remove_inserted (map.remove old.out first) at to h.none,
+      ap (λ (s : Layout). s.allocated) e ∙ ap (λ m. map.remove m at) h.allocated ∙ remove_inserted (map.remove old.allocated first) at to h.none,
       ap (λ (s : Layout). s.pages) e ∙ h.pages,
     )
 
 -- ---- the first state
 
--- the pages below one are given back, and each other one is out
+-- the pages below one are given back, and each other one is allocated
 pub record IsPutTo (s : Layout) (pages page : ℕ) : Type 0 where
   pub same : s.pages ≡ pages
-  pub given : (x : ℕ) → x < page → map.get s.out x ≡ None
-  pub rest : (x : ℕ) → page ≤ x → x < pages → map.get s.out x ≡ Some 0
-  pub beyond : (x : ℕ) → pages ≤ x → map.get s.out x ≡ None
+  pub given : (x : ℕ) → x < page → map.get s.allocated x ≡ None
+  pub rest : (x : ℕ) → page ≤ x → x < pages → map.get s.allocated x ≡ Some 0
+  pub beyond : (x : ℕ) → pages ≤ x → map.get s.allocated x ≡ None
   pub divided : Divides s
-  pub merged : IsMerged s
+  pub coalesced : IsCoalesced s
 
-pub put_more : (old new : Layout) (pages page : ℕ) → IsPutTo old pages page → page < pages → new.out ≡ map.remove old.out page → new.pages ≡ old.pages → Divides new → IsMerged new → IsPutTo new pages (page + 1)
-put_more old new pages page h within e same divided merged = record {
+pub put_more : (old new : Layout) (pages page : ℕ) → IsPutTo old pages page → page < pages → new.allocated ≡ map.remove old.allocated page → new.pages ≡ old.pages → Divides new → IsCoalesced new → IsPutTo new pages (page + 1)
+put_more old new pages page h within e same divided coalesced = record {
   same = same ∙ h.same;
-  given = λ x l. ap (λ m. map.get m x) e ∙ (elim (cases_eq x page) [ inl xp ↦ get_removed old.out page x xp | inr n ↦ get_past_remove old.out page x n ∙ h.given x (omega arith) ]);
-  rest = λ x l u. ap (λ m. map.get m x) e ∙ get_past_remove old.out page x (λ z. absurd (omega arith)) ∙ h.rest x (omega arith) u;
-  beyond = λ x l. ap (λ m. map.get m x) e ∙ get_past_remove old.out page x (λ z. absurd (omega arith)) ∙ h.beyond x l;
+  given = λ x l. ap (λ m. map.get m x) e ∙ (elim (cases_eq x page) [ inl xp ↦ get_removed old.allocated page x xp | inr n ↦ get_past_remove old.allocated page x n ∙ h.given x (omega arith) ]);
+  rest = λ x l u. ap (λ m. map.get m x) e ∙ get_past_remove old.allocated page x (λ z. absurd (omega arith)) ∙ h.rest x (omega arith) u;
+  beyond = λ x l. ap (λ m. map.get m x) e ∙ get_past_remove old.allocated page x (λ z. absurd (omega arith)) ∙ h.beyond x l;
   divided = divided;
-  merged = merged;
+  coalesced = coalesced;
 }
 
-pub none_left : (s : Layout) (pages : ℕ) → IsPutTo s pages pages → (x : ℕ) → map.get s.out x ≡ None
+pub none_left : (s : Layout) (pages : ℕ) → IsPutTo s pages pages → (x : ℕ) → map.get s.allocated x ≡ None
 none_left s pages h x = elim (lt_or_ge x pages) [ inl l ↦ h.given x l | inr g ↦ h.beyond x g ]
 
-pub empty_out : (s : Layout) → ((x : ℕ) → map.get s.out x ≡ None) → s.out ≡ map.empty
-empty_out s none = maps_same _ _ (λ q. none q ∙ sym (map.get-empty nat_cmp q))
+pub empty_allocated : (s : Layout) → ((x : ℕ) → map.get s.allocated x ≡ None) → s.allocated ≡ map.empty
+empty_allocated s none = maps_same _ _ (λ q. none q ∙ sym (map.get-empty nat_cmp q))

@@ -1,4 +1,4 @@
--- What callers see of pages that are laid out.
+-- What callers see of consistent pages.
 use Rattle.std.proofs.Common.{◌≡◌, ◌≢◌, ℕ, ◌+◌, ◌%◌, ◌^◌, ◌<◌, ◌≤◌, ◌⊎◌, inl, inr, Bool, true, false, cond, eqb, List, [], ◌∷◌, length, set, min, max, Option, Some, None, option_map, refl, sym, ap, subst, ◌∙◌, arith}
 use Rattle.std.proofs.lemmas.List.{get_or_past}
 use Rattle.std.proofs.lemmas.Bool.{cases_eq}
@@ -9,44 +9,44 @@ use Rattle.common_lemmas.proofs.Orders.{lt_or_ge, trichotomy}
 use Rattle.common_lemmas.proofs.Orders.{lt_or_ge, trichotomy}
 use Rattle.common_lemmas.specs.Lists.{times, delete}
 use Rattle.span_lists.specs.declared.spans.PageState.{PageState}
-use Rattle.span_lists.specs.declared.spans.PageState.TheVariants.{Inside, Free, Out}
+use Rattle.span_lists.specs.declared.spans.PageState.TheVariants.{Inside, Free, Allocated}
 use Rattle.span_lists.specs.Buddies.{buddy}
-use Rattle.span_lists.specs.Layout.{Layout, free_at, IsFree, IsOut, IsSpan, Divides, IsMerged, span_start}
-use Rattle.span_lists.specs.Pages.{order_of, out_order_of, mark, state_at, IsLaid, out_of}
+use Rattle.span_lists.specs.Layout.{Layout, free_at, IsFree, IsAllocated, IsSpan, Divides, IsCoalesced, span_start}
+use Rattle.span_lists.specs.inside.Pages.{order_of, allocated_order_of, mark, state_at, IsConsistent, allocated_of}
 use Rattle.common_lemmas.proofs.Options.{some_is}
 use Rattle.common_lemmas.proofs.Maps.{maps_same, get_inserted, get_past_insert, get_removed, get_past_remove}
-use Rattle.span_lists.proofs.Outs.{get-out_of, state_of_out, out_with, out_without, state_same, state_other}
-use Rattle.span_lists.proofs.Laid.{mark_same, free_of_mark, state_within, laid_join}
+use Rattle.span_lists.proofs.AllocatedSpans.{get-allocated_of, state_of_allocated, allocated_with, allocated_without, state_same, state_other}
+use Rattle.span_lists.proofs.Consistent.{mark_same, free_of_mark, state_within, consistent_coalesce_pair}
 use Rattle.common_lemmas.proofs.Powers.{pow_twice}
 use Rattle.span_lists.proofs.Halves.{buddy_ends}
 use Rattle.std.proofs.lemmas.Nat.{pow_pos, pow_below}
 use Rattle.std.proofs.Math.ListN.{length-set}
 
 abbrev pub layout_of : ℕ → List PageState → Lists → Layout
-layout_of pages states lists = record { pages = pages; free = lists.lists; out = out_of states }
+layout_of pages states lists = record { pages = pages; free = lists.lists; allocated = allocated_of states }
 
 -- only an order has a list
-order_of_free : (pages : ℕ) (states : List PageState) (lists : Lists) (free p k : ℕ) → IsLaid pages states lists free → IsFree (layout_of pages states lists) p k → k < 17
+order_of_free : (pages : ℕ) (states : List PageState) (lists : Lists) (free p k : ℕ) → IsConsistent pages states lists free → IsFree (layout_of pages states lists) p k → k < 17
 order_of_free pages states lists free p k h held = elim (lt_or_ge k 17) [
   | inl l ↦ l
   | inr g ↦ absurd (let o = h.orders in let none : times p (list_at lists k) ≡ 0 = ap (times p) (get_or_past lists.lists k [] (omega arith)) in omega (arith, none, held))
 ]
 
-pub state_of_free : (pages : ℕ) (states : List PageState) (lists : Lists) (free p k : ℕ) → IsLaid pages states lists free → IsFree (layout_of pages states lists) p k → state_at states p ≡ Free k
+pub state_of_free : (pages : ℕ) (states : List PageState) (lists : Lists) (free p k : ℕ) → IsConsistent pages states lists free → IsFree (layout_of pages states lists) p k → state_at states p ≡ Free k
 state_of_free pages states lists free p k h held = free_of_mark k _ (subst (λ n. 1 ≤ n) (h.listed k p (order_of_free pages states lists free p k h held)) held)
 
-pub state_out : (pages : ℕ) (states : List PageState) (lists : Lists) (p k : ℕ) → IsOut (layout_of pages states lists) p k → state_at states p ≡ Out k
-state_out pages states lists p k e = state_of_out _ k (sym (get-out_of states p) ∙ e)
+pub state_allocated : (pages : ℕ) (states : List PageState) (lists : Lists) (p k : ℕ) → IsAllocated (layout_of pages states lists) p k → state_at states p ≡ Allocated k
+state_allocated pages states lists p k e = state_of_allocated _ k (sym (get-allocated_of states p) ∙ e)
 
-order_at_span : (pages : ℕ) (states : List PageState) (lists : Lists) (free p k : ℕ) → IsLaid pages states lists free → IsSpan (layout_of pages states lists) p k → order_of (state_at states p) ≡ Some k
+order_at_span : (pages : ℕ) (states : List PageState) (lists : Lists) (free p k : ℕ) → IsConsistent pages states lists free → IsSpan (layout_of pages states lists) p k → order_of (state_at states p) ≡ Some k
 order_at_span pages states lists free p k h (inl held) = ap order_of (state_of_free pages states lists free p k h held)
-order_at_span pages states lists free p k h (inr out) = ap order_of (state_out pages states lists p k out)
+order_at_span pages states lists free p k h (inr allocated) = ap order_of (state_allocated pages states lists p k allocated)
 
-pub is_free_of : (pages : ℕ) (states : List PageState) (lists : Lists) (free p k : ℕ) → IsLaid pages states lists free → k < 17 → state_at states p ≡ Free k → IsFree (layout_of pages states lists) p k
+pub is_free_of : (pages : ℕ) (states : List PageState) (lists : Lists) (free p k : ℕ) → IsConsistent pages states lists free → k < 17 → state_at states p ≡ Free k → IsFree (layout_of pages states lists) p k
 is_free_of pages states lists free p k h small e = (let t = h.listed k p small ∙ ap (mark k) e ∙ mark_same k in omega (arith, t))
 
-is_out_of : (pages : ℕ) (states : List PageState) (lists : Lists) (p k : ℕ) → state_at states p ≡ Out k → IsOut (layout_of pages states lists) p k
-is_out_of pages states lists p k e = get-out_of states p ∙ ap out_order_of e
+is_allocated_of : (pages : ℕ) (states : List PageState) (lists : Lists) (p k : ℕ) → state_at states p ≡ Allocated k → IsAllocated (layout_of pages states lists) p k
+is_allocated_of pages states lists p k e = get-allocated_of states p ∙ ap allocated_order_of e
 
 mark_le_one : (k : ℕ) (v : PageState) → mark k v ≤ 1
 mark_le_one k Inside = omega arith
@@ -55,18 +55,18 @@ mark_le_one k (Free j) = at_most (eqb j k)
     at_most : (b : Bool) → cond b 1 0 ≤ 1
     at_most true = omega arith
     at_most false = omega arith
-mark_le_one k (Out j) = omega arith
+mark_le_one k (Allocated j) = omega arith
 
-span_of_order : (pages : ℕ) (states : List PageState) (lists : Lists) (free p k : ℕ) (v : PageState) → IsLaid pages states lists free → k < 17 → state_at states p ≡ v → order_of v ≡ Some k → IsSpan (layout_of pages states lists) p k
+span_of_order : (pages : ℕ) (states : List PageState) (lists : Lists) (free p k : ℕ) (v : PageState) → IsConsistent pages states lists free → k < 17 → state_at states p ≡ v → order_of v ≡ Some k → IsSpan (layout_of pages states lists) p k
 span_of_order pages states lists free p k Inside h small e o = absurd (let clash : None ≡ Some k = o in cc)
 span_of_order pages states lists free p k (Free j) h small e o = inl (is_free_of pages states lists free p k h small (e ∙ (let s : Some j ≡ Some k = o in let i : j ≡ k = cc in ap (λ z. Free z) i)))
-span_of_order pages states lists free p k (Out j) h small e o = inr (is_out_of pages states lists p k (e ∙ (let s : Some j ≡ Some k = o in let i : j ≡ k = cc in ap (λ z. Out z) i)))
+span_of_order pages states lists free p k (Allocated j) h small e o = inr (is_allocated_of pages states lists p k (e ∙ (let s : Some j ≡ Some k = o in let i : j ≡ k = cc in ap (λ z. Allocated z) i)))
 
 pages_is : (o : Option ℕ) (n : ℕ) → option_map (λ k. 2 ^ k) o ≡ Some n → (k : ℕ) × (o ≡ Some k) × (2 ^ k ≡ n)
 pages_is None n e = absurd (let clash : None ≡ Some n = e in cc)
 pages_is (Some k) n e = (k, refl, (let s : Some (2 ^ k) ≡ Some n = e in cc))
 
-pub divides_of : (pages : ℕ) (states : List PageState) (lists : Lists) (free : ℕ) → IsLaid pages states lists free → Divides (layout_of pages states lists)
+pub divides_of : (pages : ℕ) (states : List PageState) (lists : Lists) (free : ℕ) → IsConsistent pages states lists free → Divides (layout_of pages states lists)
 divides_of pages states lists free h =
     let apart : (p q j k : ℕ) → order_of (state_at states p) ≡ Some j → order_of (state_at states q) ≡ Some k → p < q → p + 2 ^ j ≤ q = (λ p q j k ep eq l.
     elim (lt_or_ge q (p + 2 ^ j)) [
@@ -81,18 +81,18 @@ divides_of pages states lists free h =
           (c.0, c.1, span_of_order pages states lists free c.0 c.1 (state_at states c.0) h (omega arith) refl c.2, c.3, c.4));
       apart = λ p q j k sp sq l. apart p q j k (order_at_span pages states lists free p j h sp) (order_at_span pages states lists free q k h sq) l;
       one = λ p j k sj sk. some_is (order_at_span pages states lists free p j h sj) (order_at_span pages states lists free p k h sk);
-      either = λ p k f. get-out_of states p ∙ ap out_order_of (state_of_free pages states lists free p k h f);
+      either = λ p k f. get-allocated_of states p ∙ ap allocated_order_of (state_of_free pages states lists free p k h f);
       once = λ p k small. subst (λ n. n ≤ 1) (sym (h.listed k p small)) (mark_le_one k (state_at states p));
       blocks = record {
-        within = λ p n e. (let k = pages_is (map.get (out_of states) p) n e in
-            let a = h.cut.spans p k.0 (ap order_of (state_out pages states lists p k.0 k.1)) in
+        within = λ p n e. (let k = pages_is (map.get (allocated_of states) p) n e in
+            let a = h.cut.spans p k.0 (ap order_of (state_allocated pages states lists p k.0 k.1)) in
             let pos = pow_pos k.0 in
             let w = a.within in
             let kn = k.2 in
             (omega arith, omega arith));
-        disjoint = λ p q m n ep eq d. (let j = pages_is (map.get (out_of states) p) m ep in let k = pages_is (map.get (out_of states) q) n eq in
-            let at_p = ap order_of (state_out pages states lists p j.0 j.1) in
-            let at_q = ap order_of (state_out pages states lists q k.0 k.1) in
+        disjoint = λ p q m n ep eq d. (let j = pages_is (map.get (allocated_of states) p) m ep in let k = pages_is (map.get (allocated_of states) q) n eq in
+            let at_p = ap order_of (state_allocated pages states lists p j.0 j.1) in
+            let at_q = ap order_of (state_allocated pages states lists q k.0 k.1) in
             let jm = j.2 in let kn = k.2 in
             elim (trichotomy p q) [
               | inl e ↦ absurd (d e)
@@ -102,137 +102,137 @@ divides_of pages states lists free h =
       };
     }
 
-pub merged_of : (pages : ℕ) (states : List PageState) (lists : Lists) (free : ℕ) → IsLaid pages states lists free → IsMerged (layout_of pages states lists)
-merged_of pages states lists free h = λ p k small f g. h.merged p k small (state_of_free pages states lists free p k h f) (state_of_free pages states lists free (buddy p k) k h g)
+pub coalesced_of : (pages : ℕ) (states : List PageState) (lists : Lists) (free : ℕ) → IsConsistent pages states lists free → IsCoalesced (layout_of pages states lists)
+coalesced_of pages states lists free h = λ p k small f g. h.coalesced p k small (state_of_free pages states lists free p k h f) (state_of_free pages states lists free (buddy p k) k h g)
 
 -- ---- the value that each step leaves
 
-pub pulled : (pages : ℕ) (states : List PageState) (lists lists' : Lists) (free x k : ℕ) (s : Layout) → IsLaid pages states lists free → IsFree (layout_of pages states lists) x k → lists' ≡ with_list lists k (delete x (list_at lists k)) → layout_of pages states lists ≡ s
-    → layout_of pages (set states x (Out k)) lists' ≡ record s { free = set s.free k (delete x (free_at s k)); out = map.insert s.out x k }
-pulled pages states lists lists' free x k s h held e view =
+pub allocated_as_it_is : (pages : ℕ) (states : List PageState) (lists lists' : Lists) (free x k : ℕ) (s : Layout) → IsConsistent pages states lists free → IsFree (layout_of pages states lists) x k → lists' ≡ with_list lists k (delete x (list_at lists k)) → layout_of pages states lists ≡ s
+    → layout_of pages (set states x (Allocated k)) lists' ≡ record s { free = set s.free k (delete x (free_at s k)); allocated = map.insert s.allocated x k }
+allocated_as_it_is pages states lists lists' free x k s h held e view =
     let was = state_of_free pages states lists free x k h held in
     let inside = state_within states x (λ q. (let clash : Inside ≡ Free k = sym q ∙ was in cc)) in
-    ap (λ l. layout_of pages (set states x (Out k)) l) e
-    ∙ ap (λ o. let r : Layout = record { pages = pages; free = set lists.lists k (delete x (list_at lists k)); out = o } in r)
-    (out_with states (set states x (Out k)) x k (state_same states x x (Out k) inside refl) (λ y n. ap out_order_of (state_other states x y (Out k) n)))
-    ∙ ap (λ (t : Layout). let r : Layout = record t { free = set t.free k (delete x (free_at t k)); out = map.insert t.out x k } in r) view
+    ap (λ l. layout_of pages (set states x (Allocated k)) l) e
+    ∙ ap (λ o. let r : Layout = record { pages = pages; free = set lists.lists k (delete x (list_at lists k)); allocated = o } in r)
+    (allocated_with states (set states x (Allocated k)) x k (state_same states x x (Allocated k) inside refl) (λ y n. ap allocated_order_of (state_other states x y (Allocated k) n)))
+    ∙ ap (λ (t : Layout). let r : Layout = record t { free = set t.free k (delete x (free_at t k)); allocated = map.insert t.allocated x k } in r) view
 
-pub released : (pages : ℕ) (states : List PageState) (lists lists' : Lists) (x k : ℕ) (s : Layout) → IsOut (layout_of pages states lists) x k → lists' ≡ with_list lists k (x ∷ list_at lists k) → layout_of pages states lists ≡ s
-    → layout_of pages (set states x (Free k)) lists' ≡ record s { free = set s.free k (x ∷ free_at s k); out = map.remove s.out x }
-released pages states lists lists' x k s out e view =
-    let was = state_out pages states lists x k out in
-    let inside = state_within states x (λ q. (let clash : Inside ≡ Out k = sym q ∙ was in cc)) in
+pub released : (pages : ℕ) (states : List PageState) (lists lists' : Lists) (x k : ℕ) (s : Layout) → IsAllocated (layout_of pages states lists) x k → lists' ≡ with_list lists k (x ∷ list_at lists k) → layout_of pages states lists ≡ s
+    → layout_of pages (set states x (Free k)) lists' ≡ record s { free = set s.free k (x ∷ free_at s k); allocated = map.remove s.allocated x }
+released pages states lists lists' x k s allocated e view =
+    let was = state_allocated pages states lists x k allocated in
+    let inside = state_within states x (λ q. (let clash : Inside ≡ Allocated k = sym q ∙ was in cc)) in
     ap (λ l. layout_of pages (set states x (Free k)) l) e
-    ∙ ap (λ o. let r : Layout = record { pages = pages; free = set lists.lists k (x ∷ list_at lists k); out = o } in r)
-    (out_without states (set states x (Free k)) x (ap out_order_of (state_same states x x (Free k) inside refl)) (λ y n. ap out_order_of (state_other states x y (Free k) n)))
-    ∙ ap (λ (t : Layout). let r : Layout = record t { free = set t.free k (x ∷ free_at t k); out = map.remove t.out x } in r) view
+    ∙ ap (λ o. let r : Layout = record { pages = pages; free = set lists.lists k (x ∷ list_at lists k); allocated = o } in r)
+    (allocated_without states (set states x (Free k)) x (ap allocated_order_of (state_same states x x (Free k) inside refl)) (λ y n. ap allocated_order_of (state_other states x y (Free k) n)))
+    ∙ ap (λ (t : Layout). let r : Layout = record t { free = set t.free k (x ∷ free_at t k); allocated = map.remove t.allocated x } in r) view
 
-pub halved : (pages : ℕ) (states : List PageState) (lists lists' : Lists) (free x k u : ℕ) (s : Layout) → IsLaid pages states lists free
-    → IsOut (layout_of pages states lists) x (k + 1) → u ≡ x + 2 ^ k → lists' ≡ with_list lists k (u ∷ list_at lists k) → layout_of pages states lists ≡ s
-    → layout_of pages (set (set states x (Out k)) u (Free k)) lists' ≡ record s { free = set s.free k (u ∷ free_at s k); out = map.insert s.out x k }
-halved pages states lists lists' free x k u s h out ue e view =
-    let was = state_out pages states lists x (k + 1) out in
-    let inside = state_within states x (λ q. (let clash : Inside ≡ Out (k + 1) = sym q ∙ was in cc)) in
+pub split : (pages : ℕ) (states : List PageState) (lists lists' : Lists) (free x k u : ℕ) (s : Layout) → IsConsistent pages states lists free
+    → IsAllocated (layout_of pages states lists) x (k + 1) → u ≡ x + 2 ^ k → lists' ≡ with_list lists k (u ∷ list_at lists k) → layout_of pages states lists ≡ s
+    → layout_of pages (set (set states x (Allocated k)) u (Free k)) lists' ≡ record s { free = set s.free k (u ∷ free_at s k); allocated = map.insert s.allocated x k }
+split pages states lists lists' free x k u s h allocated ue e view =
+    let was = state_allocated pages states lists x (k + 1) allocated in
+    let inside = state_within states x (λ q. (let clash : Inside ≡ Allocated (k + 1) = sym q ∙ was in cc)) in
     let a = h.cut.spans x (k + 1) (ap order_of was) in
     let pos = pow_pos k in
     let wider = pow_below k (k + 1) (omega arith) in
     let ux : u ≢ x = (λ q. absurd (omega arith)) in
-    let none : out_order_of (state_at states u) ≡ None = none_out (state_at states u) (a.alone u (omega arith) (omega arith)) in
+    let none : allocated_order_of (state_at states u) ≡ None = none_allocated (state_at states u) (a.alone u (omega arith) (omega arith)) in
     let within = a.within in
     let len = h.states_len in
-    let mid_len : length (set states x (Out k)) ≡ length states = length-set states x (Out k) in
-    ap (λ l. layout_of pages (set (set states x (Out k)) u (Free k)) l) e
-    ∙ ap (λ o. let r : Layout = record { pages = pages; free = set lists.lists k (u ∷ list_at lists k); out = o } in r)
-    (out_with states (set (set states x (Out k)) u (Free k)) x k (state_other _ u x (Free k) (λ q. ux (sym q)) ∙ state_same states x x (Out k) inside refl)
+    let mid_len : length (set states x (Allocated k)) ≡ length states = length-set states x (Allocated k) in
+    ap (λ l. layout_of pages (set (set states x (Allocated k)) u (Free k)) l) e
+    ∙ ap (λ o. let r : Layout = record { pages = pages; free = set lists.lists k (u ∷ list_at lists k); allocated = o } in r)
+    (allocated_with states (set (set states x (Allocated k)) u (Free k)) x k (state_other _ u x (Free k) (λ q. ux (sym q)) ∙ state_same states x x (Allocated k) inside refl)
     (λ y n. elim (cases_eq y u) [
-      | inl yu ↦ ap out_order_of (state_same _ u y (Free k) (omega arith) yu) ∙ sym (ap (λ z. out_order_of (state_at states z)) yu ∙ none)
-      | inr nu ↦ ap out_order_of (state_other _ u y (Free k) nu ∙ state_other states x y (Out k) n)
+      | inl yu ↦ ap allocated_order_of (state_same _ u y (Free k) (omega arith) yu) ∙ sym (ap (λ z. allocated_order_of (state_at states z)) yu ∙ none)
+      | inr nu ↦ ap allocated_order_of (state_other _ u y (Free k) nu ∙ state_other states x y (Allocated k) n)
     ]))
-    ∙ ap (λ (t : Layout). let r : Layout = record t { free = set t.free k (u ∷ free_at t k); out = map.insert t.out x k } in r) view
+    ∙ ap (λ (t : Layout). let r : Layout = record t { free = set t.free k (u ∷ free_at t k); allocated = map.insert t.allocated x k } in r) view
   where
-    none_out : (v : PageState) → order_of v ≡ None → out_order_of v ≡ None
-    none_out Inside q = refl
-    none_out (Free j) q = refl
-    none_out (Out j) q = absurd (let clash : Some j ≡ None = q in cc)
+    none_allocated : (v : PageState) → order_of v ≡ None → allocated_order_of v ≡ None
+    none_allocated Inside q = refl
+    none_allocated (Free j) q = refl
+    none_allocated (Allocated j) q = absurd (let clash : Some j ≡ None = q in cc)
 
--- a span that is out has an order, and its first page is one of the pages and in no list
-pub out_within : (pages : ℕ) (states : List PageState) (lists : Lists) (free p k : ℕ) → IsLaid pages states lists free → IsOut (layout_of pages states lists) p k → (k < 17) × (p < pages)
-out_within pages states lists free p k h out =
-    let a = h.cut.spans p k (ap order_of (state_out pages states lists p k out)) in
+-- an allocated span has an order, and its first page is one of the pages and in no list
+pub allocated_within : (pages : ℕ) (states : List PageState) (lists : Lists) (free p k : ℕ) → IsConsistent pages states lists free → IsAllocated (layout_of pages states lists) p k → (k < 17) × (p < pages)
+allocated_within pages states lists free p k h allocated =
+    let a = h.cut.spans p k (ap order_of (state_allocated pages states lists p k allocated)) in
     let w = a.within in let o = a.order in let pos = pow_pos k in
     (omega arith, omega arith)
 
-pub none_listed : (pages : ℕ) (states : List PageState) (lists : Lists) (free p k : ℕ) → IsLaid pages states lists free → IsOut (layout_of pages states lists) p k → (j : ℕ) → j < length lists.lists → times p (list_at lists j) ≡ 0
-none_listed pages states lists free p k h out j l = h.listed j p (let o = h.orders in omega arith) ∙ ap (mark j) (state_out pages states lists p k out)
+pub none_listed : (pages : ℕ) (states : List PageState) (lists : Lists) (free p k : ℕ) → IsConsistent pages states lists free → IsAllocated (layout_of pages states lists) p k → (j : ℕ) → j < length lists.lists → times p (list_at lists j) ≡ 0
+none_listed pages states lists free p k h allocated j l = h.listed j p (let o = h.orders in omega arith) ∙ ap (mark j) (state_allocated pages states lists p k allocated)
 
 -- a map in which two spans give way to one
-pub out_joined : (states states' : List PageState) (x b lower upper k : ℕ) → state_at states' lower ≡ Out k → state_at states' upper ≡ Inside → ((y : ℕ) → y ≢ lower → y ≢ upper → state_at states' y ≡ state_at states y)
-    → ((lower ≡ x) × (upper ≡ b)) ⊎ ((lower ≡ b) × (upper ≡ x)) → out_of states' ≡ map.insert (map.remove (map.remove (out_of states) x) b) lower k
-out_joined states states' x b lower upper k low up others ends = maps_same _ _ (λ q. get-out_of states' q ∙
+pub allocated_coalesced : (states states' : List PageState) (x b lower upper k : ℕ) → state_at states' lower ≡ Allocated k → state_at states' upper ≡ Inside → ((y : ℕ) → y ≢ lower → y ≢ upper → state_at states' y ≡ state_at states y)
+    → ((lower ≡ x) × (upper ≡ b)) ⊎ ((lower ≡ b) × (upper ≡ x)) → allocated_of states' ≡ map.insert (map.remove (map.remove (allocated_of states) x) b) lower k
+allocated_coalesced states states' x b lower upper k low up others ends = maps_same _ _ (λ q. get-allocated_of states' q ∙
     (elim (cases_eq q lower) [
-      | inl e ↦ ap (λ z. out_order_of (state_at states' z)) e ∙ ap out_order_of low ∙ sym (get_inserted _ lower k q e)
+      | inl e ↦ ap (λ z. allocated_order_of (state_at states' z)) e ∙ ap allocated_order_of low ∙ sym (get_inserted _ lower k q e)
       | inr nl ↦ elim (cases_eq q upper) [
-        | inl e ↦ ap (λ z. out_order_of (state_at states' z)) e ∙ ap out_order_of up ∙ sym (get_past_insert _ lower k q nl ∙ gone q e)
-        | inr nu ↦ ap out_order_of (others q nl nu) ∙ sym (get-out_of states q) ∙ sym (get_past_insert _ lower k q nl ∙ stays q nl nu)
+        | inl e ↦ ap (λ z. allocated_order_of (state_at states' z)) e ∙ ap allocated_order_of up ∙ sym (get_past_insert _ lower k q nl ∙ gone q e)
+        | inr nu ↦ ap allocated_order_of (others q nl nu) ∙ sym (get-allocated_of states q) ∙ sym (get_past_insert _ lower k q nl ∙ stays q nl nu)
       ]
     ]))
   where
-    gone : (q : ℕ) → q ≡ upper → map.get (map.remove (map.remove (out_of states) x) b) q ≡ None
+    gone : (q : ℕ) → q ≡ upper → map.get (map.remove (map.remove (allocated_of states) x) b) q ≡ None
     gone q e = elim (cases_eq q b) [
-      | inl qb ↦ get_removed (map.remove (out_of states) x) b q qb
-      | inr nb ↦ get_past_remove (map.remove (out_of states) x) b q nb ∙ get_removed (out_of states) x q (elim ends [ inl p ↦ absurd (nb (e ∙ p.1)) | inr p ↦ e ∙ p.1 ])
+      | inl qb ↦ get_removed (map.remove (allocated_of states) x) b q qb
+      | inr nb ↦ get_past_remove (map.remove (allocated_of states) x) b q nb ∙ get_removed (allocated_of states) x q (elim ends [ inl p ↦ absurd (nb (e ∙ p.1)) | inr p ↦ e ∙ p.1 ])
     ]
 
-    stays : (q : ℕ) → q ≢ lower → q ≢ upper → map.get (map.remove (map.remove (out_of states) x) b) q ≡ map.get (out_of states) q
+    stays : (q : ℕ) → q ≢ lower → q ≢ upper → map.get (map.remove (map.remove (allocated_of states) x) b) q ≡ map.get (allocated_of states) q
     stays q nl nu =
         let nb : q ≢ b = (λ e. elim ends [ inl p ↦ nu (e ∙ sym p.1) | inr p ↦ nl (e ∙ sym p.0) ]) in
         let nx : q ≢ x = (λ e. elim ends [ inl p ↦ nl (e ∙ sym p.0) | inr p ↦ nu (e ∙ sym p.1) ]) in
-        get_past_remove (map.remove (out_of states) x) b q nb ∙ get_past_remove (out_of states) x q nx
+        get_past_remove (map.remove (allocated_of states) x) b q nb ∙ get_past_remove (allocated_of states) x q nx
 
--- the pages after two buddies are joined, and the value that callers see
-pub joined : (pages : ℕ) (states : List PageState) (lists : Lists) (free x k other lower upper : ℕ) (s : Layout) → IsLaid pages states lists free → k < 16
-    → IsOut (layout_of pages states lists) x k → IsOut (layout_of pages states lists) (buddy x k) k → other ≡ buddy x k → lower ≡ min x other → upper ≡ max x other → layout_of pages states lists ≡ s
-    → (lower < pages) × (upper < pages) × (lower ≡ span_start x (k + 1)) × IsLaid pages (set (set states upper Inside) lower (Out (k + 1))) lists free
-    × (layout_of pages (set (set states upper Inside) lower (Out (k + 1))) lists ≡ record s { out = map.insert (map.remove (map.remove s.out x) (buddy x k)) lower (k + 1) })
-joined pages states lists free x k other lower upper s h small ox ob oe le ue view =
-    let sx = state_out pages states lists x k ox in
-    let sb = state_out pages states lists (buddy x k) k ob in
+-- the pages after two buddies coalesced, and the value that callers see
+pub pair_coalesced : (pages : ℕ) (states : List PageState) (lists : Lists) (free x k other lower upper : ℕ) (s : Layout) → IsConsistent pages states lists free → k < 16
+    → IsAllocated (layout_of pages states lists) x k → IsAllocated (layout_of pages states lists) (buddy x k) k → other ≡ buddy x k → lower ≡ min x other → upper ≡ max x other → layout_of pages states lists ≡ s
+    → (lower < pages) × (upper < pages) × (lower ≡ span_start x (k + 1)) × IsConsistent pages (set (set states upper Inside) lower (Allocated (k + 1))) lists free
+    × (layout_of pages (set (set states upper Inside) lower (Allocated (k + 1))) lists ≡ record s { allocated = map.insert (map.remove (map.remove s.allocated x) (buddy x k)) lower (k + 1) })
+pair_coalesced pages states lists free x k other lower upper s h small ox ob oe le ue view =
+    let sx = state_allocated pages states lists x k ox in
+    let sb = state_allocated pages states lists (buddy x k) k ob in
     let aligned = (h.cut.spans x k (ap order_of sx)).aligned in
     let ends = buddy_ends x k aligned in
     let low : lower ≡ min x (buddy x k) = le ∙ ap (λ n. min x n) oe in
     let high : upper ≡ max x (buddy x k) = ue ∙ ap (λ n. max x n) oe in
     let step : upper ≡ lower + 2 ^ k = high ∙ ends.1 ∙ ap (λ n. n + 2 ^ k) (sym low) in
     let which : ((lower ≡ x) × (upper ≡ buddy x k)) ⊎ ((lower ≡ buddy x k) × (upper ≡ x)) = elim ends.3 [ inl p ↦ inl (low ∙ p.0, high ∙ p.1) | inr p ↦ inr (low ∙ p.0, high ∙ p.1) ] in
-    let s_low : state_at states lower ≡ Out k = elim which [ inl p ↦ ap (state_at states) p.0 ∙ sx | inr p ↦ ap (state_at states) p.0 ∙ sb ] in
-    let s_high : state_at states upper ≡ Out k = elim which [ inl p ↦ ap (state_at states) p.1 ∙ sb | inr p ↦ ap (state_at states) p.1 ∙ sx ] in
-    let after = laid_join pages states lists free lower k h small (subst (λ n. n % 2 ^ (k + 1) ≡ 0) (sym low) ends.0) s_low (ap (state_at states) (sym step) ∙ s_high) in
-    let states' = set (set states upper Inside) lower (Out (k + 1)) in
+    let s_low : state_at states lower ≡ Allocated k = elim which [ inl p ↦ ap (state_at states) p.0 ∙ sx | inr p ↦ ap (state_at states) p.0 ∙ sb ] in
+    let s_high : state_at states upper ≡ Allocated k = elim which [ inl p ↦ ap (state_at states) p.1 ∙ sb | inr p ↦ ap (state_at states) p.1 ∙ sx ] in
+    let after = consistent_coalesce_pair pages states lists free lower k h small (subst (λ n. n % 2 ^ (k + 1) ≡ 0) (sym low) ends.0) s_low (ap (state_at states) (sym step) ∙ s_high) in
+    let states' = set (set states upper Inside) lower (Allocated (k + 1)) in
     let pos = pow_pos k in let two = pow_twice k in let within = after.0 in let len = h.states_len in
     let apart : lower ≢ upper = (λ e. absurd (omega arith)) in
     let mid_len : length (set states upper Inside) ≡ length states = length-set states upper Inside in
-    let now : state_at states' lower ≡ Out (k + 1) = state_same (set states upper Inside) lower lower (Out (k + 1)) (omega arith) refl in
-    let now_u : state_at states' upper ≡ Inside = state_other (set states upper Inside) lower upper (Out (k + 1)) (λ e. apart (sym e)) ∙ state_same states upper upper Inside (omega arith) refl in (
+    let now : state_at states' lower ≡ Allocated (k + 1) = state_same (set states upper Inside) lower lower (Allocated (k + 1)) (omega arith) refl in
+    let now_u : state_at states' upper ≡ Inside = state_other (set states upper Inside) lower upper (Allocated (k + 1)) (λ e. apart (sym e)) ∙ state_same states upper upper Inside (omega arith) refl in (
       omega arith,
       omega arith,
       low ∙ ends.2,
-      subst (λ u. IsLaid pages (set (set states u Inside) lower (Out (k + 1))) lists free) (sym step) after.1,
-      ap (λ o. let r : Layout = record { pages = pages; free = lists.lists; out = o } in r)
-          (out_joined states states' x (buddy x k) lower upper (k + 1) now now_u (λ y nl nu. state_other (set states upper Inside) lower y (Out (k + 1)) nl ∙ state_other states upper y Inside nu) which)
-          ∙ ap (λ (t : Layout). let r : Layout = record t { out = map.insert (map.remove (map.remove t.out x) (buddy x k)) lower (k + 1) } in r) view,
+      subst (λ u. IsConsistent pages (set (set states u Inside) lower (Allocated (k + 1))) lists free) (sym step) after.1,
+      ap (λ o. let r : Layout = record { pages = pages; free = lists.lists; allocated = o } in r)
+          (allocated_coalesced states states' x (buddy x k) lower upper (k + 1) now now_u (λ y nl nu. state_other (set states upper Inside) lower y (Allocated (k + 1)) nl ∙ state_other states upper y Inside nu) which)
+          ∙ ap (λ (t : Layout). let r : Layout = record t { allocated = map.insert (map.remove (map.remove t.allocated x) (buddy x k)) lower (k + 1) } in r) view,
     )
 
--- a buddy goes out and the two are joined
-pub absorbed : (out : map.FinMap nat_cmp ℕ) (x b k to n : ℕ) → map.get out b ≡ None → map.insert (map.remove (map.remove (map.insert out b k) x) b) to n ≡ map.insert (map.remove out x) to n
-absorbed out x b k to n none = maps_same _ _ (λ q. elim (cases_eq q to) [
+-- a buddy is allocated and the two coalesce
+pub coalesced_once : (allocated : map.FinMap nat_cmp ℕ) (x b k to n : ℕ) → map.get allocated b ≡ None → map.insert (map.remove (map.remove (map.insert allocated b k) x) b) to n ≡ map.insert (map.remove allocated x) to n
+coalesced_once allocated x b k to n none = maps_same _ _ (λ q. elim (cases_eq q to) [
   | inl e ↦ get_inserted _ to n q e ∙ sym (get_inserted _ to n q e)
   | inr nt ↦ get_past_insert _ to n q nt ∙ (elim (cases_eq q b) [
     | inl qb ↦ get_removed _ b q qb ∙ sym (elim (cases_eq q x) [
-      | inl qx ↦ get_removed out x q qx
-      | inr nx ↦ get_past_remove out x q nx ∙ ap (map.get out) qb ∙ none
+      | inl qx ↦ get_removed allocated x q qx
+      | inr nx ↦ get_past_remove allocated x q nx ∙ ap (map.get allocated) qb ∙ none
     ])
     | inr nb ↦ get_past_remove _ b q nb ∙ (elim (cases_eq q x) [
-      | inl qx ↦ get_removed _ x q qx ∙ sym (get_removed out x q qx)
-      | inr nx ↦ get_past_remove _ x q nx ∙ get_past_insert out b k q nb ∙ sym (get_past_remove out x q nx)
+      | inl qx ↦ get_removed _ x q qx ∙ sym (get_removed allocated x q qx)
+      | inr nx ↦ get_past_remove _ x q nx ∙ get_past_insert allocated b k q nb ∙ sym (get_past_remove allocated x q nx)
     ])
   ])
       ∙ sym (get_past_insert _ to n q nt)

@@ -1,4 +1,3 @@
 pub mod Buddies
 pub mod Layout
-pub mod Pages
-pub mod Steps
+pub mod inside

@@ -32,20 +32,20 @@ ghost use Rattle.span_lists.specs.Layout.{
   Layout,
   free_at,
   IsFree,
-  IsOut,
+  IsAllocated,
   Divides,
-  IsMerged,
+  IsCoalesced,
   free_pages,
   HasNone,
   TakesFrom,
-  MergesInto,
+  CoalescesInto,
   span_start,
   IsFirstOf,
   IsLargest,
   IsGreatest,
   IsBlocked,
 };
-ghost use Rattle.span_lists.specs.Steps.{IsHalvedTo, IsMergedTo};
+ghost use Rattle.span_lists.specs.inside.Steps.{IsSplitTo, IsCoalescedTo};
 
 use index_lists::IndexLists;
 use std::alloc::{AllocError, Global};
@@ -59,7 +59,7 @@ const GREATEST_ORDER: u8 = 16;
 pub enum PageState {
     Inside,
     Free(u8),
-    Out(u8),
+    Allocated(u8),
 }
 
 /// The spans of a range of pages.
@@ -78,11 +78,11 @@ impl Model for Spans {
 
     ghost coded = { layout_code };
 
-    ghost use Rattle.span_lists.specs.Pages.{out_of, IsLaid};
+    ghost use Rattle.span_lists.specs.inside.Pages.{allocated_of, IsConsistent};
 
-    ghost view = { λ a. record { pages = a.pages; free = a.lists.lists; out = out_of a.states.items } };
+    ghost view = { λ a. record { pages = a.pages; free = a.lists.lists; allocated = allocated_of a.states.items } };
 
-    ghost invariant = { λ a. IsLaid a.pages a.states.items a.lists a.free };
+    ghost invariant = { λ a. IsConsistent a.pages a.states.items a.lists a.free };
 }
 
 impl Spans {
@@ -92,12 +92,12 @@ impl Spans {
         requires least { 1280 ≤ pages }
         requires most { pages ≤ 65536 }
         ensures pages { IfOk result (λ spans. spans.pages ≡ pages) }
-        ensures none_out { IfOk result (λ spans. spans.out ≡ map.empty) }
+        ensures none_allocated { IfOk result (λ spans. spans.allocated ≡ map.empty) }
         ensures greatest { IfOk result (λ spans. (first order : ℕ) → IsFree spans first order → IsGreatest pages first order) }
         ensures divided { IfOk result Divides }
-        ensures merged { IfOk result IsMerged }
+        ensures coalesced { IfOk result IsCoalesced }
     {
-        let mut spans = Spans::all_out(alloc, pages)?;
+        let mut spans = Spans::all_allocated(alloc, pages)?;
         for page in 0..pages {
             spans.put(page, 0);
         }
@@ -107,42 +107,42 @@ impl Spans {
     /// What holds of the spans at each time.
     pub fn facts(&self)
         ensures divided { Divides self.now }
-        ensures merged { IsMerged self.now }
+        ensures coalesced { IsCoalesced self.now }
         ensures blocked { (order : ℕ) → order ≤ 16 → HasNone self.now order → IsBlocked self.now order }
     {
         let _ = &self.states;
     }
 
-    /// Takes a span of the order out, and answers its first page.
+    /// Allocates a span of the order, and answers its first page.
     pub fn take(&mut self, order: u8) -> Option<u32>
         requires { order ≤ 16 }
         ensures none { IsNone result ↔ HasNone self.old order }
         ensures unchanged { IfNone result (self.new ≡ self.old) }
         ensures blocked { IfNone result (IsBlocked self.old order) }
-        ensures was_free { IfSome result (λ first. map.get self.old.out first ≡ None) }
-        ensures out { IfSome result (λ first. self.new.out ≡ map.insert self.old.out first order) }
+        ensures was_free { IfSome result (λ first. map.get self.old.allocated first ≡ None) }
+        ensures allocated { IfSome result (λ first. self.new.allocated ≡ map.insert self.old.allocated first order) }
         ensures free { IfSome result (TakesFrom self.old self.new order) }
         ensures pages { self.new.pages ≡ self.old.pages }
         ensures divided { Divides self.new }
-        ensures merged { IsMerged self.new }
+        ensures coalesced { IsCoalesced self.new }
     {
         let (first, from) = self.find(order)?;
-        self.pull(first, from);
-        self.halve_down(first, from, order);
+        self.allocate(first, from);
+        self.split_down(first, from, order);
         Some(first)
     }
 
-    /// Gives a span back that is out.
+    /// Gives an allocated span back.
     pub fn put(&mut self, first: u32, order: u8)
-        requires { IsOut self.old first order }
-        ensures out { self.new.out ≡ map.remove self.old.out first }
-        ensures free { MergesInto self.old self.new first order }
+        requires { IsAllocated self.old first order }
+        ensures allocated { self.new.allocated ≡ map.remove self.old.allocated first }
+        ensures free { CoalescesInto self.old self.new first order }
         ensures pages { self.new.pages ≡ self.old.pages }
         ensures divided { Divides self.new }
-        ensures merged { IsMerged self.new }
+        ensures coalesced { IsCoalesced self.new }
     {
         self.facts();
-        let (at, to) = self.merge(first, order);
+        let (at, to) = self.coalesce(first, order);
         self.release(at, to);
     }
 
@@ -151,7 +151,7 @@ impl Spans {
         ensures none { IsNone result ↔ HasNone self.now 0 }
         ensures some { IfSome result (IsLargest self.now) }
         ensures divided { Divides self.now }
-        ensures merged { IsMerged self.now }
+        ensures coalesced { IsCoalesced self.now }
     {
         let mut above = GREATEST_ORDER + 1;
         while above > 0 {
@@ -172,14 +172,14 @@ impl Spans {
         self.free
     }
 
-    /// Each page is a span that is out.
-    fn all_out(alloc: Global, pages: u32) -> Result<Spans, AllocError>
+    /// Each page is an allocated span.
+    fn all_allocated(alloc: Global, pages: u32) -> Result<Spans, AllocError>
         requires { pages ≤ 65536 }
         ensures pages { IfOk result (λ spans. spans.pages ≡ pages) }
-        ensures each { IfOk result (λ spans. (page : ℕ) → page < pages → map.get spans.out page ≡ Some 0) }
-        ensures beyond { IfOk result (λ spans. (page : ℕ) → pages ≤ page → map.get spans.out page ≡ None) }
+        ensures each { IfOk result (λ spans. (page : ℕ) → page < pages → map.get spans.allocated page ≡ Some 0) }
+        ensures beyond { IfOk result (λ spans. (page : ℕ) → pages ≤ page → map.get spans.allocated page ≡ None) }
         ensures divided { IfOk result Divides }
-        ensures merged { IfOk result IsMerged }
+        ensures coalesced { IfOk result IsCoalesced }
     {
         let states = single_pages(alloc, pages)?;
         let lists = IndexLists::new(alloc, pages, GREATEST_ORDER as u32 + 1)?;
@@ -191,98 +191,98 @@ impl Spans {
         })
     }
 
-    /// Takes a free span out as it is.
-    fn pull(&mut self, first: u32, order: u8)
+    /// Allocates a free span as it is.
+    fn allocate(&mut self, first: u32, order: u8)
         requires order { order < 17 }
         requires free { IsFree self.old first order }
         ensures moves { self.new ≡ record self.old {
           free = slice_set self.old.free order (delete first (free_at self.old order));
-          out = map.insert self.old.out first order;
+          allocated = map.insert self.old.allocated first order;
         } }
-        ensures was_free { map.get self.old.out first ≡ None }
+        ensures was_free { map.get self.old.allocated first ≡ None }
         ensures divided { Divides self.new }
-        ensures merged { IsMerged self.new }
+        ensures coalesced { IsCoalesced self.new }
     {
         self.lists.remove(order as u32, first);
-        self.states[first as usize] = PageState::Out(order);
+        self.states[first as usize] = PageState::Allocated(order);
         self.free -= span_pages(order);
     }
 
-    /// Makes a span that is out free, where its buddy is not.
+    /// Makes an allocated span free, where its buddy is not.
     fn release(&mut self, first: u32, order: u8)
         requires order { order < 17 }
-        requires out { IsOut self.old first order }
+        requires allocated { IsAllocated self.old first order }
         requires alone { order < 16 → ¬ IsFree self.old (buddy first order) order }
         ensures moves { self.new ≡ record self.old {
           free = slice_set self.old.free order (first ∷ free_at self.old order);
-          out = map.remove self.old.out first;
+          allocated = map.remove self.old.allocated first;
         } }
         ensures divided { Divides self.new }
-        ensures merged { IsMerged self.new }
+        ensures coalesced { IsCoalesced self.new }
     {
         self.lists.push_front(order as u32, first);
         self.states[first as usize] = PageState::Free(order);
         self.free += span_pages(order);
     }
 
-    /// Halves a span that is out, to one of the order, and makes its upper half free.
-    fn halve(&mut self, first: u32, order: u8)
-        requires { IsOut self.old first (order + 1) }
+    /// Splits an allocated span into two of the order, of which the upper one is free.
+    fn split(&mut self, first: u32, order: u8)
+        requires { IsAllocated self.old first (order + 1) }
         ensures moves { self.new ≡ record self.old {
           free = slice_set self.old.free order ((first + 2 ^ order) ∷ free_at self.old order);
-          out = map.insert self.old.out first order;
+          allocated = map.insert self.old.allocated first order;
         } }
         ensures divided { Divides self.new }
-        ensures merged { IsMerged self.new }
+        ensures coalesced { IsCoalesced self.new }
     {
         self.facts();
         let upper = first + span_pages(order);
         self.lists.push_front(order as u32, upper);
-        self.states[first as usize] = PageState::Out(order);
+        self.states[first as usize] = PageState::Allocated(order);
         self.states[upper as usize] = PageState::Free(order);
         self.free += span_pages(order);
     }
 
-    /// Joins a span that is out with its buddy, which is out too, and answers the first page of both.
-    fn join(&mut self, first: u32, order: u8) -> u32
+    /// Coalesces two allocated buddies, and answers their first page.
+    fn coalesce_pair(&mut self, first: u32, order: u8) -> u32
         requires order { order < 16 }
-        requires out { IsOut self.old first order }
-        requires buddy { IsOut self.old (buddy first order) order }
+        requires allocated { IsAllocated self.old first order }
+        requires buddy { IsAllocated self.old (buddy first order) order }
         ensures first { result ≡ span_start first (order + 1) }
         ensures moves { self.new ≡ record self.old {
-          out = map.insert (map.remove (map.remove self.old.out first) (buddy first order)) result (order + 1);
+          allocated = map.insert (map.remove (map.remove self.old.allocated first) (buddy first order)) result (order + 1);
         } }
         ensures divided { Divides self.new }
-        ensures merged { IsMerged self.new }
+        ensures coalesced { IsCoalesced self.new }
     {
         let other = buddy_of(first, order);
         let lower = first.min(other);
         let upper = first.max(other);
         self.states[upper as usize] = PageState::Inside;
-        self.states[lower as usize] = PageState::Out(order + 1);
+        self.states[lower as usize] = PageState::Allocated(order + 1);
         lower
     }
 
-    /// Joins a span that is out with its buddy, which is free.
-    fn absorb(&mut self, first: u32, order: u8) -> u32
+    /// Coalesces an allocated span with its buddy, which is free.
+    fn coalesce_once(&mut self, first: u32, order: u8) -> u32
         requires order { order < 16 }
-        requires out { IsOut self.old first order }
+        requires allocated { IsAllocated self.old first order }
         requires buddy { IsFree self.old (buddy first order) order }
         ensures first { result ≡ span_start first (order + 1) }
         ensures moves { self.new ≡ record self.old {
           free = slice_set self.old.free order (delete (buddy first order) (free_at self.old order));
-          out = map.insert (map.remove self.old.out first) result (order + 1);
+          allocated = map.insert (map.remove self.old.allocated first) result (order + 1);
         } }
-        ensures was_free { map.get self.old.out (buddy first order) ≡ None }
+        ensures was_free { map.get self.old.allocated (buddy first order) ≡ None }
         ensures divided { Divides self.new }
-        ensures merged { IsMerged self.new }
+        ensures coalesced { IsCoalesced self.new }
     {
-        self.pull(buddy_of(first, order), order);
-        self.join(first, order)
+        self.allocate(buddy_of(first, order), order);
+        self.coalesce_pair(first, order)
     }
 
-    /// Whether a span has a free buddy to be merged with.
-    fn can_merge(&self, first: u32, order: u8) -> bool
+    /// Whether a span has a free buddy to be coalesced with.
+    fn can_coalesce(&self, first: u32, order: u8) -> bool
         requires { order < 17 }
         ensures { IsTrue result ↔ ((order < 16) × IsFree self.now (buddy first order) order) }
     {
@@ -300,7 +300,7 @@ impl Spans {
         ensures blocked { IfNone result (IsBlocked self.now order) }
         ensures found { IfSome result (λ span. IsFirstOf self.now order span.0 span.1) }
         ensures divided { Divides self.now }
-        ensures merged { IsMerged self.now }
+        ensures coalesced { IsCoalesced self.now }
     {
         for from in order..=GREATEST_ORDER {
             if let Some(first) = self.lists.front(from as u32) {
@@ -310,34 +310,34 @@ impl Spans {
         None
     }
 
-    /// Halves a span that is out until it has the order.
-    fn halve_down(&mut self, first: u32, from: u8, order: u8)
+    /// Splits an allocated span until it has the order.
+    fn split_down(&mut self, first: u32, from: u8, order: u8)
         requires order { order ≤ from }
         requires from { from < 17 }
-        requires out { IsOut self.old first from }
+        requires allocated { IsAllocated self.old first from }
         requires divided { Divides self.old }
-        requires merged { IsMerged self.old }
-        ensures { IsHalvedTo self.old self.new first from order }
+        requires coalesced { IsCoalesced self.old }
+        ensures { IsSplitTo self.old self.new first from order }
     {
         let mut at = from;
         while at > order {
             at -= 1;
-            self.halve(first, at);
+            self.split(first, at);
         }
     }
 
-    /// Merges a span that is out with its free buddies, as far as that goes, and answers the span that they make.
-    fn merge(&mut self, first: u32, order: u8) -> (u32, u8)
-        requires out { IsOut self.old first order }
+    /// Coalesces an allocated span with its free buddies, as far as that goes, and answers the span that they make.
+    fn coalesce(&mut self, first: u32, order: u8) -> (u32, u8)
+        requires allocated { IsAllocated self.old first order }
         requires divided { Divides self.old }
-        requires merged { IsMerged self.old }
-        ensures merges { IsMergedTo self.old self.new first order result.0 result.1 }
+        requires coalesced { IsCoalesced self.old }
+        ensures coalesces { IsCoalescedTo self.old self.new first order result.0 result.1 }
         ensures alone { result.1 < 16 → ¬ IsFree self.new (buddy result.0 result.1) result.1 }
     {
         let mut at = first;
         let mut to = order;
-        while self.can_merge(at, to) {
-            at = self.absorb(at, to);
+        while self.can_coalesce(at, to) {
+            at = self.coalesce_once(at, to);
             to += 1;
         }
         (at, to)
@@ -360,11 +360,11 @@ fn buddy_of(first: u32, order: u8) -> u32
 }
 
 fn single_pages(alloc: Global, pages: u32) -> Result<Vec<PageState>, AllocError>
-    ensures { IfOk result (λ states. states.items ≡ replicate pages (PageState.Out 0)) }
+    ensures { IfOk result (λ states. states.items ≡ replicate pages (PageState.Allocated 0)) }
 {
     let mut states = Vec::with_capacity(alloc, pages as usize)?;
     for _ in 0..pages {
-        states.push(PageState::Out(0))?;
+        states.push(PageState::Allocated(0))?;
     }
     Ok(states)
 }

@@ -1,6 +1,10 @@
 -- How the lists stand in arrays of links: each list is a ring through a sentinel of its own, which stands behind the indices.
-use Rattle.std.specs.Prelude.{◌≡◌, ◌≢◌, ℕ, zero, suc, ◌+◌, ◌<◌, ◌≤◌, ◌^◌, List, [], ◌∷◌, length, slice_index, slice_index_or}
+use Rattle.std.specs.Prelude.{◌≡◌, ◌≢◌, ℕ, zero, suc, ◌+◌, ◌<◌, ◌≤◌, ◌^◌, ◌==◌, if◌then◌else◌, Option, Some, None, List, [], ◌∷◌, length, slice_index, slice_index_or}
 use Rattle.common_lemmas.specs.Lists.{times}
+
+-- the index that a link of a ring leads to: none where that is the ring's sentinel
+abbrev pub leads_to : ℕ → ℕ → Option ℕ
+leads_to sentinel index = if index == sentinel then None else Some index
 
 -- from a on, the links lead through the list to b, and back
 abbrev pub Path : List ℕ → List ℕ → ℕ → List ℕ → ℕ → Type 0

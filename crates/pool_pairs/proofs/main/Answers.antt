@@ -6,5 +6,5 @@ use Rattle.pool_pairs.proofs.main.Goals as goal
 pub play-drawn-requires : goal.play-drawn-requires
 play-drawn-requires c = record {
   pages = c.in_ok-spans.ensures.pages ∙ sym c.in_ok-pools.ensures.pages;
-  out = λ first class held. none_in_empty _ first class c.in_ok-pools.ensures.none_held held;
+  allocated = λ first class held. none_in_empty _ first class c.in_ok-pools.ensures.none_held held;
 }

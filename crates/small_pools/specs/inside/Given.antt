@@ -1,9 +1,9 @@
--- Objects that are out, one after another.
+-- Allocated objects, one after another.
 use Rattle.std.specs.Prelude.{ℕ, List, [], ◌∷◌, IsSome}
 use Rattle.std.specs.Ordering.{nat_cmp}
 use Rattle.std.specs.FinMap as map
 
--- each place is out, also after the ones before it are given back
-abbrev pub AreOut : map.FinMap nat_cmp ℕ → List ℕ → Type 0
-AreOut out [] = Unit {0}
-AreOut out (place ∷ places) = IsSome (map.get out place) × AreOut (map.remove out place) places
+-- each place is allocated, also after the ones before it are given back
+abbrev pub AreAllocated : map.FinMap nat_cmp ℕ → List ℕ → Type 0
+AreAllocated allocated [] = Unit {0}
+AreAllocated allocated (place ∷ places) = IsSome (map.get allocated place) × AreAllocated (map.remove allocated place) places

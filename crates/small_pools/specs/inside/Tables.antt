@@ -49,7 +49,7 @@ map_below (suc n) f = with_entry (map_below n f) n (f n)
 
 -- what callers see
 abbrev pub objects_of : Tables → Objects
-objects_of t = record { pages = t.pages; held = map_below t.pages (class_at t); out = map_below (page * t.pages) (object_at t) }
+objects_of t = record { pages = t.pages; held = map_below t.pages (class_at t); allocated = map_below (page * t.pages) (object_at t) }
 
 -- the list on which a span of a class stands by its free slots: none where it is full
 abbrev pub list_of : Option ℕ → ℕ → Option ℕ

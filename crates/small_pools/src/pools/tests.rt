@@ -1,7 +1,7 @@
 ghost use Rattle.std.specs.Prelude.{◌≡◌, ◌<◌, OnOk, IfOk};
 ghost use Rattle.std.specs.FinMap as map;
 ghost use Rattle.small_pools.specs.Objects.{AreHeldIn};
-ghost use Rattle.small_pools.specs.inside.Given.{AreOut};
+ghost use Rattle.small_pools.specs.inside.Given.{AreAllocated};
 
 use super::*;
 use crate::class_of;
@@ -18,9 +18,9 @@ fn take_many(
 ) -> Result<u32, AllocError>
     requires class { class < 37 }
     requires held { AreHeldIn pools.old spans.old }
-    requires out { AreOut pools.old.out taken.old.items }
+    requires allocated { AreAllocated pools.old.allocated taken.old.items }
     ensures held { AreHeldIn pools.new spans.new }
-    ensures out { OnOk result (AreOut pools.new.out taken.new.items) }
+    ensures allocated { OnOk result (AreAllocated pools.new.allocated taken.new.items) }
 {
     for count in 0..most {
         let Some(place) = pools.take(spans, class) else {
@@ -34,21 +34,21 @@ fn take_many(
 // Gives back what was taken, the last one first.
 fn give_all(pools: &mut Pools, spans: &Spans, taken: &mut VecDeque<u32>)
     requires held { AreHeldIn pools.old spans.now }
-    requires out { AreOut pools.old.out taken.old.items }
+    requires allocated { AreAllocated pools.old.allocated taken.old.items }
     ensures held { AreHeldIn pools.new spans.now }
-    ensures out { AreOut pools.new.out taken.new.items }
+    ensures allocated { AreAllocated pools.new.allocated taken.new.items }
 {
     while let Some(place) = taken.pop_front() {
         pools.put(place);
     }
 }
 
-// Gives back the spans without an object out.
+// Gives back the spans without an allocated object.
 fn trim_all(pools: &mut Pools, spans: &mut Spans, taken: &VecDeque<u32>)
     requires held { AreHeldIn pools.old spans.old }
-    requires out { AreOut pools.old.out taken.now.items }
+    requires allocated { AreAllocated pools.old.allocated taken.now.items }
     ensures held { AreHeldIn pools.new spans.new }
-    ensures out { AreOut pools.new.out taken.now.items }
+    ensures allocated { AreAllocated pools.new.allocated taken.now.items }
 {
     let _ = taken.len();
     pools.trim(spans);
@@ -56,7 +56,7 @@ fn trim_all(pools: &mut Pools, spans: &mut Spans, taken: &VecDeque<u32>)
 
 // Pools that hold nothing of pages that are all free.
 fn fresh(alloc: Global) -> Result<(Spans, Pools), AllocError>
-    ensures { IfOk result (λ made. AreHeldIn made.1 made.0 × (made.1.out ≡ map.empty)) }
+    ensures { IfOk result (λ made. AreHeldIn made.1 made.0 × (made.1.allocated ≡ map.empty)) }
 {
     let spans = Spans::new(alloc, 1280)?;
     let pools = Pools::new(alloc, 1280)?;

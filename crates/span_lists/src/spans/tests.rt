@@ -1,14 +1,14 @@
 ghost use Rattle.std.specs.Prelude.{IsTrue};
-ghost use Rattle.span_lists.specs.Layout.{IsOut};
+ghost use Rattle.span_lists.specs.Layout.{IsAllocated};
 
 use super::*;
 use std::test::Fail;
 
 // The requirement of `put`, as a test.
-fn is_out(spans: &Spans, first: u32, order: u8) -> bool
-    ensures { IsTrue result → IsOut spans.now first order }
+fn is_allocated(spans: &Spans, first: u32, order: u8) -> bool
+    ensures { IsTrue result → IsAllocated spans.now first order }
 {
-    first < spans.pages && spans.states[first as usize] == PageState::Out(order)
+    first < spans.pages && spans.states[first as usize] == PageState::Allocated(order)
 }
 
 #[test]
@@ -19,7 +19,7 @@ fn a_span_is_cut_from_the_first_list_that_has_one(rt: HostRuntime) -> Result<(),
     assert_eq!(rt; spans.take(11), None);
     assert_eq!(rt; spans.take(5), Some(1024));
     assert_eq!(rt; spans.free_pages(), 1248);
-    assert!(rt; is_out(&spans, 1024, 5));
+    assert!(rt; is_allocated(&spans, 1024, 5));
     spans.put(1024, 5);
     assert_eq!(rt; spans.free_pages(), 1280);
     for (order, first) in [(5, 1024), (5, 1056), (6, 1088), (7, 1152), (10, 0)] {
@@ -39,7 +39,7 @@ fn pages_given_back_in_another_order_leave_the_first_state(rt: HostRuntime) -> R
     assert_eq!(rt; spans.take(0), None);
     for step in 0..1280u32 {
         let page = step * 7 % 1280;
-        assert!(rt; is_out(&spans, page, 0));
+        assert!(rt; is_allocated(&spans, page, 0));
         spans.put(page, 0);
     }
     assert_eq!(rt; spans.free_pages(), 1280);
@@ -54,7 +54,7 @@ fn the_greatest_range_is_one_span(rt: HostRuntime) -> Result<(), Fail> {
     assert_eq!(rt; spans.largest(), Some(16));
     assert_eq!(rt; spans.take(0), Some(0));
     assert_eq!(rt; spans.largest(), Some(15));
-    assert!(rt; is_out(&spans, 0, 0));
+    assert!(rt; is_allocated(&spans, 0, 0));
     spans.put(0, 0);
     assert_eq!(rt; spans.take(16), Some(0));
     Ok(())

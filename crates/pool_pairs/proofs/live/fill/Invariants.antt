@@ -3,4 +3,4 @@ use Rattle.pool_pairs.specs.Live.{AreLive}
 use Rattle.pool_pairs.proofs.live.fill.Given as goal
 
 abbrev pub invariant-loop : goal.invariant-loop
-invariant-loop l = AreHeldIn l.pools l.spans × AreLive l.pools.out l.live.items
+invariant-loop l = AreHeldIn l.pools l.spans × AreLive l.pools.allocated l.live.items

@@ -4,4 +4,4 @@ use Rattle.pool_pairs.specs.Live.{AreLive}
 use Rattle.pool_pairs.proofs.live.replace_many.Given as goal
 
 abbrev pub invariant-loop : goal.invariant-loop
-invariant-loop l = AreHeldIn l.pools l.spans × AreLive l.pools.out l.live.items × (length l.live.items ≡ l.len)
+invariant-loop l = AreHeldIn l.pools l.spans × AreLive l.pools.allocated l.live.items × (length l.live.items ≡ l.len)

@@ -13,7 +13,7 @@ pub loop-count-preserved : goal.loop-count-preserved
 loop-count-preserved c = (
   subst (λ xs. AreSegmentsOf c.give_segment.new.self xs) (sym c.in_ok-push.ensures.items)
       (All-push (IsSegmentOf c.give_segment.new.self) c.loop-count.taken.items c.in-Some.piece
-      (segments_kept c.loop-count.memory c.give_segment.new.self (extent_of c.in-Some.piece) c.loop-count.taken.items c.in-Some.ensures.same.0 c.in-Some.ensures.out c.loop-count.invariant.0)
+      (segments_kept c.loop-count.memory c.give_segment.new.self (extent_of c.in-Some.piece) c.loop-count.taken.items c.in-Some.ensures.same.0 c.in-Some.ensures.allocated c.loop-count.invariant.0)
       c.in-Some.ensures.given),
   c.in-Some.ensures.blocks ∙ c.loop-count.invariant.1,
 )

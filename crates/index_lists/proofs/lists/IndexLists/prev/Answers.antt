@@ -1,23 +1,20 @@
-use Rattle.std.proofs.Common.{◌≡◌, ◌<◌, ◌≤◌, length, Some, None, inl, inr, sym, subst, ap, ◌∙◌}
+use Rattle.std.proofs.Common.{◌<◌, ◌≤◌, length, sym, subst, ap, ◌∙◌, arith}
 use Rattle.common_lemmas.specs.Lists.{times}
 use Rattle.index_lists.specs.Lists.{Lists, list_at, before}
+use Rattle.index_lists.proofs.Linked.{held_within}
 use Rattle.index_lists.proofs.Neighbours.{prev_is}
 use Rattle.index_lists.proofs.lists.IndexLists.prev.Goals as goal
 
-pub returns-then-prev-self : goal.returns-then-prev-self
-returns-then-prev-self c =
+pub neighbour-requires : goal.neighbour-requires
+neighbour-requires c =
     let list = subst (λ (s : Lists). c.args.list < length s.lists) (sym c.self.view_is) c.requires.list in
     let held = subst (λ (s : Lists). 1 ≤ times c.args.index (list_at s c.args.list)) (sym c.self.view_is) c.requires.held in
-    (elim (prev_is c.self.inside.indices c.self.inside.next.items c.self.inside.prev.items c.self.inside.lengths.items c.args.list c.args.index c.index-prev.result.now c.self.invariant list held c.index-prev.ensures) [
-      | inl r ↦ sym r.1
-      | inr r ↦ absurd (r.0 c.if-prev-self.true)
-    ]) ∙ ap (λ s. before c.args.index (list_at s c.args.list)) c.self.view_is
+    let within = held_within c.self.inside.indices c.self.inside.next.items c.self.inside.prev.items c.self.inside.lengths.items c.args.list c.args.index c.self.invariant list held in
+    let len = c.self.invariant.prev_len in
+    omega arith
 
 pub returns : goal.returns
 returns c =
     let list = subst (λ (s : Lists). c.args.list < length s.lists) (sym c.self.view_is) c.requires.list in
     let held = subst (λ (s : Lists). 1 ≤ times c.args.index (list_at s c.args.list)) (sym c.self.view_is) c.requires.held in
-    (elim (prev_is c.self.inside.indices c.self.inside.next.items c.self.inside.prev.items c.self.inside.lengths.items c.args.list c.args.index c.index-prev.result.now c.self.invariant list held c.index-prev.ensures) [
-      | inl r ↦ absurd (c.if-prev-self.false r.0)
-      | inr r ↦ sym r.1
-    ]) ∙ ap (λ s. before c.args.index (list_at s c.args.list)) c.self.view_is
+    c.neighbour.ensures ∙ prev_is c.self.inside.indices c.self.inside.next.items c.self.inside.prev.items c.self.inside.lengths.items c.self.invariant c.args.list list c.args.index held ∙ ap (λ s. before c.args.index (list_at s c.args.list)) c.self.view_is

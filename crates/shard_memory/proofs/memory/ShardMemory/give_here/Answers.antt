@@ -6,7 +6,7 @@ use Rattle.span_lists.specs.Layout.{HasNone, IsBlocked}
 use Rattle.std.proofs.lemmas.List.{length-replicate}
 use Rattle.layout.specs.Extents.{Extent, extent, Disjoint, AreDisjoint}
 use Rattle.raw_range.specs.Memory.{Memory, Lent, extent_of}
-use Rattle.shard_memory.specs.Shards.{Shard, IsConsistent, HasNoRoom, IsTrimmed, IsCrowded, blocks_out}
+use Rattle.shard_memory.specs.Shards.{Shard, IsConsistent, HasNoRoom, IsTrimmed, IsCrowded, blocks_allocated}
 use Rattle.small_pools.specs.Objects.{HoldsFor}
 use Rattle.shard_memory.proofs.Lists.{all_of, few_pieces, has_first}
 use Rattle.shard_memory.proofs.Counts.{crowded}
@@ -15,13 +15,13 @@ use Rattle.shard_memory.proofs.memory.ShardMemory.give_here.Goals as goal
 
 pub take-requires-2-clause-inside : goal.take-requires-2-clause-inside
 take-requires-2-clause-inside c = block_inside c.self.inside.range.pages c.self.inside.range.allocated c.self.inside.spans c.self.inside.pools c.take.new.self c.in-Some-take.place
-    c.in-Some.class c.args.size c.self.invariant.1 c.in-Some-take.ensures.out c.in-Some-take.ensures.pages c.in-Some-take.ensures.objects c.in-Some.ensures.some.holds
+    c.in-Some.class c.args.size c.self.invariant.1 c.in-Some-take.ensures.allocated c.in-Some-take.ensures.pages c.in-Some-take.ensures.objects c.in-Some.ensures.some.holds
 
 pub take-requires-2-clause-disjoint : goal.take-requires-2-clause-disjoint
 take-requires-2-clause-disjoint c =
     all_of (Disjoint (extent c.in-Some-take.place c.args.size)) c.self.inside.range.allocated
     (block_apart c.self.inside.range.pages c.self.inside.range.allocated c.self.inside.spans c.take.new.spans c.self.inside.pools c.take.new.self c.in-Some-take.place c.in-Some.class c.args.size c.self.invariant.1
-    c.in-Some-take.ensures.was_free c.in-Some-take.ensures.out c.in-Some-take.ensures.spans c.in-Some-take.ensures.held c.in-Some-take.ensures.objects c.in-Some-take.ensures.divided c.in-Some.ensures.some.holds)
+    c.in-Some-take.ensures.was_free c.in-Some-take.ensures.allocated c.in-Some-take.ensures.spans c.in-Some-take.ensures.held c.in-Some-take.ensures.objects c.in-Some-take.ensures.divided c.in-Some.ensures.some.holds)
 
 pub take-requires-2-clause-few : goal.take-requires-2-clause-few
 take-requires-2-clause-few c = few_pieces c.self.inside.range.pages c.self.inside.range.allocated c.self.invariant.1.most c.self.invariant.1.blocks c.self.invariant.1.few
@@ -31,8 +31,8 @@ invariant_of-self-2 c = (
   c.self.invariant.0 ∙ sym (ap (λ (m : Memory). m.pages) c.take-2.ensures.allocated),
   subst (λ (m : Memory). IsConsistent m.pages m.allocated c.take.new.spans c.take.new.self) (sym c.take-2.ensures.allocated)
       (gave_block c.self.inside.range.pages c.self.inside.range.allocated c.self.inside.spans c.take.new.spans c.self.inside.pools c.take.new.self c.in-Some-take.place c.in-Some.class c.args.size c.self.invariant.1 c.in-Some-take.ensures.was_free
-      c.in-Some-take.ensures.out c.in-Some-take.ensures.pages c.in-Some-take.ensures.spans c.in-Some-take.ensures.held c.in-Some-take.ensures.objects c.in-Some-take.ensures.divided c.in-Some-take.ensures.merged c.in-Some.ensures.some.holds
-      (subst (λ (s : Shard). blocks_out s.out < 1024) (sym c.self.view_is) c.requires.few)
+      c.in-Some-take.ensures.allocated c.in-Some-take.ensures.pages c.in-Some-take.ensures.spans c.in-Some-take.ensures.held c.in-Some-take.ensures.objects c.in-Some-take.ensures.divided c.in-Some-take.ensures.coalesced c.in-Some.ensures.some.holds
+      (subst (λ (s : Shard). blocks_allocated s.allocated < 1024) (sym c.self.view_is) c.requires.few)
       (subst (λ (m : Memory). AreDisjoint (4096 * m.pages) m.allocated) c.take-2.ensures.allocated c.take-2.ensures.blocks)),
 )
 
@@ -65,8 +65,8 @@ pub returns-clause-least : goal.returns-clause-least
 returns-clause-least c = (
   c.in-Some.class,
   c.in-Some.ensures.some,
-  subst (λ (s : Shard). c.take.new.self.out ≡ map.insert s.pools.out c.cleared.result.at (size_of c.in-Some.class)) c.self.view_is
-      (c.in-Some-take.ensures.out ∙ ap (λ (at : ℕ). map.insert c.self.inside.pools.out at (size_of c.in-Some.class)) (sym (ap (λ (l : Lent). l.at) c.cleared.ensures ∙ ap (λ (q : Extent). q.start) c.take-2.ensures.extent))),
+  subst (λ (s : Shard). c.take.new.self.allocated ≡ map.insert s.pools.allocated c.cleared.result.at (size_of c.in-Some.class)) c.self.view_is
+      (c.in-Some-take.ensures.allocated ∙ ap (λ (at : ℕ). map.insert c.self.inside.pools.allocated at (size_of c.in-Some.class)) (sym (ap (λ (l : Lent). l.at) c.cleared.ensures ∙ ap (λ (q : Extent). q.start) c.take-2.ensures.extent))),
 )
 
 pub returns-in_default-take-clause-crowded : goal.returns-in_default-take-clause-crowded

@@ -5,7 +5,7 @@ use Rattle.layout.specs.Extents.{Extent, extent, Disjoint, AreDisjoint}
 use Rattle.raw_range.specs.Memory.{Memory, Lent, extent_of}
 use Rattle.span_lists.specs.Layout.{HasNone}
 use Rattle.common_lemmas.proofs.Maps.{get_inserted}
-use Rattle.shard_memory.specs.Shards.{Shard, IsConsistent, IsTrimmed, segments_out, blocks_out}
+use Rattle.shard_memory.specs.Shards.{Shard, IsConsistent, IsTrimmed, segments_allocated, blocks_allocated}
 use Rattle.shard_memory.proofs.Lists.{all_of, has_first, few_pieces, one_segment_more, page_of_start, whole_start}
 use Rattle.shard_memory.proofs.Counts.{pieces_enough}
 use Rattle.shard_memory.proofs.Steps.{inside_pages, apart_from_span, gave_segment}
@@ -13,7 +13,7 @@ use Rattle.shard_memory.proofs.memory.ShardMemory.give_segment.Goals as goal
 
 pub take-requires-2-clause-inside : goal.take-requires-2-clause-inside
 take-requires-2-clause-inside c =
-    (let i = inside_pages c.self.inside.range.pages c.self.inside.range.allocated c.self.inside.spans c.take.new.self c.self.inside.pools c.in_ok-first.first 5 c.self.invariant.1 c.in_ok-first.ensures.out c.in_ok-first.ensures.pages c.in_ok-first.ensures.divided in
+    (let i = inside_pages c.self.inside.range.pages c.self.inside.range.allocated c.self.inside.spans c.take.new.self c.self.inside.pools c.in_ok-first.first 5 c.self.invariant.1 c.in_ok-first.ensures.allocated c.in_ok-first.ensures.pages c.in_ok-first.ensures.divided in
     omega (arith, i))
 
 pub overflow_mul-first : goal.overflow_mul-first
@@ -22,7 +22,7 @@ overflow_mul-first c = (let i = take-requires-2-clause-inside c in let m = c.sel
 pub take-requires-2-clause-disjoint : goal.take-requires-2-clause-disjoint
 take-requires-2-clause-disjoint c =
     all_of (Disjoint (extent (4096 * c.in_ok-first.first) 131072)) c.self.inside.range.allocated
-    (apart_from_span c.self.inside.range.pages c.self.inside.range.allocated c.self.inside.spans c.take.new.self c.self.inside.pools c.in_ok-first.first 5 c.self.invariant.1 c.in_ok-first.ensures.was_free c.in_ok-first.ensures.out c.in_ok-first.ensures.divided)
+    (apart_from_span c.self.inside.range.pages c.self.inside.range.allocated c.self.inside.spans c.take.new.self c.self.inside.pools c.in_ok-first.first 5 c.self.invariant.1 c.in_ok-first.ensures.was_free c.in_ok-first.ensures.allocated c.in_ok-first.ensures.divided)
 
 pub take-requires-2-clause-few : goal.take-requires-2-clause-few
 take-requires-2-clause-few c = few_pieces c.self.inside.range.pages c.self.inside.range.allocated c.self.invariant.1.most c.self.invariant.1.blocks c.self.invariant.1.few
@@ -32,7 +32,7 @@ invariant_of-self-2 c = (
   c.self.invariant.0 ∙ sym (ap (λ (m : Memory). m.pages) c.take-2.ensures.allocated),
   subst (λ (m : Memory). IsConsistent m.pages m.allocated c.take.new.self c.self.inside.pools) (sym c.take-2.ensures.allocated)
       (gave_segment c.self.inside.range.pages c.self.inside.range.allocated c.self.inside.spans c.take.new.self c.self.inside.pools c.in_ok-first.first
-      c.self.invariant.1 c.in_ok-first.ensures.was_free c.in_ok-first.ensures.out c.in_ok-first.ensures.pages c.in_ok-first.ensures.divided c.in_ok-first.ensures.merged
+      c.self.invariant.1 c.in_ok-first.ensures.was_free c.in_ok-first.ensures.allocated c.in_ok-first.ensures.pages c.in_ok-first.ensures.divided c.in_ok-first.ensures.coalesced
       (subst (λ (m : Memory). AreDisjoint (4096 * m.pages) m.allocated) c.take-2.ensures.allocated c.take-2.ensures.blocks)),
 )
 
@@ -42,14 +42,14 @@ returns-clause-none c = (λ e. absurd (let clash : true ≡ false = e in cc), λ
 pub returns-clause-whole : goal.returns-clause-whole
 returns-clause-whole c =
     (let at = ap (λ (p : Extent). p.start) c.take-2.ensures.extent in
-    let s = (c.in_ok-first.ensures.divided.spans c.in_ok-first.first 5 (inr (ap (λ m. map.get m c.in_ok-first.first) c.in_ok-first.ensures.out ∙ get_inserted c.self.inside.spans.out c.in_ok-first.first 5 c.in_ok-first.first refl))).1 in
+    let s = (c.in_ok-first.ensures.divided.spans c.in_ok-first.first 5 (inr (ap (λ m. map.get m c.in_ok-first.first) c.in_ok-first.ensures.allocated ∙ get_inserted c.self.inside.spans.allocated c.in_ok-first.first 5 c.in_ok-first.first refl))).1 in
     (ap (λ (p : Extent). p.len) c.take-2.ensures.extent, ap (λ z. z % 131072) at ∙ whole_start c.in_ok-first.first s))
 
 pub returns-clause-spans : goal.returns-clause-spans
 returns-clause-spans c =
     (let at = ap (λ (p : Extent). p.start) c.take-2.ensures.extent in
-    subst (λ (s : Shard). c.take.new.self.out ≡ map.insert s.spans.out (c.take-2.result.at / 4096) 5) c.self.view_is
-    (c.in_ok-first.ensures.out ∙ ap (λ z. map.insert c.self.inside.spans.out z 5) (sym (ap (λ z. z / 4096) at ∙ page_of_start c.in_ok-first.first))))
+    subst (λ (s : Shard). c.take.new.self.allocated ≡ map.insert s.spans.allocated (c.take-2.result.at / 4096) 5) c.self.view_is
+    (c.in_ok-first.ensures.allocated ∙ ap (λ z. map.insert c.self.inside.spans.allocated z 5) (sym (ap (λ z. z / 4096) at ∙ page_of_start c.in_ok-first.first))))
 
 if_none : (o : Option Lent) (A : Type 0) → A → IfNone o A
 if_none None A a = a
@@ -57,8 +57,8 @@ if_none (Some x) A a = tt
 
 pub returns-in_err-first-clause-crowded : goal.returns-in_err-first-clause-crowded
 returns-in_err-first-clause-crowded c =
-    if_none c.from_residual.result (IsTrimmed c.args.self.now → c.args.self.now.pages / 32 ≤ segments_out c.args.self.now.out + blocks_out c.args.self.now.out)
-    (subst (λ (s : Shard). IsTrimmed s → s.pages / 32 ≤ segments_out s.out + blocks_out s.out) c.self.view_is
+    if_none c.from_residual.result (IsTrimmed c.args.self.now → c.args.self.now.pages / 32 ≤ segments_allocated c.args.self.now.allocated + blocks_allocated c.args.self.now.allocated)
+    (subst (λ (s : Shard). IsTrimmed s → s.pages / 32 ≤ segments_allocated s.allocated + blocks_allocated s.allocated) c.self.view_is
     (λ trimmed. pieces_enough c.self.inside.range.pages c.self.inside.range.allocated c.self.inside.spans c.self.inside.pools c.self.invariant.1 c.in_err-first.ensures.blocked trimmed))
 
 pub returns-clause-given : goal.returns-clause-given
@@ -72,6 +72,6 @@ returns-clause-given c =
 pub returns-clause-one_more : goal.returns-clause-one_more
 returns-clause-one_more c =
     (let p = extent (4096 * c.in_ok-first.first) 131072 in
-    subst (λ (s : Shard). segments_out c.take-2.new.self.allocated ≡ segments_out s.out + 1) c.self.view_is
-    (subst (λ (m : Memory). segments_out m.allocated ≡ segments_out c.self.inside.range.allocated + 1) (sym c.take-2.ensures.allocated)
+    subst (λ (s : Shard). segments_allocated c.take-2.new.self.allocated ≡ segments_allocated s.allocated + 1) c.self.view_is
+    (subst (λ (m : Memory). segments_allocated m.allocated ≡ segments_allocated c.self.inside.range.allocated + 1) (sym c.take-2.ensures.allocated)
     (one_segment_more c.self.inside.range.allocated p refl)))

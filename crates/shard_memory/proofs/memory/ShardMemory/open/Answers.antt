@@ -5,6 +5,6 @@ use Rattle.shard_memory.proofs.memory.ShardMemory.open.Goals as goal
 pub invariant_of-result : goal.invariant_of-result
 invariant_of-result c = (
   sym c.in_ok-range.ensures.numbers.1,
-  all_free c.args.pages c.in_ok-range.range.pages c.in_ok-range.range.allocated c.in_ok-spans.spans c.in_ok-pools.pools c.in_ok-range.ensures.numbers.1 c.requires.1 c.requires.2 c.in_ok-range.ensures.none_allocated c.in_ok-spans.ensures.pages c.in_ok-spans.ensures.none_out
-      c.in_ok-pools.ensures.pages c.in_ok-pools.ensures.none_held c.in_ok-pools.ensures.none_out c.in_ok-pools.ensures.objects c.in_ok-spans.ensures.divided c.in_ok-spans.ensures.merged,
+  all_free c.args.pages c.in_ok-range.range.pages c.in_ok-range.range.allocated c.in_ok-spans.spans c.in_ok-pools.pools c.in_ok-range.ensures.numbers.1 c.requires.1 c.requires.2 c.in_ok-range.ensures.none_allocated c.in_ok-spans.ensures.pages c.in_ok-spans.ensures.none_allocated
+      c.in_ok-pools.ensures.pages c.in_ok-pools.ensures.none_held c.in_ok-pools.ensures.none_allocated c.in_ok-pools.ensures.objects c.in_ok-spans.ensures.divided c.in_ok-spans.ensures.coalesced,
 )

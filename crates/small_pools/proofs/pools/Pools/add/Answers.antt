@@ -40,7 +40,7 @@ returns-clause-moves c =
     let step = added c.self.invariant c.self.view_is c.args.first c.args.class c.all_free.result c.own.new.firsts.items c.relist.new.lists c.requires.class c.requires.inside c.requires.clear owned
     c.class_capacity.result c.class_capacity.ensures.value c.all_free.ensures.free c.all_free.ensures.none
     (record { stands = c.relist.ensures.stands; others = c.relist.ensures.others; indices = c.relist.ensures.indices; lists = c.relist.ensures.lists }) in
-    same_fields _ _ (ap (λ (s : Objects). s.pages) c.self.view_is) (step.0.held ∙ ap (λ (s : Objects). map.insert s.held c.args.first c.args.class) c.self.view_is) (step.0.out ∙ ap (λ (s : Objects). s.out) c.self.view_is)
+    same_fields _ _ (ap (λ (s : Objects). s.pages) c.self.view_is) (step.0.held ∙ ap (λ (s : Objects). map.insert s.held c.args.first c.args.class) c.self.view_is) (step.0.allocated ∙ ap (λ (s : Objects). s.allocated) c.self.view_is)
 
 pub returns-clause-room : goal.returns-clause-room
 returns-clause-room c =

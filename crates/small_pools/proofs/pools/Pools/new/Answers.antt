@@ -1,4 +1,4 @@
-use Rattle.small_pools.proofs.Fresh.{consistent_new, nothing_held, nothing_out}
+use Rattle.small_pools.proofs.Fresh.{consistent_new, nothing_held, nothing_allocated}
 use Rattle.small_pools.proofs.Tables.{are_objects}
 use Rattle.small_pools.proofs.pools.Pools.new.Goals as goal
 
@@ -8,8 +8,8 @@ invariant_of-result c = consistent_new _ c.requires.1 c.in_ok-classes.ensures c.
 pub returns-clause-none_held : goal.returns-clause-none_held
 returns-clause-none_held c = nothing_held (record { pages = c.args.pages; classes = c.in_ok-classes.classes.items; firsts = c.in_ok-firsts.firsts.items; masks = c.in_ok-masks.masks.items; lists = c.in_ok-lists.lists }) c.in_ok-classes.ensures
 
-pub returns-clause-none_out : goal.returns-clause-none_out
-returns-clause-none_out c = nothing_out (record { pages = c.args.pages; classes = c.in_ok-classes.classes.items; firsts = c.in_ok-firsts.firsts.items; masks = c.in_ok-masks.masks.items; lists = c.in_ok-lists.lists }) c.in_ok-classes.ensures
+pub returns-clause-none_allocated : goal.returns-clause-none_allocated
+returns-clause-none_allocated c = nothing_allocated (record { pages = c.args.pages; classes = c.in_ok-classes.classes.items; firsts = c.in_ok-firsts.firsts.items; masks = c.in_ok-masks.masks.items; lists = c.in_ok-lists.lists }) c.in_ok-classes.ensures
 
 pub returns-clause-objects : goal.returns-clause-objects
 returns-clause-objects c = are_objects (invariant_of-result c)

@@ -64,8 +64,8 @@ returns-clause-was_free c =
     let step = popped c.self.invariant c.args.first c.args.class c.index-before.result.now c.least_free-slot.result c.occupied-mask.result c.list_for.result c.relist.new.lists
     span c.index-before.ensures c.least_free-slot.ensures.free c.occupied-mask.ensures.taken c.occupied-mask.ensures.others c.list_for.ensures.value
     (record { stands = c.relist.ensures.stands; others = c.relist.ensures.others; indices = c.relist.ensures.indices; lists = c.relist.ensures.lists }) in
-    ap (λ n. map.get c.args.self.now.out (page * c.args.first + c.least_free-slot.result * n)) c.class_size.ensures.value
-    ∙ ap (λ (s : Objects). map.get s.out (page * c.args.first + c.least_free-slot.result * size_of c.args.class)) (sym c.self.view_is) ∙ step.was_free
+    ap (λ n. map.get c.args.self.now.allocated (page * c.args.first + c.least_free-slot.result * n)) c.class_size.ensures.value
+    ∙ ap (λ (s : Objects). map.get s.allocated (page * c.args.first + c.least_free-slot.result * size_of c.args.class)) (sym c.self.view_is) ∙ step.was_free
 
 pub returns-clause-moves : goal.returns-clause-moves
 returns-clause-moves c =
@@ -74,9 +74,9 @@ returns-clause-moves c =
     span c.index-before.ensures c.least_free-slot.ensures.free c.occupied-mask.ensures.taken c.occupied-mask.ensures.others c.list_for.ensures.value
     (record { stands = c.relist.ensures.stands; others = c.relist.ensures.others; indices = c.relist.ensures.indices; lists = c.relist.ensures.lists }) in
     same_fields _ _ (ap (λ (s : Objects). s.pages) c.self.view_is) (ap (λ (s : Objects). s.held) c.self.view_is)
-    (step.out
-    ∙ ap (λ (s : Objects). map.insert s.out (page * c.args.first + c.least_free-slot.result * size_of c.args.class) (size_of c.args.class)) c.self.view_is
-    ∙ ap (λ n. map.insert c.args.self.now.out (page * c.args.first + c.least_free-slot.result * n) (size_of c.args.class)) (sym c.class_size.ensures.value))
+    (step.allocated
+    ∙ ap (λ (s : Objects). map.insert s.allocated (page * c.args.first + c.least_free-slot.result * size_of c.args.class) (size_of c.args.class)) c.self.view_is
+    ∙ ap (λ n. map.insert c.args.self.now.allocated (page * c.args.first + c.least_free-slot.result * n) (size_of c.args.class)) (sym c.class_size.ensures.value))
 
 pub returns-clause-objects : goal.returns-clause-objects
 returns-clause-objects c = are_objects (invariant_of-self c)

@@ -7,7 +7,7 @@ use Rattle.small_pools.specs.Classes.{size_of, capacity_of}
 use Rattle.small_pools.specs.Objects.{Objects, slot_place, IsHeld}
 use Rattle.small_pools.specs.inside.Tables.{Tables, class_at, IsConsistent, objects_of}
 use Rattle.small_pools.proofs.Tables.{are_objects, get_held}
-use Rattle.small_pools.proofs.Steps.{out_at, page_within, found_at, IsFoundAt, slot_is}
+use Rattle.small_pools.proofs.Steps.{allocated_at, page_within, found_at, IsFoundAt, slot_is}
 use Rattle.small_pools.proofs.pools.Pools.put.Goals as goal
 
 -- the class that is read at the span's first page is the object's
@@ -28,34 +28,34 @@ place_is {t} {place} {f} o now c size read is e =
     ap (slot_place f c) (slot_of o now c size read is e) ∙ ap (λ n. slot_place f n o.slot) (sym (class_is o now c read is)) ∙ sym o.at
 
 pub index-first-requires : goal.index-first-requires
-index-first-requires c = (let o = out_at c.self.invariant c.self.view_is c.args.place c.requires in let inside = page_within c.self.invariant c.args.place o.0 o.1 in omega arith)
+index-first-requires c = (let o = allocated_at c.self.invariant c.self.view_is c.args.place c.requires in let inside = page_within c.self.invariant c.args.place o.0 o.1 in omega arith)
 
 pub index-requires : goal.index-requires
 index-requires c =
-    let o = out_at c.self.invariant c.self.view_is c.args.place c.requires in
+    let o = allocated_at c.self.invariant c.self.view_is c.args.place c.requires in
     let inside = (found_at c.self.invariant c.args.place o.0 c.index-first.result.now o.1 c.index-first.ensures).span.in_classes in omega arith
 
 pub overflow_mul-slot : goal.overflow_mul-slot
 overflow_mul-slot c =
-    let o = out_at c.self.invariant c.self.view_is c.args.place c.requires in
+    let o = allocated_at c.self.invariant c.self.view_is c.args.place c.requires in
     let below = (found_at c.self.invariant c.args.place o.0 c.index-first.result.now o.1 c.index-first.ensures).span.below in
     let small = c.self.invariant.small in
     omega arith
 
 pub overflow_sub-slot : goal.overflow_sub-slot
 overflow_sub-slot c =
-    let o = out_at c.self.invariant c.self.view_is c.args.place c.requires in
+    let o = allocated_at c.self.invariant c.self.view_is c.args.place c.requires in
     (found_at c.self.invariant c.args.place o.0 c.index-first.result.now o.1 c.index-first.ensures).from
 
 pub class_size-requires : goal.class_size-requires
 class_size-requires c =
-    let o = out_at c.self.invariant c.self.view_is c.args.place c.requires in
+    let o = allocated_at c.self.invariant c.self.view_is c.args.place c.requires in
     let found = found_at c.self.invariant c.args.place o.0 c.index-first.result.now o.1 c.index-first.ensures in
     subst (λ n. n < 37) (class_is found c.index.result.now c.in-Some.class c.index.ensures c.in-Some.is) found.span.class.within
 
 pub overflow_cast-slot : goal.overflow_cast-slot
 overflow_cast-slot c =
-    let o = out_at c.self.invariant c.self.view_is c.args.place c.requires in
+    let o = allocated_at c.self.invariant c.self.view_is c.args.place c.requires in
     let found = found_at c.self.invariant c.args.place o.0 c.index-first.result.now o.1 c.index-first.ensures in
     let fits = slot_fits found c.index.result.now c.in-Some.class c.class_size.result c.index.ensures c.in-Some.is c.class_size.ensures.value in
     let most = c.class_size.ensures.bounds.capacity_most in
@@ -63,31 +63,31 @@ overflow_cast-slot c =
 
 pub release-requires-clause-held : goal.release-requires-clause-held
 release-requires-clause-held c =
-    let o = out_at c.self.invariant c.self.view_is c.args.place c.requires in
+    let o = allocated_at c.self.invariant c.self.view_is c.args.place c.requires in
     let found = found_at c.self.invariant c.args.place o.0 c.index-first.result.now o.1 c.index-first.ensures in
     subst (λ s. IsHeld s c.index-first.result.now c.in-Some.class) c.self.view_is (get_held c.self.invariant c.index-first.result.now ∙ sym (read_class found c.index.result.now c.index.ensures) ∙ c.in-Some.is)
 
 pub release-requires-clause-slot : goal.release-requires-clause-slot
 release-requires-clause-slot c =
-    let o = out_at c.self.invariant c.self.view_is c.args.place c.requires in
+    let o = allocated_at c.self.invariant c.self.view_is c.args.place c.requires in
     let found = found_at c.self.invariant c.args.place o.0 c.index-first.result.now o.1 c.index-first.ensures in
     slot_fits found c.index.result.now c.in-Some.class c.class_size.result c.index.ensures c.in-Some.is c.class_size.ensures.value
 
-pub returns-in-Some-clause-out : goal.returns-in-Some-clause-out
-returns-in-Some-clause-out c =
-    let o = out_at c.self.invariant c.self.view_is c.args.place c.requires in
+pub returns-in-Some-clause-allocated : goal.returns-in-Some-clause-allocated
+returns-in-Some-clause-allocated c =
+    let o = allocated_at c.self.invariant c.self.view_is c.args.place c.requires in
     let found = found_at c.self.invariant c.args.place o.0 c.index-first.result.now o.1 c.index-first.ensures in
-    ap (λ (s : Objects). s.out) c.release.ensures.moves
-    ∙ ap (map.remove c.args.self.now.out) (place_is found c.index.result.now c.in-Some.class c.class_size.result c.index.ensures c.in-Some.is c.class_size.ensures.value)
+    ap (λ (s : Objects). s.allocated) c.release.ensures.moves
+    ∙ ap (map.remove c.args.self.now.allocated) (place_is found c.index.result.now c.in-Some.class c.class_size.result c.index.ensures c.in-Some.is c.class_size.ensures.value)
 
-pub returns-in_default-clause-out : goal.returns-in_default-clause-out
-returns-in_default-clause-out c =
-    let o = out_at c.self.invariant c.self.view_is c.args.place c.requires in
+pub returns-in_default-clause-allocated : goal.returns-in_default-clause-allocated
+returns-in_default-clause-allocated c =
+    let o = allocated_at c.self.invariant c.self.view_is c.args.place c.requires in
     let found = found_at c.self.invariant c.args.place o.0 c.index-first.result.now o.1 c.index-first.ensures in
     absurd (c.in_default.not-Some found.class (read_class found c.index.result.now c.index.ensures ∙ found.span.at))
 
 pub returns-in_default-clause-objects : goal.returns-in_default-clause-objects
 returns-in_default-clause-objects c =
-    let o = out_at c.self.invariant c.self.view_is c.args.place c.requires in
+    let o = allocated_at c.self.invariant c.self.view_is c.args.place c.requires in
     let found = found_at c.self.invariant c.args.place o.0 c.index-first.result.now o.1 c.index-first.ensures in
     absurd (c.in_default.not-Some found.class (read_class found c.index.result.now c.index.ensures ∙ found.span.at))

@@ -45,7 +45,7 @@ returns-clause-moves c =
     span c.index-before.ensures c.requires.slot c.released.ensures.free c.released.ensures.others
     (record { stands = c.relist.ensures.stands; others = c.relist.ensures.others; indices = c.relist.ensures.indices; lists = c.relist.ensures.lists }) in
     same_fields _ _ (ap (λ (s : Objects). s.pages) c.self.view_is) (ap (λ (s : Objects). s.held) c.self.view_is)
-    (step.out ∙ ap (λ (s : Objects). map.remove s.out (slot_place c.args.first c.args.class c.args.slot)) c.self.view_is)
+    (step.allocated ∙ ap (λ (s : Objects). map.remove s.allocated (slot_place c.args.first c.args.class c.args.slot)) c.self.view_is)
 
 pub returns-clause-objects : goal.returns-clause-objects
 returns-clause-objects c = are_objects (invariant_of-self c)

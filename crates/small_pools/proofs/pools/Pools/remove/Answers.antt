@@ -33,7 +33,7 @@ returns-clause-moves c =
     let span = held_at c.self.invariant c.self.view_is c.args.first c.args.class c.requires.held in
     let step = dropped c.self.invariant c.self.view_is c.args.first c.args.class c.relist.new.lists span c.requires.unused
     (record { stands = c.relist.ensures.stands; others = c.relist.ensures.others; indices = c.relist.ensures.indices; lists = c.relist.ensures.lists }) in
-    same_fields _ _ (ap (λ (s : Objects). s.pages) c.self.view_is) (step.held ∙ ap (λ (s : Objects). map.remove s.held c.args.first) c.self.view_is) (step.out ∙ ap (λ (s : Objects). s.out) c.self.view_is)
+    same_fields _ _ (ap (λ (s : Objects). s.pages) c.self.view_is) (step.held ∙ ap (λ (s : Objects). map.remove s.held c.args.first) c.self.view_is) (step.allocated ∙ ap (λ (s : Objects). s.allocated) c.self.view_is)
 
 pub returns-clause-objects : goal.returns-clause-objects
 returns-clause-objects c = are_objects (invariant_of-self c)

@@ -9,11 +9,11 @@ use Rattle.small_pools.proofs.pools.Pools.span_with_room.Goals as goal
 
 pub add-requires-clause-inside : goal.add-requires-clause-inside
 add-requires-clause-inside c = inside_of c.args.self.now c.args.spans.now c.take.new.self c.in_ok-first.first c.args.class c.requires.held
-    (c.in_ok-first.ensures.out ∙ ap (map.insert c.args.spans.now.out c.in_ok-first.first) c.class_order.ensures.value) c.in_ok-first.ensures.pages c.in_ok-first.ensures.divided
+    (c.in_ok-first.ensures.allocated ∙ ap (map.insert c.args.spans.now.allocated c.in_ok-first.first) c.class_order.ensures.value) c.in_ok-first.ensures.pages c.in_ok-first.ensures.divided
 
 pub add-requires-clause-clear : goal.add-requires-clause-clear
 add-requires-clause-clear c = clear_of c.args.self.now c.args.spans.now c.take.new.self c.in_ok-first.first c.args.class c.requires.held c.in_ok-first.ensures.was_free
-    (c.in_ok-first.ensures.out ∙ ap (map.insert c.args.spans.now.out c.in_ok-first.first) c.class_order.ensures.value) c.in_ok-first.ensures.divided
+    (c.in_ok-first.ensures.allocated ∙ ap (map.insert c.args.spans.now.allocated c.in_ok-first.first) c.class_order.ensures.value) c.in_ok-first.ensures.divided
 
 pub returns-clause-found : goal.returns-clause-found
 returns-clause-found c = ap (λ (s : Objects). map.get s.held c.in_ok-first.first) c.add.ensures.moves ∙ get_inserted c.args.self.now.held c.in_ok-first.first c.args.class c.in_ok-first.first refl
@@ -24,8 +24,8 @@ returns-clause-spans c = inr (
   (
     c.in_ok-first.first,
     ap (λ (s : Objects). s.held) c.add.ensures.moves,
-    c.in_ok-first.ensures.out
-        ∙ ap (map.insert c.args.spans.now.out c.in_ok-first.first) c.class_order.ensures.value,
+    c.in_ok-first.ensures.allocated
+        ∙ ap (map.insert c.args.spans.now.allocated c.in_ok-first.first) c.class_order.ensures.value,
     free_before c.args.self.now c.args.spans.now c.in_ok-first.first c.requires.held c.in_ok-first.ensures.was_free,
     c.in_ok-first.ensures.was_free,
   ),
@@ -33,4 +33,4 @@ returns-clause-spans c = inr (
 
 pub returns-clause-held : goal.returns-clause-held
 returns-clause-held c = held_more c.args.self.now c.add.new.self c.args.spans.now c.take.new.self c.in_ok-first.first c.args.class c.requires.held c.in_ok-first.ensures.was_free
-    (c.in_ok-first.ensures.out ∙ ap (map.insert c.args.spans.now.out c.in_ok-first.first) c.class_order.ensures.value) c.in_ok-first.ensures.pages c.add.ensures.moves
+    (c.in_ok-first.ensures.allocated ∙ ap (map.insert c.args.spans.now.allocated c.in_ok-first.first) c.class_order.ensures.value) c.in_ok-first.ensures.pages c.add.ensures.moves

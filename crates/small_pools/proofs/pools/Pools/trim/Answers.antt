@@ -7,7 +7,7 @@ use Rattle.small_pools.proofs.Trimmed.{trims_none, trims_twice, still_used}
 use Rattle.small_pools.proofs.pools.Pools.trim.Goals as goal
 
 pub loop-first-init : goal.loop-first-init
-loop-first-init c = (trims_none c.args.self.now c.args.spans.now, c.requires, c.facts.ensures.objects, c.facts-2.ensures.divided, c.facts-2.ensures.merged, λ page class h. absurd (omega arith))
+loop-first-init c = (trims_none c.args.self.now c.args.spans.now, c.requires, c.facts.ensures.objects, c.facts-2.ensures.divided, c.facts-2.ensures.coalesced, λ page class h. absurd (omega arith))
 
 pub trim_span-requires-clause-page : goal.trim_span-requires-clause-page
 trim_span-requires-clause-page c = (let same = c.loop-first.invariant.0.pages in let all = c.pages-first-end.ensures in omega arith)
@@ -18,7 +18,7 @@ loop-first-preserved c = (
   c.trim_span.ensures.held,
   c.trim_span.ensures.objects,
   c.trim_span.ensures.divided,
-  c.trim_span.ensures.merged,
+  c.trim_span.ensures.coalesced,
   λ page class l h. elim (cases_eq page c.loop-first.first) [
     | inl e ↦ subst (λ z. HasObject c.trim_span.new.self z class) (sym e) (c.trim_span.ensures.used class (subst (λ z. IsHeld c.trim_span.new.self z class) e h))
     | inr n ↦ still_used c.loop-first.self c.trim_span.new.self c.loop-first.spans c.trim_span.new.spans page class c.trim_span.ensures.trims (c.loop-first.invariant.5 page class (omega arith)) h

@@ -13,7 +13,7 @@ returns-clause-used c = λ class held.
 pub returns-clause-trims : goal.returns-clause-trims
 returns-clause-trims c =
     trims_more c.args.self.now c.args.self.now c.remove.new.self c.args.spans.now c.args.spans.now c.put.new.self c.args.first c.in-Some.class
-    (trims_none c.args.self.now c.args.spans.now) c.in-Some.ensures.held c.in-Some.ensures.unused c.remove.ensures.moves c.put.ensures.out
+    (trims_none c.args.self.now c.args.spans.now) c.in-Some.ensures.held c.in-Some.ensures.unused c.remove.ensures.moves c.put.ensures.allocated
 
 pub returns-clause-held : goal.returns-clause-held
-returns-clause-held c = held_less c.args.self.now c.remove.new.self c.args.spans.now c.put.new.self c.args.first c.requires.held c.remove.ensures.moves c.put.ensures.out c.put.ensures.pages
+returns-clause-held c = held_less c.args.self.now c.remove.new.self c.args.spans.now c.put.new.self c.args.first c.requires.held c.remove.ensures.moves c.put.ensures.allocated c.put.ensures.pages

@@ -1,4 +1,4 @@
-use Rattle.std.proofs.Common.{◌≡◌, ◌<◌, ◌≤◌, ℕ, Option, Some, None, get_or, sym, ap, subst, ◌∙◌, arith}
+use Rattle.std.proofs.Common.{◌≡◌, ◌<◌, ◌≤◌, ℕ, true, false, Option, Some, None, get_or, sym, ap, subst, ◌∙◌, arith}
 use Rattle.std.proofs.lemmas.List.{get_or_read}
 use Rattle.std.specs.Int.{bit_at}
 use Rattle.common_lemmas.proofs.Options.{some_is, some_or_none}
@@ -25,15 +25,15 @@ pub returns-in_default-clause-none : goal.returns-in_default-clause-none
 returns-in_default-clause-none c = λ class held.
     absurd (c.in_default.not-Some class (read_class c.self.invariant c.self.view_is c.args.first c.index.result.now c.requires c.index.ensures ∙ class_of_held c.self.invariant c.args.first class (subst (λ s. IsHeld s c.args.first class) (sym c.self.view_is) held)))
 
-pub returns-then-index-all_free-clause-none : goal.returns-then-index-all_free-clause-none
-returns-then-index-all_free-clause-none c = λ class held.
+pub returns-then-not-is_unused-clause-none : goal.returns-then-not-is_unused-clause-none
+returns-then-not-is_unused-clause-none c = λ class held.
     (let span = at_page c.self.invariant c.self.view_is c.args.first c.in-Some.class c.index.result.now c.requires c.index.ensures c.in-Some.is in
     let read = read_mask span c.index-2.result.now c.index-2.ensures in
     let value = c.class_capacity.ensures.value in
     let same : c.in-Some.class ≡ class = some_is span.at (class_of_held c.self.invariant c.args.first class (subst (λ s. IsHeld s c.args.first class) (sym c.self.view_is) held)) in
     let object = some_object c.self.invariant c.args.first c.in-Some.class c.all_free.result span.at
     (λ s l. c.all_free.ensures.free s (subst (λ n. s < n) (sym value) l)) (λ s l. c.all_free.ensures.none s (subst (λ n. n ≤ s) (sym value) l))
-    (λ e. c.if-index-all_free.true (read ∙ e)) in
+    (λ e. absurd (let clash : true ≡ false = sym (c.is_unused.ensures.1 (read ∙ e)) ∙ c.if-not-is_unused.true in cc)) in
     subst (λ k. HasObject c.args.self.now c.args.first k) same (subst (λ s. HasObject s c.args.first c.in-Some.class) c.self.view_is object))
 
 pub returns-clause-class : goal.returns-clause-class
@@ -51,4 +51,4 @@ returns-clause-unused c =
     let value = c.class_capacity.ensures.value in
     subst (λ s. ¬ HasObject s c.args.first c.in-Some.class) c.self.view_is
     (no_object c.self.invariant c.args.first c.in-Some.class span.at
-    (λ s l. ap (λ m. bit_at m s) (sym read ∙ c.if-index-all_free.false) ∙ c.all_free.ensures.free s (subst (λ n. s < n) (sym value) l)))
+    (λ s l. ap (λ m. bit_at m s) (sym read ∙ c.is_unused.ensures.0 c.if-not-is_unused.false) ∙ c.all_free.ensures.free s (subst (λ n. s < n) (sym value) l)))

@@ -1,10 +1,10 @@
 use Rattle.std.proofs.Common.{length}
 use Rattle.small_pools.specs.Objects.{AreHeldIn}
-use Rattle.small_pools.specs.inside.Given.{AreOut}
+use Rattle.small_pools.specs.inside.Given.{AreAllocated}
 use Rattle.small_pools.proofs.pools.tests.give_all.Given as goal
 
 abbrev pub invariant-loop-place : goal.invariant-loop-place
-invariant-loop-place l = AreHeldIn l.pools l.spans × AreOut l.pools.out l.taken.items
+invariant-loop-place l = AreHeldIn l.pools l.spans × AreAllocated l.pools.allocated l.taken.items
 
 abbrev pub decreases-loop-place : goal.decreases-loop-place
 decreases-loop-place l = length l.taken.items

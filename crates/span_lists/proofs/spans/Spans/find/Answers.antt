@@ -1,8 +1,8 @@
 use Rattle.std.proofs.Common.{◌≡◌, ℕ, List, [], ◌∷◌, Some, None, get_or, slice_get, inl, inr, refl, sym, subst, ap, ◌∙◌, arith}
 use Rattle.std.proofs.lemmas.Bool.{cases_eq}
-use Rattle.span_lists.specs.Layout.{IsFirstOf, HasNone, IsBlocked, Divides, IsMerged}
+use Rattle.span_lists.specs.Layout.{IsFirstOf, HasNone, IsBlocked, Divides, IsCoalesced}
 use Rattle.span_lists.proofs.Whole.{blocked}
-use Rattle.span_lists.proofs.Views.{divides_of, merged_of}
+use Rattle.span_lists.proofs.Views.{divides_of, coalesced_of}
 use Rattle.span_lists.proofs.spans.Spans.find.Goals as goal
 
 nil_of_get : (xs : List ℕ) → None ≡ slice_get xs 0 → xs ≡ []
@@ -32,16 +32,16 @@ returns-clause-none c = subst (λ s. HasNone s c.args.order) c.self.view_is (λ 
 pub returns-in-Some-clause-divided : goal.returns-in-Some-clause-divided
 returns-in-Some-clause-divided c = subst Divides c.self.view_is (divides_of c.self.inside.pages c.self.inside.states.items c.self.inside.lists c.self.inside.free c.self.invariant)
 
-pub returns-in-Some-clause-merged : goal.returns-in-Some-clause-merged
-returns-in-Some-clause-merged c = subst IsMerged c.self.view_is (merged_of c.self.inside.pages c.self.inside.states.items c.self.inside.lists c.self.inside.free c.self.invariant)
+pub returns-in-Some-clause-coalesced : goal.returns-in-Some-clause-coalesced
+returns-in-Some-clause-coalesced c = subst IsCoalesced c.self.view_is (coalesced_of c.self.inside.pages c.self.inside.states.items c.self.inside.lists c.self.inside.free c.self.invariant)
 
 pub returns-clause-divided : goal.returns-clause-divided
 returns-clause-divided c = subst Divides c.self.view_is (divides_of c.self.inside.pages c.self.inside.states.items c.self.inside.lists c.self.inside.free c.self.invariant)
 
-pub returns-clause-merged : goal.returns-clause-merged
-returns-clause-merged c = subst IsMerged c.self.view_is (merged_of c.self.inside.pages c.self.inside.states.items c.self.inside.lists c.self.inside.free c.self.invariant)
+pub returns-clause-coalesced : goal.returns-clause-coalesced
+returns-clause-coalesced c = subst IsCoalesced c.self.view_is (coalesced_of c.self.inside.pages c.self.inside.states.items c.self.inside.lists c.self.inside.free c.self.invariant)
 
 pub returns-clause-blocked : goal.returns-clause-blocked
 returns-clause-blocked c =
     subst (λ s. IsBlocked s c.args.order) c.self.view_is
-    (blocked _ c.args.order (divides_of _ _ _ _ c.self.invariant) (merged_of _ _ _ _ c.self.invariant) c.requires (λ k low high. c.loop-from.invariant k low (omega arith)))
+    (blocked _ c.args.order (divides_of _ _ _ _ c.self.invariant) (coalesced_of _ _ _ _ c.self.invariant) c.requires (λ k low high. c.loop-from.invariant k low (omega arith)))

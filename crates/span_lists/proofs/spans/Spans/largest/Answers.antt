@@ -1,7 +1,7 @@
 use Rattle.std.proofs.Common.{◌≡◌, ◌≢◌, ◌-◌, ℕ, true, false, List, [], ◌∷◌, is_some, get_or, slice_get, inl, inr, refl, sym, subst, ap, ◌∙◌, arith}
 use Rattle.std.proofs.lemmas.Bool.{cases_eq}
-use Rattle.span_lists.specs.Layout.{HasNone, Divides, IsMerged, IsLargest}
-use Rattle.span_lists.proofs.Views.{divides_of, merged_of}
+use Rattle.span_lists.specs.Layout.{HasNone, Divides, IsCoalesced, IsLargest}
+use Rattle.span_lists.proofs.Views.{divides_of, coalesced_of}
 use Rattle.span_lists.proofs.spans.Spans.largest.Goals as goal
 
 nil_of_get : (xs : List ℕ) → false ≡ is_some (slice_get xs 0) → xs ≡ []
@@ -31,8 +31,8 @@ returns-then-is_some-clause-none c =
 pub returns-then-is_some-clause-divided : goal.returns-then-is_some-clause-divided
 returns-then-is_some-clause-divided c = subst Divides c.self.view_is (divides_of _ _ _ _ c.self.invariant)
 
-pub returns-then-is_some-clause-merged : goal.returns-then-is_some-clause-merged
-returns-then-is_some-clause-merged c = subst IsMerged c.self.view_is (merged_of _ _ _ _ c.self.invariant)
+pub returns-then-is_some-clause-coalesced : goal.returns-then-is_some-clause-coalesced
+returns-then-is_some-clause-coalesced c = subst IsCoalesced c.self.view_is (coalesced_of _ _ _ _ c.self.invariant)
 
 pub loop-above-preserved : goal.loop-above-preserved
 loop-above-preserved c =
@@ -47,5 +47,5 @@ loop-above-preserved c =
 pub returns-clause-divided : goal.returns-clause-divided
 returns-clause-divided c = subst Divides c.self.view_is (divides_of _ _ _ _ c.self.invariant)
 
-pub returns-clause-merged : goal.returns-clause-merged
-returns-clause-merged c = subst IsMerged c.self.view_is (merged_of _ _ _ _ c.self.invariant)
+pub returns-clause-coalesced : goal.returns-clause-coalesced
+returns-clause-coalesced c = subst IsCoalesced c.self.view_is (coalesced_of _ _ _ _ c.self.invariant)

@@ -1,16 +1,16 @@
 use Rattle.std.proofs.Common.{◌≢◌, ◌<◌, sym, subst, arith}
 use Rattle.span_lists.specs.Buddies.{buddy}
-use Rattle.span_lists.specs.Layout.{IsFree, IsOut}
-use Rattle.span_lists.specs.Pages.{state_at}
+use Rattle.span_lists.specs.Layout.{IsFree, IsAllocated}
+use Rattle.span_lists.specs.inside.Pages.{state_at}
 use Rattle.span_lists.specs.declared.spans.PageState.TheVariants.{Free}
-use Rattle.span_lists.proofs.Laid.{laid_release}
-use Rattle.span_lists.proofs.Views.{released, divides_of, merged_of, state_out, is_free_of, none_listed, out_within}
+use Rattle.span_lists.proofs.Consistent.{consistent_release}
+use Rattle.span_lists.proofs.Views.{released, divides_of, coalesced_of, state_allocated, is_free_of, none_listed, allocated_within}
 use Rattle.span_lists.proofs.spans.Spans.release.Goals as goal
 
 pub push_front-requires-clause-index : goal.push_front-requires-clause-index
 push_front-requires-clause-index c =
-    let out = subst (λ s. IsOut s c.args.first c.args.order) (sym c.self.view_is) c.requires.out in
-    let w = out_within c.self.inside.pages c.self.inside.states.items c.self.inside.lists c.self.inside.free c.args.first c.args.order c.self.invariant out in
+    let allocated = subst (λ s. IsAllocated s c.args.first c.args.order) (sym c.self.view_is) c.requires.allocated in
+    let w = allocated_within c.self.inside.pages c.self.inside.states.items c.self.inside.lists c.self.inside.free c.args.first c.args.order c.self.invariant allocated in
     let p = c.self.invariant.indices in
     let l = w.1 in
     omega arith
@@ -20,43 +20,43 @@ push_front-requires-clause-list c = (let o = c.self.invariant.orders in let smal
 
 pub push_front-requires-clause-absent : goal.push_front-requires-clause-absent
 push_front-requires-clause-absent c =
-    let out = subst (λ s. IsOut s c.args.first c.args.order) (sym c.self.view_is) c.requires.out in
-    none_listed c.self.inside.pages c.self.inside.states.items c.self.inside.lists c.self.inside.free c.args.first c.args.order c.self.invariant out
+    let allocated = subst (λ s. IsAllocated s c.args.first c.args.order) (sym c.self.view_is) c.requires.allocated in
+    none_listed c.self.inside.pages c.self.inside.states.items c.self.inside.lists c.self.inside.free c.args.first c.args.order c.self.invariant allocated
 
 pub index_mut-requires : goal.index_mut-requires
 index_mut-requires c =
-    let out = subst (λ s. IsOut s c.args.first c.args.order) (sym c.self.view_is) c.requires.out in
-    let w = out_within c.self.inside.pages c.self.inside.states.items c.self.inside.lists c.self.inside.free c.args.first c.args.order c.self.invariant out in
+    let allocated = subst (λ s. IsAllocated s c.args.first c.args.order) (sym c.self.view_is) c.requires.allocated in
+    let w = allocated_within c.self.inside.pages c.self.inside.states.items c.self.inside.lists c.self.inside.free c.args.first c.args.order c.self.invariant allocated in
     let n = c.self.invariant.states_len in
     let l = w.1 in
     omega arith
 
 pub overflow_add-self : goal.overflow_add-self
 overflow_add-self c =
-    let out = subst (λ s. IsOut s c.args.first c.args.order) (sym c.self.view_is) c.requires.out in
-    let was = state_out c.self.inside.pages c.self.inside.states.items c.self.inside.lists c.args.first c.args.order out in
+    let allocated = subst (λ s. IsAllocated s c.args.first c.args.order) (sym c.self.view_is) c.requires.allocated in
+    let was = state_allocated c.self.inside.pages c.self.inside.states.items c.self.inside.lists c.args.first c.args.order allocated in
     let alone : c.args.order < 16 → state_at c.self.inside.states.items (buddy c.args.first c.args.order) ≢ Free
     c.args.order = (λ h e. c.requires.alone h (subst (λ s. IsFree s (buddy c.args.first c.args.order) c.args.order) c.self.view_is (is_free_of c.self.inside.pages c.self.inside.states.items c.self.inside.lists c.self.inside.free _ _ c.self.invariant c.requires.order e))) in
-    let after = laid_release c.self.inside.pages c.self.inside.states.items c.self.inside.lists c.self.inside.free c.args.first c.args.order c.self.invariant c.requires.order was alone in
+    let after = consistent_release c.self.inside.pages c.self.inside.states.items c.self.inside.lists c.self.inside.free c.args.first c.args.order c.self.invariant c.requires.order was alone in
     let bound = after.0 in let small = c.self.invariant.small in let len = c.span_pages.ensures.value in
     omega arith
 
 pub invariant_of-self : goal.invariant_of-self
 invariant_of-self c =
-    let out = subst (λ s. IsOut s c.args.first c.args.order) (sym c.self.view_is) c.requires.out in
-    let was = state_out c.self.inside.pages c.self.inside.states.items c.self.inside.lists c.args.first c.args.order out in
+    let allocated = subst (λ s. IsAllocated s c.args.first c.args.order) (sym c.self.view_is) c.requires.allocated in
+    let was = state_allocated c.self.inside.pages c.self.inside.states.items c.self.inside.lists c.args.first c.args.order allocated in
     let alone : c.args.order < 16 → state_at c.self.inside.states.items (buddy c.args.first c.args.order) ≢ Free
     c.args.order = (λ h e. c.requires.alone h (subst (λ s. IsFree s (buddy c.args.first c.args.order) c.args.order) c.self.view_is (is_free_of c.self.inside.pages c.self.inside.states.items c.self.inside.lists c.self.inside.free _ _ c.self.invariant c.requires.order e))) in
-    let after = laid_release c.self.inside.pages c.self.inside.states.items c.self.inside.lists c.self.inside.free c.args.first c.args.order c.self.invariant c.requires.order was alone in
+    let after = consistent_release c.self.inside.pages c.self.inside.states.items c.self.inside.lists c.self.inside.free c.args.first c.args.order c.self.invariant c.requires.order was alone in
     rw (c.push_front.ensures, c.span_pages.ensures.value) after.1
 
 pub returns-clause-moves : goal.returns-clause-moves
 returns-clause-moves c =
-    let out = subst (λ s. IsOut s c.args.first c.args.order) (sym c.self.view_is) c.requires.out in
-    released c.self.inside.pages c.self.inside.states.items c.self.inside.lists c.push_front.new.self c.args.first c.args.order c.args.self.now out c.push_front.ensures c.self.view_is
+    let allocated = subst (λ s. IsAllocated s c.args.first c.args.order) (sym c.self.view_is) c.requires.allocated in
+    released c.self.inside.pages c.self.inside.states.items c.self.inside.lists c.push_front.new.self c.args.first c.args.order c.args.self.now allocated c.push_front.ensures c.self.view_is
 
 pub returns-clause-divided : goal.returns-clause-divided
 returns-clause-divided c = divides_of _ _ _ _ (invariant_of-self c)
 
-pub returns-clause-merged : goal.returns-clause-merged
-returns-clause-merged c = merged_of _ _ _ _ (invariant_of-self c)
+pub returns-clause-coalesced : goal.returns-clause-coalesced
+returns-clause-coalesced c = coalesced_of _ _ _ _ (invariant_of-self c)

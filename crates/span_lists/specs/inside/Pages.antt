@@ -7,43 +7,43 @@ use Rattle.common_lemmas.specs.Lists.{times}
 use Rattle.span_lists.specs.Buddies.{buddy}
 use Rattle.span_lists.specs.Layout.{pages_from}
 use Rattle.span_lists.specs.declared.spans.PageState.{PageState}
-use Rattle.span_lists.specs.declared.spans.PageState.TheVariants.{Inside, Free, Out}
+use Rattle.span_lists.specs.declared.spans.PageState.TheVariants.{Inside, Free, Allocated}
 
 -- the order of the span that begins there
 abbrev pub order_of : PageState → Option ℕ
 order_of Inside = None
 order_of (Free k) = Some k
-order_of (Out k) = Some k
+order_of (Allocated k) = Some k
 
-abbrev pub out_order_of : PageState → Option ℕ
-out_order_of Inside = None
-out_order_of (Free k) = None
-out_order_of (Out k) = Some k
+abbrev pub allocated_order_of : PageState → Option ℕ
+allocated_order_of Inside = None
+allocated_order_of (Free k) = None
+allocated_order_of (Allocated k) = Some k
 
 -- how many times the list of an order has the page
 abbrev pub mark : ℕ → PageState → ℕ
 mark order Inside = 0
 mark order (Free k) = if k == order then 1 else 0
-mark order (Out k) = 0
+mark order (Allocated k) = 0
 
--- the pages of a span that is out
-abbrev pub out_pages_of : PageState → ℕ
-out_pages_of Inside = 0
-out_pages_of (Free k) = 0
-out_pages_of (Out k) = 2 ^ k
+-- the pages of an allocated span
+abbrev pub allocated_pages_of : PageState → ℕ
+allocated_pages_of Inside = 0
+allocated_pages_of (Free k) = 0
+allocated_pages_of (Allocated k) = 2 ^ k
 
 abbrev pub state_at : List PageState → ℕ → PageState
 state_at states page = slice_index_or states page Inside
 
--- the spans that are out, by their first pages, where the first of the states is of page p
-abbrev pub out_entries : ℕ → List PageState → List (ℕ × ℕ)
-out_entries p [] = []
-out_entries p (Inside ∷ states) = out_entries (suc p) states
-out_entries p (Free k ∷ states) = out_entries (suc p) states
-out_entries p (Out k ∷ states) = (p, k) ∷ out_entries (suc p) states
+-- the allocated spans, by their first pages, where the first of the states is of page p
+abbrev pub allocated_entries : ℕ → List PageState → List (ℕ × ℕ)
+allocated_entries p [] = []
+allocated_entries p (Inside ∷ states) = allocated_entries (suc p) states
+allocated_entries p (Free k ∷ states) = allocated_entries (suc p) states
+allocated_entries p (Allocated k ∷ states) = (p, k) ∷ allocated_entries (suc p) states
 
-unfoldable pub out_of : List PageState → map.FinMap nat_cmp ℕ
-out_of states = map.from_entries (out_entries 0 states)
+unfoldable pub allocated_of : List PageState → map.FinMap nat_cmp ℕ
+allocated_of states = map.from_entries (allocated_entries 0 states)
 
 -- a span of the order begins at the page, and none within it
 pub record IsSpanAt (pages : ℕ) (at : ℕ → Option ℕ) (x k : ℕ) : Type 0 where
@@ -58,13 +58,13 @@ pub record IsCut (pages : ℕ) (at : ℕ → Option ℕ) : Type 0 where
   pub covered : (x : ℕ) → x < pages → (p : ℕ) × (k : ℕ) × (at p ≡ Some k) × (p ≤ x) × (x < p + 2 ^ k)
 
 -- the states of the pages, the lists of the free spans and the count of the free pages go together
-pub record IsLaid (pages : ℕ) (states : List PageState) (lists : Lists) (free : ℕ) : Type 0 where
+pub record IsConsistent (pages : ℕ) (states : List PageState) (lists : Lists) (free : ℕ) : Type 0 where
   pub small : pages ≤ 65536
   pub states_len : length states ≡ pages
   pub indices : lists.indices ≡ pages
   pub orders : length lists.lists ≡ 17
   pub cut : IsCut pages (λ x. order_of (state_at states x))
   pub listed : (k x : ℕ) → k < 17 → times x (slice_index_or lists.lists k []) ≡ mark k (state_at states x)
-  pub merged : (x k : ℕ) → k < 16 → state_at states x ≡ Free k → state_at states (buddy x k) ≢ Free k
+  pub coalesced : (x k : ℕ) → k < 16 → state_at states x ≡ Free k → state_at states (buddy x k) ≢ Free k
   pub count : free ≡ pages_from 0 lists.lists
-  pub total : free + sum_by out_pages_of states ≡ pages
+  pub total : free + sum_by allocated_pages_of states ≡ pages

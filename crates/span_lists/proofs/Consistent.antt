@@ -1,4 +1,4 @@
--- What each step leaves of pages that are laid out.
+-- What each step leaves of consistent pages.
 use Rattle.std.proofs.Common.{◌≡◌, ◌≢◌, ℕ, zero, suc, ◌+◌, ◌-◌, ◌*◌, ◌%◌, ◌^◌, ◌<◌, ◌≤◌, ◌⊎◌, inl, inr, List}
 use Rattle.std.proofs.Common.{[], ◌∷◌, length, get_or, set, replicate, Some, None, refl, sym, ap, subst, ◌∙◌, arith, get_or-set_other, get_or-set_same, zero-add}
 use Rattle.std.proofs.Math.ListN.{length-set}
@@ -12,14 +12,14 @@ use Rattle.common_lemmas.proofs.Orders.{lt_or_ge}
 use Rattle.common_lemmas.specs.Lists.{times, delete}
 use Rattle.common_lemmas.proofs.Counts.{times_here, times_there, times-delete_same, times-delete_other, length-delete}
 use Rattle.span_lists.specs.declared.spans.PageState.{PageState}
-use Rattle.span_lists.specs.declared.spans.PageState.TheVariants.{Inside, Free, Out}
+use Rattle.span_lists.specs.declared.spans.PageState.TheVariants.{Inside, Free, Allocated}
 use Rattle.span_lists.specs.Buddies.{buddy}
 use Rattle.span_lists.specs.Layout.{pages_from}
-use Rattle.span_lists.specs.Pages.{order_of, mark, out_pages_of, state_at, IsSpanAt, IsLaid}
+use Rattle.span_lists.specs.inside.Pages.{order_of, mark, allocated_pages_of, state_at, IsSpanAt, IsConsistent}
 use Rattle.common_lemmas.proofs.Powers.{pow_twice}
 use Rattle.span_lists.proofs.Halves.{buddy_twice, buddy_of_upper}
-use Rattle.span_lists.proofs.Cuts.{same_cut, cut_halved, cut_joined}
-use Rattle.span_lists.proofs.Outs.{state_same, state_other}
+use Rattle.span_lists.proofs.Cuts.{same_cut, cut_split, cut_coalesced}
+use Rattle.span_lists.proofs.AllocatedSpans.{state_same, state_other}
 use Rattle.std.proofs.lemmas.Nat.{pow_pos}
 use Rattle.std.specs.Int.Bits.{bit_xor, xor_assoc, xor_self, xor_zero_l}
 
@@ -34,7 +34,7 @@ mark_other j k n = grind (arith, nat_tests)
 pub free_of_mark : (k : ℕ) (v : PageState) → 1 ≤ mark k v → v ≡ Free k
 free_of_mark k Inside h = absurd (omega arith)
 free_of_mark k (Free j) h = elim (cases_eq j k) [ inl e ↦ ap (λ z. Free z) e | inr n ↦ absurd (let none = mark_other k j n in omega (arith, none, h)) ]
-free_of_mark k (Out j) h = absurd (omega arith)
+free_of_mark k (Allocated j) h = absurd (omega arith)
 
 -- a page at which a span begins is one of the pages
 pub state_within : (states : List PageState) (x : ℕ) → state_at states x ≢ Inside → x < length states
@@ -43,7 +43,7 @@ state_within states x n = elim (lt_or_ge x (length states)) [ inl l ↦ l | inr 
 inside_of : (v : PageState) → order_of v ≡ None → v ≡ Inside
 inside_of Inside e = refl
 inside_of (Free k) e = absurd (let clash : Some k ≡ None = e in cc)
-inside_of (Out k) e = absurd (let clash : Some k ≡ None = e in cc)
+inside_of (Allocated k) e = absurd (let clash : Some k ≡ None = e in cc)
 
 -- no page is its own buddy
 buddy_apart : (x k : ℕ) → buddy x k ≢ x
@@ -127,31 +127,31 @@ pages_from-replicate o (suc n) = (let rest = pages_from-replicate (o + 1) n in o
 
 -- ---- the steps
 
--- a free span goes out
-pub laid_pull : (pages : ℕ) (states : List PageState) (lists : Lists) (free x k : ℕ) → IsLaid pages states lists free → k < 17 → 1 ≤ times x (list_at lists k)
-    → (2 ^ k ≤ free) × IsLaid pages (set states x (Out k)) (with_list lists k (delete x (list_at lists k))) (free - 2 ^ k)
-laid_pull pages states lists free x k h small held =
+-- a free span is allocated
+pub consistent_allocate : (pages : ℕ) (states : List PageState) (lists : Lists) (free x k : ℕ) → IsConsistent pages states lists free → k < 17 → 1 ≤ times x (list_at lists k)
+    → (2 ^ k ≤ free) × IsConsistent pages (set states x (Allocated k)) (with_list lists k (delete x (list_at lists k))) (free - 2 ^ k)
+consistent_allocate pages states lists free x k h small held =
     let was : state_at states x ≡ Free k = free_of_mark k _ (subst (λ n. 1 ≤ n) (h.listed k x small) held) in
     let inside : x < length states = state_within states x (λ e. (let clash : Inside ≡ Free k = sym e ∙ was in cc)) in
-    let states' = set states x (Out k) in
-    let now : state_at states' x ≡ Out k = state_same states x x (Out k) inside refl in
-    let others : (y : ℕ) → y ≢ x → state_at states' y ≡ state_at states y = λ y n. state_other states x y (Out k) n in
+    let states' = set states x (Allocated k) in
+    let now : state_at states' x ≡ Allocated k = state_same states x x (Allocated k) inside refl in
+    let others : (y : ℕ) → y ≢ x → state_at states' y ≡ state_at states y = λ y n. state_other states x y (Allocated k) n in
     let back : (y j : ℕ) → state_at states' y ≡ Free j → state_at states y ≡ Free j = (λ y j e. elim (cases_eq y x) [
-      | inl q ↦ absurd (let clash : Out k ≡ Free j = sym now ∙ ap (state_at states') (sym q) ∙ e in cc)
+      | inl q ↦ absurd (let clash : Allocated k ≡ Free j = sym now ∙ ap (state_at states') (sym q) ∙ e in cc)
       | inr n ↦ sym (others y n) ∙ e
     ]) in
     let len = h.orders in
     let at : 2 ^ (0 + k) ≡ 2 ^ k = ap (λ n. 2 ^ n) (zero-add k) in
     let less = pages_from-less 0 lists.lists k (delete x (list_at lists k)) (omega arith) (length-delete x (list_at lists k) held) in
-    let sums = sum_by-set out_pages_of states x (Out k) Inside inside in
-    let none : out_pages_of (state_at states x) ≡ 0 = ap out_pages_of was in
+    let sums = sum_by-set allocated_pages_of states x (Allocated k) Inside inside in
+    let none : allocated_pages_of (state_at states x) ≡ 0 = ap allocated_pages_of was in
     let c = h.count in
     let t = h.total in
     let enough : 2 ^ k ≤ free = omega arith in (
       enough,
       record {
         small = h.small;
-        states_len = length-set states x (Out k) ∙ h.states_len;
+        states_len = length-set states x (Allocated k) ∙ h.states_len;
         indices = h.indices;
         orders = length-set lists.lists k _ ∙ h.orders;
         cut = same_cut pages _ _ (λ y. elim (cases_eq y x) [
@@ -159,26 +159,26 @@ laid_pull pages states lists free x k h small held =
           | inr n ↦ ap order_of (others y n)
         ]) h.cut;
         listed = listed_remove lists.lists states states' k x h.orders small h.listed was (λ j. ap (mark j) now) (λ z j n. ap (mark j) (others z n));
-        merged = λ y j b e d. h.merged y j b (back y j e) (back (buddy y j) j d);
+        coalesced = λ y j b e d. h.coalesced y j b (back y j e) (back (buddy y j) j d);
         count = omega arith;
         total = omega arith;
       },
     )
 
--- a span that is out comes back, where its buddy is not free
-pub laid_release : (pages : ℕ) (states : List PageState) (lists : Lists) (free x k : ℕ) → IsLaid pages states lists free → k < 17 → state_at states x ≡ Out k
+-- an allocated span comes back, where its buddy is not free
+pub consistent_release : (pages : ℕ) (states : List PageState) (lists : Lists) (free x k : ℕ) → IsConsistent pages states lists free → k < 17 → state_at states x ≡ Allocated k
     → (k < 16 → state_at states (buddy x k) ≢ Free k)
-    → (free + 2 ^ k ≤ pages) × IsLaid pages (set states x (Free k)) (with_list lists k (x ∷ list_at lists k)) (free + 2 ^ k)
-laid_release pages states lists free x k h small was apart =
-    let inside : x < length states = state_within states x (λ e. (let clash : Inside ≡ Out k = sym e ∙ was in cc)) in
+    → (free + 2 ^ k ≤ pages) × IsConsistent pages (set states x (Free k)) (with_list lists k (x ∷ list_at lists k)) (free + 2 ^ k)
+consistent_release pages states lists free x k h small was apart =
+    let inside : x < length states = state_within states x (λ e. (let clash : Inside ≡ Allocated k = sym e ∙ was in cc)) in
     let states' = set states x (Free k) in
     let now : state_at states' x ≡ Free k = state_same states x x (Free k) inside refl in
     let others : (y : ℕ) → y ≢ x → state_at states' y ≡ state_at states y = λ y n. state_other states x y (Free k) n in
     let len = h.orders in
     let at : 2 ^ (0 + k) ≡ 2 ^ k = ap (λ n. 2 ^ n) (zero-add k) in
     let more = pages_from-more 0 lists.lists k (x ∷ list_at lists k) (omega arith) (omega arith) in
-    let sums = sum_by-set out_pages_of states x (Free k) Inside inside in
-    let some : out_pages_of (state_at states x) ≡ 2 ^ k = ap out_pages_of was in
+    let sums = sum_by-set allocated_pages_of states x (Free k) Inside inside in
+    let some : allocated_pages_of (state_at states x) ≡ 2 ^ k = ap allocated_pages_of was in
     let c = h.count in
     let t = h.total in
     let bound : free + 2 ^ k ≤ pages = omega arith in (
@@ -193,7 +193,7 @@ laid_release pages states lists free x k h small was apart =
           | inr n ↦ ap order_of (others y n)
         ]) h.cut;
         listed = listed_push lists.lists states states' k x h.orders small h.listed now (λ j. ap (mark j) was) (λ z j n. ap (mark j) (others z n));
-        merged = λ y j b e d.
+        coalesced = λ y j b e d.
             elim (cases_eq y x) [
               | inl yx ↦
                   (let jk : k ≡ j = (let s : Free k ≡ Free j = sym now ∙ ap (state_at states') (sym yx) ∙ e in cc) in
@@ -209,7 +209,7 @@ laid_release pages states lists free x k h small was apart =
                     let yb : y ≡ buddy x k = sym (buddy_twice y j) ∙ ap (λ z. buddy z j) bx ∙ ap (λ z. buddy x z) (sym jk) in
                     let small_k : k < 16 = subst (λ z. z < 16) (sym jk) b in
                     apart small_k (ap (state_at states) (sym yb) ∙ sym (others y ny) ∙ e ∙ ap (λ z. Free z) (sym jk)))
-                | inr nb ↦ h.merged y j b (sym (others y ny) ∙ e) (sym (others (buddy y j) nb) ∙ d)
+                | inr nb ↦ h.coalesced y j b (sym (others y ny) ∙ e) (sym (others (buddy y j) nb) ∙ d)
               ]
             ];
         count = omega arith;
@@ -217,11 +217,11 @@ laid_release pages states lists free x k h small was apart =
       },
     )
 
--- a span that is out is halved, and its upper half is free
-pub laid_halve : (pages : ℕ) (states : List PageState) (lists : Lists) (free x k : ℕ) → IsLaid pages states lists free → state_at states x ≡ Out (k + 1)
+-- an allocated span is split, and its upper half is free
+pub consistent_split : (pages : ℕ) (states : List PageState) (lists : Lists) (free x k : ℕ) → IsConsistent pages states lists free → state_at states x ≡ Allocated (k + 1)
     → (x + 2 ^ (k + 1) ≤ pages) × (k < 16) × (free + 2 ^ k ≤ pages) × ((j : ℕ) → j < 17 → times (x + 2 ^ k) (list_at lists j) ≡ 0)
-    × IsLaid pages (set (set states x (Out k)) (x + 2 ^ k) (Free k)) (with_list lists k ((x + 2 ^ k) ∷ list_at lists k)) (free + 2 ^ k)
-laid_halve pages states lists free x k h was =
+    × IsConsistent pages (set (set states x (Allocated k)) (x + 2 ^ k) (Free k)) (with_list lists k ((x + 2 ^ k) ∷ list_at lists k)) (free + 2 ^ k)
+consistent_split pages states lists free x k h was =
     let s : IsSpanAt pages (λ y. order_of (state_at states y)) x (k + 1) = h.cut.spans x (k + 1) (ap order_of was) in
     let within = s.within in
     let order = s.order in
@@ -230,21 +230,21 @@ laid_halve pages states lists free x k h was =
     let states_len = h.states_len in
     let inside : x < length states = omega arith in
     let u = x + 2 ^ k in
-    let mid = set states x (Out k) in
-    let mid_len : length mid ≡ length states = length-set states x (Out k) in
+    let mid = set states x (Allocated k) in
+    let mid_len : length mid ≡ length states = length-set states x (Allocated k) in
     let states' = set mid u (Free k) in
     let ux : u ≢ x = (λ e. absurd (omega arith)) in
     let empty : state_at states u ≡ Inside = inside_of (state_at states u) (s.alone u (omega arith) (omega arith)) in
     let now : state_at states' u ≡ Free k = state_same mid u u (Free k) (omega arith) refl in
-    let now_x : state_at states' x ≡ Out k = state_other mid u x (Free k) (λ e. ux (sym e)) ∙ state_same states x x (Out k) inside refl in
-    let others : (y : ℕ) → y ≢ x → y ≢ u → state_at states' y ≡ state_at states y = (λ y nx nu. state_other mid u y (Free k) nu ∙ state_other states x y (Out k) nx) in
+    let now_x : state_at states' x ≡ Allocated k = state_other mid u x (Free k) (λ e. ux (sym e)) ∙ state_same states x x (Allocated k) inside refl in
+    let others : (y : ℕ) → y ≢ x → y ≢ u → state_at states' y ≡ state_at states y = (λ y nx nu. state_other mid u y (Free k) nu ∙ state_other states x y (Allocated k) nx) in
     let len = h.orders in
     let at : 2 ^ (0 + k) ≡ 2 ^ k = ap (λ n. 2 ^ n) (zero-add k) in
     let more = pages_from-more 0 lists.lists k (u ∷ list_at lists k) (omega arith) (omega arith) in
-    let sums = sum_by-set out_pages_of states x (Out k) Inside inside in
-    let sums' = sum_by-set out_pages_of mid u (Free k) Inside (omega arith) in
-    let some : out_pages_of (state_at states x) ≡ 2 ^ (k + 1) = ap out_pages_of was in
-    let none : out_pages_of (state_at mid u) ≡ 0 = ap out_pages_of (state_other states x u (Out k) ux ∙ empty) in
+    let sums = sum_by-set allocated_pages_of states x (Allocated k) Inside inside in
+    let sums' = sum_by-set allocated_pages_of mid u (Free k) Inside (omega arith) in
+    let some : allocated_pages_of (state_at states x) ≡ 2 ^ (k + 1) = ap allocated_pages_of was in
+    let none : allocated_pages_of (state_at mid u) ≡ 0 = ap allocated_pages_of (state_other states x u (Allocated k) ux ∙ empty) in
     let c = h.count in
     let t = h.total in
     let bound : free + 2 ^ k ≤ pages = omega arith in
@@ -258,28 +258,28 @@ laid_halve pages states lists free x k h was =
         states_len = length-set mid u (Free k) ∙ mid_len ∙ states_len;
         indices = h.indices;
         orders = length-set lists.lists k _ ∙ h.orders;
-        cut = cut_halved pages _ _ x k h.cut (ap order_of was) (ap order_of now_x) (ap order_of now) (λ y nx nu. ap order_of (others y nx nu));
+        cut = cut_split pages _ _ x k h.cut (ap order_of was) (ap order_of now_x) (ap order_of now) (λ y nx nu. ap order_of (others y nx nu));
         listed = listed_push lists.lists states states' k u h.orders (omega arith) h.listed now (λ j. ap (mark j) empty)
             (λ z j nu. elim (cases_eq z x) [
               | inl e ↦ ap (λ w. mark j (state_at states' w)) e ∙ ap (mark j) now_x ∙ sym (ap (λ w. mark j (state_at states w)) e ∙ ap (mark j) was)
               | inr nx ↦ ap (mark j) (others z nx nu)
             ]);
-        merged = λ y j b e d.
+        coalesced = λ y j b e d.
             elim (cases_eq y u) [
               | inl yu ↦
                   (let jk : k ≡ j = (let q : Free k ≡ Free j = sym now ∙ ap (state_at states') (sym yu) ∙ e in cc) in
                   let by : buddy y j ≡ x = ap (λ z. buddy z j) yu ∙ ap (λ z. buddy u z) (sym jk) ∙ lower_buddy in
-                  (let clash : Out k ≡ Free j = sym now_x ∙ ap (state_at states') (sym by) ∙ d in cc))
+                  (let clash : Allocated k ≡ Free j = sym now_x ∙ ap (state_at states') (sym by) ∙ d in cc))
               | inr ny ↦ elim (cases_eq y x) [
-                | inl yx ↦ (let clash : Out k ≡ Free j = sym now_x ∙ ap (state_at states') (sym yx) ∙ e in cc)
+                | inl yx ↦ (let clash : Allocated k ≡ Free j = sym now_x ∙ ap (state_at states') (sym yx) ∙ e in cc)
                 | inr nx ↦ elim (cases_eq (buddy y j) u) [
                   | inl bu ↦
                       (let jk : k ≡ j = (let q : Free k ≡ Free j = sym now ∙ ap (state_at states') (sym bu) ∙ d in cc) in
                       let yb : y ≡ x = sym (buddy_twice y j) ∙ ap (λ z. buddy z j) bu ∙ ap (λ z. buddy u z) (sym jk) ∙ lower_buddy in
                       nx yb)
                   | inr nbu ↦ elim (cases_eq (buddy y j) x) [
-                    | inl bx ↦ (let clash : Out k ≡ Free j = sym now_x ∙ ap (state_at states') (sym bx) ∙ d in cc)
-                    | inr nbx ↦ h.merged y j b (sym (others y nx ny) ∙ e) (sym (others (buddy y j) nbx nbu) ∙ d)
+                    | inl bx ↦ (let clash : Allocated k ≡ Free j = sym now_x ∙ ap (state_at states') (sym bx) ∙ d in cc)
+                    | inr nbx ↦ h.coalesced y j b (sym (others y nx ny) ∙ e) (sym (others (buddy y j) nbx nbu) ∙ d)
                   ]
                 ]
               ]
@@ -289,10 +289,10 @@ laid_halve pages states lists free x k h was =
       },
     )
 
--- two buddies that are out are joined
-pub laid_join : (pages : ℕ) (states : List PageState) (lists : Lists) (free x k : ℕ) → IsLaid pages states lists free → k < 16 → x % 2 ^ (k + 1) ≡ 0 → state_at states x ≡ Out k → state_at states (x + 2 ^ k) ≡ Out k
-    → (x + 2 ^ (k + 1) ≤ pages) × IsLaid pages (set (set states (x + 2 ^ k) Inside) x (Out (k + 1))) lists free
-laid_join pages states lists free x k h small aligned was was_u =
+-- two allocated buddies coalesce
+pub consistent_coalesce_pair : (pages : ℕ) (states : List PageState) (lists : Lists) (free x k : ℕ) → IsConsistent pages states lists free → k < 16 → x % 2 ^ (k + 1) ≡ 0 → state_at states x ≡ Allocated k → state_at states (x + 2 ^ k) ≡ Allocated k
+    → (x + 2 ^ (k + 1) ≤ pages) × IsConsistent pages (set (set states (x + 2 ^ k) Inside) x (Allocated (k + 1))) lists free
+consistent_coalesce_pair pages states lists free x k h small aligned was was_u =
     let u = x + 2 ^ k in
     let s : IsSpanAt pages (λ y. order_of (state_at states y)) u k = h.cut.spans u k (ap order_of was_u) in
     let within = s.within in
@@ -301,30 +301,30 @@ laid_join pages states lists free x k h small aligned was was_u =
     let states_len = h.states_len in
     let mid = set states u Inside in
     let mid_len : length mid ≡ length states = length-set states u Inside in
-    let states' = set mid x (Out (k + 1)) in
+    let states' = set mid x (Allocated (k + 1)) in
     let ux : u ≢ x = (λ e. absurd (omega arith)) in
-    let now : state_at states' x ≡ Out (k + 1) = state_same mid x x (Out (k + 1)) (omega arith) refl in
-    let now_u : state_at states' u ≡ Inside = state_other mid x u (Out (k + 1)) ux ∙ state_same states u u Inside (omega arith) refl in
-    let others : (y : ℕ) → y ≢ x → y ≢ u → state_at states' y ≡ state_at states y = (λ y nx nu. state_other mid x y (Out (k + 1)) nx ∙ state_other states u y Inside nu) in
+    let now : state_at states' x ≡ Allocated (k + 1) = state_same mid x x (Allocated (k + 1)) (omega arith) refl in
+    let now_u : state_at states' u ≡ Inside = state_other mid x u (Allocated (k + 1)) ux ∙ state_same states u u Inside (omega arith) refl in
+    let others : (y : ℕ) → y ≢ x → y ≢ u → state_at states' y ≡ state_at states y = (λ y nx nu. state_other mid x y (Allocated (k + 1)) nx ∙ state_other states u y Inside nu) in
     let back : (y j : ℕ) → state_at states' y ≡ Free j → state_at states y ≡ Free j = (λ y j e. elim (cases_eq y x) [
-      | inl q ↦ absurd (let clash : Out (k + 1) ≡ Free j = sym now ∙ ap (state_at states') (sym q) ∙ e in cc)
+      | inl q ↦ absurd (let clash : Allocated (k + 1) ≡ Free j = sym now ∙ ap (state_at states') (sym q) ∙ e in cc)
       | inr nx ↦ elim (cases_eq y u) [
         | inl q ↦ absurd (let clash : Inside ≡ Free j = sym now_u ∙ ap (state_at states') (sym q) ∙ e in cc)
         | inr nu ↦ sym (others y nx nu) ∙ e
       ]
     ]) in
-    let sums = sum_by-set out_pages_of states u Inside Inside (omega arith) in
-    let sums' = sum_by-set out_pages_of mid x (Out (k + 1)) Inside (omega arith) in
-    let some : out_pages_of (state_at states u) ≡ 2 ^ k = ap out_pages_of was_u in
-    let some' : out_pages_of (state_at mid x) ≡ 2 ^ k = ap out_pages_of (state_other states u x Inside (λ e. ux (sym e)) ∙ was) in
+    let sums = sum_by-set allocated_pages_of states u Inside Inside (omega arith) in
+    let sums' = sum_by-set allocated_pages_of mid x (Allocated (k + 1)) Inside (omega arith) in
+    let some : allocated_pages_of (state_at states u) ≡ 2 ^ k = ap allocated_pages_of was_u in
+    let some' : allocated_pages_of (state_at mid x) ≡ 2 ^ k = ap allocated_pages_of (state_other states u x Inside (λ e. ux (sym e)) ∙ was) in
     let t = h.total in (
       omega arith,
       record {
         small = h.small;
-        states_len = length-set mid x (Out (k + 1)) ∙ mid_len ∙ states_len;
+        states_len = length-set mid x (Allocated (k + 1)) ∙ mid_len ∙ states_len;
         indices = h.indices;
         orders = h.orders;
-        cut = cut_joined pages _ _ x k h.cut small aligned (ap order_of was) (ap order_of was_u) (ap order_of now) (ap order_of now_u) (λ y nx nu. ap order_of (others y nx nu));
+        cut = cut_coalesced pages _ _ x k h.cut small aligned (ap order_of was) (ap order_of was_u) (ap order_of now) (ap order_of now_u) (λ y nx nu. ap order_of (others y nx nu));
         listed = λ j z q. h.listed j z q ∙ (elim (cases_eq z x) [
           | inl e ↦ ap (λ w. mark j (state_at states w)) e ∙ ap (mark j) was ∙ sym (ap (λ w. mark j (state_at states' w)) e ∙ ap (mark j) now)
           | inr nx ↦ elim (cases_eq z u) [
@@ -332,7 +332,7 @@ laid_join pages states lists free x k h small aligned was was_u =
             | inr nu ↦ sym (ap (mark j) (others z nx nu))
           ]
         ]);
-        merged = λ y j b e d. h.merged y j b (back y j e) (back (buddy y j) j d);
+        coalesced = λ y j b e d. h.coalesced y j b (back y j e) (back (buddy y j) j d);
         count = h.count;
         total = omega arith;
       },

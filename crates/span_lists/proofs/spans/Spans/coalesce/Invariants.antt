@@ -1,0 +1,9 @@
+use Rattle.std.proofs.Common.{◌-◌}
+use Rattle.span_lists.specs.inside.Steps.{IsCoalescedTo}
+use Rattle.span_lists.proofs.spans.Spans.coalesce.Given as goal
+
+abbrev pub invariant-loop-self : goal.invariant-loop-self
+invariant-loop-self l = IsCoalescedTo l.fn.self l.self l.first l.order l.at l.to
+
+abbrev pub decreases-loop-self : goal.decreases-loop-self
+decreases-loop-self l = 16 - l.to

@@ -1,9 +1,0 @@
-use Rattle.std.proofs.Common.{◌≤◌, ◌<◌}
-use Rattle.span_lists.specs.Steps.{IsHalvedTo}
-use Rattle.span_lists.proofs.spans.Spans.halve_down.Given as goal
-
-abbrev pub invariant-loop-at : goal.invariant-loop-at
-invariant-loop-at l = (l.order ≤ l.at) × (l.at ≤ l.from) × (l.from < 17) × IsHalvedTo l.fn.self l.self l.first l.from l.at
-
-abbrev pub decreases-loop-at : goal.decreases-loop-at
-decreases-loop-at l = l.at
