@@ -1,3 +1,4 @@
 pub mod Moves
 pub mod Shut
 pub mod Drains
+pub mod Named

@@ -5,6 +5,8 @@ mod choice;
 mod compact;
 mod draining;
 mod moving;
+#[cfg(test)]
+mod tests;
 mod whole;
 
 pub use compact::{Compacted, compact_one};
