@@ -62,10 +62,12 @@ fold-most (operation ∷ operations) most bound le =
     let rest = fold-most operations (max most (length operation.value)) bound le in
     (All-cons (λ o. length o.value ≤ bound) operation operations (omega (arith, rest.1)) rest.0, omega (arith, rest.1))
 
+pub value_within : (trace : Trace) → All (λ operation. is_within (longest_value trace) operation.value ≡ true) trace.operations
+value_within trace i d below =
+    le-test _ _ ((fold-most trace.operations 0 (longest_value trace) (omega arith)).0 i d below)
+
 pub puts-fit : (trace : Trace) → HasShortKeys trace → PutsHold (is_within 256) (is_within (longest_value trace)) trace
-puts-fit trace short i d below = λ put.
-    let value = (fold-most trace.operations 0 (longest_value trace) (omega arith)).0 i d below in
-    (le-test _ _ (short i d below put), le-test _ _ value)
+puts-fit trace short i d below = λ put. (le-test _ _ (short i d below put), value_within trace i d below)
 
 pub part-fits : (most : ℕ) (operation : Operation) (cache : List Row) → ReplyHolds (is_within 256) (is_within most) (apply operation cache).1
     → length (spelled (apply operation cache).1).1 ≤ most_of_body most operation

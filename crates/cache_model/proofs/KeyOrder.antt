@@ -12,11 +12,11 @@ use denote.Ref.{Bor}
 use Rattle.cache_model.specs.Apply.{is_at_most, in_order, put_in_order}
 
 -- each key is at most the next
-abbrev IsBefore : List ℕ → List (List ℕ) → Type 0
+abbrev pub IsBefore : List ℕ → List (List ℕ) → Type 0
 IsBefore key [] = Unit {0}
 IsBefore key (other ∷ others) = is_at_most key other ≡ true
 
-abbrev IsInOrder : List (List ℕ) → Type 0
+abbrev pub IsInOrder : List (List ℕ) → Type 0
 IsInOrder [] = Unit {0}
 IsInOrder (key ∷ keys) = IsBefore key keys × IsInOrder keys
 
@@ -25,13 +25,13 @@ IsInOrder (key ∷ keys) = IsBefore key keys × IsInOrder keys
 itself : (a : List ℕ) → is_at_most a a ≡ true
 itself a = ap is_le (tied_itself nat_list_cmp_total a)
 
-turned : (o : Ordering) → is_le o ≡ false → is_le (ordering_reverse o) ≡ true
-turned Less e = cc
-turned Equal e = refl
-turned Greater e = refl
+reversed_le : (o : Ordering) → is_le o ≡ false → is_le (ordering_reverse o) ≡ true
+reversed_le Less e = cc
+reversed_le Equal e = refl
+reversed_le Greater e = refl
 
 other_way : (a b : List ℕ) → is_at_most a b ≡ false → is_at_most b a ≡ true
-other_way a b e = ap is_le (nat_list_cmp_total.antisymm b a) ∙ turned (slice_cmp nat_cmp a b) e
+other_way a b e = ap is_le (nat_list_cmp_total.antisymm b a) ∙ reversed_le (slice_cmp nat_cmp a b) e
 
 tied : (o : Ordering) → is_le o ≡ true → is_le (ordering_reverse o) ≡ true → o ≡ Equal
 tied Less e f = cc
@@ -59,9 +59,9 @@ not_through a b c e f = go (is_at_most b a) refl
     go true s = absurd (true≢false (sym (through b a c s e) ∙ f))
     go false s = s
 
--- what a test by the bytes tells
-pub tells_at_most : (a b : List ℕ) → is_some_and is_le (slice_partial_cmp (λ x y. Some (nat_cmp x y)) a b) ≡ is_at_most a b
-tells_at_most a b = ap (is_some_and is_le) (lists_agrees (λ x y. refl) a b)
+-- a comparison of the bytes
+pub at_most_compares : (a b : List ℕ) → is_some_and is_le (slice_partial_cmp (λ x y. Some (nat_cmp x y)) a b) ≡ is_at_most a b
+at_most_compares a b = ap (is_some_and is_le) (lists_agrees (λ x y. refl) a b)
 
 -- ---- keys are put in one after another, in any order
 
@@ -125,9 +125,9 @@ in_order-swap (d ∷ ks) i j first second =
     let b = get_or keys j d in
     let half = set keys i b in
     let step : put_in_order (get_or half j d) (in_order (set half j a)) ≡ put_in_order a (in_order half) = put-set half j a d (omega (arith, length-set keys i b)) in
-    let both : put_in_order b (in_order (set half j a)) ≡ put_in_order b (in_order keys) =
+    let through_both : put_in_order b (in_order (set half j a)) ≡ put_in_order b (in_order keys) =
     ap (λ k. put_in_order k (in_order (set half j a))) (sym (get-set keys i j d second)) ∙ step ∙ put-set keys i b d first in
-    sym (taken-put b (in_order (set half j a))) ∙ ap (taken b) both ∙ taken-put b (in_order keys)
+    sym (taken-put b (in_order (set half j a))) ∙ ap (taken b) through_both ∙ taken-put b (in_order keys)
 
 in_order-permutation : (keys others : List (List ℕ)) → IsPermutation keys others → in_order others ≡ in_order keys
 in_order-permutation keys others moved =
@@ -139,7 +139,7 @@ put-first : (key : List ℕ) (keys : List (List ℕ)) → IsBefore key keys → 
 put-first key [] before = refl
 put-first key (other ∷ others) before = rw before refl
 
-in_order-stays : (keys : List (List ℕ)) → IsInOrder keys → in_order keys ≡ keys
+pub in_order-stays : (keys : List (List ℕ)) → IsInOrder keys → in_order keys ≡ keys
 in_order-stays [] are = refl
 in_order-stays (key ∷ keys) are = ap (put_in_order key) (in_order-stays keys are.1) ∙ put-first key keys are.0
 

@@ -8,4 +8,5 @@ pub mod Logged
 pub mod OneShard
 pub mod OwnParts
 pub mod Printed
+pub mod Rising
 pub mod TextLines

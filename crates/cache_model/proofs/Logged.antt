@@ -6,35 +6,70 @@ use Rattle.std.specs.Prelude.{All}
 use Rattle.std.proofs.lemmas.Bool.{and_parts, leb-true}
 use Rattle.std.proofs.lemmas.Bool.Decides.{nat_tests}
 use Rattle.std.proofs.lemmas.List.{length-take}
-use Rattle.std.proofs.lemmas.List.Elements.{All-head, All-tail, All-cons}
+use Rattle.std.proofs.lemmas.List.Elements.{All-head, All-tail, All-cons, All-from_recursion, All-map, All-take}
 use Rattle.trace_text.specs.declared.command.Kind.{Kind}
 use Rattle.trace_text.specs.declared.command.Kind.TheVariants as kinds
 use Rattle.trace_text.specs.Operation.{Operation}
-use Rattle.trace_text.specs.Parts.{hash, is_scan, owner}
+use Rattle.trace_text.specs.Parts.{hash, is_scan, longest_value, owner}
 use Rattle.trace_text.specs.Trace.{Trace}
 use Rattle.cache_model.specs.declared.entry.Entry.{Entry}
 use Rattle.cache_model.specs.declared.reply_kind.ReplyKind.{ReplyKind}
 use Rattle.cache_model.specs.Answer.{answer, answer_from, answer_kind}
-use Rattle.cache_model.specs.Apply.{Reply, Stored, Replaced, Value, Missing, Erased, Keys, apply, apply_kind, get_where, has, in_order, is_at_most, row_of}
+use Rattle.cache_model.specs.Apply.{Reply, Stored, Replaced, Value, Missing, Erased, Keys, apply, apply_kind, get_where, has, in_order, is_at_most, is_of, row_of, HasDistinctKeys}
 use Rattle.cache_model.specs.Bodies.{HasKeys}
-use Rattle.cache_model.specs.Holds.{PutHolds, PutsHold, ReplyHolds}
+use Rattle.cache_model.specs.Holds.{PutsHold}
 use Rattle.cache_model.specs.KeyBody.{IsKey}
 use Rattle.cache_model.specs.Legal.{command_of, reply_at}
-use Rattle.cache_model.specs.Logged.{AreFound, AreLogged, Fits}
+use Rattle.cache_model.specs.Fits.{Fits, FitsKind, HasFitting}
+use Rattle.cache_model.specs.Logged.{AreLogged}
 use Rattle.cache_model.specs.OwnParts.{HoldsReplies, part_reply, parts_of}
 use Rattle.cache_model.specs.Report.{answers}
 use Rattle.cache_model.specs.Row.{Row}
 use Rattle.cache_model.proofs.Along.{All-find, replied}
-use Rattle.cache_model.proofs.Holds.{part-holds, rows-hold}
-use Rattle.cache_model.proofs.KeyOrder.{first_stay}
+use Rattle.cache_model.proofs.Bodies.{is_within, value_within}
+use Rattle.cache_model.proofs.Distinct.{distinct-after}
+use Rattle.cache_model.proofs.Holds.{rows-hold}
+use Rattle.cache_model.proofs.KeyOrder.{All-in_order, All-scanned}
+use Rattle.cache_model.proofs.Rising.{passes-filter, scanned_rise}
 
 -- ---- a reply fits its command
 
+put-fits : (b : Bool) (longest : ℕ) (key : List ℕ) (count : ℕ) → FitsKind kinds.Put longest key count (cond b Replaced Stored)
+put-fits true longest key count = tt
+put-fits false longest key count = tt
+
+erase-fits : (b : Bool) (longest : ℕ) (key : List ℕ) (count : ℕ) → FitsKind kinds.Erase longest key count (cond b Erased Missing)
+erase-fits true longest key count = tt
+erase-fits false longest key count = tt
+
+get-fits : (o : Option Row) (longest : ℕ) (key : List ℕ) (count : ℕ) (cache : List Row) → row_of key cache ≡ o
+    → All (λ row. length row.value ≤ longest) cache → FitsKind kinds.Get longest key count (get_where o key cache).1
+get-fits None longest key count cache e short = tt
+get-fits (Some row) longest key count cache e short = All-find (λ (r : Row). length r.value ≤ longest) (is_of key) cache row short e
+
+pub kind-fits : (kind : Kind) (longest : ℕ) (operation : Operation) (cache : List Row) → HasDistinctKeys cache
+    → All (λ row. IsKey row.key) cache → All (λ row. length row.value ≤ longest) cache
+    → FitsKind kind longest operation.key operation.count (apply_kind kind operation cache).1
+kind-fits kinds.Put longest operation cache distinct keyed short = put-fits (has operation.key cache) longest operation.key operation.count
+kind-fits kinds.Get longest operation cache distinct keyed short =
+    get-fits (row_of operation.key cache) longest operation.key operation.count cache refl short
+kind-fits kinds.Erase longest operation cache distinct keyed short = erase-fits (has operation.key cache) longest operation.key operation.count
+kind-fits kinds.Scan longest operation cache distinct keyed short =
+    let above = is_at_most operation.key in
+    let IsAbove : List ℕ → Type 0 = λ key. above key ≡ true in
+    let keys = map (λ (row : Row). row.key) cache in
+    record {
+      few = omega (arith, length-take operation.count (in_order (filter above keys)));
+      rising = scanned_rise operation.count above cache distinct;
+      from = All-take IsAbove operation.count (in_order (filter above keys))
+          (All-in_order IsAbove (filter above keys) (All-from_recursion IsAbove (filter above keys) (passes-filter above keys)));
+      lengths = All-scanned IsKey above operation.count keys (All-map IsKey (λ (row : Row). row.key) cache keyed);
+    }
+
+-- ---- at an entry of a journal
+
 abbrev is_key : List ℕ → Bool
 is_key key = leb 1 (length key) && leb (length key) 256
-
-abbrev is_value : List ℕ → Bool
-is_value value = true
 
 key-test : (key : List ℕ) → IsKey key → is_key key ≡ true
 key-test key is =
@@ -47,45 +82,20 @@ key-from key passes =
     let parts = and_parts (leb 1 (length key)) (leb (length key) 256) passes in
     record { some = leb-true 1 (length key) parts.0; short = leb-true (length key) 256 parts.1 }
 
-puts-keyed : (trace : Trace) → HasKeys trace → PutsHold is_key is_value trace
-puts-keyed trace keyed i d below = λ put. (key-test _ (keyed i d below put), refl)
-
-put-fits : (b : Bool) (count : ℕ) → Fits kinds.Put count (Some (cond b Replaced Stored))
-put-fits true count = tt
-put-fits false count = tt
-
-erase-fits : (b : Bool) (count : ℕ) → Fits kinds.Erase count (Some (cond b Erased Missing))
-erase-fits true count = tt
-erase-fits false count = tt
-
-get-fits : (o : Option Row) (key : List ℕ) (cache : List Row) (count : ℕ) → Fits kinds.Get count (Some (get_where o key cache).1)
-get-fits None key cache count = tt
-get-fits (Some row) key cache count = tt
-
-kind-fits : (kind : Kind) (operation : Operation) (cache : List Row) → ReplyHolds is_key is_value (apply_kind kind operation cache).1
-    → Fits kind operation.count (Some (apply_kind kind operation cache).1)
-kind-fits kinds.Put operation cache holds = put-fits (has operation.key cache) operation.count
-kind-fits kinds.Get operation cache holds = get-fits (row_of operation.key cache) operation.key cache operation.count
-kind-fits kinds.Erase operation cache holds = erase-fits (has operation.key cache) operation.count
-kind-fits kinds.Scan operation cache holds =
-    let keys = filter (is_at_most operation.key) (map (λ row. row.key) cache) in
-    record {
-      few = omega (arith, length-take operation.count (in_order keys));
-      ordered = first_stay operation.count keys;
-      lengths = λ i d below. key-from _ (holds i d below);
-    }
+puts-keyed : (trace : Trace) → HasKeys trace → PutsHold is_key (is_within (longest_value trace)) trace
+puts-keyed trace keyed i d below = λ put. (key-test _ (keyed i d below put), value_within trace i d below)
 
 pub reply-fits : (trace : Trace) (pages : ℕ) (journal : List Entry) (operation : Operation) (reply : Reply) → HasKeys trace
     → command_of trace operation.number ≡ Some operation → reply_at trace pages journal operation.number ≡ Some reply
-    → Fits operation.kind operation.count (Some reply)
+    → Fits (longest_value trace) operation reply
 reply-fits trace pages journal operation reply keyed is e =
-    let puts = puts-keyed trace keyed in
+    let longest = longest_value trace in
     let r = replied trace pages operation.number journal reply e in
     let same : r.operation ≡ operation = cc in
-    let put = All-find (PutHolds is_key is_value) (λ o. eqb o.number operation.number) trace.operations r.operation puts r.command in
-    let holds = (part-holds is_key is_value r.operation r.cache put (rows-hold is_key is_value trace pages _ r.cache puts r.leads)).1 in
-    subst (λ (o : Operation). Fits o.kind o.count (Some reply)) same
-    (subst (λ (answered : Reply). Fits r.operation.kind r.operation.count (Some answered)) (sym r.is) (kind-fits r.operation.kind r.operation r.cache holds))
+    let rows = rows-hold is_key (is_within longest) trace pages _ r.cache (puts-keyed trace keyed) r.leads in
+    let fits = kind-fits r.operation.kind longest r.operation r.cache (distinct-after trace pages _ r.cache r.leads)
+    (λ i d below. key-from _ (rows i d below).0) (λ i d below. leb-true _ longest (rows i d below).1) in
+    subst (λ (o : Operation). Fits longest o reply) same (subst (λ (answered : Reply). Fits longest r.operation answered) (sym r.is) fits)
 
 -- ---- the replies of all shards
 
@@ -120,7 +130,7 @@ of-command false n i owner = All-cons (λ (part : ℕ × ℕ). part.0 ≡ i) (i,
 
 in-journal : (trace : Trace) (pages : ℕ) (operation : Operation) (o : Option (List Entry)) → HasKeys trace → command_of trace operation.number ≡ Some operation
     → (r : Option Reply) → option_and_then (λ journal. reply_at trace pages journal operation.number) o ≡ r → IsSome r
-    → Fits operation.kind operation.count r
+    → HasFitting (longest_value trace) operation r
 in-journal trace pages operation None keyed is None e some = absurd (cc some)
 in-journal trace pages operation None keyed is (Some reply) e some = absurd (cc e)
 in-journal trace pages operation (Some journal) keyed is None e some = absurd (cc some)
@@ -128,7 +138,7 @@ in-journal trace pages operation (Some journal) keyed is (Some reply) e some = r
 
 part-fits : (trace : Trace) (pages : ℕ) (journals : List (List Entry)) (operation : Operation) (part : ℕ × ℕ) → HasKeys trace
     → command_of trace operation.number ≡ Some operation → part.0 ≡ operation.number → IsSome (part_reply trace pages journals part)
-    → Fits operation.kind operation.count (part_reply trace pages journals part)
+    → HasFitting (longest_value trace) operation (part_reply trace pages journals part)
 part-fits trace pages journals operation (i, s) keyed is same some =
     let at : part_reply trace pages journals (operation.number, s) ≡ part_reply trace pages journals (i, s) = ap (λ (k : ℕ). part_reply trace pages journals (k, s)) (sym same) in
     in-journal trace pages operation (slice_get journals s) keyed is (part_reply trace pages journals (i, s)) at some

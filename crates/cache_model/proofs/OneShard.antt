@@ -9,13 +9,14 @@ use Rattle.trace_text.specs.Trace.{Trace}
 use Rattle.cache_model.specs.declared.entry.Entry.{Entry}
 use Rattle.cache_model.specs.Row.{Row}
 use Rattle.std.specs.List.{flat_map}
-use Rattle.cache_model.specs.Logged.{AreFound, Fits}
+use Rattle.cache_model.specs.Fits.{AreFound, FitsKind}
 use Rattle.cache_model.specs.OwnParts.{parts_of}
 use Rattle.cache_model.specs.Apply.{Reply, Stored, Replaced, Value, Missing, Erased, Keys, apply, apply_kind, in_order, is_at_most}
 use Rattle.cache_model.specs.Legal.{command_of, reply_at}
 use Rattle.cache_model.specs.Answer.{answer, answer_from, answer_kind, join}
 use Rattle.cache_model.proofs.Along.{replied}
 use Rattle.cache_model.proofs.KeyOrder.{first_stay}
+use Rattle.cache_model.proofs.Rising.{rising_stay}
 
 mod-one : (n : ℕ) → n % 1 ≡ 0
 mod-one n = omega arith
@@ -37,27 +38,27 @@ pub answer_is_reply : (trace : Trace) (pages : ℕ) (journal : List Entry) (oper
 answer_is_reply trace pages journal operation reply is e =
     let r = replied trace pages operation.number journal reply e in
     let same : r.operation ≡ operation = cc in
-    let told : reply ≡ (apply operation r.cache).1 = r.is ∙ ap (λ (o : Operation). (apply o r.cache).1) same in
-    ap (λ (o : Option Reply). answer_from 1 operation (o ∷ [])) (e ∙ ap Some told) ∙ one_answer operation.kind operation r.cache ∙ ap Some (sym told)
+    let made : reply ≡ (apply operation r.cache).1 = r.is ∙ ap (λ (o : Operation). (apply o r.cache).1) same in
+    ap (λ (o : Option Reply). answer_from 1 operation (o ∷ [])) (e ∙ ap Some made) ∙ one_answer operation.kind operation r.cache ∙ ap Some (sym made)
 
 -- ---- a reply that fits
 
-fitting_answer-keys : (operation : Operation) (keys : List (List ℕ)) → AreFound operation.count keys → answer_kind kinds.Scan 1 operation (Some (Keys keys) ∷ []) ≡ Some (Keys keys)
+fitting_answer-keys : (operation : Operation) (keys : List (List ℕ)) → AreFound operation.key operation.count keys → answer_kind kinds.Scan 1 operation (Some (Keys keys) ∷ []) ≡ Some (Keys keys)
 fitting_answer-keys operation keys found =
     ap (λ (list : List (List ℕ)). Some (Keys (take operation.count (in_order list)))) (append-nil keys)
-    ∙ ap (λ (list : List (List ℕ)). Some (Keys (take operation.count list))) found.ordered
+    ∙ ap (λ (list : List (List ℕ)). Some (Keys (take operation.count list))) (rising_stay keys found.rising)
     ∙ ap (λ (list : List (List ℕ)). Some (Keys list)) (take_all operation.count keys found.few)
 
-pub fitting_answer : (kind : Kind) (operation : Operation) (reply : Reply) → Fits kind operation.count (Some reply) → answer_kind kind 1 operation (Some reply ∷ []) ≡ Some reply
-fitting_answer kinds.Put operation reply fits = rw (mod-one (hash operation.key)) refl
-fitting_answer kinds.Get operation reply fits = rw (mod-one (hash operation.key)) refl
-fitting_answer kinds.Erase operation reply fits = rw (mod-one (hash operation.key)) refl
-fitting_answer kinds.Scan operation (Keys keys) fits = fitting_answer-keys operation keys fits
-fitting_answer kinds.Scan operation Stored fits = absurd fits
-fitting_answer kinds.Scan operation Replaced fits = absurd fits
-fitting_answer kinds.Scan operation (Value value) fits = absurd fits
-fitting_answer kinds.Scan operation Missing fits = absurd fits
-fitting_answer kinds.Scan operation Erased fits = absurd fits
+pub fitting_answer : (kind : Kind) (longest : ℕ) (operation : Operation) (reply : Reply) → FitsKind kind longest operation.key operation.count reply → answer_kind kind 1 operation (Some reply ∷ []) ≡ Some reply
+fitting_answer kinds.Put longest operation reply fits = rw (mod-one (hash operation.key)) refl
+fitting_answer kinds.Get longest operation reply fits = rw (mod-one (hash operation.key)) refl
+fitting_answer kinds.Erase longest operation reply fits = rw (mod-one (hash operation.key)) refl
+fitting_answer kinds.Scan longest operation (Keys keys) fits = fitting_answer-keys operation keys fits
+fitting_answer kinds.Scan longest operation Stored fits = absurd fits
+fitting_answer kinds.Scan longest operation Replaced fits = absurd fits
+fitting_answer kinds.Scan longest operation (Value value) fits = absurd fits
+fitting_answer kinds.Scan longest operation Missing fits = absurd fits
+fitting_answer kinds.Scan longest operation Erased fits = absurd fits
 
 -- ---- one part of each command
 

@@ -87,8 +87,8 @@ same_journal s xs ys p q e =
     let front = codes "journal " ++ decimal s in
     let these = flat_map (λ (entry : Entry). 32 ∷ entry_text entry) xs in
     let those = flat_map (λ (entry : Entry). 32 ∷ entry_text entry) ys in
-    let whole : front ++ these ≡ front ++ those = e in
-    let cut : these ≡ those = sym (drop-append_seam front these) ∙ ap (drop (length front)) whole ∙ drop-append_seam front those in
+    let joined : front ++ these ≡ front ++ those = e in
+    let cut : these ≡ those = sym (drop-append_seam front these) ∙ ap (drop (length front)) joined ∙ drop-append_seam front those in
     same_entries xs ys p q (sym (spaced-entries xs) ∙ cut ∙ spaced-entries ys)
 
 -- lists that are the same at each index

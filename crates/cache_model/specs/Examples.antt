@@ -69,7 +69,7 @@ pub record TwoShardsAreRight : Type 0 where
   pub owner_stored : answer two_shards 2 1280 (first ∷ second ∷ []) (asks 3 Put (codes "b") (codes "2") 0) ≡ Some Stored
   pub owner_alone : answer two_shards 2 1280 (second ∷ first ∷ []) (asks 3 Put (codes "b") (codes "2") 0) ≡ None
 
--- whole reports
+-- reports, byte for byte
 abbrev pub put_a : Trace
 put_a = trace_with (asks 1 Put (codes "a") (codes "1") 0 ∷ [])
 
@@ -81,7 +81,7 @@ pub record ReportsAreRight : Type 0 where
       ≡ codes "1 stored\njournal 0 1\njournal 1\nshard 0 rows 1 live 48 lent 0 back 0\nshard 1 rows 0 live 0 lent 0 back 0\n"
   pub away : report put_b 2 8192 ([] ∷ (Done 1 ∷ []) ∷ [])
       ≡ codes "1 stored\njournal 0\njournal 1 1\nshard 0 rows 0 live 0 lent 1 back 1\nshard 1 rows 1 live 48 lent 1 back 1\n"
-  pub both : report two_shards 2 8192 (first ∷ second ∷ [])
+  pub joined : report two_shards 2 8192 (first ∷ second ∷ [])
       ≡ codes "1 stored\n2 missing\n3 stored\n4 missing\n5 stored\n6 missing\n7 keys a b c\njournal 0 1 5 7\njournal 1 2 3 4 6 7\nshard 0 rows 2 live 96 lent 2 back 2\nshard 1 rows 1 live 48 lent 2 back 2\n"
 
 -- evictions: with 1,088 pages the floor is 0, and with 1,120 it is that of one dense segment

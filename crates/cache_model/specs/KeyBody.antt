@@ -13,7 +13,7 @@ pub record AreKeys (body : List ℕ) (keys : List (List ℕ)) : Type 0 where
   pub spelled : body ≡ flat_map key_field keys
   pub lengths : All IsKey keys
 
--- from this place on the body is these keys
+-- from this offset on the body is these keys
 pub record AreKeysAt (body : List ℕ) (at : ℕ) (keys : List (List ℕ)) : Type 0 where
   pub within : at ≤ length body
   pub rest : AreKeys (drop at body) keys

@@ -2,6 +2,7 @@ pub mod Answer
 pub mod Apply
 pub mod Bodies
 pub mod Examples
+pub mod Fits
 pub mod Holds
 pub mod KeyBody
 pub mod Legal

@@ -3,7 +3,7 @@ ghost use Rattle.std.specs.Prelude.{◌≡◌, map};
 ghost use Rattle.cache_model.specs.Apply.{in_order, is_at_most};
 
 /// Whether one key is at most another, by their bytes.
-#[tactic(auto, using(crate::proofs::KeyOrder::tells_at_most))]
+#[tactic(auto, using(crate::proofs::KeyOrder::at_most_compares))]
 pub fn is_at_most(key: &[u8], other: &[u8]) -> bool
     ensures { result ≡ is_at_most key.now other.now }
 {
@@ -11,6 +11,7 @@ pub fn is_at_most(key: &[u8], other: &[u8]) -> bool
 }
 
 /// Puts keys in the order of their bytes.
+#[tactic(auto, using(crate::proofs::KeyOrder::sorted_is))]
 pub fn sort_keys(keys: &mut Vec<&[u8]>)
     ensures { map (λ key. key.now) keys.new.items ≡ in_order (map (λ key. key.now) keys.old.items) }
 {

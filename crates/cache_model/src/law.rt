@@ -5,10 +5,11 @@ ghost use Rattle.cache_model.specs.declared.entry.Entry.{Entry as JournalEntry};
 ghost use Rattle.cache_model.specs.Row.{Row};
 ghost use Rattle.cache_model.specs.Apply.{Reply, apply, has, in_order, row_of, without, HasDistinctKeys};
 ghost use Rattle.cache_model.specs.Answer.{answer, answer_from};
-ghost use Rattle.cache_model.specs.Logged.{AreLogged, Fits};
+ghost use Rattle.cache_model.specs.Fits.{Fits};
+ghost use Rattle.cache_model.specs.Logged.{AreLogged};
 ghost use Rattle.cache_model.specs.declared.reply_kind.ReplyKind.{ReplyKind};
 ghost use Rattle.cache_model.specs.Bodies.{HasKeys, HasShortKeys, most_of_body};
-ghost use Rattle.cache_model.specs.KeyBody.{AreKeys};
+ghost use Rattle.cache_model.specs.KeyBody.{AreKeys, IsKey};
 ghost use Rattle.cache_model.specs.Report.{HasNumbers, Occupancy, PrintsJournals, answers, answer_text, journal_text, occupancy_text, report_of, text_lines};
 ghost use Rattle.cache_model.specs.Spelled.{spelled};
 ghost use Rattle.cache_model.specs.Unbroken.{IsUnbroken};
@@ -44,7 +45,7 @@ pub fn scanned_keys_are_in_order()
 
 /// What holds of the keys and the values of a trace's puts holds of each row of a cache to which a journal leads, and of
 /// the value or the keys in each reply and each answer.
-pub fn replies_tell_what_was_put()
+pub fn replies_hold_what_was_put()
     ensures part { (on_key on_value : List ℕ → Bool) (operation : Operation) (cache : List Row)
         → PutHolds on_key on_value operation → RowsHold on_key on_value cache
         → RowsHold on_key on_value (apply operation cache).0 × ReplyHolds on_key on_value (apply operation cache).1 }
@@ -95,7 +96,7 @@ pub fn one_shard_answers_alone()
     ensures answers { (trace : Trace) (pages : ℕ) (journal : List JournalEntry) (operation : Operation) (reply : Reply)
         → command_of trace operation.number ≡ Some operation → reply_at trace pages journal operation.number ≡ Some reply
         → answer trace 1 pages (journal ∷ []) operation ≡ Some reply }
-    ensures fitting { (operation : Operation) (reply : Reply) → Fits operation.kind operation.count (Some reply) → answer_from 1 operation (Some reply ∷ []) ≡ Some reply }
+    ensures fitting { (longest : ℕ) (operation : Operation) (reply : Reply) → Fits longest operation reply → answer_from 1 operation (Some reply ∷ []) ≡ Some reply }
 {}
 
 /// The list of the parts that a shard issues has their count as its length, and those that one shard does among them are
@@ -105,11 +106,15 @@ pub fn issued_parts_are_counted()
     ensures peer { (trace : Trace) (n o q : ℕ) → q < n → map (λ part. part.0) (filter (λ part. part.1 == q) (issued_parts trace n o)) ≡ parts trace n o q }
 {}
 
-/// The reply to each part of a command, at its entry in a journal, fits its command.
+/// The reply to a part fits its command: on a cache whose rows have different keys, as long as a trace's keys are, and no
+/// longer values than `longest`; and at its entry in a journal.
 pub fn replies_fit_their_commands()
-    ensures { (trace : Trace) (pages : ℕ) (journal : List JournalEntry) (operation : Operation) (reply : Reply)
+    ensures part { (longest : ℕ) (operation : Operation) (cache : List Row)
+        → HasDistinctKeys cache → All (λ row. IsKey row.key) cache → All (λ row. length row.value ≤ longest) cache
+        → Fits longest operation (apply operation cache).1 }
+    ensures journal { (trace : Trace) (pages : ℕ) (journal : List JournalEntry) (operation : Operation) (reply : Reply)
         → HasKeys trace → command_of trace operation.number ≡ Some operation → reply_at trace pages journal operation.number ≡ Some reply
-        → Fits operation.kind operation.count (Some reply) }
+        → Fits (longest_value trace) operation reply }
 {}
 
 /// Where the journals of n shards reply to each part, and the logs hold these replies, the logs hold the answers.

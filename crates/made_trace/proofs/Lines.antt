@@ -15,5 +15,5 @@ no_line n i words done =
     ap (λ k. made_from k (i + 1) words) left
 
 pub line_added : (text line new rest : List ℕ) (all left : List ℕ) → text ++ left ≡ all → left ≡ line ++ rest → new ≡ text ++ line → new ++ rest ≡ all
-line_added text line new rest all left whole split added =
-    ap (λ t. t ++ rest) added ∙ (append_assoc text line rest ∙ (ap (λ l. text ++ l) (sym split) ∙ whole))
+line_added text line new rest all left text_is split added =
+    ap (λ t. t ++ rest) added ∙ (append_assoc text line rest ∙ (ap (λ l. text ++ l) (sym split) ∙ text_is))

@@ -93,7 +93,7 @@ fn push_value(text: &mut Vec<u8>, i: u32, len: u32) -> Result<(), AllocError>
 /// Letter j of the value of put i.
 fn letter_at(i: u32, j: u32) -> u8
     requires number { i ≤ 100000 }
-    requires place { j < 2000 }
+    requires index { j < 2000 }
     ensures { result ≡ letter i j }
 {
     b'a' + ((i + j) % 26) as u8

@@ -2,7 +2,7 @@
 use Rattle.std.specs.Prelude.{◌≡◌, ℕ, ◌≤◌, List, Option, length, take}
 use Rattle.std.specs.Io.KnownBytes.{Appends, Consumes}
 
--- a front of `piece`, of any length up to the whole, was appended
+-- a front of `piece`, of any length up to its own, was appended
 pub record AppendsFront (old new : Option (List ℕ)) (piece : List ℕ) : Type 0 where
   pub count : ℕ
   pub within : count ≤ length piece

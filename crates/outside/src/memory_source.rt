@@ -6,8 +6,8 @@ ghost use Rattle.outside.specs.Rose.{Rose};
 use crate::{Failed, Source};
 use std::marker::Model;
 
-/// A source over bytes in memory. It gives at most so many bytes a call, and the calls that it was
-/// told to fail fail; calls are numbered from 1.
+/// A source over bytes in memory. It gives at most so many bytes a call, and the calls that are
+/// listed fail; calls are numbered from 1.
 #[derive(Drop)]
 pub struct MemorySource {
     bytes: Vec<u8>,
@@ -54,7 +54,7 @@ impl Source for MemorySource {
         ensures count { IfOk result (λ count. count ≡ min (min self.old.most (length into.old)) (length self.old.left)) }
         ensures end { IfOk result (λ count. count ≡ 0 → 0 < length into.old → self.new.left ≡ []) }
         ensures into { IfOk result (λ count. into.new ≡ take count self.old.left ++ drop count into.old) }
-        ensures given { IfOk result (λ count. self.new ≡ record self.old {
+        ensures taken { IfOk result (λ count. self.new ≡ record self.old {
           left = drop count self.old.left;
           next_call = number_after self.old.next_call;
         }) }

@@ -13,7 +13,7 @@ pub trait Source {
     // How many reads have failed.
     ghost faults: { Self → ℕ };
 
-    /// Puts the next bytes at the front of `into`, and answers how many. `Ok(0)` into a place that
+    /// Puts the next bytes at the front of `into`, and answers how many. `Ok(0)` into a slice that
     /// is not empty is the end of the input.
     fn read(&mut self, into: &mut [u8]) -> Result<usize, Failed>
         ensures fits { IfOk result (λ count. count ≤ length into.old) }

@@ -33,7 +33,7 @@ fn reading_ends_at_the_end_or_the_limit_or_a_fault(rt: HostRuntime) -> Result<()
 
 #[test]
 fn a_full_sink_keeps_the_front_of_a_piece(rt: HostRuntime) -> Result<(), Fail> {
-    for (room, piece, want, held) in [
+    for (room, piece, want, bytes) in [
         (0, "", Ok(()), ""),
         (0, "a", Err(Failed), ""),
         (3, "abc", Ok(()), "abc"),
@@ -44,7 +44,7 @@ fn a_full_sink_keeps_the_front_of_a_piece(rt: HostRuntime) -> Result<(), Fail> {
             write_all(&mut sink, piece.as_bytes()) == want,
             "{piece:?} in {room}"
         );
-        assert_eq!(rt; sink.bytes(), held.as_bytes(), "{piece:?} in {room}");
+        assert_eq!(rt; sink.bytes(), bytes.as_bytes(), "{piece:?} in {room}");
     }
     Ok(())
 }
@@ -114,9 +114,9 @@ impl Write for Unsteady {
 #[test]
 fn an_interruption_is_no_fault(rt: HostRuntime) -> Result<(), Fail> {
     let mut source = ReadSource::new(Unsteady { calls: 0 });
-    let mut place = [0; 9];
-    assert!(rt; source.read(&mut place) == Ok(1));
-    assert!(rt; source.read(&mut place) == Err(Failed));
+    let mut into = [0; 9];
+    assert!(rt; source.read(&mut into) == Ok(1));
+    assert!(rt; source.read(&mut into) == Err(Failed));
 
     let mut sink = WriteSink::new(Unsteady { calls: 0 });
     assert!(rt; write_all(&mut sink, b"a") == Ok(()));

@@ -1,4 +1,4 @@
-//! A whole piece into a sink.
+//! A piece into a sink, to its end.
 ghost use Rattle.std.specs.Prelude.{◌≡◌, ◌≤◌, [], IsOk, OnOk, OnErr};
 ghost use Rattle.std.specs.Io.KnownBytes.{Appends};
 ghost use Rattle.outside.specs.Moves.{AppendsFront};

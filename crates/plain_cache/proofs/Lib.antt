@@ -1,3 +1,3 @@
 pub mod RowLists
+pub mod Rotation
 pub mod Scanned
-pub mod Turned

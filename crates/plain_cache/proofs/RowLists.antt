@@ -1,4 +1,4 @@
--- Lists of rows: as the plain cache keeps them, and as contracts see them.
+-- Lists of rows: as the plain cache is_row_of them, and as contracts see them.
 use Rattle.std.proofs.Common.{◌≡◌, ℕ, suc, ◌+◌, ◌-◌, ◌<◌, ◌≤◌, Bool, true, false, not, ◌||◌, cond, List, [], ◌∷◌, ◌++◌, length, take, get_or, map, filter, Option, Some, None, arith, refl, sym, ap, ◌∙◌, append-nil}
 use denote.Ref.{Bor}
 use Rattle.std.specs.List.{find, last_or, position, position_from, position_or_len, remove}
@@ -11,56 +11,56 @@ use Rattle.std.proofs.lemmas.List.Sums.{sum_by-append}
 use Rattle.std.proofs.lemmas.Slice.Eq.{bytes_eq-Decides}
 use Rattle.std.proofs.lemmas.Option.{cond_some, slice_get-get_or}
 use borrow.Author.Tests.{ltb-true}
-use Rattle.plain_cache.specs.declared.plain.Kept.{Kept}
+use Rattle.plain_cache.specs.declared.plain.OwnedRow.{OwnedRow}
 use Rattle.cache_model.specs.Apply.{has, is_at_most, is_of, row_of, without, HasDistinctKeys}
-use Rattle.plain_cache.specs.Kept.{row_in, IsPlaceOf}
+use Rattle.plain_cache.specs.inside.OwnedRow.{row_in, IsPositionOf}
 use Rattle.cache_model.specs.Row.{Row, live, size}
 
--- whether a kept row has this key
-abbrev pub keeps : List ℕ → Kept → Bool
-keeps key kept = is_of key (row_in kept)
+-- whether a row has this key
+abbrev pub is_row_of : List ℕ → OwnedRow → Bool
+is_row_of key row = is_of key (row_in row)
 
 is_some-cond : (b : Bool) (n : ℕ) (o : Option ℕ) → is_some (cond b (Some n) o) ≡ (b || is_some o)
 is_some-cond true n o = refl
 is_some-cond false n o = refl
 
-any-from : (key : List ℕ) (n : ℕ) (ks : List Kept) → is_some (position_from (keeps key) n ks) ≡ has key (map row_in ks)
+any-from : (key : List ℕ) (n : ℕ) (ks : List OwnedRow) → is_some (position_from (is_row_of key) n ks) ≡ has key (map row_in ks)
 any-from key n [] = refl
 any-from key n (k ∷ ks) =
-    is_some-cond (keeps key k) n (position_from (keeps key) (n + 1) ks) ∙ ap (λ b. keeps key k || b) (any-from key (n + 1) ks)
+    is_some-cond (is_row_of key k) n (position_from (is_row_of key) (n + 1) ks) ∙ ap (λ b. is_row_of key k || b) (any-from key (n + 1) ks)
 
 -- a row is found where there is one
-pub has-position : (key : List ℕ) (ks : List Kept) → is_some (position (keeps key) ks) ≡ has key (map row_in ks)
-has-position key ks = ap is_some (position_from-zero (keeps key) ks) ∙ any-from key 0 ks
+pub has-position : (key : List ℕ) (ks : List OwnedRow) → is_some (position (is_row_of key) ks) ≡ has key (map row_in ks)
+has-position key ks = ap is_some (position_from-zero (is_row_of key) ks) ∙ any-from key 0 ks
 
-find-map : (key : List ℕ) (ks : List Kept) → row_of key (map row_in ks) ≡ option_map row_in (find (keeps key) ks)
+find-map : (key : List ℕ) (ks : List OwnedRow) → row_of key (map row_in ks) ≡ option_map row_in (find (is_row_of key) ks)
 find-map key [] = refl
 find-map key (k ∷ ks) =
-    ap (λ o. cond (keeps key k) (Some (row_in k)) o) (find-map key ks) ∙ option_map-cond (keeps key k) k (find (keeps key) ks)
+    ap (λ o. cond (is_row_of key k) (Some (row_in k)) o) (find-map key ks) ∙ option_map-cond (is_row_of key k) k (find (is_row_of key) ks)
   where
-    option_map-cond : (b : Bool) (k : Kept) (o : Option Kept) → cond b (Some (row_in k)) (option_map row_in o) ≡ option_map row_in (cond b (Some k) o)
+    option_map-cond : (b : Bool) (k : OwnedRow) (o : Option OwnedRow) → cond b (Some (row_in k)) (option_map row_in o) ≡ option_map row_in (cond b (Some k) o)
     option_map-cond true k o = refl
     option_map-cond false k o = refl
 
--- the row at the place found
-pub row_of-position : (key : List ℕ) (ks : List Kept) (i : ℕ) (d : Kept) → position (keeps key) ks ≡ Some i
+-- the row at the position found
+pub row_of-position : (key : List ℕ) (ks : List OwnedRow) (i : ℕ) (d : OwnedRow) → position (is_row_of key) ks ≡ Some i
     → row_of key (map row_in ks) ≡ Some (row_in (get_or ks i d))
 row_of-position key ks i d at =
     let found = cond_some _ _ _ at in
-    let within : position_or_len (keeps key) ks < length ks = ltb-true _ _ found.0 in
-    rw (← found.1) (find-map key ks ∙ ap (option_map row_in) (find_at (keeps key) ks ∙ slice_get-get_or ks (position_or_len (keeps key) ks) d within))
+    let within : position_or_len (is_row_of key) ks < length ks = ltb-true _ _ found.0 in
+    rw (← found.1) (find-map key ks ∙ ap (option_map row_in) (find_at (is_row_of key) ks ∙ slice_get-get_or ks (position_or_len (is_row_of key) ks) d within))
 
--- Where keys are distinct, the rows of other keys are those without the row at the place found.
+-- Where keys are distinct, the rows of other keys are those without the row at the position found.
 -- the rows of other keys are all rows where no row has the key
 abbrev pub AbsentStays : Type 0
 AbsentStays = (key : List ℕ) (cache : List Row) → has key cache ≡ false → without key cache ≡ cache
 
-pub remove-is : AbsentStays → (key : List ℕ) (ks : List Kept) → HasDistinctKeys (map row_in ks) → position_or_len (keeps key) ks < length ks
-    → map row_in (remove ks (position_or_len (keeps key) ks)) ≡ without key (map row_in ks)
+pub remove-is : AbsentStays → (key : List ℕ) (ks : List OwnedRow) → HasDistinctKeys (map row_in ks) → position_or_len (is_row_of key) ks < length ks
+    → map row_in (remove ks (position_or_len (is_row_of key) ks)) ≡ without key (map row_in ks)
 remove-is stays key [] are within = absurd (omega arith)
-remove-is stays key (k ∷ ks) are within = go (keeps key k) (position_or_len (keeps key) ks) refl within (remove-is stays key ks are.1)
+remove-is stays key (k ∷ ks) are within = go (is_row_of key k) (position_or_len (is_row_of key) ks) refl within (remove-is stays key ks are.1)
   where
-    go : (b : Bool) (n : ℕ) → keeps key k ≡ b → cond (not b) (1 + n) 0 < length (k ∷ ks) → (n < length ks → map row_in (remove ks n) ≡ without key (map row_in ks))
+    go : (b : Bool) (n : ℕ) → is_row_of key k ≡ b → cond (not b) (1 + n) 0 < length (k ∷ ks) → (n < length ks → map row_in (remove ks n) ≡ without key (map row_in ks))
         → map row_in (remove (k ∷ ks) (cond (not b) (1 + n) 0)) ≡ cond (not b) (row_in k ∷ without key (map row_in ks)) (without key (map row_in ks))
     go true n is within more =
         let same : k.key.items ≡ key = (bytes_eq-Decides k.key.items key).0 is in
@@ -70,49 +70,49 @@ remove-is stays key (k ∷ ks) are within = go (keeps key k) (position_or_len (k
         let next : 1 + n ≡ suc n = omega arith in
         ap (λ i. map row_in (remove (k ∷ ks) i)) next ∙ ap (λ rows. row_in k ∷ rows) (more (omega arith))
 
--- the place found is the place of the row
-pub is_place : AbsentStays → (key : List ℕ) (ks : List Kept) (i : ℕ) → position (keeps key) ks ≡ Some i → IsPlaceOf key ks i
-is_place stays key ks i at = record {
+-- the position found is that of the row
+pub is_position : AbsentStays → (key : List ℕ) (ks : List OwnedRow) (i : ℕ) → position (is_row_of key) ks ≡ Some i → IsPositionOf key ks i
+is_position stays key ks i at = record {
   within = let found = cond_some _ _ _ at in rw (← found.1) (ltb-true _ _ found.0);
   row = λ d. row_of-position key ks i d at;
   others = λ are. let found = cond_some _ _ _ at in rw (← found.1) (remove-is stays key ks are (ltb-true _ _ found.0));
 }
 
-find-none-at : (b : Bool) (n : ℕ) (k : Kept) (o : Option ℕ) (p : Option Kept) → (o ≡ None → p ≡ None)
+find-none-at : (b : Bool) (n : ℕ) (k : OwnedRow) (o : Option ℕ) (p : Option OwnedRow) → (o ≡ None → p ≡ None)
     → cond b (Some n) o ≡ None → cond b (Some k) p ≡ None
 find-none-at true n k o p later e = cc
 find-none-at false n k o p later e = later e
 
-find-none : (key : List ℕ) (ks : List Kept) (n : ℕ) → position_from (keeps key) n ks ≡ None → find (keeps key) ks ≡ None
+find-none : (key : List ℕ) (ks : List OwnedRow) (n : ℕ) → position_from (is_row_of key) n ks ≡ None → find (is_row_of key) ks ≡ None
 find-none key [] n at = refl
 find-none key (k ∷ ks) n at =
-    find-none-at (keeps key k) n k (position_from (keeps key) (n + 1) ks) (find (keeps key) ks) (find-none key ks (n + 1)) at
+    find-none-at (is_row_of key k) n k (position_from (is_row_of key) (n + 1) ks) (find (is_row_of key) ks) (find-none key ks (n + 1)) at
 
-absent : (key : List ℕ) (ks : List Kept) → position (keeps key) ks ≡ None → row_of key (map row_in ks) ≡ None
-absent key ks at = find-map key ks ∙ ap (option_map row_in) (find-none key ks 0 (sym (position_from-zero (keeps key) ks) ∙ at))
+absent : (key : List ℕ) (ks : List OwnedRow) → position (is_row_of key) ks ≡ None → row_of key (map row_in ks) ≡ None
+absent key ks at = find-map key ks ∙ ap (option_map row_in) (find-none key ks 0 (sym (position_from-zero (is_row_of key) ks) ∙ at))
 
-pub absent_where : (key : List ℕ) (ks : List Kept) (o : Option ℕ) → o ≡ position (keeps key) ks
+pub absent_where : (key : List ℕ) (ks : List OwnedRow) (o : Option ℕ) → o ≡ position (is_row_of key) ks
     → IfNone o (row_of key (map row_in ks) ≡ None)
 absent_where key ks None e = absent key ks (sym e)
 absent_where key ks (Some i) e = tt
 
-pub is_place_where : AbsentStays → (key : List ℕ) (ks : List Kept) (o : Option ℕ) → o ≡ position (keeps key) ks → IfSome o (IsPlaceOf key ks)
-is_place_where stays key ks None e = tt
-is_place_where stays key ks (Some i) e = is_place stays key ks i (sym e)
+pub is_position_where : AbsentStays → (key : List ℕ) (ks : List OwnedRow) (o : Option ℕ) → o ≡ position (is_row_of key) ks → IfSome o (IsPositionOf key ks)
+is_position_where stays key ks None e = tt
+is_position_where stays key ks (Some i) e = is_position stays key ks i (sym e)
 
 -- the rows before the last one
-pub front-rows : (ks kept : List Kept) (n : ℕ) → n ≡ length ks → kept ≡ take (n - 1) ks
-    → map row_in kept ≡ take (length (map row_in ks) - 1) (map row_in ks)
-front-rows ks kept n all is = rw (is, all, length-map, take-map) refl
+pub front-rows : (ks front : List OwnedRow) (n : ℕ) → n ≡ length ks → front ≡ take (n - 1) ks
+    → map row_in front ≡ take (length (map row_in ks) - 1) (map row_in ks)
+front-rows ks front n all is = rw (is, all, length-map, take-map) refl
 
 -- the last row
-pub last-map : (o : Option Row) (k : Kept) (ks : List Kept) (d : Kept)
+pub last-map : (o : Option Row) (k : OwnedRow) (ks : List OwnedRow) (d : OwnedRow)
     → last_or o (map row_in (k ∷ ks)) ≡ Some (row_in (get_or (k ∷ ks) (length ks) d))
 last-map o k [] d = refl
 last-map o k (next ∷ ks) d = last-map (Some (row_in k)) next ks d
 
 -- the live bytes, one row more
-pub live-more : (ks : List Kept) (i : ℕ) (d : Kept) → i < length ks
+pub live-more : (ks : List OwnedRow) (i : ℕ) (d : OwnedRow) → i < length ks
     → live (map row_in (take (i + 1) ks)) ≡ live (map row_in (take i ks)) + size (get_or ks i d).key.items (get_or ks i d).value.items
 live-more ks i d within =
     rw (take_more ks i d within, map-append, sum_by-append (λ row. size row.key row.value) (map row_in (take i ks)) (row_in (get_or ks i d) ∷ [])) (omega arith)
@@ -120,17 +120,17 @@ live-more ks i d within =
 pub size-le : (key value : List ℕ) → length key ≤ 256 → length value ≤ 12000 → size key value ≤ 12296
 size-le key value small_key small_value = omega arith
 
-pub last-of : (ks : List Kept) (k : Kept) → 1 ≤ length ks → k ≡ get_or ks (length ks - 1) k → last_or None (map row_in ks) ≡ Some (row_in k)
+pub last-of : (ks : List OwnedRow) (k : OwnedRow) → 1 ≤ length ks → k ≡ get_or ks (length ks - 1) k → last_or None (map row_in ks) ≡ Some (row_in k)
 last-of [] k some is = absurd (omega arith)
 last-of (first ∷ ks) k some is =
     let at : length ks ≡ length (first ∷ ks) - 1 = omega arith in
-    last-map None first ks k ∙ ap (λ kept. Some (row_in kept)) (ap (λ n. get_or (first ∷ ks) n k) at ∙ sym is)
+    last-map None first ks k ∙ ap (λ row. Some (row_in row)) (ap (λ n. get_or (first ∷ ks) n k) at ∙ sym is)
 
 -- the keys from one on, of a row more
-abbrev pub keys_from : List ℕ → List Kept → List (List ℕ)
+abbrev pub keys_from : List ℕ → List OwnedRow → List (List ℕ)
 keys_from key ks = filter (is_at_most key) (map (λ row. row.key) (map row_in ks))
 
-keys_from-more : (key : List ℕ) (ks : List Kept) (i : ℕ) (k : Kept) → i < length ks → k ≡ get_or ks i k
+keys_from-more : (key : List ℕ) (ks : List OwnedRow) (i : ℕ) (k : OwnedRow) → i < length ks → k ≡ get_or ks i k
     → keys_from key (take (i + 1) ks) ≡ keys_from key (take i ks) ++ keys_from key (k ∷ [])
 keys_from-more key ks i k within is =
     let more : take (i + 1) ks ≡ take i ks ++ k ∷ [] = take_more ks i k within ∙ ap (λ x. take i ks ++ x ∷ []) (sym is) in
@@ -139,7 +139,7 @@ keys_from-more key ks i k within is =
     ∙ ap (filter (is_at_most key)) (map-append (λ row. row.key) (map row_in (take i ks)) (row_in k ∷ []))
     ∙ filter-append (is_at_most key) (map (λ row. row.key) (map row_in (take i ks))) (k.key.items ∷ [])
 
-pub key_added : (key : List ℕ) (ks : List Kept) (i : ℕ) (k : Kept) (keys more : List (Bor (List ℕ))) (added : Bor (List ℕ))
+pub key_added : (key : List ℕ) (ks : List OwnedRow) (i : ℕ) (k : OwnedRow) (keys more : List (Bor (List ℕ))) (added : Bor (List ℕ))
     → i < length ks → k ≡ get_or ks i k → is_at_most key k.key.items ≡ true → added.now ≡ k.key.items → more ≡ keys ++ added ∷ []
     → map (λ found. found.now) keys ≡ keys_from key (take i ks) → map (λ found. found.now) more ≡ keys_from key (take (i + 1) ks)
 key_added key ks i k keys more added within is high same all so_far =
@@ -148,7 +148,7 @@ key_added key ks i k keys more added within is high same all so_far =
     ∙ ap (λ ks. ks ++ added.now ∷ []) so_far ∙ ap (λ x. keys_from key (take i ks) ++ x ∷ []) same
     ∙ sym (keys_from-more key ks i k within is ∙ ap (λ x. keys_from key (take i ks) ++ x) one)
 
-pub key_passed : (key : List ℕ) (ks : List Kept) (i : ℕ) (k : Kept) (keys : List (Bor (List ℕ)))
+pub key_passed : (key : List ℕ) (ks : List OwnedRow) (i : ℕ) (k : OwnedRow) (keys : List (Bor (List ℕ)))
     → i < length ks → k ≡ get_or ks i k → is_at_most key k.key.items ≡ false
     → map (λ found. found.now) keys ≡ keys_from key (take i ks) → map (λ found. found.now) keys ≡ keys_from key (take (i + 1) ks)
 key_passed key ks i k keys within is low so_far =

@@ -1,2 +1,2 @@
 pub mod Cache
-pub mod Kept
+pub mod inside

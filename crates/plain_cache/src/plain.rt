@@ -3,24 +3,27 @@ ghost use Rattle.std.specs.Bool.{OnTrue, OnFalse};
 ghost use Rattle.std.specs.List.{last_or};
 ghost use Rattle.trace_text.specs.Operation.{operation};
 ghost use Rattle.cache_model.specs.Apply.{apply, get, has, in_order, is_at_most, is_of, put, row_of, scan, without, HasDistinctKeys};
-ghost use Rattle.plain_cache.specs.Kept.{row_in, IsPlaceOf, IsSmall};
+ghost use Rattle.plain_cache.specs.inside.OwnedRow.{row_in, IsPositionOf, IsSmall};
 ghost use Rattle.cache_model.specs.Legal.{can_evict, is_of_put};
 ghost use Rattle.cache_model.specs.Row.{live, floor};
-ghost use Rattle.layout.specs.Sizes.{ArePages};
+ghost use Rattle.layout.specs.Sizes.{ArePages, greatest_key, greatest_value, row_overhead};
 ghost use Rattle.cache_model.specs.Spelled.{key_field, spelled, with_body};
 
 use cache_model::{
     ReplyKind, is_at_most, other_rows_are_distinct, scanned_keys_are_in_order, sort_keys,
 };
-use layout::{DENSE, SEGMENT_PAGES, TICKETS};
+use layout::{DENSE, GREATEST_KEY, GREATEST_OBJECT, GREATEST_VALUE, SEGMENT_PAGES, TICKETS};
 use run_log::append_keys;
 use std::alloc::{AllocError, Global};
 use std::marker::Model;
 use trace_text::{Command, Kind, Trace};
 
-/// A row, with the number of the put that stored it.
+/// What a row takes beside its key and its value, in bytes.
+const OVERHEAD: u64 = (GREATEST_OBJECT as u64) - (GREATEST_KEY as u64) - (GREATEST_VALUE as u64);
+
+/// A row that owns its bytes, with the number of the put that stored it.
 #[derive(Drop)]
-struct Kept {
+struct OwnedRow {
     key: Vec<u8>,
     value: Vec<u8>,
     number: u32,
@@ -30,7 +33,7 @@ struct Kept {
 #[derive(Drop)]
 pub struct Plain {
     pages: u32,
-    rows: Vec<Kept>,
+    rows: Vec<OwnedRow>,
 }
 
 impl Model for Plain {
@@ -40,7 +43,7 @@ impl Model for Plain {
 
     ghost use Rattle.std.specs.Prelude.{◌^◌, ◌<◌, length, map, All};
     ghost use Rattle.cache_model.specs.Apply.{HasDistinctKeys};
-    ghost use Rattle.plain_cache.specs.Kept.{row_in, IsSmall};
+    ghost use Rattle.plain_cache.specs.inside.OwnedRow.{row_in, IsSmall};
     ghost use Rattle.layout.specs.Sizes.{ArePages};
 
     ghost view = { λ p. record { pages = p.pages; rows = map row_in p.rows.items } };
@@ -59,31 +62,31 @@ pub fn floor_of(pages: u32) -> u64
 
 /// The bytes that a row takes, from the lengths of its key and its value.
 fn size_of(key: usize, value: usize) -> u64
-    requires key { key ≤ 256 }
-    requires value { value ≤ 12000 }
-    ensures { result ≡ (40 + key + value + 7) / 8 * 8 }
+    requires key { key ≤ greatest_key }
+    requires value { value ≤ greatest_value }
+    ensures { result ≡ (row_overhead + key + value + 7) / 8 * 8 }
 {
-    (40 + key as u64 + value as u64 + 7) / 8 * 8
+    (OVERHEAD + key as u64 + value as u64 + 7) / 8 * 8
 }
 
-fn place_of(rows: &[Kept], key: &[u8]) -> Option<usize>
+fn position_of(rows: &[OwnedRow], key: &[u8]) -> Option<usize>
     ensures { result ≡ position (λ row. is_of key.now (row_in row)) rows.now }
 {
     rows.iter().position(|row| row.key.as_slice() == key)
 }
 
-/// The place of the row of a key.
-fn seek(rows: &[Kept], key: &[u8]) -> Option<usize>
+/// The position of the row of a key.
+fn seek(rows: &[OwnedRow], key: &[u8]) -> Option<usize>
     ensures absent { IfNone result (row_of key.now (map row_in rows.now) ≡ None) }
     ensures has { is_some result ≡ has key.now (map row_in rows.now) }
-    ensures place { IfSome result (λ at. IsPlaceOf key.now rows.now at) }
+    ensures position { IfSome result (λ at. IsPositionOf key.now rows.now at) }
 {
     other_rows_are_distinct();
-    place_of(rows, key)
+    position_of(rows, key)
 }
 
 /// Whether the last row is the row of this put.
-fn is_last(rows: &[Kept], put: u32) -> bool
+fn is_last(rows: &[OwnedRow], put: u32) -> bool
     ensures { result ≡ is_of_put put (last_or None (map row_in rows.now)) }
 {
     match rows {
@@ -93,7 +96,7 @@ fn is_last(rows: &[Kept], put: u32) -> bool
 }
 
 /// Takes away the row of a key, if there is one, and answers whether there was.
-fn drop_row(rows: &mut Vec<Kept>, key: &[u8]) -> bool
+fn drop_row(rows: &mut Vec<OwnedRow>, key: &[u8]) -> bool
     requires { HasDistinctKeys (map row_in rows.old.items) }
     ensures found { result ≡ has key.now (map row_in rows.old.items) }
     ensures rows { map row_in rows.new.items ≡ without key.now (map row_in rows.old.items) }
@@ -112,7 +115,7 @@ fn drop_row(rows: &mut Vec<Kept>, key: &[u8]) -> bool
 }
 
 /// Takes away the last row.
-fn drop_last(rows: &mut Vec<Kept>)
+fn drop_last(rows: &mut Vec<OwnedRow>)
     ensures rows { map row_in rows.new.items ≡ take (length (map row_in rows.old.items) - 1) (map row_in rows.old.items) }
     ensures distinct { HasDistinctKeys (map row_in rows.old.items) → HasDistinctKeys (map row_in rows.new.items) }
     ensures small { All IsSmall rows.old.items → All IsSmall rows.new.items }
@@ -122,9 +125,9 @@ fn drop_last(rows: &mut Vec<Kept>)
     rows.pop();
 }
 
-/// Brings the row at this place to the front.
-fn bring_to_front(rows: &mut Vec<Kept>, at: usize, key: &[u8])
-    requires of_key { IsPlaceOf key.now rows.old.items at }
+/// Brings the row at this position to the front.
+fn bring_to_front(rows: &mut Vec<OwnedRow>, at: usize, key: &[u8])
+    requires of_key { IsPositionOf key.now rows.old.items at }
     requires distinct { HasDistinctKeys (map row_in rows.old.items) }
     ensures rows { IfSome (row_of key.now (map row_in rows.old.items))
         (λ row. map row_in rows.new.items ≡ row ∷ without key.now (map row_in rows.old.items)) }
@@ -137,7 +140,7 @@ fn bring_to_front(rows: &mut Vec<Kept>, at: usize, key: &[u8])
 }
 
 /// The keys of these rows that are not below a key.
-fn keys_from<'a>(alloc: Global, rows: &'a [Kept], key: &[u8]) -> Result<Vec<&'a [u8]>, AllocError>
+fn keys_from<'a>(alloc: Global, rows: &'a [OwnedRow], key: &[u8]) -> Result<Vec<&'a [u8]>, AllocError>
     ensures { IfOk result (λ keys. map (λ found. found.now) keys.items ≡ filter (is_at_most key.now) (map (λ row. row.key) (map row_in rows.now))) }
 {
     let mut keys = Vec::new(alloc);
@@ -152,12 +155,12 @@ fn keys_from<'a>(alloc: Global, rows: &'a [Kept], key: &[u8]) -> Result<Vec<&'a 
 /// The keys of a scan: those of these rows that are not below its key, in order, at most so many.
 fn scanned<'a>(
     alloc: Global,
-    rows: &'a [Kept],
+    rows: &'a [OwnedRow],
     key: &[u8],
     count: u32,
 ) -> Result<Vec<&'a [u8]>, AllocError>
     ensures keys { IfOk result (λ keys. map (λ found. found.now) keys.items ≡ take count (in_order (filter (is_at_most key.now) (map (λ row. row.key) (map row_in rows.now))))) }
-    ensures short { All IsSmall rows.now → IfOk result (λ keys. All (λ found. length found.now ≤ 256) keys.items) }
+    ensures short { All IsSmall rows.now → IfOk result (λ keys. All (λ found. length found.now ≤ greatest_key) keys.items) }
 {
     let mut keys = keys_from(alloc, rows, key)?;
     sort_keys(&mut keys);
@@ -178,7 +181,7 @@ impl Plain {
         })
     }
 
-    /// How many rows are held.
+    /// How many rows there are.
     pub fn rows(&self) -> u32
         ensures { result ≡ length self.now.rows }
     {
@@ -222,14 +225,14 @@ impl Plain {
         value: &[u8],
         number: u32,
     ) -> Result<bool, AllocError>
-        requires key { length key.now ≤ 256 }
-        requires value { length value.now ≤ 12000 }
+        requires key { length key.now ≤ greatest_key }
+        requires value { length value.now ≤ greatest_value }
         requires room { length self.old.rows < 4294967295 }
         ensures replaced { IfOk result (λ replaced. replaced ≡ has key.now self.old.rows) }
         ensures put { OnOk result (self.new ≡ record self.old { rows = (put key.now value.now number self.old.rows).0 }) }
         ensures kept { OnErr result (self.new ≡ self.old) }
     {
-        let row = Kept {
+        let row = OwnedRow {
             key: Vec::from_slice(alloc, key)?,
             value: Vec::from_slice(alloc, value)?,
             number,

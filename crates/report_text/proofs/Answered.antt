@@ -14,9 +14,11 @@ use Rattle.cache_model.specs.Apply.{Reply, Stored, Replaced, Value, Missing, Era
 use Rattle.run_log.specs.Replies.{Replies}
 use Rattle.cache_model.specs.Spelled.{spelled}
 use Rattle.cache_model.specs.Answer.{answer_from}
-use Rattle.cache_model.specs.Logged.{AreLogged, Fits}
+use Rattle.cache_model.specs.Fits.{Fits, FitsKind, HasFitting}
+use Rattle.cache_model.specs.Logged.{AreLogged}
 use Rattle.cache_model.specs.OwnParts.{issued_parts, parts_of}
 use Rattle.cache_model.specs.declared.reply_kind.ReplyKind.{ReplyKind}
+use Rattle.trace_text.specs.Parts.{longest_value}
 use Rattle.trace_text.specs.Trace.{Trace}
 use Rattle.trace_text.specs.declared.command.Kind.{Kind}
 use Rattle.trace_text.specs.declared.command.Kind.TheVariants as kinds
@@ -39,25 +41,23 @@ abbrev pub OnePartEach : Type 0
 OnePartEach = (trace : Trace) → issued_parts trace 1 0 ≡ map (λ operation. (operation.number, 0)) trace.operations
 
 abbrev pub FittingStays : Type 0
-FittingStays = (operation : Operation) (reply : Reply) → Fits operation.kind operation.count (Some reply) → answer_from 1 operation (Some reply ∷ []) ≡ Some reply
+FittingStays = (longest : ℕ) (operation : Operation) (reply : Reply) → Fits longest operation reply → answer_from 1 operation (Some reply ∷ []) ≡ Some reply
 
-fits-legal : (kind : Kind) (count : ℕ) (reply : Reply) → Fits kind count (Some reply) → HasLegalKeys reply
-fits-legal kind count Stored fits = tt
-fits-legal kind count Replaced fits = tt
-fits-legal kind count (Value value) fits = tt
-fits-legal kind count Missing fits = tt
-fits-legal kind count Erased fits = tt
-fits-legal kinds.Put count (Keys keys) fits = absurd fits
-fits-legal kinds.Get count (Keys keys) fits = absurd fits
-fits-legal kinds.Erase count (Keys keys) fits = absurd fits
-fits-legal kinds.Scan count (Keys keys) fits = fits.lengths
+fits-legal : (kind : Kind) (longest : ℕ) (key : List ℕ) (count : ℕ) (reply : Reply) → FitsKind kind longest key count reply → HasLegalKeys reply
+fits-legal kind longest key count Stored fits = tt
+fits-legal kind longest key count Replaced fits = tt
+fits-legal kind longest key count (Value value) fits = tt
+fits-legal kind longest key count Missing fits = tt
+fits-legal kind longest key count Erased fits = tt
+fits-legal kinds.Put longest key count (Keys keys) fits = absurd fits
+fits-legal kinds.Get longest key count (Keys keys) fits = absurd fits
+fits-legal kinds.Erase longest key count (Keys keys) fits = absurd fits
+fits-legal kinds.Scan longest key count (Keys keys) fits = fits.lengths
 
-some-fits : (kind : Kind) (count : ℕ) (o : Option Reply) → Fits kind count o → (reply : Reply) × (o ≡ Some reply)
-some-fits kind count (Some reply) fits = (reply, refl)
-some-fits kinds.Put count None fits = absurd fits
-some-fits kinds.Get count None fits = absurd fits
-some-fits kinds.Erase count None fits = absurd fits
-some-fits kinds.Scan count None fits = absurd fits
+some-fits : (longest : ℕ) (operation : Operation) (o : Option Reply) → HasFitting longest operation o
+    → (reply : Reply) × (o ≡ Some reply) × Fits longest operation reply
+some-fits longest operation None fits = absurd fits
+some-fits longest operation (Some reply) fits = (reply, refl, fits)
 
 -- the answers are the replies of the one log, in order
 pub record AreReplies (operations : List Operation) (log : List (Option (ReplyKind × List ℕ))) (answers : List (ℕ × Reply)) : Type 0 where
@@ -84,26 +84,24 @@ one-back operation operations answer answers log o reply number same some legal 
   legal = All-cons (λ (a : ℕ × Reply). HasLegalKeys a.1) answer answers (rw same legal) rest.legal;
 }
 
-read_back : FittingStays → (replies : ℕ × ℕ → Option Reply) (operations : List Operation) (answers : List (ℕ × Reply))
+read_back : FittingStays → (longest : ℕ) (replies : ℕ × ℕ → Option Reply) (operations : List Operation) (answers : List (ℕ × Reply))
     → map {A = ℕ × Reply} {B = ℕ × Option Reply} (λ answer. (answer.0, Some answer.1)) answers
     ≡ map {B = ℕ × Option Reply} (λ operation. (operation.number, answer_from 1 operation (replies (operation.number, 0) ∷ []))) operations
-    → All (λ operation. Fits operation.kind operation.count (replies (operation.number, 0))) operations
+    → All (λ operation. HasFitting longest operation (replies (operation.number, 0))) operations
     → AreReplies operations (map (λ operation. option_map spelled (replies (operation.number, 0))) operations) answers
-read_back stays replies [] [] e fit = record { numbers = refl; replies = refl; legal = λ i d below. absurd (omega (arith, below)) }
-read_back stays replies [] (answer ∷ answers) e fit = absurd (cc e)
-read_back stays replies (operation ∷ operations) [] e fit = absurd (cc e)
-read_back stays replies (operation ∷ operations) (answer ∷ answers) e fit =
-    let FitsHere : Operation → Type 0 = λ o. Fits o.kind o.count (replies (o.number, 0)) in
-    let fits = All-head FitsHere operation operations fit in
-    let some = some-fits operation.kind operation.count (replies (operation.number, 0)) fits in
-    let fits-some : Fits operation.kind operation.count (Some some.0) = subst (Fits operation.kind operation.count) some.1 fits in
+read_back stays longest replies [] [] e fit = record { numbers = refl; replies = refl; legal = λ i d below. absurd (omega (arith, below)) }
+read_back stays longest replies [] (answer ∷ answers) e fit = absurd (cc e)
+read_back stays longest replies (operation ∷ operations) [] e fit = absurd (cc e)
+read_back stays longest replies (operation ∷ operations) (answer ∷ answers) e fit =
+    let FitsHere : Operation → Type 0 = λ o. HasFitting longest o (replies (o.number, 0)) in
+    let some = some-fits longest operation (replies (operation.number, 0)) (All-head FitsHere operation operations fit) in
     let read : answer_from 1 operation (replies (operation.number, 0) ∷ []) ≡ Some some.0 =
-    ap (λ (o : Option Reply). answer_from 1 operation (o ∷ [])) some.1 ∙ stays operation some.0 fits-some in
+    ap (λ (o : Option Reply). answer_from 1 operation (o ∷ [])) some.1 ∙ stays longest operation some.0 some.2 in
     let here = heads-same _ _ _ _ e in
     one-back operation operations answer answers (map (λ o. option_map spelled (replies (o.number, 0))) operations) (replies (operation.number, 0)) some.0
     (ap (λ (x : ℕ × Option Reply). x.0) here) (somes-same answer.1 some.0 (ap (λ (x : ℕ × Option Reply). x.1) here ∙ read)) some.1
-    (fits-legal operation.kind operation.count some.0 fits-some)
-    (read_back stays replies operations answers (tails-same _ _ _ _ e) (All-tail FitsHere operation operations fit))
+    (fits-legal operation.kind longest operation.key operation.count some.0 some.2)
+    (read_back stays longest replies operations answers (tails-same _ _ _ _ e) (All-tail FitsHere operation operations fit))
 
 pub map-map' : {A B C : Type 0} (g : B → C) (f : A → B) (xs : List A) → map g (map f xs) ≡ map (λ x. g (f x)) xs
 map-map' g f [] = refl
@@ -113,16 +111,17 @@ pub are_replies : OnePart → OnePartEach → FittingStays → (trace : Trace) (
     → AreLogged trace 1 (replies_in logs) answers → AreReplies trace.operations log.replies answers
 are_replies part parts stays trace logs log answers is p =
     let below : 0 < 1 = omega arith in
-    let held : log.replies ≡ map (λ x. option_map spelled (p.replies x)) (issued_parts trace 1 0) =
+    let by-part : log.replies ≡ map (λ x. option_map spelled (p.replies x)) (issued_parts trace 1 0) =
     sym (ap (λ ls. slice_index_or (replies_in ls) 0 []) is) ∙ p.logged 0 [] below in
     let by-command : log.replies ≡ map (λ operation. option_map spelled (p.replies (operation.number, 0))) trace.operations =
-    held ∙ ap (map (λ x. option_map spelled (p.replies x))) (parts trace) ∙ map-map' (λ x. option_map spelled (p.replies x)) (λ operation. (operation.number, 0)) trace.operations in
-    let fit : All (λ operation. Fits operation.kind operation.count (p.replies (operation.number, 0))) trace.operations =
+    by-part ∙ ap (map (λ x. option_map spelled (p.replies x))) (parts trace) ∙ map-map' (λ x. option_map spelled (p.replies x)) (λ operation. (operation.number, 0)) trace.operations in
+    let longest = longest_value trace in
+    let fit : All (λ operation. HasFitting longest operation (p.replies (operation.number, 0))) trace.operations =
     λ i d within.
     let operation = get_or trace.operations i d in
-    All-head (λ x. Fits operation.kind operation.count (p.replies x)) (operation.number, 0) []
-    (subst (All (λ x. Fits operation.kind operation.count (p.replies x))) (part operation) (p.fit i d within)) in
-    subst (λ held. AreReplies trace.operations held answers) (sym by-command) (read_back stays p.replies trace.operations answers p.answered fit)
+    All-head (λ x. HasFitting longest operation (p.replies x)) (operation.number, 0) []
+    (subst (All (λ x. HasFitting longest operation (p.replies x))) (part operation) (p.fit i d within)) in
+    subst (λ replies. AreReplies trace.operations replies answers) (sym by-command) (read_back stays longest p.replies trace.operations answers p.answered fit)
 
 -- the answer to the command with this number
 pub record IsAnswered (answers : List (ℕ × Reply)) (log : Replies) (i number : ℕ) (reply : Reply) : Type 0 where
@@ -137,17 +136,17 @@ pub answered_at : (trace : Parsed) (commands : List Command) (logs : List Replie
     → log ≡ get_or logs 0 log → AreLogged (trace_in trace) 1 (replies_in logs) answers
     → i < length commands → IsAnswered answers log i (get_or commands i d).number (get_or answers i (0, Stored)).1
 answered_at trace commands logs log answers i d value numbered many one part parts stays is logged below =
-    let held = are_replies part parts stays (trace_in trace) logs log answers (only_log logs log (many ∙ one) (sym is)) logged in
+    let read = are_replies part parts stays (trace_in trace) logs log answers (only_log logs log (many ∙ one) (sym is)) logged in
     let op = operation trace.bytes in
     let number = (get_or commands i d).number in
     let a = get_or answers i (0, Stored) in
-    let numbers : map (λ answer. answer.0) answers ≡ map (λ o. o.number) (map op commands) = held.numbers ∙ ap (λ cs. map (λ o. o.number) (map op cs)) (sym value) in
+    let numbers : map (λ answer. answer.0) answers ≡ map (λ o. o.number) (map op commands) = read.numbers ∙ ap (λ cs. map (λ o. o.number) (map op cs)) (sym value) in
     let within : i < length answers = omega (arith, below, simp length-map at (ap length numbers)) in
     let same : a.0 ≡ number =
     sym (get_or-map (λ answer. answer.0) answers i (0, Stored) 0 within) ∙ ap (λ ns. get_or ns i 0) numbers
     ∙ get_or-map (λ o. o.number) (map op commands) i (op d) 0 (simp length-map below) ∙ ap (λ o. o.number) (get_or-map op commands i d (op d) below) in
     let counted : number ≡ i + 1 = numbered i d below in
-    let replies : map (λ answer. Some (spelled answer.1)) answers ≡ log.replies = held.replies in
+    let replies : map (λ answer. Some (spelled answer.1)) answers ≡ log.replies = read.replies in
     let recorded : slice_get log.replies i ≡ Some (Some (spelled a.1)) =
     ap (λ rs. slice_get rs i) (sym replies) ∙ slice_get-map (λ answer. Some (spelled answer.1)) answers i
     ∙ ap (option_map (λ answer. Some (spelled answer.1))) (slice_get-get_or answers i (0, Stored) within) in
@@ -156,7 +155,7 @@ answered_at trace commands logs log answers i d value numbered many one part par
       within = within;
       at = get_or_default answers i (number, a.1) (0, Stored) within ∙ ap (λ n. (n, a.1)) same;
       recorded = ap (λ n. slice_get log.replies (n - 1)) counted ∙ ap (slice_get log.replies) (add-sub_cancel i 1) ∙ recorded;
-      legal = held.legal i (0, Stored) within;
+      legal = read.legal i (0, Stored) within;
     }
 
 -- there is one answer to each command

@@ -19,7 +19,7 @@ AppendsFront-before a b piece next front = record {
   appended = subst (Appends a b) (sym (take-append-le front.count piece next front.within)) front.appended;
 }
 
--- a whole piece, and then a front of another, is a front of the two
+-- a piece, and then a front of another, is a front of the two
 pub AppendsFront-after : (a b c : Option (List ℕ)) (piece next : List ℕ) → Appends a b piece → AppendsFront b c next → AppendsFront a c (piece ++ next)
 AppendsFront-after a b c piece next all front = record {
   count = length piece + front.count;

@@ -12,7 +12,7 @@ pub record AreAdded (a b : Output) (rest : List ℕ) (keys : List (List ℕ)) : 
   pub others : List (List ℕ)
   pub text : List ℕ
   pub are : AreKeys rest others
-  pub whole : text ++ flat_map key_piece others ≡ flat_map key_piece keys
+  pub all : text ++ flat_map key_piece others ≡ flat_map key_piece keys
   pub added : Added a b text
 
 -- the rest of the body has a key and others behind it, whichever keys it is
@@ -21,7 +21,7 @@ Cuts rest key behind = (keys : List (List ℕ)) → AreKeys rest keys → (other
 
 with_key : (text key : List ℕ) (others rest keys : List (List ℕ)) → text ++ flat_map key_piece others ≡ flat_map key_piece keys → others ≡ key ∷ rest
     → (text ++ key_piece key) ++ flat_map key_piece rest ≡ flat_map key_piece keys
-with_key text key others rest keys whole is = append_assoc text (key_piece key) (flat_map key_piece rest) ∙ ap (λ ks. text ++ flat_map key_piece ks) (sym is) ∙ whole
+with_key text key others rest keys all is = append_assoc text (key_piece key) (flat_map key_piece rest) ∙ ap (λ ks. text ++ flat_map key_piece ks) (sym is) ∙ all
 
 pub added_next : (a b c : Output) (rest key behind : List ℕ) (keys : List (List ℕ)) → AreAdded a b rest keys → Cuts rest key behind → Added b c (key_piece key) → AreAdded a c behind keys
 added_next a b c rest key behind keys p cuts q =
@@ -30,7 +30,7 @@ added_next a b c rest key behind keys p cuts q =
       others = cut.0;
       text = p.text ++ key_piece key;
       are = cut.2;
-      whole = with_key p.text key p.others cut.0 keys p.whole cut.1;
+      all = with_key p.text key p.others cut.0 keys p.all cut.1;
       added = Writes-then p.added q;
     }
 
@@ -38,12 +38,12 @@ pub added_broken : (e : Failed) (a b c : Output) (rest key behind : List ℕ) (k
     → Writes {T = Unit {0}} {E = Failed} (Err e) b c (key_piece key) → Writes {T = Unit {0}} {E = Failed} (Err e) a c (flat_map key_piece keys)
 added_broken e a b c rest key behind keys p cuts q =
     let cut = cuts p.others p.are in
-    subst (Writes (Err e) a c) (with_key p.text key p.others cut.0 keys p.whole cut.1) (Writes-stop _ (Writes-then p.added q))
+    subst (Writes (Err e) a c) (with_key p.text key p.others cut.0 keys p.all cut.1) (Writes-stop _ (Writes-then p.added q))
 
 pub added_all : (a b : Output) (rest : List ℕ) (keys : List (List ℕ)) → AreAdded a b rest keys → ((ks : List (List ℕ)) → AreKeys rest ks → ks ≡ []) → Added a b (flat_map key_piece keys)
 added_all a b rest keys p none =
-    let whole : p.text ≡ flat_map key_piece keys = sym (append-nil p.text) ∙ ap (λ ks. p.text ++ flat_map key_piece ks) (sym (none p.others p.are)) ∙ p.whole in
-    subst (Added a b) whole p.added
+    let all : p.text ≡ flat_map key_piece keys = sym (append-nil p.text) ∙ ap (λ ks. p.text ++ flat_map key_piece ks) (sym (none p.others p.are)) ∙ p.all in
+    subst (Added a b) all p.added
 
 -- the next key from a place on, whose span begins at `start`
 pub cuts_at : (body : List ℕ) (at start len : ℕ) → at ≤ length body

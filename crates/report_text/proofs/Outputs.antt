@@ -22,7 +22,7 @@ Adds-then : (a b c : Output) (s t : List ℕ) → Adds a b s → Adds b c t → 
 Adds-then a b c s t p q = record {
   sent = p.sent ++ q.sent;
   appended = Appends-trans a.written b.written c.written p.sent q.sent p.appended q.appended;
-  whole = append_assoc p.sent q.sent c.buffer ∙ ap (λ l. p.sent ++ l) q.whole ∙ sym (append_assoc p.sent b.buffer t) ∙ ap (λ l. l ++ t) p.whole ∙ append_assoc a.buffer s t;
+  bytes = append_assoc p.sent q.sent c.buffer ∙ ap (λ l. p.sent ++ l) q.bytes ∙ sym (append_assoc p.sent b.buffer t) ∙ ap (λ l. l ++ t) p.bytes ∙ append_assoc a.buffer s t;
 }
 
 -- one text, and then a failure in another
@@ -30,7 +30,7 @@ Fails-after : (a b c : Output) (s t : List ℕ) → Adds a b s → a.faults ≤ 
 Fails-after a b c s t p earlier q = record {
   rose = Rose-after a.faults b.faults c.faults earlier q.rose;
   front =
-      let same : p.sent ++ (b.buffer ++ t) ≡ a.buffer ++ (s ++ t) = sym (append_assoc p.sent b.buffer t) ∙ ap (λ l. l ++ t) p.whole ∙ append_assoc a.buffer s t in
+      let same : p.sent ++ (b.buffer ++ t) ≡ a.buffer ++ (s ++ t) = sym (append_assoc p.sent b.buffer t) ∙ ap (λ l. l ++ t) p.bytes ∙ append_assoc a.buffer s t in
       subst (AppendsFront a.written c.written) same (AppendsFront-after a.written b.written c.written p.sent (b.buffer ++ t) p.appended q.front);
 }
 
@@ -62,18 +62,18 @@ Writes-exit Q {r = Err d} met p = record { outcome = p.outcome; never_falls = p.
 -- nothing was written
 pub Writes-nothing : {T E : Type 0} {u : T} {a : Output} → Writes {T = T} {E = E} (Ok u) a a []
 Writes-nothing {a = a} = record {
-  outcome = record { sent = []; appended = Appends-nil a.written; whole = sym (append-nil a.buffer) };
+  outcome = record { sent = []; appended = Appends-nil a.written; bytes = sym (append-nil a.buffer) };
   never_falls = le_refl a.faults;
 }
 
 -- with an empty buffer the sink was given the text itself
 pub Writes-sent : {T E : Type 0} (r : Result T E) (b c : Output) (t : List ℕ) → b.buffer ≡ [] → c.buffer ≡ [] → OnOk r (Appends b.written c.written t)
     → OnErr r (AppendsFront b.written c.written t) → OnErr r (Rose b.faults c.faults) → b.faults ≤ c.faults → Writes r b c t
-Writes-sent (Ok v) b c t empty after whole front rose later = record {
-  outcome = record { sent = t; appended = whole; whole = ap (λ l. t ++ l) after ∙ append-nil t ∙ ap (λ l. l ++ t) (sym empty) };
+Writes-sent (Ok v) b c t empty after written front rose later = record {
+  outcome = record { sent = t; appended = written; bytes = ap (λ l. t ++ l) after ∙ append-nil t ∙ ap (λ l. l ++ t) (sym empty) };
   never_falls = later;
 }
-Writes-sent (Err e) b c t empty after whole front rose later = record {
+Writes-sent (Err e) b c t empty after written front rose later = record {
   outcome = record { rose = rose; front = subst (λ l. AppendsFront b.written c.written (l ++ t)) (sym empty) front };
   never_falls = later;
 }

@@ -1,4 +1,4 @@
--- The lines of a report as they are laid, piece by piece.
+-- The lines of a report as they are put, piece by piece.
 use Rattle.std.proofs.Common.{◌≡◌, ℕ, List, [], ◌∷◌, ◌++◌, refl, sym, ap, ◌∙◌, append_assoc}
 use Rattle.std.specs.List.{flat_map}
 use Rattle.std.specs.Prelude.{codes, decimal}
@@ -8,7 +8,7 @@ use Rattle.cache_model.specs.declared.reply_kind.ReplyKind.TheVariants as kinds
 use Rattle.cache_model.specs.Apply.{Reply, Stored, Replaced, Value, Missing, Erased, Keys}
 use Rattle.cache_model.specs.Report.{Occupancy, line, answer_text, entry_text, journal_text, reply_text, occupancy_text}
 use Rattle.cache_model.specs.Spelled.{spelled}
-use Rattle.run_log.specs.Written.{Written}
+use Rattle.run_log.specs.JournalState.{JournalState}
 use Rattle.report_text.specs.inside.Spells.{Spells}
 use Rattle.report_text.specs.inside.Words.{word}
 use Rattle.report_text.proofs.KeysOfReplies.{keys_of}
@@ -24,7 +24,7 @@ key_piece key = 32 ∷ key
 abbrev pub answer_line : ℕ × Reply → List ℕ
 answer_line answer = line (answer_text answer)
 
-abbrev pub entries_of : Written → List Entry
+abbrev pub entries_of : JournalState → List Entry
 entries_of journal = journal.entries
 
 abbrev pub journal_line : ℕ × List Entry → List ℕ
@@ -46,20 +46,20 @@ shard_line_is shard o =
 
 -- ---- a reply as it is spelled
 
-abbrev said : ReplyKind × List ℕ → List ℕ
-said part = word part.0 ++ part.1
+abbrev word_and_body : ReplyKind × List ℕ → List ℕ
+word_and_body part = word part.0 ++ part.1
 
 words : (kind : ReplyKind) (body : List ℕ) (reply : Reply) → (kind, body) ≡ spelled reply → (kind ≡ kinds.Keys → ⊥) → word kind ++ body ≡ reply_text reply
-words kind body Stored is plain = ap said is
-words kind body Replaced is plain = ap said is
-words kind body (Value value) is plain = ap said is
-words kind body Missing is plain = ap said is
-words kind body Erased is plain = ap said is
+words kind body Stored is plain = ap word_and_body is
+words kind body Replaced is plain = ap word_and_body is
+words kind body (Value value) is plain = ap word_and_body is
+words kind body Missing is plain = ap word_and_body is
+words kind body Erased is plain = ap word_and_body is
 words kind body (Keys keys) is plain = absurd (plain (ap (λ p. p.0) is))
 
 -- a reply without keys
-pub plain_said : (kind : ReplyKind) (body : List ℕ) (reply : Reply) → Spells kind body reply → (kind ≡ kinds.Keys → ⊥) → word kind ++ body ≡ reply_text reply
-plain_said kind body reply p plain = words kind body reply p.spelled plain
+pub words_spelled : (kind : ReplyKind) (body : List ℕ) (reply : Reply) → Spells kind body reply → (kind ≡ kinds.Keys → ⊥) → word kind ++ body ≡ reply_text reply
+words_spelled kind body reply p plain = words kind body reply p.spelled plain
 
 word_of : (reply : Reply) → (later : List ℕ) × (word (spelled reply).0 ++ later ≡ reply_text reply)
 word_of Stored = ([], refl)

@@ -1,4 +1,4 @@
-//! Text on its way to a sink. It is added into a buffer, and the sink is given whole blocks.
+//! Text on its way to a sink. It is added into a buffer, and the sink is given full buffers.
 ghost use Rattle.std.specs.Prelude.{◌≡◌, true, false, [], ◌∷◌, ◌++◌, codes, decimal, OnOk};
 ghost use Rattle.report_text.specs.inside.Output.{Writes, output};
 
@@ -20,7 +20,7 @@ pub(crate) fn flush<K: Sink>(sink: &mut K, buffer: &mut Buffer) -> Result<(), Fa
 }
 
 /// Adds `text` into the buffer, and answers whether it fits there.
-fn lay(buffer: &mut Buffer, text: &[u8]) -> bool
+fn try_add(buffer: &mut Buffer, text: &[u8]) -> bool
     ensures fits { result ≡ true → buffer.new.items ≡ buffer.old.items ++ text.now }
     ensures full { result ≡ false → buffer.new.items ≡ buffer.old.items }
 {
@@ -32,11 +32,11 @@ fn lay(buffer: &mut Buffer, text: &[u8]) -> bool
 pub(crate) fn put<K: Sink>(sink: &mut K, buffer: &mut Buffer, text: &[u8]) -> Result<(), Failed>
     ensures { Writes result (output (K.written sink.old) (K.faults sink.old) buffer.old.items) (output (K.written sink.new) (K.faults sink.new) buffer.new.items) text.now }
 {
-    if lay(buffer, text) {
+    if try_add(buffer, text) {
         return Ok(());
     }
     flush(sink, buffer)?;
-    if lay(buffer, text) {
+    if try_add(buffer, text) {
         return Ok(());
     }
     write_all(sink, text)

@@ -134,14 +134,14 @@ pub(crate) fn put_shard_line<K: Sink>(
     sink: &mut K,
     buffer: &mut Buffer,
     shard: u64,
-    held: &ShardLine,
+    occupancy: &ShardLine,
 ) -> Result<(), Failed>
-    ensures { Writes result (output (K.written sink.old) (K.faults sink.old) buffer.old.items) (output (K.written sink.new) (K.faults sink.new) buffer.new.items) (line (occupancy_text (shard, occupancy_in held.now))) }
+    ensures { Writes result (output (K.written sink.old) (K.faults sink.old) buffer.old.items) (output (K.written sink.new) (K.faults sink.new) buffer.new.items) (line (occupancy_text (shard, occupancy_in occupancy.now))) }
 {
     put_field(sink, buffer, b"shard ", shard)?;
-    put_field(sink, buffer, b" rows ", u64::from(held.rows))?;
-    put_field(sink, buffer, b" live ", held.live)?;
-    put_field(sink, buffer, b" lent ", held.lent)?;
-    put_field(sink, buffer, b" back ", held.back)?;
+    put_field(sink, buffer, b" rows ", u64::from(occupancy.rows))?;
+    put_field(sink, buffer, b" live ", occupancy.live)?;
+    put_field(sink, buffer, b" lent ", occupancy.lent)?;
+    put_field(sink, buffer, b" back ", occupancy.back)?;
     end_line(sink, buffer)
 }

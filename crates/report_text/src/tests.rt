@@ -1,57 +1,92 @@
 //! What no contract says: that a report can be written at all, and what it looks like.
-ghost use Rattle.std.specs.Prelude.{◌≡◌, ℕ, ◌≤◌, List, [], ◌∷◌, length, Some, false, IfOk};
-ghost use Rattle.cache_model.specs.Apply.{Reply, Keys};
+ghost use Rattle.std.specs.Prelude.{◌≡◌, ℕ, ◌≤◌, List, [], ◌∷◌, length, true, IfOk};
+ghost use Rattle.cache_model.specs.Apply.{Reply, Keys, is_at_most};
+ghost use Rattle.cache_model.specs.Fits.{AreFound, FitsKind};
 ghost use Rattle.trace_text.specs.Parsed.{trace_in};
-ghost use Rattle.cache_model.specs.Logged.{AreFound, AreLogged, Fits};
+ghost use Rattle.cache_model.specs.Logged.{AreLogged};
 ghost use Rattle.cache_model.specs.Spelled.{spelled};
-ghost use Rattle.trace_text.specs.declared.command.Kind.{Kind as AskedKind};
-ghost use Rattle.trace_text.specs.Parts.{is_scan};
+ghost use Rattle.trace_text.specs.declared.command.Kind.TheVariants as CommandKind;
 
 use crate::{ShardLine, write_report};
-use cache_model::{Entry, ReplyKind, one_shard_answers_alone};
+use cache_model::{Entry, ReplyKind, is_at_most, one_shard_answers_alone};
 use outside::{Failed, MemorySink};
 use run_log::{Journal, ReplyLog};
 use std::alloc::{AllocError, Global};
 use std::process::Abort;
 use std::test::Fail;
-use trace_text::{Command, Kind, Trace, parse};
+use trace_text::{Kind, Trace, parse};
 
 /// The keys b and c.
 const B_AND_C: &[u8] = b"\x01\0b\x01\0c";
 
-/// A reply to a scan of so many keys: the keys b and c where the body is theirs, else none.
-fn found_keys(count: u32, body: &[u8]) -> &[u8]
-    ensures keys { (keys : List (List ℕ)) × AreFound count keys × ((ReplyKind.Keys, result.now) ≡ spelled (Keys keys)) }
+/// Whether a scan of so many keys, from this one on, can find b and c.
+fn finds_b_and_c(key: &[u8], count: u32) -> bool
+    ensures { result ≡ true → (2 ≤ count) × (is_at_most key.now (98 ∷ []) ≡ true) × (is_at_most key.now (99 ∷ []) ≡ true) }
+{
+    count >= 2 && is_at_most(key, b"b") && is_at_most(key, b"c")
+}
+
+/// The keys that a scan finds: b and c where the body is theirs and the scan can find them, else none.
+fn found_keys<'b>(key: &[u8], count: u32, body: &'b [u8]) -> &'b [u8]
+    ensures keys { (keys : List (List ℕ)) × AreFound key.now count keys × ((ReplyKind.Keys, result.now) ≡ spelled (Keys keys)) }
     ensures short { length result.now ≤ length body.now }
 {
-    if count >= 2 && body == B_AND_C {
+    if finds_b_and_c(key, count) && body == B_AND_C {
         body
     } else {
         &body[..0]
     }
 }
 
-/// A reply of this kind to another command. Its body is this one where it is a value; else it has none.
-fn plain_reply(kind: ReplyKind, body: &[u8]) -> (ReplyKind, &[u8])
-    ensures reply { (reply : Reply) × ((result.0, result.1.now) ≡ spelled reply)
-        × ((asked : AskedKind) (count : ℕ) → is_scan asked ≡ false → Fits asked count (Some reply)) }
-    ensures short { length result.1.now ≤ length body.now }
+/// The kind of a reply to a put: this one, where it can be.
+fn put_reply(kind: ReplyKind) -> ReplyKind
+    ensures { (reply : Reply) × ((result, []) ≡ spelled reply) × ((longest : ℕ) (key : List ℕ) (count : ℕ) → FitsKind CommandKind.Put longest key count reply) }
 {
     match kind {
-        ReplyKind::Value => (kind, body),
-        ReplyKind::Keys => (ReplyKind::Missing, &body[..0]),
-        _ => (kind, &body[..0]),
+        ReplyKind::Replaced => ReplyKind::Replaced,
+        _ => ReplyKind::Stored,
     }
 }
 
-/// A reply that a command can have.
-fn reply_to<'b>(command: &Command, kind: ReplyKind, body: &'b [u8]) -> (ReplyKind, &'b [u8])
-    ensures fits { (reply : Reply) × ((result.0, result.1.now) ≡ spelled reply) × Fits command.now.kind command.now.count (Some reply) }
+/// The kind of a reply to an erase: this one, where it can be.
+fn erase_reply(kind: ReplyKind) -> ReplyKind
+    ensures { (reply : Reply) × ((result, []) ≡ spelled reply) × ((longest : ℕ) (key : List ℕ) (count : ℕ) → FitsKind CommandKind.Erase longest key count reply) }
+{
+    match kind {
+        ReplyKind::Erased => ReplyKind::Erased,
+        _ => ReplyKind::Missing,
+    }
+}
+
+/// The reply to a get, where no value is longer than `longest`: this one where it can be, else that the key is missing.
+fn get_reply(longest: u32, kind: ReplyKind, body: &[u8]) -> (ReplyKind, &[u8])
+    ensures fits { (key : List ℕ) (count : ℕ) → (reply : Reply) × ((result.0, result.1.now) ≡ spelled reply) × FitsKind CommandKind.Get longest key count reply }
     ensures short { length result.1.now ≤ length body.now }
 {
-    match command.kind {
-        Kind::Scan => (ReplyKind::Keys, found_keys(command.count, body)),
-        _ => plain_reply(kind, body),
+    if kind == ReplyKind::Value && body.len() <= longest as usize {
+        (ReplyKind::Value, body)
+    } else {
+        (ReplyKind::Missing, &body[..0])
+    }
+}
+
+/// A reply that a command of this kind can have.
+fn reply_to<'b>(
+    asked: Kind,
+    longest: u32,
+    key: &[u8],
+    count: u32,
+    kind: ReplyKind,
+    body: &'b [u8],
+) -> (ReplyKind, &'b [u8])
+    ensures fits { (reply : Reply) × ((result.0, result.1.now) ≡ spelled reply) × FitsKind asked longest key.now count reply }
+    ensures short { length result.1.now ≤ length body.now }
+{
+    match asked {
+        Kind::Put => (put_reply(kind), &body[..0]),
+        Kind::Get => get_reply(longest, kind, body),
+        Kind::Erase => (erase_reply(kind), &body[..0]),
+        Kind::Scan => (ReplyKind::Keys, found_keys(key, count, body)),
     }
 }
 
@@ -68,10 +103,13 @@ fn log_of(
     one_shard_answers_alone();
     assert!(rt; commands.len() == replies.len());
     assert!(rt; replies.len() <= 10);
+    let longest = trace.longest_value();
     let mut log = ReplyLog::new(alloc, replies.len() as u32, 1000)?;
     for (part, (kind, body)) in replies.iter().enumerate() {
         assert!(rt; body.len() <= 100);
-        let (kind, body) = reply_to(&commands[part], *kind, body);
+        let command = &commands[part];
+        let key = trace.key(command);
+        let (kind, body) = reply_to(command.kind, longest, key, command.count, *kind, body);
         log.record(part as u32, kind, body);
     }
     Ok(log)
@@ -120,7 +158,7 @@ fn check_report(
 #[test]
 fn a_report_has_the_answers_the_journal_and_the_shard(rt: HostRuntime) -> Result<(), Fail> {
     use ReplyKind::{Erased, Keys, Missing, Replaced, Stored, Value};
-    for (input, replies, held, text) in [
+    for (input, replies, occupancy, text) in [
         (
             "put a abc\nget a\n",
             [(Stored, b"".as_slice()), (Value, b"abc")].as_slice(),
@@ -160,7 +198,7 @@ fn a_report_has_the_answers_the_journal_and_the_shard(rt: HostRuntime) -> Result
             "1 stored\n2 stored\n3 value 1\n4 keys b c\n5 keys\n6 missing\njournal 0 1 2 3 4 5 6\nshard 0 rows 2 live 96 lent 0 back 0\n",
         ),
     ] {
-        check_report(&rt, rt.alloc(), input, replies, held, 1000, Ok(()), text)?;
+        check_report(&rt, rt.alloc(), input, replies, occupancy, 1000, Ok(()), text)?;
     }
     Ok(())
 }
@@ -181,7 +219,7 @@ fn a_report_ends_where_its_sink_fails(rt: HostRuntime) -> Result<(), Fail> {
 }
 
 #[test]
-fn a_report_longer_than_a_block_is_whole(rt: HostRuntime) -> Result<(), Fail> {
+fn a_report_longer_than_a_buffer_is_complete(rt: HostRuntime) -> Result<(), Fail> {
     let trace = parse(rt.alloc(), Vec::new(rt.alloc()), 1)?;
     let log = log_of(&rt, rt.alloc(), &trace, &[])?;
     let entries = vec![in rt.alloc(); Entry::Done(1_000_000); 20_000]?;

@@ -64,7 +64,7 @@ first_cut body key behind n long n_is key_is behind_is keys p =
       subst (λ bytes. AreKeys bytes first.rest) (ap (λ k. drop k (drop 2 body)) (sym n_is) ∙ sym (behind_is ∙ ap (drop n) (take_rest body 2))) first.others,
     )
 
--- The first key of the body from a place on stands behind its two bytes.
+-- The first key of the body from an offset on stands behind its two bytes.
 pub next_cut : (body : List ℕ) (at : ℕ) (key : List ℕ) (rest : List (List ℕ)) → AreKeysAt body at (key ∷ rest)
     → (part body (record { start = at + 2; len = length key }) ≡ key) × AreKeysAt body (at + 2 + length key) rest
 next_cut body at key rest p =

@@ -6,7 +6,7 @@ use Rattle.std.proofs.lemmas.List.Elements.{All-head, All-tail}
 use Rattle.std.proofs.Math.Seq.{drop-append_seam}
 use Rattle.cache_model.specs.declared.reply_kind.ReplyKind.{ReplyKind}
 use Rattle.run_log.specs.declared.reply_log.Recorded.{Recorded}
-use Rattle.run_log.specs.Recorded.{reply_in, LiesIn}
+use Rattle.run_log.specs.inside.Recorded.{reply_in, LiesIn}
 
 pub unanswered : (bytes : List ℕ) (n : ℕ) → map (reply_in bytes) (replicate n None) ≡ replicate n None
 unanswered bytes zero = refl

@@ -1,3 +1,3 @@
-pub mod Recorded
+pub mod JournalState
 pub mod Replies
-pub mod Written
+pub mod inside

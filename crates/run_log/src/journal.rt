@@ -13,9 +13,9 @@ pub struct Journal {
 
 impl Model for Journal {
     ghost use Rattle.std.specs.Prelude.{◌≡◌, ◌-◌, ◌≤◌, vec_len, vec_capacity};
-    ghost use Rattle.run_log.specs.Written.{Written};
+    ghost use Rattle.run_log.specs.JournalState.{JournalState};
 
-    ghost Value = { Written };
+    ghost Value = { JournalState };
 
     ghost view = { λ j. record { entries = j.entries.items; spare = j.room - vec_len j.entries } };
 

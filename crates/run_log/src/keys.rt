@@ -1,5 +1,7 @@
 //! The keys of a body of keys.
+ghost use Rattle.std.specs.Int.{w16, from_le_bytes};
 ghost use Rattle.std.specs.Prelude.{◌≡◌, ℕ, ◌+◌, ◌^◌, ◌<◌, ◌≤◌, ◌↔◌, List, [], ◌∷◌, ◌++◌, length, map, take, flat_map, replicate, vec_len, All, IsNone, IfNone, IfSome, OnOk, OnErr};
+ghost use Rattle.layout.specs.Sizes.{greatest_key};
 ghost use Rattle.trace_text.specs.Operation.{part};
 ghost use Rattle.cache_model.specs.KeyBody.{AreKeys, AreKeysAt};
 ghost use Rattle.cache_model.specs.Spelled.{key_field};
@@ -18,8 +20,15 @@ fn first_key(body: &[u8]) -> Option<(&[u8], &[u8])>
     let [low, high, behind @ ..] = body else {
         return None;
     };
-    let len = u16::from_le_bytes([*low, *high]);
+    let len = key_length(*low, *high);
     Some(behind.split_at(len as usize))
+}
+
+/// The length that two bytes spell, low byte first.
+fn key_length(low: u8, high: u8) -> u16
+    ensures { result ≡ from_le_bytes w16 (low ∷ high ∷ []) }
+{
+    u16::from_le_bytes([low, high])
 }
 
 /// Where the key stands whose length stands at `at` of a body of keys; None at the body's end. Its
@@ -35,15 +44,23 @@ pub fn next_key(body: &[u8], at: u32) -> Option<Span>
     ensures first { IfSome result (λ span. (keys : List (List ℕ)) → AreKeysAt body.now at keys → (rest : List (List ℕ)) × (keys ≡ part body.now span ∷ rest) × AreKeysAt body.now (span.start + span.len) rest) }
 {
     let (key, _) = first_key(&body[at as usize..])?;
-    Some(Span {
+    Some(span_behind(at, key))
+}
+
+/// Where a key stands whose length stands at `at`.
+fn span_behind(at: u32, key: &[u8]) -> Span
+    requires { at + 2 + length key.now < 2 ^ 32 }
+    ensures { result ≡ record { start = at + 2; len = length key.now } }
+{
+    Span {
         start: at + 2,
         len: key.len() as u32,
-    })
+    }
 }
 
 /// Appends a key: its length in two bytes, low byte first, and its bytes.
 fn append_key(body: &mut Vec<u8>, key: &[u8]) -> Result<(), AllocError>
-    requires { length key.now ≤ 256 }
+    requires { length key.now ≤ greatest_key }
     ensures appended { OnOk result (body.new.items ≡ body.old.items ++ key_field key.now) }
     ensures kept { OnErr result (body.new.items ≡ body.old.items) }
 {
@@ -56,7 +73,7 @@ fn append_key(body: &mut Vec<u8>, key: &[u8]) -> Result<(), AllocError>
 
 /// Appends these keys. Without the memory for one of them, the ones before it stand.
 pub fn append_keys(body: &mut Vec<u8>, keys: &[&[u8]]) -> Result<(), AllocError>
-    requires { All (λ key. length key.now ≤ 256) keys.now }
+    requires { All (λ key. length key.now ≤ greatest_key) keys.now }
     ensures appended { OnOk result (body.new.items ≡ body.old.items ++ flat_map key_field (map (λ key. key.now) keys.now)) }
     ensures front { OnErr result (take (vec_len body.old) body.new.items ≡ body.old.items) }
 {

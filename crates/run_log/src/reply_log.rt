@@ -29,7 +29,7 @@ impl Model for ReplyLog {
     ghost Value = { Replies };
 
     ghost use Rattle.std.specs.Prelude.{◌≡◌, ◌-◌, ◌≤◌, vec_len, vec_capacity, length, map, All};
-    ghost use Rattle.run_log.specs.Recorded.{reply_in, LiesIn};
+    ghost use Rattle.run_log.specs.inside.Recorded.{reply_in, LiesIn};
 
     ghost view = { λ l. record { replies = map (reply_in l.bytes.items) l.recorded.items; room = l.room - vec_len l.bytes } };
 

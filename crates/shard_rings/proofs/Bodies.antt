@@ -12,7 +12,7 @@ use Rattle.shard_rings.specs.declared.reply.ReplyView.{ReplyView}
 use Rattle.shard_rings.specs.Reply.{reply_byte, key_count, IsSendable, IsViewOf}
 use Rattle.shard_rings.specs.inside.Body.{HasKeys, IsBody}
 
--- the byte of a kind, by which kinds are told apart
+-- the byte of a kind, by which kinds differ
 abbrev byte_of : ReplyKind × List ℕ → ℕ
 byte_of r = reply_byte r.0
 

@@ -28,10 +28,10 @@ first_of body count [] counted are is = absurd (omega (arith, counted))
 first_of body count (key ∷ keys) counted are is =
     let few = All-head IsKey key keys are in
     let others = flat_map key_field keys in
-    let whole : body ≡ to_le_bytes w16 (length key) ++ (key ++ others) = is in
-    let long : len_at body ≡ length key = ap len_at whole ∙ from_le_bytes-to_le_bytes_2 (length key) (omega (arith, few.short)) in
-    let behind : drop 2 body ≡ key ++ others = ap (drop 2) whole in (
-      omega (arith, ap length whole),
+    let split : body ≡ to_le_bytes w16 (length key) ++ (key ++ others) = is in
+    let long : len_at body ≡ length key = ap len_at split ∙ from_le_bytes-to_le_bytes_2 (length key) (omega (arith, few.short)) in
+    let behind : drop 2 body ≡ key ++ others = ap (drop 2) split in (
+      omega (arith, ap length split),
       record {
         least = omega (arith, long, few.some);
         most = omega (arith, long, few.short);

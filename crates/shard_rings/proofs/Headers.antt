@@ -105,5 +105,5 @@ head_again h few number len =
 
 pub heads_same : (bytes : List ℕ) (g h : Head) → IsHeadOf g bytes → IsHeadOf h bytes → g ≡ h
 heads_same bytes g h p q =
-    let both : reply_header g.kind g.keys g.number g.len ≡ reply_header h.kind h.keys h.number h.len = sym p.begins ∙ q.begins in
-    sym (head_again g p.keys p.number p.len) ∙ ap head_from both ∙ head_again h q.keys q.number q.len
+    let same : reply_header g.kind g.keys g.number g.len ≡ reply_header h.kind h.keys h.number h.len = sym p.begins ∙ q.begins in
+    sym (head_again g p.keys p.number p.len) ∙ ap head_from same ∙ head_again h q.keys q.number q.len

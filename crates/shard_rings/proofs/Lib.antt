@@ -4,5 +4,4 @@ pub mod Headers
 pub mod Meshes
 pub mod Messages
 pub mod Replied
-pub mod Rising
 pub mod Unique

@@ -17,8 +17,8 @@ pub if_none : {A : Type 0} (x : Option A) (P : Type 0) → P → IfNone x P
 if_none None P p = p
 if_none (Some y) P p = tt
 
-whole : (bytes front behind : List ℕ) → StartsWith bytes (front ++ behind) → take (length front) bytes ++ take (length behind) (drop (length front) bytes) ≡ front ++ behind
-whole bytes front behind p =
+front_and_behind : (bytes front behind : List ℕ) → StartsWith bytes (front ++ behind) → take (length front) bytes ++ take (length behind) (drop (length front) bytes) ≡ front ++ behind
+front_and_behind bytes front behind p =
     sym (take-add (length front) (length behind) bytes) ∙ ap (λ (n : ℕ). take n bytes) (sym (length-append front behind)) ∙ p
 
 pub starts_first : (bytes front behind : List ℕ) → StartsWith bytes (front ++ behind) → StartsWith bytes front
@@ -26,14 +26,14 @@ starts_first bytes front behind p =
     let long : length front ≤ length bytes = omega (arith, ap length p, length-take (length (front ++ behind)) bytes, length-append front behind) in
     let n : length (take (length front) bytes) ≡ length front = omega (arith, length-take (length front) bytes, long) in
     sym (take_at (take (length front) bytes) (take (length behind) (drop (length front) bytes)) (length front) n)
-    ∙ ap (λ (t : List ℕ). take (length front) t) (whole bytes front behind p) ∙ take-append_seam front behind
+    ∙ ap (λ (t : List ℕ). take (length front) t) (front_and_behind bytes front behind p) ∙ take-append_seam front behind
 
 pub starts_second : (bytes front behind : List ℕ) → StartsWith bytes (front ++ behind) → take (length behind) (drop (length front) bytes) ≡ behind
 starts_second bytes front behind p =
     let long : length front ≤ length bytes = omega (arith, ap length p, length-take (length (front ++ behind)) bytes, length-append front behind) in
     let n : length (take (length front) bytes) ≡ length front = omega (arith, length-take (length front) bytes, long) in
     sym (drop_at (take (length front) bytes) (take (length behind) (drop (length front) bytes)) (length front) n)
-    ∙ ap (λ (t : List ℕ). drop (length front) t) (whole bytes front behind p) ∙ drop-append_seam front behind
+    ∙ ap (λ (t : List ℕ). drop (length front) t) (front_and_behind bytes front behind p) ∙ drop-append_seam front behind
 
 abbrev pub head_for : ℕ → Reply → Head
 head_for number reply = record { kind = (spelled reply).0; keys = key_count reply; number = number; len = length (spelled reply).1 }

@@ -10,8 +10,8 @@ use Rattle.shard_rings.specs.declared.ask.Ask.{Ask}
 abbrev pub asked : Ask → Operation
 asked ask = record { number = ask.number; line = 0; kind = ask.kind; key = ask.key.now; value = ask.value.now; count = ask.count }
 
-abbrev pub without_line : Operation → Operation
-without_line operation = record operation { line = 0 }
+abbrev pub on_no_line : Operation → Operation
+on_no_line operation = record operation { line = 0 }
 
 -- a put has a value, which may be empty, and a scan has a count; the other kinds have neither
 pub record IsAskable (operation : Operation) : Type 0 where

@@ -17,8 +17,8 @@ abbrev pub on : {A : Type 0} → Lane → Lanes A → A
 on Requests lanes = lanes.requests
 on Replies lanes = lanes.replies
 
-abbrev pub both : {A : Type 0} → A → Lanes A
-both a = record { requests = a; replies = a }
+abbrev pub each_lane : {A : Type 0} → A → Lanes A
+each_lane a = record { requests = a; replies = a }
 
 -- this packet more, at the end of one lane's list
 abbrev pub adds : Lane → Packet → Lanes (List Packet) → Lanes (List Packet)

@@ -1,6 +1,5 @@
 pub mod Ask
 pub mod Expected
-pub mod Held
 pub mod Lanes
 pub mod Links
 pub mod Mesh

@@ -1,7 +1,7 @@
 -- The links, as contracts see them.
 use Rattle.std.specs.Prelude.{◌≡◌, ℕ, List, []}
 use Rattle.shard_rings.specs.declared.link.Packet.{Packet}
-use Rattle.shard_rings.specs.Lanes.{Lanes, both, RingId, LinkEnd}
+use Rattle.shard_rings.specs.Lanes.{Lanes, each_lane, RingId, LinkEnd}
 
 -- the sending ends of two rings: what was sent, and how many sends were refused
 pub record Outgoing : Type 0 where
@@ -25,10 +25,10 @@ end_of link = record { out = link.out.rings; into = link.into.rings }
 
 -- nothing was sent or received, or tried
 abbrev pub none_sent : Lanes RingId → Outgoing
-none_sent rings = record { rings = rings; sent = both []; full = both 0 }
+none_sent rings = record { rings = rings; sent = each_lane []; full = each_lane 0 }
 
 abbrev pub none_received : Lanes RingId → Incoming
-none_received rings = record { rings = rings; received = both []; empty = both 0 }
+none_received rings = record { rings = rings; received = each_lane []; empty = each_lane 0 }
 
 abbrev pub IsUnused : LinkState → Type 0
 IsUnused link = (link.out ≡ none_sent link.out.rings) × (link.into ≡ none_received link.into.rings)

@@ -7,6 +7,7 @@ use Rattle.cache_model.specs.KeyBody.{IsKey}
 use Rattle.cache_model.specs.declared.reply_kind.ReplyKind.{ReplyKind}
 use Rattle.cache_model.specs.declared.reply_kind.ReplyKind.TheVariants as kinds
 use Rattle.cache_model.specs.Apply.{Reply, Stored, Replaced, Value, Missing, Erased, Keys}
+use Rattle.cache_model.specs.Row.{Row}
 use Rattle.cache_model.specs.Spelled.{spelled}
 use Rattle.shard_rings.specs.declared.reply.ReplyView.{ReplyView}
 
@@ -35,6 +36,11 @@ IsSendable Stored = Unit {0}
 IsSendable Replaced = Unit {0}
 IsSendable Missing = Unit {0}
 IsSendable Erased = Unit {0}
+
+-- a row whose key and value a message can carry
+pub record IsSendableRow (row : Row) : Type 0 where
+  pub key : IsKey row.key
+  pub value : length row.value ≤ greatest_value
 
 -- the kind, a zero, how many keys, the command's number, the body's length, and four zeros
 abbrev pub reply_header : ReplyKind → ℕ → ℕ → ℕ → List ℕ

@@ -42,7 +42,7 @@ pub fn read_reply(bytes: &[u8]) -> Option<ReplyView<'_>>
 /// The bytes behind the header, so many of them.
 fn body_in(bytes: &[u8], len: u32) -> Option<&[u8]>
     ensures some { IfSome result (λ body. body.now ≡ take len (drop message_header bytes.now)) }
-    ensures whole { IfSome result (λ body. length body.now ≡ len) }
+    ensures length { IfSome result (λ body. length body.now ≡ len) }
     ensures none { IfNone result (length bytes.now < message_header + len) }
 {
     bytes.get(HEADER..HEADER + len as usize)
@@ -51,10 +51,10 @@ fn body_in(bytes: &[u8], len: u32) -> Option<&[u8]>
 /// Writes a reply over the first bytes of `into`: its header, and its body behind it. Ours, for whoever makes the
 /// block of a reply; `into` may be longer.
 pub fn write_reply(reply: &ReplyView<'_>, into: &mut [u8])
-    requires sendable { (told : Reply) × IsSendable told × IsViewOf reply.now told }
+    requires sendable { (meaning : Reply) × IsSendable meaning × IsViewOf reply.now meaning }
     requires room { message_header + length reply.now.body.now ≤ length into.old }
     ensures bytes { into.new ≡ reply_header reply.now.kind reply.now.keys reply.now.number (length reply.now.body.now) ++ reply.now.body.now ++ drop (message_header + length reply.now.body.now) into.old }
-    ensures holds { (told : Reply) → IsSendable told → IsViewOf reply.now told → HoldsReply into.new reply.now.number told }
+    ensures holds { (meaning : Reply) → IsSendable meaning → IsViewOf reply.now meaning → HoldsReply into.new reply.now.number meaning }
 {
     let head = Head {
         kind: reply.kind,
@@ -72,7 +72,7 @@ pub fn write_reply_header(kind: ReplyKind, number: u32, keys: u32, len: u32, int
     requires keys { keys < 2 ^ 16 }
     requires room { message_header + len ≤ length into.old }
     ensures bytes { into.new ≡ reply_header kind keys number len ++ drop message_header into.old }
-    ensures holds { (told : Reply) → IsSendable told → spelled told ≡ (kind, take len (drop message_header into.old)) → key_count told ≡ keys → HoldsReply into.new number told }
+    ensures holds { (meaning : Reply) → IsSendable meaning → spelled meaning ≡ (kind, take len (drop message_header into.old)) → key_count meaning ≡ keys → HoldsReply into.new number meaning }
 {
     let head = Head {
         kind,

@@ -197,7 +197,7 @@ fn read_letters(block: &mut [u8], kind: ReplyKind, keys: u32, len: u32) -> Optio
 }
 
 /// Lays the length of a key in front of each of 32 keys of 256 bytes.
-fn lay_lengths(block: &mut [u8])
+fn write_lengths(block: &mut [u8])
     requires { 8272 ≤ length block.old }
 {
     for i in 0..32 {
@@ -222,7 +222,7 @@ fn the_greatest_replies(rt: HostRuntime) -> Result<(), Fail> {
         assert!(rt; len <= 12_001);
         assert!(rt; read_letters(block, kind, 0, len) == found, "{len}");
     }
-    lay_lengths(block);
+    write_lengths(block);
     assert!(rt; read_letters(block, ReplyKind::Keys, 32, 8_256) == Some((32, 8_256)));
     block[17] = 2;
     assert!(rt; read_letters(block, ReplyKind::Keys, 1, 514).is_none());

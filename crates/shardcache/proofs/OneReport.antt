@@ -20,9 +20,9 @@ use Rattle.cache_model.specs.Spelled.{spelled}
 use Rattle.cache_model.specs.Unbroken.{IsUnbroken, is_unbroken}
 use Rattle.plain_cache.specs.Cache.{Cache}
 use Rattle.run_log.specs.Replies.{Replies}
-use Rattle.run_log.specs.Written.{Written}
+use Rattle.run_log.specs.JournalState.{JournalState}
 use Rattle.shardcache.specs.inside.Finished.{IsRunOf}
-use Rattle.shardcache.proofs.OneShard.{AnswersAlone, LogsHold, Numbered, PartAlone, PartsAlone, TellsPut, logged_run, answers_run, cache_run, complete_run, evicts_none, journal_of, replies-hold, replies_from, rows_from}
+use Rattle.shardcache.proofs.OneShard.{AnswersAlone, LogsHold, Numbered, PartAlone, PartsAlone, HoldsPut, logged_run, answers_run, cache_run, complete_run, evicts_none, journal_of, replies-hold, replies_from, rows_from}
 use Rattle.shardcache.proofs.Progress.{HasDone, length-replies_from}
 use Rattle.shardcache.proofs.Unbroken.{key-unbroken, value-unbroken}
 
@@ -47,16 +47,16 @@ HasLines = (answers : List (ℕ × Reply)) (journals : List (List Entry)) (occup
     → slice_get (text_lines (report_of answers journals occupancies)) (length answers + s) ≡ option_map (λ journal. journal_text (s, journal)) (slice_get journals s)
 
 -- the report of the one journal is legal
-report_run : AnswersAlone → TellsPut → HasLines → (trace : List Operation) (pages : ℕ) → Numbered 1 trace → All IsWellFormed trace
+report_run : AnswersAlone → HoldsPut → HasLines → (trace : List Operation) (pages : ℕ) → Numbered 1 trace → All IsWellFormed trace
     → IsReportOf (trace_with trace) 1 pages (report (trace_with trace) 1 pages (journal_of trace ∷ [])) (journal_of trace ∷ [])
-report_run alone tells has_lines trace pages numbered formed =
+report_run alone part_holds has_lines trace pages numbered formed =
     let journal = journal_of trace in
     let answered : answers (trace_with trace) 1 pages (journal ∷ []) ≡ replies_from trace [] = answers_run alone trace pages [] trace numbered refl in
     let legal = cache_run trace pages [] trace [] [] numbered (sym (append-nil' trace)) in
     let occupancies = map (occupancy (trace_with trace) 1 pages) (enumerate_from 0 (journal ∷ [])) in
     let unbroken : All (λ answer. IsUnbroken answer.1) (replies_from trace []) =
     All-from_recursion (λ answer. IsUnbroken answer.1) (replies_from trace [])
-    (replies-hold tells is_unbroken is_unbroken trace [] (unbroken-puts trace formed) (no-rows is_unbroken is_unbroken)) in
+    (replies-hold part_holds is_unbroken is_unbroken trace [] (unbroken-puts trace formed) (no-rows is_unbroken is_unbroken)) in
     record {
       printed = record {
         shards = refl;
@@ -67,11 +67,11 @@ report_run alone tells has_lines trace pages numbered formed =
       text = refl;
     }
 
-pub is_run : AnswersAlone → PartAlone → PartsAlone → LogsHold → TellsPut → HasLines → (trace : List Operation) (pages k held bytes : ℕ) (plain : Cache) (log : Replies) (journal : Written)
+pub is_run : AnswersAlone → PartAlone → PartsAlone → LogsHold → HoldsPut → HasLines → (trace : List Operation) (pages k row_count live_bytes : ℕ) (plain : Cache) (log : Replies) (journal : JournalState)
     → Numbered 1 trace → All IsWellFormed trace → HasDone trace pages k plain log journal → length trace ≤ k
-    → held ≡ length plain.rows → bytes ≡ live plain.rows
-    → IsRunOf (trace_with trace) pages journal.entries log.replies held bytes
-is_run alone part parts hold tells has_lines trace pages k held bytes plain log journal numbered formed has_done ended held_is bytes_is =
+    → row_count ≡ length plain.rows → live_bytes ≡ live plain.rows
+    → IsRunOf (trace_with trace) pages journal.entries log.replies row_count live_bytes
+is_run alone part parts hold part_holds has_lines trace pages k row_count live_bytes plain log journal numbered formed has_done ended held_is bytes_is =
     let all : take k trace ≡ trace = take_all k trace ended in
     let rows : plain.rows ≡ rows_from trace [] = has_done.rows ∙ rw all refl in
     let entries : journal.entries ≡ journal_of trace = has_done.entries ∙ rw all refl in
@@ -81,7 +81,7 @@ is_run alone part parts hold tells has_lines trace pages k held bytes plain log 
     record {
       cache = rows_from trace [];
       legal = rw entries (cache_run trace pages [] trace [] [] numbered (sym (append-nil' trace)));
-      report = rw entries (report_run alone tells has_lines trace pages numbered formed);
+      report = rw entries (report_run alone part_holds has_lines trace pages numbered formed);
       evicts = λ before later q cache e after. absurd (evicts_none trace before later q (sym entries ∙ e));
       logged = rw entries (logged_run part parts hold trace pages log.replies numbered formed replies);
       rows = held_is ∙ ap length rows;

@@ -169,28 +169,28 @@ LogsHold = (trace : Trace) (n pages : ℕ) (journals : List (List Entry)) (logs 
     → AreLogged trace n logs (answers trace n pages journals)
 
 -- the replies to some commands in a row, from a cache on
-record AreReplied (whole : List Operation) (pages : ℕ) (rest : List Operation) (cache : List Row) : Type 0 where
-  commands : All (λ operation. command_of (trace_with whole) operation.number ≡ Some operation) rest
-  replied : All (λ operation. All (λ part. IsSome (part_reply (trace_with whole) pages (journal_of whole ∷ []) part)) (parts_of 1 operation)) rest
-  parts : map (λ operation. option_map spelled (part_reply (trace_with whole) pages (journal_of whole ∷ []) (operation.number, 0))) rest
+record AreReplied (all : List Operation) (pages : ℕ) (rest : List Operation) (cache : List Row) : Type 0 where
+  commands : All (λ operation. command_of (trace_with all) operation.number ≡ Some operation) rest
+  replied : All (λ operation. All (λ part. IsSome (part_reply (trace_with all) pages (journal_of all ∷ []) part)) (parts_of 1 operation)) rest
+  parts : map (λ operation. option_map spelled (part_reply (trace_with all) pages (journal_of all ∷ []) (operation.number, 0))) rest
       ≡ map (λ answer. Some (spelled answer.1)) (replies_from rest cache)
 
-replied_run : PartAlone → (whole : List Operation) (pages : ℕ) (front rest : List Operation) → Numbered 1 whole → whole ≡ front ++ rest
-    → AreReplied whole pages rest (rows_from front [])
-replied_run part whole pages front [] numbered e =
+replied_run : PartAlone → (all : List Operation) (pages : ℕ) (front rest : List Operation) → Numbered 1 all → all ≡ front ++ rest
+    → AreReplied all pages rest (rows_from front [])
+replied_run part all pages front [] numbered e =
     record { commands = λ i d below. absurd (omega (arith, below)); replied = λ i d below. absurd (omega (arith, below)); parts = refl }
-replied_run part whole pages front (operation ∷ rest) numbered e =
-    let trace = trace_with whole in
-    let journals = journal_of whole ∷ [] in
-    let further : whole ≡ (front ++ operation ∷ []) ++ rest = e ∙ sym (append_assoc front (operation ∷ []) rest) in
-    let later = replied_run part whole pages (front ++ operation ∷ []) rest numbered further in
-    let here : reply_at trace pages (journal_of whole) operation.number ≡ Some (apply operation (rows_from front [])).1 = reply_run whole pages front operation rest numbered e in
+replied_run part all pages front (operation ∷ rest) numbered e =
+    let trace = trace_with all in
+    let journals = journal_of all ∷ [] in
+    let further : all ≡ (front ++ operation ∷ []) ++ rest = e ∙ sym (append_assoc front (operation ∷ []) rest) in
+    let later = replied_run part all pages (front ++ operation ∷ []) rest numbered further in
+    let here : reply_at trace pages (journal_of all) operation.number ≡ Some (apply operation (rows_from front [])).1 = reply_run all pages front operation rest numbered e in
     let Each : Operation → Type 0 = λ o. All (λ x. IsSome (part_reply trace pages journals x)) (parts_of 1 o) in
     let some : Each operation =
     subst (All (λ (x : ℕ × ℕ). IsSome (part_reply trace pages journals x))) (sym (part operation))
     (All-cons (λ (x : ℕ × ℕ). IsSome (part_reply trace pages journals x)) (operation.number, 0) [] (ap is_some here) (λ i d below. absurd (omega (arith, below)))) in
     record {
-      commands = All-cons (λ (o : Operation). command_of trace o.number ≡ Some o) operation rest (command_at whole front operation rest numbered e) later.commands;
+      commands = All-cons (λ (o : Operation). command_of trace o.number ≡ Some o) operation rest (command_at all front operation rest numbered e) later.commands;
       replied = All-cons Each operation rest some later.replied;
       parts =
           ap (λ (o : Option Reply). option_map spelled o ∷ map (λ x. option_map spelled (part_reply trace pages journals (x.number, 0))) rest) here
@@ -209,11 +209,11 @@ logged_run part parts hold trace pages log numbered formed is =
     let replied = replied_run part trace pages [] trace numbered refl in
     let keyed : HasKeys (trace_with trace) = λ i d below put. record { some = (formed i d below).key_some; short = (formed i d below).key_most } in
     let reply = part_reply (trace_with trace) pages (journal_of trace ∷ []) in
-    let held : HoldsReplies (trace_with trace) 1 0 reply log =
+    let replies_held : HoldsReplies (trace_with trace) 1 0 reply log =
     is ∙ sym replied.parts ∙ sym (map-map (λ (x : ℕ × ℕ). option_map spelled (reply x)) (λ (o : Operation). (o.number, 0)) trace)
     ∙ ap (map (λ x. option_map spelled (reply x))) (sym (parts (trace_with trace))) in
     hold (trace_with trace) 1 pages (journal_of trace ∷ []) (log ∷ []) refl keyed replied.commands replied.replied
-    (λ o d below. let first : o ≡ 0 = omega (arith, below) in rw first held)
+    (λ o d below. let first : o ≡ 0 = omega (arith, below) in rw first replies_held)
 
 -- ---- complete
 
@@ -262,13 +262,13 @@ numbers_run (operation ∷ trace) cache = ap (λ numbers. operation.number ∷ n
 -- ---- what holds of keys and values
 
 -- what holds of what is put holds of the rows and the reply behind one more command
-abbrev pub TellsPut : Type 0
-TellsPut = (on_key on_value : List ℕ → Bool) (operation : Operation) (cache : List Row) → PutHolds on_key on_value operation → RowsHold on_key on_value cache
+abbrev pub HoldsPut : Type 0
+HoldsPut = (on_key on_value : List ℕ → Bool) (operation : Operation) (cache : List Row) → PutHolds on_key on_value operation → RowsHold on_key on_value cache
     → RowsHold on_key on_value (apply operation cache).0 × ReplyHolds on_key on_value (apply operation cache).1
 
-pub replies-hold : TellsPut → (on_key on_value : List ℕ → Bool) (trace : List Operation) (cache : List Row) → ByRecursion (PutHolds on_key on_value) trace
+pub replies-hold : HoldsPut → (on_key on_value : List ℕ → Bool) (trace : List Operation) (cache : List Row) → ByRecursion (PutHolds on_key on_value) trace
     → RowsHold on_key on_value cache → ByRecursion (λ answer. ReplyHolds on_key on_value answer.1) (replies_from trace cache)
-replies-hold tells on_key on_value [] cache puts rows = tt
-replies-hold tells on_key on_value (operation ∷ trace) cache puts rows =
-    let next = tells on_key on_value operation cache puts.0 rows in
-    (next.1, replies-hold tells on_key on_value trace (apply operation cache).0 puts.1 next.0)
+replies-hold part_holds on_key on_value [] cache puts rows = tt
+replies-hold part_holds on_key on_value (operation ∷ trace) cache puts rows =
+    let next = part_holds on_key on_value operation cache puts.0 rows in
+    (next.1, replies-hold part_holds on_key on_value trace (apply operation cache).0 puts.1 next.0)

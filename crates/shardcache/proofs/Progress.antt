@@ -23,7 +23,7 @@ use Rattle.cache_model.specs.Row.{Row}
 use Rattle.cache_model.specs.Spelled.{spelled}
 use Rattle.plain_cache.specs.Cache.{Cache}
 use Rattle.run_log.specs.Replies.{Replies}
-use Rattle.run_log.specs.Written.{Written}
+use Rattle.run_log.specs.JournalState.{JournalState}
 use Rattle.shardcache.proofs.OneShard.{Numbered, at_origin, command_at, journal_of, part_here, replies_from, reply_run, rows_from, rows_from-append}
 
 -- a log with these answers in front, and room for so many more
@@ -38,7 +38,7 @@ reply_bound kinds.Put most = 0
 reply_bound kinds.Erase most = 0
 
 -- what stands when the first k commands are done
-pub record HasDone (trace : List Operation) (pages k : ℕ) (plain : Cache) (log : Replies) (journal : Written) : Type 0 where
+pub record HasDone (trace : List Operation) (pages k : ℕ) (plain : Cache) (log : Replies) (journal : JournalState) : Type 0 where
   pub within : k ≤ length trace
   pub pages_stay : plain.pages ≡ pages
   pub rows : plain.rows ≡ rows_from (take k trace) []
@@ -73,7 +73,7 @@ open_log answers zero some = absurd (omega arith)
 open_log answers (suc n) some = let same : suc n - 1 ≡ n = omega arith in rw same refl
 
 -- the next part has no reply
-pub next_unanswered : (trace : List Operation) (pages k : ℕ) (plain : Cache) (log : Replies) (journal : Written)
+pub next_unanswered : (trace : List Operation) (pages k : ℕ) (plain : Cache) (log : Replies) (journal : JournalState)
     → HasDone trace pages k plain log journal → k < length trace → slice_get log.replies k ≡ Some None
 next_unanswered trace pages k plain log journal has lt =
     let answers = replies_from (take k trace) [] in
@@ -105,7 +105,7 @@ split_at (first ∷ trace) (suc k) d lt =
     let next : suc k + 1 ≡ suc (k + 1) = omega arith in
     rw next (ap (λ rest. first ∷ rest) (split_at trace k d (omega arith)))
 
-body-fits : HaveRoom → (trace : List Operation) (pages k : ℕ) (d : Operation) (plain : Cache) (log : Replies) (journal : Written) → Numbered 1 trace
+body-fits : HaveRoom → (trace : List Operation) (pages k : ℕ) (d : Operation) (plain : Cache) (log : Replies) (journal : JournalState) → Numbered 1 trace
     → HasDone trace pages k plain log journal → k < length trace → All IsWellFormed trace
     → length (spelled (apply (get_or trace k d) plain.rows).1).1 ≤ reply_bound (get_or trace k d).kind (longest_value (trace_with trace))
 body-fits room trace pages k d plain log journal numbered has lt formed =
@@ -124,7 +124,7 @@ left-more : (trace : List Operation) (k : ℕ) (d : Operation) → k < length tr
     ≡ reply_bound (get_or trace k d).kind (longest_value (trace_with trace)) + sum_by (λ operation. reply_bound operation.kind (longest_value (trace_with trace))) (drop (k + 1) trace)
 left-more trace k d lt = sum_by-drop_more (λ operation. reply_bound operation.kind (longest_value (trace_with trace))) trace k d lt
 
-pub next_fits : HaveRoom → (trace : List Operation) (pages k : ℕ) (d : Operation) (plain : Cache) (log : Replies) (journal : Written) → Numbered 1 trace
+pub next_fits : HaveRoom → (trace : List Operation) (pages k : ℕ) (d : Operation) (plain : Cache) (log : Replies) (journal : JournalState) → Numbered 1 trace
     → HasDone trace pages k plain log journal → k < length trace → All IsWellFormed trace
     → length (spelled (apply (get_or trace k d) plain.rows).1).1 ≤ log.room
 next_fits room trace pages k d plain log journal numbered has lt formed =
@@ -158,7 +158,7 @@ log_of-more answers n k answer some len =
       append_assoc,
     ) refl
 
-pub has_done_more : HaveRoom → (trace : List Operation) (pages k : ℕ) (d : Operation) (plain plain' : Cache) (log log' : Replies) (journal journal' : Written)
+pub has_done_more : HaveRoom → (trace : List Operation) (pages k : ℕ) (d : Operation) (plain plain' : Cache) (log log' : Replies) (journal journal' : JournalState)
     → Numbered 1 trace
     → HasDone trace pages k plain log journal → k < length trace → All IsWellFormed trace
     → plain' ≡ record plain { rows = (apply (get_or trace k d) plain.rows).0 }
@@ -234,9 +234,9 @@ bounds_are (first ∷ trace) most = rw (
 ) (omega (arith, bound_is first.kind most, bounds_are trace most))
 
 unanswered-all : (n m : ℕ) → n ≡ m → replicate n None ≡ log_of [] (m - 0)
-unanswered-all n m e = let whole : m - 0 ≡ m = omega arith in rw (whole, e) refl
+unanswered-all n m e = let all_left : m - 0 ≡ m = omega arith in rw (all_left, e) refl
 
-pub has_done_none : (trace : List Operation) (pages own bytes spare : ℕ) (plain : Cache) (log : Replies) (journal : Written)
+pub has_done_none : (trace : List Operation) (pages own bytes spare : ℕ) (plain : Cache) (log : Replies) (journal : JournalState)
     → own ≡ own_parts (trace_with trace) 1 0 → bytes ≡ reply_bytes (trace_with trace) 1 0 → here_parts (trace_with trace) 1 0 ≤ spare
     → plain ≡ record { pages = pages; rows = [] } → log ≡ record { replies = replicate own None; room = bytes }
     → journal ≡ record { entries = []; spare = spare } → HasDone trace pages 0 plain log journal
@@ -279,20 +279,20 @@ index_at : (commands : List Command) (k : ℕ) (d : Command) → k < length comm
 index_at commands k d lt are = let is = are k d lt in omega (arith, is)
 
 -- the same of a command as it stands in the trace
-pub unanswered_at : (bytes : List ℕ) (commands : List Command) (pages k : ℕ) (d : Command) (plain : Cache) (log : Replies) (journal : Written)
+pub unanswered_at : (bytes : List ℕ) (commands : List Command) (pages k : ℕ) (d : Command) (plain : Cache) (log : Replies) (journal : JournalState)
     → HasDone (operations bytes commands) pages k plain log journal → k < length commands → AreNumbered commands
     → slice_get log.replies ((get_or commands k d).number - 1) ≡ Some None
 unanswered_at bytes commands pages k d plain log journal so_far lt are =
     rw (index_at commands k d lt are) (next_unanswered (operations bytes commands) pages k plain log journal so_far (within_at bytes commands k lt))
 
-pub fits_at : HaveRoom → (bytes : List ℕ) (commands : List Command) (pages k : ℕ) (d : Command) (plain : Cache) (log : Replies) (journal : Written)
+pub fits_at : HaveRoom → (bytes : List ℕ) (commands : List Command) (pages k : ℕ) (d : Command) (plain : Cache) (log : Replies) (journal : JournalState)
     → HasDone (operations bytes commands) pages k plain log journal → k < length commands → AreNumbered commands → All IsWellFormed (operations bytes commands)
     → length (spelled (apply (operation bytes (get_or commands k d)) plain.rows).1).1 ≤ log.room
 fits_at room bytes commands pages k d plain log journal so_far lt are formed =
     rw (operation_at bytes commands k d) at
     (next_fits room (operations bytes commands) pages k (operation bytes d) plain log journal (numbered bytes commands are) so_far (within_at bytes commands k lt) formed)
 
-pub more_at : HaveRoom → (bytes : List ℕ) (commands : List Command) (pages k : ℕ) (d : Command) (plain plain' : Cache) (log log' : Replies) (journal journal' : Written)
+pub more_at : HaveRoom → (bytes : List ℕ) (commands : List Command) (pages k : ℕ) (d : Command) (plain plain' : Cache) (log log' : Replies) (journal journal' : JournalState)
     → HasDone (operations bytes commands) pages k plain log journal → k < length commands → AreNumbered commands → All IsWellFormed (operations bytes commands)
     → plain' ≡ record plain { rows = (apply (operation bytes (get_or commands k d)) plain.rows).0 }
     → log'.replies ≡ slice_set log.replies ((get_or commands k d).number - 1) (Some (spelled (apply (operation bytes (get_or commands k d)) plain.rows).1))

@@ -74,12 +74,12 @@ pub follows_run : (found : Settings) (answered : Status) (words : List (List ℕ
     → FollowsTable answered words before left before_sink after_sink
 follows_run found answered words before left before_sink after_sink taken asked took ended (inl (trace, is, text, reports, written)) =
     let means : Means words taken left found (Ok trace) =
-    record { asked = asked; trace = rw (bytes_taken found.mode taken) is; read = read_to_end found.mode trace taken left ended } in
+    record { wanted = asked; trace = rw (bytes_taken found.mode taken) is; read = read_to_end found.mode trace taken left ended } in
     follows_ending answered status.Done words before left before_sink after_sink taken text took
     (found, trace, means, report_output found.mode found trace text reports) written
 follows_run found answered words before left before_sink after_sink taken asked took ended (inr (inl (number, cause, is, written))) =
     let means : Means words taken left found (Err (NoTrace (AtLine number cause))) = record {
-      asked = asked;
+      wanted = asked;
       trace = rw (bytes_taken found.mode taken) is;
       read = read_to_end_refused found.mode number cause taken left ended;
     } in
@@ -95,7 +95,7 @@ too_long bytes n long = let test : ltb most_bytes (length bytes) ≡ true = grin
 pub means_too_long : (found : Settings) (words : List (List ℕ)) (taken : List ℕ) (left : Option (List ℕ)) → settings words ≡ Some found
     → found.shards ≡ 1 → length taken ≡ most_bytes + 1 → Means words taken left found (Err (NoTrace TooLong))
 means_too_long found words taken left asked one long = record {
-  asked = asked;
+  wanted = asked;
   trace = rw (bytes_taken found.mode taken, one, too_long taken 1 (omega (arith, long))) refl;
   read = read_too_long found.mode taken left long;
 }
@@ -105,7 +105,7 @@ pub means_not_yet : (found : Settings) (words : List (List ℕ)) (left : Option 
     → Means words [] left found (Err NotYetShards)
 means_not_yet found words left asked more =
     let test : ltb 1 found.shards ≡ true = grind (arith, nat_tests) in
-    record { asked = asked; trace = rw test refl; read = read_nothing found.mode left }
+    record { wanted = asked; trace = rw test refl; read = read_nothing found.mode left }
 
 -- ---- completeness
 
@@ -131,24 +131,24 @@ refused_either true r refusal e = refl
 refused_either false r refusal e = rw e refl
 
 -- what is refused as taken is refused as the source had it
-refused_whole : (mode : Mode) (found : Settings) (refusal : Refusal) (bytes taken : List ℕ) (left : Option (List ℕ)) → Consumes (Some bytes) left taken
+refused_at_source : (mode : Mode) (found : Settings) (refusal : Refusal) (bytes taken : List ℕ) (left : Option (List ℕ)) → Consumes (Some bytes) left taken
     → trace_for found (trace_bytes mode taken) ≡ Err refusal → IsRead mode (Err refusal) taken left → IsErr (trace_for found (trace_bytes mode bytes))
-refused_whole Run found NotYetShards bytes taken left took is read =
+refused_at_source Run found NotYetShards bytes taken left took is read =
     not_yet_whatever (ltb 1 found.shards) (trace_of taken found.shards) (trace_of bytes found.shards) is
-refused_whole Run found (NoTrace TooLong) bytes taken left took is read =
+refused_at_source Run found (NoTrace TooLong) bytes taken left took is read =
     let le = taken-le bytes taken left took in
     refused_either (ltb 1 found.shards) (trace_of bytes found.shards) TooLong (too_long bytes found.shards (omega (arith, le, read)))
-refused_whole Run found (NoTrace (AtLine number cause)) bytes taken left took is read =
+refused_at_source Run found (NoTrace (AtLine number cause)) bytes taken left took is read =
     let same = all_taken bytes taken left took read in rw (← same, is) refl
 
 -- and what is run is what the source had
-run_whole : (mode : Mode) (found : Settings) (trace : Trace) (bytes taken : List ℕ) (left : Option (List ℕ)) → Consumes (Some bytes) left taken
+run_at_source : (mode : Mode) (found : Settings) (trace : Trace) (bytes taken : List ℕ) (left : Option (List ℕ)) → Consumes (Some bytes) left taken
     → trace_for found (trace_bytes mode taken) ≡ Ok trace → IsRead mode (Ok trace) taken left → IsOk (trace_for found (trace_bytes mode bytes))
-run_whole Run found trace bytes taken left took is read = let same = all_taken bytes taken left took read in rw (← same, is) refl
+run_at_source Run found trace bytes taken left took is read = let same = all_taken bytes taken left took read in rw (← same, is) refl
 
-not_both : {T E : Type 0} (r : Result T E) → IsOk r → IsErr r → ⊥
-not_both (Ok x) ok err = cc
-not_both (Err e) ok err = cc
+not_ok_and_err : {T E : Type 0} (r : Result T E) → IsOk r → IsErr r → ⊥
+not_ok_and_err (Ok x) ok err = cc
+not_ok_and_err (Err e) ok err = cc
 
 some_settings : (o : Option Settings) (found : Settings) → o ≡ Some found → o ≡ None → ⊥
 some_settings (Some x) found some e = cc
@@ -167,9 +167,9 @@ accepted status.Memory words bytes found left bs sink f f' g g' is rf wf asked o
 accepted status.Usage words bytes found left bs sink f f' g g' is rf wf asked ok nr nw = absurd (some_settings (settings words) found asked is.row.0)
 accepted status.Refused words bytes found left bs sink f f' g g' is rf wf asked ok nr nw =
     let means = is.row.2 in
-    let same = same_settings (settings words) is.row.0 found means.asked asked in
-    let err = rw same at (refused_whole is.row.0.mode is.row.0 is.row.1 bytes is.taken left is.took means.trace means.read) in
-    absurd (not_both (trace_for found (trace_bytes found.mode bytes)) ok err)
+    let same = same_settings (settings words) is.row.0 found means.wanted asked in
+    let err = rw same at (refused_at_source is.row.0.mode is.row.0 is.row.1 bytes is.taken left is.took means.trace means.read) in
+    absurd (not_ok_and_err (trace_for found (trace_bytes found.mode bytes)) ok err)
 accepted status.ReadFault words bytes found left bs sink f f' g g' is rf wf asked ok nr nw = absurd (nr (rf refl))
 accepted status.WriteFault words bytes found left bs sink f f' g g' is rf wf asked ok nr nw = absurd (nw (wf refl))
 
@@ -183,9 +183,9 @@ refused status.Memory words bytes found left bs sink f f' g g' is rf wf asked er
 refused status.Usage words bytes found left bs sink f f' g g' is rf wf asked err nr nw = absurd (some_settings (settings words) found asked is.row.0)
 refused status.Done words bytes found left bs sink f f' g g' is rf wf asked err nr nw =
     let means = is.row.2 in
-    let same = same_settings (settings words) is.row.0 found means.asked asked in
-    let ok = rw same at (run_whole is.row.0.mode is.row.0 is.row.1 bytes is.taken left is.took means.trace means.read) in
-    absurd (not_both (trace_for found (trace_bytes found.mode bytes)) ok err)
+    let same = same_settings (settings words) is.row.0 found means.wanted asked in
+    let ok = rw same at (run_at_source is.row.0.mode is.row.0 is.row.1 bytes is.taken left is.took means.trace means.read) in
+    absurd (not_ok_and_err (trace_for found (trace_bytes found.mode bytes)) ok err)
 refused status.ReadFault words bytes found left bs sink f f' g g' is rf wf asked err nr nw = absurd (nr (rf refl))
 refused status.WriteFault words bytes found left bs sink f f' g g' is rf wf asked err nr nw = absurd (nw (wf refl))
 

@@ -14,8 +14,8 @@ value_byte b is = let low = (and_parts (ltb 31 b) (not (eqb b 127)) is).0 in gri
 value_bytes : (value : List ℕ) → list_all is_value_byte value ≡ true → is_unbroken value ≡ true
 value_bytes [] is = refl
 value_bytes (b ∷ value) is =
-    let both = and_parts (is_value_byte b) (list_all is_value_byte value) is in
-    rw (value_byte b both.0, value_bytes value both.1) refl
+    let tests = and_parts (is_value_byte b) (list_all is_value_byte value) is in
+    rw (value_byte b tests.0, value_bytes value tests.1) refl
 
 key_byte : (b : ℕ) → is_key_byte b ≡ true → not (eqb b 10) ≡ true
 key_byte b is = let low = (and_parts (ltb 32 b) (not (eqb b 127)) is).0 in grind (arith, nat_tests)
@@ -23,10 +23,10 @@ key_byte b is = let low = (and_parts (ltb 32 b) (not (eqb b 127)) is).0 in grind
 key_bytes : (key : List ℕ) → list_all is_key_byte key ≡ true → is_unbroken key ≡ true
 key_bytes [] is = refl
 key_bytes (b ∷ key) is =
-    let both = and_parts (is_key_byte b) (list_all is_key_byte key) is in
-    rw (key_byte b both.0, key_bytes key both.1) refl
+    let tests = and_parts (is_key_byte b) (list_all is_key_byte key) is in
+    rw (key_byte b tests.0, key_bytes key tests.1) refl
 
--- what is sound passes both tests
+-- what is sound passes tests tests
 passes : (fits pure : Bool) (length byte : Cause) → cond fits (cond pure None (Some byte)) (Some length) ≡ None → (fits ≡ true) × (pure ≡ true)
 passes true true length byte e = (refl, refl)
 passes true false length byte e = cc

@@ -44,14 +44,14 @@ IsOutput Run settings trace text = Reports settings trace text
 
 -- the words ask for these settings, and the bytes that are the trace are this trace, or are refused so
 pub record Means (words : List (List ℕ)) (taken : List ℕ) (left : Option (List ℕ)) (found : Settings) (meaning : Result Trace Refusal) : Type 0 where
-  pub asked : settings words ≡ Some found
+  pub wanted : settings words ≡ Some found
   pub trace : trace_for found (trace_bytes found.mode taken) ≡ meaning
   pub read : IsRead found.mode meaning taken left
 
 -- the words ask for a trace that is read: with one shard
 pub record Reads (words : List (List ℕ)) : Type 0 where
   pub found : Settings
-  pub asked : settings words ≡ Some found
+  pub wanted : settings words ≡ Some found
   pub one_shard : found.shards ≡ 1
 
 -- What stands where a call whose words are these took these bytes, and wrote this text to its end; `left` is what the

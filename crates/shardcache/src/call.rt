@@ -1,10 +1,12 @@
 //! The top call.
-ghost use Rattle.std.specs.Prelude.{◌≡◌, ◌≢◌, ◌⊎◌, ◌<◌, ◌≤◌, ◌∷◌, [], ℕ, List, length, map, string_bytes, IsOk, IsErr, None, Some};
+ghost use Rattle.std.specs.Prelude.{◌≡◌, ◌≢◌, ◌⊎◌, ◌+◌, ◌<◌, ◌≤◌, ◌∷◌, [], ℕ, List, length, map, string_bytes, IsOk, IsErr, IfOk, OnOk, Err, None, Some};
+ghost use Rattle.std.specs.Io.KnownBytes.{Consumes, IsAtEnd};
+ghost use Rattle.outside.specs.Moves.{ConsumesExactly, ConsumesUpTo};
 ghost use Rattle.outside.specs.Rose.{Rose};
 ghost use Rattle.cache_model.specs.Report.{report};
 ghost use Rattle.layout.specs.Sizes.{ArePages};
 ghost use Rattle.trace_text.specs.Parsed.{trace_in};
-ghost use Rattle.trace_text.specs.Reading.{AtLine};
+ghost use Rattle.trace_text.specs.Reading.{AtLine, most_bytes};
 ghost use Rattle.shardcache.specs.Settings.{Settings as Wanted, settings as settings_of, view};
 ghost use Rattle.shardcache.specs.Table.{FollowsTable, trace_bytes};
 ghost use Rattle.shardcache.specs.TraceFor.{NoTrace, refusal_text, trace_for};
@@ -86,6 +88,18 @@ fn run_bytes<K: Sink>(alloc: Global, settings: Settings, bytes: Vec<u8>, sink: &
     }
 }
 
+/// The bytes of a trace: all that the source has, where a trace can have so many.
+fn read_trace<S: Source>(alloc: Global, source: &mut S) -> Result<Vec<u8>, ReadStop>
+    ensures taken { IfOk result (λ bytes. Consumes (S.left source.old) (S.left source.new) bytes.items) }
+    ensures at_end { OnOk result (IsAtEnd (S.left source.new)) }
+    ensures within { IfOk result (λ bytes. length bytes.items ≤ most_bytes) }
+    ensures one_above { result ≡ Err ReadStop.TooLong → ConsumesExactly (S.left source.old) (S.left source.new) (most_bytes + 1) }
+    ensures no_more { result ≢ Err ReadStop.TooLong → ConsumesUpTo (S.left source.old) (S.left source.new) most_bytes }
+    ensures fault { result ≡ Err ReadStop.Fault → Rose (S.faults source.old) (S.faults source.new) }
+{
+    read_all(alloc, source, MOST_BYTES)
+}
+
 /// Reads a trace from the source to its end and runs it.
 fn read_and_run<S: Source, K: Sink>(
     alloc: Global,
@@ -99,7 +113,7 @@ fn read_and_run<S: Source, K: Sink>(
     ensures read_fault { result ≡ Status.ReadFault → Rose (S.faults source.old) (S.faults source.new) }
     ensures write_fault { result ≡ Status.WriteFault → Rose (K.faults sink.old) (K.faults sink.new) }
 {
-    match read_all(alloc, source, MOST_BYTES) {
+    match read_trace(alloc, source) {
         Ok(bytes) => run_bytes(alloc, settings, bytes, sink),
         Err(ReadStop::Fault) => write_line(sink, b"read fault\n", Status::ReadFault),
         Err(ReadStop::TooLong) => write_line(sink, b"refused line 0 TooLong\n", Status::Refused),

@@ -4,13 +4,14 @@ ghost use Rattle.std.specs.List.{slice_get};
 ghost use Rattle.trace_text.specs.Operation.{operation};
 ghost use Rattle.trace_text.specs.Parsed.{trace_in};
 ghost use Rattle.cache_model.specs.Apply.{apply};
+ghost use Rattle.cache_model.specs.Row.{live};
 ghost use Rattle.layout.specs.Sizes.{ArePages};
 ghost use Rattle.cache_model.specs.Spelled.{spelled};
 ghost use Rattle.shardcache.specs.inside.Finished.{IsRunOf};
 
 use cache_model::{
     a_report_has_its_lines, bodies_have_room, logs_hold_the_answers, one_shard_answers_alone,
-    replies_tell_what_was_put,
+    replies_hold_what_was_put,
 };
 use plain_cache::{Entry, Journal, Plain, ReplyLog};
 use std::alloc::{AllocError, Global};
@@ -69,7 +70,7 @@ pub fn do_all(alloc: Global, trace: &Trace, pages: u32) -> Result<Finished, Allo
     let mut journal = Journal::new(alloc, needs.here_parts + needs.here_puts)?;
     let mut body = Vec::new(alloc);
     bodies_have_room();
-    replies_tell_what_was_put();
+    replies_hold_what_was_put();
     a_report_has_its_lines();
     one_shard_answers_alone();
     logs_hold_the_answers();
@@ -84,10 +85,20 @@ pub fn do_all(alloc: Global, trace: &Trace, pages: u32) -> Result<Finished, Allo
             &mut journal,
         )?;
     }
-    Ok(Finished {
+    Ok(left_by(journal, log, &plain))
+}
+
+/// What a shard leaves with this cache.
+fn left_by(journal: Journal, log: ReplyLog, plain: &Plain) -> Finished
+    ensures journal { result.journal ≡ journal }
+    ensures log { result.log ≡ log }
+    ensures rows { result.rows ≡ length plain.now.rows }
+    ensures live { result.live ≡ live plain.now.rows }
+{
+    Finished {
         journal,
         log,
         rows: plain.rows(),
         live: plain.live(),
-    })
+    }
 }

@@ -6,7 +6,7 @@ use Rattle.std.proofs.lemmas.List.Sums.{fails_before_first}
 use Rattle.std.proofs.lemmas.Option.{cond_some}
 use borrow.Author.Tests.{ltb-true, ltb-false}
 use Rattle.trace_text.specs.Line.{cut_where, cut_at}
-use Rattle.trace_text.specs.Reading.{lines, command_lines, without_cr}
+use Rattle.trace_text.specs.Reading.{lines, command_lines, strip_cr}
 
 some_not : {A : Type 0} (b : Bool) (x : A) → cond b (Some x) None ≡ None → b ≡ false
 some_not true x e = cc
@@ -32,11 +32,11 @@ later None = lines []
 later (Some rest) = lines rest
 
 cut_lines_where : (line : ℕ) (text : List ℕ) (o : Option ℕ) → position (λ b. eqb b 10) text ≡ o
-    → command_lines line (lines text) ≡ command_lines line (without_cr (cut_where o text).0 ∷ later (cut_where o text).1)
-cut_lines_where line text None e = ap (λ pieces. command_lines line (map without_cr pieces)) (split_none (λ b. eqb b 10) text e)
-cut_lines_where line text (Some i) e = ap (λ pieces. command_lines line (map without_cr pieces)) (split_some (λ b. eqb b 10) text i e)
+    → command_lines line (lines text) ≡ command_lines line (strip_cr (cut_where o text).0 ∷ later (cut_where o text).1)
+cut_lines_where line text None e = ap (λ pieces. command_lines line (map strip_cr pieces)) (split_none (λ b. eqb b 10) text e)
+cut_lines_where line text (Some i) e = ap (λ pieces. command_lines line (map strip_cr pieces)) (split_some (λ b. eqb b 10) text i e)
 
 -- The lines that are command_lines are the first, which stands before the first LF, and those behind it. Behind the last
 -- line there is an empty one, which is passed over.
-pub cut_lines : (line : ℕ) (text : List ℕ) → command_lines line (lines text) ≡ command_lines line (without_cr (cut_at 10 text).0 ∷ later (cut_at 10 text).1)
+pub cut_lines : (line : ℕ) (text : List ℕ) → command_lines line (lines text) ≡ command_lines line (strip_cr (cut_at 10 text).0 ∷ later (cut_at 10 text).1)
 cut_lines line text = cut_lines_where line text (position (λ b. eqb b 10) text) refl

@@ -2,6 +2,6 @@ pub mod Counts
 pub mod Cuts
 pub mod LinesRead
 pub mod PartCounts
-pub mod Places
+pub mod Offsets
 pub mod Tallies
 pub mod TraceRead

@@ -14,9 +14,9 @@ use Rattle.trace_text.specs.Line.{Fields, fields_of, is_passed}
 use Rattle.trace_text.specs.Parsed.{AreNumbered, AreSpelled, LiesWithin}
 use Rattle.trace_text.specs.Operation.{Operation, operation, operations}
 use Rattle.trace_text.specs.Reading.{Refusal, IsRefusedAs, numbered_reading, numbered, lines, most_commands, operations_of, command_lines, with_first, with_front}
-use Rattle.trace_text.proofs.Places.{lies_within}
+use Rattle.trace_text.proofs.Offsets.{lies_within}
 
--- what was read, and behind it what the rest gives, is the whole reading
+-- what was read, and behind it what the rest gives, is the reading of all lines
 pub record Reads (bytes : List ℕ) (commands : List Command) (rest : List ℕ) (line : ℕ) : Type 0 where
   pub is_rest : IsRestOf bytes rest
   pub counted : line + length rest ≤ length bytes + 1
@@ -141,7 +141,7 @@ reads_more bytes commands more rest line text after reads first is_rest lies sho
       rw kept.2 (reads_command bytes commands rest line text after kept.1 reads first is_rest lies shorter kept.0 room kept.3)
 ]
 
--- a line that is refused refuses the whole
+-- a line that is refused refuses the trace
 pub reads_refused : (bytes : List ℕ) (commands : List Command) (rest : List ℕ) (line : ℕ) (text after : List ℕ) (refusal : ParseRefusal)
     → Reads bytes commands rest line → command_lines line (lines rest) ≡ command_lines line (text ∷ lines after)
     → RefusesLine refusal text (length commands + 1) line → IsRefusedAs refusal (operations_of 1 (command_lines 1 (lines bytes)))

@@ -123,7 +123,7 @@ and-le false b = omega arith
 count_and-le : (p q : Operation → Bool) (trace : List Operation) → count_by (λ o. p o && q o) trace ≤ count_by p trace
 count_and-le p q trace = sum_by-le-sum_by (λ o. one_if (p o && q o)) (λ o. one_if (p o)) trace (λ o. and-le (p o) (q o))
 
--- a shard's share of the replies is within the whole
+-- a shard's share of the replies is within that of all shards
 pub share_fits : (trace : Trace) (n s : ℕ) → reply_bytes trace n s ≤ replies_room trace n
 share_fits trace n s =
     let gets = count_and-le (λ o. is_get o.kind) (λ o. origin o.number n == s) trace.operations in
@@ -153,7 +153,7 @@ longest_in bytes commands lie =
     longest_from bytes commands 0 (recursion_from_All (LiesWithin bytes) commands lie)
     ∙ sym (fold-map (λ m o. max m (length o.value)) (operation bytes) 0 commands)
 
--- what a whole pass counted needs no more room than all replies
+-- what a pass over all commands counted needs no more room than all replies
 pub tallied_room : (bytes : List ℕ) (commands : List Command) (i n s own here puts gets scans greatest : ℕ) → length commands ≤ i
     → Tallied (operations bytes (take i commands)) n s own here puts gets scans greatest
     → gets * greatest + scans * (n * scan_room) ≤ replies_room (trace_with (operations bytes commands)) n

@@ -1,4 +1,4 @@
--- The reading of the whole, from that of the lines.
+-- The reading of a trace, from that of the lines.
 use Rattle.std.proofs.Common.{◌≡◌, ℕ, ◌<◌, ◌≤◌, List, length, Ok, Err, refl, ap, ◌∙◌}
 use Rattle.std.proofs.lemmas.Bool.{le-ltb, lt-ltb}
 use Rattle.trace_text.specs.declared.command.Command.{Command}

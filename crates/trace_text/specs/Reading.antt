@@ -10,7 +10,7 @@ use Rattle.trace_text.specs.Operation.{Operation}
 use Rattle.trace_text.specs.Parts.{replies_room}
 use Rattle.trace_text.specs.Trace.{Trace, trace_with}
 
--- why a trace is refused: it is too long as a whole, or a line has a cause; line 0 stands for all of them
+-- why a trace is refused: it is too long, or a line has a cause; line 0 stands for all of them
 pub data Refusal : Type 0 where
   TooLong : Refusal
   AtLine : ℕ → Cause → Refusal
@@ -30,12 +30,12 @@ abbrev pub is_cr : Option ℕ → Bool
 is_cr None = false
 is_cr (Some b) = b == 13
 
-abbrev pub without_cr : List ℕ → List ℕ
-without_cr text = if is_cr (slice_get text (length text - 1)) then take (length text - 1) text else text
+abbrev pub strip_cr : List ℕ → List ℕ
+strip_cr text = if is_cr (slice_get text (length text - 1)) then take (length text - 1) text else text
 
 -- the bytes cut at each LF; what stands behind the last LF is a line too
 abbrev pub lines : List ℕ → List (List ℕ)
-lines bytes = map without_cr (slice_split (λ b. b == 10) bytes)
+lines bytes = map strip_cr (slice_split (λ b. b == 10) bytes)
 
 -- the lines that are not passed over, each with its number, where the first of these lines has this one
 abbrev pub command_lines : ℕ → List (List ℕ) → List (ℕ × List ℕ)

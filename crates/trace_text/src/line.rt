@@ -142,7 +142,7 @@ fn key_in(fields: &[u8]) -> Result<(&[u8], Option<&[u8]>), Cause>
 /// The key, a space, and the value, which is all that follows.
 fn put_in(fields: &[u8]) -> Result<Found<'_>, Cause>
     ensures fields { reading_of result ≡ from_key Kind.Put (cut_at 32 fields.now) }
-    ensures places { IfOk result (LieIn fields.now) }
+    ensures offsets { IfOk result (LieIn fields.now) }
 {
     let (key, behind) = key_in(fields)?;
     let value = behind.ok_or(Cause::MissingField)?;
@@ -163,7 +163,7 @@ fn put_in(fields: &[u8]) -> Result<Found<'_>, Cause>
 fn bare_in(kind: Kind, fields: &[u8]) -> Result<Found<'_>, Cause>
     requires { (kind ≡ Kind.Get) ⊎ (kind ≡ Kind.Erase) }
     ensures fields { reading_of result ≡ from_key kind (cut_at 32 fields.now) }
-    ensures places { IfOk result (LieIn fields.now) }
+    ensures offsets { IfOk result (LieIn fields.now) }
 {
     let (key, behind) = key_in(fields)?;
     if behind.is_some() {
@@ -182,7 +182,7 @@ fn bare_in(kind: Kind, fields: &[u8]) -> Result<Found<'_>, Cause>
 /// A key, a space, and a count.
 fn scan_in(fields: &[u8]) -> Result<Found<'_>, Cause>
     ensures fields { reading_of result ≡ from_key Kind.Scan (cut_at 32 fields.now) }
-    ensures places { IfOk result (LieIn fields.now) }
+    ensures offsets { IfOk result (LieIn fields.now) }
 {
     let (key, behind) = key_in(fields)?;
     let behind = behind.ok_or(Cause::MissingField)?;
@@ -216,7 +216,7 @@ fn kind_of(word: &[u8]) -> Option<Kind>
 
 fn fields_behind(kind: Kind, fields: &[u8]) -> Result<Found<'_>, Cause>
     ensures fields { reading_of result ≡ from_key kind (cut_at 32 fields.now) }
-    ensures places { IfOk result (LieIn fields.now) }
+    ensures offsets { IfOk result (LieIn fields.now) }
 {
     match kind {
         Kind::Put => put_in(fields),
@@ -228,7 +228,7 @@ fn fields_behind(kind: Kind, fields: &[u8]) -> Result<Found<'_>, Cause>
 /// What a line asks, or the first thing that is wrong with it.
 pub fn fields_of(line: &[u8]) -> Result<Found<'_>, Cause>
     ensures fields { reading_of result ≡ fields_of line.now }
-    ensures places { IfOk result (LieIn line.now) }
+    ensures offsets { IfOk result (LieIn line.now) }
 {
     let (word, fields) = cut(line, b' ');
     let kind = kind_of(word).ok_or(Cause::UnknownWord)?;

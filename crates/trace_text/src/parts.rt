@@ -2,7 +2,7 @@
 ghost use Rattle.std.specs.Prelude.{◌≡◌, ℕ, ◌<◌, ◌≤◌, List, length, count_by, fold, max, true, if◌then◌else◌, All};
 ghost use Rattle.trace_text.specs.Parsed.{LiesWithin, trace_in};
 ghost use Rattle.trace_text.specs.Operation.{operations};
-ghost use Rattle.trace_text.specs.Parts.{most_shards, hash, owner, origin, is_put, is_get, is_scan, issued, done_at, own_parts, here_parts, here_puts, reply_bytes, replies_room};
+ghost use Rattle.trace_text.specs.Parts.{most_shards, hash, owner, origin, is_put, is_get, is_scan, issued, done_at, own_parts, here_parts, here_puts, longest_value, reply_bytes, replies_room};
 ghost use Rattle.trace_text.specs.Reading.{most_commands};
 ghost use Rattle.trace_text.specs.Trace.{trace_with};
 
@@ -95,6 +95,15 @@ impl Trace {
             reply_bytes: gets * greatest + scans * (shards * SCAN_ROOM),
         }
     }
+
+    /// The length of the longest value that a command of this trace has, in bytes: 0 to 12,000. No value that a shard
+    /// replies is longer.
+    #[tactic(auto, using(crate::proofs::Tallies::longest_in))]
+    pub fn longest_value(&self) -> u32
+        ensures { result ≡ longest_value (trace_in self.now) }
+    {
+        greatest_among(self.commands())
+    }
 }
 
 /// The room for all replies to these commands, with so many shards, in bytes: the longest value for each get, and
@@ -184,6 +193,7 @@ fn own_parts_of(kind: Kind, is_own: bool, shards: u32) -> u32
 #[cfg(test)]
 mod tests {
     use super::*;
+    use crate::reading::parse;
     use std::test::Fail;
 
     #[test]
@@ -198,6 +208,21 @@ mod tests {
             assert_eq!(rt; hash(key.as_bytes()), hashed);
             assert_eq!(rt; owner_of(key.as_bytes(), 2), of_2);
             assert_eq!(rt; owner_of(key.as_bytes(), 16), of_16);
+        }
+        Ok(())
+    }
+
+    #[test]
+    fn the_longest_value_counts(rt: HostRuntime) -> Result<(), Fail> {
+        for (input, longest) in [
+            ("", 0),
+            ("get a\nput a \n", 0),
+            ("put a abc\nput b abcde\nput c ab\nscan abcdefgh 3\n", 5),
+        ] {
+            let bytes = input.as_bytes().to_vec(rt.alloc())?;
+            assert!(rt; bytes.len() <= 1000);
+            let trace = parse(rt.alloc(), bytes, 1)?;
+            assert_eq!(rt; trace.longest_value(), longest);
         }
         Ok(())
     }

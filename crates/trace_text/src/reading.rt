@@ -3,7 +3,7 @@ ghost use Rattle.std.specs.Prelude.{◌≡◌, ℕ, ◌+◌, ◌<◌, ◌≤◌,
 ghost use Rattle.trace_text.specs.inside.Found.{AddsLine, IsCommandAt, IsRestOf, LiesAt, RefusesLine};
 ghost use Rattle.trace_text.specs.Parsed.{AreSpelled, trace_in};
 ghost use Rattle.trace_text.specs.Parts.{most_shards};
-ghost use Rattle.trace_text.specs.Reading.{AtLine, is_cr, line_reading, lines, most_bytes, most_commands, most_replies, operations_of, command_lines, trace_of, without_cr, IsRefusedAs};
+ghost use Rattle.trace_text.specs.Reading.{AtLine, is_cr, line_reading, lines, most_bytes, most_commands, most_replies, operations_of, command_lines, trace_of, strip_cr, IsRefusedAs};
 
 use crate::command::{Command, Span};
 use crate::line::{cut, fields_of, is_passed};
@@ -31,8 +31,8 @@ fn is_cr(byte: Option<u8>) -> bool
 }
 
 /// A line without one CR at its end.
-fn without_cr(text: &[u8]) -> &[u8]
-    ensures line { result.now ≡ without_cr text.now }
+fn strip_cr(text: &[u8]) -> &[u8]
+    ensures line { result.now ≡ strip_cr text.now }
     ensures front { LiesAt text.now 0 result.now }
 {
     if is_cr(text.last().copied()) {
@@ -50,14 +50,14 @@ fn cut_line(text: &[u8]) -> (&[u8], &[u8])
     ensures lines { (line : ℕ) → command_lines line (lines text.now) ≡ command_lines line (result.0.now ∷ lines result.1.now) }
 {
     match cut(text, b'\n') {
-        (line, None) => (without_cr(line), &[]),
-        (line, Some(after)) => (without_cr(line), after),
+        (line, None) => (strip_cr(line), &[]),
+        (line, Some(after)) => (strip_cr(line), after),
     }
 }
 
 /// The command on a line that begins at `start` of the trace.
 fn command_at(text: &[u8], start: usize, number: u32, line: u32) -> Result<Command, Cause>
-    requires place { start + length text.now < 2 ^ 32 }
+    requires end { start + length text.now < 2 ^ 32 }
     requires few { number ≤ most_commands }
     ensures found { IfOk result (IsCommandAt text.now start number line) }
     ensures refused { IfErr result (λ cause. line_reading (number, (line, text.now)) ≡ Err (AtLine line cause)) }
@@ -86,7 +86,7 @@ fn add_line(
     start: usize,
     line: u32,
 ) -> Result<(), ParseRefusal>
-    requires place { start + length text.now < 2 ^ 32 }
+    requires end { start + length text.now < 2 ^ 32 }
     requires few { vec_len commands.old ≤ most_commands }
     ensures added { OnOk result (AddsLine text.now start line commands.old.items commands.new.items) }
     ensures few { OnOk result (length commands.new.items ≤ most_commands) }

@@ -17,7 +17,7 @@ output written faults buffer = record { written = written; faults = faults; buff
 pub record Adds (before after : Output) (text : List ℕ) : Type 0 where
   pub sent : List ℕ
   pub appended : Appends before.written after.written sent
-  pub whole : sent ++ after.buffer ≡ before.buffer ++ text
+  pub bytes : sent ++ after.buffer ≡ before.buffer ++ text
 
 -- the sink failed, with a front of what the buffer had and the text
 pub record Fails (before after : Output) (text : List ℕ) : Type 0 where

@@ -1,4 +1,4 @@
--- What the reader of a line found, with the places of its fields.
+-- What the reader of a line found, with the offsets of its fields.
 use Rattle.std.specs.Prelude.{◌≡◌, ◌⊎◌, ℕ, ◌+◌, ◌-◌, ◌*◌, ◌≤◌, List, [], ◌∷◌, ◌++◌, length, take, drop, None, Result, Ok, Err, true, false}
 use Rattle.trace_text.specs.declared.line.Found.{Found}
 use Rattle.trace_text.specs.declared.command.Command.{Command}
@@ -24,7 +24,7 @@ abbrev pub reading_of : Result Found Cause → Result Fields Cause
 reading_of (Ok found) = Ok (fields_in found)
 reading_of (Err cause) = Err cause
 
--- the field stands at this place of the line
+-- the field stands at this offset of the line
 abbrev pub LiesAt : List ℕ → ℕ → List ℕ → Type 0
 LiesAt line at field = (at + length field ≤ length line) × (take (length field) (drop at line) ≡ field)
 
@@ -39,7 +39,7 @@ pub record LieIn (line : List ℕ) (found : Found) : Type 0 where
 abbrev pub IsRestOf : List ℕ → List ℕ → Type 0
 IsRestOf text rest = (length rest ≤ length text) × (drop (length text - length rest) text ≡ rest)
 
--- a line's command, in whatever bytes the line stands at this place
+-- a line's command, in whatever bytes the line stands at this offset
 abbrev pub IsCommandAt : List ℕ → ℕ → ℕ → ℕ → Command → Type 0
 IsCommandAt text start number line command = (bytes : List ℕ) → LiesAt bytes start text
     → (line_reading (number, (line, text)) ≡ Ok (operation bytes command)) × LiesWithin bytes command

@@ -11,4 +11,4 @@ pub returns-clause-answers : goal.returns-clause-answers
 returns-clause-answers c trace pages journal operation reply is replied = answer_is_reply trace pages journal operation reply is replied
 
 pub returns-clause-fitting : goal.returns-clause-fitting
-returns-clause-fitting c operation reply fits = fitting_answer operation.kind operation reply fits
+returns-clause-fitting c longest operation reply fits = fitting_answer operation.kind longest operation reply fits

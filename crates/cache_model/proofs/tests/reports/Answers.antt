@@ -5,4 +5,4 @@ use Rattle.cache_model.proofs.tests.reports.Goals as goal
 
 pub returns : goal.returns
 unfolding digits
-returns c = record { at_home = refl; away = refl; both = refl }
+returns c = record { at_home = refl; away = refl; joined = refl }

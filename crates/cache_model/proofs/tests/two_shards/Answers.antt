@@ -1,4 +1,4 @@
--- The definitions compute on the worked trace.
+-- The definitions compute on the example.
 use Rattle.std.proofs.Common.{zero, suc, arith, refl}
 use Rattle.cache_model.specs.Legal.{IsComplete}
 use Rattle.cache_model.specs.Examples.{two_shards, first, second, second_merged, swapped, shortened, doubled}

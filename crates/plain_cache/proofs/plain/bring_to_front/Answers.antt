@@ -1,6 +1,6 @@
--- The rows up to the place are turned by one.
+-- The rows up to the position are rotated by one.
 use Rattle.std.proofs.Common.{◌≡◌, arith, length}
-use Rattle.plain_cache.proofs.Turned.{turned, turned_distinct, turned_rows, written}
+use Rattle.plain_cache.proofs.Rotation.{rotated, rotated_distinct, rotated_rows, written}
 use Rattle.plain_cache.proofs.plain.bring_to_front.Goals as goal
 
 pub returns-clause-rows : goal.returns-clause-rows
@@ -8,24 +8,24 @@ returns-clause-rows c =
     let rows = c.args.rows.now.items in
     let front = c.rotate_right.new.self in
     let all : c.args.rows.now.len ≡ length rows = omega arith in
-    let is = turned c.args.key.now rows c.slice_mut.result.now front c.args.at c.args.rows.now.len c.requires.of_key c.requires.distinct all
+    let is = rotated c.args.key.now rows c.slice_mut.result.now front c.args.at c.args.rows.now.len c.requires.of_key c.requires.distinct all
     c.slice_mut.ensures.value c.rotate_right.ensures.len c.rotate_right.ensures.after in
-    turned_rows c.args.key.now rows (written c.args.rows.now.len front rows) is.0 is.1
+    rotated_rows c.args.key.now rows (written c.args.rows.now.len front rows) is.0 is.1
 
 pub returns-clause-distinct_still : goal.returns-clause-distinct_still
 returns-clause-distinct_still c =
     let rows = c.args.rows.now.items in
     let front = c.rotate_right.new.self in
     let all : c.args.rows.now.len ≡ length rows = omega arith in
-    let is = turned c.args.key.now rows c.slice_mut.result.now front c.args.at c.args.rows.now.len c.requires.of_key c.requires.distinct all
+    let is = rotated c.args.key.now rows c.slice_mut.result.now front c.args.at c.args.rows.now.len c.requires.of_key c.requires.distinct all
     c.slice_mut.ensures.value c.rotate_right.ensures.len c.rotate_right.ensures.after in
-    turned_distinct c.other_rows_are_distinct.ensures.brought c.args.key.now rows (written c.args.rows.now.len front rows) is.0 is.1 c.requires.distinct
+    rotated_distinct c.other_rows_are_distinct.ensures.brought c.args.key.now rows (written c.args.rows.now.len front rows) is.0 is.1 c.requires.distinct
 
 pub returns-clause-small : goal.returns-clause-small
 returns-clause-small c =
     let rows = c.args.rows.now.items in
     let front = c.rotate_right.new.self in
     let all : c.args.rows.now.len ≡ length rows = omega arith in
-    let is = turned c.args.key.now rows c.slice_mut.result.now front c.args.at c.args.rows.now.len c.requires.of_key c.requires.distinct all
+    let is = rotated c.args.key.now rows c.slice_mut.result.now front c.args.at c.args.rows.now.len c.requires.of_key c.requires.distinct all
     c.slice_mut.ensures.value c.rotate_right.ensures.len c.rotate_right.ensures.after in
     is.1.small

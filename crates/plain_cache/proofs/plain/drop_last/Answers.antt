@@ -1,6 +1,6 @@
 -- The rows before the last one have distinct keys too.
 use Rattle.std.proofs.Common.{◌≡◌, ◌-◌, arith, length, map, vec_len}
-use Rattle.plain_cache.specs.Kept.{row_in}
+use Rattle.plain_cache.specs.inside.OwnedRow.{row_in}
 use Rattle.plain_cache.proofs.RowLists.{front-rows}
 use Rattle.plain_cache.proofs.plain.drop_last.Goals as goal
 

@@ -1,7 +1,7 @@
 -- What stays are the rows of other keys.
 use Rattle.std.proofs.Common.{◌≡◌, ap, false, map, sym, ◌∙◌}
 use Rattle.cache_model.specs.Apply.{has, without}
-use Rattle.plain_cache.specs.Kept.{row_in}
+use Rattle.plain_cache.specs.inside.OwnedRow.{row_in}
 use Rattle.plain_cache.proofs.plain.drop_row.Goals as goal
 
 pub returns-in_default-clause-rows : goal.returns-in_default-clause-rows
@@ -12,14 +12,14 @@ returns-in_default-clause-rows c =
 
 pub returns-clause-absent : goal.returns-clause-absent
 returns-clause-absent c =
-    let place = rw c.as_slice.ensures.value at c.in-Some.ensures.place in
+    let position = rw c.as_slice.ensures.value at c.in-Some.ensures.position in
     let others : map row_in c.remove.new.self.items ≡ without c.args.key.now (map row_in c.args.rows.now.items) =
-    ap (map row_in) c.remove.ensures.items ∙ place.others c.requires in
+    ap (map row_in) c.remove.ensures.items ∙ position.others c.requires in
     rw others (c.other_rows_are_distinct.ensures.absent c.args.key.now (map row_in c.args.rows.now.items))
 
 pub returns-clause-distinct : goal.returns-clause-distinct
 returns-clause-distinct c =
-    let place = rw c.as_slice.ensures.value at c.in-Some.ensures.place in
+    let position = rw c.as_slice.ensures.value at c.in-Some.ensures.position in
     let others : map row_in c.remove.new.self.items ≡ without c.args.key.now (map row_in c.args.rows.now.items) =
-    ap (map row_in) c.remove.ensures.items ∙ place.others c.requires in
+    ap (map row_in) c.remove.ensures.items ∙ position.others c.requires in
     rw others (c.other_rows_are_distinct.ensures.distinct c.args.key.now (map row_in c.args.rows.now.items) c.requires)

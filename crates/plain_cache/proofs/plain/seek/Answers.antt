@@ -1,12 +1,12 @@
--- What the place of a row says.
-use Rattle.plain_cache.proofs.RowLists.{absent_where, has-position, is_place_where}
+-- What the position of a row says.
+use Rattle.plain_cache.proofs.RowLists.{absent_where, has-position, is_position_where}
 use Rattle.plain_cache.proofs.plain.seek.Goals as goal
 
 pub returns-clause-absent : goal.returns-clause-absent
-returns-clause-absent c = absent_where c.args.key.now c.args.rows.now c.place_of.result c.place_of.ensures
+returns-clause-absent c = absent_where c.args.key.now c.args.rows.now c.position_of.result c.position_of.ensures
 
 pub returns-clause-has : goal.returns-clause-has
-returns-clause-has c = rw c.place_of.ensures (has-position c.args.key.now c.args.rows.now)
+returns-clause-has c = rw c.position_of.ensures (has-position c.args.key.now c.args.rows.now)
 
-pub returns-clause-place : goal.returns-clause-place
-returns-clause-place c = is_place_where c.other_rows_are_distinct.ensures.all c.args.key.now c.args.rows.now c.place_of.result c.place_of.ensures
+pub returns-clause-position : goal.returns-clause-position
+returns-clause-position c = is_position_where c.other_rows_are_distinct.ensures.all c.args.key.now c.args.rows.now c.position_of.result c.position_of.ensures

@@ -2,7 +2,7 @@ use Rattle.std.proofs.Common.{subst}
 use Rattle.report_text.specs.inside.Output.{Writes}
 use Rattle.report_text.proofs.KeysOfReplies.{keys_in, keys_of}
 use Rattle.report_text.proofs.Outputs.{Writes-then, Writes-stop, Writes-exit}
-use Rattle.report_text.proofs.Texts.{begins, keys_said, plain_said}
+use Rattle.report_text.proofs.Texts.{begins, keys_said, words_spelled}
 use Rattle.report_text.proofs.lines.put_reply.Goals as goal
 
 pub returns-in_err-put : goal.returns-in_err-put
@@ -20,4 +20,4 @@ returns-in-Keys g c = λ reply spells.
 pub returns-in_default : goal.returns-in_default
 returns-in_default g c = λ reply spells.
     let word = rw c.word.ensures at c.in_ok-put.ensures in
-    subst (Writes _ _ _) (plain_said c.args.kind c.args.body.now reply spells c.in_default.not-Keys) (Writes-then word c.put-in_default.ensures)
+    subst (Writes _ _ _) (words_spelled c.args.kind c.args.body.now reply spells c.in_default.not-Keys) (Writes-then word c.put-in_default.ensures)

@@ -21,22 +21,22 @@ put_answer-requires-clause-answered g c =
     ((get_or all.0 i (0, Stored)).1, p.legal, p.recorded)
 
 pub loop-command-preserved : goal.loop-command-preserved
-loop-command-preserved g c = λ answers held.
+loop-command-preserved g c = λ answers logged.
     let k = c.commands-commands in
     let i = c.loop-command.command-index in
     let p = answered_at c.args.trace.now k.result.now c.args.logs.now c.index-logs-0.result answers i none
     k.ensures.value k.ensures.numbered c.requires.one_log_each c.requires.one_shard c.one_shard_answers_alone.ensures.part c.one_shard_answers_alone.ensures.parts c.one_shard_answers_alone.ensures.fitting
-    c.index-logs-0.is held c.loop-command-test.true in
-    Writes-next-at answer_line answers i _ p.within p.at (c.loop-command.invariant answers held) (c.in_ok-put_answer.ensures _ p.recorded p.legal)
+    c.index-logs-0.is logged c.loop-command-test.true in
+    Writes-next-at answer_line answers i _ p.within p.at (c.loop-command.invariant answers logged) (c.in_ok-put_answer.ensures _ p.recorded p.legal)
 
 pub returns-in_err-put_answer : goal.returns-in_err-put_answer
-returns-in_err-put_answer g c = λ answers held.
+returns-in_err-put_answer g c = λ answers logged.
     let k = c.commands-commands in
     let i = c.loop-command.command-index in
     let p = answered_at c.args.trace.now k.result.now c.args.logs.now c.index-logs-0.result answers i none
     k.ensures.value k.ensures.numbered c.requires.one_log_each c.requires.one_shard c.one_shard_answers_alone.ensures.part c.one_shard_answers_alone.ensures.parts c.one_shard_answers_alone.ensures.fitting
-    c.index-logs-0.is held c.loop-command-test.true in
-    Writes-exit _ c.from_residual.ensures.1 (Writes-broken-at answer_line answers i _ p.within p.at (c.loop-command.invariant answers held) (c.in_err-put_answer.ensures _ p.recorded p.legal))
+    c.index-logs-0.is logged c.loop-command-test.true in
+    Writes-exit _ c.from_residual.ensures.1 (Writes-broken-at answer_line answers i _ p.within p.at (c.loop-command.invariant answers logged) (c.in_err-put_answer.ensures _ p.recorded p.legal))
 
 pub returns : goal.returns
 returns g c = λ answers logged.

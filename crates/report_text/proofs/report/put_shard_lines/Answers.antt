@@ -11,16 +11,16 @@ none = record { rows = 0; live = 0; lent = 0; back = 0 }
 
 pub loop-shard-preserved : goal.loop-shard-preserved
 loop-shard-preserved g c =
-    let held = get_or c.args.lines.now c.loop-shard.shard none in
-    let is = get_or_default c.args.lines.now c.loop-shard.shard held none c.loop-shard-test.true in
-    Writes-next-numbered occupancy_line occupancy_in c.args.lines.now c.loop-shard.shard held c.loop-shard-test.true is c.loop-shard.invariant c.in_ok-put_shard_line.ensures
+    let line = get_or c.args.lines.now c.loop-shard.shard none in
+    let is = get_or_default c.args.lines.now c.loop-shard.shard line none c.loop-shard-test.true in
+    Writes-next-numbered occupancy_line occupancy_in c.args.lines.now c.loop-shard.shard line c.loop-shard-test.true is c.loop-shard.invariant c.in_ok-put_shard_line.ensures
 
 pub returns-in_err-put_shard_line : goal.returns-in_err-put_shard_line
 returns-in_err-put_shard_line g c =
-    let held = get_or c.args.lines.now c.loop-shard.shard none in
-    let is = get_or_default c.args.lines.now c.loop-shard.shard held none c.loop-shard-test.true in
+    let line = get_or c.args.lines.now c.loop-shard.shard none in
+    let is = get_or_default c.args.lines.now c.loop-shard.shard line none c.loop-shard-test.true in
     Writes-exit _ c.from_residual.ensures.1
-    (Writes-broken-numbered occupancy_line occupancy_in c.args.lines.now c.loop-shard.shard held c.loop-shard-test.true is c.loop-shard.invariant c.in_err-put_shard_line.ensures)
+    (Writes-broken-numbered occupancy_line occupancy_in c.args.lines.now c.loop-shard.shard line c.loop-shard-test.true is c.loop-shard.invariant c.in_err-put_shard_line.ensures)
 
 pub returns : goal.returns
 returns g c = Writes-all-numbered occupancy_line occupancy_in c.args.lines.now c.loop-shard.shard c.loop-shard-test.false c.loop-shard.invariant

@@ -20,26 +20,26 @@ returns-in_err-put_answers g c =
     let sent = Sent-from c.from_residual.result (output (g.K.Sink.written c.args.sink.now) (g.K.Sink.faults c.args.sink.now) c.new-buffer.result.items) (output
     (g.K.Sink.written c.put_answers.new.sink) (g.K.Sink.faults c.put_answers.new.sink) c.put_answers.new.buffer.items) (AreLogged (trace_in c.args.trace.now) c.args.shards
     (replies_in c.args.logs.now)) (λ answers. report_of answers (journals_in c.args.journals.now) (occupancies_in c.args.lines.now)) c.requires.answered c.new-buffer.ensures
-    (IfOk-from_err _ _ c.from_residual.ensures.0) (λ answers held. Writes-exit _ c.from_residual.ensures.1 (Writes-stop _ (Writes-stop _ (c.in_err-put_answers.ensures answers (on_one c.requires.one_shard held))))) in
-    record { whole = sent.whole; front = sent.front; failed = sent.failed; never_falls = sent.never_falls }
+    (IfOk-from_err _ _ c.from_residual.ensures.0) (λ answers logged. Writes-exit _ c.from_residual.ensures.1 (Writes-stop _ (Writes-stop _ (c.in_err-put_answers.ensures answers (on_one c.requires.one_shard logged))))) in
+    record { written = sent.written; front = sent.front; failed = sent.failed; never_falls = sent.never_falls }
 
 pub returns-in_err-put_journals : goal.returns-in_err-put_journals
 returns-in_err-put_journals g c =
     let sent = Sent-from c.from_residual-in_err-put_journals.result (output (g.K.Sink.written c.args.sink.now) (g.K.Sink.faults c.args.sink.now) c.new-buffer.result.items) (output
     (g.K.Sink.written c.put_journals.new.sink) (g.K.Sink.faults c.put_journals.new.sink) c.put_journals.new.buffer.items) (AreLogged (trace_in c.args.trace.now) c.args.shards
     (replies_in c.args.logs.now)) (λ answers. report_of answers (journals_in c.args.journals.now) (occupancies_in c.args.lines.now)) c.requires.answered c.new-buffer.ensures
-    (IfOk-from_err _ _ c.from_residual-in_err-put_journals.ensures.0) (λ answers held. Writes-exit _ c.from_residual-in_err-put_journals.ensures.1 (Writes-stop _ (Writes-then
-    (c.in_ok-put_answers.ensures answers (on_one c.requires.one_shard held)) c.in_err-put_journals.ensures))) in
-    record { whole = sent.whole; front = sent.front; failed = sent.failed; never_falls = sent.never_falls }
+    (IfOk-from_err _ _ c.from_residual-in_err-put_journals.ensures.0) (λ answers logged. Writes-exit _ c.from_residual-in_err-put_journals.ensures.1 (Writes-stop _ (Writes-then
+    (c.in_ok-put_answers.ensures answers (on_one c.requires.one_shard logged)) c.in_err-put_journals.ensures))) in
+    record { written = sent.written; front = sent.front; failed = sent.failed; never_falls = sent.never_falls }
 
 pub returns-in_err-put_shard_lines : goal.returns-in_err-put_shard_lines
 returns-in_err-put_shard_lines g c =
     let sent = Sent-from c.from_residual-in_err-put_shard_lines.result (output (g.K.Sink.written c.args.sink.now) (g.K.Sink.faults c.args.sink.now) c.new-buffer.result.items) (output
     (g.K.Sink.written c.put_shard_lines.new.sink) (g.K.Sink.faults c.put_shard_lines.new.sink) c.put_shard_lines.new.buffer.items) (AreLogged (trace_in c.args.trace.now) c.args.shards
     (replies_in c.args.logs.now)) (λ answers. report_of answers (journals_in c.args.journals.now) (occupancies_in c.args.lines.now)) c.requires.answered c.new-buffer.ensures
-    (IfOk-from_err _ _ c.from_residual-in_err-put_shard_lines.ensures.0) (λ answers held. Writes-exit _ c.from_residual-in_err-put_shard_lines.ensures.1 (Writes-then (Writes-then
-    (c.in_ok-put_answers.ensures answers (on_one c.requires.one_shard held)) c.in_ok-put_journals.ensures) c.in_err-put_shard_lines.ensures)) in
-    record { whole = sent.whole; front = sent.front; failed = sent.failed; never_falls = sent.never_falls }
+    (IfOk-from_err _ _ c.from_residual-in_err-put_shard_lines.ensures.0) (λ answers logged. Writes-exit _ c.from_residual-in_err-put_shard_lines.ensures.1 (Writes-then (Writes-then
+    (c.in_ok-put_answers.ensures answers (on_one c.requires.one_shard logged)) c.in_ok-put_journals.ensures) c.in_err-put_shard_lines.ensures)) in
+    record { written = sent.written; front = sent.front; failed = sent.failed; never_falls = sent.never_falls }
 
 pub returns : goal.returns
 returns g c =
@@ -47,6 +47,6 @@ returns g c =
     (g.K.Sink.faults c.flush.new.sink) c.flush.new.buffer.items) (AreLogged (trace_in c.args.trace.now) c.args.shards (replies_in c.args.logs.now)) (λ answers. report_of answers
     (journals_in c.args.journals.now) (occupancies_in c.args.lines.now)) c.requires.answered c.new-buffer.ensures
     c.flush.ensures.empty
-    (λ answers held. subst (Writes _ _ _) (append-nil _) (Writes-then (Writes-then (Writes-then (c.in_ok-put_answers.ensures answers
-    (on_one c.requires.one_shard held)) c.in_ok-put_journals.ensures) c.in_ok-put_shard_lines.ensures) c.flush.ensures.wrote)) in
-    record { whole = sent.whole; front = sent.front; failed = sent.failed; never_falls = sent.never_falls }
+    (λ answers logged. subst (Writes _ _ _) (append-nil _) (Writes-then (Writes-then (Writes-then (c.in_ok-put_answers.ensures answers
+    (on_one c.requires.one_shard logged)) c.in_ok-put_journals.ensures) c.in_ok-put_shard_lines.ensures) c.flush.ensures.wrote)) in
+    record { written = sent.written; front = sent.front; failed = sent.failed; never_falls = sent.never_falls }

@@ -1,5 +1,5 @@
 use Rattle.std.proofs.Common.{arith}
-use Rattle.row_bytes.proofs.Written.{pieces_written}
+use Rattle.row_bytes.proofs.Pieces.{pieces_written}
 use Rattle.row_bytes.proofs.writing.write_row.Goals as goal
 
 pub returns : goal.returns

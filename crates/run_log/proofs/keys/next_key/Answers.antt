@@ -12,4 +12,4 @@ returns-clause-first c keys p =
     let key = c.in_ok-key.key.now in
     let cut = c.in_ok-key.ensures.first keys (subst (λ bytes. AreKeys bytes keys) (sym (take_rest body at)) p.rest) in
     let found = next_cut body at key cut.0 (subst (AreKeysAt body at) cut.1 p) in
-    (cut.0, cut.1 ∙ ap (λ front. front ∷ cut.0) (sym found.0), found.1)
+    rw c.span_behind.ensures (cut.0, cut.1 ∙ ap (λ front. front ∷ cut.0) (sym found.0), found.1)

@@ -15,7 +15,7 @@ pub returns-in-Err-Fault-clause-table : goal.returns-in-Err-Fault-clause-table
 returns-in-Err-Fault-clause-table g c words asked =
     let taken = c.in-Err-Fault.ensures.no_more (rw c.in-Err-Fault.field-0-is (λ e. cc)) in
     follows_ending _ status.ReadFault words _ _ _ _ _ _ taken.2
-    (record { found = view c.args.settings; asked = asked; one_shard = c.requires.one_shard }, refl) c.write_line.ensures.written
+    (record { found = view c.args.settings; wanted = asked; one_shard = c.requires.one_shard }, refl) c.write_line.ensures.written
 
 pub returns-in-Err-TooLong-clause-table : goal.returns-in-Err-TooLong-clause-table
 returns-in-Err-TooLong-clause-table g c words asked =

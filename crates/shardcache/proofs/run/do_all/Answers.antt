@@ -33,8 +33,11 @@ loop-command-preserved c =
     (rw is at done.applied) (rw is at done.replied) (rw is at done.room) (rw is at done.done) done.spare
 
 pub returns : goal.returns
-returns c = is_run c.one_shard_answers_alone.ensures.answers c.one_shard_answers_alone.ensures.part c.one_shard_answers_alone.ensures.parts c.logs_hold_the_answers.ensures
-    c.replies_tell_what_was_put.ensures.part c.a_report_has_its_lines.ensures.journals
+returns c =
+    let left = c.left_by.ensures in
+    rw (left.journal, left.log)
+    (is_run c.one_shard_answers_alone.ensures.answers c.one_shard_answers_alone.ensures.part c.one_shard_answers_alone.ensures.parts c.logs_hold_the_answers.ensures
+    c.replies_hold_what_was_put.ensures.part c.a_report_has_its_lines.ensures.journals
     (trace_in c.args.trace.now).operations c.args.pages _ _ _ _ _ _ (numbered _ _ (rw c.commands-commands.ensures.value at c.commands-commands.ensures.numbered))
     c.commands-commands.ensures.well_formed c.loop-command.invariant
-    (ended_at _ _ _ (rw c.commands-commands.ensures.value at c.loop-command-test.false)) c.rows.ensures c.live.ensures
+    (ended_at _ _ _ (rw c.commands-commands.ensures.value at c.loop-command-test.false)) left.rows left.live)

@@ -1,12 +1,12 @@
 -- A command's fields lie in whatever bytes its line lies in.
-use Rattle.trace_text.proofs.Places.{lies_in_whole, key-some, key-most, value-most, line_reading_is}
+use Rattle.trace_text.proofs.Offsets.{lies_in_outer, key-some, key-most, value-most, line_reading_is}
 use Rattle.trace_text.proofs.reading.command_at.Goals as goal
 
 pub returns-clause-found : goal.returns-clause-found
 returns-clause-found c bytes lies =
-    let found = c.in_ok-found.ensures.places in
-    let key = lies_in_whole bytes c.args.text.now _ c.args.start _ lies found.key in
-    let value = lies_in_whole bytes c.args.text.now _ c.args.start _ lies found.value in (
+    let found = c.in_ok-found.ensures.offsets in
+    let key = lies_in_outer bytes c.args.text.now _ c.args.start _ lies found.key in
+    let value = lies_in_outer bytes c.args.text.now _ c.args.start _ lies found.value in (
       rw (key.1, value.1) (line_reading_is c.args.number c.args.line c.args.text.now _ c.requires.few c.in_ok-found.ensures.fields),
       record {
         key = key.0;

@@ -1,4 +1,4 @@
--- The commands so far, and the lines that are left, are those of the whole.
+-- The commands so far, and the lines that are left, are those of the trace.
 use Rattle.std.proofs.Common.{length}
 use Rattle.trace_text.proofs.LinesRead.{Reads}
 use Rattle.trace_text.proofs.reading.commands_of.Given as goal

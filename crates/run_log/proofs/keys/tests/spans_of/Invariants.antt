@@ -1,4 +1,4 @@
--- From the place reached on the body is keys.
+-- From the offset reached on the body is keys.
 use Rattle.std.proofs.Common.{ℕ, ◌-◌, List, length}
 use Rattle.cache_model.specs.KeyBody.{AreKeysAt}
 use Rattle.run_log.proofs.keys.tests.spans_of.Given as goal

@@ -6,5 +6,5 @@ use Rattle.run_log.proofs.reply_log.ReplyLog.new.Goals as goal
 pub returns : goal.returns
 returns c =
     let all : c.loop.counter ≡ c.args.parts = omega arith in
-    let whole : c.args.bytes - 0 ≡ c.args.bytes = omega arith in
-    rw (c.loop.invariant, unanswered, all, c.in_ok-with_capacity.ensures.len, whole) refl
+    let all_left : c.args.bytes - 0 ≡ c.args.bytes = omega arith in
+    rw (c.loop.invariant, unanswered, all, c.in_ok-with_capacity.ensures.len, all_left) refl

@@ -1,5 +1,5 @@
 -- What the commands ask is what the bytes mean, and is well formed.
-use Rattle.trace_text.proofs.Places.{well_formed}
+use Rattle.trace_text.proofs.Offsets.{well_formed}
 use Rattle.trace_text.proofs.TraceRead.{parsed_read}
 use Rattle.trace_text.proofs.trace.Trace.commands.Goals as goal
 

@@ -1,4 +1,4 @@
--- A field's place in a part of a line, and in the line.
+-- A field's offset in a part of a line, and in the line.
 use Rattle.std.proofs.Common.{◌≡◌, ℕ, ◌+◌, ◌-◌, ◌≤◌, Bool, true, false, cond, leb, ltb, List, length, take, drop, get_or, Option, None, Some, Ok, All, arith, refl, sym, ◌∙◌}
 use Rattle.std.proofs.lemmas.List.{drop-drop, drop-take, take-take}
 use Rattle.std.proofs.lemmas.List.Elements.{All-map}
@@ -25,12 +25,12 @@ part_of_front xs n m front within =
     let le : m ≤ front - n = omega arith in
     rw (e, drop-take n (front - n) xs, take-take m (front - n) (drop n xs) le) refl
 
--- what lies in a part that lies in the whole lies in the whole
-pub lies_in_whole : (whole text field : List ℕ) (start at : ℕ) → LiesAt whole start text → LiesAt text at field
-    → LiesAt whole (start + at) field
-lies_in_whole whole text field start at outer inner =
-    let e : take (length field) (drop at (take (length text) (drop start whole))) ≡ field = rw outer.1 inner.1 in
-    (omega arith, rw (← drop-drop at start whole) (sym (part_of_front (drop start whole) at (length field) (length text) inner.0) ∙ e))
+-- what lies in a text that lies in another lies in the other
+pub lies_in_outer : (outer_text text field : List ℕ) (start at : ℕ) → LiesAt outer_text start text → LiesAt text at field
+    → LiesAt outer_text (start + at) field
+lies_in_outer outer_text text field start at outer inner =
+    let e : take (length field) (drop at (take (length text) (drop start outer_text))) ≡ field = rw outer.1 inner.1 in
+    (omega arith, rw (← drop-drop at start outer_text) (sym (part_of_front (drop start outer_text) at (length field) (length text) inner.0) ∙ e))
 
 fault_where : (fits : Bool) (inner : Option Cause) (cause : Cause) → cond fits inner (Some cause) ≡ None → fits ≡ true
 fault_where true inner cause e = refl

@@ -1,5 +1,5 @@
 -- Distinct keys that are put in order rise strictly.
-use Rattle.std.proofs.Common.{◌≡◌, ℕ, zero, suc, Bool, ◌||◌, true, false, cond, List, [], ◌∷◌, take, filter, map, sym, ◌∙◌, refl, true≢false, Ordering, Less, Equal, Greater}
+use Rattle.std.proofs.Common.{◌≡◌, ℕ, zero, suc, Bool, ◌||◌, true, false, cond, List, [], ◌∷◌, take, filter, map, ap, sym, ◌∙◌, refl, true≢false, Ordering, Less, Equal, Greater}
 use Rattle.std.specs.Ordering.{is_le, nat_cmp, ordering_reverse}
 use Rattle.std.specs.Cmp.Lexicographic.{slice_cmp}
 use Rattle.std.specs.List.{AllByRecursion}
@@ -9,6 +9,7 @@ use Rattle.std.proofs.lemmas.Map.Lookups.{exact_bytes}
 use Rattle.std.proofs.lemmas.Slice.Eq.{bytes_eq-Decides}
 use Rattle.cache_model.specs.Apply.{is_at_most, put_in_order, in_order, is_of, has, HasDistinctKeys}
 use Rattle.cache_model.specs.Row.{Row}
+use Rattle.cache_model.proofs.KeyOrder.{IsInOrder, in_order-stays}
 
 abbrev IsBelow : List ℕ → List ℕ → Type 0
 IsBelow a b = slice_cmp nat_cmp a b ≡ Less
@@ -71,13 +72,13 @@ below a b most apart = go (slice_cmp nat_cmp a b) refl most
     go Equal e le = absurd (apart (exact_bytes a b e))
     go Greater e le = absurd (true≢false (sym le))
 
-turned : (o : Ordering) → is_le o ≡ false → ordering_reverse o ≡ Less
-turned Less e = absurd (true≢false e)
-turned Equal e = absurd (true≢false e)
-turned Greater e = refl
+reversed_less : (o : Ordering) → is_le o ≡ false → ordering_reverse o ≡ Less
+reversed_less Less e = absurd (true≢false e)
+reversed_less Equal e = absurd (true≢false e)
+reversed_less Greater e = refl
 
 above : (a b : List ℕ) → is_at_most a b ≡ false → IsBelow b a
-above a b e = nat_list_cmp_total.antisymm b a ∙ turned (slice_cmp nat_cmp a b) e
+above a b e = nat_list_cmp_total.antisymm b a ∙ reversed_less (slice_cmp nat_cmp a b) e
 
 rises-put : (key : List ℕ) (keys : List (List ℕ)) → AllByRecursion (λ other. key ≡ other → ⊥) keys → Rises keys → Rises (put_in_order key keys)
 unfolding IsStrictlySortedBy
@@ -130,3 +131,14 @@ pub scanned_rise : (n : ℕ) (p : List ℕ → Bool) (cache : List Row) → HasD
 scanned_rise n p cache are =
     let keys = map (λ (row : Row). row.key) cache in
     rises-take n (in_order (filter p keys)) (rises-in_order (filter p keys) (distinct-filter p keys (distinct-keys cache are)))
+
+-- ---- what rises is in order
+
+in_order-rising : (keys : List (List ℕ)) → Rises keys → IsInOrder keys
+unfolding IsStrictlySortedBy
+in_order-rising [] up = tt
+in_order-rising (key ∷ []) up = (tt, tt)
+in_order-rising (key ∷ other ∷ keys) up = (ap is_le up.0.0, in_order-rising (other ∷ keys) up.1)
+
+pub rising_stay : (keys : List (List ℕ)) → Rises keys → in_order keys ≡ keys
+rising_stay keys up = in_order-stays keys (in_order-rising keys up)

@@ -1,5 +1,5 @@
 use Rattle.cache_model.proofs.Holds.{answer-holds, part-holds, reply-holds, rows-hold}
-use Rattle.cache_model.proofs.law.replies_tell_what_was_put.Goals as goal
+use Rattle.cache_model.proofs.law.replies_hold_what_was_put.Goals as goal
 
 pub returns-clause-part : goal.returns-clause-part
 returns-clause-part c k v operation cache put holds = part-holds k v operation cache put holds

@@ -1,0 +1,6 @@
+use Rattle.shard_rings.proofs.Replied.{send_kind}
+use Rattle.shard_rings.proofs.law.replies_can_be_sent.Goals as goal
+
+pub returns : goal.returns
+returns c operation cache askable sendable =
+    send_kind c.scanned_keys_are_in_order.ensures.among operation.kind operation cache askable.fields sendable
