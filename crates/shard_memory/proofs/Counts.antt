@@ -12,7 +12,7 @@ use Rattle.common_lemmas.proofs.Powers.{aligned_step, coarser, nested, start_is}
 use Rattle.std.proofs.lemmas.Nat.{pow_pos}
 use Rattle.small_pools.specs.Classes.{IsClass, capacity_of, order_of, size_of}
 use Rattle.small_pools.specs.Objects.{Objects, slot_place, IsHeld, HasObject}
-use Rattle.shard_memory.specs.Shards.{IsConsistent, segments_allocated, blocks_allocated}
+use Rattle.shard_memory.specs.inside.Parts.{IsConsistent, segments_of, blocks_of}
 use Rattle.shard_memory.proofs.Lists.{has_cases, both_kinds}
 
 -- the aligned runs of 131,072 bytes in which the pieces begin
@@ -88,7 +88,7 @@ in_each_run n allocated spans pools b h blocked used small =
           (extent (slot_place first c.0 o.0) allocated_at.0, allocated_at.2, in_run (slot_place first c.0 o.0) b (omega (arith, low_at, begins)) (omega (arith, high_at, ends, some))))
     ]
 
-pub pieces_enough : (n : ℕ) (allocated : List Extent) (spans : Layout) (pools : Objects) → IsConsistent n allocated spans pools → IsBlocked spans 5 → ((first class : ℕ) → IsHeld pools first class → HasObject pools first class) → n / 32 ≤ segments_allocated allocated + blocks_allocated allocated
+pub pieces_enough : (n : ℕ) (allocated : List Extent) (spans : Layout) (pools : Objects) → IsConsistent n allocated spans pools → IsBlocked spans 5 → ((first class : ℕ) → IsHeld pools first class → HasObject pools first class) → n / 32 ≤ length (segments_of allocated) + length (blocks_of allocated)
 pieces_enough n allocated spans pools h blocked used =
     let all = all_there (n / 32) (runs allocated) (λ b l. (let p = in_each_run n allocated spans pools b h blocked used l in subst (λ z. 1 ≤ times z (runs allocated)) p.2 (has_run p.0 allocated p.1))) in
     let len = runs_len allocated in
@@ -97,5 +97,5 @@ pieces_enough n allocated spans pools h blocked used =
 
 -- where no span of a small order is free, and each pool span has an allocated object
 pub crowded : (n order : ℕ) (allocated : List Extent) (spans : Layout) (pools : Objects) → IsConsistent n allocated spans pools → order ≤ 4 → HasNone spans order → ((o : ℕ) → o ≤ 16 → HasNone spans o → IsBlocked spans o)
-    → ((first class : ℕ) → IsHeld pools first class → HasObject pools first class) → n / 32 ≤ segments_allocated allocated + blocks_allocated allocated
+    → ((first class : ℕ) → IsHeld pools first class → HasObject pools first class) → n / 32 ≤ length (segments_of allocated) + length (blocks_of allocated)
 crowded n order allocated spans pools h small none blocked used = pieces_enough n allocated spans pools h (blocked 5 (omega arith) (λ k low high. none k (omega arith) high)) used

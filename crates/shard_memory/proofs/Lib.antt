@@ -2,3 +2,4 @@ pub mod Counts
 pub mod Lists
 pub mod Steps
 pub mod Given
+pub mod Rooms

@@ -1,7 +1,8 @@
 -- Which places a list has, and how many.
-use Rattle.std.proofs.Common.{◌≡◌, ◌≢◌, ℕ, suc, ◌+◌, ◌*◌, ◌/◌, ◌%◌, ◌^◌, ◌<◌, ◌≤◌, ◌⊎◌, inl, inr, Bool, true, false, cond, not, ◌==◌, eq-eqb, List, [], ◌∷◌, length, refl, sym, ap, subst, ◌∙◌, arith}
+use Rattle.std.proofs.Common.{◌≡◌, ◌≢◌, ℕ, suc, ◌+◌, ◌*◌, ◌/◌, ◌%◌, ◌^◌, ◌<◌, ◌≤◌, ◌⊎◌, inl, inr, Bool, true, false, cond, not, ◌==◌, eq-eqb, List, [], ◌∷◌, length, refl, sym, ap, ap₂, subst, ◌∙◌, arith}
 use Rattle.std.specs.Prelude.{All, AllPairs, Contains, filter, slice_index_or}
-use Rattle.std.proofs.lemmas.List.{get_or_default}
+use Rattle.std.proofs.lemmas.List.{get_or_default, nil_from_length}
+use Rattle.std.proofs.lemmas.List.Kept.{AllPairs-filter}
 use Rattle.std.proofs.lemmas.Bool.{ne_eqb, cases_eq}
 use Rattle.std.proofs.lemmas.Bool.Decides.{eqb_tells}
 use Rattle.std.proofs.lemmas.List.Elements.{All-tail, All-head, All-weaker, All-filter, All-contains, All-contains_itself, filter_passes, Contains-append_left, Contains-append_right, Contains-append_cases, Contains-push, Contains-push_cases}
@@ -10,7 +11,7 @@ use Rattle.common_lemmas.specs.Lists.{times}
 use Rattle.common_lemmas.proofs.Counts.{times_here, times_there, length_below}
 use Rattle.layout.specs.Extents.{Extent, Disjoint, IsWithin, AreDisjoint}
 use Rattle.raw_range.specs.Memory.{remove_extent}
-use Rattle.shard_memory.specs.Shards.{is_segment, is_block, segments_allocated, blocks_allocated}
+use Rattle.shard_memory.specs.inside.Parts.{is_segment, is_block, segments_of, blocks_of}
 
 pub has_first : (p : Extent) (ps : List Extent) → Contains (p ∷ ps) p
 has_first p ps = Contains-append_left (p ∷ []) ps p (Contains-push [] p)
@@ -27,7 +28,7 @@ has_cases p q ps h = elim (Contains-append_cases (p ∷ []) ps q h) [
 pub all_of : (P : Extent → Type 0) (ps : List Extent) → ((q : Extent) → Contains ps q → P q) → All P ps
 all_of P ps h = All-weaker (Contains ps) P h ps (All-contains_itself ps)
 
-kept_by : (t : Extent → Bool) (q : Extent) (ps : List Extent) → Contains ps q → t q ≡ true → Contains (filter t ps) q
+pub kept_by : (t : Extent → Bool) (q : Extent) (ps : List Extent) → Contains ps q → t q ≡ true → Contains (filter t ps) q
 kept_by t q [] h e = absurd (let l = h.1 in omega (arith, l))
 kept_by t q (p ∷ ps) h e = elim (has_cases p q ps h) [
   | inl same ↦ subst (λ b. Contains (cond b (p ∷ filter t ps) (filter t ps)) q) (sym (ap t same ∙ e)) (subst (λ z. Contains (z ∷ filter t ps) q) (sym same) (has_first q (filter t ps)))
@@ -74,10 +75,10 @@ fewer_left t u (p ∷ ps) =
       | false ↦ omega (arith, rest, more)
     ]
 
-pub fewer_blocks : (p : Extent) (ps : List Extent) → blocks_allocated (remove_extent p ps) ≤ blocks_allocated ps
+pub fewer_blocks : (p : Extent) (ps : List Extent) → length (blocks_of (remove_extent p ps)) ≤ length (blocks_of ps)
 fewer_blocks p ps = fewer_left is_block (λ z. not (z.start == p.start)) ps
 
-pub both_kinds : (ps : List Extent) → length ps ≡ segments_allocated ps + blocks_allocated ps
+pub both_kinds : (ps : List Extent) → length ps ≡ length (segments_of ps) + length (blocks_of ps)
 both_kinds [] = refl
 both_kinds (p ∷ ps) =
     let rest = both_kinds ps in
@@ -91,7 +92,7 @@ starts : List Extent → List ℕ
 starts [] = []
 starts (p ∷ ps) = cond (is_segment p) ((p.start / 131072) ∷ starts ps) (starts ps)
 
-starts_len : (ps : List Extent) → length (starts ps) ≡ segments_allocated ps
+starts_len : (ps : List Extent) → length (starts ps) ≡ length (segments_of ps)
 unfolding starts
 starts_len [] = refl
 starts_len (p ∷ ps) =
@@ -109,7 +110,7 @@ none_starts z (p ∷ ps) h =
     let P : Extent → Type 0 = λ q. is_segment q ≡ true → (q.start / 131072) ≢ z in
     none_step z p (starts ps) (is_segment p) refl (All-head P p ps h) (none_starts z ps (All-tail P p ps h))
 
-len_of : (p : Extent) → is_segment p ≡ true → p.len ≡ 131072
+pub len_of : (p : Extent) → is_segment p ≡ true → p.len ≡ 131072
 len_of p e = elim (eqb_tells p.len 131072) [ inl h ↦ h.1 | inr h ↦ absurd (let clash : false ≡ true = sym h.0 ∙ e in cc) ]
 
 quotient : (x : ℕ) → (131072 * (x / 131072) ≤ x) × (x < 131072 * (x / 131072) + 131072)
@@ -137,7 +138,7 @@ once_starts z (p ∷ ps) h =
     (once_starts z ps (λ i j d l w. h (suc i) (suc j) d (omega (arith, l)) (omega (arith, w))))
 
 -- disjoint segments inside the bytes are as many as fit, at most
-pub few_segments : (n size : ℕ) (ps : List Extent) → AreDisjoint size ps → size ≤ 131072 * n → segments_allocated ps ≤ n
+pub few_segments : (n size : ℕ) (ps : List Extent) → AreDisjoint size ps → size ≤ 131072 * n → length (segments_of ps) ≤ n
 few_segments n size ps blocks small =
     let low = length_below n (starts ps) (λ z. once_starts z ps blocks.1)
     (λ z g. none_starts z ps (All-weaker (IsWithin size) (λ (q : Extent). is_segment q ≡ true → (q.start / 131072) ≢ z) (λ q w e s. (let l = len_of q e in let x = quotient q.start in let w1 = w.1 in omega (arith, l, w1, s, g, x.0, x.1, small))) ps blocks.0)) in
@@ -145,7 +146,7 @@ few_segments n size ps blocks small =
     omega (arith, low, len)
 
 -- with so few pages there is room for one more piece
-pub few_pieces : (pages : ℕ) (allocated : List Extent) → pages ≤ 65536 → AreDisjoint (4096 * pages) allocated → blocks_allocated allocated ≤ 1024 → length allocated < 4096
+pub few_pieces : (pages : ℕ) (allocated : List Extent) → pages ≤ 65536 → AreDisjoint (4096 * pages) allocated → length (blocks_of allocated) ≤ 1024 → length allocated < 4096
 few_pieces pages allocated most blocks few =
     let segs = few_segments 2048 (4096 * pages) allocated blocks (omega (arith, most)) in
     let both = both_kinds allocated in
@@ -172,48 +173,38 @@ all_kept t [] h = refl
 all_kept t (p ∷ ps) h =
     ap (λ b. cond b (p ∷ filter t ps) (filter t ps)) (All-head (λ (q : Extent). t q ≡ true) p ps h) ∙ ap (λ xs. p ∷ xs) (all_kept t ps (All-tail (λ (q : Extent). t q ≡ true) p ps h))
 
-segment_is : (p : Extent) → p.len ≡ 131072 → is_segment p ≡ true
+pub segment_is : (p : Extent) → p.len ≡ 131072 → is_segment p ≡ true
 segment_is p e = eq-eqb p.len 131072 e
 
--- a segment that is no longer allocated leaves the blocks
-pub same_blocks : (size : ℕ) (allocated : List Extent) (p : Extent) → AreDisjoint size allocated → Contains allocated p → p.len ≡ 131072 → blocks_allocated (remove_extent p allocated) ≡ blocks_allocated allocated
-same_blocks size allocated p blocks has len =
-    let u : Extent → Bool = λ z. not (z.start == p.start) in
-    let stays : (q : Extent) → Contains (filter is_block allocated) q → u q ≡ true = λ q h.
-    (let in_allocated : Contains allocated q = All-contains (Contains allocated) (filter is_block allocated) q (All-filter is_block (Contains allocated) allocated (All-contains_itself allocated)) h in
-    let is : is_block q ≡ true = All-contains (λ x. is_block x ≡ true) (filter is_block allocated) q (filter_passes is_block allocated) h in
-    ap not (ne_eqb q.start p.start (λ e.
-    (let one : p ≡ q = same_place size allocated p q blocks has in_allocated (sym e) in
-    let seg : is_segment q ≡ true = subst (λ z. is_segment z ≡ true) one (segment_is p len) in
-    let clash : false ≡ true = sym (ap not seg) ∙ is in cc)))) in
-    ap length (filter_swap is_block u allocated ∙ all_kept u (filter is_block allocated) (all_of (λ q. u q ≡ true) (filter is_block allocated) stays))
-
-one_less : (t u : Extent → Bool) (p : Extent) (ps : List Extent) → Contains ps p → t p ≡ true → u p ≡ false → length (filter t (filter u ps)) < length (filter t ps)
-one_less t u p [] h et eu = absurd (let l = h.1 in omega (arith, l))
-one_less t u p (q ∷ ps) h et eu = elim (has_cases q p ps h) [
-  | inl same ↦
-      (let less = fewer_left t u ps in
-      let tq : t q ≡ true = ap t same ∙ et in let uq : u q ≡ false = ap u same ∙ eu in
-      let left : length (filter t (filter u (q ∷ ps))) ≡ length (filter t (filter u ps)) = ap (λ b. length (filter t (cond b (q ∷ filter u ps) (filter u ps)))) uq in
-      let right : length (filter t (q ∷ ps)) ≡ suc (length (filter t ps)) = ap (λ b. length (cond b (q ∷ filter t ps) (filter t ps))) tq in
-      omega (arith, less, left, right))
-  | inr later ↦
-      (let less = one_less t u p ps later et eu in
-      elim (u q) as (λ b. length (filter t (cond b (q ∷ filter u ps) (filter u ps))) < length (filter t (q ∷ ps))) [
-        | true ↦ elim (t q) as (λ b. length (cond b (q ∷ filter t (filter u ps)) (filter t (filter u ps))) < length (cond b (q ∷ filter t ps) (filter t ps))) [ true ↦ omega (arith, less) | false ↦ less ]
-        | false ↦ elim (t q) as (λ b. length (filter t (filter u ps)) < length (cond b (q ∷ filter t ps) (filter t ps))) [ true ↦ omega (arith, less) | false ↦ less ]
-      ])
-]
-
-block_is : (p : Extent) → p.len ≤ 16384 → is_block p ≡ true
+pub block_is : (p : Extent) → p.len ≤ 16384 → is_block p ≡ true
 block_is p l = ap not (ne_eqb p.len 131072 (λ e. omega (arith, e, l)))
 
--- a block that is no longer allocated is one less
-pub block_less : (allocated : List Extent) (p : Extent) → Contains allocated p → p.len ≤ 16384 → blocks_allocated (remove_extent p allocated) < blocks_allocated allocated
-block_less allocated p has len = one_less is_block (λ z. not (z.start == p.start)) p allocated has (block_is p len) (ap not (eq-eqb p.start p.start refl))
+-- what a test passes of pieces without one that it does not pass
+others_stay : (t : Extent → Bool) (size : ℕ) (allocated : List Extent) (p : Extent) → AreDisjoint size allocated → Contains allocated p → t p ≡ false → filter t (remove_extent p allocated) ≡ filter t allocated
+others_stay t size allocated p blocks has fails =
+    let u : Extent → Bool = λ z. not (z.start == p.start) in
+    let stays : (q : Extent) → Contains (filter t allocated) q → u q ≡ true = λ q h.
+    (let in_allocated : Contains allocated q = All-contains (Contains allocated) (filter t allocated) q (All-filter t (Contains allocated) allocated (All-contains_itself allocated)) h in
+    let is : t q ≡ true = All-contains (λ x. t x ≡ true) (filter t allocated) q (filter_passes t allocated) h in
+    ap not (ne_eqb q.start p.start (λ e.
+    (let one : p ≡ q = same_place size allocated p q blocks has in_allocated (sym e) in
+    let clash : false ≡ true = sym fails ∙ ap t one ∙ is in cc)))) in
+    filter_swap t u allocated ∙ all_kept u (filter t allocated) (all_of (λ q. u q ≡ true) (filter t allocated) stays)
+
+pub same_blocks : (size : ℕ) (allocated : List Extent) (p : Extent) → AreDisjoint size allocated → Contains allocated p → p.len ≡ 131072 → blocks_of (remove_extent p allocated) ≡ blocks_of allocated
+same_blocks size allocated p blocks has len = others_stay is_block size allocated p blocks has (ap not (segment_is p len))
+
+pub same_segments : (size : ℕ) (allocated : List Extent) (p : Extent) → AreDisjoint size allocated → Contains allocated p → p.len ≤ 16384 → segments_of (remove_extent p allocated) ≡ segments_of allocated
+same_segments size allocated p blocks has len = others_stay is_segment size allocated p blocks has (ne_eqb p.len 131072 (λ e. omega (arith, e, len)))
+
+pub removed_block : (p : Extent) (allocated : List Extent) → blocks_of (remove_extent p allocated) ≡ remove_extent p (blocks_of allocated)
+removed_block p allocated = filter_swap is_block (λ z. not (z.start == p.start)) allocated
+
+pub removed_segment : (p : Extent) (allocated : List Extent) → segments_of (remove_extent p allocated) ≡ remove_extent p (segments_of allocated)
+removed_segment p allocated = filter_swap is_segment (λ z. not (z.start == p.start)) allocated
 
 -- of disjoint pieces one alone begins at a place
-remove_one : (size : ℕ) (p : Extent) (ps : List Extent) → AreDisjoint size ps → Contains ps p → length (remove_extent p ps) + 1 ≡ length ps
+pub remove_one : (size : ℕ) (p : Extent) (ps : List Extent) → AreDisjoint size ps → Contains ps p → length (remove_extent p ps) + 1 ≡ length ps
 remove_one size p [] h has = absurd (let l = has.1 in omega (arith, l))
 remove_one size p (q ∷ ps) h has =
     let tail : AreDisjoint size ps = (All-tail (IsWithin size) q ps h.0, λ i j d l w. h.1 (suc i) (suc j) d (omega (arith, l)) (omega (arith, w))) in
@@ -233,26 +224,48 @@ remove_one size p (q ∷ ps) h has =
           ap (λ b. length (cond b (q ∷ filter u ps) (filter u ps)) + 1) kept_q ∙ omega (arith, rest))
     ]
 
-pub one_block_less : (size : ℕ) (allocated : List Extent) (p : Extent) → AreDisjoint size allocated → Contains allocated p → p.len ≤ 16384 → blocks_allocated (remove_extent p allocated) + 1 ≡ blocks_allocated allocated
-one_block_less size allocated p blocks has len =
-    let less = block_less allocated p has len in
-    let segments = fewer_left is_segment (λ z. not (z.start == p.start)) allocated in
-    let one = remove_one size p allocated blocks has in
-    let before = both_kinds allocated in let after = both_kinds (remove_extent p allocated) in
-    omega (arith, less, segments, one, before, after)
+pub disjoint_still : (t : Extent → Bool) (size : ℕ) (allocated : List Extent) → AreDisjoint size allocated → AreDisjoint size (filter t allocated)
+disjoint_still t size allocated h = (All-filter t (IsWithin size) allocated h.0, AllPairs-filter Disjoint t allocated h.1)
 
-pub one_segment_less : (size : ℕ) (allocated : List Extent) (p : Extent) → AreDisjoint size allocated → Contains allocated p → p.len ≡ 131072 → segments_allocated (remove_extent p allocated) + 1 ≡ segments_allocated allocated
-one_segment_less size allocated p blocks has len =
-    let same = same_blocks size allocated p blocks has len in
-    let one = remove_one size p allocated blocks has in
-    let before = both_kinds allocated in let after = both_kinds (remove_extent p allocated) in
-    omega (arith, same, one, before, after)
+pub passes : (t : Extent → Bool) (allocated : List Extent) (q : Extent) → Contains (filter t allocated) q → Contains allocated q × (t q ≡ true)
+passes t allocated q h = (
+  All-contains (Contains allocated) (filter t allocated) q (All-filter t (Contains allocated) allocated (All-contains_itself allocated)) h,
+  All-contains (λ x. t x ≡ true) (filter t allocated) q (filter_passes t allocated) h,
+)
 
-pub one_segment_more : (allocated : List Extent) (p : Extent) → p.len ≡ 131072 → segments_allocated (p ∷ allocated) ≡ segments_allocated allocated + 1
-one_segment_more allocated p len = ap (λ b. length (cond b (p ∷ filter is_segment allocated) (filter is_segment allocated))) (segment_is p len) ∙ omega arith
+pub two_apart : (size : ℕ) (allocated : List Extent) (p q : Extent) → AreDisjoint size allocated → Contains allocated p → Contains allocated q → (p ≡ q) ⊎ Disjoint p q
+two_apart size allocated p q blocks hp hq =
+    let at_q : slice_index_or allocated hq.0 p ≡ q = get_or_default allocated hq.0 p q hq.1 ∙ hq.2 in
+    elim (trichotomy hp.0 hq.0) [
+      | inl s ↦ inl (sym hp.2 ∙ ap (λ k. slice_index_or allocated k p) s ∙ at_q)
+      | inr (inl l) ↦ inr (subst (λ z. Disjoint z q) hp.2 (subst (λ z. Disjoint (slice_index_or allocated hp.0 p) z) at_q (blocks.1 hp.0 hq.0 p l hq.1)))
+      | inr (inr l) ↦ inr (turned q p (subst (λ z. Disjoint q z) hp.2 (subst (λ z. Disjoint z (slice_index_or allocated hp.0 p)) at_q (blocks.1 hq.0 hp.0 p l hp.1))))
+    ]
+  where
+    turned : (a b : Extent) → Disjoint a b → Disjoint b a
+    turned a b (inl l) = inr l
+    turned a b (inr r) = inl r
 
-pub block_more : (allocated : List Extent) (p : Extent) → p.len ≤ 16384 → blocks_allocated (p ∷ allocated) ≡ blocks_allocated allocated + 1
-block_more allocated p len = ap (λ b. length (cond b (p ∷ filter is_block allocated) (filter is_block allocated))) (block_is p len) ∙ omega arith
+pub block_segment_apart : (size : ℕ) (allocated : List Extent) (p q : Extent) → AreDisjoint size allocated → Contains (blocks_of allocated) p → Contains (segments_of allocated) q → Disjoint p q
+block_segment_apart size allocated p q blocks hp hq =
+    let a = passes is_block allocated p hp in
+    let b = passes is_segment allocated q hq in
+    elim (two_apart size allocated p q blocks a.0 b.0) [
+      | inl same ↦ absurd (let clash : false ≡ true = sym (ap not (ap is_segment same ∙ b.1)) ∙ a.1 in cc)
+      | inr apart ↦ apart
+    ]
 
-pub segment_more : (allocated : List Extent) (p : Extent) → p.len ≡ 131072 → blocks_allocated (p ∷ allocated) ≡ blocks_allocated allocated
-segment_more allocated p len = ap (λ b. length (cond (not b) (p ∷ filter is_block allocated) (filter is_block allocated))) (segment_is p len)
+pub none_left : (allocated : List Extent) → blocks_of allocated ≡ [] → segments_of allocated ≡ [] → allocated ≡ []
+none_left allocated blocks segments = nil_from_length allocated (both_kinds allocated ∙ ap₂ (λ xs ys. length xs + length ys) segments blocks)
+
+pub segment_added : (allocated : List Extent) (p : Extent) → p.len ≡ 131072 → segments_of (p ∷ allocated) ≡ p ∷ segments_of allocated
+segment_added allocated p len = ap (λ b. cond b (p ∷ filter is_segment allocated) (filter is_segment allocated)) (segment_is p len)
+
+pub segment_leaves_blocks : (allocated : List Extent) (p : Extent) → p.len ≡ 131072 → blocks_of (p ∷ allocated) ≡ blocks_of allocated
+segment_leaves_blocks allocated p len = ap (λ b. cond (not b) (p ∷ filter is_block allocated) (filter is_block allocated)) (segment_is p len)
+
+pub block_added : (allocated : List Extent) (p : Extent) → p.len ≤ 16384 → blocks_of (p ∷ allocated) ≡ p ∷ blocks_of allocated
+block_added allocated p len = ap (λ b. cond b (p ∷ filter is_block allocated) (filter is_block allocated)) (block_is p len)
+
+pub block_leaves_segments : (allocated : List Extent) (p : Extent) → p.len ≤ 16384 → segments_of (p ∷ allocated) ≡ segments_of allocated
+block_leaves_segments allocated p len = ap (λ b. cond b (p ∷ filter is_segment allocated) (filter is_segment allocated)) (ne_eqb p.len 131072 (λ e. omega (arith, e, len)))

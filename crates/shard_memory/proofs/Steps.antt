@@ -10,10 +10,10 @@ use Rattle.span_lists.specs.Layout.{Layout, IsAllocated, Divides, IsCoalesced}
 use Rattle.common_lemmas.proofs.Orders.{trichotomy}
 use Rattle.common_lemmas.proofs.Maps.{get_inserted, get_past_insert, get_removed, get_past_remove}
 use Rattle.common_lemmas.proofs.Options.{some_is}
-use Rattle.small_pools.specs.Classes.{size_of, order_of, IsClass}
+use Rattle.small_pools.specs.Classes.{size_of, order_of, IsClass, IsLeastClass}
 use Rattle.small_pools.specs.Objects.{Objects, IsHeld, AreHeldIn, AreObjects, HoldsFor, Trims}
-use Rattle.shard_memory.specs.Shards.{IsConsistent, IsSegmentAt, IsBlockAt, is_segment, is_block, blocks_allocated}
-use Rattle.shard_memory.proofs.Lists.{has_first, has_later, has_cases, kept, still_has, same_place, fewer_blocks}
+use Rattle.shard_memory.specs.inside.Parts.{IsConsistent, IsSegmentAt, IsBlockAt, is_segment, is_block, blocks_of, segments_of}
+use Rattle.shard_memory.proofs.Lists.{has_first, has_later, has_cases, kept, still_has, same_place, fewer_blocks, passes, len_of, segment_is}
 
 -- a piece that is allocated lies in an allocated span
 in_span : (n : ℕ) (allocated : List Extent) (spans : Layout) (pools : Objects) (q : Extent) → IsConsistent n allocated spans pools → Contains allocated q
@@ -131,6 +131,32 @@ pub block_object : (n : ℕ) (allocated : List Extent) (spans : Layout) (pools :
 block_object n allocated spans pools p h has len = elim (h.pieces p has) [
   | inl s ↦ absurd (let l = s.0 in omega (arith, l, len))
   | inr b ↦ b
+]
+
+-- what a block of the shard is, and a segment
+pub block_facts : (n : ℕ) (allocated : List Extent) (spans : Layout) (pools : Objects) (p : Extent) → IsConsistent n allocated spans pools → Contains (blocks_of allocated) p → Contains allocated p × (p.len ≤ 16384)
+block_facts n allocated spans pools p h has =
+    let a = passes is_block allocated p has in (
+      a.0,
+      elim (h.pieces p a.0) [
+        | inl s ↦ absurd (let clash : false ≡ true = sym (ap not (segment_is p s.0)) ∙ a.1 in cc)
+        | inr b ↦
+            (let o = h.objects.slots p.start b.0 b.1 in
+            let most = (h.objects.spans o.first o.class o.held).0.size_most in
+            let fits = b.2 in let size_is = o.size_is in
+            omega (arith, most, fits, size_is))
+      ],
+    )
+
+pub segment_facts : (allocated : List Extent) (p : Extent) → Contains (segments_of allocated) p → Contains allocated p × (p.len ≡ 131072)
+segment_facts allocated p has = (let a = passes is_segment allocated p has in (a.0, len_of p a.1))
+
+-- of two least classes that hold a size neither is the lesser
+pub least_one : (size k c : ℕ) → IsLeastClass size k → IsLeastClass size c → k ≡ c
+least_one size k c a b = elim (trichotomy k c) [
+  | inl e ↦ e
+  | inr (inl l) ↦ absurd (let less = b.least k l in let holds = a.holds in omega (arith, less, holds))
+  | inr (inr l) ↦ absurd (let less = a.least c l in let holds = b.holds in omega (arith, less, holds))
 ]
 
 pub block_returned : (n : ℕ) (allocated : List Extent) (spans : Layout) (pools pools' : Objects) (p : Extent) → IsConsistent n allocated spans pools → Contains allocated p → p.len ≤ 16384
@@ -256,11 +282,11 @@ block_apart n allocated spans spans' pools pools' at class len h free e holds he
           ])
     ]
 
-one_more : (p : Extent) (allocated : List Extent) → blocks_allocated (p ∷ allocated) ≤ blocks_allocated allocated + 1
+one_more : (p : Extent) (allocated : List Extent) → length (blocks_of (p ∷ allocated)) ≤ length (blocks_of allocated) + 1
 one_more p allocated = elim (is_segment p) as (λ b. length (cond (not b) (p ∷ filter is_block allocated) (filter is_block allocated)) ≤ length (filter is_block allocated) + 1) [ true ↦ omega arith | false ↦ omega arith ]
 
 pub gave_block : (n : ℕ) (allocated : List Extent) (spans spans' : Layout) (pools pools' : Objects) (at class len : ℕ) → IsConsistent n allocated spans pools → map.get pools.allocated at ≡ None → pools'.allocated ≡ map.insert pools.allocated at (size_of class)
-    → pools'.pages ≡ pools.pages → HoldsFor pools pools' spans spans' class → AreHeldIn pools' spans' → AreObjects pools' → Divides spans' → IsCoalesced spans' → len ≤ size_of class → blocks_allocated allocated < 1024 → AreDisjoint (4096 * n) (extent at len ∷ allocated)
+    → pools'.pages ≡ pools.pages → HoldsFor pools pools' spans spans' class → AreHeldIn pools' spans' → AreObjects pools' → Divides spans' → IsCoalesced spans' → len ≤ size_of class → length (blocks_of allocated) < 1024 → AreDisjoint (4096 * n) (extent at len ∷ allocated)
     → IsConsistent n (extent at len ∷ allocated) spans' pools'
 gave_block n allocated spans spans' pools pools' at class len h free e pages holds held objects divided coalesced fits few blocks =
     let p = extent at len in
@@ -302,7 +328,7 @@ all_free n m allocated spans pools e most whole none spans_pages no_spans pools_
       whole = ap (λ z. z % 32) e ∙ whole;
       same = spans_pages ∙ sym e;
       blocks = subst (AreDisjoint (4096 * m)) (sym none) (λ i d w. absurd (omega (arith, w)), λ i j d l w. absurd (omega (arith, w)));
-      few = subst (λ o. blocks_allocated o ≤ 1024) (sym none) (omega arith);
+      few = subst (λ o. length (blocks_of o) ≤ 1024) (sym none) (omega arith);
       pieces = λ q has. absurd (let h : Contains [] q = subst (λ o. Contains o q) none has in let l = h.1 in omega (arith, l));
       spans_allocated = λ g k o. absurd (empty_at spans.allocated g k no_spans o);
       objects_allocated = λ a size o. absurd (empty_at pools.allocated a size no_allocated o);

@@ -1,3 +1,3 @@
 pub mod Shards
 pub mod Refusals
-pub mod Taken
+pub mod inside

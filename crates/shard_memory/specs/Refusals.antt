@@ -1,7 +1,7 @@
 -- Why no block is given.
 use Rattle.std.specs.Prelude.{ℕ, ◌<◌, ◌≤◌}
 use Rattle.layout.specs.Sizes.{greatest_block}
-use Rattle.shard_memory.specs.Shards.{Shard, HasNoRoom, IsTrimmed, IsCrowded}
+use Rattle.shard_memory.specs.Shards.{Shard, LacksBlock, IsTrimmed, IsCrowded}
 use Rattle.shard_memory.specs.declared.give_refusal.GiveRefusal.{GiveRefusal}
 use Rattle.shard_memory.specs.declared.give_refusal.GiveRefusal.TheVariants.{TooLarge, NoTicket, NoSpan}
 
@@ -9,9 +9,9 @@ use Rattle.shard_memory.specs.declared.give_refusal.GiveRefusal.TheVariants.{Too
 abbrev pub RefusesFor : Shard → ℕ → GiveRefusal → Type 0
 RefusesFor s size TooLarge = greatest_block < size
 RefusesFor s size NoTicket = ⊥
-RefusesFor s size NoSpan = (size ≤ greatest_block) × HasNoRoom s size
+RefusesFor s size NoSpan = (size ≤ greatest_block) × LacksBlock s size
 
--- a refusal for want of room, where each pool span has an allocated object, says that the shard is crowded
+-- a refusal for want of room, where `trim` would give nothing back, says that the shard is crowded
 abbrev pub MeansCrowded : Shard → GiveRefusal → Type 0
 MeansCrowded s TooLarge = Unit {0}
 MeansCrowded s NoTicket = Unit {0}

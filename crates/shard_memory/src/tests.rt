@@ -1,7 +1,6 @@
-ghost use Rattle.std.specs.Prelude.{◌≡◌, ◌+◌, ◌<◌, ◌≤◌, List, IfOk};
+ghost use Rattle.std.specs.Prelude.{◌≡◌, ◌+◌, ◌<◌, ◌≤◌, List, length, IfOk};
 ghost use Rattle.raw_range.specs.Memory.{Lent};
-ghost use Rattle.shard_memory.specs.Shards.{blocks_allocated};
-ghost use Rattle.shard_memory.specs.Taken.{AreSegmentsOf};
+ghost use Rattle.shard_memory.specs.Shards.{most_blocks, AreSegmentsOf};
 
 use crate::{GiveRefusal, ShardMemory};
 use raw_range::Piece;
@@ -16,7 +15,7 @@ fn take_segments(
 ) -> Result<u32, AllocError>
     requires { AreSegmentsOf memory.old taken.old.items }
     ensures segments { IfOk result (λ _. AreSegmentsOf memory.new taken.new.items) }
-    ensures blocks { blocks_allocated memory.new.allocated ≡ blocks_allocated memory.old.allocated }
+    ensures blocks { length memory.new.blocks ≡ length memory.old.blocks }
 {
     for count in 0..most {
         let Some(piece) = memory.give_segment() else {
@@ -30,8 +29,8 @@ fn take_segments(
 // Asks for a block, and answers why there is none.
 fn refusal_of(memory: &mut ShardMemory, size: u32) -> Option<GiveRefusal>
     requires some { 1 ≤ size }
-    requires few { blocks_allocated memory.old.allocated < 1024 }
-    ensures blocks { blocks_allocated memory.new.allocated ≤ blocks_allocated memory.old.allocated + 1 }
+    requires few { length memory.old.blocks < most_blocks }
+    ensures blocks { length memory.new.blocks ≤ length memory.old.blocks + 1 }
     ensures segments { (pieces : List Lent) → AreSegmentsOf memory.old pieces → AreSegmentsOf memory.new pieces }
 {
     match memory.give_here(size) {

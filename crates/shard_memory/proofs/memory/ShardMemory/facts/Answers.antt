@@ -1,11 +1,40 @@
-use Rattle.std.proofs.Common.{◌*◌, ◌/◌, ◌≤◌, subst, arith}
-use Rattle.shard_memory.specs.Shards.{Shard, segments_allocated}
-use Rattle.shard_memory.proofs.Lists.{few_segments}
+use Rattle.std.proofs.Common.{◌≡◌, ℕ, ◌*◌, ◌/◌, ◌≤◌, length, ap, subst, sym, ◌∙◌, arith}
+use Rattle.std.specs.FinMap as map
+use Rattle.layout.specs.Sizes.{page}
+use Rattle.layout.specs.Extents.{Blocks}
+use Rattle.shard_memory.specs.Shards.{Shard, AreApart, LacksSegment, IsTrimmed, IsCrowded}
+use Rattle.shard_memory.specs.inside.Parts.{is_block, is_segment, blocks_of, segments_of}
+use Rattle.shard_memory.proofs.Counts.{pieces_enough}
+use Rattle.shard_memory.proofs.Lists.{few_segments, disjoint_still, block_segment_apart}
+use Rattle.shard_memory.proofs.Rooms.{trimmed_tells, segment_lacks_tells}
 use Rattle.shard_memory.proofs.memory.ShardMemory.facts.Goals as goal
+
+pub returns-clause-apart : goal.returns-clause-apart
+returns-clause-apart c =
+    subst AreApart c.self.view_is
+    record {
+      blocks = disjoint_still is_block (page * c.self.inside.range.pages) c.self.inside.range.allocated c.self.invariant.1.blocks;
+      segments = disjoint_still is_segment (page * c.self.inside.range.pages) c.self.inside.range.allocated c.self.invariant.1.blocks;
+      each = λ p q hp hq. block_segment_apart (page * c.self.inside.range.pages) c.self.inside.range.allocated p q c.self.invariant.1.blocks hp hq;
+    }
+
+pub returns-clause-objects : goal.returns-clause-objects
+returns-clause-objects c =
+    subst (λ (s : Shard). Blocks (page * s.pages) (map.get s.objects)) c.self.view_is
+    (subst (λ n. Blocks (page * n) (map.get c.self.inside.pools.allocated)) (sym c.self.invariant.1.held.pages ∙ c.self.invariant.1.same) c.self.invariant.1.objects.blocks)
 
 pub returns-clause-segments : goal.returns-clause-segments
 returns-clause-segments c =
-    subst (λ (s : Shard). 32 * segments_allocated s.allocated ≤ s.pages) c.self.view_is
+    subst (λ (s : Shard). 32 * length s.segments ≤ s.pages) c.self.view_is
     (let whole = c.self.invariant.1.whole in
     let few = few_segments (c.self.inside.range.pages / 32) (4096 * c.self.inside.range.pages) c.self.inside.range.allocated c.self.invariant.1.blocks (omega (arith, whole)) in
     omega (arith, few, whole))
+
+pub returns-clause-few : goal.returns-clause-few
+returns-clause-few c = subst (λ (s : Shard). length s.blocks ≤ 1024) c.self.view_is c.self.invariant.1.few
+
+pub returns-clause-crowded : goal.returns-clause-crowded
+returns-clause-crowded c =
+    subst (λ (s : Shard). IsTrimmed s → LacksSegment s → IsCrowded s) c.self.view_is
+    (λ trimmed lacks. pieces_enough c.self.inside.range.pages c.self.inside.range.allocated c.self.inside.spans c.self.inside.pools c.self.invariant.1
+    (c.facts.ensures.blocked 5 (omega arith) (segment_lacks_tells c.self.inside.spans lacks)) (trimmed_tells c.self.inside.pools c.self.invariant.1.objects trimmed))

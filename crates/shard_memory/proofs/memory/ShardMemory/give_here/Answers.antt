@@ -1,16 +1,18 @@
-use Rattle.std.proofs.Common.{◌≡◌, ℕ, ◌*◌, ◌<◌, ◌≤◌, ◌∷◌, length, refl, sym, ap, subst, ◌∙◌, arith}
+use Rattle.std.proofs.Common.{◌≡◌, ℕ, ◌*◌, ◌<◌, ◌≤◌, ◌∷◌, length, get_or, false, refl, sym, ap, subst, ◌∙◌, arith}
 use Rattle.std.specs.Prelude.{Contains}
 use Rattle.std.specs.FinMap as map
 use Rattle.small_pools.specs.Classes.{size_of, order_of}
+use Rattle.small_pools.specs.Objects.{IsUsedUp}
 use Rattle.span_lists.specs.Layout.{HasNone, IsBlocked}
 use Rattle.std.proofs.lemmas.List.{length-replicate}
 use Rattle.layout.specs.Extents.{Extent, extent, Disjoint, AreDisjoint}
 use Rattle.raw_range.specs.Memory.{Memory, Lent, extent_of}
-use Rattle.shard_memory.specs.Shards.{Shard, IsConsistent, HasNoRoom, IsTrimmed, IsCrowded, blocks_allocated}
-use Rattle.small_pools.specs.Objects.{HoldsFor}
-use Rattle.shard_memory.proofs.Lists.{all_of, few_pieces, has_first}
+use Rattle.shard_memory.specs.Shards.{Shard, LacksBlock, IsTrimmed, IsCrowded}
+use Rattle.shard_memory.specs.inside.Parts.{IsConsistent, is_block, blocks_of, segments_of}
+use Rattle.shard_memory.proofs.Lists.{all_of, few_pieces, has_first, kept_by, block_is, block_added, block_leaves_segments}
 use Rattle.shard_memory.proofs.Counts.{crowded}
-use Rattle.shard_memory.proofs.Steps.{block_inside, block_apart, gave_block}
+use Rattle.shard_memory.proofs.Rooms.{class_lacks_of, class_lacks_tells, trimmed_tells}
+use Rattle.shard_memory.proofs.Steps.{block_inside, block_apart, gave_block, least_one}
 use Rattle.shard_memory.proofs.memory.ShardMemory.give_here.Goals as goal
 
 pub take-requires-2-clause-inside : goal.take-requires-2-clause-inside
@@ -32,40 +34,56 @@ invariant_of-self-2 c = (
   subst (λ (m : Memory). IsConsistent m.pages m.allocated c.take.new.spans c.take.new.self) (sym c.take-2.ensures.allocated)
       (gave_block c.self.inside.range.pages c.self.inside.range.allocated c.self.inside.spans c.take.new.spans c.self.inside.pools c.take.new.self c.in-Some-take.place c.in-Some.class c.args.size c.self.invariant.1 c.in-Some-take.ensures.was_free
       c.in-Some-take.ensures.allocated c.in-Some-take.ensures.pages c.in-Some-take.ensures.spans c.in-Some-take.ensures.held c.in-Some-take.ensures.objects c.in-Some-take.ensures.divided c.in-Some-take.ensures.coalesced c.in-Some.ensures.some.holds
-      (subst (λ (s : Shard). blocks_allocated s.allocated < 1024) (sym c.self.view_is) c.requires.few)
+      (subst (λ (s : Shard). length s.blocks < 1024) (sym c.self.view_is) c.requires.few)
       (subst (λ (m : Memory). AreDisjoint (4096 * m.pages) m.allocated) c.take-2.ensures.allocated c.take-2.ensures.blocks)),
 )
+
+pub returns-in_default-take-clause-refused : goal.returns-in_default-take-clause-refused
+returns-in_default-take-clause-refused c =
+    (let fits = c.in-Some.ensures.some.holds in let most = c.in-Some.ensures.bounds.size_most in
+    let none = c.in_default-take.ensures.none.0 refl in (
+      omega (arith, fits, most),
+      λ k least. subst (λ (s : Shard). get_or s.room.classes k false ≡ false) c.self.view_is (class_lacks_of c.self.inside.spans c.self.inside.pools k least.within
+      (subst (λ z. IsUsedUp c.self.inside.pools z × HasNone c.self.inside.spans (order_of z)) (least_one c.args.size c.in-Some.class k c.in-Some.ensures.some least) none)),
+    ))
 
 pub returns-clause-room : goal.returns-clause-room
 returns-clause-room c =
     (let fits = c.in-Some.ensures.some.holds in let most = c.in-Some.ensures.bounds.size_most in (
       omega (arith, fits, most),
-      λ h. (let clash = c.in-Some-take.ensures.none.1 ((subst (λ (s : Shard). HasNoRoom s c.args.size) (sym c.self.view_is) h) c.in-Some.class c.in-Some.ensures.some) in cc),
+      λ h.
+          (let lacks = subst (λ (s : Shard). LacksBlock s c.args.size) (sym c.self.view_is) h in
+          let none = class_lacks_tells c.self.inside.spans c.self.inside.pools c.in-Some.class c.in-Some.ensures.some.within c.self.invariant.1.objects (lacks c.in-Some.class c.in-Some.ensures.some) in
+          let clash = c.in-Some-take.ensures.none.1 none in cc),
     ))
-
-pub returns-clause-spans : goal.returns-clause-spans
-returns-clause-spans c = (
-  c.in-Some.class,
-  c.in-Some.ensures.some,
-  subst (λ (s : Shard). HoldsFor s.pools c.take.new.self s.spans c.take.new.spans c.in-Some.class) c.self.view_is c.in-Some-take.ensures.spans,
-)
 
 pub returns-clause-given : goal.returns-clause-given
 returns-clause-given c =
     (let p = extent c.in-Some-take.place c.args.size in
     let at : extent_of c.cleared.result ≡ p = ap (λ (l : Lent). extent_of l) c.cleared.ensures ∙ ap (λ n. extent c.take-2.result.at n) (length-replicate (length c.take-2.result.bytes) 0) ∙ c.take-2.ensures.extent in
-    let len : length c.cleared.result.bytes ≡ c.args.size = ap (λ (q : Extent). q.len) at in
-    let small = (returns-clause-room c).0 in (
+    let small = (returns-clause-room c).0 in
+    let has = kept_by is_block p (p ∷ c.self.inside.range.allocated) (has_first p c.self.inside.range.allocated) (block_is p small) in (
       ap (λ (l : Lent). l.home) c.cleared.ensures ∙ ap (λ (l : Lent). l.home) c.take-2.ensures.piece ∙ sym (ap (λ (m : Memory). m.home) c.take-2.ensures.allocated),
-      subst (λ (m : Memory). Contains m.allocated (extent_of c.cleared.result)) (sym c.take-2.ensures.allocated) (subst (λ q. Contains (p ∷ c.self.inside.range.allocated) q) (sym at) (has_first p c.self.inside.range.allocated)),
-      omega (arith, len, small),
+      subst (λ (m : Memory). Contains (blocks_of m.allocated) (extent_of c.cleared.result)) (sym c.take-2.ensures.allocated) (subst (λ q. Contains (blocks_of (p ∷ c.self.inside.range.allocated)) q) (sym at) has),
     ))
+
+pub returns-clause-blocks : goal.returns-clause-blocks
+returns-clause-blocks c =
+    (let p = extent c.in-Some-take.place c.args.size in
+    let at : extent_of c.cleared.result ≡ p = ap (λ (l : Lent). extent_of l) c.cleared.ensures ∙ ap (λ n. extent c.take-2.result.at n) (length-replicate (length c.take-2.result.bytes) 0) ∙ c.take-2.ensures.extent in
+    ap (λ (m : Memory). blocks_of m.allocated) c.take-2.ensures.allocated ∙ block_added c.self.inside.range.allocated p (returns-clause-room c).0
+    ∙ ap (λ q. q ∷ blocks_of c.self.inside.range.allocated) (sym at) ∙ ap (λ (s : Shard). extent_of c.cleared.result ∷ s.blocks) c.self.view_is)
+
+pub returns-clause-segments : goal.returns-clause-segments
+returns-clause-segments c =
+    ap (λ (m : Memory). segments_of m.allocated) c.take-2.ensures.allocated
+    ∙ block_leaves_segments c.self.inside.range.allocated (extent c.in-Some-take.place c.args.size) (returns-clause-room c).0 ∙ ap (λ (s : Shard). s.segments) c.self.view_is
 
 pub returns-clause-least : goal.returns-clause-least
 returns-clause-least c = (
   c.in-Some.class,
   c.in-Some.ensures.some,
-  subst (λ (s : Shard). c.take.new.self.allocated ≡ map.insert s.pools.allocated c.cleared.result.at (size_of c.in-Some.class)) c.self.view_is
+  subst (λ (s : Shard). c.take.new.self.allocated ≡ map.insert s.objects c.cleared.result.at (size_of c.in-Some.class)) c.self.view_is
       (c.in-Some-take.ensures.allocated ∙ ap (λ (at : ℕ). map.insert c.self.inside.pools.allocated at (size_of c.in-Some.class)) (sym (ap (λ (l : Lent). l.at) c.cleared.ensures ∙ ap (λ (q : Extent). q.start) c.take-2.ensures.extent))),
 )
 
@@ -76,4 +94,4 @@ returns-in_default-take-clause-crowded c =
     (let none = (c.in_default-take.ensures.none.0 refl).1 in
     let same = c.in_default-take.ensures.unchanged.1 in
     crowded c.self.inside.range.pages (order_of c.in-Some.class) c.self.inside.range.allocated c.self.inside.spans c.self.inside.pools c.self.invariant.1 c.in-Some.ensures.bounds.order_most none
-    (subst (λ s. (o : ℕ) → o ≤ 16 → HasNone s o → IsBlocked s o) same c.facts.ensures.blocked) trimmed))
+    (subst (λ s. (o : ℕ) → o ≤ 16 → HasNone s o → IsBlocked s o) same c.facts.ensures.blocked) (trimmed_tells c.self.inside.pools c.self.invariant.1.objects trimmed)))

@@ -1,4 +1,7 @@
-use Rattle.std.proofs.Common.{sym}
+use Rattle.std.proofs.Common.{◌≡◌, Some, None, sym, ap, ◌∙◌}
+use Rattle.std.specs.Ordering.{nat_cmp}
+use Rattle.std.specs.FinMap as map
+use Rattle.shard_memory.proofs.Rooms.{trimmed_of}
 use Rattle.shard_memory.proofs.Steps.{all_free}
 use Rattle.shard_memory.proofs.memory.ShardMemory.open.Goals as goal
 
@@ -8,3 +11,6 @@ invariant_of-result c = (
   all_free c.args.pages c.in_ok-range.range.pages c.in_ok-range.range.allocated c.in_ok-spans.spans c.in_ok-pools.pools c.in_ok-range.ensures.numbers.1 c.requires.1 c.requires.2 c.in_ok-range.ensures.none_allocated c.in_ok-spans.ensures.pages c.in_ok-spans.ensures.none_allocated
       c.in_ok-pools.ensures.pages c.in_ok-pools.ensures.none_held c.in_ok-pools.ensures.none_allocated c.in_ok-pools.ensures.objects c.in_ok-spans.ensures.divided c.in_ok-spans.ensures.coalesced,
 )
+
+pub returns-clause-trimmed : goal.returns-clause-trimmed
+returns-clause-trimmed c = trimmed_of c.in_ok-pools.pools (λ first class held. absurd (let clash : None ≡ Some class = sym (ap (λ m. map.get m first) c.in_ok-pools.ensures.none_held ∙ map.get-empty nat_cmp first) ∙ held in cc))

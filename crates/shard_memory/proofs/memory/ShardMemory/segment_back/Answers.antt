@@ -1,39 +1,53 @@
-use Rattle.std.proofs.Common.{◌≡◌, ◌+◌, ◌*◌, ◌/◌, sym, ap, subst, ◌∙◌}
+use Rattle.layout.specs.Sizes.{page}
+use Rattle.std.proofs.Common.{◌≡◌, ◌+◌, ◌*◌, ◌/◌, length, sym, ap, subst, ◌∙◌}
 use Rattle.std.specs.FinMap as map
 use Rattle.layout.specs.Extents.{AreDisjoint}
-use Rattle.raw_range.specs.Memory.{Memory, extent_of}
-use Rattle.shard_memory.specs.Shards.{Shard, IsConsistent, IsSegmentOf, segments_allocated, blocks_allocated}
-use Rattle.shard_memory.proofs.Lists.{page_of_start, same_blocks, one_segment_less}
-use Rattle.shard_memory.proofs.Steps.{segment_span, segment_returned}
+use Rattle.raw_range.specs.Memory.{Memory, extent_of, remove_extent}
+use Rattle.shard_memory.specs.Shards.{Shard, IsSegmentOf}
+use Rattle.shard_memory.specs.inside.Parts.{IsConsistent, is_segment, blocks_of, segments_of}
+use Rattle.shard_memory.proofs.Lists.{page_of_start, same_blocks, removed_segment, remove_one, disjoint_still}
+use Rattle.shard_memory.proofs.Steps.{segment_facts, segment_span, segment_returned}
 use Rattle.shard_memory.proofs.memory.ShardMemory.segment_back.Goals as goal
 
 pub put-requires : goal.put-requires
 put-requires c =
     (let r = subst (λ (s : Shard). IsSegmentOf s c.args.piece) (sym c.self.view_is) c.requires in
-    let s = segment_span c.self.inside.range.pages c.self.inside.range.allocated c.self.inside.spans c.self.inside.pools (extent_of c.args.piece) c.self.invariant.1 r.1 r.2 in
+    let f = segment_facts c.self.inside.range.allocated (extent_of c.args.piece) r.1 in
+    let s = segment_span c.self.inside.range.pages c.self.inside.range.allocated c.self.inside.spans c.self.inside.pools (extent_of c.args.piece) c.self.invariant.1 f.0 f.1 in
     ap (map.get c.self.inside.spans.allocated) (ap (λ z. z / 4096) (c.at.ensures ∙ s.1) ∙ page_of_start s.0) ∙ s.2)
+
+pub put-requires-2-clause-piece : goal.put-requires-2-clause-piece
+put-requires-2-clause-piece c = (segment_facts c.self.inside.range.allocated (extent_of c.args.piece) (subst (λ (s : Shard). IsSegmentOf s c.args.piece) (sym c.self.view_is) c.requires).1).0
 
 pub invariant_of-self : goal.invariant_of-self
 invariant_of-self c =
     (let r = subst (λ (s : Shard). IsSegmentOf s c.args.piece) (sym c.self.view_is) c.requires in
-    let s = segment_span c.self.inside.range.pages c.self.inside.range.allocated c.self.inside.spans c.self.inside.pools (extent_of c.args.piece) c.self.invariant.1 r.1 r.2 in (
+    let f = segment_facts c.self.inside.range.allocated (extent_of c.args.piece) r.1 in
+    let s = segment_span c.self.inside.range.pages c.self.inside.range.allocated c.self.inside.spans c.self.inside.pools (extent_of c.args.piece) c.self.invariant.1 f.0 f.1 in (
       c.self.invariant.0 ∙ sym (ap (λ (m : Memory). m.pages) c.put-2.ensures.back),
       subst (λ (m : Memory). IsConsistent m.pages m.allocated c.put.new.self c.self.inside.pools) (sym c.put-2.ensures.back)
-          (segment_returned c.self.inside.range.pages c.self.inside.range.allocated c.self.inside.spans c.put.new.self c.self.inside.pools (extent_of c.args.piece) s.0 c.self.invariant.1 r.1 r.2 s.1 s.2
+          (segment_returned c.self.inside.range.pages c.self.inside.range.allocated c.self.inside.spans c.put.new.self c.self.inside.pools (extent_of c.args.piece) s.0 c.self.invariant.1 f.0 f.1 s.1 s.2
           (c.put.ensures.allocated ∙ ap (map.remove c.self.inside.spans.allocated) (ap (λ z. z / 4096) (c.at.ensures ∙ s.1) ∙ page_of_start s.0))
           c.put.ensures.pages c.put.ensures.divided c.put.ensures.coalesced
           (subst (λ (m : Memory). AreDisjoint (4096 * m.pages) m.allocated) c.put-2.ensures.back c.put-2.ensures.blocks)),
     ))
 
-pub returns-clause-blocks : goal.returns-clause-blocks
-returns-clause-blocks c =
-    (let r = subst (λ (s : Shard). IsSegmentOf s c.args.piece) (sym c.self.view_is) c.requires in
-    subst (λ (s : Shard). blocks_allocated c.put-2.new.self.allocated ≡ blocks_allocated s.allocated) c.self.view_is
-    (subst (λ (m : Memory). blocks_allocated m.allocated ≡ blocks_allocated c.self.inside.range.allocated) (sym c.put-2.ensures.back) (same_blocks (4096 * c.self.inside.range.pages) c.self.inside.range.allocated (extent_of c.args.piece) c.self.invariant.1.blocks r.1 r.2)))
+pub returns-clause-segments : goal.returns-clause-segments
+returns-clause-segments c =
+    ap (λ (m : Memory). segments_of m.allocated) c.put-2.ensures.back ∙ removed_segment (extent_of c.args.piece) c.self.inside.range.allocated
+    ∙ ap (λ (s : Shard). remove_extent (extent_of c.args.piece) s.segments) c.self.view_is
 
 pub returns-clause-one_less : goal.returns-clause-one_less
 returns-clause-one_less c =
     (let r = subst (λ (s : Shard). IsSegmentOf s c.args.piece) (sym c.self.view_is) c.requires in
-    subst (λ (s : Shard). segments_allocated c.put-2.new.self.allocated + 1 ≡ segments_allocated s.allocated) c.self.view_is
-    (subst (λ (m : Memory). segments_allocated m.allocated + 1 ≡ segments_allocated c.self.inside.range.allocated) (sym c.put-2.ensures.back)
-    (one_segment_less (4096 * c.self.inside.range.pages) c.self.inside.range.allocated (extent_of c.args.piece) c.self.invariant.1.blocks r.1 r.2)))
+    subst (λ (s : Shard). length (segments_of c.put-2.new.self.allocated) + 1 ≡ length s.segments) c.self.view_is
+    (ap (λ (m : Memory). length (segments_of m.allocated) + 1) c.put-2.ensures.back ∙ ap (λ xs. length xs + 1) (removed_segment (extent_of c.args.piece) c.self.inside.range.allocated)
+    ∙ remove_one (page * c.self.inside.range.pages) (extent_of c.args.piece) (segments_of c.self.inside.range.allocated) (disjoint_still is_segment (page * c.self.inside.range.pages) c.self.inside.range.allocated c.self.invariant.1.blocks) r.1))
+
+pub returns-clause-blocks : goal.returns-clause-blocks
+returns-clause-blocks c =
+    (let f = segment_facts c.self.inside.range.allocated (extent_of c.args.piece) (subst (λ (s : Shard). IsSegmentOf s c.args.piece) (sym c.self.view_is) c.requires).1 in (
+      ap (λ (m : Memory). blocks_of m.allocated) c.put-2.ensures.back ∙ same_blocks (page * c.self.inside.range.pages) c.self.inside.range.allocated (extent_of c.args.piece) c.self.invariant.1.blocks f.0 f.1
+          ∙ ap (λ (s : Shard). s.blocks) c.self.view_is,
+      ap (λ (s : Shard). s.objects) c.self.view_is,
+    ))

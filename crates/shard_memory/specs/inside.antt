@@ -1,0 +1,3 @@
+-- Words that only the private parts cite.
+pub mod Parts
+pub mod Rooms
