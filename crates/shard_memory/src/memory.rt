@@ -3,6 +3,7 @@ ghost use Rattle.std.specs.Prelude.{
   ℕ,
   ◌+◌,
   ◌*◌,
+  ◌/◌,
   ◌%◌,
   ◌<◌,
   ◌≤◌,
@@ -16,12 +17,17 @@ ghost use Rattle.std.specs.Prelude.{
   IfSome,
   IfNone,
   IsNone,
+  IsSome,
+  All,
 };
 ghost use Rattle.std.specs.Ordering.{nat_cmp};
 ghost use Rattle.std.specs.FinMap as map;
-ghost use Rattle.layout.specs.Extents.{Blocks};
-ghost use Rattle.layout.specs.Sizes.{page, segment, segment_pages, greatest_block, ArePages};
-ghost use Rattle.raw_range.specs.Memory.{extent_of, remove_extent};
+ghost use Rattle.layout.specs.Extents.{extent, Disjoint, AreDisjoint, Blocks};
+ghost use Rattle.layout.specs.Sizes.{page, segment, segment_pages, segment_order, most_pages, most_pieces, greatest_block, ArePages};
+ghost use Rattle.raw_range.specs.Memory.{extent_of, with_allocated, remove_extent};
+ghost use Rattle.span_lists.specs.Layout.{IsAllocated, Divides, IsCoalesced};
+ghost use Rattle.small_pools.specs.Classes.{IsClass, IsLeastClass};
+ghost use Rattle.small_pools.specs.Objects.{AreObjects};
 ghost use Rattle.shard_memory.specs.Shards.{
   most_blocks,
   AreApart,
@@ -133,9 +139,7 @@ impl ShardMemory {
         ensures segments { self.new.segments ≡ self.old.segments }
         ensures same { (self.new.home ≡ self.old.home) × (self.new.owner ≡ self.old.owner) × (self.new.pages ≡ self.old.pages) }
     {
-        let Some(class) = class_of(size) else {
-            return Err(GiveRefusal::TooLarge);
-        };
+        let class = class_for(size)?;
         let Some(place) = self.pools.take(&mut self.spans, class) else {
             self.spans.facts();
             return Err(GiveRefusal::NoSpan);
@@ -153,7 +157,7 @@ impl ShardMemory {
         ensures spans { (self.new.pages_out ≡ self.old.pages_out) × (self.new.room.segment ≡ self.old.room.segment) }
         ensures same { (self.new.home ≡ self.old.home) × (self.new.owner ≡ self.old.owner) × (self.new.pages ≡ self.old.pages) }
     {
-        self.pools.put(piece.at());
+        put_object(&mut self.pools, &piece);
         self.range.put(piece);
     }
 
@@ -182,7 +186,7 @@ impl ShardMemory {
         let Some(first) = self.spans.take(SEGMENT_ORDER) else {
             return None;
         };
-        Some(self.range.take(PAGE * first, SEGMENT))
+        Some(segment_at(&mut self.range, first))
     }
 
     /// Takes a segment of `give_segment` back.
@@ -194,7 +198,7 @@ impl ShardMemory {
         ensures trimmed { self.new.room.trimmed ≡ self.old.room.trimmed }
         ensures same { (self.new.home ≡ self.old.home) × (self.new.owner ≡ self.old.owner) × (self.new.pages ≡ self.old.pages) }
     {
-        self.spans.put(piece.at() / PAGE, SEGMENT_ORDER);
+        put_span(&mut self.spans, &piece);
         self.range.put(piece);
     }
 
@@ -212,6 +216,53 @@ impl ShardMemory {
     {
         self.range.finish();
     }
+}
+
+/// The class from which a block of so many bytes comes.
+fn class_for(size: u32) -> Result<u8, GiveRefusal>
+    requires { 1 ≤ size }
+    ensures refused { IfErr result (λ refusal. (refusal ≡ GiveRefusal.TooLarge) × (greatest_block < size)) }
+    ensures least { IfOk result (IsLeastClass size) }
+    ensures bounds { IfOk result IsClass }
+{
+    class_of(size).ok_or(GiveRefusal::TooLarge)
+}
+
+/// Gives the object of a block back to its pool.
+fn put_object(pools: &mut Pools, block: &Piece)
+    requires { IsSome (map.get pools.old.allocated block.now.at) }
+    ensures allocated { pools.new.allocated ≡ map.remove pools.old.allocated block.now.at }
+    ensures held { pools.new.held ≡ pools.old.held }
+    ensures pages { pools.new.pages ≡ pools.old.pages }
+    ensures objects { AreObjects pools.new }
+{
+    pools.put(block.at());
+}
+
+/// The segment that begins at a page.
+fn segment_at(range: &mut Range, first: u32) -> Piece
+    requires inside { page * first + segment ≤ page * range.old.pages }
+    requires pages { range.old.pages ≤ most_pages }
+    requires disjoint { All (Disjoint (extent (page * first) segment)) range.old.allocated }
+    requires few { length range.old.allocated < most_pieces }
+    ensures home { result.home ≡ range.old.home }
+    ensures owner { result.owner ≡ range.old.owner }
+    ensures extent { extent_of result ≡ extent (page * first) segment }
+    ensures allocated { range.new ≡ with_allocated range.old (extent (page * first) segment ∷ range.old.allocated) range.old.bytes }
+    ensures blocks { AreDisjoint (page * range.new.pages) range.new.allocated }
+{
+    range.take(PAGE * first, SEGMENT)
+}
+
+/// Gives the span of a segment back to the pages.
+fn put_span(spans: &mut Spans, given: &Piece)
+    requires { IsAllocated spans.old (given.now.at / page) segment_order }
+    ensures allocated { spans.new.allocated ≡ map.remove spans.old.allocated (given.now.at / page) }
+    ensures pages { spans.new.pages ≡ spans.old.pages }
+    ensures divided { Divides spans.new }
+    ensures coalesced { IsCoalesced spans.new }
+{
+    spans.put(given.at() / PAGE, SEGMENT_ORDER);
 }
 
 /// The piece with all its bytes 0.

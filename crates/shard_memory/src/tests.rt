@@ -73,3 +73,18 @@ fn a_block_that_is_back_leaves_its_page_to_trim(rt: HostRuntime) -> Result<(), F
     memory.finish();
     Ok(())
 }
+
+#[test]
+fn a_segment_comes_back_as_a_segment(rt: HostRuntime) -> Result<(), Fail> {
+    let mut memory = ShardMemory::open(rt.alloc(), 1, 1280)?;
+    let Some(whole) = memory.give_segment() else {
+        assert!(rt; false);
+        return Ok(());
+    };
+    assert_eq!(rt; (whole.len(), whole.owner()), (131_072, 1));
+    assert_eq!(rt; memory.pages_out(), 32);
+    memory.segment_back(whole);
+    assert_eq!(rt; memory.pages_out(), 0);
+    memory.finish();
+    Ok(())
+}

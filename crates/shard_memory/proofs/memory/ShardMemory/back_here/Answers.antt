@@ -10,15 +10,15 @@ use Rattle.shard_memory.proofs.Lists.{removed_block, same_segments, remove_one, 
 use Rattle.shard_memory.proofs.Steps.{block_facts, block_object, block_returned}
 use Rattle.shard_memory.proofs.memory.ShardMemory.back_here.Goals as goal
 
-pub put-requires : goal.put-requires
-put-requires c =
+pub put_object-requires : goal.put_object-requires
+put_object-requires c =
     (let r = subst (λ (s : Shard). IsBlockOf s c.args.piece) (sym c.self.view_is) c.requires in
     let f = block_facts c.self.inside.range.pages c.self.inside.range.allocated c.self.inside.spans c.self.inside.pools (extent_of c.args.piece) c.self.invariant.1 r.1 in
     let b = block_object c.self.inside.range.pages c.self.inside.range.allocated c.self.inside.spans c.self.inside.pools (extent_of c.args.piece) c.self.invariant.1 f.0 f.1 in
-    ap is_some (ap (map.get c.self.inside.pools.allocated) c.at.ensures ∙ b.1))
+    ap is_some b.1)
 
-pub put-requires-2-clause-piece : goal.put-requires-2-clause-piece
-put-requires-2-clause-piece c =
+pub put-requires-clause-piece : goal.put-requires-clause-piece
+put-requires-clause-piece c =
     (let r = subst (λ (s : Shard). IsBlockOf s c.args.piece) (sym c.self.view_is) c.requires in
     (block_facts c.self.inside.range.pages c.self.inside.range.allocated c.self.inside.spans c.self.inside.pools (extent_of c.args.piece) c.self.invariant.1 r.1).0)
 
@@ -26,35 +26,35 @@ pub invariant_of-self : goal.invariant_of-self
 invariant_of-self c =
     (let r = subst (λ (s : Shard). IsBlockOf s c.args.piece) (sym c.self.view_is) c.requires in
     let f = block_facts c.self.inside.range.pages c.self.inside.range.allocated c.self.inside.spans c.self.inside.pools (extent_of c.args.piece) c.self.invariant.1 r.1 in (
-      c.self.invariant.0 ∙ sym (ap (λ (m : Memory). m.pages) c.put-2.ensures.back),
-      subst (λ (m : Memory). IsConsistent m.pages m.allocated c.self.inside.spans c.put.new.self) (sym c.put-2.ensures.back)
-          (block_returned c.self.inside.range.pages c.self.inside.range.allocated c.self.inside.spans c.self.inside.pools c.put.new.self (extent_of c.args.piece) c.self.invariant.1 f.0 f.1
-          (c.put.ensures.allocated ∙ ap (map.remove c.self.inside.pools.allocated) c.at.ensures)
-          c.put.ensures.held c.put.ensures.pages c.put.ensures.objects
-          (subst (λ (m : Memory). AreDisjoint (4096 * m.pages) m.allocated) c.put-2.ensures.back c.put-2.ensures.blocks)),
+      c.self.invariant.0 ∙ sym (ap (λ (m : Memory). m.pages) c.put.ensures.back),
+      subst (λ (m : Memory). IsConsistent m.pages m.allocated c.self.inside.spans c.put_object.new.pools) (sym c.put.ensures.back)
+          (block_returned c.self.inside.range.pages c.self.inside.range.allocated c.self.inside.spans c.self.inside.pools c.put_object.new.pools (extent_of c.args.piece) c.self.invariant.1 f.0 f.1
+          c.put_object.ensures.allocated
+          c.put_object.ensures.held c.put_object.ensures.pages c.put_object.ensures.objects
+          (subst (λ (m : Memory). AreDisjoint (4096 * m.pages) m.allocated) c.put.ensures.back c.put.ensures.blocks)),
     ))
 
 pub returns-clause-blocks : goal.returns-clause-blocks
 returns-clause-blocks c =
-    ap (λ (m : Memory). blocks_of m.allocated) c.put-2.ensures.back ∙ removed_block (extent_of c.args.piece) c.self.inside.range.allocated
+    ap (λ (m : Memory). blocks_of m.allocated) c.put.ensures.back ∙ removed_block (extent_of c.args.piece) c.self.inside.range.allocated
     ∙ ap (λ (s : Shard). remove_extent (extent_of c.args.piece) s.blocks) c.self.view_is
 
 pub returns-clause-one_less : goal.returns-clause-one_less
 returns-clause-one_less c =
     (let r = subst (λ (s : Shard). IsBlockOf s c.args.piece) (sym c.self.view_is) c.requires in
-    subst (λ (s : Shard). length (blocks_of c.put-2.new.self.allocated) + 1 ≡ length s.blocks) c.self.view_is
-    (ap (λ (m : Memory). length (blocks_of m.allocated) + 1) c.put-2.ensures.back ∙ ap (λ xs. length xs + 1) (removed_block (extent_of c.args.piece) c.self.inside.range.allocated)
+    subst (λ (s : Shard). length (blocks_of c.put.new.self.allocated) + 1 ≡ length s.blocks) c.self.view_is
+    (ap (λ (m : Memory). length (blocks_of m.allocated) + 1) c.put.ensures.back ∙ ap (λ xs. length xs + 1) (removed_block (extent_of c.args.piece) c.self.inside.range.allocated)
     ∙ remove_one (page * c.self.inside.range.pages) (extent_of c.args.piece) (blocks_of c.self.inside.range.allocated) (disjoint_still is_block (page * c.self.inside.range.pages) c.self.inside.range.allocated c.self.invariant.1.blocks) r.1))
 
 pub returns-clause-segments : goal.returns-clause-segments
 returns-clause-segments c =
     (let r = subst (λ (s : Shard). IsBlockOf s c.args.piece) (sym c.self.view_is) c.requires in
     let f = block_facts c.self.inside.range.pages c.self.inside.range.allocated c.self.inside.spans c.self.inside.pools (extent_of c.args.piece) c.self.invariant.1 r.1 in
-    ap (λ (m : Memory). segments_of m.allocated) c.put-2.ensures.back ∙ same_segments (page * c.self.inside.range.pages) c.self.inside.range.allocated (extent_of c.args.piece) c.self.invariant.1.blocks f.0 f.1
+    ap (λ (m : Memory). segments_of m.allocated) c.put.ensures.back ∙ same_segments (page * c.self.inside.range.pages) c.self.inside.range.allocated (extent_of c.args.piece) c.self.invariant.1.blocks f.0 f.1
     ∙ ap (λ (s : Shard). s.segments) c.self.view_is)
 
 pub returns-clause-spans : goal.returns-clause-spans
 returns-clause-spans c = (
-  ap (λ (m : Memory). m.pages - free_pages c.self.inside.spans) c.put-2.ensures.back ∙ ap (λ (s : Shard). s.pages_out) c.self.view_is,
+  ap (λ (m : Memory). m.pages - free_pages c.self.inside.spans) c.put.ensures.back ∙ ap (λ (s : Shard). s.pages_out) c.self.view_is,
   ap (λ (s : Shard). s.room.segment) c.self.view_is,
 )

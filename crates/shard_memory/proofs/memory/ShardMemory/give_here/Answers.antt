@@ -16,14 +16,14 @@ use Rattle.shard_memory.proofs.Steps.{block_inside, block_apart, gave_block, lea
 use Rattle.shard_memory.proofs.memory.ShardMemory.give_here.Goals as goal
 
 pub take-requires-2-clause-inside : goal.take-requires-2-clause-inside
-take-requires-2-clause-inside c = block_inside c.self.inside.range.pages c.self.inside.range.allocated c.self.inside.spans c.self.inside.pools c.take.new.self c.in-Some-take.place
-    c.in-Some.class c.args.size c.self.invariant.1 c.in-Some-take.ensures.allocated c.in-Some-take.ensures.pages c.in-Some-take.ensures.objects c.in-Some.ensures.some.holds
+take-requires-2-clause-inside c = block_inside c.self.inside.range.pages c.self.inside.range.allocated c.self.inside.spans c.self.inside.pools c.take.new.self c.in-Some.place
+    c.in_ok-class.class c.args.size c.self.invariant.1 c.in-Some.ensures.allocated c.in-Some.ensures.pages c.in-Some.ensures.objects c.in_ok-class.ensures.least.holds
 
 pub take-requires-2-clause-disjoint : goal.take-requires-2-clause-disjoint
 take-requires-2-clause-disjoint c =
-    all_of (Disjoint (extent c.in-Some-take.place c.args.size)) c.self.inside.range.allocated
-    (block_apart c.self.inside.range.pages c.self.inside.range.allocated c.self.inside.spans c.take.new.spans c.self.inside.pools c.take.new.self c.in-Some-take.place c.in-Some.class c.args.size c.self.invariant.1
-    c.in-Some-take.ensures.was_free c.in-Some-take.ensures.allocated c.in-Some-take.ensures.spans c.in-Some-take.ensures.held c.in-Some-take.ensures.objects c.in-Some-take.ensures.divided c.in-Some.ensures.some.holds)
+    all_of (Disjoint (extent c.in-Some.place c.args.size)) c.self.inside.range.allocated
+    (block_apart c.self.inside.range.pages c.self.inside.range.allocated c.self.inside.spans c.take.new.spans c.self.inside.pools c.take.new.self c.in-Some.place c.in_ok-class.class c.args.size c.self.invariant.1
+    c.in-Some.ensures.was_free c.in-Some.ensures.allocated c.in-Some.ensures.spans c.in-Some.ensures.held c.in-Some.ensures.objects c.in-Some.ensures.divided c.in_ok-class.ensures.least.holds)
 
 pub take-requires-2-clause-few : goal.take-requires-2-clause-few
 take-requires-2-clause-few c = few_pieces c.self.inside.range.pages c.self.inside.range.allocated c.self.invariant.1.most c.self.invariant.1.blocks c.self.invariant.1.few
@@ -32,34 +32,34 @@ pub invariant_of-self-2 : goal.invariant_of-self-2
 invariant_of-self-2 c = (
   c.self.invariant.0 ∙ sym (ap (λ (m : Memory). m.pages) c.take-2.ensures.allocated),
   subst (λ (m : Memory). IsConsistent m.pages m.allocated c.take.new.spans c.take.new.self) (sym c.take-2.ensures.allocated)
-      (gave_block c.self.inside.range.pages c.self.inside.range.allocated c.self.inside.spans c.take.new.spans c.self.inside.pools c.take.new.self c.in-Some-take.place c.in-Some.class c.args.size c.self.invariant.1 c.in-Some-take.ensures.was_free
-      c.in-Some-take.ensures.allocated c.in-Some-take.ensures.pages c.in-Some-take.ensures.spans c.in-Some-take.ensures.held c.in-Some-take.ensures.objects c.in-Some-take.ensures.divided c.in-Some-take.ensures.coalesced c.in-Some.ensures.some.holds
+      (gave_block c.self.inside.range.pages c.self.inside.range.allocated c.self.inside.spans c.take.new.spans c.self.inside.pools c.take.new.self c.in-Some.place c.in_ok-class.class c.args.size c.self.invariant.1 c.in-Some.ensures.was_free
+      c.in-Some.ensures.allocated c.in-Some.ensures.pages c.in-Some.ensures.spans c.in-Some.ensures.held c.in-Some.ensures.objects c.in-Some.ensures.divided c.in-Some.ensures.coalesced c.in_ok-class.ensures.least.holds
       (subst (λ (s : Shard). length s.blocks < 1024) (sym c.self.view_is) c.requires.few)
       (subst (λ (m : Memory). AreDisjoint (4096 * m.pages) m.allocated) c.take-2.ensures.allocated c.take-2.ensures.blocks)),
 )
 
-pub returns-in_default-take-clause-refused : goal.returns-in_default-take-clause-refused
-returns-in_default-take-clause-refused c =
-    (let fits = c.in-Some.ensures.some.holds in let most = c.in-Some.ensures.bounds.size_most in
-    let none = c.in_default-take.ensures.none.0 refl in (
+pub returns-in_default-clause-refused : goal.returns-in_default-clause-refused
+returns-in_default-clause-refused c =
+    (let fits = c.in_ok-class.ensures.least.holds in let most = c.in_ok-class.ensures.bounds.size_most in
+    let none = c.in_default.ensures.none.0 refl in (
       omega (arith, fits, most),
       λ k least. subst (λ (s : Shard). get_or s.room.classes k false ≡ false) c.self.view_is (class_lacks_of c.self.inside.spans c.self.inside.pools k least.within
-      (subst (λ z. IsUsedUp c.self.inside.pools z × HasNone c.self.inside.spans (order_of z)) (least_one c.args.size c.in-Some.class k c.in-Some.ensures.some least) none)),
+      (subst (λ z. IsUsedUp c.self.inside.pools z × HasNone c.self.inside.spans (order_of z)) (least_one c.args.size c.in_ok-class.class k c.in_ok-class.ensures.least least) none)),
     ))
 
 pub returns-clause-room : goal.returns-clause-room
 returns-clause-room c =
-    (let fits = c.in-Some.ensures.some.holds in let most = c.in-Some.ensures.bounds.size_most in (
+    (let fits = c.in_ok-class.ensures.least.holds in let most = c.in_ok-class.ensures.bounds.size_most in (
       omega (arith, fits, most),
       λ h.
           (let lacks = subst (λ (s : Shard). LacksBlock s c.args.size) (sym c.self.view_is) h in
-          let none = class_lacks_tells c.self.inside.spans c.self.inside.pools c.in-Some.class c.in-Some.ensures.some.within c.self.invariant.1.objects (lacks c.in-Some.class c.in-Some.ensures.some) in
-          let clash = c.in-Some-take.ensures.none.1 none in cc),
+          let none = class_lacks_tells c.self.inside.spans c.self.inside.pools c.in_ok-class.class c.in_ok-class.ensures.least.within c.self.invariant.1.objects (lacks c.in_ok-class.class c.in_ok-class.ensures.least) in
+          let clash = c.in-Some.ensures.none.1 none in cc),
     ))
 
 pub returns-clause-given : goal.returns-clause-given
 returns-clause-given c =
-    (let p = extent c.in-Some-take.place c.args.size in
+    (let p = extent c.in-Some.place c.args.size in
     let at : extent_of c.cleared.result ≡ p = ap (λ (l : Lent). extent_of l) c.cleared.ensures ∙ ap (λ n. extent c.take-2.result.at n) (length-replicate (length c.take-2.result.bytes) 0) ∙ c.take-2.ensures.extent in
     let small = (returns-clause-room c).0 in
     let has = kept_by is_block p (p ∷ c.self.inside.range.allocated) (has_first p c.self.inside.range.allocated) (block_is p small) in (
@@ -69,7 +69,7 @@ returns-clause-given c =
 
 pub returns-clause-blocks : goal.returns-clause-blocks
 returns-clause-blocks c =
-    (let p = extent c.in-Some-take.place c.args.size in
+    (let p = extent c.in-Some.place c.args.size in
     let at : extent_of c.cleared.result ≡ p = ap (λ (l : Lent). extent_of l) c.cleared.ensures ∙ ap (λ n. extent c.take-2.result.at n) (length-replicate (length c.take-2.result.bytes) 0) ∙ c.take-2.ensures.extent in
     ap (λ (m : Memory). blocks_of m.allocated) c.take-2.ensures.allocated ∙ block_added c.self.inside.range.allocated p (returns-clause-room c).0
     ∙ ap (λ q. q ∷ blocks_of c.self.inside.range.allocated) (sym at) ∙ ap (λ (s : Shard). extent_of c.cleared.result ∷ s.blocks) c.self.view_is)
@@ -77,21 +77,21 @@ returns-clause-blocks c =
 pub returns-clause-segments : goal.returns-clause-segments
 returns-clause-segments c =
     ap (λ (m : Memory). segments_of m.allocated) c.take-2.ensures.allocated
-    ∙ block_leaves_segments c.self.inside.range.allocated (extent c.in-Some-take.place c.args.size) (returns-clause-room c).0 ∙ ap (λ (s : Shard). s.segments) c.self.view_is
+    ∙ block_leaves_segments c.self.inside.range.allocated (extent c.in-Some.place c.args.size) (returns-clause-room c).0 ∙ ap (λ (s : Shard). s.segments) c.self.view_is
 
 pub returns-clause-least : goal.returns-clause-least
 returns-clause-least c = (
-  c.in-Some.class,
-  c.in-Some.ensures.some,
-  subst (λ (s : Shard). c.take.new.self.allocated ≡ map.insert s.objects c.cleared.result.at (size_of c.in-Some.class)) c.self.view_is
-      (c.in-Some-take.ensures.allocated ∙ ap (λ (at : ℕ). map.insert c.self.inside.pools.allocated at (size_of c.in-Some.class)) (sym (ap (λ (l : Lent). l.at) c.cleared.ensures ∙ ap (λ (q : Extent). q.start) c.take-2.ensures.extent))),
+  c.in_ok-class.class,
+  c.in_ok-class.ensures.least,
+  subst (λ (s : Shard). c.take.new.self.allocated ≡ map.insert s.objects c.cleared.result.at (size_of c.in_ok-class.class)) c.self.view_is
+      (c.in-Some.ensures.allocated ∙ ap (λ (at : ℕ). map.insert c.self.inside.pools.allocated at (size_of c.in_ok-class.class)) (sym (ap (λ (l : Lent). l.at) c.cleared.ensures ∙ ap (λ (q : Extent). q.start) c.take-2.ensures.extent))),
 )
 
-pub returns-in_default-take-clause-crowded : goal.returns-in_default-take-clause-crowded
-returns-in_default-take-clause-crowded c =
+pub returns-in_default-clause-crowded : goal.returns-in_default-clause-crowded
+returns-in_default-clause-crowded c =
     subst (λ (s : Shard). IsTrimmed s → IsCrowded s) c.self.view_is
     (λ trimmed.
-    (let none = (c.in_default-take.ensures.none.0 refl).1 in
-    let same = c.in_default-take.ensures.unchanged.1 in
-    crowded c.self.inside.range.pages (order_of c.in-Some.class) c.self.inside.range.allocated c.self.inside.spans c.self.inside.pools c.self.invariant.1 c.in-Some.ensures.bounds.order_most none
+    (let none = (c.in_default.ensures.none.0 refl).1 in
+    let same = c.in_default.ensures.unchanged.1 in
+    crowded c.self.inside.range.pages (order_of c.in_ok-class.class) c.self.inside.range.allocated c.self.inside.spans c.self.inside.pools c.self.invariant.1 c.in_ok-class.ensures.bounds.order_most none
     (subst (λ s. (o : ℕ) → o ≤ 16 → HasNone s o → IsBlocked s o) same c.facts.ensures.blocked) (trimmed_tells c.self.inside.pools c.self.invariant.1.objects trimmed)))

@@ -3,7 +3,7 @@ use Rattle.std.specs.Prelude.{Contains}
 use Rattle.std.specs.FinMap as map
 use Rattle.common_lemmas.proofs.Maps.{get_inserted}
 use Rattle.layout.specs.Extents.{Extent, extent, Disjoint, AreDisjoint}
-use Rattle.raw_range.specs.Memory.{Memory, Lent, extent_of}
+use Rattle.raw_range.specs.Memory.{Memory, extent_of}
 use Rattle.shard_memory.specs.Shards.{Shard, LacksSegment, IsTrimmed, IsCrowded}
 use Rattle.shard_memory.specs.inside.Parts.{IsConsistent, is_segment, blocks_of, segments_of}
 use Rattle.shard_memory.proofs.Counts.{pieces_enough}
@@ -12,29 +12,26 @@ use Rattle.shard_memory.proofs.Rooms.{segment_lacks_of, segment_lacks_tells, tri
 use Rattle.shard_memory.proofs.Steps.{inside_pages, apart_from_span, gave_segment}
 use Rattle.shard_memory.proofs.memory.ShardMemory.give_segment.Goals as goal
 
-pub take-requires-2-clause-inside : goal.take-requires-2-clause-inside
-take-requires-2-clause-inside c =
+pub segment_at-requires-clause-inside : goal.segment_at-requires-clause-inside
+segment_at-requires-clause-inside c =
     (let i = inside_pages c.self.inside.range.pages c.self.inside.range.allocated c.self.inside.spans c.take.new.self c.self.inside.pools c.in-Some.first 5 c.self.invariant.1 c.in-Some.ensures.allocated c.in-Some.ensures.pages c.in-Some.ensures.divided in
     omega (arith, i))
 
-pub overflow_mul-first : goal.overflow_mul-first
-overflow_mul-first c = (let i = take-requires-2-clause-inside c in let m = c.self.invariant.1.most in omega (arith, i, m))
-
-pub take-requires-2-clause-disjoint : goal.take-requires-2-clause-disjoint
-take-requires-2-clause-disjoint c =
+pub segment_at-requires-clause-disjoint : goal.segment_at-requires-clause-disjoint
+segment_at-requires-clause-disjoint c =
     all_of (Disjoint (extent (4096 * c.in-Some.first) 131072)) c.self.inside.range.allocated
     (apart_from_span c.self.inside.range.pages c.self.inside.range.allocated c.self.inside.spans c.take.new.self c.self.inside.pools c.in-Some.first 5 c.self.invariant.1 c.in-Some.ensures.was_free c.in-Some.ensures.allocated c.in-Some.ensures.divided)
 
-pub take-requires-2-clause-few : goal.take-requires-2-clause-few
-take-requires-2-clause-few c = few_pieces c.self.inside.range.pages c.self.inside.range.allocated c.self.invariant.1.most c.self.invariant.1.blocks c.self.invariant.1.few
+pub segment_at-requires-clause-few : goal.segment_at-requires-clause-few
+segment_at-requires-clause-few c = few_pieces c.self.inside.range.pages c.self.inside.range.allocated c.self.invariant.1.most c.self.invariant.1.blocks c.self.invariant.1.few
 
 pub invariant_of-self-2 : goal.invariant_of-self-2
 invariant_of-self-2 c = (
-  c.self.invariant.0 ∙ sym (ap (λ (m : Memory). m.pages) c.take-2.ensures.allocated),
-  subst (λ (m : Memory). IsConsistent m.pages m.allocated c.take.new.self c.self.inside.pools) (sym c.take-2.ensures.allocated)
+  c.self.invariant.0 ∙ sym (ap (λ (m : Memory). m.pages) c.segment_at.ensures.allocated),
+  subst (λ (m : Memory). IsConsistent m.pages m.allocated c.take.new.self c.self.inside.pools) (sym c.segment_at.ensures.allocated)
       (gave_segment c.self.inside.range.pages c.self.inside.range.allocated c.self.inside.spans c.take.new.self c.self.inside.pools c.in-Some.first
       c.self.invariant.1 c.in-Some.ensures.was_free c.in-Some.ensures.allocated c.in-Some.ensures.pages c.in-Some.ensures.divided c.in-Some.ensures.coalesced
-      (subst (λ (m : Memory). AreDisjoint (4096 * m.pages) m.allocated) c.take-2.ensures.allocated c.take-2.ensures.blocks)),
+      (subst (λ (m : Memory). AreDisjoint (4096 * m.pages) m.allocated) c.segment_at.ensures.allocated c.segment_at.ensures.blocks)),
 )
 
 pub returns-in_default-clause-none : goal.returns-in_default-clause-none
@@ -53,28 +50,28 @@ returns-clause-none c = (
 
 pub returns-clause-whole : goal.returns-clause-whole
 returns-clause-whole c =
-    (let at = ap (λ (p : Extent). p.start) c.take-2.ensures.extent in
+    (let at = ap (λ (p : Extent). p.start) c.segment_at.ensures.extent in
     let s = (c.in-Some.ensures.divided.spans c.in-Some.first 5 (inr (ap (λ m. map.get m c.in-Some.first) c.in-Some.ensures.allocated ∙ get_inserted c.self.inside.spans.allocated c.in-Some.first 5 c.in-Some.first refl))).1 in
-    (ap (λ (p : Extent). p.len) c.take-2.ensures.extent, ap (λ z. z % 131072) at ∙ whole_start c.in-Some.first s))
+    (ap (λ (p : Extent). p.len) c.segment_at.ensures.extent, ap (λ z. z % 131072) at ∙ whole_start c.in-Some.first s))
 
 pub returns-clause-given : goal.returns-clause-given
 returns-clause-given c =
     (let p = extent (4096 * c.in-Some.first) 131072 in
     let has = kept_by is_segment p (p ∷ c.self.inside.range.allocated) (has_first p c.self.inside.range.allocated) (segment_is p refl) in (
-      ap (λ (l : Lent). l.home) c.take-2.ensures.piece ∙ sym (ap (λ (m : Memory). m.home) c.take-2.ensures.allocated),
-      subst (λ (m : Memory). Contains (segments_of m.allocated) (extent_of c.take-2.result)) (sym c.take-2.ensures.allocated) (subst (λ q. Contains (segments_of (p ∷ c.self.inside.range.allocated)) q) (sym c.take-2.ensures.extent) has),
+      c.segment_at.ensures.home ∙ sym (ap (λ (m : Memory). m.home) c.segment_at.ensures.allocated),
+      subst (λ (m : Memory). Contains (segments_of m.allocated) (extent_of c.segment_at.result)) (sym c.segment_at.ensures.allocated) (subst (λ q. Contains (segments_of (p ∷ c.self.inside.range.allocated)) q) (sym c.segment_at.ensures.extent) has),
     ))
 
 pub returns-clause-segments : goal.returns-clause-segments
 returns-clause-segments c =
-    ap (λ (m : Memory). segments_of m.allocated) c.take-2.ensures.allocated ∙ segment_added c.self.inside.range.allocated (extent (4096 * c.in-Some.first) 131072) refl
-    ∙ ap (λ q. q ∷ segments_of c.self.inside.range.allocated) (sym c.take-2.ensures.extent) ∙ ap (λ (s : Shard). extent_of c.take-2.result ∷ s.segments) c.self.view_is
+    ap (λ (m : Memory). segments_of m.allocated) c.segment_at.ensures.allocated ∙ segment_added c.self.inside.range.allocated (extent (4096 * c.in-Some.first) 131072) refl
+    ∙ ap (λ q. q ∷ segments_of c.self.inside.range.allocated) (sym c.segment_at.ensures.extent) ∙ ap (λ (s : Shard). extent_of c.segment_at.result ∷ s.segments) c.self.view_is
 
 pub returns-clause-one_more : goal.returns-clause-one_more
 returns-clause-one_more c = ap length (returns-clause-segments c) ∙ omega arith
 
 pub returns-clause-blocks : goal.returns-clause-blocks
 returns-clause-blocks c = (
-  ap (λ (m : Memory). blocks_of m.allocated) c.take-2.ensures.allocated ∙ segment_leaves_blocks c.self.inside.range.allocated (extent (4096 * c.in-Some.first) 131072) refl ∙ ap (λ (s : Shard). s.blocks) c.self.view_is,
+  ap (λ (m : Memory). blocks_of m.allocated) c.segment_at.ensures.allocated ∙ segment_leaves_blocks c.self.inside.range.allocated (extent (4096 * c.in-Some.first) 131072) refl ∙ ap (λ (s : Shard). s.blocks) c.self.view_is,
   ap (λ (s : Shard). s.objects) c.self.view_is,
 )
