@@ -3,10 +3,11 @@ use Rattle.std.proofs.Common.{◌≡◌, ◌≢◌, ℕ, zero, suc, ◌+◌, ◌
 use Rattle.std.specs.Prelude.{Option, None, Some, IsSome, slice_index, slice_set}
 use Rattle.std.proofs.lemmas.Bool.{cases_eq, cases_Bool, ne_eqb, eqb-true}
 use Rattle.std.proofs.lemmas.List.{get_or-set_same, get_or-set_other, length-set}
-use Rattle.std.proofs.lemmas.List.Sums.{sum_by-set}
+use Rattle.std.proofs.Math.Seq.{map-set_same}
 use Rattle.layout.specs.Sizes.{dense, greatest_object}
 use Rattle.regions.specs.Shapes.{Slot, slot_at, is_free, is_held, is_begun, is_active, is_closed}
 use Rattle.regions.specs.Counts.{plus, left_of}
+use Rattle.regions.proofs.Numbers.{follows}
 use Rattle.regions.specs.inside.Consistent.{IsConsistent, not_closed, closed_live, with_closed}
 
 -- the active segment is not closed
@@ -84,15 +85,16 @@ closed-far (Some n) al table m far = get_or-set_other table n m al 0 (λ e. far 
 closed-here : (active : Option ℕ) (al : ℕ) (table : List ℕ) (m : ℕ) → active ≡ Some m → m < length table → slice_index (with_closed active al table) m ≡ al
 closed-here active al table m it inside = subst (λ a. slice_index (with_closed a al table) m ≡ al) (sym it) (get_or-set_same table m al 0 inside)
 
-module _ (most : ℕ) (active : Option ℕ) (free al : ℕ) (table : List ℕ) (slots : List (Option Slot)) (used live : List ℕ) (c : IsConsistent most active free al table slots used live) where
+module _ (most : ℕ) (active : Option ℕ) (held free : List Bool) (al : ℕ) (table : List ℕ) (slots : List (Option Slot)) (used live : List ℕ) (c : IsConsistent most active held free al table slots used live) where
   -- the live bytes of one segment changed
   pub relived : (n al' : ℕ) (table' live' : List ℕ) → is_begun (slot_at slots n) ≡ true → length table' ≡ most
       → ((m : ℕ) → m ≢ n → slice_index live' m ≡ slice_index live m) → ((m : ℕ) → m ≢ n → slice_index table' m ≡ slice_index table m)
       → slice_index table' n ≡ closed_live active slots live' n → ((m : ℕ) → active ≡ Some m → al' ≡ slice_index live' m)
-      → IsConsistent most active free al' table' slots used live'
+      → IsConsistent most active held free al' table' slots used live'
   relived n al' table' live' begun long others tabled here now = record {
     long = c.long;
     few = c.few;
+    held = c.held;
     free = c.free;
     active = c.active;
     empty = λ m e. ((c.empty m e).0, others m (λ same. (let clash : true ≡ false = sym (subst (λ k. is_begun (slot_at slots k) ≡ true) (sym same) begun) ∙ e in cc)) ∙ (c.empty m e).1);
@@ -108,10 +110,11 @@ module _ (most : ℕ) (active : Option ℕ) (free al : ℕ) (table : List ℕ) (
 
   -- more bytes of one segment are used
   pub reused : (n : ℕ) (used' : List ℕ) → is_begun (slot_at slots n) ≡ true → ((m : ℕ) → m ≢ n → slice_index used' m ≡ slice_index used m) → slice_index used n ≤ slice_index used' n
-      → IsConsistent most active free al table slots used' live
+      → IsConsistent most active held free al table slots used' live
   reused n used' begun others more = record {
     long = c.long;
     few = c.few;
+    held = c.held;
     free = c.free;
     active = c.active;
     empty = λ m e. (others m (λ same. (let clash : true ≡ false = sym (subst (λ k. is_begun (slot_at slots k) ≡ true) (sym same) begun) ∙ e in cc)) ∙ (c.empty m e).0, (c.empty m e).1);
@@ -126,18 +129,19 @@ module _ (most : ℕ) (active : Option ℕ) (free al : ℕ) (table : List ℕ) (
   }
 
   -- a segment that was and is not begun is another one
-  pub reslotted : (n free' : ℕ) (s : Option Slot) → is_begun (slot_at slots n) ≡ false → is_begun s ≡ false → n < length slots → free' + cond (is_free (slot_at slots n)) 1 0 ≡ free + cond (is_free s) 1 0
-      → IsConsistent most active free' al table (slice_set slots n s) used live
-  reslotted n free' s was now inside counted =
+  pub reslotted : (n : ℕ) (s : Option Slot) → is_begun (slot_at slots n) ≡ false → is_begun s ≡ false → n < length slots
+      → IsConsistent most active (slice_set held n (is_held s)) (slice_set free n (is_free s)) al table (slice_set slots n s) used live
+  reslotted n s was now inside =
       let there : slot_at (slice_set slots n s) n ≡ s = get_or-set_same slots n s None inside in
       let other : (m : ℕ) → m ≢ n → slot_at (slice_set slots n s) m ≡ slot_at slots m = λ m far. get_or-set_other slots n m s None far in
       let same : (m : ℕ) → is_begun (slot_at (slice_set slots n s) m) ≡ is_begun (slot_at slots m) =
       λ m. elim (cases_eq m n) [ inl e ↦ subst (λ k. is_begun (slot_at (slice_set slots n s) k) ≡ is_begun (slot_at slots k)) (sym e) (ap is_begun there ∙ now ∙ sym was) | inr far ↦ ap is_begun (other m far) ] in
       let closed : (m : ℕ) → is_closed active (slice_set slots n s) m ≡ is_closed active slots m = λ m. ap (λ b. b && not (is_active active m)) (same m) in
-      let sums = sum_by-set (λ (x : Option Slot). cond (is_free x) 1 0) slots n s None inside in record {
+      record {
         long = length-set slots n s ∙ c.long;
         few = c.few;
-        free = (let f = c.free in omega (arith, sums, counted, f));
+        held = follows is_held held slots n s c.held;
+        free = follows is_free free slots n s c.free;
         active = λ m e. same m ∙ c.active m e;
         empty = λ m e. c.empty m (sym (same m) ∙ e);
         full = λ m e. c.full m (sym (closed m) ∙ e);
@@ -149,18 +153,18 @@ module _ (most : ℕ) (active : Option ℕ) (free al : ℕ) (table : List ℕ) (
 some-is : (m n : ℕ) → Some m ≡ Some n → m ≡ n
 some-is m n e = (let both : Some m ≡ Some n = e in cc)
 
-module _ (most : ℕ) (active : Option ℕ) (free al : ℕ) (table : List ℕ) (slots : List (Option Slot)) (used live : List ℕ) (c : IsConsistent most active free al table slots used live) where
+module _ (most : ℕ) (active : Option ℕ) (held free : List Bool) (al : ℕ) (table : List ℕ) (slots : List (Option Slot)) (used live : List ℕ) (c : IsConsistent most active held free al table slots used live) where
   -- an object of the active segment is new
-  pub placed : (n k : ℕ) → active ≡ Some n → length used ≡ length slots → length live ≡ length slots → IsConsistent most active free (al + k) table slots (plus n k used) (plus n k live)
+  pub placed : (n k : ℕ) → active ≡ Some n → length used ≡ length slots → length live ≡ length slots → IsConsistent most active held free (al + k) table slots (plus n k used) (plus n k live)
   placed n k now used-long live-long =
       let begun = c.active n now in
       let inside = held-within slots n (begun-held (slot_at slots n) begun) in
       let here : slice_index (plus n k live) n ≡ slice_index live n + k = get_or-set_same live n (slice_index live n + k) 0 (omega (arith, inside, live-long)) in
       let here-used : slice_index (plus n k used) n ≡ slice_index used n + k = get_or-set_same used n (slice_index used n + k) 0 (omega (arith, inside, used-long)) in
       let open-now : is_closed active slots n ≡ false = subst (λ a. is_closed a slots n ≡ false) (sym now) (active-open n slots begun) in
-      let d : IsConsistent most active free al table slots (plus n k used) live =
-      reused most active free al table slots used live c n (plus n k used) begun (λ m far. get_or-set_other used n m (slice_index used n + k) 0 far) (omega (arith, here-used)) in
-      relived most active free al table slots (plus n k used) live d n (al + k) table (plus n k live) begun c.tabled
+      let d : IsConsistent most active held free al table slots (plus n k used) live =
+      reused most active held free al table slots used live c n (plus n k used) begun (λ m far. get_or-set_other used n m (slice_index used n + k) 0 far) (omega (arith, here-used)) in
+      relived most active held free al table slots (plus n k used) live d n (al + k) table (plus n k live) begun c.tabled
       (λ m far. get_or-set_other live n m (slice_index live n + k) 0 far) (λ m far. refl)
       (c.table n (let l = c.long in omega (arith, inside, l)) ∙ ap (λ b. cond b (slice_index live n) not_closed) open-now ∙ sym (ap (λ b. cond b (slice_index (plus n k live) n) not_closed) open-now))
       (λ m e. (let one : m ≡ n = some-is m n (sym e ∙ now) in ap (λ x. x + k) (c.active_live n now) ∙ sym here ∙ ap (slice_index (plus n k live)) (sym one)))
@@ -177,7 +181,7 @@ module _ (most : ℕ) (active : Option ℕ) (free al : ℕ) (table : List ℕ) (
 
   -- an object is dead
   pub killed : (n k : ℕ) (live' : List ℕ) → is_begun (slot_at slots n) ≡ true → slice_index live n ≡ slice_index live' n + k → ((m : ℕ) → m ≢ n → slice_index live' m ≡ slice_index live m)
-      → IsConsistent most active free (cond (is_active active n) (al - k) al) (cond (is_active active n) table (slice_set table n (slice_index table n - k))) slots used live'
+      → IsConsistent most active held free (cond (is_active active n) (al - k) al) (cond (is_active active n) table (slice_set table n (slice_index table n - k))) slots used live'
   killed n k live' begun less others =
       let inside = held-within slots n (begun-held (slot_at slots n) begun) in let l = c.long in let tl = c.tabled in
       elim (cases_Bool (is_active active n)) [
@@ -185,38 +189,36 @@ module _ (most : ℕ) (active : Option ℕ) (free al : ℕ) (table : List ℕ) (
             let now = active-is active n e in
             let was = c.active_live n now in
             let open-now : is_closed active slots n ≡ false = subst (λ a. is_closed a slots n ≡ false) (sym now) (active-open n slots begun) in
-            subst (λ b. IsConsistent most active free (cond b (al - k) al) (cond b table (slice_set table n (slice_index table n - k))) slots used live') (sym e)
-            (relived most active free al table slots used live c n (al - k) table live' begun c.tabled others (λ m far. refl)
+            subst (λ b. IsConsistent most active held free (cond b (al - k) al) (cond b table (slice_set table n (slice_index table n - k))) slots used live') (sym e)
+            (relived most active held free al table slots used live c n (al - k) table live' begun c.tabled others (λ m far. refl)
             (c.table n (omega (arith, inside, l)) ∙ ap (λ b. cond b (slice_index live n) not_closed) open-now ∙ sym (ap (λ b. cond b (slice_index live' n) not_closed) open-now))
             (λ m f. (let one : m ≡ n = some-is m n (sym f ∙ now) in omega (arith, was, less) ∙ ap (slice_index live') (sym one))))
         | inr e ↦
             let closed = begun-closed active slots n begun e in
             let it : slice_index table n ≡ slice_index live n = c.table n (omega (arith, inside, l)) ∙ ap (λ b. cond b (slice_index live n) not_closed) closed in
             let far-active : (m : ℕ) → active ≡ Some m → m ≢ n = λ m f same. (let clash : false ≡ true = sym e ∙ is-active active n (f ∙ ap (λ x. Some x) same) in cc) in
-            subst (λ b. IsConsistent most active free (cond b (al - k) al) (cond b table (slice_set table n (slice_index table n - k))) slots used live') (sym e)
-            (relived most active free al table slots used live c n al (slice_set table n (slice_index table n - k)) live' begun (length-set table n (slice_index table n - k) ∙ c.tabled) others
+            subst (λ b. IsConsistent most active held free (cond b (al - k) al) (cond b table (slice_set table n (slice_index table n - k))) slots used live') (sym e)
+            (relived most active held free al table slots used live c n al (slice_set table n (slice_index table n - k)) live' begun (length-set table n (slice_index table n - k) ∙ c.tabled) others
             (λ m far. get_or-set_other table n m (slice_index table n - k) 0 far)
             (get_or-set_same table n (slice_index table n - k) 0 (omega (arith, inside, l, tl)) ∙ omega (arith, it, less) ∙ sym (ap (λ b. cond b (slice_index live' n) not_closed) closed))
             (λ m f. c.active_live m f ∙ sym (others m (far-active m f))))
       ]
 
   -- a free segment is the active one, and the one before is closed
-  pub activates : (n free' : ℕ) (b : Slot) → is_free (slot_at slots n) ≡ true → b.free ≡ false → free' + 1 ≡ free
-      → (IsSome active → left_of used active < greatest_object) → IsConsistent most (Some n) free' 0 (with_closed active al table) (slice_set slots n (Some b)) used live
-  activates n free' b was now counted full =
+  pub activates : (n : ℕ) (b : Slot) → is_free (slot_at slots n) ≡ true → b.free ≡ false
+      → (IsSome active → left_of used active < greatest_object) → IsConsistent most (Some n) held (slice_set free n false) 0 (with_closed active al table) (slice_set slots n (Some b)) used live
+  activates n b was now full =
       let unbegun : is_begun (slot_at slots n) ≡ false = free-unbegun (slot_at slots n) was in
       let inside = held-within slots n (free-held (slot_at slots n) was) in
       let there : slot_at (slice_set slots n (Some b)) n ≡ Some b = get_or-set_same slots n (Some b) None inside in
       let begun : is_begun (slot_at (slice_set slots n (Some b)) n) ≡ true = ap is_begun there ∙ ap not now in
       let other : (m : ℕ) → m ≢ n → slot_at (slice_set slots n (Some b)) m ≡ slot_at slots m = λ m far. get_or-set_other slots n m (Some b) None far in
-      let sums = sum_by-set (λ (x : Option Slot). cond (is_free x) 1 0) slots n (Some b) None inside in
-      let one : counted-as (is_free (slot_at slots n)) ≡ 1 = ap counted-as was in
-      let none : counted-as (is_free (Some b)) ≡ 0 = ap counted-as now in
       let shut : (m : ℕ) → m ≢ n → is_closed (Some n) (slice_set slots n (Some b)) m ≡ is_begun (slot_at slots m) = λ m far. closed-other n m slots (slice_set slots n (Some b)) (other m far) far in
       record {
         long = length-set slots n (Some b) ∙ c.long;
         few = c.few;
-        free = (let f = c.free in omega (arith, sums, counted, f, one, none));
+        held = c.held ∙ sym (map-set_same is_held slots n (Some b) None (sym (free-held (slot_at slots n) was)));
+        free = ap (slice_set free n) (sym now) ∙ follows is_free free slots n (Some b) c.free;
         active = λ m e. (let same : m ≡ n = sym (some-is n m e) in subst (λ k. is_begun (slot_at (slice_set slots n (Some b)) k) ≡ true) (sym same) begun);
         empty = λ m e.
             elim (cases_eq m n) [
@@ -256,9 +258,9 @@ module _ (most : ℕ) (active : Option ℕ) (free al : ℕ) (table : List ℕ) (
       }
 
   -- a closed segment without a live byte is free
-  pub frees : (n free' : ℕ) (b : Slot) → is_closed active slots n ≡ true → slice_index live n ≡ 0 → b.free ≡ true → free' ≡ free + 1 → length used ≡ length slots
-      → IsConsistent most active free' al (slice_set table n not_closed) (slice_set slots n (Some b)) (slice_set used n 0) live
-  frees n free' b closed dead now counted used-long =
+  pub frees : (n : ℕ) (b : Slot) → is_closed active slots n ≡ true → slice_index live n ≡ 0 → b.free ≡ true → length used ≡ length slots
+      → IsConsistent most active held (slice_set free n true) al (slice_set table n not_closed) (slice_set slots n (Some b)) (slice_set used n 0) live
+  frees n b closed dead now used-long =
       let was = closed-begun active slots n closed in
       let inside = held-within slots n (begun-held (slot_at slots n) was.0) in
       let l = c.long in let tl = c.tabled in
@@ -266,13 +268,11 @@ module _ (most : ℕ) (active : Option ℕ) (free al : ℕ) (table : List ℕ) (
       let unbegun : is_begun (slot_at (slice_set slots n (Some b)) n) ≡ false = ap is_begun there ∙ ap not now in
       let other : (m : ℕ) → m ≢ n → slot_at (slice_set slots n (Some b)) m ≡ slot_at slots m = λ m far. get_or-set_other slots n m (Some b) None far in
       let closed-same : (m : ℕ) → m ≢ n → is_closed active (slice_set slots n (Some b)) m ≡ is_closed active slots m = λ m far. ap (λ s. is_begun s && not (is_active active m)) (other m far) in
-      let sums = sum_by-set (λ (x : Option Slot). cond (is_free x) 1 0) slots n (Some b) None inside in
-      let none : counted-as (is_free (slot_at slots n)) ≡ 0 = ap counted-as (begun-unfree (slot_at slots n) was.0) in
-      let one : counted-as (is_free (Some b)) ≡ 1 = ap counted-as now in
       record {
         long = length-set slots n (Some b) ∙ c.long;
         few = c.few;
-        free = (let f = c.free in omega (arith, sums, counted, f, one, none));
+        held = c.held ∙ sym (map-set_same is_held slots n (Some b) None (sym (begun-held (slot_at slots n) was.0)));
+        free = ap (slice_set free n) (sym now) ∙ follows is_free free slots n (Some b) c.free;
         active = λ m e.
             elim (cases_eq m n) [
               | inl same ↦ absurd (let clash : false ≡ true = sym was.1 ∙ is-active active n (e ∙ ap (λ k. Some k) same) in cc)

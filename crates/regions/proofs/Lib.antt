@@ -3,6 +3,7 @@ pub mod Appended
 pub mod Killed
 pub mod Written
 pub mod Tables
+pub mod Numbers
 pub mod Updates
 pub mod Consistency
 pub mod Regions

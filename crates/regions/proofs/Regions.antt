@@ -1,8 +1,8 @@
 -- What a change of one segment keeps of a region, and what it does to its objects.
-use Rattle.std.proofs.Common.{◌≡◌, ◌≢◌, ℕ, zero, suc, ◌+◌, ◌-◌, ◌<◌, ◌≤◌, inl, inr, Bool, true, false, not, cond, List, [], ◌∷◌, ◌++◌, length, replicate, refl, sym, ap, ◌∙◌, subst, arith, get_or, eq-eqb}
+use Rattle.std.proofs.Common.{◌≡◌, ◌≢◌, ℕ, zero, suc, ◌+◌, ◌-◌, ◌<◌, ◌≤◌, inl, inr, Bool, true, false, not, cond, List, [], ◌∷◌, ◌++◌, length, replicate, map, refl, sym, ap, ◌∙◌, subst, arith, get_or, eq-eqb}
 use Rattle.std.specs.Prelude.{Option, None, Some, IsSome, IfSome, option_map, slice_index, slice_set}
 use Rattle.std.specs.List.{count_by}
-use Rattle.std.proofs.lemmas.List.Sums.{sum_by-set, sum_by-cons, get_or-le-sum_by}
+use Rattle.std.proofs.lemmas.List.Sums.{sum_by-set, sum_by-cons}
 use Rattle.std.proofs.lemmas.Bool.{cases_eq, cases_Bool, ne_eqb, leb-true}
 use Rattle.std.proofs.lemmas.List.{get_or-set_same, get_or-set_other, length-map, length-replicate, map-set}
 use Rattle.std.proofs.Math.Seq.{map-set_same}
@@ -15,17 +15,19 @@ use Rattle.regions.specs.Counts.{used_in, live_in, used_in_each, live_in_each, l
 use Rattle.regions.specs.Contents.{Standing, size_of, if_live, item_if_live, standing_in, standing_at, standing_among, ChangesIn, ChangesAt, Keeps}
 use Rattle.regions.specs.inside.Consistent.{IsConsistent, not_closed, with_closed, is_sparse}
 use Rattle.regions.specs.declared.place.Place.{Place}
+use Rattle.number_set.specs.Numbers.{has}
+use Rattle.regions.proofs.Numbers.{has-held, has-free}
 use Rattle.regions.proofs.Tables as tables
 use Rattle.regions.proofs.Updates.{within, slot-is, used-is, live-is, slots-same, used-same, live-same, used-plus, live-plus, live-there, live-others}
 use Rattle.regions.proofs.Consistency.{counted-as, begun-closed, unbegun-open, placed, killed, activates, frees, reslotted, held-within, begun-held, free-held, free-unbegun}
 
-abbrev pub Fields : ℕ → Option ℕ → ℕ → ℕ → List ℕ → List (Option SegmentState) → Type 0
-Fields most active free al table segs = IsConsistent most active free al table (slots_of segs) (used_in_each segs) (live_in_each segs)
+abbrev pub Fields : ℕ → Option ℕ → List Bool → List Bool → ℕ → List ℕ → List (Option SegmentState) → Type 0
+Fields most active held free al table segs = IsConsistent most active held free al table (slots_of segs) (used_in_each segs) (live_in_each segs)
 
-pub as-read : (most : ℕ) (active : Option ℕ) (free al : ℕ) (table : List ℕ) (s t : List (Option Slot)) (u v l k : List ℕ) → s ≡ t → u ≡ v → l ≡ k
-    → IsConsistent most active free al table t v k → IsConsistent most active free al table s u l
-as-read most active free al table s t u v l k e f g c =
-    subst (λ x. IsConsistent most active free al table x u l) (sym e) (subst (λ x. IsConsistent most active free al table t x l) (sym f) (subst (λ x. IsConsistent most active free al table t v x) (sym g) c))
+pub as-read : (most : ℕ) (active : Option ℕ) (held free : List Bool) (al : ℕ) (table : List ℕ) (s t : List (Option Slot)) (u v l k : List ℕ) → s ≡ t → u ≡ v → l ≡ k
+    → IsConsistent most active held free al table t v k → IsConsistent most active held free al table s u l
+as-read most active held free al table s t u v l k e f g c =
+    subst (λ x. IsConsistent most active held free al table x u l) (sym e) (subst (λ x. IsConsistent most active held free al table t x l) (sym f) (subst (λ x. IsConsistent most active held free al table t v x) (sym g) c))
 
 -- what is found through a reference
 pub found-there : (segs : List (Option SegmentState)) (n : ℕ) (now : Option SegmentState) (h : SegmentState) → n < length segs → now ≡ get_or segs n now → now ≡ Some h → get_or segs n None ≡ Some h
@@ -120,7 +122,7 @@ pub not-held : (s : Option SegmentState) → is_held (option_map slot_of s) ≡ 
 not-held None e = refl
 not-held (Some h) e = absurd (let clash : true ≡ false = e in cc)
 
-module _ (most : ℕ) (active : Option ℕ) (free al : ℕ) (table : List ℕ) (segs : List (Option SegmentState)) (c : Fields most active free al table segs) where
+module _ (most : ℕ) (active : Option ℕ) (held free : List Bool) (al : ℕ) (table : List ℕ) (segs : List (Option SegmentState)) (c : Fields most active held free al table segs) where
   used-long : length (used_in_each segs) ≡ length (slots_of segs)
   used-long = length-map segs used_in ∙ sym (length-map segs (λ s. option_map slot_of s))
 
@@ -140,20 +142,20 @@ module _ (most : ℕ) (active : Option ℕ) (free al : ℕ) (table : List ℕ) (
     pub begun-there : old.free ≡ false → is_begun (slot_at (slots_of segs) n) ≡ true
     begun-there unfree = ap is_begun (slot-is segs n ∙ ap (λ s. option_map slot_of s) is) ∙ (let b : is_begun (option_map slot_of (Some old)) ≡ true = ap (λ f. is_begun (Some (record (slot_of old) { free = f }))) unfree in b)
 
-    pub placed-in : (k : ℕ) → active ≡ Some n → slot_of new ≡ slot_of old → new.used ≡ old.used + k → live_in (Some new) ≡ live_in (Some old) + k → Fields most active free (al + k) table (slice_set segs n (Some new))
+    pub placed-in : (k : ℕ) → active ≡ Some n → slot_of new ≡ slot_of old → new.used ≡ old.used + k → live_in (Some new) ≡ live_in (Some old) + k → Fields most active held free (al + k) table (slice_set segs n (Some new))
     placed-in k now slot used live =
-        as-read most active free (al + k) table _ _ _ _ _ _ (slots-same segs n old new is slot) (used-plus segs n old new is k used) (live-plus segs n old new is k live)
-        (placed most active free al table (slots_of segs) (used_in_each segs) (live_in_each segs) c n k now used-long live-long)
+        as-read most active held free (al + k) table _ _ _ _ _ _ (slots-same segs n old new is slot) (used-plus segs n old new is k used) (live-plus segs n old new is k live)
+        (placed most active held free al table (slots_of segs) (used_in_each segs) (live_in_each segs) c n k now used-long live-long)
 
     pub killed-in : (k : ℕ) → old.free ≡ false → slot_of new ≡ slot_of old → new.used ≡ old.used → live_in (Some old) ≡ live_in (Some new) + k
-        → Fields most active free (cond (is_active active n) (al - k) al) (cond (is_active active n) table (slice_set table n (slice_index table n - k))) (slice_set segs n (Some new))
+        → Fields most active held free (cond (is_active active n) (al - k) al) (cond (is_active active n) table (slice_set table n (slice_index table n - k))) (slice_set segs n (Some new))
     killed-in k unfree slot used live =
-        as-read most active free _ _ _ _ _ _ _ _ (slots-same segs n old new is slot) (used-same segs n old new is used) refl
-        (killed most active free al table (slots_of segs) (used_in_each segs) (live_in_each segs) c n k (live_in_each (slice_set segs n (Some new))) (begun-there unfree)
+        as-read most active held free _ _ _ _ _ _ _ _ (slots-same segs n old new is slot) (used-same segs n old new is used) refl
+        (killed most active held free al table (slots_of segs) (used_in_each segs) (live_in_each segs) c n k (live_in_each (slice_set segs n (Some new))) (begun-there unfree)
         (live-is segs n ∙ ap live_in is ∙ live ∙ ap (λ x. x + k) (sym (live-there segs n old new is))) (live-others segs n old new is))
 
-    pub kept-in : slot_of new ≡ slot_of old → new.used ≡ old.used → live_in (Some new) ≡ live_in (Some old) → Fields most active free al table (slice_set segs n (Some new))
-    kept-in slot used live = as-read most active free al table _ _ _ _ _ _ (slots-same segs n old new is slot) (used-same segs n old new is used) (live-same segs n old new is live) c
+    pub kept-in : slot_of new ≡ slot_of old → new.used ≡ old.used → live_in (Some new) ≡ live_in (Some old) → Fields most active held free al table (slice_set segs n (Some new))
+    kept-in slot used live = as-read most active held free al table _ _ _ _ _ _ (slots-same segs n old new is slot) (used-same segs n old new is used) (live-same segs n old new is live) c
 
     pub live-enough : (k : ℕ) → live_in (Some old) ≡ live_in (Some new) + k → k ≤ slice_index (live_in_each segs) n
     live-enough k live = let e = live-is segs n ∙ ap live_in is in omega (arith, e, live)
@@ -162,12 +164,12 @@ pub live-unused : (h : SegmentState) → h.used ≡ 0 → live_in (Some h) ≡ 0
 live-unused h e = ap (λ u. live_bytes (objects h.piece.bytes u)) e
 
 -- the fields after an object died
-pub as-lost : (most : ℕ) (active : Option ℕ) (free al al' n k : ℕ) (table table' : List ℕ) (segs : List (Option SegmentState)) (b : Bool) → b ≡ is_active active n
+pub as-lost : (most : ℕ) (active : Option ℕ) (held free : List Bool) (al al' n k : ℕ) (table table' : List ℕ) (segs : List (Option SegmentState)) (b : Bool) → b ≡ is_active active n
     → al' ≡ cond b (al - k) al → table' ≡ cond b table (slice_set table n (slice_index table n - k))
-    → Fields most active free (cond (is_active active n) (al - k) al) (cond (is_active active n) table (slice_set table n (slice_index table n - k))) segs → Fields most active free al' table' segs
-as-lost most active free al al' n k table table' segs b is a t c =
-    subst (λ x. Fields most active free x table' segs) (sym a) (subst (λ x. Fields most active free (cond b (al - k) al) x segs) (sym t)
-    (subst (λ x. Fields most active free (cond x (al - k) al) (cond x table (slice_set table n (slice_index table n - k))) segs) (sym is) c))
+    → Fields most active held free (cond (is_active active n) (al - k) al) (cond (is_active active n) table (slice_set table n (slice_index table n - k))) segs → Fields most active held free al' table' segs
+as-lost most active held free al al' n k table table' segs b is a t c =
+    subst (λ x. Fields most active held free x table' segs) (sym a) (subst (λ x. Fields most active held free (cond b (al - k) al) x segs) (sym t)
+    (subst (λ x. Fields most active held free (cond x (al - k) al) (cond x table (slice_set table n (slice_index table n - k))) segs) (sym is) c))
 
 pub size-lost : (s : Option Standing) (n k : ℕ) (xs ys : List ℕ) → IfSome s (λ s. k ≡ size_of s.item) → xs ≡ plus n k ys → IfSome s (λ s. xs ≡ plus n (size_of s.item) ys)
 size-lost None n k xs ys h e = h
@@ -178,13 +180,13 @@ set-set [] n x y = refl
 set-set (z ∷ zs) zero x y = refl
 set-set (z ∷ zs) (suc n) x y = ap (λ l. z ∷ l) (set-set zs n x y)
 
-module _ (most : ℕ) (active : Option ℕ) (free al : ℕ) (table : List ℕ) (segs : List (Option SegmentState)) (c : Fields most active free al table segs) where
+module _ (most : ℕ) (active : Option ℕ) (held free : List Bool) (al : ℕ) (table : List ℕ) (segs : List (Option SegmentState)) (c : Fields most active held free al table segs) where
   slots-inside : (n : ℕ) → n < length segs → n < length (slots_of segs)
   slots-inside n inside = let l = length-map segs (λ s. option_map slot_of s) in omega (arith, inside, l)
 
   pub there-free : (n : ℕ) → is_free (slot_at (slots_of segs) n) ≡ true → (h : SegmentState) × (get_or segs n None ≡ Some h) × (h.free ≡ true)
   there-free n e =
-      let it = held-there most active free al table segs c n (free-held (slot_at (slots_of segs) n) e) in
+      let it = held-there most active held free al table segs c n (free-held (slot_at (slots_of segs) n) e) in
       (it.0, it.1, sym (ap is_free (slot-is segs n ∙ ap (λ s. option_map slot_of s) it.1)) ∙ e)
 
   module _ (n : ℕ) (old new : SegmentState) (is : get_or segs n None ≡ Some old) where
@@ -194,41 +196,39 @@ module _ (most : ℕ) (active : Option ℕ) (free al : ℕ) (table : List ℕ) (
     pub slots-set : slots_of (slice_set segs n (Some new)) ≡ slice_set (slots_of segs) n (Some (slot_of new))
     slots-set = map-set (λ s. option_map slot_of s) segs n (Some new)
 
-    pub activates-in : (free' : ℕ) → old.free ≡ true → slot_of new ≡ record (slot_of old) { free = false } → old.used ≡ 0 → new.used ≡ 0 → free' + 1 ≡ free
-        → (IsSome active → left_of (used_in_each segs) active < greatest_object) → Fields most (Some n) free' 0 (with_closed active al table) (slice_set segs n (Some new))
-    activates-in free' was slot before after counted full =
-        as-read most (Some n) free' 0 (with_closed active al table) _ _ _ _ _ _ slots-set (used-same segs n old new is (after ∙ sym before))
+    pub activates-in : old.free ≡ true → slot_of new ≡ record (slot_of old) { free = false } → old.used ≡ 0 → new.used ≡ 0
+        → (IsSome active → left_of (used_in_each segs) active < greatest_object) → Fields most (Some n) held (slice_set free n false) 0 (with_closed active al table) (slice_set segs n (Some new))
+    activates-in was slot before after full =
+        as-read most (Some n) held (slice_set free n false) 0 (with_closed active al table) _ _ _ _ _ _ slots-set (used-same segs n old new is (after ∙ sym before))
         (live-same segs n old new is (live-unused new after ∙ sym (live-unused old before)))
-        (activates most active free al table (slots_of segs) (used_in_each segs) (live_in_each segs) c n free' (slot_of new) (ap is_free slot-old ∙ was) (ap (λ (b : Slot). b.free) slot) counted full)
+        (activates most active held free al table (slots_of segs) (used_in_each segs) (live_in_each segs) c n (slot_of new) (ap is_free slot-old ∙ was) (ap (λ (b : Slot). b.free) slot) full)
 
-    pub frees-in : (free' : ℕ) → is_closed active (slots_of segs) n ≡ true → live_in (Some old) ≡ 0 → new.free ≡ true → new.used ≡ 0 → free' ≡ free + 1
-        → Fields most active free' al (slice_set table n not_closed) (slice_set segs n (Some new))
-    frees-in free' closed dead now unused counted =
-        as-read most active free' al (slice_set table n not_closed) _ _ _ _ _ _ slots-set (map-set used_in segs n (Some new) ∙ ap (slice_set (used_in_each segs) n) unused)
+    pub frees-in : is_closed active (slots_of segs) n ≡ true → live_in (Some old) ≡ 0 → new.free ≡ true → new.used ≡ 0
+        → Fields most active held (slice_set free n true) al (slice_set table n not_closed) (slice_set segs n (Some new))
+    frees-in closed dead now unused =
+        as-read most active held (slice_set free n true) al (slice_set table n not_closed) _ _ _ _ _ _ slots-set (map-set used_in segs n (Some new) ∙ ap (slice_set (used_in_each segs) n) unused)
         (live-same segs n old new is (live-unused new unused ∙ sym dead))
-        (frees most active free al table (slots_of segs) (used_in_each segs) (live_in_each segs) c n free' (slot_of new) closed (live-is segs n ∙ ap live_in is ∙ dead) now counted (used-long most active free al table segs c))
+        (frees most active held free al table (slots_of segs) (used_in_each segs) (live_in_each segs) c n (slot_of new) closed (live-is segs n ∙ ap live_in is ∙ dead) now (used-long most active held free al table segs c))
 
   -- a free segment is taken out
-  pub taken-in : (n free' : ℕ) (old : SegmentState) → get_or segs n None ≡ Some old → old.free ≡ true → old.used ≡ 0 → free' + 1 ≡ free → Fields most active free' al table (slice_set segs n None)
-  taken-in n free' old is was unused counted =
+  pub taken-in : (n : ℕ) (old : SegmentState) → get_or segs n None ≡ Some old → old.free ≡ true → old.used ≡ 0 → Fields most active (slice_set held n false) (slice_set free n false) al table (slice_set segs n None)
+  taken-in n old is was unused =
       let slot : slot_at (slots_of segs) n ≡ Some (slot_of old) = slot-is segs n ∙ ap (λ s. option_map slot_of s) is in
-      let one : counted-as (is_free (slot_at (slots_of segs) n)) ≡ 1 = ap counted-as (ap is_free slot ∙ was) in
-      as-read most active free' al table _ _ _ _ _ _ (map-set (λ s. option_map slot_of s) segs n None)
+      as-read most active (slice_set held n false) (slice_set free n false) al table _ _ _ _ _ _ (map-set (λ s. option_map slot_of s) segs n None)
       (map-set_same used_in segs n None None (sym unused ∙ sym (ap used_in is))) (map-set_same live_in segs n None None (sym (live-unused old unused) ∙ sym (ap live_in is)))
-      (reslotted most active free al table (slots_of segs) (used_in_each segs) (live_in_each segs) c n free' None (free-unbegun (slot_at (slots_of segs) n) (ap is_free slot ∙ was)) refl
-      (slots-inside n (within segs n old is)) (omega (arith, counted, one)))
+      (reslotted most active held free al table (slots_of segs) (used_in_each segs) (live_in_each segs) c n None (free-unbegun (slot_at (slots_of segs) n) (ap is_free slot ∙ was)) refl
+      (slots-inside n (within segs n old is)))
 
   -- a free segment is new
-  pub added-in : (n free' : ℕ) (new : SegmentState) → n < length segs → is_held (slot_at (slots_of segs) n) ≡ false → new.free ≡ true → new.used ≡ 0 → free' ≡ free + 1
-      → Fields most active free' al table (slice_set segs n (Some new))
-  added-in n free' new inside was now unused counted =
+  pub added-in : (n : ℕ) (new : SegmentState) → n < length segs → is_held (slot_at (slots_of segs) n) ≡ false → new.free ≡ true → new.used ≡ 0
+      → Fields most active (slice_set held n true) (slice_set free n true) al table (slice_set segs n (Some new))
+  added-in n new inside was now unused =
       let none = not-held (get_or segs n None) (sym (ap is_held (slot-is segs n)) ∙ was) in
       let slot : slot_at (slots_of segs) n ≡ None = slot-is segs n ∙ ap (λ s. option_map slot_of s) none in
-      let zero-free : counted-as (is_free (slot_at (slots_of segs) n)) ≡ 0 = ap counted-as (ap is_free slot) in
-      let one : counted-as (is_free (Some (slot_of new))) ≡ 1 = ap counted-as now in
-      as-read most active free' al table _ _ _ _ _ _ (map-set (λ s. option_map slot_of s) segs n (Some new))
+      as-read most active (slice_set held n true) (slice_set free n true) al table _ _ _ _ _ _ (map-set (λ s. option_map slot_of s) segs n (Some new))
       (map-set_same used_in segs n (Some new) None (unused ∙ sym (ap used_in none))) (map-set_same live_in segs n (Some new) None (live-unused new unused ∙ sym (ap live_in none)))
-      (reslotted most active free al table (slots_of segs) (used_in_each segs) (live_in_each segs) c n free' (Some (slot_of new)) (ap is_begun slot) (ap not now) (slots-inside n inside) (omega (arith, counted, one, zero-free)))
+      (subst (λ b. IsConsistent most active (slice_set held n true) (slice_set free n b) al table (slice_set (slots_of segs) n (Some (slot_of new))) (used_in_each segs) (live_in_each segs)) now
+      (reslotted most active held free al table (slots_of segs) (used_in_each segs) (live_in_each segs) c n (Some (slot_of new)) (ap is_begun slot) (ap not now) (slots-inside n inside)))
 
 -- the shape of a region, of whose segments one is another
 module _ (segs : List (Option SegmentState)) (n : ℕ) (old new : SegmentState) (is : get_or segs n None ≡ Some old) where
@@ -276,24 +276,51 @@ left-same used None n other = refl
 left-same used (Some m) n other =
     let far : m ≢ n = λ same. (let clash : false ≡ true = sym other ∙ eq-eqb n m (sym same) in cc) in ap (λ x. segment - x) (get_or-set_other used n m 0 0 far)
 
--- a segment more or less
-pub held-more : (slots : List (Option Slot)) (n : ℕ) (s : Option Slot) (k : ℕ) → n < length slots → counted-as (is_held s) ≡ counted-as (is_held (slot_at slots n)) + k → count_by is_held (slice_set slots n s) ≡ count_by is_held slots + k
-held-more slots n s k inside e =
-    let sums = sum_by-set (λ (x : Option Slot). cond (is_held x) 1 0) slots n s None inside in omega (arith, sums, e)
+-- the count of segments with another one at a number
+pub counted-set : (p : Option Slot → Bool) (slots : List (Option Slot)) (n : ℕ) (s : Option Slot) → n < length slots → count_by p (slice_set slots n s) + counted-as (p (slot_at slots n)) ≡ count_by p slots + counted-as (p s)
+counted-set p slots n s inside = sum_by-set (λ (x : Option Slot). cond (p x) 1 0) slots n s None inside
 
-pub held-less : (slots : List (Option Slot)) (n : ℕ) (b : Slot) → n < length slots → slot_at slots n ≡ Some b → count_by is_held (slice_set slots n None) + 1 ≡ count_by is_held slots
-held-less slots n b inside is =
-    let sums = sum_by-set (λ (x : Option Slot). cond (is_held x) 1 0) slots n None None inside in
-    let one : counted-as (is_held (slot_at slots n)) ≡ 1 = ap counted-as (ap is_held is) in omega (arith, sums, one)
+pub counted-change : (p : Option Slot → Bool) (segs : List (Option SegmentState)) (n : ℕ) (old new : Option SegmentState) → n < length segs → get_or segs n None ≡ old
+    → count_by p (slots_of (slice_set segs n new)) + counted-as (p (option_map slot_of old)) ≡ count_by p (slots_of segs) + counted-as (p (option_map slot_of new))
+counted-change p segs n old new inside is =
+    let l = length-map segs (λ s. option_map slot_of s) in
+    let there : p (slot_at (slots_of segs) n) ≡ p (option_map slot_of old) = ap p (slot-is segs n ∙ ap (λ s. option_map slot_of s) is) in
+    ap (λ k. count_by p k + counted-as (p (option_map slot_of old))) (map-set (λ s. option_map slot_of s) segs n new)
+    ∙ ap (λ b. count_by p (slice_set (slots_of segs) n (option_map slot_of new)) + counted-as b) (sym there) ∙ counted-set p (slots_of segs) n (option_map slot_of new) (omega (arith, inside, l))
+
+-- what the sets of numbers say of the segments
+module _ (segs : List (Option SegmentState)) (held free : List Bool) (held-is : held ≡ map is_held (slots_of segs)) (free-is : free ≡ map is_free (slots_of segs)) where
+  pub says-held : (n : ℕ) → has held n ≡ is_held (slot_at (slots_of segs) n)
+  says-held n = ap (λ h. has h n) held-is ∙ has-held (slots_of segs) n
+
+  pub says-free : (n : ℕ) → has free n ≡ is_free (slot_at (slots_of segs) n)
+  says-free n = ap (λ f. has f n) free-is ∙ has-free (slots_of segs) n
+
+  pub held-long : length held ≡ length segs
+  held-long = ap length held-is ∙ length-map (slots_of segs) is_held ∙ length-map segs (λ s. option_map slot_of s)
+
+  pub unheld-at : (n : ℕ) → has held n ≡ false → get_or segs n None ≡ None
+  unheld-at n e = not-held (get_or segs n None) (sym (ap is_held (slot-is segs n)) ∙ sym (says-held n) ∙ e)
+
+  pub held-in : (n : ℕ) → has held n ≡ true → n < length segs
+  held-in n e = let w = held-within (slots_of segs) n (sym (says-held n) ∙ e) in let l = length-map segs (λ s. option_map slot_of s) in omega (arith, w, l)
+
+  pub free-in : (n : ℕ) → has free n ≡ true → n < length segs
+  free-in n e =
+      let w = held-within (slots_of segs) n (free-held (slot_at (slots_of segs) n) (sym (says-free n) ∙ e)) in let l = length-map segs (λ s. option_map slot_of s) in omega (arith, w, l)
+
+  pub free-at : (n : ℕ) → has free n ≡ true → is_free (option_map slot_of (get_or segs n None)) ≡ true
+  free-at n e = sym (ap is_free (slot-is segs n)) ∙ sym (says-free n) ∙ e
+
+pub free-there : (s : Option SegmentState) → is_free (option_map slot_of s) ≡ true → IsSome s
+free-there None e = absurd (let clash : false ≡ true = e in cc)
+free-there (Some h) e = refl
 
 pub used-taken : (segs : List (Option SegmentState)) (n : ℕ) (old : SegmentState) → get_or segs n None ≡ Some old → old.used ≡ 0 → used_in_each (slice_set segs n None) ≡ used_in_each segs
 used-taken segs n old is unused = map-set_same used_in segs n None None (sym unused ∙ sym (ap used_in is))
 
 pub live-taken : (segs : List (Option SegmentState)) (n : ℕ) (old : SegmentState) → get_or segs n None ≡ Some old → old.used ≡ 0 → live_in_each (slice_set segs n None) ≡ live_in_each segs
 live-taken segs n old is unused = map-set_same live_in segs n None None (sym (live-unused old unused) ∙ sym (ap live_in is))
-
-pub counted-next : (p : Option Slot → Bool) (s : Option Slot) (ss : List (Option Slot)) → count_by p (s ∷ ss) ≡ counted-as (p s) + count_by p ss
-counted-next p s ss = sum_by-cons (λ x. cond (p x) 1 0) s ss
 
 pub live-none : (s : Option SegmentState) → used_in s ≡ 0 → live_in s ≡ 0
 live-none None e = refl
@@ -312,11 +339,12 @@ in-replicate (suc most) (suc m) x w = in-replicate most m x (omega (arith, w))
 
 -- fields that say that nothing is begun
 pub nothing-begun : (most : ℕ) (segs : List (Option SegmentState)) → most ≤ 2048 → length segs ≡ most → ((m : ℕ) → (used_in (get_or segs m None) ≡ 0) × (is_begun (option_map slot_of (get_or segs m None)) ≡ false))
-    → Fields most None (count_by is_free (slots_of segs)) 0 (replicate most not_closed) segs
+    → Fields most None (map is_held (slots_of segs)) (map is_free (slots_of segs)) 0 (replicate most not_closed) segs
 nothing-begun most segs few long unbegun =
     let shut : (m : ℕ) → is_closed None (slots_of segs) m ≡ false = λ m. unbegun-open None (slots_of segs) m (ap is_begun (slot-is segs m) ∙ (unbegun m).1) in record {
       long = length-map segs (λ s. option_map slot_of s) ∙ long;
       few = few;
+      held = refl;
       free = refl;
       active = λ m e. absurd (let clash : None ≡ Some m = e in cc);
       empty = λ m e. (used-is segs m ∙ (unbegun m).0, live-is segs m ∙ live-none (get_or segs m None) (unbegun m).0);
@@ -326,13 +354,16 @@ nothing-begun most segs few long unbegun =
       active_live = λ m e. absurd (let clash : None ≡ Some m = e in cc);
     }
 
-pub new-fields : (most : ℕ) → most ≤ 2048 → Fields most None 0 0 (replicate most not_closed) (replicate most None)
+none-in : (p : Option Slot → Bool) (most : ℕ) → p None ≡ false → map p (slots_of (replicate most None)) ≡ replicate most false
+none-in p zero e = refl
+none-in p (suc most) e = ap (λ b. b ∷ map p (slots_of (replicate most None))) e ∙ ap (λ l. false ∷ l) (none-in p most e)
+
+pub new-fields : (most : ℕ) → most ≤ 2048 → Fields most None (replicate most false) (replicate most false) 0 (replicate most not_closed) (replicate most None)
 new-fields most few =
     let segs : List (Option SegmentState) = replicate most None in
-    let none : count_by is_free (slots_of segs) ≡ 0 =
-    tables.count-none is_free (slots_of segs) None (λ m w. ap is_free (slot-is segs m ∙ ap (λ s. option_map slot_of s) (none-there most m))) in
-    subst (λ k. Fields most None k 0 (replicate most not_closed) segs) none
-    (nothing-begun most segs few (length-replicate most None) (λ m. (ap used_in (none-there most m), ap (λ s. is_begun (option_map slot_of s)) (none-there most m))))
+    subst (λ h. Fields most None h (replicate most false) 0 (replicate most not_closed) segs) (none-in is_held most refl)
+    (subst (λ f. Fields most None (map is_held (slots_of segs)) f 0 (replicate most not_closed) segs) (none-in is_free most refl)
+    (nothing-begun most segs few (length-replicate most None) (λ m. (ap used_in (none-there most m), ap (λ s. is_begun (option_map slot_of s)) (none-there most m)))))
 
 pub emptied-used : (s : Option SegmentState) → used_in (option_map emptied s) ≡ 0
 emptied-used None = refl
@@ -341,11 +372,6 @@ emptied-used (Some h) = refl
 pub emptied-unbegun : (s : Option SegmentState) → is_begun (option_map slot_of (option_map emptied s)) ≡ false
 emptied-unbegun None = refl
 emptied-unbegun (Some h) = refl
-
-pub free-some : (slots : List (Option Slot)) (n : ℕ) → is_free (slot_at slots n) ≡ true → n < length slots → 1 ≤ count_by is_free slots
-free-some slots n e inside =
-    let one : counted-as (is_free (slot_at slots n)) ≡ 1 = ap counted-as e in
-    let low = get_or-le-sum_by (λ (x : Option Slot). cond (is_free x) 1 0) slots n None inside in omega (arith, one, low)
 
 -- the content of a live object
 pub live-content : (s : Option Standing) (xs : List ℕ) → option_map (λ t. t.item.content) s ≡ Some xs → IfSome (item_if_live s) (λ i. i.content ≡ xs)
@@ -373,9 +399,9 @@ sparse-open : (b : Bool) (live : ℕ) → is_sparse (cond b live not_closed) ≡
 sparse-open true live e = (refl, leb-true live dense e)
 sparse-open false live e = absurd (let clash : false ≡ true = e in cc)
 
-pub sparse-closed : (most : ℕ) (active : Option ℕ) (free al : ℕ) (table : List ℕ) (segs : List (Option SegmentState)) → Fields most active free al table segs → count_by is_sparse table ≢ 0
+pub sparse-closed : (most : ℕ) (active : Option ℕ) (held free : List Bool) (al : ℕ) (table : List ℕ) (segs : List (Option SegmentState)) → Fields most active held free al table segs → count_by is_sparse table ≢ 0
     → (n : ℕ) × (is_closed active (slots_of segs) n ≡ true) × (slice_index (live_in_each segs) n ≤ dense)
-sparse-closed most active free al table segs c more =
+sparse-closed most active held free al table segs c more =
     let f = some-counted is_sparse table more in let l = c.tabled in
     let it = sparse-open (is_closed active (slots_of segs) f.0) (slice_index (live_in_each segs) f.0) (sym (ap is_sparse (c.table f.0 (let w = f.1 in omega (arith, w, l)))) ∙ f.2) in
     (f.0, it.0, it.1)

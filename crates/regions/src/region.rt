@@ -15,11 +15,9 @@ mod reading;
 use crate::live_table::{LiveTable, NOT_CLOSED};
 use crate::place::{NeedSegment, Place};
 use crate::segment::Segment;
-use crate::slots::{
-    clear, clear_all, count_free, greatest_free, greatest_held, is_begun, least_free, least_unused,
-    piece_of, segment_in, segment_mut,
-};
+use crate::slots::{clear, clear_all, is_begun, piece_of, segment_in, segment_mut};
 use layout::SEGMENT;
+use number_set::NumberSet;
 use raw_range::Piece;
 use std::alloc::{AllocError, Global};
 use std::marker::Model;
@@ -32,7 +30,8 @@ pub struct Region {
     guards: u32,
     active: Option<u32>,
     active_live: u32,
-    free: u32,
+    held: NumberSet,
+    free: NumberSet,
     table: LiveTable,
     slots: Vec<Option<Segment>>,
 }
@@ -49,7 +48,7 @@ impl Model for Region {
 
     ghost view = { λ r. record { most = r.most; guards = r.guards; active = r.active; segments = r.slots.items } };
 
-    ghost invariant = { λ r. IsConsistent r.most r.active r.free r.active_live r.table (slots_of r.slots.items) (used_in_each r.slots.items) (live_in_each r.slots.items) };
+    ghost invariant = { λ r. IsConsistent r.most r.active r.held r.free r.active_live r.table (slots_of r.slots.items) (used_in_each r.slots.items) (live_in_each r.slots.items) };
 }
 
 impl Region {
@@ -70,7 +69,8 @@ impl Region {
             guards: 0,
             active: None,
             active_live: 0,
-            free: 0,
+            held: NumberSet::new(alloc, most)?,
+            free: NumberSet::new(alloc, most)?,
             table: LiveTable::new(alloc, most)?,
             slots,
         })
@@ -87,9 +87,12 @@ impl Region {
         ensures counts { (used_counts self.new ≡ used_counts self.old) × (live_counts self.new ≡ live_counts self.old) }
         ensures live_total { live_total self.new ≡ live_total self.old }
     {
-        let number = least_unused(&self.slots);
-        self.slots[number] = Some(Segment::new(piece));
-        self.free += 1;
+        let Some(number) = self.held.least_absent() else {
+            unreachable!()
+        };
+        self.slots[number as usize] = Some(Segment::new(piece));
+        self.held.insert(number);
+        self.free.insert(number);
     }
 
     /// Takes the free segment with the greatest number out. None where at most one segment is free.
@@ -103,12 +106,15 @@ impl Region {
         ensures counts { (used_counts self.new ≡ used_counts self.old) × (live_counts self.new ≡ live_counts self.old) }
         ensures live_total { live_total self.new ≡ live_total self.old }
     {
-        if self.free <= 1 {
+        if self.free.len() <= 1 {
             return None;
         }
-        let number = greatest_free(&self.slots);
-        let taken = mem::replace(&mut self.slots[number], None);
-        self.free -= 1;
+        let Some(number) = self.free.greatest() else {
+            unreachable!()
+        };
+        let taken = mem::replace(&mut self.slots[number as usize], None);
+        self.held.remove(number);
+        self.free.remove(number);
         Some(piece_of(taken))
     }
 
@@ -127,10 +133,12 @@ impl Region {
         ensures live_total { live_total self.new ≡ live_total self.old }
     {
         close(&mut self.table, self.active, self.active_live);
-        let number = least_free(&self.slots);
-        segment_mut(&mut self.slots[number]).begin();
-        self.free -= 1;
-        self.active = Some(number as u32);
+        let Some(number) = self.free.least() else {
+            unreachable!()
+        };
+        segment_mut(&mut self.slots[number as usize]).begin();
+        self.free.remove(number);
+        self.active = Some(number);
         self.active_live = 0;
     }
 
@@ -247,11 +255,12 @@ impl Region {
         ensures live { live_counts self.new ≡ replicate (shape self.old).most 0 }
         ensures live_total { live_total self.new ≡ 0 }
     {
-        let greatest = greatest_held(&self.slots);
+        let greatest = self.held.greatest();
         self.empty();
         let number = greatest?;
-        let taken = mem::replace(&mut self.slots[number], None);
-        self.free -= 1;
+        let taken = mem::replace(&mut self.slots[number as usize], None);
+        self.held.remove(number);
+        self.free.remove(number);
         Some(piece_of(taken))
     }
 
@@ -262,7 +271,7 @@ impl Region {
         self.active_live = 0;
         clear_all(&mut self.slots);
         self.table.clear();
-        self.free = count_free(&self.slots);
+        self.free.copy_from(&self.held);
     }
 }
 

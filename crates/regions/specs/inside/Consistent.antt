@@ -1,8 +1,7 @@
 -- What holds of the fields of a region.
-use Rattle.std.specs.Prelude.{◌≡◌, ℕ, ◌<◌, ◌≤◌, Bool, true, false, cond, nat_le, List, length, Option, None, Some, slice_index, slice_set}
-use Rattle.std.specs.List.{count_by}
+use Rattle.std.specs.Prelude.{◌≡◌, ℕ, ◌<◌, ◌≤◌, Bool, true, false, cond, nat_le, List, length, Option, None, Some, slice_index, slice_set, map}
 use Rattle.layout.specs.Sizes.{dense}
-use Rattle.regions.specs.Shapes.{Slot, slot_at, is_free, is_begun, is_closed}
+use Rattle.regions.specs.Shapes.{Slot, slot_at, is_held, is_free, is_begun, is_closed}
 
 -- what the table of live bytes has for a segment that is not closed
 abbrev pub not_closed : ℕ
@@ -21,10 +20,11 @@ with_closed (Some n) live table = slice_set table n live
 abbrev pub is_sparse : ℕ → Bool
 is_sparse live = nat_le live dense
 
-pub record IsConsistent (most : ℕ) (now_active : Option ℕ) (now_free now_live : ℕ) (entries : List ℕ) (slots : List (Option Slot)) (used live : List ℕ) : Type 0 where
+pub record IsConsistent (most : ℕ) (now_active : Option ℕ) (now_held now_free : List Bool) (now_live : ℕ) (entries : List ℕ) (slots : List (Option Slot)) (used live : List ℕ) : Type 0 where
   pub long : length slots ≡ most
   pub few : most ≤ 2048
-  pub free : now_free ≡ count_by is_free slots
+  pub held : now_held ≡ map is_held slots
+  pub free : now_free ≡ map is_free slots
   pub active : (n : ℕ) → now_active ≡ Some n → is_begun (slot_at slots n) ≡ true
   pub empty : (n : ℕ) → is_begun (slot_at slots n) ≡ false → (slice_index used n ≡ 0) × (slice_index live n ≡ 0)
   pub full : (n : ℕ) → is_closed now_active slots n ≡ true → dense < slice_index used n

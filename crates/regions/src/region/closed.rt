@@ -1,5 +1,5 @@
 //! What compaction reads of closed segments, and how one becomes free.
-ghost use Rattle.std.specs.Prelude.{◌≡◌, ◌≢◌, ◌⊎◌, ℕ, ◌+◌, ◌-◌, ◌<◌, ◌≤◌, length, slice_index, Some, None, option_map, slice_set, IfSome, IsNone};
+ghost use Rattle.std.specs.Prelude.{◌≡◌, ◌≢◌, ◌⊎◌, ℕ, ◌+◌, ◌-◌, ◌<◌, ◌≤◌, length, slice_index, true, Some, None, option_map, slice_set, IfSome, IsNone};
 ghost use Rattle.regions.specs.declared.place.Place.{Place};
 ghost use Rattle.layout.specs.Sizes as sizes;
 ghost use Rattle.object_log.specs.Objects.{IsSize, IsSegment};
@@ -12,6 +12,7 @@ ghost use Rattle.regions.specs.inside.Consistent.{not_closed};
 use super::Region;
 use crate::live_table::{LiveTable, NOT_CLOSED};
 use crate::slots::{clear, is_begun, segment_in};
+use number_set::NumberSet;
 
 impl Region {
     /// Whether a closed segment has the number.
@@ -112,12 +113,12 @@ impl Region {
 }
 
 // A closed segment is free from now on.
-fn unclose(table: &mut LiveTable, free: &mut u32, number: u32)
-    requires inside { number < length table.old }
-    requires few { free.old ≤ 2048 }
+fn unclose(table: &mut LiveTable, free: &mut NumberSet, number: u32)
+    requires table { number < length table.old }
+    requires free { number < length free.old }
     ensures table { table.new ≡ slice_set table.old number not_closed }
-    ensures free { free.new ≡ free.old + 1 }
+    ensures free { free.new ≡ slice_set free.old number true }
 {
     table.set(number, NOT_CLOSED);
-    *free += 1;
+    free.insert(number);
 }

@@ -38,7 +38,7 @@ impl Region {
     pub fn free_segments(&self) -> u32
         ensures { result ≡ free_count self.now }
     {
-        self.free
+        self.free.len()
     }
 
     /// The bytes that the active segment has left, or 0 where there is none.

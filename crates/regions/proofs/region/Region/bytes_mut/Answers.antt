@@ -17,7 +17,7 @@ invariant_of-self-lent c ws =
     let alive : IsSome (item_if_live (standing_in (get_or slots n None) at)) = subst (λ r. IsSome (live_at r c.args.place)) (sym c.self.view_is) c.requires in
     let inside = live-within slots n at alive in
     let is = found-there slots n c.index_mut.result.now h inside c.index_mut.ensures.value c.segment_mut.ensures.value in
-    kept-in i.most i.active i.free i.active_live i.table slots c.self.invariant n h (segment_with at ws h) is (e.slot ws) refl (e.live ws)
+    kept-in i.most i.active i.held i.free i.active_live i.table slots c.self.invariant n h (segment_with at ws h) is (e.slot ws) refl (e.live ws)
 
 pub returns : goal.returns
 unfolding with_content

@@ -21,8 +21,8 @@ invariant_of-self c =
     let inside = live-within slots n at alive in
     let is : get_or slots n None ≡ Some h = tables.slot-is slots n c.index_mut.result.now None inside c.index_mut.ensures.value ∙ sym c.replace-target.ensures.value ∙ c.segment_mut.ensures.value in
     let left-as : slice_set (slice_set slots n c.replace-target.new.dest) n (Some (segment_with at ws h)) ≡ slice_set slots n (Some (segment_with at ws h)) = set-set slots n c.replace-target.new.dest (Some (segment_with at ws h)) in
-    subst (λ s. IsConsistent i.most i.active i.free i.active_live i.table (slots_of s) (used_in_each s) (live_in_each s)) (sym left-as)
-    (kept-in i.most i.active i.free i.active_live i.table slots c.self.invariant n h (segment_with at ws h) is (e.slot ws) refl (e.live ws))
+    subst (λ s. IsConsistent i.most i.active i.held i.free i.active_live i.table (slots_of s) (used_in_each s) (live_in_each s)) (sym left-as)
+    (kept-in i.most i.active i.held i.free i.active_live i.table slots c.self.invariant n h (segment_with at ws h) is (e.slot ws) refl (e.live ws))
 
 pub returns-clause-used : goal.returns-clause-used
 returns-clause-used c =

@@ -16,25 +16,25 @@ lose-requires-clause-active c =
     let i = c.self.inside in let slots = i.slots.items in let n = c.args.place.segment in let at = c.args.place.at in let e = c.kill-size.ensures in
     let alive : IsSome (item_if_live (standing_in (get_or slots n None) at)) = subst (λ r. IsSome (live_at r c.args.place)) (sym c.self.view_is) c.requires in
     let is = found-there slots n c.index_mut.result.now c.segment_mut.result.now (live-within slots n at alive) c.index_mut.ensures.value c.segment_mut.ensures.value in
-    λ like. enough-active i.most i.active i.free i.active_live i.table _ _ (live_in_each slots) c.self.invariant n c.kill-size.result
-    (live-enough i.most i.active i.free i.active_live i.table slots c.self.invariant n c.segment_mut.result.now c.kill-size.new.self is c.kill-size.result e.live) (sym c.is_active-active.ensures ∙ like)
+    λ like. enough-active i.most i.active i.held i.free i.active_live i.table _ _ (live_in_each slots) c.self.invariant n c.kill-size.result
+    (live-enough i.most i.active i.held i.free i.active_live i.table slots c.self.invariant n c.segment_mut.result.now c.kill-size.new.self is c.kill-size.result e.live) (sym c.is_active-active.ensures ∙ like)
 
 pub lose-requires-clause-closed : goal.lose-requires-clause-closed
 lose-requires-clause-closed c =
     let i = c.self.inside in let slots = i.slots.items in let n = c.args.place.segment in let at = c.args.place.at in let e = c.kill-size.ensures in
     let alive : IsSome (item_if_live (standing_in (get_or slots n None) at)) = subst (λ r. IsSome (live_at r c.args.place)) (sym c.self.view_is) c.requires in
     let is = found-there slots n c.index_mut.result.now c.segment_mut.result.now (live-within slots n at alive) c.index_mut.ensures.value c.segment_mut.ensures.value in
-    λ unlike. enough-closed i.most i.active i.free i.active_live i.table _ _ (live_in_each slots) c.self.invariant n c.kill-size.result
-    (live-enough i.most i.active i.free i.active_live i.table slots c.self.invariant n c.segment_mut.result.now c.kill-size.new.self is c.kill-size.result e.live)
-    (begun-there i.most i.active i.free i.active_live i.table slots c.self.invariant n c.segment_mut.result.now c.kill-size.new.self is e.begun) (sym c.is_active-active.ensures ∙ unlike)
+    λ unlike. enough-closed i.most i.active i.held i.free i.active_live i.table _ _ (live_in_each slots) c.self.invariant n c.kill-size.result
+    (live-enough i.most i.active i.held i.free i.active_live i.table slots c.self.invariant n c.segment_mut.result.now c.kill-size.new.self is c.kill-size.result e.live)
+    (begun-there i.most i.active i.held i.free i.active_live i.table slots c.self.invariant n c.segment_mut.result.now c.kill-size.new.self is e.begun) (sym c.is_active-active.ensures ∙ unlike)
 
 pub invariant_of-self : goal.invariant_of-self
 invariant_of-self c =
     let i = c.self.inside in let slots = i.slots.items in let n = c.args.place.segment in let at = c.args.place.at in let e = c.kill-size.ensures in
     let alive : IsSome (item_if_live (standing_in (get_or slots n None) at)) = subst (λ r. IsSome (live_at r c.args.place)) (sym c.self.view_is) c.requires in
     let is = found-there slots n c.index_mut.result.now c.segment_mut.result.now (live-within slots n at alive) c.index_mut.ensures.value c.segment_mut.ensures.value in
-    as-lost i.most i.active i.free i.active_live c.lose.new.active_live n c.kill-size.result i.table c.lose.new.table _ c.is_active-active.result c.is_active-active.ensures c.lose.ensures.active c.lose.ensures.closed
-    (killed-in i.most i.active i.free i.active_live i.table slots c.self.invariant n c.segment_mut.result.now c.kill-size.new.self is c.kill-size.result e.begun e.slot e.used e.live)
+    as-lost i.most i.active i.held i.free i.active_live c.lose.new.active_live n c.kill-size.result i.table c.lose.new.table _ c.is_active-active.result c.is_active-active.ensures c.lose.ensures.active c.lose.ensures.closed
+    (killed-in i.most i.active i.held i.free i.active_live i.table slots c.self.invariant n c.segment_mut.result.now c.kill-size.new.self is c.kill-size.result e.begun e.slot e.used e.live)
 
 pub returns-clause-killed : goal.returns-clause-killed
 returns-clause-killed c =

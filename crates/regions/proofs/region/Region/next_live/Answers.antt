@@ -15,7 +15,7 @@ pub returns-clause-skipped : goal.returns-clause-skipped
 returns-clause-skipped c =
     let i = c.self.inside in let slots = i.slots.items in let n = c.args.segment in
     let shut : is_closed i.active (slots_of slots) n ≡ true = subst (λ q. IsClosed q n) (sym c.self.view_is) c.requires.closed in
-    let inside = begun-within i.most i.active i.free i.active_live i.table slots c.self.invariant n (closed-begun i.active (slots_of slots) n shut).0 in
+    let inside = begun-within i.most i.active i.held i.free i.active_live i.table slots c.self.invariant n (closed-begun i.active (slots_of slots) n shut).0 in
     let is : get_or slots n None ≡ Some c.segment_in.result.now = tables.slot-is slots n c.index.result.now None inside c.index.ensures ∙ c.segment_in.ensures in
     subst (λ q. IfSome c.next_live.result (λ f. (c.args.from ≤ f.0) × NoneLives q n c.args.from f.0)) c.self.view_is
     (subst (λ s. IfSome c.next_live.result (λ f. (c.args.from ≤ f.0) × none_lives_in s c.args.from f.0)) (sym is) c.next_live.ensures.skipped)
@@ -24,7 +24,7 @@ pub returns-clause-within : goal.returns-clause-within
 returns-clause-within c =
     let i = c.self.inside in let slots = i.slots.items in let n = c.args.segment in
     let shut : is_closed i.active (slots_of slots) n ≡ true = subst (λ q. IsClosed q n) (sym c.self.view_is) c.requires.closed in
-    let inside = begun-within i.most i.active i.free i.active_live i.table slots c.self.invariant n (closed-begun i.active (slots_of slots) n shut).0 in
+    let inside = begun-within i.most i.active i.held i.free i.active_live i.table slots c.self.invariant n (closed-begun i.active (slots_of slots) n shut).0 in
     let is : get_or slots n None ≡ Some c.segment_in.result.now = tables.slot-is slots n c.index.result.now None inside c.index.ensures ∙ c.segment_in.ensures in
     subst (λ q. IfSome c.next_live.result (λ f. f.0 + f.2 ≤ used_at q n)) c.self.view_is
     (subst (λ u. IfSome c.next_live.result (λ f. f.0 + f.2 ≤ u)) (sym (used-is slots n))
@@ -34,7 +34,7 @@ pub returns-clause-next : goal.returns-clause-next
 returns-clause-next c =
     let i = c.self.inside in let slots = i.slots.items in let n = c.args.segment in
     let shut : is_closed i.active (slots_of slots) n ≡ true = subst (λ q. IsClosed q n) (sym c.self.view_is) c.requires.closed in
-    let inside = begun-within i.most i.active i.free i.active_live i.table slots c.self.invariant n (closed-begun i.active (slots_of slots) n shut).0 in
+    let inside = begun-within i.most i.active i.held i.free i.active_live i.table slots c.self.invariant n (closed-begun i.active (slots_of slots) n shut).0 in
     let is : get_or slots n None ≡ Some c.segment_in.result.now = tables.slot-is slots n c.index.result.now None inside c.index.ensures ∙ c.segment_in.ensures in
     subst (λ q. IfSome c.next_live.result (λ f. IsStart q n (f.0 + f.2))) c.self.view_is
     (subst (λ u. IfSome c.next_live.result (λ f. IsSome (standing_in (get_or slots n None) (f.0 + f.2)) ⊎ (f.0 + f.2 ≡ u))) (sym (used-is slots n))
@@ -44,7 +44,7 @@ pub returns-clause-between : goal.returns-clause-between
 returns-clause-between c =
     let i = c.self.inside in let slots = i.slots.items in let n = c.args.segment in
     let shut : is_closed i.active (slots_of slots) n ≡ true = subst (λ q. IsClosed q n) (sym c.self.view_is) c.requires.closed in
-    let inside = begun-within i.most i.active i.free i.active_live i.table slots c.self.invariant n (closed-begun i.active (slots_of slots) n shut).0 in
+    let inside = begun-within i.most i.active i.held i.free i.active_live i.table slots c.self.invariant n (closed-begun i.active (slots_of slots) n shut).0 in
     let is : get_or slots n None ≡ Some c.segment_in.result.now = tables.slot-is slots n c.index.result.now None inside c.index.ensures ∙ c.segment_in.ensures in
     subst (λ q. IfSome c.next_live.result (λ f. (a : ℕ) → f.0 < a → a < f.0 + f.2 → standing_at q (let p : Place = record { segment = n; at = a } in p) ≡ None)) c.self.view_is
     (subst (λ s. IfSome c.next_live.result (λ f. (a : ℕ) → f.0 < a → a < f.0 + f.2 → standing_in s a ≡ None)) (sym is) c.next_live.ensures.between)

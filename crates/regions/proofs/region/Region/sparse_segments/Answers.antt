@@ -9,4 +9,4 @@ pub returns-clause-some : goal.returns-clause-some
 returns-clause-some c more =
     let i = c.self.inside in let slots = i.slots.items in
     subst (λ q. (x : ℕ) × IsClosed q x × (live_bytes_at q x ≤ dense)) c.self.view_is
-    (sparse-closed i.most i.active i.free i.active_live i.table slots c.self.invariant (λ e. more (c.sparse.ensures ∙ e)))
+    (sparse-closed i.most i.active i.held i.free i.active_live i.table slots c.self.invariant (λ e. more (c.sparse.ensures ∙ e)))

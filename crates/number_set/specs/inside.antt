@@ -1,0 +1,2 @@
+-- What only the private parts of a set cite.
+pub mod Words
