@@ -53,7 +53,7 @@ pub returns-clause-counted : goal.returns-clause-counted
 returns-clause-counted c =
     let i = c.self.inside in let slots = i.slots.items in let n = c.args.segment in
     let shut : is_closed i.active (slots_of slots) n ≡ true = subst (λ q. IsClosed q n) (sym c.self.view_is) c.requires.closed in
-    let inside = begun-within i.most i.active i.free i.active_live i.table slots c.self.invariant n (closed-begun i.active (slots_of slots) n shut).0 in
+    let inside = begun-within i.most i.active i.held i.free i.active_live i.table slots c.self.invariant n (closed-begun i.active (slots_of slots) n shut).0 in
     let is : get_or slots n None ≡ Some c.segment_in.result.now = tables.slot-is slots n c.index.result.now None inside c.index.ensures ∙ c.segment_in.ensures in
     subst (λ q. IfSome c.next_live.result (λ f. f.2 ≤ live_bytes_at q n)) c.self.view_is
     (subst (λ u. IfSome c.next_live.result (λ f. f.2 ≤ u)) (sym (live-is slots n))
@@ -63,7 +63,7 @@ pub returns-clause-dead : goal.returns-clause-dead
 returns-clause-dead c =
     let i = c.self.inside in let slots = i.slots.items in let n = c.args.segment in
     let shut : is_closed i.active (slots_of slots) n ≡ true = subst (λ q. IsClosed q n) (sym c.self.view_is) c.requires.closed in
-    let inside = begun-within i.most i.active i.free i.active_live i.table slots c.self.invariant n (closed-begun i.active (slots_of slots) n shut).0 in
+    let inside = begun-within i.most i.active i.held i.free i.active_live i.table slots c.self.invariant n (closed-begun i.active (slots_of slots) n shut).0 in
     let is : get_or slots n None ≡ Some c.segment_in.result.now = tables.slot-is slots n c.index.result.now None inside c.index.ensures ∙ c.segment_in.ensures in
     subst (λ q. IsNone c.next_live.result → NoneLives q n 0 c.args.from → live_bytes_at q n ≡ 0) c.self.view_is
     (subst (λ u. IsNone c.next_live.result → none_lives_in (get_or slots n None) 0 c.args.from → u ≡ 0) (sym (live-is slots n))
