@@ -8,11 +8,10 @@ use std::alloc::{AllocError, Global};
 /// How many digits the number in a key has.
 const DIGITS: u32 = 7;
 
-/// The keys of rows: where each begins.
+/// The keys of rows, one behind another.
 #[derive(Drop)]
 pub struct Arena {
     pub width: u32,
-    pub starts: Vec<u32>,
     pub bytes: Vec<u8>,
 }
 
@@ -24,7 +23,7 @@ impl Keys for Arena {
     ghost key_of = { λ arena row. key_of arena row };
 
     fn key(&self, row: u32) -> &[u8] {
-        let start = self.starts[row as usize] as usize;
+        let start = row as usize * self.width as usize;
         &self.bytes[start..start + self.width as usize]
     }
 }
@@ -36,10 +35,8 @@ impl Arena {
     pub fn has_key(&self, row: u32) -> bool
         ensures { result ≡ true → has_row self.now row }
     {
-        if row as usize >= self.starts.len() {
-            return false;
-        }
-        self.starts[row as usize] as usize + self.width as usize <= self.bytes.len()
+        let start = row as usize * self.width as usize;
+        start <= self.bytes.len() && self.width as usize <= self.bytes.len() - start
     }
 }
 
@@ -63,15 +60,9 @@ fn push_key(bytes: &mut Vec<u8>, kind: Kind, row: u32, rows: u32) -> Result<(), 
 /// The keys of so many rows.
 pub fn fill_arena(alloc: Global, kind: Kind, rows: u32) -> Result<Arena, AllocError> {
     let mut bytes = Vec::new(alloc);
-    let mut starts = Vec::new(alloc);
     for row in 0..rows {
-        starts.push(u32::try_from(bytes.len()).unwrap_or(u32::MAX))?;
         push_key(&mut bytes, kind, row, rows)?;
     }
     let width = kind.prefix_len() + DIGITS;
-    Ok(Arena {
-        width,
-        starts,
-        bytes,
-    })
+    Ok(Arena { width, bytes })
 }

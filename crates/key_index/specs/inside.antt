@@ -2,3 +2,4 @@ pub mod Blocks
 pub mod Dense
 pub mod Shared
 pub mod Kept
+pub mod Sought

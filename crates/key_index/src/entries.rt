@@ -2,6 +2,7 @@
 ghost use Rattle.std.specs.Prelude.{◌≡◌, ◌≢◌, ℕ, ◌<◌, ◌≤◌, List, length, take, drop, map, true, false, vec_len, vec_capacity, All};
 ghost use Rattle.key_index.specs.Order.{key_cmp};
 ghost use Rattle.key_index.specs.Lead.{rows_of, AreBytes, IsLed};
+ghost use Rattle.key_index.specs.inside.Sought.{IsSought};
 ghost use Rattle.key_index.specs.inside.Shared.{Share};
 
 use crate::keys::Keys;
@@ -41,26 +42,60 @@ pub(crate) fn entry_of<K: Keys>(keys: &K, row: u32, skip: u32) -> Entry
     Entry { lead, row, skip }
 }
 
+/// Eight bytes of a key that is sought, behind so many: they are read once for all entries that skip as many.
+#[derive(Clone, Copy)]
+pub(crate) struct Sought {
+    pub(crate) lead: u64,
+    pub(crate) skip: u32,
+}
+
+/// The bytes of a key behind so many, or its first where it has fewer.
+pub(crate) fn sought_behind(key: &[u8], skip: u32) -> Sought
+    ensures { IsSought key.now result }
+{
+    let skip = if skip as usize <= key.len() { skip } else { 0 };
+    let lead = lead_behind(key, skip as usize);
+    Sought { lead, skip }
+}
+
+/// The bytes of a key behind so many, which are not read again where they were sought before.
+#[inline(always)]
+pub(crate) fn sought_as(key: &[u8], before: Sought, skip: u32) -> Sought
+    requires { IsSought key.now before }
+    ensures { IsSought key.now result }
+{
+    if before.skip == skip {
+        return before;
+    }
+    sought_behind(key, skip)
+}
+
 /// How the key of an entry compares with a key with which it shares so many bytes. The key in memory is read only where
-/// the entry skips more, or where the leads agree.
-pub(crate) fn compare<K: Keys>(keys: &K, entry: Entry, key: &[u8], shared: usize) -> Compared
+/// the entry skips more or other bytes than are sought, or where the leads agree.
+#[inline(always)]
+pub(crate) fn compare<K: Keys>(
+    keys: &K,
+    entry: Entry,
+    key: &[u8],
+    shared: usize,
+    sought: Sought,
+) -> Compared
     requires readable { K.has_row keys.now entry.row }
     requires bytes { AreBytes (K.key_of keys.now entry.row) }
     requires led { IsLed (K.key_of keys.now) entry }
     requires shared { Share shared (K.key_of keys.now entry.row) key.now }
+    requires sought { IsSought key.now sought }
     ensures order { result.order ≡ key_cmp (K.key_of keys.now entry.row) key.now }
     ensures shared { Share result.shared (K.key_of keys.now entry.row) key.now }
 {
-    let skip = entry.skip as usize;
-    if skip <= shared {
-        let lead = lead_behind(key, skip);
-        if entry.lead < lead {
+    if entry.skip == sought.skip && sought.skip as usize <= shared {
+        if entry.lead < sought.lead {
             return Compared {
                 order: Ordering::Less,
                 shared,
             };
         }
-        if entry.lead > lead {
+        if entry.lead > sought.lead {
             return Compared {
                 order: Ordering::Greater,
                 shared,
@@ -68,6 +103,15 @@ pub(crate) fn compare<K: Keys>(keys: &K, entry: Entry, key: &[u8], shared: usize
         }
     }
     compare_from(keys.key(entry.row), key, shared)
+}
+
+/// How the key of an entry compares with a key, and how many first bytes they share.
+pub(crate) fn compare_keys<K: Keys>(keys: &K, entry: Entry, key: &[u8]) -> Compared
+    requires readable { K.has_row keys.now entry.row }
+    ensures order { result.order ≡ key_cmp (K.key_of keys.now entry.row) key.now }
+    ensures shared { Share result.shared (K.key_of keys.now entry.row) key.now }
+{
+    compare_from(keys.key(entry.row), key, 0)
 }
 
 /// Whether the key of an entry is a key.

@@ -5,7 +5,7 @@ ghost use Rattle.key_index.specs.Lead.{rows_of};
 ghost use Rattle.key_index.specs.inside.Blocks.{entries_of, entries_at, AreAtLeast, AreEntriesOf, IsPlaceOf};
 ghost use Rattle.key_index.specs.inside.Shared.{Share};
 
-use crate::entries::{Entry, best_skip, compare};
+use crate::entries::{Entry, best_skip, compare, compare_keys, sought_as, sought_behind};
 use crate::keys::Keys;
 use crate::place::Place;
 
@@ -27,16 +27,18 @@ fn fewer(a: usize, b: usize) -> usize
 /// How many entries have keys below a key that shares so many bytes with them.
 fn count_below<K: Keys>(keys: &K, entries: &[Entry], key: &[u8], shared: usize) -> usize
     requires entries { AreEntriesOf (K.has_row keys.now) (K.key_of keys.now) entries.now }
+    requires some { 0 < length entries.now }
     requires shared { All (λ entry. Share shared (K.key_of keys.now entry.row) key.now) entries.now }
     ensures within { result ≤ length entries.now }
     ensures below { AreBelow (K.key_of keys.now) key.now (take result (rows_of entries.now)) }
     ensures at_least { AreAtLeast (K.key_of keys.now) key.now (drop result (rows_of entries.now)) }
 {
+    let sought = sought_behind(key, entries[0].skip);
     let mut low = 0;
     let mut high = entries.len();
     while low < high {
         let middle = low + (high - low) / 2;
-        let compared = compare(keys, entries[middle], key, shared);
+        let compared = compare(keys, entries[middle], key, shared, sought);
         if compared.order.is_lt() {
             low = middle + 1;
         } else {
@@ -54,8 +56,8 @@ fn count_between<K: Keys>(keys: &K, entries: &[Entry], key: &[u8]) -> Passed
     ensures below { AreBelow (K.key_of keys.now) key.now (take result.count (rows_of entries.now)) }
     ensures at_least { AreAtLeast (K.key_of keys.now) key.now (drop result.count (rows_of entries.now)) }
 {
-    let first = compare(keys, entries[0], key, 0);
-    let last = compare(keys, entries[entries.len() - 1], key, 0);
+    let first = compare_keys(keys, entries[0], key);
+    let last = compare_keys(keys, entries[entries.len() - 1], key);
     let shared = fewer(first.shared, last.shared);
     if last.order.is_lt() {
         return Passed {
@@ -82,8 +84,10 @@ fn count_in<K: Keys>(keys: &K, entries: &[Entry], key: &[u8], shared: usize) -> 
     if entries[0].skip as usize > shared {
         return count_between(keys, entries, key);
     }
-    let count = count_below(keys, entries, key, shared);
-    Passed { count, shared }
+    Passed {
+        count: count_below(keys, entries, key, shared),
+        shared,
+    }
 }
 
 /// How many blocks begin with an entry whose key is not above a key, and how many bytes the key shares with those of
@@ -101,11 +105,14 @@ fn count_upto<K: Keys>(keys: &K, blocks: &[Vec<Entry>], key: &[u8]) -> Passed
     let mut high = blocks.len();
     let mut low_shared = 0;
     let mut high_shared = 0;
+    let mut sought = sought_behind(key, 0);
     while low < high {
         let middle = low + (high - low) / 2;
         let block = &blocks[middle];
+        let first = block[0];
         let shared = fewer(low_shared, high_shared);
-        let compared = compare(keys, block[0], key, shared);
+        sought = sought_as(key, sought, first.skip);
+        let compared = compare(keys, first, key, shared, sought);
         if compared.order.is_gt() {
             high = middle;
             high_shared = compared.shared;

@@ -6,8 +6,10 @@ ghost use Rattle.key_index.specs.inside.Shared.{Share};
 
 use std::cmp::Ordering;
 
-/// How many bytes are compared at once.
-const STRIDE: usize = 16;
+/// How many bytes are compared at once, first and then.
+const LONG: usize = 64;
+
+const SHORT: usize = 8;
 
 /// How a key compares with another, and how many first bytes they are seen to share.
 #[derive(Clone, Copy)]
@@ -17,16 +19,17 @@ pub(crate) struct Compared {
 }
 
 /// How many first bytes two keys share, in strides from so many on.
-fn shared_strides(a: &[u8], b: &[u8], from: usize) -> usize
-    requires { Share from a.now b.now }
+fn shared_strides(a: &[u8], b: &[u8], from: usize, stride: usize) -> usize
+    requires shared { Share from a.now b.now }
+    requires some { 0 < stride }
     ensures { Share result a.now b.now }
 {
     let mut count = from;
-    while count + STRIDE <= a.len()
-        && count + STRIDE <= b.len()
-        && a[count..count + STRIDE] == b[count..count + STRIDE]
+    while a.len() - count >= stride
+        && b.len() - count >= stride
+        && a[count..count + stride] == b[count..count + stride]
     {
-        count += STRIDE;
+        count += stride;
     }
     count
 }
@@ -36,7 +39,8 @@ pub(crate) fn shared_from(a: &[u8], b: &[u8], from: usize) -> usize
     requires { Share from a.now b.now }
     ensures { Share result a.now b.now }
 {
-    let mut count = shared_strides(a, b, from);
+    let far = shared_strides(a, b, from, LONG);
+    let mut count = shared_strides(a, b, far, SHORT);
     while count < a.len() && count < b.len() && a[count] == b[count] {
         count += 1;
     }
@@ -44,6 +48,7 @@ pub(crate) fn shared_from(a: &[u8], b: &[u8], from: usize) -> usize
 }
 
 /// Compares two keys that are known to share so many first bytes.
+#[inline(never)]
 pub(crate) fn compare_from(a: &[u8], b: &[u8], from: usize) -> Compared
     requires { Share from a.now b.now }
     ensures order { result.order ≡ key_cmp a.now b.now }

@@ -236,6 +236,50 @@ fn rows_are_in_the_order_of_a_sorted_vector(rt: HostRuntime) -> Result<(), Fail>
     Ok(())
 }
 
+/// The keys and rows of the first rows of a shelf, in order.
+fn sorted_first(
+    alloc: Global,
+    shelf: &Shelf,
+    rows: u32,
+) -> Result<Vec<(Vec<u8>, u32)>, AllocError> {
+    let mut sorted = Vec::new(alloc);
+    let mut number: u32 = 0;
+    for key in &shelf.keys {
+        if number < rows {
+            sorted.push((key.clone()?, number))?;
+        }
+        number = number.wrapping_add(1);
+    }
+    sorted.sort()?;
+    Ok(sorted)
+}
+
+/// Whether an index takes as many rows as it has room for, and no more.
+fn is_filled(alloc: Global, room: u32, order: u32) -> Result<bool, AllocError> {
+    let shelf = shelf_of(alloc, 1, order)?;
+    let wanted = sorted_first(alloc, &shelf, room)?;
+    if shelf.keys.len() > 10_000 {
+        return Ok(false);
+    }
+    let rows = shelf.keys.len() as u32;
+    let mut index = KeyIndex::new(alloc, room)?;
+    fill(&mut index, &shelf, rows);
+    Ok(index.len() == room && index.room() == room && agrees(&index, &shelf, &wanted))
+}
+
+#[test]
+fn as_many_rows_as_there_is_room_for(rt: HostRuntime) -> Result<(), Fail> {
+    for room in [1, 2, 128, 129, 256, 257, 258, 400] {
+        for order in 0..3 {
+            assert!(rt;
+                is_filled(rt.alloc(), room, order)?,
+                "room {room} order {order}"
+            );
+        }
+    }
+    Ok(())
+}
+
 #[test]
 fn an_index_with_room_for_no_row(rt: HostRuntime) -> Result<(), Fail> {
     let shelf = shelf_of(rt.alloc(), 0, 0)?;

@@ -16,12 +16,12 @@ returns-then-is_lt-clause-below g c =
     let same : n - 1 + 1 ≡ n = (let s = c.requires.some in omega (arith, s)) in
     subst (λ (m : ℕ). AreBelow (g.K.Keys.key_of c.args.keys.now) c.args.key.now (take m (rows_of c.args.entries.now))) same
     (below_entry (g.K.Keys.key_of c.args.keys.now) c.args.key.now c.args.entries.now (n - 1) _ c.requires.entries.rising (let s = c.requires.some in omega (arith, s))
-    (sym c.compare-last.ensures.order ∙ is_less c.compare-last.result.order (sym c.is_lt.ensures ∙ c.if-is_lt.true)))
+    (sym c.compare_keys-last.ensures.order ∙ is_less c.compare_keys-last.result.order (sym c.is_lt.ensures ∙ c.if-is_lt.true)))
 
 pub returns-then-is_gt-clause-at_least : goal.returns-then-is_gt-clause-at_least
 returns-then-is_gt-clause-at_least g c =
     least_entry (g.K.Keys.key_of c.args.keys.now) c.args.key.now c.args.entries.now 0 _ c.requires.entries.rising c.requires.some
-    (greater_least (key_cmp (g.K.Keys.key_of c.args.keys.now (get_or c.args.entries.now 0 _).row) c.args.key.now) (sym c.compare-first.ensures.order ∙ is_greater c.compare-first.result.order (sym c.is_gt.ensures ∙ c.if-is_gt.true)))
+    (greater_least (key_cmp (g.K.Keys.key_of c.args.keys.now (get_or c.args.entries.now 0 _).row) c.args.key.now) (sym c.compare_keys-first.ensures.order ∙ is_greater c.compare_keys-first.result.order (sym c.is_gt.ensures ∙ c.if-is_gt.true)))
 
 pub count_below-count-requires-clause-shared : goal.count_below-count-requires-clause-shared
 count_below-count-requires-clause-shared g c =
@@ -29,6 +29,6 @@ count_below-count-requires-clause-shared g c =
     let es = c.args.entries.now in
     let n = length es - 1 in
     all_from_each (λ r. Share c.fewer-shared.result (key_of r) c.args.key.now) es
-    (share_bounded key_of c.args.key.now (rows_of es) c.compare-first.result.shared c.compare-last.result.shared c.fewer-shared.result c.fewer-shared.ensures.first c.fewer-shared.ensures.second
-    (inr (_, first_least key_of es _ c.requires.entries.rising c.requires.some, ap is_gt (sym c.compare-first.ensures.order) ∙ sym c.is_gt.ensures ∙ c.if-is_gt.false, c.compare-first.ensures.shared))
-    (inr (_, last_most key_of es n _ c.requires.entries.rising (let s = c.requires.some in omega (arith, s)), least_most _ c.args.key.now (ap is_lt (sym c.compare-last.ensures.order) ∙ sym c.is_lt.ensures ∙ c.if-is_lt.false), c.compare-last.ensures.shared)))
+    (share_bounded key_of c.args.key.now (rows_of es) c.compare_keys-first.result.shared c.compare_keys-last.result.shared c.fewer-shared.result c.fewer-shared.ensures.first c.fewer-shared.ensures.second
+    (inr (_, first_least key_of es _ c.requires.entries.rising c.requires.some, ap is_gt (sym c.compare_keys-first.ensures.order) ∙ sym c.is_gt.ensures ∙ c.if-is_gt.false, c.compare_keys-first.ensures.shared))
+    (inr (_, last_most key_of es n _ c.requires.entries.rising (let s = c.requires.some in omega (arith, s)), least_most _ c.args.key.now (ap is_lt (sym c.compare_keys-last.ensures.order) ∙ sym c.is_lt.ensures ∙ c.if-is_lt.false), c.compare_keys-last.ensures.shared)))

@@ -13,37 +13,38 @@ use Rattle.key_index.proofs.search.count_upto.Goals as goal
 
 pub compare-compared-requires-clause-readable : goal.compare-compared-requires-clause-readable
 compare-compared-requires-clause-readable g c =
-    let read = first_read c.args.blocks.now _ c.index-blocks-middle.result c.index.result.now (omega arith) c.index-blocks-middle.is c.index.ensures in
-    all_first (λ (e : Entry). g.K.Keys.has_row c.args.keys.now e.row) c.args.blocks.now _ c.index.result.now c.requires.entries.readable c.requires.full (omega arith) read
+    let read = first_read c.args.blocks.now _ c.index-blocks-middle.result c.index-first.result.now (omega arith) c.index-blocks-middle.is c.index-first.ensures in
+    all_first (λ (e : Entry). g.K.Keys.has_row c.args.keys.now e.row) c.args.blocks.now _ c.index-first.result.now c.requires.entries.readable c.requires.full (omega arith) read
 
 pub compare-compared-requires-clause-bytes : goal.compare-compared-requires-clause-bytes
 compare-compared-requires-clause-bytes g c =
-    let read = first_read c.args.blocks.now _ c.index-blocks-middle.result c.index.result.now (omega arith) c.index-blocks-middle.is c.index.ensures in
-    all_first (λ (e : Entry). AreBytes (g.K.Keys.key_of c.args.keys.now e.row)) c.args.blocks.now _ c.index.result.now c.requires.entries.bytes c.requires.full (omega arith) read
+    let read = first_read c.args.blocks.now _ c.index-blocks-middle.result c.index-first.result.now (omega arith) c.index-blocks-middle.is c.index-first.ensures in
+    all_first (λ (e : Entry). AreBytes (g.K.Keys.key_of c.args.keys.now e.row)) c.args.blocks.now _ c.index-first.result.now c.requires.entries.bytes c.requires.full (omega arith) read
 
 pub compare-compared-requires-clause-led : goal.compare-compared-requires-clause-led
 compare-compared-requires-clause-led g c =
-    let read = first_read c.args.blocks.now _ c.index-blocks-middle.result c.index.result.now (omega arith) c.index-blocks-middle.is c.index.ensures in
-    all_first (IsLed (g.K.Keys.key_of c.args.keys.now)) c.args.blocks.now _ c.index.result.now c.requires.entries.leads c.requires.full (omega arith) read
+    let read = first_read c.args.blocks.now _ c.index-blocks-middle.result c.index-first.result.now (omega arith) c.index-blocks-middle.is c.index-first.ensures in
+    all_first (IsLed (g.K.Keys.key_of c.args.keys.now)) c.args.blocks.now _ c.index-first.result.now c.requires.entries.leads c.requires.full (omega arith) read
 
 pub compare-compared-requires-clause-shared : goal.compare-compared-requires-clause-shared
 compare-compared-requires-clause-shared g c =
     let key_of = g.K.Keys.key_of c.args.keys.now in
     let middle : ℕ = c.loop-low.low + (c.loop-low.high - c.loop-low.low) / 2 in
-    let read = first_read c.args.blocks.now middle c.index-blocks-middle.result c.index.result.now (omega arith) c.index-blocks-middle.is c.index.ensures in
+    let read = first_read c.args.blocks.now middle c.index-blocks-middle.result c.index-first.result.now (omega arith) c.index-blocks-middle.is c.index-first.ensures in
     let all = share_in key_of c.args.key.now c.args.blocks.now (c.loop-low.low - 1) c.loop-low.high middle c.loop-low.low_shared c.loop-low.high_shared c.fewer-shared.result (omega arith)
     (omega arith) c.fewer-shared.ensures.first c.fewer-shared.ensures.second c.loop-low.invariant.low_bound c.loop-low.invariant.high_bound in
     subst (λ (e : Entry). Share c.fewer-shared.result (key_of e.row) c.args.key.now) (sym read)
-    (All-get_or (λ (e : Entry). Share c.fewer-shared.result (key_of e.row) c.args.key.now) (entries_at c.args.blocks.now middle) 0 c.index.result.now (some_at c.args.blocks.now middle c.requires.full (omega arith)) all)
+    (All-get_or (λ (e : Entry). Share c.fewer-shared.result (key_of e.row) c.args.key.now) (entries_at c.args.blocks.now middle) 0 c.index-first.result.now (some_at c.args.blocks.now middle c.requires.full (omega arith)) all)
 
 pub loop-low-preserved-then-is_gt : goal.loop-low-preserved-then-is_gt
 loop-low-preserved-then-is_gt g c =
     let key_of = g.K.Keys.key_of c.args.keys.now in
     let middle : ℕ = c.loop-low.low + (c.loop-low.high - c.loop-low.low) / 2 in
-    let first = c.index.result.now in
-    let read = first_read c.args.blocks.now middle c.index-blocks-middle.result first (omega arith) c.index-blocks-middle.is c.index.ensures in
+    let first = c.index-first.result.now in
+    let read = first_read c.args.blocks.now middle c.index-blocks-middle.result first (omega arith) c.index-blocks-middle.is c.index-first.ensures in
     let above : key_cmp c.args.key.now (key_of first.row) ≡ Less = less c.args.key.now (key_of first.row) (sym c.compare-compared.ensures.order ∙ is_greater c.compare-compared.result.order (sym c.is_gt.ensures ∙ c.if-is_gt.true)) in
     record {
+      sought = c.sought_as-sought.ensures;
       ordered = omega arith;
       within = omega arith;
       below = c.loop-low.invariant.below;
@@ -63,11 +64,12 @@ pub loop-low-preserved : goal.loop-low-preserved
 loop-low-preserved g c =
     let key_of = g.K.Keys.key_of c.args.keys.now in
     let middle : ℕ = c.loop-low.low + (c.loop-low.high - c.loop-low.low) / 2 in
-    let first = c.index.result.now in
-    let read = first_read c.args.blocks.now middle c.index-blocks-middle.result first (omega arith) c.index-blocks-middle.is c.index.ensures in
+    let first = c.index-first.result.now in
+    let read = first_read c.args.blocks.now middle c.index-blocks-middle.result first (omega arith) c.index-blocks-middle.is c.index-first.ensures in
     let same : middle + 1 - 1 ≡ middle = omega arith in
     let most : is_gt (key_cmp (key_of first.row) c.args.key.now) ≡ false = ap is_gt (sym c.compare-compared.ensures.order) ∙ sym c.is_gt.ensures ∙ c.if-is_gt.false in
     record {
+      sought = c.sought_as-sought.ensures;
       ordered = omega arith;
       within = c.loop-low.invariant.within;
       below = subst (λ k. AreBelow key_of c.args.key.now (rows_of (entries_of (take k c.args.blocks.now)))) (sym same)

@@ -2,11 +2,13 @@ use Rattle.std.proofs.Common.{◌-◌, ◌≤◌, length, take, drop}
 use Rattle.key_index.specs.Order.{AreBelow, AreAbove}
 use Rattle.key_index.specs.Lead.{rows_of}
 use Rattle.key_index.specs.inside.Blocks.{entries_of}
+use Rattle.key_index.specs.inside.Sought.{IsSought}
 use Rattle.key_index.specs.inside.Shared.{IsLowBound, IsHighBound}
 use Rattle.key_index.proofs.search.count_upto.Given as goal
 
 abbrev pub invariant-loop-low : goal.invariant-loop-low
 invariant-loop-low g l = record {
+  sought : IsSought l.key l.sought;
   ordered : l.low ≤ l.high;
   within : l.high ≤ length l.blocks;
   below : AreBelow (g.K.Keys.key_of l.keys) l.key (rows_of (entries_of (take (l.low - 1) l.blocks)));
