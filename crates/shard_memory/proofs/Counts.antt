@@ -1,5 +1,5 @@
 -- How many pieces are allocated where no segment is left.
-use Rattle.std.proofs.Common.{◌≡◌, ℕ, zero, suc, ◌+◌, ◌*◌, ◌/◌, ◌%◌, ◌^◌, ◌<◌, ◌≤◌, ◌⊎◌, inl, inr, List, [], ◌∷◌, length, refl, sym, subst, ◌∙◌, arith}
+use Rattle.std.proofs.Common.{◌≡◌, ℕ, zero, suc, ◌+◌, ◌*◌, ◌/◌, ◌%◌, ◌^◌, ◌<◌, ◌≤◌, inl, inr, List, [], ◌∷◌, length, refl, sym, subst, ◌∙◌, arith}
 use Rattle.std.specs.Prelude.{Contains}
 use Rattle.std.proofs.Math.Nat.{mul-le-mul_right}
 use Rattle.layout.specs.Sizes.{page}
@@ -88,7 +88,8 @@ in_each_run n allocated spans pools b h blocked used small =
           (extent (slot_place first c.0 o.0) allocated_at.0, allocated_at.2, in_run (slot_place first c.0 o.0) b (omega (arith, low_at, begins)) (omega (arith, high_at, ends, some))))
     ]
 
-pub pieces_enough : (n : ℕ) (allocated : List Extent) (spans : Layout) (pools : Objects) → IsConsistent n allocated spans pools → IsBlocked spans 5 → ((first class : ℕ) → IsHeld pools first class → HasObject pools first class) → n / 32 ≤ length (segments_of allocated) + length (blocks_of allocated)
+pub pieces_enough : (n : ℕ) (allocated : List Extent) (spans : Layout) (pools : Objects) → IsConsistent n allocated spans pools → IsBlocked spans 5 → ((first class : ℕ) → IsHeld pools first class → HasObject pools first class)
+    → n / 32 ≤ length (segments_of allocated) + length (blocks_of allocated)
 pieces_enough n allocated spans pools h blocked used =
     let all = all_there (n / 32) (runs allocated) (λ b l. (let p = in_each_run n allocated spans pools b h blocked used l in subst (λ z. 1 ≤ times z (runs allocated)) p.2 (has_run p.0 allocated p.1))) in
     let len = runs_len allocated in

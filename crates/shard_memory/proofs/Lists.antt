@@ -255,6 +255,12 @@ block_segment_apart size allocated p q blocks hp hq =
       | inr apart ↦ apart
     ]
 
+-- no piece is both
+pub not_both : (size : ℕ) (allocated : List Extent) (p : Extent) → AreDisjoint size allocated → Contains (blocks_of allocated) p → ¬ Contains (segments_of allocated) p
+not_both size allocated p blocks hp hq =
+    let some = (All-contains (IsWithin size) allocated p blocks.0 (passes is_block allocated p hp).0).0 in
+    not_apart p p some some refl (block_segment_apart size allocated p p blocks hp hq)
+
 pub none_left : (allocated : List Extent) → blocks_of allocated ≡ [] → segments_of allocated ≡ [] → allocated ≡ []
 none_left allocated blocks segments = nil_from_length allocated (both_kinds allocated ∙ ap₂ (λ xs ys. length xs + length ys) segments blocks)
 

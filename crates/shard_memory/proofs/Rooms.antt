@@ -1,5 +1,5 @@
 -- The truth values of what can be given, and what they say.
-use Rattle.std.proofs.Common.{◌≡◌, ◌≢◌, ℕ, zero, suc, ◌+◌, ◌^◌, ◌<◌, ◌≤◌, inl, inr, Bool, true, false, not, ◌&&◌, ◌||◌, ◌==◌, eqb, ltb, List, [], ◌∷◌, get_or, Option, Some, None, eq-eqb, refl, sym, ap, subst, ◌∙◌, arith, zero-add}
+use Rattle.std.proofs.Common.{◌≡◌, ◌≢◌, ℕ, zero, suc, ◌+◌, ◌<◌, inl, inr, Bool, true, false, not, ◌&&◌, ◌||◌, ◌==◌, List, [], ◌∷◌, get_or, Option, Some, None, eq-eqb, refl, sym, ap, subst, ◌∙◌, arith, zero-add}
 use Rattle.std.proofs.lemmas.Bool.{cases_eq, lt-ltb, le-ltb}
 use Rattle.std.proofs.lemmas.Bool.Decides.{eqb_tells}
 use Rattle.std.proofs.lemmas.Nat.{pow_pos}
@@ -79,7 +79,6 @@ trimmed_tells pools objects e first class held =
     back true w = absurd (let clash : false ≡ true = w in cc)
     back false w = refl
 
-
 pub trimmed_of : (pools : Objects) → ((first class : ℕ) → IsHeld pools first class → HasObject pools first class) → is_trimmed pools ≡ true
 trimmed_of pools used = each_of pools.pages _ (λ first l. go first (map.get pools.held first) refl)
   where
@@ -88,7 +87,7 @@ trimmed_of pools used = each_of pools.pages _ (λ first l. go first (map.get poo
     go first (Some class) e =
         let object = used first class e in
         ap not (not_true (is_unused pools first class) (λ w.
-            true_is_not_false _ (each_at (capacity_of class) _ w object.0 object.1) (ap not (with_of (size_of class) _ object.2))))
+        true_is_not_false _ (each_at (capacity_of class) _ w object.0 object.1) (ap not (with_of (size_of class) _ object.2))))
 
 -- ---- classes without a free object
 

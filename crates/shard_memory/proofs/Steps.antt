@@ -41,7 +41,8 @@ apart_from_span n allocated spans spans' pools first order h free e divided q ha
       | inr (inr l) ↦ (let a = divided.apart first s.0 order s.1 (inr now_f) (inr now_s) l in inl (omega (arith, a, low)))
     ]
 
-pub inside_pages : (n : ℕ) (allocated : List Extent) (spans spans' : Layout) (pools : Objects) (first order : ℕ) → IsConsistent n allocated spans pools → spans'.allocated ≡ map.insert spans.allocated first order → spans'.pages ≡ spans.pages → Divides spans' → first + 2 ^ order ≤ n
+pub inside_pages : (n : ℕ) (allocated : List Extent) (spans spans' : Layout) (pools : Objects) (first order : ℕ) → IsConsistent n allocated spans pools → spans'.allocated ≡ map.insert spans.allocated first order
+    → spans'.pages ≡ spans.pages → Divides spans' → first + 2 ^ order ≤ n
 inside_pages n allocated spans spans' pools first order h e same divided =
     subst (λ p. first + 2 ^ order ≤ p) (same ∙ h.same) (divided.spans first order (inr (ap (λ m. map.get m first) e ∙ get_inserted spans.allocated first order first refl))).2
 
@@ -194,7 +195,8 @@ block_returned n allocated spans pools pools' p h has len e held pages objects b
       coalesced = h.coalesced;
     }
 
-pub trimmed : (n : ℕ) (allocated : List Extent) (spans spans' : Layout) (pools pools' : Objects) → IsConsistent n allocated spans pools → Trims pools pools' spans spans' → AreHeldIn pools' spans' → AreObjects pools' → Divides spans' → IsCoalesced spans' → IsConsistent n allocated spans' pools'
+pub trimmed : (n : ℕ) (allocated : List Extent) (spans spans' : Layout) (pools pools' : Objects) → IsConsistent n allocated spans pools → Trims pools pools' spans spans'
+    → AreHeldIn pools' spans' → AreObjects pools' → Divides spans' → IsCoalesced spans' → IsConsistent n allocated spans' pools'
 trimmed n allocated spans spans' pools pools' h t held objects divided coalesced = record {
   most = h.most;
   whole = h.whole;

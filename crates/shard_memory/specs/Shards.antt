@@ -4,7 +4,7 @@ use Rattle.std.specs.Ordering.{nat_cmp}
 use Rattle.std.specs.FinMap as map
 use Rattle.std.specs.Coded.{Coded, code_by, coded×, coded_list, coded_ℕ, coded_bool}
 use denote.RawPtr.{Ptr, coded_ptr}
-use Rattle.layout.specs.Sizes.{page, segment, segment_pages}
+use Rattle.layout.specs.Sizes.{page, segment_pages}
 use Rattle.layout.specs.Extents.{Extent, Disjoint, AreDisjoint, extent_code}
 use Rattle.raw_range.specs.Memory.{Lent, extent_of}
 use Rattle.small_pools.specs.Classes.{size_of, IsLeastClass}

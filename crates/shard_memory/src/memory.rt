@@ -24,7 +24,7 @@ ghost use Rattle.std.specs.Ordering.{nat_cmp};
 ghost use Rattle.std.specs.FinMap as map;
 ghost use Rattle.layout.specs.Extents.{extent, Disjoint, AreDisjoint, Blocks};
 ghost use Rattle.layout.specs.Sizes.{page, segment, segment_pages, segment_order, most_pages, most_pieces, greatest_block, ArePages};
-ghost use Rattle.raw_range.specs.Memory.{extent_of, with_allocated, remove_extent};
+ghost use Rattle.raw_range.specs.Memory.{Lent, extent_of, with_allocated, remove_extent};
 ghost use Rattle.span_lists.specs.Layout.{IsAllocated, Divides, IsCoalesced};
 ghost use Rattle.small_pools.specs.Classes.{IsClass, IsLeastClass};
 ghost use Rattle.small_pools.specs.Objects.{AreObjects};
@@ -112,6 +112,7 @@ impl ShardMemory {
     /// at least a 32nd of the pages.
     pub fn facts(&self)
         ensures apart { AreApart self.now }
+        ensures kinds { (piece : Lent) → IsSegmentOf self.now piece → ¬ IsBlockOf self.now piece }
         ensures objects { Blocks (page * self.now.pages) (map.get self.now.objects) }
         ensures segments { segment_pages * length self.now.segments ≤ self.now.pages }
         ensures few { length self.now.blocks ≤ most_blocks }

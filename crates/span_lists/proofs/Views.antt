@@ -107,7 +107,8 @@ coalesced_of pages states lists free h = λ p k small f g. h.coalesced p k small
 
 -- ---- the value that each step leaves
 
-pub allocated_as_it_is : (pages : ℕ) (states : List PageState) (lists lists' : Lists) (free x k : ℕ) (s : Layout) → IsConsistent pages states lists free → IsFree (layout_of pages states lists) x k → lists' ≡ with_list lists k (delete x (list_at lists k)) → layout_of pages states lists ≡ s
+pub allocated_as_it_is : (pages : ℕ) (states : List PageState) (lists lists' : Lists) (free x k : ℕ) (s : Layout) → IsConsistent pages states lists free → IsFree (layout_of pages states lists) x k
+    → lists' ≡ with_list lists k (delete x (list_at lists k)) → layout_of pages states lists ≡ s
     → layout_of pages (set states x (Allocated k)) lists' ≡ record s { free = set s.free k (delete x (free_at s k)); allocated = map.insert s.allocated x k }
 allocated_as_it_is pages states lists lists' free x k s h held e view =
     let was = state_of_free pages states lists free x k h held in

@@ -1,5 +1,5 @@
 -- How the pieces, the spans of the pages and the objects of the pools go together.
-use Rattle.std.specs.Prelude.{◌≡◌, ℕ, ◌+◌, ◌*◌, ◌%◌, ◌≤◌, ◌⊎◌, Bool, not, ◌==◌, List, length, Contains, Some}
+use Rattle.std.specs.Prelude.{◌≡◌, ℕ, ◌*◌, ◌%◌, ◌≤◌, ◌⊎◌, Bool, not, ◌==◌, List, length, Contains, Some}
 use Rattle.std.specs.List.{filter}
 use Rattle.std.specs.FinMap as map
 use Rattle.layout.specs.Sizes.{page, segment, segment_pages, segment_order, most_pages}

@@ -1,6 +1,5 @@
 use Rattle.layout.specs.Sizes.{page}
 use Rattle.std.proofs.Common.{◌≡◌, ◌+◌, ◌-◌, ◌*◌, length, is_some, sym, ap, subst, ◌∙◌}
-use Rattle.std.specs.FinMap as map
 use Rattle.layout.specs.Extents.{AreDisjoint}
 use Rattle.raw_range.specs.Memory.{Memory, extent_of, remove_extent}
 use Rattle.span_lists.specs.Layout.{free_pages}

@@ -1,11 +1,12 @@
-use Rattle.std.proofs.Common.{◌≡◌, ℕ, ◌*◌, ◌/◌, ◌≤◌, length, ap, subst, sym, ◌∙◌, arith}
+use Rattle.std.proofs.Common.{◌*◌, ◌/◌, ◌≤◌, length, subst, sym, ◌∙◌, arith}
 use Rattle.std.specs.FinMap as map
 use Rattle.layout.specs.Sizes.{page}
 use Rattle.layout.specs.Extents.{Blocks}
-use Rattle.shard_memory.specs.Shards.{Shard, AreApart, LacksSegment, IsTrimmed, IsCrowded}
-use Rattle.shard_memory.specs.inside.Parts.{is_block, is_segment, blocks_of, segments_of}
+use Rattle.raw_range.specs.Memory.{Lent, extent_of}
+use Rattle.shard_memory.specs.Shards.{Shard, AreApart, IsBlockOf, IsSegmentOf, LacksSegment, IsTrimmed, IsCrowded}
+use Rattle.shard_memory.specs.inside.Parts.{is_block, is_segment}
 use Rattle.shard_memory.proofs.Counts.{pieces_enough}
-use Rattle.shard_memory.proofs.Lists.{few_segments, disjoint_still, block_segment_apart}
+use Rattle.shard_memory.proofs.Lists.{few_segments, disjoint_still, block_segment_apart, not_both}
 use Rattle.shard_memory.proofs.Rooms.{trimmed_tells, segment_lacks_tells}
 use Rattle.shard_memory.proofs.memory.ShardMemory.facts.Goals as goal
 
@@ -17,6 +18,11 @@ returns-clause-apart c =
       segments = disjoint_still is_segment (page * c.self.inside.range.pages) c.self.inside.range.allocated c.self.invariant.1.blocks;
       each = λ p q hp hq. block_segment_apart (page * c.self.inside.range.pages) c.self.inside.range.allocated p q c.self.invariant.1.blocks hp hq;
     }
+
+pub returns-clause-kinds : goal.returns-clause-kinds
+returns-clause-kinds c =
+    subst (λ (s : Shard). (piece : Lent) → IsSegmentOf s piece → ¬ IsBlockOf s piece) c.self.view_is
+    (λ piece segment block. not_both (page * c.self.inside.range.pages) c.self.inside.range.allocated (extent_of piece) c.self.invariant.1.blocks block.1 segment.1)
 
 pub returns-clause-objects : goal.returns-clause-objects
 returns-clause-objects c =

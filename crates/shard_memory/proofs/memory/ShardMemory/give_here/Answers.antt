@@ -44,7 +44,7 @@ returns-in_default-clause-refused c =
     let none = c.in_default.ensures.none.0 refl in (
       omega (arith, fits, most),
       λ k least. subst (λ (s : Shard). get_or s.room.classes k false ≡ false) c.self.view_is (class_lacks_of c.self.inside.spans c.self.inside.pools k least.within
-      (subst (λ z. IsUsedUp c.self.inside.pools z × HasNone c.self.inside.spans (order_of z)) (least_one c.args.size c.in_ok-class.class k c.in_ok-class.ensures.least least) none)),
+          (subst (λ z. IsUsedUp c.self.inside.pools z × HasNone c.self.inside.spans (order_of z)) (least_one c.args.size c.in_ok-class.class k c.in_ok-class.ensures.least least) none)),
     ))
 
 pub returns-clause-room : goal.returns-clause-room

@@ -1,4 +1,4 @@
-use Rattle.std.proofs.Common.{◌≡◌, ◌+◌, ◌*◌, ◌/◌, ◌%◌, ◌≤◌, ◌∷◌, inr, length, true, false, refl, sym, ap, subst, ◌∙◌, arith}
+use Rattle.std.proofs.Common.{◌≡◌, ◌*◌, ◌%◌, ◌∷◌, inr, length, true, false, refl, sym, ap, subst, ◌∙◌, arith}
 use Rattle.std.specs.Prelude.{Contains}
 use Rattle.std.specs.FinMap as map
 use Rattle.common_lemmas.proofs.Maps.{get_inserted}

@@ -20,9 +20,12 @@ pub returns-clause-moves : goal.returns-clause-moves
 returns-clause-moves c =
     let b = c.buddy_of.ensures in
     let none : map.get c.args.self.now.allocated (buddy c.args.first c.args.order) ≡ None = subst (λ n. map.get c.args.self.now.allocated n ≡ None) b c.allocate.ensures.was_free in
-    let allocated_as_it_is : c.allocate.new.self ≡ record c.args.self.now { free = set c.args.self.now.free c.args.order (delete (buddy c.args.first c.args.order) (free_at c.args.self.now c.args.order)); allocated = map.insert c.args.self.now.allocated (buddy c.args.first c.args.order) c.args.order } =
+    let after : c.allocate.new.self ≡ record c.args.self.now {
+      free = set c.args.self.now.free c.args.order (delete (buddy c.args.first c.args.order) (free_at c.args.self.now c.args.order));
+      allocated = map.insert c.args.self.now.allocated (buddy c.args.first c.args.order) c.args.order;
+    } =
     subst (λ n. c.allocate.new.self ≡ record c.args.self.now { free = set c.args.self.now.free c.args.order (delete n (free_at c.args.self.now c.args.order)); allocated = map.insert c.args.self.now.allocated n c.args.order }) b c.allocate.ensures.moves in
     c.coalesce_pair.ensures.moves
-    ∙ ap (λ (s : Layout). let r : Layout = record s { allocated = map.insert (map.remove (map.remove s.allocated c.args.first) (buddy c.args.first c.args.order)) c.coalesce_pair.result (c.args.order + 1) } in r) allocated_as_it_is
+    ∙ ap (λ (s : Layout). let r : Layout = record s { allocated = map.insert (map.remove (map.remove s.allocated c.args.first) (buddy c.args.first c.args.order)) c.coalesce_pair.result (c.args.order + 1) } in r) after
     ∙ ap (λ o. let r : Layout = record c.args.self.now { free = set c.args.self.now.free c.args.order (delete (buddy c.args.first c.args.order) (free_at c.args.self.now c.args.order)); allocated = o } in r)
     (coalesced_once c.args.self.now.allocated c.args.first (buddy c.args.first c.args.order) c.args.order c.coalesce_pair.result (c.args.order + 1) none)
