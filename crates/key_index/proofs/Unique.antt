@@ -1,7 +1,9 @@
 -- Rows in the order of their keys are in one order.
-use Rattle.std.proofs.Common.{◌≡◌, ℕ, zero, suc, ◌⊎◌, inl, inr, List, [], ◌∷◌, refl, sym, ap, subst, ◌∙◌, arith, Less}
+use Rattle.std.proofs.Common.{◌≡◌, ◌≢◌, ℕ, zero, suc, ◌⊎◌, inl, inr, List, [], ◌∷◌, ◌++◌, refl, sym, ap, subst, ◌∙◌, arith, Less}
 use Rattle.std.specs.Prelude.{Contains}
-use Rattle.key_index.specs.Order.{key_cmp, Each, AreRising}
+use Rattle.std.proofs.lemmas.List.Elements.{Contains-append_left, Contains-append_right, Contains-append_cases}
+use Rattle.key_index.specs.Order.{key_cmp, Each, AreAbove, AreRising, PutsIn, TakesOut}
+use Rattle.key_index.proofs.RowOrder.{rising_apart, rising_right}
 use Rattle.key_index.proofs.KeyOrder.{less_less, less_apart}
 
 first_in : (x : ℕ) (xs : List ℕ) → Contains (x ∷ xs) x
@@ -52,6 +54,38 @@ one_order key_of (x ∷ xs) (y ∷ ys) f g there back =
       | inl e ↦ absurd (apart y row (each_in (λ r. key_cmp (key_of y) (key_of r) ≡ Less) ys row g.0 h) (sym same ∙ e))
       | inr more ↦ more
     ]
+
+-- a list with a row in between has the row and the others
+with_row : (xs ys : List ℕ) (x y : ℕ) → Contains (xs ++ x ∷ ys) y → (y ≡ x) ⊎ Contains (xs ++ ys) y
+with_row xs ys x y h = elim (Contains-append_cases xs (x ∷ ys) y h) [
+  | inl e ↦ inr (Contains-append_left xs ys y e)
+  | inr e ↦ elim (cases_in x y ys e) [ inl same ↦ inl (sym same) | inr more ↦ inr (Contains-append_right xs ys y more) ]
+]
+
+of_others : (xs ys : List ℕ) (x y : ℕ) → Contains (xs ++ ys) y → Contains (xs ++ x ∷ ys) y
+of_others xs ys x y h = elim (Contains-append_cases xs ys y h) [ inl e ↦ Contains-append_left xs (x ∷ ys) y e | inr e ↦ Contains-append_right xs (x ∷ ys) y (later_in x y ys e) ]
+
+pub put_in : (key_of : ℕ → List ℕ) (row other : ℕ) (before after : List ℕ) → PutsIn key_of row before after
+    → (Contains after other → (other ≡ row) ⊎ Contains before other) × Contains after row × (Contains before other → Contains after other)
+put_in key_of row other before after is = (
+  (λ h. elim (with_row is.front is.back row other (subst (λ (xs : List ℕ). Contains xs other) is.are h)) [ inl e ↦ inl e | inr e ↦ inr (subst (λ (xs : List ℕ). Contains xs other) (sym is.were) e) ]),
+  subst (λ (xs : List ℕ). Contains xs row) (sym is.are) (Contains-append_right is.front (row ∷ is.back) row (first_in row is.back)),
+  (λ h. subst (λ (xs : List ℕ). Contains xs other) (sym is.are) (of_others is.front is.back row other (subst (λ (xs : List ℕ). Contains xs other) is.were h))),
+)
+
+pub taken_out : (key_of : ℕ → List ℕ) (row other : ℕ) (before after : List ℕ) → TakesOut row before after → AreRising key_of before
+    → (Contains before other → (other ≡ row) ⊎ Contains after other) × (Contains after other → Contains before other × (other ≢ row))
+taken_out key_of row other before after is rising = (
+  (λ h. elim (with_row is.front is.back row other (subst (λ (xs : List ℕ). Contains xs other) is.were h)) [ inl e ↦ inl e | inr e ↦ inr (subst (λ (xs : List ℕ). Contains xs other) (sym is.are) e) ]),
+  (λ h. (subst (λ (xs : List ℕ). Contains xs other) (sym is.were) (of_others is.front is.back row other (subst (λ (xs : List ℕ). Contains xs other) is.are h)), apart (Contains-append_cases is.front is.back other (subst (λ (xs : List ℕ). Contains xs other) is.are h)))),
+)
+  where
+    whole : AreRising key_of (is.front ++ row ∷ is.back)
+    whole = subst (AreRising key_of) is.were rising
+
+    apart : Contains is.front other ⊎ Contains is.back other → other ≢ row
+    apart (inl e) = λ same. less_apart (key_of other) (key_of row) (each_in (λ r. AreAbove key_of (key_of r) (row ∷ is.back)) is.front other (rising_apart key_of is.front (row ∷ is.back) whole) e).0 (ap key_of same)
+    apart (inr e) = λ same. less_apart (key_of row) (key_of other) (each_in (λ r. key_cmp (key_of row) (key_of r) ≡ Less) is.back other (rising_right key_of is.front (row ∷ is.back) whole).0 e) (ap key_of (sym same))
 
 -- rows of one key are one
 pub one_row : (key_of : ℕ → List ℕ) (xs : List ℕ) (x y : ℕ) → AreRising key_of xs → Contains xs x → Contains xs y → key_of x ≡ key_of y → x ≡ y

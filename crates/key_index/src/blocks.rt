@@ -1,6 +1,7 @@
 //! Blocks of entries.
 ghost use Rattle.std.specs.Prelude.{◌≡◌, ℕ, ◌+◌, ◌-◌, ◌<◌, ◌≤◌, ◌++◌, ◌∷◌, [], List, length, take, drop, slice_get, slice_set, true, false, vec_len, vec_capacity, All, IfOk};
 ghost use Rattle.key_index.specs.inside.Dense.{AreDense, HasLost};
+ghost use Rattle.key_index.specs.inside.Kept.{AreInUse};
 ghost use Rattle.key_index.specs.Lead.{rows_of, IsLed};
 ghost use Rattle.key_index.specs.inside.Blocks.{entries_of, entries_at, front, lens_of, IsBlock, IsFit, IsSpare};
 ghost use Rattle.std.specs.List.{insert, remove};
@@ -280,9 +281,8 @@ fn settle(blocks: &mut Vec<Vec<Entry>>, spare: &mut Vec<Vec<Entry>>, at: usize)
     requires room { vec_len spare.old < vec_capacity spare.old }
     requires lost { HasLost (lens_of blocks.old.items) at }
     ensures entries { entries_of blocks.new.items ≡ entries_of blocks.old.items }
-    ensures are_blocks { All IsBlock blocks.new.items }
+    ensures in_use { AreInUse blocks.new.items }
     ensures are_spare { All IsSpare spare.new.items }
-    ensures dense { AreDense (lens_of blocks.new.items) }
     ensures total { vec_len blocks.new + vec_len spare.new ≡ vec_len blocks.old + vec_len spare.old }
     ensures capacity { vec_capacity blocks.old ≤ vec_capacity blocks.new }
     ensures spare_capacity { vec_capacity spare.old ≤ vec_capacity spare.new }

@@ -1,5 +1,5 @@
 //! The index.
-ghost use Rattle.std.specs.Prelude.{◌≡◌, ◌≢◌, ℕ, ◌+◌, ◌<◌, ◌≤◌, ◌++◌, ◌∷◌, [], List, length, take, drop, All, Contains, IfOk, MatchOption, MatchResult};
+ghost use Rattle.std.specs.Prelude.{◌≡◌, ◌≢◌, ◌⊎◌, ℕ, ◌+◌, ◌<◌, ◌≤◌, ◌++◌, ◌∷◌, [], List, length, take, drop, All, Contains, IfOk, MatchOption, MatchResult};
 ghost use Rattle.key_index.specs.Order.{AreRising, Each, PutsIn, TakesOut, rows_from};
 ghost use Rattle.key_index.specs.Index.{IsIndexOf, IsOrdered, IsPlaceFor, IsRowAt};
 
@@ -187,13 +187,20 @@ impl KeyIndex {
     }
 
     /// What holds of each index, whoever keeps the keys of its rows: nothing but these keys matters, so an index stays
-    /// one, and a place in it stays, where keys are moved.
+    /// one, and a place in it stays, where keys are moved. After a row is put in or taken out the others are there as
+    /// before; one key is of one row; and the rows of an index are any list of them whose keys rise.
     pub fn law(&self)
         ensures moved { (before after : ℕ → List ℕ) → All (λ row. after row ≡ before row) self.now.rows → IsOrdered before self.now → IsOrdered after self.now }
         ensures place { (before after : ℕ → List ℕ) (key : List ℕ) (place : Place) → All (λ row. after row ≡ before row) self.now.rows
             → IsPlaceFor before key self.now place → IsPlaceFor after key self.now place }
         ensures absent { (key_of : ℕ → List ℕ) (key : List ℕ) (place : Place) → IsPlaceFor key_of key self.now place → All (λ row. key_of row ≢ key) self.now.rows }
         ensures there { (place : Place) (row : ℕ) → IsRowAt self.now place row → Contains self.now.rows row }
+        ensures put_in { (key_of : ℕ → List ℕ) (row other : ℕ) (before : List ℕ) → PutsIn key_of row before self.now.rows
+            → (Contains self.now.rows other → (other ≡ row) ⊎ Contains before other)
+            × Contains self.now.rows row × (Contains before other → Contains self.now.rows other) }
+        ensures taken_out { (key_of : ℕ → List ℕ) (row other : ℕ) (before : List ℕ) → TakesOut row before self.now.rows → AreRising key_of before
+            → (Contains before other → (other ≡ row) ⊎ Contains self.now.rows other)
+            × (Contains self.now.rows other → Contains before other × (other ≢ row)) }
         ensures one { (key_of : ℕ → List ℕ) (row other : ℕ) → IsOrdered key_of self.now
             → Contains self.now.rows row → Contains self.now.rows other → key_of row ≡ key_of other → row ≡ other }
         ensures order { (key_of : ℕ → List ℕ) (others : List ℕ) → AreRising key_of others → IsOrdered key_of self.now

@@ -1,6 +1,6 @@
 use Rattle.std.proofs.Common.{◌≡◌, ◌≢◌}
 use Rattle.key_index.proofs.Told.{all_each, each_all}
-use Rattle.key_index.proofs.Unique.{one_order, one_row}
+use Rattle.key_index.proofs.Unique.{one_order, one_row, put_in, taken_out}
 use Rattle.key_index.proofs.Moved.{moved_order, moved_place}
 use Rattle.key_index.proofs.Places.{absent_at, row_there}
 use Rattle.key_index.proofs.index.KeyIndex.law.Goals as goal
@@ -22,3 +22,9 @@ returns-clause-one c = λ key_of row other is here there same. one_row key_of c.
 
 pub returns-clause-order : goal.returns-clause-order
 returns-clause-order c = λ key_of others rising is there back. one_order key_of c.args.self.now.rows others is.rising rising there back
+
+pub returns-clause-put_in : goal.returns-clause-put_in
+returns-clause-put_in c = λ key_of row other before is. put_in key_of row other before c.args.self.now.rows is
+
+pub returns-clause-taken_out : goal.returns-clause-taken_out
+returns-clause-taken_out c = λ key_of row other before is rising. taken_out key_of row other before c.args.self.now.rows is rising
