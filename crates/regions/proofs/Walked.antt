@@ -1,13 +1,15 @@
 -- From one object of a segment to the next one.
-use Rattle.std.proofs.Common.{◌≡◌, ◌≢◌, ℕ, ◌+◌, ◌<◌, ◌≤◌, ◌⊎◌, inl, inr, cond, List, [], ◌∷◌, refl, sym, ap, ◌∙◌, subst, arith, eq-eqb}
+use Rattle.std.proofs.Common.{◌≡◌, ◌≢◌, ℕ, ◌+◌, ◌<◌, ◌≤◌, ◌⊎◌, inl, inr, Bool, false, cond, List, [], ◌∷◌, refl, sym, ap, ◌∙◌, subst, arith, eq-eqb}
 use Rattle.std.specs.Prelude.{◌==◌, Option, None, Some, IsSome, option_map}
 use Rattle.std.proofs.lemmas.Bool.{cases_eq, ne_eqb}
 use Rattle.std.proofs.Math.Nat.{eq-or-lt_of_le}
 use Rattle.std.proofs.lemmas.Bool.Decides.{leb_tells}
 use Rattle.object_log.specs.Objects.{Object, objects, descriptor_at, AreObjects, IsObject, IsSegment}
 use Rattle.object_log.specs.declared.descriptor.Descriptor.{Descriptor}
+use Rattle.raw_range.specs.Memory.{Lent}
+use Rattle.regions.specs.Segments.{SegmentState}
 use Rattle.regions.specs.Counts.{live_bytes}
-use Rattle.regions.specs.Contents.{IsLiveAt, standing, standing_among, item_if_live, if_live, object_with}
+use Rattle.regions.specs.Contents.{IsLiveAt, starts_in, standing, standing_among, item_if_live, if_live, object_with}
 use Rattle.regions.proofs.Objects.{found, some-found, after-found, objects-below}
 use Rattle.regions.proofs.Written.{IsThere, content-size}
 
@@ -15,6 +17,12 @@ pub there-at : (bytes : List ℕ) (used at : ℕ) → IsSegment bytes used → a
 there-at bytes used at s low start =
     let there : IsSome (standing_among bytes at (objects bytes used)) = elim start [ inl h ↦ h | inr e ↦ absurd (omega (arith, e, low)) ] in
     let f = some-found bytes at (objects bytes used) there in record { segment = s; it = f.0; is-it = f.1; found = found bytes 0 used at (objects bytes used) f.0 s.objects f.1 }
+
+-- where an object of a begun segment starts below the end, one stands
+pub stands-there : (piece : Lent) (used : ℕ) (free : Bool) (h : SegmentState) (at : ℕ) → record { piece = piece; used = used; free = free } ≡ h → (free ≡ false → IsSegment piece.bytes used)
+    → h.free ≡ false → at < used → starts_in (Some h) at → IsThere h.piece.bytes h.used at
+stands-there piece used free h at is begun unfree low start =
+    there-at h.piece.bytes h.used at (subst (λ (k : SegmentState). IsSegment k.piece.bytes k.used) is (begun (ap (λ (k : SegmentState). k.free) is ∙ unfree))) (subst (λ (k : SegmentState). at < k.used) is low) start
 
 is-object : (bytes : List ℕ) (a used at : ℕ) (os : List Object) (o : Object) → AreObjects bytes a used os → object_with at os ≡ Some o → IsObject bytes o
 is-object bytes a used at [] o h e = absurd (let clash : None ≡ Some o = e in cc)

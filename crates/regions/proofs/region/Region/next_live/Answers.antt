@@ -11,60 +11,50 @@ use Rattle.regions.specs.declared.place.Place.{Place}
 use Rattle.regions.proofs.Regions.{begun-within}
 use Rattle.regions.proofs.region.Region.next_live.Goals as goal
 
-pub returns-clause-skipped : goal.returns-clause-skipped
-returns-clause-skipped c =
+-- the closed segment is there
+the-segment : (c : goal.After-next_live) → get_or c.self.inside.slots.items c.args.segment None ≡ Some c.segment_in.result.now
+the-segment c =
     let i = c.self.inside in let slots = i.slots.items in let n = c.args.segment in
     let shut : is_closed i.active (slots_of slots) n ≡ true = subst (λ q. IsClosed q n) (sym c.self.view_is) c.requires.closed in
     let inside = begun-within i.most i.active i.held i.free i.active_live i.table slots c.self.invariant n (closed-begun i.active (slots_of slots) n shut).0 in
-    let is : get_or slots n None ≡ Some c.segment_in.result.now = tables.slot-is slots n c.index.result.now None inside c.index.ensures ∙ c.segment_in.ensures in
+    tables.slot-is slots n c.index.result.now None inside c.index.ensures ∙ c.segment_in.ensures
+
+pub returns-clause-skipped : goal.returns-clause-skipped
+returns-clause-skipped c =
+    let slots = c.self.inside.slots.items in let n = c.args.segment in let is = the-segment c in
     subst (λ q. IfSome c.next_live.result (λ f. (c.args.from ≤ f.0) × NoneLives q n c.args.from f.0)) c.self.view_is
     (subst (λ s. IfSome c.next_live.result (λ f. (c.args.from ≤ f.0) × none_lives_in s c.args.from f.0)) (sym is) c.next_live.ensures.skipped)
 
 pub returns-clause-within : goal.returns-clause-within
 returns-clause-within c =
-    let i = c.self.inside in let slots = i.slots.items in let n = c.args.segment in
-    let shut : is_closed i.active (slots_of slots) n ≡ true = subst (λ q. IsClosed q n) (sym c.self.view_is) c.requires.closed in
-    let inside = begun-within i.most i.active i.held i.free i.active_live i.table slots c.self.invariant n (closed-begun i.active (slots_of slots) n shut).0 in
-    let is : get_or slots n None ≡ Some c.segment_in.result.now = tables.slot-is slots n c.index.result.now None inside c.index.ensures ∙ c.segment_in.ensures in
+    let slots = c.self.inside.slots.items in let n = c.args.segment in let is = the-segment c in
     subst (λ q. IfSome c.next_live.result (λ f. f.0 + f.2 ≤ used_at q n)) c.self.view_is
     (subst (λ u. IfSome c.next_live.result (λ f. f.0 + f.2 ≤ u)) (sym (used-is slots n))
     (subst (λ s. IfSome c.next_live.result (λ f. f.0 + f.2 ≤ used_in s)) (sym is) c.next_live.ensures.within))
 
 pub returns-clause-next : goal.returns-clause-next
 returns-clause-next c =
-    let i = c.self.inside in let slots = i.slots.items in let n = c.args.segment in
-    let shut : is_closed i.active (slots_of slots) n ≡ true = subst (λ q. IsClosed q n) (sym c.self.view_is) c.requires.closed in
-    let inside = begun-within i.most i.active i.held i.free i.active_live i.table slots c.self.invariant n (closed-begun i.active (slots_of slots) n shut).0 in
-    let is : get_or slots n None ≡ Some c.segment_in.result.now = tables.slot-is slots n c.index.result.now None inside c.index.ensures ∙ c.segment_in.ensures in
+    let slots = c.self.inside.slots.items in let n = c.args.segment in let is = the-segment c in
     subst (λ q. IfSome c.next_live.result (λ f. IsStart q n (f.0 + f.2))) c.self.view_is
     (subst (λ u. IfSome c.next_live.result (λ f. IsSome (standing_in (get_or slots n None) (f.0 + f.2)) ⊎ (f.0 + f.2 ≡ u))) (sym (used-is slots n))
     (subst (λ s. IfSome c.next_live.result (λ f. starts_in s (f.0 + f.2))) (sym is) c.next_live.ensures.next))
 
 pub returns-clause-between : goal.returns-clause-between
 returns-clause-between c =
-    let i = c.self.inside in let slots = i.slots.items in let n = c.args.segment in
-    let shut : is_closed i.active (slots_of slots) n ≡ true = subst (λ q. IsClosed q n) (sym c.self.view_is) c.requires.closed in
-    let inside = begun-within i.most i.active i.held i.free i.active_live i.table slots c.self.invariant n (closed-begun i.active (slots_of slots) n shut).0 in
-    let is : get_or slots n None ≡ Some c.segment_in.result.now = tables.slot-is slots n c.index.result.now None inside c.index.ensures ∙ c.segment_in.ensures in
+    let slots = c.self.inside.slots.items in let n = c.args.segment in let is = the-segment c in
     subst (λ q. IfSome c.next_live.result (λ f. (a : ℕ) → f.0 < a → a < f.0 + f.2 → standing_at q (let p : Place = record { segment = n; at = a } in p) ≡ None)) c.self.view_is
     (subst (λ s. IfSome c.next_live.result (λ f. (a : ℕ) → f.0 < a → a < f.0 + f.2 → standing_in s a ≡ None)) (sym is) c.next_live.ensures.between)
 
 pub returns-clause-counted : goal.returns-clause-counted
 returns-clause-counted c =
-    let i = c.self.inside in let slots = i.slots.items in let n = c.args.segment in
-    let shut : is_closed i.active (slots_of slots) n ≡ true = subst (λ q. IsClosed q n) (sym c.self.view_is) c.requires.closed in
-    let inside = begun-within i.most i.active i.held i.free i.active_live i.table slots c.self.invariant n (closed-begun i.active (slots_of slots) n shut).0 in
-    let is : get_or slots n None ≡ Some c.segment_in.result.now = tables.slot-is slots n c.index.result.now None inside c.index.ensures ∙ c.segment_in.ensures in
+    let slots = c.self.inside.slots.items in let n = c.args.segment in let is = the-segment c in
     subst (λ q. IfSome c.next_live.result (λ f. f.2 ≤ live_bytes_at q n)) c.self.view_is
     (subst (λ u. IfSome c.next_live.result (λ f. f.2 ≤ u)) (sym (live-is slots n))
     (subst (λ s. IfSome c.next_live.result (λ f. f.2 ≤ live_in s)) (sym is) c.next_live.ensures.counted))
 
 pub returns-clause-dead : goal.returns-clause-dead
 returns-clause-dead c =
-    let i = c.self.inside in let slots = i.slots.items in let n = c.args.segment in
-    let shut : is_closed i.active (slots_of slots) n ≡ true = subst (λ q. IsClosed q n) (sym c.self.view_is) c.requires.closed in
-    let inside = begun-within i.most i.active i.held i.free i.active_live i.table slots c.self.invariant n (closed-begun i.active (slots_of slots) n shut).0 in
-    let is : get_or slots n None ≡ Some c.segment_in.result.now = tables.slot-is slots n c.index.result.now None inside c.index.ensures ∙ c.segment_in.ensures in
+    let slots = c.self.inside.slots.items in let n = c.args.segment in let is = the-segment c in
     subst (λ q. IsNone c.next_live.result → NoneLives q n 0 c.args.from → live_bytes_at q n ≡ 0) c.self.view_is
     (subst (λ u. IsNone c.next_live.result → none_lives_in (get_or slots n None) 0 c.args.from → u ≡ 0) (sym (live-is slots n))
     (subst (λ s. IsNone c.next_live.result → none_lives_in s 0 c.args.from → live_in s ≡ 0) (sym is) c.next_live.ensures.dead))

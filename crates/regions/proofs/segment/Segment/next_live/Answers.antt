@@ -4,7 +4,8 @@ use Rattle.object_log.specs.Objects.{Object, objects, descriptor_at, IsSegment, 
 use Rattle.std.specs.Prelude.{Some}
 use Rattle.regions.specs.Contents.{starts_in}
 use Rattle.regions.proofs.Objects.{found-any, first-start}
-use Rattle.regions.proofs.Walked.{there-at, some-kind, step, live-there, next-starts, none-between, counted, none-counted, passed}
+use Rattle.regions.proofs.Written.{IsThere}
+use Rattle.regions.proofs.Walked.{there-at, stands-there, some-kind, step, live-there, next-starts, none-between, counted, none-counted, passed}
 use Rattle.regions.proofs.segment.Segment.next_live.Goals as goal
 
 pub read_descriptor-found-requires : goal.read_descriptor-found-requires
@@ -16,107 +17,76 @@ read_descriptor-found-requires c =
     let is : c.bytes-bytes.result.now ≡ h.piece.bytes = c.bytes-bytes.ensures ∙ ap (λ k. k.piece.bytes) c.self.view_is in
     (h.used, subst (λ b. IsSegment b h.used) (sym is) s, inl (subst (λ b. StandsAt at (objects b h.used)) (sym is) (found-any (λ (o : Object). o.at ≡ at) at (objects h.piece.bytes h.used) t.it t.is-it (t.found).place)))
 
+-- an object stands where a descriptor was read
+record Known (c : goal.Then-found-eq1) : Type 0 where
+  pub there : IsThere c.args.self.now.piece.bytes c.args.self.now.used c.loop-at.at
+  pub is-read : c.read_descriptor-found.result ≡ descriptor_at c.args.self.now.piece.bytes c.loop-at.at
+
+known : (c : goal.Then-found-eq1) → Known c
+known c =
+    let i = c.self.inside in let h = c.args.self.now in let at = c.loop-at.at in
+    let t = stands-there i.piece i.used i.free h at c.self.view_is c.self.invariant.2 c.requires.begun c.loop-at-test.true c.loop-at.invariant.1 in let d = c.read_descriptor-found.result in
+    let d-is = c.read_descriptor-found.ensures.read ∙ ap (λ b. descriptor_at b at) (c.bytes-bytes.ensures ∙ ap (λ k. k.piece.bytes) c.self.view_is) in
+    record { there = t; is-read = d-is }
+
 pub returns-then-found-eq1-clause-found : goal.returns-then-found-eq1-clause-found
 returns-then-found-eq1-clause-found c =
-    let h = c.args.self.now in let at = c.loop-at.at in
-    let s : IsSegment h.piece.bytes h.used = subst (λ k. IsSegment k.piece.bytes k.used) c.self.view_is (c.self.invariant.2 (ap (λ k. k.free) c.self.view_is ∙ c.requires.begun)) in
-    let low : at < h.used = subst (λ k. at < k.used) c.self.view_is c.loop-at-test.true in
-    let t = there-at h.piece.bytes h.used at s low c.loop-at.invariant.1 in
-    let is : c.bytes-bytes.result.now ≡ h.piece.bytes = c.bytes-bytes.ensures ∙ ap (λ k. k.piece.bytes) c.self.view_is in
-    let d = c.read_descriptor-found.result in let d-is : d ≡ descriptor_at h.piece.bytes at = c.read_descriptor-found.ensures.read ∙ ap (λ b. descriptor_at b at) is in
-    live-there h.piece.bytes h.used at t d d-is c.if-found-eq1.true
+    let h = c.args.self.now in let at = c.loop-at.at in let k = known c in
+    live-there h.piece.bytes h.used at k.there c.read_descriptor-found.result k.is-read c.if-found-eq1.true
 
 pub returns-then-found-eq1-clause-size : goal.returns-then-found-eq1-clause-size
 returns-then-found-eq1-clause-size c =
-    let h = c.args.self.now in let at = c.loop-at.at in
-    let s : IsSegment h.piece.bytes h.used = subst (λ k. IsSegment k.piece.bytes k.used) c.self.view_is (c.self.invariant.2 (ap (λ k. k.free) c.self.view_is ∙ c.requires.begun)) in
-    let low : at < h.used = subst (λ k. at < k.used) c.self.view_is c.loop-at-test.true in
-    let t = there-at h.piece.bytes h.used at s low c.loop-at.invariant.1 in
+    let h = c.args.self.now in let at = c.loop-at.at in let k = known c in
     let is : c.bytes-bytes.result.now ≡ h.piece.bytes = c.bytes-bytes.ensures ∙ ap (λ k. k.piece.bytes) c.self.view_is in
-    let d = c.read_descriptor-found.result in let d-is : d ≡ descriptor_at h.piece.bytes at = c.read_descriptor-found.ensures.read ∙ ap (λ b. descriptor_at b at) is in
-    let stands : StandsAt at (objects c.bytes-bytes.result.now h.used) = subst (λ b. StandsAt at (objects b h.used)) (sym is) (found-any (λ (o : Object). o.at ≡ at) at (objects h.piece.bytes h.used) t.it t.is-it (t.found).place) in
-    (some-kind h.piece.bytes h.used at t d d-is, (c.read_descriptor-found.ensures.fits h.used (subst (λ b. IsSegment b h.used) (sym is) s) stands).0)
+    let stands : StandsAt at (objects c.bytes-bytes.result.now h.used) = subst (λ b. StandsAt at (objects b h.used)) (sym is) (found-any (λ (o : Object). o.at ≡ at) at (objects h.piece.bytes h.used) k.there.it k.there.is-it (k.there.found).place) in
+    (some-kind h.piece.bytes h.used at k.there c.read_descriptor-found.result k.is-read, (c.read_descriptor-found.ensures.fits h.used (subst (λ b. IsSegment b h.used) (sym is) k.there.segment) stands).0)
 
 pub returns-then-found-eq1-clause-within : goal.returns-then-found-eq1-clause-within
 returns-then-found-eq1-clause-within c =
-    let h = c.args.self.now in let at = c.loop-at.at in
-    let s : IsSegment h.piece.bytes h.used = subst (λ k. IsSegment k.piece.bytes k.used) c.self.view_is (c.self.invariant.2 (ap (λ k. k.free) c.self.view_is ∙ c.requires.begun)) in
-    let low : at < h.used = subst (λ k. at < k.used) c.self.view_is c.loop-at-test.true in
-    let t = there-at h.piece.bytes h.used at s low c.loop-at.invariant.1 in
-    let is : c.bytes-bytes.result.now ≡ h.piece.bytes = c.bytes-bytes.ensures ∙ ap (λ k. k.piece.bytes) c.self.view_is in
-    let d = c.read_descriptor-found.result in let d-is : d ≡ descriptor_at h.piece.bytes at = c.read_descriptor-found.ensures.read ∙ ap (λ b. descriptor_at b at) is in
-    (step h.piece.bytes h.used at t d d-is).1
+    let h = c.args.self.now in let at = c.loop-at.at in let k = known c in
+    (step h.piece.bytes h.used at k.there c.read_descriptor-found.result k.is-read).1
 
 pub returns-then-found-eq1-clause-inside : goal.returns-then-found-eq1-clause-inside
 returns-then-found-eq1-clause-inside c =
-    let h = c.args.self.now in let at = c.loop-at.at in
-    let s : IsSegment h.piece.bytes h.used = subst (λ k. IsSegment k.piece.bytes k.used) c.self.view_is (c.self.invariant.2 (ap (λ k. k.free) c.self.view_is ∙ c.requires.begun)) in
-    let low : at < h.used = subst (λ k. at < k.used) c.self.view_is c.loop-at-test.true in
-    let t = there-at h.piece.bytes h.used at s low c.loop-at.invariant.1 in
-    let is : c.bytes-bytes.result.now ≡ h.piece.bytes = c.bytes-bytes.ensures ∙ ap (λ k. k.piece.bytes) c.self.view_is in
-    let d = c.read_descriptor-found.result in let d-is : d ≡ descriptor_at h.piece.bytes at = c.read_descriptor-found.ensures.read ∙ ap (λ b. descriptor_at b at) is in
-    let w = step h.piece.bytes h.used at t d d-is in omega (arith, w.1, w.2)
+    let h = c.args.self.now in let at = c.loop-at.at in let k = known c in
+    let w = step h.piece.bytes h.used at k.there c.read_descriptor-found.result k.is-read in omega (arith, w.1, w.2)
 
 pub returns-then-found-eq1-clause-next : goal.returns-then-found-eq1-clause-next
 returns-then-found-eq1-clause-next c =
-    let h = c.args.self.now in let at = c.loop-at.at in
-    let s : IsSegment h.piece.bytes h.used = subst (λ k. IsSegment k.piece.bytes k.used) c.self.view_is (c.self.invariant.2 (ap (λ k. k.free) c.self.view_is ∙ c.requires.begun)) in
-    let low : at < h.used = subst (λ k. at < k.used) c.self.view_is c.loop-at-test.true in
-    let t = there-at h.piece.bytes h.used at s low c.loop-at.invariant.1 in
-    let is : c.bytes-bytes.result.now ≡ h.piece.bytes = c.bytes-bytes.ensures ∙ ap (λ k. k.piece.bytes) c.self.view_is in
-    let d = c.read_descriptor-found.result in let d-is : d ≡ descriptor_at h.piece.bytes at = c.read_descriptor-found.ensures.read ∙ ap (λ b. descriptor_at b at) is in
-    next-starts h.piece.bytes h.used at t d d-is
+    let h = c.args.self.now in let at = c.loop-at.at in let k = known c in
+    next-starts h.piece.bytes h.used at k.there c.read_descriptor-found.result k.is-read
 
 pub returns-then-found-eq1-clause-between : goal.returns-then-found-eq1-clause-between
 returns-then-found-eq1-clause-between c =
-    let h = c.args.self.now in let at = c.loop-at.at in
-    let s : IsSegment h.piece.bytes h.used = subst (λ k. IsSegment k.piece.bytes k.used) c.self.view_is (c.self.invariant.2 (ap (λ k. k.free) c.self.view_is ∙ c.requires.begun)) in
-    let low : at < h.used = subst (λ k. at < k.used) c.self.view_is c.loop-at-test.true in
-    let t = there-at h.piece.bytes h.used at s low c.loop-at.invariant.1 in
-    let is : c.bytes-bytes.result.now ≡ h.piece.bytes = c.bytes-bytes.ensures ∙ ap (λ k. k.piece.bytes) c.self.view_is in
-    let d = c.read_descriptor-found.result in let d-is : d ≡ descriptor_at h.piece.bytes at = c.read_descriptor-found.ensures.read ∙ ap (λ b. descriptor_at b at) is in
-    none-between h.piece.bytes h.used at t d d-is
+    let h = c.args.self.now in let at = c.loop-at.at in let k = known c in
+    none-between h.piece.bytes h.used at k.there c.read_descriptor-found.result k.is-read
 
 pub overflow_add-at : goal.overflow_add-at
 overflow_add-at c =
-    let h = c.args.self.now in let at = c.loop-at.at in
-    let s : IsSegment h.piece.bytes h.used = subst (λ k. IsSegment k.piece.bytes k.used) c.self.view_is (c.self.invariant.2 (ap (λ k. k.free) c.self.view_is ∙ c.requires.begun)) in
-    let low : at < h.used = subst (λ k. at < k.used) c.self.view_is c.loop-at-test.true in
-    let t = there-at h.piece.bytes h.used at s low c.loop-at.invariant.1 in
-    let is : c.bytes-bytes.result.now ≡ h.piece.bytes = c.bytes-bytes.ensures ∙ ap (λ k. k.piece.bytes) c.self.view_is in
-    let d = c.read_descriptor-found.result in let d-is : d ≡ descriptor_at h.piece.bytes at = c.read_descriptor-found.ensures.read ∙ ap (λ b. descriptor_at b at) is in
+    let i = c.self.inside in let h = c.args.self.now in let at = c.loop-at.at in
+    let t = stands-there i.piece i.used i.free h at c.self.view_is c.self.invariant.2 c.requires.begun c.loop-at-test.true c.loop-at.invariant.1 in let d = c.read_descriptor-found.result in
+    let d-is = c.read_descriptor-found.ensures.read ∙ ap (λ b. descriptor_at b at) (c.bytes-bytes.ensures ∙ ap (λ k. k.piece.bytes) c.self.view_is) in
     let w = step h.piece.bytes h.used at t d d-is in record { fits = omega (arith, w.1, w.2) }
 
 pub loop-at-smaller : goal.loop-at-smaller
 loop-at-smaller c =
-    let h = c.args.self.now in let at = c.loop-at.at in
-    let s : IsSegment h.piece.bytes h.used = subst (λ k. IsSegment k.piece.bytes k.used) c.self.view_is (c.self.invariant.2 (ap (λ k. k.free) c.self.view_is ∙ c.requires.begun)) in
-    let low : at < h.used = subst (λ k. at < k.used) c.self.view_is c.loop-at-test.true in
-    let t = there-at h.piece.bytes h.used at s low c.loop-at.invariant.1 in
-    let is : c.bytes-bytes.result.now ≡ h.piece.bytes = c.bytes-bytes.ensures ∙ ap (λ k. k.piece.bytes) c.self.view_is in
-    let d = c.read_descriptor-found.result in let d-is : d ≡ descriptor_at h.piece.bytes at = c.read_descriptor-found.ensures.read ∙ ap (λ b. descriptor_at b at) is in
+    let i = c.self.inside in let h = c.args.self.now in let at = c.loop-at.at in
+    let t = stands-there i.piece i.used i.free h at c.self.view_is c.self.invariant.2 c.requires.begun c.loop-at-test.true c.loop-at.invariant.1 in let d = c.read_descriptor-found.result in
+    let d-is = c.read_descriptor-found.ensures.read ∙ ap (λ b. descriptor_at b at) (c.bytes-bytes.ensures ∙ ap (λ k. k.piece.bytes) c.self.view_is) in
     let w = step h.piece.bytes h.used at t d d-is in omega (arith, w.0, c.loop-at-test.true)
 
 pub loop-at-preserved : goal.loop-at-preserved
 loop-at-preserved c =
-    let h = c.args.self.now in let at = c.loop-at.at in
-    let s : IsSegment h.piece.bytes h.used = subst (λ k. IsSegment k.piece.bytes k.used) c.self.view_is (c.self.invariant.2 (ap (λ k. k.free) c.self.view_is ∙ c.requires.begun)) in
-    let low : at < h.used = subst (λ k. at < k.used) c.self.view_is c.loop-at-test.true in
-    let t = there-at h.piece.bytes h.used at s low c.loop-at.invariant.1 in
-    let is : c.bytes-bytes.result.now ≡ h.piece.bytes = c.bytes-bytes.ensures ∙ ap (λ k. k.piece.bytes) c.self.view_is in
-    let d = c.read_descriptor-found.result in let d-is : d ≡ descriptor_at h.piece.bytes at = c.read_descriptor-found.ensures.read ∙ ap (λ b. descriptor_at b at) is in
+    let i = c.self.inside in let h = c.args.self.now in let at = c.loop-at.at in
+    let t = stands-there i.piece i.used i.free h at c.self.view_is c.self.invariant.2 c.requires.begun c.loop-at-test.true c.loop-at.invariant.1 in let d = c.read_descriptor-found.result in
+    let d-is = c.read_descriptor-found.ensures.read ∙ ap (λ b. descriptor_at b at) (c.bytes-bytes.ensures ∙ ap (λ k. k.piece.bytes) c.self.view_is) in
     let w = step h.piece.bytes h.used at t d d-is in let before = c.loop-at.invariant.0 in
     (omega (arith, before), next-starts h.piece.bytes h.used at t d d-is, passed h.piece.bytes h.used at t d d-is c.args.from c.if-found-eq1.false c.loop-at.invariant.2)
 
 pub returns-then-found-eq1-clause-counted : goal.returns-then-found-eq1-clause-counted
 returns-then-found-eq1-clause-counted c =
-    let h = c.args.self.now in let at = c.loop-at.at in
-    let s : IsSegment h.piece.bytes h.used = subst (λ k. IsSegment k.piece.bytes k.used) c.self.view_is (c.self.invariant.2 (ap (λ k. k.free) c.self.view_is ∙ c.requires.begun)) in
-    let low : at < h.used = subst (λ k. at < k.used) c.self.view_is c.loop-at-test.true in
-    let t = there-at h.piece.bytes h.used at s low c.loop-at.invariant.1 in
-    let is : c.bytes-bytes.result.now ≡ h.piece.bytes = c.bytes-bytes.ensures ∙ ap (λ k. k.piece.bytes) c.self.view_is in
-    let d = c.read_descriptor-found.result in let d-is : d ≡ descriptor_at h.piece.bytes at = c.read_descriptor-found.ensures.read ∙ ap (λ b. descriptor_at b at) is in
-    counted h.piece.bytes h.used at t d d-is c.if-found-eq1.true
+    let h = c.args.self.now in let at = c.loop-at.at in let k = known c in
+    counted h.piece.bytes h.used at k.there c.read_descriptor-found.result k.is-read c.if-found-eq1.true
 
 pub returns-clause-dead : goal.returns-clause-dead
 returns-clause-dead c = λ _ before.
