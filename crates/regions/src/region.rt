@@ -1,6 +1,7 @@
 ghost use Rattle.std.specs.Prelude.{◌≡◌, ◌≢◌, ◌↔◌, ◌⊎◌, ℕ, ◌+◌, ◌-◌, ◌<◌, ◌≤◌, List, true, false, cond, length, slice_index, Some, None, option_map, replicate, slice_set, IfOk, IfErr, IfSome, IsSome, IsNone, IsErr};
 ghost use Rattle.std.specs.Borrow.{sem};
 ghost use Rattle.layout.specs.Sizes as sizes;
+ghost use Rattle.number_set.specs.Numbers.{size, IsLeast, IsGreatest, IsLeastAbsent};
 ghost use Rattle.object_log.specs.Objects.{IsSize};
 ghost use Rattle.regions.specs.Segments.{segment_at, with_segment, fresh, emptied, all_emptied};
 ghost use Rattle.regions.specs.Shapes.{shape, active_of, guards_of, pieces, is_active, held_count, free_count, activated, IsClosed, IsLeastFree, IsGreatestFree, IsGreatestHeld, IsLeastUnused};
@@ -87,9 +88,7 @@ impl Region {
         ensures counts { (used_counts self.new ≡ used_counts self.old) × (live_counts self.new ≡ live_counts self.old) }
         ensures live_total { live_total self.new ≡ live_total self.old }
     {
-        let Some(number) = self.held.least_absent() else {
-            unreachable!()
-        };
+        let number = least_absent_from(&self.held);
         self.slots[number as usize] = Some(Segment::new(piece));
         self.held.insert(number);
         self.free.insert(number);
@@ -109,9 +108,7 @@ impl Region {
         if self.free.len() <= 1 {
             return None;
         }
-        let Some(number) = self.free.greatest() else {
-            unreachable!()
-        };
+        let number = greatest_of(&self.free);
         let taken = mem::replace(&mut self.slots[number as usize], None);
         self.held.remove(number);
         self.free.remove(number);
@@ -133,9 +130,7 @@ impl Region {
         ensures live_total { live_total self.new ≡ live_total self.old }
     {
         close(&mut self.table, self.active, self.active_live);
-        let Some(number) = self.free.least() else {
-            unreachable!()
-        };
+        let number = least_of(&self.free);
         segment_mut(&mut self.slots[number as usize]).begin();
         self.free.remove(number);
         self.active = Some(number);
@@ -273,6 +268,36 @@ impl Region {
         self.table.clear();
         self.free.copy_from(&self.held);
     }
+}
+
+fn least_of(set: &NumberSet) -> u32
+    requires { 1 ≤ size set.now }
+    ensures { IsLeast set.now result }
+{
+    let Some(number) = set.least() else {
+        unreachable!()
+    };
+    number
+}
+
+fn greatest_of(set: &NumberSet) -> u32
+    requires { 1 ≤ size set.now }
+    ensures { IsGreatest set.now result }
+{
+    let Some(number) = set.greatest() else {
+        unreachable!()
+    };
+    number
+}
+
+fn least_absent_from(set: &NumberSet) -> u32
+    requires { size set.now < length set.now }
+    ensures { IsLeastAbsent set.now result }
+{
+    let Some(number) = set.least_absent() else {
+        unreachable!()
+    };
+    number
 }
 
 // The bytes are the content from now on.

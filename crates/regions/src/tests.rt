@@ -2,7 +2,8 @@
 ghost use Rattle.std.specs.Prelude.{◌≡◌, ◌≤◌, length, IfOk, IfSome, IsSome, option_map};
 ghost use Rattle.object_log.specs.Objects.{IsSize};
 ghost use Rattle.layout.specs.Sizes as sizes;
-ghost use Rattle.regions.specs.Contents.{standing_at, live_at, with_bytes, ChangesAt};
+ghost use Rattle.regions.specs.Shapes.{active_of, IsClosed};
+ghost use Rattle.regions.specs.Contents.{standing_at, live_at, with_bytes, ChangesAt, IsLiveAt};
 
 use crate::{Movers, NeedSegment, Place, Region};
 use raw_range::{Piece, Range};
@@ -233,8 +234,8 @@ fn a_closed_segment_is_freed_once_none_of_its_objects_lives(rt: HostRuntime) -> 
     Ok(())
 }
 
-// How many guards stand at the end, and whether the dead object was served until then.
-fn guarded(region: &mut Region) -> Option<(u32, bool)> {
+// Whether the dead object was served under three guards, under two and under one.
+fn guarded(region: &mut Region) -> Option<(bool, bool, bool)> {
     if region.active().is_none() || region.guards() > 0 {
         return None;
     }
@@ -246,17 +247,90 @@ fn guarded(region: &mut Region) -> Option<(u32, bool)> {
     region.guard();
     region.guard();
     region.kill(place);
+    let three = region.bytes(place) == [7u8; 40].as_slice();
     region.unguard();
+    let two = region.bytes(place) == [7u8; 40].as_slice();
     region.unguard();
-    let served = region.bytes(place) == [7u8; 40].as_slice();
-    Some((region.guards(), served))
+    let one = region.bytes(place) == [7u8; 40].as_slice();
+    Some((three, two, one))
 }
 
 #[test]
-fn a_dead_object_is_served_under_the_last_of_three_guards(rt: HostRuntime) -> Result<(), Fail> {
+fn a_dead_object_is_served_under_three_nested_guards(rt: HostRuntime) -> Result<(), Fail> {
     let mut region = three_segments(rt.alloc())?;
     let _active = go_on(&mut region);
-    assert_eq!(rt; guarded(&mut region), Some((1, true)));
+    assert_eq!(rt; guarded(&mut region), Some((true, true, true)));
+    assert_eq!(rt; region.guards(), 1);
+    assert_eq!(rt; guarded(&mut region), None);
+    Ok(())
+}
+
+#[test]
+fn objects_of_the_least_and_of_the_greatest_size_stand_side_by_side(rt: HostRuntime) -> Result<(), Fail> {
+    let mut region = three_segments(rt.alloc())?;
+    assert_eq!(rt; go_on(&mut region), Some(0));
+    let place = |at| Place { segment: 0, at };
+    assert_eq!(rt; put(&mut region, 1, 16), Ok(place(0)));
+    assert_eq!(rt; put(&mut region, 2, 24), Ok(place(16)));
+    assert_eq!(rt; put(&mut region, 3, 12_288), Ok(place(40)));
+    assert_eq!(rt; put(&mut region, 255, 12_296), Ok(place(12_328)));
+    assert_eq!(rt; region.left(), 106_448);
+    // Eight of ten fit.
+    spend_ten(&mut region);
+    assert_eq!(rt; region.left(), 8080);
+    assert_eq!(rt; go_on(&mut region), Some(1));
+    assert_eq!(rt; counts(&region, 0), Some((122_992, 24_624)));
+    assert!(rt; has(&region, 0, 0, &[1, 1, 0, 0, 16, 0, 0, 0]));
+    assert!(rt; has(&region, 0, 16, &[1, 2, 0, 0, 24, 0, 0, 0]));
+    assert!(rt; has(&region, 0, 40, &[1, 3, 0, 0, 0, 0x30, 0, 0]));
+    assert!(rt; has(&region, 0, 12_328, &[1, 255, 0, 0, 0x08, 0x30, 0, 0]));
+    Ok(())
+}
+
+// A copy of the live object behind those of the active segment, and where it stands.
+fn append_copy(region: &mut Region, from: Place, kind: u8, size: u32) -> Option<Place>
+    requires active { IsSome (active_of region.old) }
+    requires closed { IsClosed region.old from.segment }
+    requires live { IsLiveAt (live_at region.old from) kind size }
+    requires kind { 1 ≤ kind }
+    requires size { IsSize size }
+{
+    let Ok(to) = region.place(kind, size) else {
+        return None;
+    };
+    region.copy(from, to);
+    Some(to)
+}
+
+// The first live object of a closed segment is copied.
+fn copy_first(region: &mut Region, segment: u32) -> Option<Place> {
+    if !region.is_closed(segment) || region.active().is_none() {
+        return None;
+    }
+    let (at, kind, size) = region.next_live(segment, 0)?;
+    append_copy(region, Place { segment, at }, kind, size)
+}
+
+#[test]
+fn a_content_is_copied_into_the_active_segment(rt: HostRuntime) -> Result<(), Fail> {
+    let mut region = three_segments(rt.alloc())?;
+    assert_eq!(rt; go_on(&mut region), Some(0));
+    assert_eq!(rt; write_both(&mut region), Some((true, true)));
+    assert_eq!(rt; copy_first(&mut region, 0), None);
+    spend_ten(&mut region);
+    assert_eq!(rt; go_on(&mut region), Some(1));
+    let copy = Place { segment: 1, at: 0 };
+    assert_eq!(rt; copy_first(&mut region, 0), Some(copy));
+    spend_ten(&mut region);
+    assert_eq!(rt; go_on(&mut region), Some(2));
+    assert_eq!(rt; counts(&region, 1), Some((123_008, 48)));
+    for segment in 0..2u32 {
+        assert!(rt; has(&region, segment, 0, &[1, 1, 0, 0, 48, 0, 0, 0]));
+        assert!(rt; has(&region, segment, 8, &[7; 40]));
+    }
+    assert!(rt; has(&region, 0, 48, &[1, 2, 0, 0, 16, 0, 0, 0]));
+    assert!(rt; has(&region, 1, 48, &[2, 1, 0, 0, 0x08, 0x30, 0, 0]));
+    assert!(rt; has_live(&region, &[64, 48, NOT_CLOSED]));
     Ok(())
 }
 

@@ -12,13 +12,13 @@ use Rattle.regions.proofs.region.Region.add_segment.Goals as goal
 
 -- the number is one of a place without a segment
 record Known (c : goal.After-insert-2) : Type 0 where
-  pub inside : c.in-Some.number < length c.self.inside.slots.items
-  pub unheld : is_held (slot_at (slots_of c.self.inside.slots.items) c.in-Some.number) ≡ false
-  pub none : get_or c.self.inside.slots.items c.in-Some.number None ≡ None
+  pub inside : c.least_absent_from-number.result < length c.self.inside.slots.items
+  pub unheld : is_held (slot_at (slots_of c.self.inside.slots.items) c.least_absent_from-number.result) ≡ false
+  pub none : get_or c.self.inside.slots.items c.least_absent_from-number.result None ≡ None
 
 known : (c : goal.After-insert-2) → Known c
 known c =
-    let i = c.self.inside in let slots = i.slots.items in let n = c.in-Some.number in let v = c.self.invariant in let f = c.in-Some.ensures.least in
+    let i = c.self.inside in let slots = i.slots.items in let n = c.least_absent_from-number.result in let v = c.self.invariant in let f = c.least_absent_from-number.ensures in
     let long = held-long slots i.held i.free v.held v.free in record {
       inside = omega (arith, long, f.0);
       unheld = sym (says-held slots i.held i.free v.held v.free n) ∙ f.1;
@@ -30,7 +30,7 @@ before c = let i = c.self.inside in record { most = i.most; guards = i.guards; a
 
 pub invariant_of-self : goal.invariant_of-self
 invariant_of-self c =
-    let i = c.self.inside in let slots = i.slots.items in let n = c.in-Some.number in let k = known c in
+    let i = c.self.inside in let slots = i.slots.items in let n = c.least_absent_from-number.result in let k = known c in
     subst (λ h. Fields i.most i.active h c.insert-2.new.self i.active_live i.table (slice_set slots n (Some c.new.result))) (sym c.insert.ensures)
     (subst (λ f. Fields i.most i.active (slice_set i.held n true) f i.active_live i.table (slice_set slots n (Some c.new.result))) (sym c.insert-2.ensures)
     (subst (λ h. Fields i.most i.active (slice_set i.held n true) (slice_set i.free n true) i.active_live i.table (slice_set slots n (Some h))) (sym c.new.ensures)
@@ -38,32 +38,32 @@ invariant_of-self c =
 
 pub returns-clause-added : goal.returns-clause-added
 returns-clause-added c =
-    let i = c.self.inside in let slots = i.slots.items in let n = c.in-Some.number in let v = c.self.invariant in let k = known c in
+    let i = c.self.inside in let slots = i.slots.items in let n = c.least_absent_from-number.result in let v = c.self.invariant in let k = known c in
     let at = says-held slots i.held i.free v.held v.free in let long = length-map slots (λ s. option_map slot_of s) in
-    let least : IsLeastUnused (before c) n = (omega (arith, k.inside, long, v.long), (λ h. (let clash : false ≡ true = sym k.unheld ∙ h in cc)), λ m low. sym (at m) ∙ c.in-Some.ensures.least.2 m low) in
+    let least : IsLeastUnused (before c) n = (omega (arith, k.inside, long, v.long), (λ h. (let clash : false ≡ true = sym k.unheld ∙ h in cc)), λ m low. sym (at m) ∙ c.least_absent_from-number.ensures.2 m low) in
     (n, subst (λ q. IsLeastUnused q n) c.self.view_is least, ap (λ h. with_segment (before c) n (Some h)) c.new.ensures ∙ ap (λ q. with_segment q n (Some (fresh c.args.piece))) c.self.view_is)
 
 pub returns-clause-objects : goal.returns-clause-objects
 returns-clause-objects c p =
-    let n = c.in-Some.number in let k = known c in
+    let n = c.least_absent_from-number.result in let k = known c in
     ap (λ h. standing_at (with_segment (before c) n (Some h)) p) c.new.ensures
     ∙ keeps-set (before c) n (Some (fresh c.args.piece)) k.inside (λ a. nothing-stands (fresh c.args.piece) a refl ∙ sym (ap (λ s. standing_in s a) k.none)) p ∙ ap (λ q. standing_at q p) c.self.view_is
 
 pub returns-clause-held : goal.returns-clause-held
 returns-clause-held c =
-    let slots = c.self.inside.slots.items in let n = c.in-Some.number in let k = known c in
+    let slots = c.self.inside.slots.items in let n = c.least_absent_from-number.result in let k = known c in
     let more : count_by is_held (slots_of (slice_set slots n (Some (fresh c.args.piece)))) + 0 ≡ count_by is_held (slots_of slots) + 1 = counted-change is_held slots n None (Some (fresh c.args.piece)) k.inside k.none in
     ap (λ h. held_count (with_segment (before c) n (Some h))) c.new.ensures ∙ omega (arith, more) ∙ ap (λ q. held_count q + 1) c.self.view_is
 
 pub returns-clause-free : goal.returns-clause-free
 returns-clause-free c =
-    let slots = c.self.inside.slots.items in let n = c.in-Some.number in let k = known c in
+    let slots = c.self.inside.slots.items in let n = c.least_absent_from-number.result in let k = known c in
     let more : count_by is_free (slots_of (slice_set slots n (Some (fresh c.args.piece)))) + 0 ≡ count_by is_free (slots_of slots) + 1 = counted-change is_free slots n None (Some (fresh c.args.piece)) k.inside k.none in
     ap (λ h. free_count (with_segment (before c) n (Some h))) c.new.ensures ∙ omega (arith, more) ∙ ap (λ q. free_count q + 1) c.self.view_is
 
 pub returns-clause-counts : goal.returns-clause-counts
 returns-clause-counts c =
-    let slots = c.self.inside.slots.items in let n = c.in-Some.number in let k = known c in (
+    let slots = c.self.inside.slots.items in let n = c.least_absent_from-number.result in let k = known c in (
       ap (λ h. used_counts (with_segment (before c) n (Some h))) c.new.ensures ∙ map-set_same used_in slots n (Some (fresh c.args.piece)) None (sym (ap used_in k.none)) ∙ ap used_counts c.self.view_is,
       ap (λ h. live_counts (with_segment (before c) n (Some h))) c.new.ensures ∙ map-set_same live_in slots n (Some (fresh c.args.piece)) None (sym (ap live_in k.none)) ∙ ap live_counts c.self.view_is,
     )

@@ -10,19 +10,19 @@ use Rattle.regions.proofs.region.Region.take_free.Goals as goal
 
 pub piece_of-requires : goal.piece_of-requires
 piece_of-requires c =
-    let i = c.self.inside in let slots = i.slots.items in let n = c.in-Some.number in let v = c.self.invariant in let f = c.in-Some.ensures.greatest in
+    let i = c.self.inside in let slots = i.slots.items in let n = c.greatest_of-number.result in let v = c.self.invariant in let f = c.greatest_of-number.ensures in
     let inside = free-in slots i.held i.free v.held v.free n f.0 in
     ap (λ s. is_free (option_map slot_of s)) (c.replace-taken.ensures.value ∙ sym (tables.slot-is slots n c.index_mut.result.now None inside c.index_mut.ensures.value)) ∙ free-at slots i.held i.free v.held v.free n f.0
 
 -- the number is that of a free segment, on the piece
 record Known (c : goal.After-piece_of) : Type 0 where
-  pub inside : c.in-Some.number < length c.self.inside.slots.items
-  pub is : get_or c.self.inside.slots.items c.in-Some.number None ≡ Some (fresh c.piece_of.result)
+  pub inside : c.greatest_of-number.result < length c.self.inside.slots.items
+  pub is : get_or c.self.inside.slots.items c.greatest_of-number.result None ≡ Some (fresh c.piece_of.result)
 
 known : (c : goal.After-piece_of) → Known c
 known c =
-    let i = c.self.inside in let slots = i.slots.items in let n = c.in-Some.number in let v = c.self.invariant in
-    let inside = free-in slots i.held i.free v.held v.free n c.in-Some.ensures.greatest.0 in record {
+    let i = c.self.inside in let slots = i.slots.items in let n = c.greatest_of-number.result in let v = c.self.invariant in
+    let inside = free-in slots i.held i.free v.held v.free n c.greatest_of-number.ensures.0 in record {
       inside = inside;
       is = tables.slot-is slots n c.index_mut.result.now None inside c.index_mut.ensures.value ∙ sym c.replace-taken.ensures.value ∙ c.piece_of.ensures;
     }
@@ -32,7 +32,7 @@ before c = let i = c.self.inside in record { most = i.most; guards = i.guards; a
 
 pub invariant_of-self : goal.invariant_of-self
 invariant_of-self c =
-    let i = c.self.inside in let slots = i.slots.items in let n = c.in-Some.number in let k = known c in let d = c.replace-taken.new.dest in
+    let i = c.self.inside in let slots = i.slots.items in let n = c.greatest_of-number.result in let k = known c in let d = c.replace-taken.new.dest in
     subst (λ h. Fields i.most i.active h c.remove-2.new.self i.active_live i.table (slice_set slots n d)) (sym c.remove.ensures)
     (subst (λ f. Fields i.most i.active (slice_set i.held n false) f i.active_live i.table (slice_set slots n d)) (sym c.remove-2.ensures)
     (subst (λ s. Fields i.most i.active (slice_set i.held n false) (slice_set i.free n false) i.active_live i.table (slice_set slots n s)) (sym c.replace-taken.ensures.after)
@@ -40,7 +40,7 @@ invariant_of-self c =
 
 pub returns-clause-taken : goal.returns-clause-taken
 returns-clause-taken c =
-    let i = c.self.inside in let slots = i.slots.items in let n = c.in-Some.number in let v = c.self.invariant in let f = c.in-Some.ensures.greatest in let k = known c in
+    let i = c.self.inside in let slots = i.slots.items in let n = c.greatest_of-number.result in let v = c.self.invariant in let f = c.greatest_of-number.ensures in let k = known c in
     let at = says-free slots i.held i.free v.held v.free in
     let greatest : IsGreatestFree (before c) n = (sym (at n) ∙ f.0, λ m far g. (let clash : false ≡ true = sym (f.1 m far) ∙ at m ∙ g in cc)) in (
       n,
@@ -51,19 +51,19 @@ returns-clause-taken c =
 
 pub returns-clause-held : goal.returns-clause-held
 returns-clause-held c some =
-    let slots = c.self.inside.slots.items in let n = c.in-Some.number in let k = known c in
+    let slots = c.self.inside.slots.items in let n = c.greatest_of-number.result in let k = known c in
     let fewer : count_by is_held (slots_of (slice_set slots n None)) + 1 ≡ count_by is_held (slots_of slots) + 0 = counted-change is_held slots n (Some (fresh c.piece_of.result)) None k.inside k.is in
     ap (λ s. held_count (with_segment (before c) n s) + 1) c.replace-taken.ensures.after ∙ omega (arith, fewer) ∙ ap held_count c.self.view_is
 
 pub returns-clause-free : goal.returns-clause-free
 returns-clause-free c some =
-    let slots = c.self.inside.slots.items in let n = c.in-Some.number in let k = known c in
+    let slots = c.self.inside.slots.items in let n = c.greatest_of-number.result in let k = known c in
     let fewer : count_by is_free (slots_of (slice_set slots n None)) + 1 ≡ count_by is_free (slots_of slots) + 0 = counted-change is_free slots n (Some (fresh c.piece_of.result)) None k.inside k.is in
     ap (λ s. free_count (with_segment (before c) n s) + 1) c.replace-taken.ensures.after ∙ omega (arith, fewer) ∙ ap free_count c.self.view_is
 
 pub returns-clause-counts : goal.returns-clause-counts
 returns-clause-counts c =
-    let slots = c.self.inside.slots.items in let n = c.in-Some.number in let k = known c in (
+    let slots = c.self.inside.slots.items in let n = c.greatest_of-number.result in let k = known c in (
       ap (λ s. used_counts (with_segment (before c) n s)) c.replace-taken.ensures.after ∙ used-taken slots n (fresh c.piece_of.result) k.is refl ∙ ap used_counts c.self.view_is,
       ap (λ s. live_counts (with_segment (before c) n s)) c.replace-taken.ensures.after ∙ live-taken slots n (fresh c.piece_of.result) k.is refl ∙ ap live_counts c.self.view_is,
     )
