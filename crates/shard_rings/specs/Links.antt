@@ -1,7 +1,8 @@
 -- The links, as contracts see them.
-use Rattle.std.specs.Prelude.{◌≡◌, ℕ, List, []}
+use Rattle.std.specs.Prelude.{◌≡◌, ℕ, List, [], Option, Result, OnOk, OnErr, IfErr, OnSome, IfSome, IfNone}
 use Rattle.shard_rings.specs.declared.link.Packet.{Packet}
-use Rattle.shard_rings.specs.Lanes.{Lanes, each_lane, RingId, LinkEnd}
+use Rattle.shard_rings.specs.declared.link.Lane.{Lane}
+use Rattle.shard_rings.specs.Lanes.{Lanes, NoneFell, Rose, RingId, LinkEnd, adds, counts, each_lane, on}
 
 -- the sending ends of two rings: what was sent, and how many sends were refused
 pub record Outgoing : Type 0 where
@@ -14,6 +15,29 @@ pub record Incoming : Type 0 where
   pub rings : Lanes RingId
   pub received : Lanes (List Packet)
   pub empty : Lanes ℕ
+
+-- What a send on a lane does: the packet is behind those that were sent; or it is handed back, and the lane's count of
+-- refused sends is one more.
+pub record Sends {T : Type 0} (lane : Lane) (packet : Packet) (result : Result T Packet) (old new : Outgoing) : Type 0 where
+  pub same_end : new.rings ≡ old.rings
+  pub sent : OnOk result (new.sent ≡ adds lane packet old.sent)
+  pub back : IfErr result (λ back. back ≡ packet)
+  pub not_sent : OnErr result (new.sent ≡ old.sent)
+  pub full : OnErr result (Rose (on lane old.full) (on lane new.full))
+  pub never_falls : NoneFell old.full new.full
+  pub counted : OnErr result (new.full ≡ counts lane old.full)
+  pub not_counted : OnOk result (new.full ≡ old.full)
+
+-- What a receive on a lane does: its packet is behind those that were received; or there is none, and the lane's count of
+-- these is one more.
+pub record Receives (lane : Lane) (result : Option Packet) (old new : Incoming) : Type 0 where
+  pub same_end : new.rings ≡ old.rings
+  pub received : IfSome result (λ packet. new.received ≡ adds lane packet old.received)
+  pub not_received : IfNone result (new.received ≡ old.received)
+  pub empty : IfNone result (Rose (on lane old.empty) (on lane new.empty))
+  pub never_falls : NoneFell old.empty new.empty
+  pub counted : IfNone result (new.empty ≡ counts lane old.empty)
+  pub not_counted : OnSome result (new.empty ≡ old.empty)
 
 -- one node's end toward one peer
 pub record LinkState : Type 0 where

@@ -1,8 +1,8 @@
 //! The ends of two rings, one for each lane.
-ghost use Rattle.std.specs.Prelude.{◌≡◌, ◌↔◌, length, min, OnOk, IfErr, OnErr, IfSome, OnSome, IfNone, IsNone, IfOk};
+ghost use Rattle.std.specs.Prelude.{◌≡◌, ◌↔◌, length, min, IsNone, IfOk};
 ghost use mathlib.Core.List.{IsPrefix};
-ghost use Rattle.shard_rings.specs.Lanes.{NoneFell, Rose, adds, on, counts, greatest_count, ArePrefixes};
-ghost use Rattle.shard_rings.specs.Links.{none_sent, none_received};
+ghost use Rattle.shard_rings.specs.Lanes.{on, greatest_count, ArePrefixes};
+ghost use Rattle.shard_rings.specs.Links.{none_sent, none_received, Receives, Sends};
 
 use crate::link::{Lane, Packet};
 use crate::ring_end::{ReceivingEnd, SendingEnd, ring};
@@ -66,14 +66,7 @@ pub(crate) fn lanes<'f>(alloc: Global) -> Result<(SendingEnds<'f>, ReceivingEnds
 impl<'f> SendingEnds<'f> {
     /// Sends a packet, or hands it back.
     pub(crate) fn push(&mut self, lane: Lane, packet: Packet<'f>) -> Result<(), Packet<'f>>
-        ensures same_end { self.new.rings ≡ self.old.rings }
-        ensures sent { OnOk result (self.new.sent ≡ adds lane packet.entry self.old.sent) }
-        ensures back { IfErr result (λ back. back ≡ packet.entry) }
-        ensures not_sent { OnErr result (self.new.sent ≡ self.old.sent) }
-        ensures full { OnErr result (Rose (on lane self.old.full) (on lane self.new.full)) }
-        ensures never_falls { NoneFell self.old.full self.new.full }
-        ensures counted { OnErr result (self.new.full ≡ counts lane self.old.full) }
-        ensures not_counted { OnOk result (self.new.full ≡ self.old.full) }
+        ensures { Sends lane packet.entry result self.old self.new }
     {
         match lane {
             Lane::Requests => self.requests.push(packet),
@@ -105,13 +98,7 @@ impl<'f> SendingEnds<'f> {
 impl<'f> ReceivingEnds<'f> {
     /// The next packet of the lane, where this end finds one.
     pub(crate) fn pop(&mut self, lane: Lane) -> Option<Packet<'f>>
-        ensures same_end { self.new.rings ≡ self.old.rings }
-        ensures received { IfSome result (λ packet. self.new.received ≡ adds lane packet self.old.received) }
-        ensures not_received { IfNone result (self.new.received ≡ self.old.received) }
-        ensures empty { IfNone result (Rose (on lane self.old.empty) (on lane self.new.empty)) }
-        ensures never_falls { NoneFell self.old.empty self.new.empty }
-        ensures counted { IfNone result (self.new.empty ≡ counts lane self.old.empty) }
-        ensures not_counted { OnSome result (self.new.empty ≡ self.old.empty) }
+        ensures { Receives lane result self.old self.new }
     {
         match lane {
             Lane::Requests => self.requests.pop(),
@@ -126,13 +113,7 @@ impl<'f> ReceivingEnds<'f> {
         sending: &mut SendingEnds<'f>,
     ) -> Option<Packet<'f>>
         requires { sending.old.rings ≡ self.old.rings }
-        ensures same_end { self.new.rings ≡ self.old.rings }
-        ensures received { IfSome result (λ packet. self.new.received ≡ adds lane packet self.old.received) }
-        ensures not_received { IfNone result (self.new.received ≡ self.old.received) }
-        ensures empty { IfNone result (Rose (on lane self.old.empty) (on lane self.new.empty)) }
-        ensures never_falls { NoneFell self.old.empty self.new.empty }
-        ensures counted { IfNone result (self.new.empty ≡ counts lane self.old.empty) }
-        ensures not_counted { OnSome result (self.new.empty ≡ self.old.empty) }
+        ensures receives { Receives lane result self.old self.new }
         ensures sending { sending.new ≡ sending.old }
         ensures holds_none { IsNone result ↔ (on lane self.old.received ≡ on lane sending.old.sent) }
         ensures prefix { IsPrefix (on lane self.new.received) (on lane sending.old.sent) }

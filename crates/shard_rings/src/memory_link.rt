@@ -2,7 +2,7 @@
 ghost use Rattle.std.specs.Prelude.{◌≡◌, ◌↔◌, OnOk, IfErr, OnErr, IfSome, OnSome, IfNone, IsNone, IfOk};
 ghost use mathlib.Core.List.{IsPrefix};
 ghost use Rattle.shard_rings.specs.Lanes.{NoneFell, Rose, adds, on, counts};
-ghost use Rattle.shard_rings.specs.Links.{IsUnused, end_of, none_sent, none_received};
+ghost use Rattle.shard_rings.specs.Links.{IsUnused, end_of, none_sent, none_received, Receives, Sends};
 
 use crate::lane_ends::{ReceivingEnds, SendingEnds, lanes};
 use crate::link::{Lane, Link, Packet};
@@ -70,14 +70,7 @@ impl<'f> MemoryLink<'f> {
     /// # Errors
     /// The packet, where the lane is full.
     pub fn offer(&mut self, lane: Lane, packet: Packet<'f>) -> Result<(), Packet<'f>>
-        ensures same_end { self.new.offered.rings ≡ self.old.offered.rings }
-        ensures sent { OnOk result (self.new.offered.sent ≡ adds lane packet.entry self.old.offered.sent) }
-        ensures back { IfErr result (λ back. back ≡ packet.entry) }
-        ensures not_sent { OnErr result (self.new.offered.sent ≡ self.old.offered.sent) }
-        ensures full { OnErr result (Rose (on lane self.old.offered.full) (on lane self.new.offered.full)) }
-        ensures never_falls { NoneFell self.old.offered.full self.new.offered.full }
-        ensures counted { OnErr result (self.new.offered.full ≡ counts lane self.old.offered.full) }
-        ensures not_counted { OnOk result (self.new.offered.full ≡ self.old.offered.full) }
+        ensures sends { Sends lane packet.entry result self.old.offered self.new.offered }
         ensures link { (self.new.link ≡ self.old.link) × (self.new.taken ≡ self.old.taken) }
     {
         self.offered.push(lane, packet)
@@ -85,13 +78,7 @@ impl<'f> MemoryLink<'f> {
 
     /// The next packet that the node sent. None exactly where all that it sent on the lane was taken.
     pub fn taken(&mut self, lane: Lane) -> Option<Packet<'f>>
-        ensures same_end { self.new.taken.rings ≡ self.old.taken.rings }
-        ensures received { IfSome result (λ packet. self.new.taken.received ≡ adds lane packet self.old.taken.received) }
-        ensures not_received { IfNone result (self.new.taken.received ≡ self.old.taken.received) }
-        ensures empty { IfNone result (Rose (on lane self.old.taken.empty) (on lane self.new.taken.empty)) }
-        ensures never_falls { NoneFell self.old.taken.empty self.new.taken.empty }
-        ensures counted { IfNone result (self.new.taken.empty ≡ counts lane self.old.taken.empty) }
-        ensures not_counted { OnSome result (self.new.taken.empty ≡ self.old.taken.empty) }
+        ensures receives { Receives lane result self.old.taken self.new.taken }
         ensures holds_none { IsNone result ↔ (on lane self.old.taken.received ≡ on lane self.old.link.out.sent) }
         ensures prefix { IsPrefix (on lane self.new.taken.received) (on lane self.old.link.out.sent) }
         ensures link { (self.new.link ≡ self.old.link) × (self.new.offered ≡ self.old.offered) }
