@@ -13,8 +13,8 @@ use Rattle.cache_model.proofs.Along.{IsKept, kept-after}
 
 has-cond : (key : List ℕ) (b : Bool) (row : Row) (rows : List Row) → (is_of key row || has key rows) ≡ false → has key rows ≡ false
     → has key (cond b (row ∷ rows) rows) ≡ false
-has-cond key true row rows both rest = both
-has-cond key false row rows both rest = rest
+has-cond key true row rows neither rest = neither
+has-cond key false row rows neither rest = rest
 
 or-false : (a b : Bool) → (a || b) ≡ false → (a ≡ false) × (b ≡ false)
 or-false true b e = cc

@@ -1,5 +1,5 @@
 -- Replies fit their commands, and logs that hold them hold the answers.
-use Rattle.std.proofs.Common.{◌≡◌, ℕ, ◌+◌, ◌%◌, ◌<◌, ◌≤◌, ◌&&◌, suc, zero, Bool, true, false, leb, cond, List, [], ◌∷◌, ◌++◌, length, map, take, filter, Option, Some, None, refl, subst, sym, ap, ◌∙◌, arith, eqb, get_or, zero-add}
+use Rattle.std.proofs.Common.{◌≡◌, ℕ, ◌+◌, ◌<◌, ◌≤◌, ◌&&◌, suc, zero, Bool, true, false, leb, cond, List, [], ◌∷◌, length, map, filter, Option, Some, None, refl, subst, sym, ap, ◌∙◌, arith, get_or, zero-add}
 use Rattle.std.specs.List.{filter_map, range_with_len, slice_get, slice_index_or}
 use Rattle.std.specs.Option.{IsSome, option_and_then, option_map, unwrap_or}
 use Rattle.std.specs.Prelude.{All}
@@ -10,12 +10,12 @@ use Rattle.std.proofs.lemmas.List.Elements.{All-head, All-tail, All-cons, All-fr
 use Rattle.trace_text.specs.declared.command.Kind.{Kind}
 use Rattle.trace_text.specs.declared.command.Kind.TheVariants as kinds
 use Rattle.trace_text.specs.Operation.{Operation}
-use Rattle.trace_text.specs.Parts.{hash, is_scan, longest_value, owner}
+use Rattle.trace_text.specs.Parts.{is_scan, longest_value, owner}
 use Rattle.trace_text.specs.Trace.{Trace}
 use Rattle.cache_model.specs.declared.entry.Entry.{Entry}
 use Rattle.cache_model.specs.declared.reply_kind.ReplyKind.{ReplyKind}
 use Rattle.cache_model.specs.Answer.{answer, answer_from, answer_kind}
-use Rattle.cache_model.specs.Apply.{Reply, Stored, Replaced, Value, Missing, Erased, Keys, apply, apply_kind, get_where, has, in_order, is_at_most, is_of, row_of, HasDistinctKeys}
+use Rattle.cache_model.specs.Apply.{Reply, Stored, Replaced, Missing, Erased, apply_kind, get_where, has, in_order, is_at_most, is_of, row_of, HasDistinctKeys}
 use Rattle.cache_model.specs.Bodies.{HasKeys}
 use Rattle.cache_model.specs.Holds.{PutsHold}
 use Rattle.cache_model.specs.KeyBody.{IsKey}

@@ -119,8 +119,8 @@ apart-from key (row ∷ rows) none = go (is_of key row) refl none (apart-from ke
   where
     go : (b : Bool) → is_of key row ≡ b → (b || has key rows) ≡ false → (has key rows ≡ false → AllByRecursion (λ other. key ≡ other → ⊥) (map (λ r. r.key) rows))
         → AllByRecursion (λ other. key ≡ other → ⊥) (map (λ r. r.key) (row ∷ rows))
-    go true e both more = absurd (true≢false both)
-    go false e both more = (λ same. true≢false (sym ((bytes_eq-Decides row.key key).1 (sym same)) ∙ e), more both)
+    go true e neither more = absurd (true≢false neither)
+    go false e neither more = (λ same. true≢false (sym ((bytes_eq-Decides row.key key).1 (sym same)) ∙ e), more neither)
 
 distinct-keys : (cache : List Row) → HasDistinctKeys cache → AreDistinct (map (λ row. row.key) cache)
 distinct-keys [] are = tt

@@ -1,5 +1,5 @@
 -- Powers of two, and their multiples.
-use Rattle.std.proofs.Common.{◌≡◌, ℕ, suc, ◌+◌, ◌-◌, ◌*◌, ◌/◌, ◌%◌, ◌^◌, ◌<◌, ◌≤◌, ◌⊎◌, inl, inr, subst, ap, ◌∙◌, arith}
+use Rattle.std.proofs.Common.{◌≡◌, ℕ, suc, ◌+◌, ◌-◌, ◌*◌, ◌/◌, ◌%◌, ◌^◌, ◌<◌, ◌≤◌, inl, inr, subst, ap, ◌∙◌, arith}
 use Rattle.std.proofs.Math.Nat.{pow-suc, mul-le-mul_right, mul-mod_left, div-add-mod', dvd_of_mod-eq-zero, mod-eq-zero_of_dvd, dvd_trans, dvd-add, dvd-mul_left}
 use Rattle.std.proofs.lemmas.Nat.{pow_pos, pow-add, pow_below, mod_below}
 use Rattle.common_lemmas.proofs.Orders.{lt_or_ge, trichotomy}

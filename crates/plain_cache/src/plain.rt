@@ -140,7 +140,11 @@ fn bring_to_front(rows: &mut Vec<OwnedRow>, at: usize, key: &[u8])
 }
 
 /// The keys of these rows that are not below a key.
-fn keys_from<'a>(alloc: Global, rows: &'a [OwnedRow], key: &[u8]) -> Result<Vec<&'a [u8]>, AllocError>
+fn keys_from<'a>(
+    alloc: Global,
+    rows: &'a [OwnedRow],
+    key: &[u8],
+) -> Result<Vec<&'a [u8]>, AllocError>
     ensures { IfOk result (λ keys. map (λ found. found.now) keys.items ≡ filter (is_at_most key.now) (map (λ row. row.key) (map row_in rows.now))) }
 {
     let mut keys = Vec::new(alloc);

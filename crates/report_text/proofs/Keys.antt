@@ -1,4 +1,4 @@
--- The keys of a body as they are laid, one behind another.
+-- The keys of a body as they are put, one behind another.
 use Rattle.std.proofs.Common.{◌≡◌, ℕ, ◌+◌, ◌-◌, ◌≤◌, List, [], ◌∷◌, ◌++◌, length, take, drop, arith, Err, sym, ap, ◌∙◌, subst, append_assoc, append-nil}
 use Rattle.std.specs.List.{flat_map}
 use Rattle.outside.specs.declared.failure.Failed.{Failed}
@@ -7,7 +7,7 @@ use Rattle.report_text.specs.inside.Output.{Output, Writes}
 use Rattle.report_text.proofs.Outputs.{Added, Writes-then, Writes-stop}
 use Rattle.report_text.proofs.Texts.{key_piece}
 
--- a front of the keys was laid, and the others are the rest of the body
+-- a front of the keys was put, and the others are the rest of the body
 pub record AreAdded (a b : Output) (rest : List ℕ) (keys : List (List ℕ)) : Type 0 where
   pub others : List (List ℕ)
   pub text : List ℕ
@@ -45,7 +45,7 @@ added_all a b rest keys p none =
     let all : p.text ≡ flat_map key_piece keys = sym (append-nil p.text) ∙ ap (λ ks. p.text ++ flat_map key_piece ks) (sym (none p.others p.are)) ∙ p.all in
     subst (Added a b) all p.added
 
--- the next key from a place on, whose span begins at `start`
+-- the next key from an offset on, whose span begins at `start`
 pub cuts_at : (body : List ℕ) (at start len : ℕ) → at ≤ length body
     → ((keys : List (List ℕ)) → AreKeysAt body at keys → (rest : List (List ℕ)) × (keys ≡ take len (drop start body) ∷ rest) × AreKeysAt body (start + len) rest)
     → Cuts (drop at body) (take (start + len - start) (drop start body)) (drop (start + len) body)

@@ -106,12 +106,12 @@ pub Writes-broken-at : {T E X : Type 0} {u : T} {e : E} {a b c : Output} (f : X 
     → Writes {T = T} {E = E} (Ok u) a b (flat_map f (take i xs)) → Writes {T = T} {E = E} (Err e) b c (f x) → Writes {T = T} {E = E} (Err e) a c (flat_map f xs)
 Writes-broken-at {T} {E} {e = e} {b = b} {c = c} f xs i x within is p q = Writes-broken f xs i x within p (subst (λ y. Writes {T = T} {E = E} (Err e) b c (f y)) (sym is) q)
 
--- all texts were laid
+-- all texts were put
 pub Writes-all : {T E X : Type 0} {u : T} {a b : Output} (f : X → List ℕ) (xs : List X) (n : ℕ) → length xs ≤ n → Writes {T = T} {E = E} (Ok u) a b (flat_map f (take n xs))
     → Writes {T = T} {E = E} (Ok u) a b (flat_map f xs)
 Writes-all {a = a} {b = b} f xs n past p = subst (Writes (Ok _) a b) (ap (flat_map f) (take_all n xs past)) p
 
--- an element with its place
+-- an element with its number
 pub numbered_at : {X Y : Type 0} (g : X → Y) (xs : List X) (i : ℕ) (x : X) → i < length xs → get_or xs i x ≡ x → get_or (enumerate_from 0 (map g xs)) i (i, g x) ≡ (i, g x)
 numbered_at g xs i x within is =
     get_or-enumerate_from 0 (map g xs) i (i, g x) (simp length-map within) ∙ ap (λ n. (n, get_or (map g xs) i (g x))) (zero-add i)

@@ -198,7 +198,16 @@ fn a_report_has_the_answers_the_journal_and_the_shard(rt: HostRuntime) -> Result
             "1 stored\n2 stored\n3 value 1\n4 keys b c\n5 keys\n6 missing\njournal 0 1 2 3 4 5 6\nshard 0 rows 2 live 96 lent 0 back 0\n",
         ),
     ] {
-        check_report(&rt, rt.alloc(), input, replies, occupancy, 1000, Ok(()), text)?;
+        check_report(
+            &rt,
+            rt.alloc(),
+            input,
+            replies,
+            occupancy,
+            1000,
+            Ok(()),
+            text,
+        )?;
     }
     Ok(())
 }

@@ -12,7 +12,7 @@ use Rattle.shard_rings.specs.inside.Head.{IsHeadOf}
 abbrev pub IsBytes : List ℕ → Type 0
 IsBytes bytes = (i : ℕ) → get_or bytes i 0 < 256
 
--- n bytes from a place on, one by one
+-- n bytes from an offset on, one by one
 abbrev pub cells : ℕ → ℕ → List ℕ → List ℕ
 cells zero at bytes = []
 cells (suc n) at bytes = get_or bytes at 0 ∷ cells n (suc at) bytes
@@ -41,8 +41,8 @@ two_at at bytes = cells 2 at bytes
 abbrev pub four_at : ℕ → List ℕ → List ℕ
 four_at at bytes = cells 4 at bytes
 
-abbrev laid : ℕ → ℕ → List ℕ → List ℕ → List ℕ → List ℕ → List ℕ
-laid kind none keys number len zeros = kind ∷ none ∷ keys ++ number ++ len ++ zeros
+abbrev header_bytes : ℕ → ℕ → List ℕ → List ℕ → List ℕ → List ℕ → List ℕ
+header_bytes kind none keys number len zeros = kind ∷ none ∷ keys ++ number ++ len ++ zeros
 
 pub head_read : (head : Head) (bytes : List ℕ) → 16 ≤ length bytes
     → reply_byte head.kind ≡ get_or bytes 0 0 → get_or bytes 1 0 ≡ 0
@@ -63,12 +63,12 @@ head_read head bytes long kind none za zb zc zd keys number len fits =
       len = omega (arith, len, fits 8, fits 9, fits 10, fits 11);
       begins =
           take-cells 16 0 bytes long
-          ∙ ap (λ (t : List ℕ). laid (get_or bytes 0 0) (get_or bytes 1 0) (two_at 2 bytes) (four_at 4 bytes) (four_at 8 bytes) t) zeros
-          ∙ ap (λ (t : List ℕ). laid (get_or bytes 0 0) (get_or bytes 1 0) (two_at 2 bytes) (four_at 4 bytes) t (0 ∷ 0 ∷ 0 ∷ 0 ∷ [])) (sym c)
-          ∙ ap (λ (t : List ℕ). laid (get_or bytes 0 0) (get_or bytes 1 0) (two_at 2 bytes) t (to_le_bytes w32 head.len) (0 ∷ 0 ∷ 0 ∷ 0 ∷ [])) (sym b)
-          ∙ ap (λ (t : List ℕ). laid (get_or bytes 0 0) (get_or bytes 1 0) t (to_le_bytes w32 head.number) (to_le_bytes w32 head.len) (0 ∷ 0 ∷ 0 ∷ 0 ∷ [])) (sym a)
-          ∙ ap (λ (n : ℕ). laid (get_or bytes 0 0) n (to_le_bytes w16 head.keys) (to_le_bytes w32 head.number) (to_le_bytes w32 head.len) (0 ∷ 0 ∷ 0 ∷ 0 ∷ [])) none
-          ∙ ap (λ (n : ℕ). laid n 0 (to_le_bytes w16 head.keys) (to_le_bytes w32 head.number) (to_le_bytes w32 head.len) (0 ∷ 0 ∷ 0 ∷ 0 ∷ [])) (sym kind);
+          ∙ ap (λ (t : List ℕ). header_bytes (get_or bytes 0 0) (get_or bytes 1 0) (two_at 2 bytes) (four_at 4 bytes) (four_at 8 bytes) t) zeros
+          ∙ ap (λ (t : List ℕ). header_bytes (get_or bytes 0 0) (get_or bytes 1 0) (two_at 2 bytes) (four_at 4 bytes) t (0 ∷ 0 ∷ 0 ∷ 0 ∷ [])) (sym c)
+          ∙ ap (λ (t : List ℕ). header_bytes (get_or bytes 0 0) (get_or bytes 1 0) (two_at 2 bytes) t (to_le_bytes w32 head.len) (0 ∷ 0 ∷ 0 ∷ 0 ∷ [])) (sym b)
+          ∙ ap (λ (t : List ℕ). header_bytes (get_or bytes 0 0) (get_or bytes 1 0) t (to_le_bytes w32 head.number) (to_le_bytes w32 head.len) (0 ∷ 0 ∷ 0 ∷ 0 ∷ [])) (sym a)
+          ∙ ap (λ (n : ℕ). header_bytes (get_or bytes 0 0) n (to_le_bytes w16 head.keys) (to_le_bytes w32 head.number) (to_le_bytes w32 head.len) (0 ∷ 0 ∷ 0 ∷ 0 ∷ [])) none
+          ∙ ap (λ (n : ℕ). header_bytes n 0 (to_le_bytes w16 head.keys) (to_le_bytes w32 head.number) (to_le_bytes w32 head.len) (0 ∷ 0 ∷ 0 ∷ 0 ∷ [])) (sym kind);
     }
 
 -- ---- a header has one reading

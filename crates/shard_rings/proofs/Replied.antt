@@ -1,5 +1,5 @@
 -- What a part replies can be sent.
-use Rattle.std.proofs.Common.{◌≡◌, ℕ, Bool, true, false, cond, List, [], ◌∷◌, length, take, filter, map, Option, Some, None, refl, arith, subst}
+use Rattle.std.proofs.Common.{◌≡◌, ℕ, Bool, true, false, cond, List, [], ◌∷◌, take, filter, map, Option, Some, None, refl, arith, subst}
 use Rattle.std.specs.Prelude.{All, Contains, find}
 use Rattle.std.proofs.lemmas.List.{length-take}
 use Rattle.std.proofs.lemmas.List.Elements.{All-contains, All-head, All-map, All-tail}
@@ -8,7 +8,7 @@ use Rattle.trace_text.specs.declared.command.Kind.TheVariants as kinds
 use Rattle.trace_text.specs.Parsed.{HasItsFields}
 use Rattle.trace_text.specs.Operation.{Operation}
 use Rattle.cache_model.specs.KeyBody.{IsKey}
-use Rattle.cache_model.specs.Apply.{Reply, Stored, Replaced, Erased, Missing, apply_kind, get_where, has, is_at_most, in_order, is_of, row_of}
+use Rattle.cache_model.specs.Apply.{Stored, Replaced, Erased, Missing, apply_kind, get_where, has, is_at_most, in_order, is_of, row_of}
 use Rattle.cache_model.specs.Row.{Row}
 use Rattle.shard_rings.specs.Reply.{IsSendable, IsSendableRow}
 

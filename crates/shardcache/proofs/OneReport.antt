@@ -1,19 +1,15 @@
 -- The report of one shard that did every command in turn.
-use Rattle.std.proofs.Common.{◌≡◌, ℕ, ◌+◌, ◌-◌, ◌<◌, ◌≤◌, Bool, true, leb, ◌&&◌, List, [], ◌∷◌, ◌++◌, length, take, map, arith, refl, sym, ap, ◌∙◌, Some}
+use Rattle.std.proofs.Common.{◌≡◌, ℕ, ◌+◌, ◌-◌, ◌<◌, ◌≤◌, Bool, List, [], ◌∷◌, ◌++◌, length, take, map, arith, refl, sym, ap, ◌∙◌, Some}
 use Rattle.std.specs.List.{All, AllByRecursion as ByRecursion, enumerate_from, slice_get}
 use Rattle.std.specs.Option.{option_map}
-use Rattle.std.proofs.lemmas.Bool.{and_parts, leb-true}
-use Rattle.std.proofs.lemmas.Bool.Decides.{nat_tests}
 use Rattle.std.proofs.lemmas.List.{take_all}
 use Rattle.std.proofs.lemmas.List.Elements.{All-from_recursion, All-head, All-tail}
-use Rattle.layout.specs.Sizes.{greatest_key}
 use Rattle.trace_text.specs.Operation.{Operation}
 use Rattle.trace_text.specs.Trace.{trace_with}
 use Rattle.trace_text.specs.Parsed.{IsWellFormed}
 use Rattle.cache_model.specs.declared.entry.Entry.{Entry}
-use Rattle.cache_model.specs.Apply.{Reply, Stored, Replaced, Value, Missing, Erased, Keys}
-use Rattle.cache_model.specs.Holds.{PutHolds, ReplyHolds, RowsHold}
-use Rattle.cache_model.specs.KeyBody.{IsKey}
+use Rattle.cache_model.specs.Apply.{Reply}
+use Rattle.cache_model.specs.Holds.{PutHolds, RowsHold}
 use Rattle.cache_model.specs.Report.{IsReportOf, Occupancy, answers, journal_text, occupancy, report, report_of, text_lines}
 use Rattle.cache_model.specs.Row.{live}
 use Rattle.cache_model.specs.Spelled.{spelled}

@@ -1,16 +1,15 @@
 -- One shard that does every command in turn: its journal is legal and complete, and its replies are the answers.
-use Rattle.std.proofs.Common.{◌≡◌, ℕ, ◌+◌, ◌-◌, ◌%◌, ◌<◌, ◌≤◌, suc, zero, Bool, true, false, not, ◌||◌, ◌&&◌, cond, eqb, List, [], ◌∷◌, ◌++◌, length, take, map, filter, max, append_assoc, Option, Some, None, arith, refl, sym, ap, ◌∙◌, subst}
+use Rattle.std.proofs.Common.{◌≡◌, ℕ, ◌+◌, ◌-◌, ◌%◌, ◌<◌, suc, Bool, true, false, not, ◌||◌, ◌&&◌, cond, eqb, List, [], ◌∷◌, ◌++◌, length, map, filter, append_assoc, Option, Some, arith, refl, sym, ap, ◌∙◌, subst}
 use Rattle.cache_model.specs.declared.reply_kind.ReplyKind.{ReplyKind}
 use Rattle.cache_model.specs.Bodies.{HasKeys}
 use Rattle.cache_model.specs.Logged.{AreLogged}
 use Rattle.cache_model.specs.OwnParts.{HoldsReplies, issued_parts, part_reply, parts_of}
 use Rattle.cache_model.specs.Spelled.{spelled}
 use Rattle.trace_text.specs.Parsed.{IsWellFormed}
-use Rattle.std.specs.List.{All, AllByRecursion as ByRecursion, slice_index_or, find, filter_map, list_any, before_first, prefix_len, fold}
+use Rattle.std.specs.List.{All, AllByRecursion as ByRecursion, slice_index_or, filter_map, list_any, before_first, prefix_len}
 use Rattle.std.specs.Option.{option_map, is_some, IsSome}
 use Rattle.std.proofs.lemmas.List.Elements.{All-cons}
 use Rattle.std.proofs.lemmas.Bool.Decides.{nat_tests}
-use Rattle.std.proofs.lemmas.List.{append-nil, take-take}
 use Rattle.trace_text.specs.Operation.{Operation}
 use Rattle.trace_text.specs.Trace.{Trace, trace_with}
 use Rattle.trace_text.specs.Parts.{hash, origin, has_part, is_scan}

@@ -1,4 +1,4 @@
--- The first `filled` bytes are what was taken, and no more than `most` bytes have a place.
+-- The first `filled` bytes are what was taken, and no more than `most` bytes have room.
 use Rattle.std.proofs.Common.{◌-◌, ◌≤◌, vec_len, take}
 use Rattle.std.specs.Io.KnownBytes.{Consumes}
 use Rattle.outside.proofs.reading.read_all.Given as goal

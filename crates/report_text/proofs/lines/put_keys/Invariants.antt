@@ -1,4 +1,4 @@
--- The keys so far were laid, and the others are the rest.
+-- The keys so far were put, and the others are the rest.
 use Rattle.std.proofs.Common.{ℕ, ◌-◌, ◌≤◌, List, drop, length}
 use Rattle.cache_model.specs.KeyBody.{AreKeys}
 use Rattle.report_text.specs.inside.Output.{output}

@@ -1,6 +1,6 @@
-use Rattle.std.proofs.Common.{ℕ, List, subst, sym}
+use Rattle.std.proofs.Common.{subst, sym}
 use Rattle.trace_text.specs.declared.command.Kind.{Kind}
-use Rattle.cache_model.specs.Apply.{Keys, Reply}
+use Rattle.cache_model.specs.Apply.{Keys}
 use Rattle.cache_model.specs.Fits.{FitsKind}
 use Rattle.report_text.proofs.tests.reply_to.Goals as goal
 

@@ -3,7 +3,7 @@ use Rattle.std.proofs.Common.{refl, sym}
 use Rattle.shardcache.specs.declared.status.Status.TheVariants as status
 use Rattle.shardcache.specs.Settings.{view}
 use Rattle.shardcache.specs.TraceFor.{NotYetShards}
-use Rattle.shardcache.proofs.TableRows.{accepted, follows_ending, means_not_yet, refused, takes_none}
+use Rattle.shardcache.proofs.TableRows.{follows_ending, means_not_yet, takes_none}
 use Rattle.shardcache.proofs.call.shardcache.Goals as goal
 
 pub returns-in_default-found-clause-headline : goal.returns-in_default-found-clause-headline
