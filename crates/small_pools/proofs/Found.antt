@@ -1,22 +1,20 @@
 -- What the masks and the lists tell of the spans.
-use Rattle.std.proofs.Common.{◌≡◌, ◌≢◌, ℕ, zero, suc, ◌+◌, ◌*◌, ◌/◌, ◌%◌, ◌^◌, ◌<◌, ◌≤◌, ◌⊎◌, inl, inr, length, slice_get, Option, Some, None, refl, sym, ap, subst, ◌∙◌, arith}
+use Rattle.std.proofs.Common.{◌≡◌, ◌≢◌, ℕ, zero, suc, ◌+◌, ◌/◌, ◌%◌, ◌^◌, ◌<◌, ◌≤◌, ◌⊎◌, inl, inr, length, slice_get, Option, Some, None, refl, sym, ap, subst, ◌∙◌, arith}
 use Rattle.std.proofs.Math.Nat.{pow-suc}
 use Rattle.std.proofs.lemmas.Bool.{cases_eq}
 use Rattle.std.proofs.lemmas.Nat.{pow_pos}
 use Rattle.std.proofs.lemmas.Nat.Bits.{bit_at_lowest, bit_at-suc, bit_at-zero, same_from_bits}
-use Rattle.std.specs.FinMap as map
 use Rattle.std.specs.Int.{bit_at}
-use Rattle.index_lists.specs.Lists.{Lists, list_at}
+use Rattle.index_lists.specs.Lists.{list_at}
 use Rattle.common_lemmas.specs.Lists.{times}
 use Rattle.common_lemmas.proofs.Orders.{lt_or_ge}
 use Rattle.common_lemmas.proofs.Options.{some_or_none, none_of}
-use Rattle.small_pools.specs.Classes.{size_of, order_of, capacity_of}
-use Rattle.small_pools.specs.Objects.{Objects, slot_place, IsHeld, HasObject, HasRoom, IsUsedUp}
+use Rattle.small_pools.specs.Classes.{order_of, capacity_of}
+use Rattle.small_pools.specs.Objects.{slot_place, IsHeld, HasObject, HasRoom, IsUsedUp}
 use Rattle.small_pools.specs.inside.Tables.{Tables, class_at, mask_at, objects_of, list_of, stands_on, IsConsistent}
-use Rattle.small_pools.proofs.ClassFacts.{is_class}
 use Rattle.small_pools.proofs.Places.{object_hit, object_free}
 use Rattle.small_pools.proofs.Stands.{stands_same, on_list, of_list, list_of_room, held_of_front, none_of_front}
-use Rattle.small_pools.proofs.Tables.{get_held, get_allocated, class_of_held, first_within}
+use Rattle.small_pools.proofs.Tables.{get_held, get_allocated, class_of_held}
 
 below_power : (n : ℕ) → n < 2 ^ n
 below_power zero = omega arith

@@ -4,11 +4,10 @@ use Rattle.std.proofs.lemmas.List.{length-replicate}
 use Rattle.std.specs.Ordering.{nat_cmp}
 use Rattle.std.specs.FinMap as map
 use Rattle.layout.specs.Sizes.{page, most_pages}
-use Rattle.index_lists.specs.Lists.{Lists}
 use Rattle.common_lemmas.specs.Lists.{times}
 use Rattle.common_lemmas.proofs.Maps.{maps_same}
 use Rattle.common_lemmas.proofs.Options.{some_or_none}
-use Rattle.small_pools.specs.inside.Tables.{Tables, class_at, first_of, mask_at, object_at, object_in, objects_of, list_of, stands_on, map_below, IsConsistent}
+use Rattle.small_pools.specs.inside.Tables.{Tables, class_at, first_of, mask_at, object_at, object_in, objects_of, list_of, stands_on, IsConsistent}
 use Rattle.small_pools.proofs.Maps.{get-map_below}
 
 all_alike : {A : Type 0} (n x : ℕ) (d : A) → get_or (replicate n d) x d ≡ d

@@ -1,11 +1,11 @@
 -- What is allocated at a place, by the tables.
-use Rattle.std.proofs.Common.{◌≡◌, ◌≢◌, ℕ, zero, suc, ◌+◌, ◌-◌, ◌*◌, ◌/◌, ◌^◌, ◌<◌, ◌≤◌, ◌⊎◌, inl, inr, Bool, true, false, cond, eqb, ltb, ◌&&◌, Option, Some, None, refl, sym, ap, subst, ◌∙◌, arith}
+use Rattle.std.proofs.Common.{◌≡◌, ℕ, suc, ◌+◌, ◌-◌, ◌*◌, ◌/◌, ◌^◌, ◌<◌, ◌≤◌, inl, inr, Bool, true, false, cond, eqb, ltb, ◌&&◌, Option, Some, None, refl, sym, ap, subst, ◌∙◌, arith}
 use Rattle.std.proofs.Math.Nat.{mul-le-mul_right, mul-div_cancel}
-use Rattle.std.proofs.lemmas.Nat.{le-div, div_below, pow_pos}
+use Rattle.std.proofs.lemmas.Nat.{le-div, div_below}
 use Rattle.std.proofs.lemmas.Bool.Decides.{eqb_tells, leb_tells}
 use Rattle.std.specs.Int.{bit_at}
 use Rattle.layout.specs.Sizes.{page}
-use Rattle.common_lemmas.proofs.Options.{some_is, none_of, some_or_none}
+use Rattle.common_lemmas.proofs.Options.{some_is, none_of}
 use Rattle.small_pools.specs.Classes.{size_of, order_of, capacity_of}
 use Rattle.small_pools.specs.Objects.{slot_place}
 use Rattle.small_pools.specs.inside.Tables.{Tables, class_at, first_of, mask_at, object_in, object_at, IsConsistent}

@@ -1,9 +1,8 @@
 -- What each call of the pools reads and leaves.
-use Rattle.std.proofs.Common.{◌≡◌, ◌≢◌, ℕ, suc, ◌+◌, ◌-◌, ◌*◌, ◌/◌, ◌%◌, ◌^◌, ◌<◌, ◌≤◌, ◌⊎◌, inl, inr, List, length, get_or, slice_get, Option, Some, None, IsSome, true, false, refl, sym, ap, subst, ◌∙◌, arith}
+use Rattle.std.proofs.Common.{◌≡◌, ◌≢◌, ℕ, ◌+◌, ◌-◌, ◌*◌, ◌/◌, ◌^◌, ◌<◌, ◌≤◌, ◌⊎◌, List, length, get_or, Option, Some, None, IsSome, true, false, refl, sym, ap, subst, ◌∙◌, arith}
 use Rattle.std.proofs.lemmas.List.{get_or_read}
 use Rattle.std.proofs.lemmas.Nat.{div_below}
 use Rattle.std.proofs.lemmas.Nat.Bits.{bit_at-zero}
-use Rattle.std.specs.Ordering.{nat_cmp}
 use Rattle.std.specs.FinMap as map
 use Rattle.std.specs.Int.{bit_at}
 use Rattle.layout.specs.Sizes.{page}
@@ -11,12 +10,12 @@ use Rattle.index_lists.specs.Lists.{Lists, list_at}
 use Rattle.common_lemmas.specs.Lists.{times}
 use Rattle.small_pools.specs.Classes.{size_of, order_of, capacity_of, IsClass}
 use Rattle.small_pools.specs.Objects.{Objects, slot_place, IsHeld, HasObject, HasRoom}
-use Rattle.small_pools.specs.inside.Tables.{Tables, class_at, first_of, mask_at, object_at, objects_of, list_of, stands_on, IsRelisted, IsConsistent}
+use Rattle.small_pools.specs.inside.Tables.{Tables, class_at, mask_at, object_at, objects_of, list_of, stands_on, IsRelisted, IsConsistent}
 use Rattle.small_pools.proofs.ClassFacts.{is_class}
 use Rattle.small_pools.proofs.Places.{IsAllocatedAt, object_is, slot_within, slot_back}
 use Rattle.small_pools.proofs.Stands.{list_of_room}
-use Rattle.small_pools.proofs.Tables.{get_held, get_allocated, class_of_held, first_within, place_below, AreOthers, with_mask, IsTaken, slot_taken, IsReleased, slot_released, IsOwned, IsClear, with_span, IsAdded, span_added, without_span, IsRemoved, span_removed}
-use Rattle.small_pools.proofs.Found.{free_of_room, room_of, all_free_of_none, stands_before}
+use Rattle.small_pools.proofs.Tables.{get_held, get_allocated, class_of_held, first_within, place_below, AreOthers, with_mask, IsTaken, slot_taken, IsReleased, slot_released, IsOwned, with_span, IsAdded, span_added, without_span, IsRemoved, span_removed}
+use Rattle.small_pools.proofs.Found.{free_of_room, all_free_of_none, stands_before}
 
 -- objects are their fields
 pub same_fields : (a b : Objects) → a.pages ≡ b.pages → a.held ≡ b.held → a.allocated ≡ b.allocated → a ≡ b

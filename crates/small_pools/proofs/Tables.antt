@@ -1,5 +1,5 @@
 -- What each step leaves of the tables, and of what is allocated.
-use Rattle.std.proofs.Common.{◌≡◌, ◌≢◌, ℕ, zero, suc, ◌+◌, ◌-◌, ◌*◌, ◌/◌, ◌^◌, ◌<◌, ◌≤◌, ◌⊎◌, inl, inr, List, length, get_or, set, Option, Some, None, refl, sym, ap, subst, ◌∙◌, arith, get_or-set_same, get_or-set_other}
+use Rattle.std.proofs.Common.{◌≡◌, ◌≢◌, ℕ, ◌+◌, ◌*◌, ◌^◌, ◌<◌, ◌≤◌, ◌⊎◌, inl, inr, List, length, get_or, set, Option, Some, None, refl, sym, ap, subst, ◌∙◌, arith, get_or-set_same, get_or-set_other}
 use Rattle.std.proofs.Math.ListN.{length-set}
 use Rattle.std.proofs.Math.Nat.{mul-le-mul_right}
 use Rattle.std.proofs.lemmas.List.{get_or_past}
@@ -8,17 +8,16 @@ use Rattle.std.proofs.lemmas.Bool.{cases_eq}
 use Rattle.std.specs.FinMap as map
 use Rattle.std.specs.Int.{bit_at}
 use Rattle.layout.specs.Sizes.{page}
-use Rattle.layout.specs.Extents.{Blocks}
 use Rattle.index_lists.specs.Lists.{Lists, list_at}
 use Rattle.common_lemmas.specs.Lists.{times}
 use Rattle.common_lemmas.proofs.Orders.{lt_or_ge, trichotomy}
 use Rattle.common_lemmas.proofs.Options.{some_is, some_or_none, none_of, same_option}
 use Rattle.small_pools.specs.Classes.{size_of, order_of, capacity_of}
-use Rattle.small_pools.specs.Objects.{Objects, slot_place, IsHeld, AreObjects}
-use Rattle.small_pools.specs.inside.Tables.{Tables, class_at, first_of, mask_at, object_at, objects_of, map_below, list_of, stands_on, IsRelisted, IsConsistent}
+use Rattle.small_pools.specs.Objects.{slot_place, IsHeld, AreObjects}
+use Rattle.small_pools.specs.inside.Tables.{Tables, class_at, mask_at, object_at, objects_of, list_of, stands_on, IsRelisted, IsConsistent}
 use Rattle.small_pools.proofs.ClassFacts.{is_class}
 use Rattle.small_pools.proofs.Maps.{get-map_below, same_below, insert_below, remove_below}
-use Rattle.small_pools.proofs.Places.{IsAllocatedAt, slot_within, object_hit, object_is, object_free, object_stays, same_slot}
+use Rattle.small_pools.proofs.Places.{IsAllocatedAt, slot_within, object_hit, object_is, object_free, object_stays}
 
 -- ---- what callers see
 

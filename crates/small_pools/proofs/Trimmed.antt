@@ -1,17 +1,16 @@
 -- How the pools and the pages go together.
-use Rattle.std.proofs.Common.{◌≡◌, ◌≢◌, ℕ, zero, suc, ◌+◌, ◌-◌, ◌*◌, ◌^◌, ◌<◌, ◌≤◌, ◌⊎◌, inl, inr, List, [], ◌∷◌, true, false, cond, is_some, Option, Some, None, refl, sym, ap, subst, ◌∙◌, arith}
+use Rattle.std.proofs.Common.{◌≡◌, ◌≢◌, ℕ, ◌+◌, ◌-◌, ◌^◌, ◌<◌, ◌≤◌, ◌⊎◌, inl, inr, true, cond, is_some, Option, Some, None, refl, sym, ap, subst, ◌∙◌, arith}
 use Rattle.std.proofs.lemmas.Bool.{cases_eq}
-use Rattle.std.proofs.lemmas.Nat.{pow_pos}
 use Rattle.std.proofs.lemmas.Cmp.{nat_cmp_total}
 use Rattle.std.specs.Ordering.{nat_cmp}
 use Rattle.std.specs.FinMap as map
-use Rattle.span_lists.specs.Layout.{Layout, IsAllocated, Divides, IsCoalesced, HasNone}
+use Rattle.span_lists.specs.Layout.{Layout, IsAllocated, Divides}
 use Rattle.common_lemmas.proofs.Orders.{trichotomy}
 use Rattle.common_lemmas.proofs.Orders.{trichotomy}
 use Rattle.common_lemmas.proofs.Maps.{get_inserted, get_past_insert, get_removed, get_past_remove}
 use Rattle.common_lemmas.proofs.Options.{some_is}
-use Rattle.small_pools.specs.Classes.{size_of, order_of, capacity_of}
-use Rattle.small_pools.specs.Objects.{Objects, slot_place, IsHeld, HasObject, HasRoom, IsUsedUp, AreObjects, AreHeldIn, Trims}
+use Rattle.small_pools.specs.Classes.{size_of, order_of}
+use Rattle.small_pools.specs.Objects.{Objects, slot_place, IsHeld, HasObject, HasRoom, IsUsedUp, AreHeldIn, Trims}
 
 -- a span with room keeps the class from being used up
 pub not_used_up : (s : Objects) (f c : ℕ) → IsHeld s f c → HasRoom s f c → ¬ IsUsedUp s c

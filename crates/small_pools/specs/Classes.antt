@@ -1,5 +1,5 @@
 -- The sizes of small objects: 37 classes, four per doubling.
-use Rattle.std.specs.Prelude.{◌≡◌, ℕ, ◌+◌, ◌*◌, ◌/◌, ◌<◌, ◌≤◌, ◌^◌, List, [], ◌∷◌, slice_index, nat_le, if◌then◌else◌}
+use Rattle.std.specs.Prelude.{ℕ, ◌*◌, ◌/◌, ◌<◌, ◌≤◌, ◌^◌, List, [], ◌∷◌, slice_index, nat_le, if◌then◌else◌}
 use Rattle.layout.specs.Sizes.{page, greatest_block}
 
 abbrev pub class_sizes : List ℕ

@@ -1,8 +1,8 @@
-use Rattle.std.proofs.Common.{◌≡◌, ℕ, suc, ◌+◌, ◌-◌, ◌*◌, ◌/◌, ◌%◌, ◌^◌, ◌<◌, ◌≤◌, sym, ap, subst, ◌∙◌, arith}
+use Rattle.std.proofs.Common.{◌≡◌, ℕ, suc, ◌+◌, ◌-◌, ◌*◌, ◌/◌, ◌^◌, ◌<◌, ◌≤◌, sym, subst, arith}
 use Rattle.std.proofs.lemmas.Nat.{leading_top, and_mask}
 use Rattle.std.specs.Int.Bits.{bit_and}
 use Rattle.std.specs.Int.Count.{count_leading_zeros}
-use Rattle.small_pools.specs.Classes.{IsClass, IsLeastClass}
+use Rattle.small_pools.specs.Classes.{IsLeastClass}
 use Rattle.small_pools.proofs.ClassFacts.{between_classes, least_class, is_class}
 use Rattle.small_pools.proofs.classes.class_above.Goals as goal
 

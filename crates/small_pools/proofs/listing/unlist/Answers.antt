@@ -1,9 +1,6 @@
-use Rattle.std.proofs.Common.{◌≡◌, ◌≢◌, ◌+◌, ◌-◌, ◌<◌, ◌≤◌, ℕ, List, [], Option, Some, IfSome, length, get_or, set, inl, inr, refl, sym, subst, ap, ◌∙◌, arith, get_or-set_same, get_or-set_other}
-use Rattle.std.proofs.lemmas.Bool.{cases_eq}
-use Rattle.std.proofs.Math.ListN.{length-set}
-use Rattle.index_lists.specs.Lists.{Lists, list_at, with_list}
-use Rattle.common_lemmas.specs.Lists.{times, delete}
-use Rattle.common_lemmas.proofs.Counts.{times-delete_same, times-delete_other}
+use Rattle.std.proofs.Common.{◌≡◌, ◌<◌, IfSome, length, subst}
+use Rattle.index_lists.specs.Lists.{list_at}
+use Rattle.common_lemmas.specs.Lists.{times}
 use Rattle.small_pools.specs.inside.Tables.{stands_on}
 use Rattle.small_pools.proofs.Lists.{removed_gone, removed_others}
 use Rattle.small_pools.proofs.listing.unlist.Goals as goal

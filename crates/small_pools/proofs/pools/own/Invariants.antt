@@ -1,4 +1,4 @@
-use Rattle.std.proofs.Common.{◌≡◌, ◌+◌, ◌<◌, ◌≤◌, ◌⊎◌, ℕ, get_or, length}
+use Rattle.std.proofs.Common.{◌≡◌, ◌<◌, ◌≤◌, ◌⊎◌, ℕ, get_or, length}
 use Rattle.small_pools.proofs.pools.own.Given as goal
 
 abbrev pub invariant-loop-page : goal.invariant-loop-page

@@ -1,12 +1,12 @@
-use Rattle.std.proofs.Common.{◌≡◌, ◌-◌, ◌*◌, ◌/◌, ◌<◌, ◌≤◌, ℕ, List, Option, Some, None, get_or, length, refl, sym, ap, subst, ◌∙◌, arith}
+use Rattle.std.proofs.Common.{◌≡◌, ◌-◌, ◌*◌, ◌/◌, ◌<◌, ℕ, Option, Some, None, get_or, sym, ap, subst, ◌∙◌, arith}
 use Rattle.std.proofs.lemmas.List.{get_or_read}
 use Rattle.std.specs.FinMap as map
 use Rattle.layout.specs.Sizes.{page}
-use Rattle.common_lemmas.proofs.Options.{some_is, some_or_none}
+use Rattle.common_lemmas.proofs.Options.{some_is}
 use Rattle.small_pools.specs.Classes.{size_of, capacity_of}
 use Rattle.small_pools.specs.Objects.{Objects, slot_place, IsHeld}
-use Rattle.small_pools.specs.inside.Tables.{Tables, class_at, IsConsistent, objects_of}
-use Rattle.small_pools.proofs.Tables.{are_objects, get_held}
+use Rattle.small_pools.specs.inside.Tables.{Tables, class_at}
+use Rattle.small_pools.proofs.Tables.{get_held}
 use Rattle.small_pools.proofs.Steps.{allocated_at, page_within, found_at, IsFoundAt, slot_is}
 use Rattle.small_pools.proofs.pools.Pools.put.Goals as goal
 

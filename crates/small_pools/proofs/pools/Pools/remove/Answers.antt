@@ -1,4 +1,4 @@
-use Rattle.std.proofs.Common.{◌≡◌, refl, sym, ap, subst, ◌∙◌, arith}
+use Rattle.std.proofs.Common.{ap, ◌∙◌, arith}
 use Rattle.std.specs.FinMap as map
 use Rattle.small_pools.specs.Objects.{Objects}
 use Rattle.small_pools.proofs.Tables.{are_objects}

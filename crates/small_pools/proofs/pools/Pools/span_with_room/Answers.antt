@@ -1,8 +1,6 @@
-use Rattle.std.proofs.Common.{◌≡◌, ◌+◌, ◌^◌, ℕ, Some, None, inr, refl, sym, subst, ap, ◌∙◌}
+use Rattle.std.proofs.Common.{inr, refl, ap, ◌∙◌}
 use Rattle.std.specs.FinMap as map
-use Rattle.span_lists.specs.Layout.{Layout}
 use Rattle.common_lemmas.proofs.Maps.{get_inserted}
-use Rattle.small_pools.specs.Classes.{order_of}
 use Rattle.small_pools.specs.Objects.{Objects}
 use Rattle.small_pools.proofs.Trimmed.{clear_of, inside_of, held_more, free_before}
 use Rattle.small_pools.proofs.pools.Pools.span_with_room.Goals as goal

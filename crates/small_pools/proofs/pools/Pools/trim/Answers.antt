@@ -1,8 +1,8 @@
-use Rattle.std.proofs.Common.{◌≡◌, ◌+◌, ◌<◌, ◌≤◌, ◌^◌, ℕ, inl, inr, sym, subst, ap, ◌∙◌, arith}
+use Rattle.std.proofs.Common.{inl, inr, sym, subst, arith}
 use Rattle.std.proofs.lemmas.Bool.{cases_eq}
 use Rattle.std.proofs.lemmas.Nat.{pow_pos}
 use Rattle.small_pools.specs.Classes.{order_of}
-use Rattle.small_pools.specs.Objects.{Objects, IsHeld, HasObject}
+use Rattle.small_pools.specs.Objects.{IsHeld, HasObject}
 use Rattle.small_pools.proofs.Trimmed.{trims_none, trims_twice, still_used}
 use Rattle.small_pools.proofs.pools.Pools.trim.Goals as goal
 

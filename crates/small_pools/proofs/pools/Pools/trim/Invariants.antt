@@ -1,4 +1,4 @@
-use Rattle.std.proofs.Common.{◌≡◌, ℕ, ◌<◌}
+use Rattle.std.proofs.Common.{ℕ, ◌<◌}
 use Rattle.span_lists.specs.Layout.{Divides, IsCoalesced}
 use Rattle.small_pools.specs.Objects.{IsHeld, HasObject, AreObjects, AreHeldIn, Trims}
 use Rattle.small_pools.proofs.pools.Pools.trim.Given as goal

@@ -1,10 +1,9 @@
 use Rattle.std.proofs.Common.{◌≡◌, ◌<◌, ◌≤◌, ℕ, true, false, Option, Some, None, get_or, sym, ap, subst, ◌∙◌, arith}
 use Rattle.std.proofs.lemmas.List.{get_or_read}
 use Rattle.std.specs.Int.{bit_at}
-use Rattle.common_lemmas.proofs.Options.{some_is, some_or_none}
-use Rattle.small_pools.specs.Classes.{capacity_of}
+use Rattle.common_lemmas.proofs.Options.{some_is}
 use Rattle.small_pools.specs.Objects.{Objects, IsHeld, HasObject}
-use Rattle.small_pools.specs.inside.Tables.{Tables, class_at, mask_at, objects_of, IsConsistent}
+use Rattle.small_pools.specs.inside.Tables.{Tables, class_at, objects_of, IsConsistent}
 use Rattle.small_pools.proofs.Tables.{get_held, class_of_held}
 use Rattle.small_pools.proofs.Found.{no_object, some_object}
 use Rattle.small_pools.proofs.Steps.{IsSpanAt, span_at, read_mask}
