@@ -7,6 +7,7 @@ pub mod Numbers
 pub mod Updates
 pub mod Consistency
 pub mod Regions
+pub mod Members
 pub mod Emptied
 pub mod Sums
 pub mod Stores

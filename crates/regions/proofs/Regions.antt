@@ -15,8 +15,6 @@ use Rattle.regions.specs.Counts.{used_in, live_in, used_in_each, live_in_each, l
 use Rattle.regions.specs.Contents.{Standing, size_of, if_live, item_if_live, standing_in, standing_at, standing_among, ChangesIn, ChangesAt, Keeps}
 use Rattle.regions.specs.inside.Consistent.{IsConsistent, not_closed, with_closed, is_sparse}
 use Rattle.regions.specs.declared.place.Place.{Place}
-use Rattle.number_set.specs.Numbers.{has}
-use Rattle.regions.proofs.Numbers.{has-held, has-free}
 use Rattle.regions.proofs.Tables as tables
 use Rattle.regions.proofs.Updates.{within, slot-is, used-is, live-is, slots-same, used-same, live-same, used-plus, live-plus, live-there, live-others}
 use Rattle.regions.proofs.Consistency.{counted-as, begun-closed, unbegun-open, placed, killed, activates, frees, reslotted, held-within, begun-held, free-held, free-unbegun}
@@ -275,46 +273,6 @@ pub left-same : (used : List ℕ) (active : Option ℕ) (n : ℕ) → is_active 
 left-same used None n other = refl
 left-same used (Some m) n other =
     let far : m ≢ n = λ same. (let clash : false ≡ true = sym other ∙ eq-eqb n m (sym same) in cc) in ap (λ x. segment - x) (get_or-set_other used n m 0 0 far)
-
--- the count of segments with another one at a number
-pub counted-set : (p : Option Slot → Bool) (slots : List (Option Slot)) (n : ℕ) (s : Option Slot) → n < length slots → count_by p (slice_set slots n s) + counted-as (p (slot_at slots n)) ≡ count_by p slots + counted-as (p s)
-counted-set p slots n s inside = sum_by-set (λ (x : Option Slot). cond (p x) 1 0) slots n s None inside
-
-pub counted-change : (p : Option Slot → Bool) (segs : List (Option SegmentState)) (n : ℕ) (old new : Option SegmentState) → n < length segs → get_or segs n None ≡ old
-    → count_by p (slots_of (slice_set segs n new)) + counted-as (p (option_map slot_of old)) ≡ count_by p (slots_of segs) + counted-as (p (option_map slot_of new))
-counted-change p segs n old new inside is =
-    let l = length-map segs (λ s. option_map slot_of s) in
-    let there : p (slot_at (slots_of segs) n) ≡ p (option_map slot_of old) = ap p (slot-is segs n ∙ ap (λ s. option_map slot_of s) is) in
-    ap (λ k. count_by p k + counted-as (p (option_map slot_of old))) (map-set (λ s. option_map slot_of s) segs n new)
-    ∙ ap (λ b. count_by p (slice_set (slots_of segs) n (option_map slot_of new)) + counted-as b) (sym there) ∙ counted-set p (slots_of segs) n (option_map slot_of new) (omega (arith, inside, l))
-
--- what the sets of numbers say of the segments
-module _ (segs : List (Option SegmentState)) (held free : List Bool) (held-is : held ≡ map is_held (slots_of segs)) (free-is : free ≡ map is_free (slots_of segs)) where
-  pub says-held : (n : ℕ) → has held n ≡ is_held (slot_at (slots_of segs) n)
-  says-held n = ap (λ h. has h n) held-is ∙ has-held (slots_of segs) n
-
-  pub says-free : (n : ℕ) → has free n ≡ is_free (slot_at (slots_of segs) n)
-  says-free n = ap (λ f. has f n) free-is ∙ has-free (slots_of segs) n
-
-  pub held-long : length held ≡ length segs
-  held-long = ap length held-is ∙ length-map (slots_of segs) is_held ∙ length-map segs (λ s. option_map slot_of s)
-
-  pub unheld-at : (n : ℕ) → has held n ≡ false → get_or segs n None ≡ None
-  unheld-at n e = not-held (get_or segs n None) (sym (ap is_held (slot-is segs n)) ∙ sym (says-held n) ∙ e)
-
-  pub held-in : (n : ℕ) → has held n ≡ true → n < length segs
-  held-in n e = let w = held-within (slots_of segs) n (sym (says-held n) ∙ e) in let l = length-map segs (λ s. option_map slot_of s) in omega (arith, w, l)
-
-  pub free-in : (n : ℕ) → has free n ≡ true → n < length segs
-  free-in n e =
-      let w = held-within (slots_of segs) n (free-held (slot_at (slots_of segs) n) (sym (says-free n) ∙ e)) in let l = length-map segs (λ s. option_map slot_of s) in omega (arith, w, l)
-
-  pub free-at : (n : ℕ) → has free n ≡ true → is_free (option_map slot_of (get_or segs n None)) ≡ true
-  free-at n e = sym (ap is_free (slot-is segs n)) ∙ sym (says-free n) ∙ e
-
-pub free-there : (s : Option SegmentState) → is_free (option_map slot_of s) ≡ true → IsSome s
-free-there None e = absurd (let clash : false ≡ true = e in cc)
-free-there (Some h) e = refl
 
 pub used-taken : (segs : List (Option SegmentState)) (n : ℕ) (old : SegmentState) → get_or segs n None ≡ Some old → old.used ≡ 0 → used_in_each (slice_set segs n None) ≡ used_in_each segs
 used-taken segs n old is unused = map-set_same used_in segs n None None (sym unused ∙ sym (ap used_in is))

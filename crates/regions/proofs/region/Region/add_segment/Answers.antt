@@ -7,7 +7,8 @@ use Rattle.regions.specs.Segments.{RegionState, with_segment, fresh}
 use Rattle.regions.specs.Shapes.{slots_of, slot_of, slot_at, is_held, is_free, free_count, held_count, IsLeastUnused}
 use Rattle.regions.specs.Counts.{used_counts, live_counts, used_in, live_in}
 use Rattle.regions.specs.Contents.{standing_in, standing_at}
-use Rattle.regions.proofs.Regions.{Fields, added-in, counted-change, says-held, held-long, unheld-at, keeps-set, nothing-stands}
+use Rattle.regions.proofs.Regions.{Fields, added-in, keeps-set, nothing-stands}
+use Rattle.regions.proofs.Members.{counted-change, says-held, held-long, unheld-at}
 use Rattle.regions.proofs.region.Region.add_segment.Goals as goal
 
 -- the number is one of a place without a segment

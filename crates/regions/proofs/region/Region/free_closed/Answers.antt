@@ -9,7 +9,8 @@ use Rattle.regions.specs.inside.Consistent.{not_closed}
 use Rattle.regions.proofs.Tables as tables
 use Rattle.regions.proofs.Updates.{slot-is, live-is, live-same}
 use Rattle.regions.proofs.Consistency.{counted-as, begun-held, begun-unfree, closed-begun, begun-closed}
-use Rattle.regions.proofs.Regions.{Fields, held-there, begun-within, frees-in, live-unused, pieces-same, held-same, slot-there, slot-elsewhere, left-same, counted-change}
+use Rattle.regions.proofs.Regions.{Fields, held-there, begun-within, frees-in, live-unused, pieces-same, held-same, slot-there, slot-elsewhere, left-same}
+use Rattle.regions.proofs.Members.{counted-change}
 use Rattle.regions.proofs.Sums.{sum-cleared}
 use Rattle.regions.proofs.region.Region.free_closed.Goals as goal
 

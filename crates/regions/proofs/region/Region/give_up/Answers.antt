@@ -8,7 +8,8 @@ use Rattle.regions.specs.Counts.{used_counts, live_counts, used_in_each, live_in
 use Rattle.regions.specs.Contents.{standing_at}
 use Rattle.regions.specs.declared.place.Place.{Place}
 use Rattle.regions.proofs.Tables as tables
-use Rattle.regions.proofs.Regions.{Fields, taken-in, counted-change, says-held, nothing-emptied, nothing-less}
+use Rattle.regions.proofs.Regions.{Fields, taken-in, nothing-emptied, nothing-less}
+use Rattle.regions.proofs.Members.{counted-change, says-held}
 use Rattle.regions.proofs.Emptied.{emptied-all, emptied-place, emptied-held, emptied-counts, emptied-less, emptied-used-each, emptied-live-each, emptied-long}
 use Rattle.regions.proofs.Sums.{sum-zeros}
 use Rattle.regions.proofs.region.Region.give_up.Goals as goal

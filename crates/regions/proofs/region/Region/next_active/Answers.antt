@@ -8,7 +8,8 @@ use Rattle.regions.specs.Counts.{used_counts, live_counts, used_in_each, left, l
 use Rattle.regions.proofs.Tables as tables
 use Rattle.regions.proofs.Updates.{used-same, live-same}
 use Rattle.regions.proofs.Consistency.{counted-as, closed-begun}
-use Rattle.regions.proofs.Regions.{Fields, activates-in, live-unused, slots-activated, pieces-same, held-same, used-there, still-begun, counted-change, says-free, free-in, free-at, free-there}
+use Rattle.regions.proofs.Regions.{Fields, activates-in, live-unused, slots-activated, pieces-same, held-same, used-there, still-begun}
+use Rattle.regions.proofs.Members.{counted-change, says-free, free-in, free-at, free-there}
 use Rattle.regions.proofs.region.Region.next_active.Goals as goal
 
 pub segment_mut-requires : goal.segment_mut-requires

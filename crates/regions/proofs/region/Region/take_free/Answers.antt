@@ -5,7 +5,8 @@ use Rattle.regions.specs.Segments.{RegionState, segment_at, with_segment, fresh}
 use Rattle.regions.specs.Shapes.{slots_of, slot_of, is_held, is_free, free_count, held_count, IsGreatestFree}
 use Rattle.regions.specs.Counts.{used_counts, live_counts}
 use Rattle.regions.proofs.Tables as tables
-use Rattle.regions.proofs.Regions.{Fields, taken-in, used-taken, live-taken, counted-change, says-free, free-in, free-at}
+use Rattle.regions.proofs.Regions.{Fields, taken-in, used-taken, live-taken}
+use Rattle.regions.proofs.Members.{counted-change, says-free, free-in, free-at}
 use Rattle.regions.proofs.region.Region.take_free.Goals as goal
 
 pub piece_of-requires : goal.piece_of-requires
