@@ -63,12 +63,12 @@ none-counted bytes a used (o ∷ os) h dead =
     elim (cases_eq o.state 1) [
       | inl one ↦
           let there : item_if_live (standing_among bytes a (o ∷ os)) ≡ Some (standing bytes o).item =
-              ap (λ b. item_if_live (option_map (standing bytes) (cond b (Some o) (object_with a os)))) (eq-eqb o.at a here) ∙ ap (λ b. if_live b (standing bytes o).item) (eq-eqb o.state 1 one)
+          ap (λ b. item_if_live (option_map (standing bytes) (cond b (Some o) (object_with a os)))) (eq-eqb o.at a here) ∙ ap (λ b. if_live b (standing bytes o).item) (eq-eqb o.state 1 one)
           in absurd (let clash : None ≡ Some (standing bytes o).item = sym (dead a (omega arith) (omega (arith, some, rest))) ∙ there in cc)
       | inr other ↦
           ap (λ b. cond b o.size 0 + live_bytes os) (ne_eqb o.state 1 other)
           ∙ ap (λ n. 0 + n) (none-counted bytes (a + o.size) used os h.2
-            (λ b low high. sym (ap (λ t. item_if_live (option_map (standing bytes) (cond t (Some o) (object_with b os)))) (ne_eqb o.at b (λ g. omega (arith, g, here, some, low)))) ∙ dead b (omega (arith, low)) high))
+          (λ b low high. sym (ap (λ t. item_if_live (option_map (standing bytes) (cond t (Some o) (object_with b os)))) (ne_eqb o.at b (λ g. omega (arith, g, here, some, low)))) ∙ dead b (omega (arith, low)) high))
     ]
 
 module _ (bytes : List ℕ) (used at : ℕ) (t : IsThere bytes used at) (d : Descriptor) (is : d ≡ descriptor_at bytes at) where

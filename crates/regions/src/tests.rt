@@ -266,7 +266,9 @@ fn a_dead_object_is_served_under_three_nested_guards(rt: HostRuntime) -> Result<
 }
 
 #[test]
-fn objects_of_the_least_and_of_the_greatest_size_stand_side_by_side(rt: HostRuntime) -> Result<(), Fail> {
+fn objects_of_the_least_and_of_the_greatest_size_stand_side_by_side(
+    rt: HostRuntime,
+) -> Result<(), Fail> {
     let mut region = three_segments(rt.alloc())?;
     assert_eq!(rt; go_on(&mut region), Some(0));
     let place = |at| Place { segment: 0, at };

@@ -94,10 +94,10 @@ returns-clause-dead c = λ _ before.
     let s : IsSegment h.piece.bytes h.used = subst (λ k. IsSegment k.piece.bytes k.used) c.self.view_is (c.self.invariant.2 (ap (λ k. k.free) c.self.view_is ∙ c.requires.begun)) in
     let high : h.used ≤ at = subst (λ k. k.used ≤ at) c.self.view_is c.loop-at-test.false in
     none-counted h.piece.bytes 0 h.used (objects h.piece.bytes h.used) s.objects (λ b low inside.
-      elim (leb_tells c.args.from b) [
-        | inl up ↦ c.loop-at.invariant.2 b up.1 (omega (arith, high, inside))
-        | inr under ↦ before b low under.1
-      ])
+    elim (leb_tells c.args.from b) [
+      | inl up ↦ c.loop-at.invariant.2 b up.1 (omega (arith, high, inside))
+      | inr under ↦ before b low under.1
+    ])
 
 pub loop-at-init : goal.loop-at-init
 loop-at-init c =
