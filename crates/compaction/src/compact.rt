@@ -10,18 +10,22 @@ use crate::choice::sparsest;
 use crate::draining::drain;
 use regions::{Movers, Region};
 
-/// What compaction answers.
+/// What compaction answers. Under a guard, and where nothing was sparse for `compact_one`, nothing changed.
 #[derive(Clone, Copy, Debug, PartialEq, Eq)]
 pub enum Compacted {
     /// A segment was freed.
     Freed,
     /// Every closed segment is dense.
     NoneSparse,
-    /// A guard stands, and nothing changed.
+    /// A guard stands.
     Guarded,
 }
 
-/// Empties the sparsest closed segment into the active one, and frees it.
+/// Empties the closed segment with the fewest live bytes, of equals the one with the lowest number, and frees it: `Freed`.
+/// Its live objects are appended to the active segment, and the next one is begun once, where they have too little room.
+///
+/// `Guarded` where a guard stands. Else `NoneSparse` where more than 118,776 bytes of every closed segment are live. Then
+/// nothing changed. A segment has to be free, or the active one has so many bytes left.
 pub fn compact_one<M: Movers>(region: &mut Region, movers: &mut M) -> Compacted
     requires fits { M.fits movers.old (live_at region.old) }
     requires room { HasRoom region.old }

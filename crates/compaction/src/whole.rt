@@ -12,7 +12,11 @@ use crate::compact::{Compacted, compact_one};
 use layout::{DENSE, GREATEST_OBJECT};
 use regions::{Movers, Region};
 
-/// Empties segments until two are free, or no closed one is sparse.
+/// Empties segments, the sparsest first, until two are free: `Freed`. An active segment that is sparse and full is closed
+/// first where it would stand in the way. A segment is free before and after.
+///
+/// `Guarded` where a guard stands, and then nothing changed. `NoneSparse` only where nothing is left to compact: every
+/// closed segment is dense, the active one is dense or has room for an object of any size, and at most one is free.
 pub fn pass<M: Movers>(region: &mut Region, movers: &mut M) -> Compacted
     requires fits { M.fits movers.old (live_at region.old) }
     requires free { 1 ≤ free_count region.old }

@@ -14,6 +14,6 @@ returns c =
       fits = named-added (get c.reserve.new.self) (get c.insert_reserved-name.new.self) old placed new p c.insert_reserved-name.result
           (subst (λ s. AreNamed (get s) (live_at old)) (sym c.reserve.ensures.rest_kept) c.requires.fits) (λ q far. ap item_if_live (a.added.others q (λ e. far (sym e)))) (ap item_if_live a.unused)
           (is-written placed new p c.insert_reserved-name.result c.label.new.content (subst (λ s. IsSome (item_if_live s)) (sym a.added.here) refl) c.write.ensures c.label.ensures
-            (omega (arith, least, same, size)))
+          (omega (arith, least, same, size)))
           i.was_vacant i.updates.changed i.updates.others;
     }
