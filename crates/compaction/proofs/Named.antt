@@ -1,6 +1,6 @@
 -- Objects that carry their names stand for a store, before and after a move.
 use Rattle.std.proofs.Common.{◌≡◌, ◌≢◌, ◌≤◌, length, List, inl, inr, ℕ, zero, suc, get_or, replicate, Bool, true, false, cond, refl, sym, ap, ◌∙◌, subst}
-use Rattle.std.specs.Prelude.{Option, None, Some, IsSome, is_some, option_map}
+use Rattle.std.specs.Prelude.{Option, None, Some, IsSome, option_map}
 use Rattle.std.proofs.lemmas.Bool.{cases_eq}
 use Rattle.byteorder.specs.Endian.{little_number}
 use Rattle.regions.specs.Segments.{RegionState, SegmentState}

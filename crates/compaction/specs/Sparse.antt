@@ -1,9 +1,9 @@
 -- Which segments are sparse, which of them is emptied first, and when nothing is left to compact.
-use Rattle.std.specs.Prelude.{◌≡◌, ℕ, ◌-◌, ◌<◌, ◌≤◌, ◌⊎◌, Some}
+use Rattle.std.specs.Prelude.{◌≡◌, ℕ, ◌<◌, ◌≤◌, ◌⊎◌, Some}
 use Rattle.layout.specs.Sizes.{dense, greatest_object}
 use Rattle.regions.specs.Segments.{RegionState}
 use Rattle.regions.specs.Shapes.{active_of, free_count, IsClosed}
-use Rattle.regions.specs.Counts.{live_bytes_at, left, used_total, live_total}
+use Rattle.regions.specs.Counts.{live_bytes_at, left}
 
 -- more bytes of the segment are live than a whole object of the greatest size leaves of it; else it is sparse
 abbrev pub IsDense : RegionState → ℕ → Type 0

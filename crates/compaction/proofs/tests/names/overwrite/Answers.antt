@@ -1,4 +1,4 @@
-use Rattle.std.proofs.Common.{◌≡◌, ◌≤◌, length, inl, sym, ◌∙◌, arith}
+use Rattle.std.proofs.Common.{◌≡◌, inl, sym, ◌∙◌, arith}
 use Rattle.std.specs.Prelude.{Some}
 use Rattle.slab.specs.Slab.{get}
 use Rattle.regions.specs.Contents.{live_at}

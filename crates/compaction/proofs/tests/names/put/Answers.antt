@@ -1,4 +1,4 @@
-use Rattle.std.proofs.Common.{◌≡◌, ◌≤◌, length, sym, ap, subst, refl, arith}
+use Rattle.std.proofs.Common.{sym, ap, subst, refl, arith}
 use Rattle.std.specs.Prelude.{IsSome}
 use Rattle.slab.specs.Slab.{get}
 use Rattle.regions.specs.Contents.{item_if_live, live_at}

@@ -1,8 +1,7 @@
-use Rattle.std.proofs.Common.{◌≡◌, ◌≢◌, ◌≤◌, ℕ, length, sym, ap, ◌∙◌, subst, is_some}
-use Rattle.std.specs.Prelude.{Some}
+use Rattle.std.proofs.Common.{◌≡◌, ◌≤◌, length, sym, ap, ◌∙◌, subst, is_some}
 use Rattle.slab.specs.Slab.{get}
 use Rattle.byteorder.specs.Endian.{little_number}
-use Rattle.regions.specs.Contents.{Item, standing_at, live_at}
+use Rattle.regions.specs.Contents.{standing_at, live_at}
 use Rattle.compaction.specs.inside.Names.{name_in}
 use Rattle.compaction.proofs.Named.{live-content, stands-named, was-found, was-long, names-moved, named-moved}
 use Rattle.compaction.proofs.tests.names.NamesMovers.moved.Goals as goal
