@@ -37,7 +37,16 @@ pub fn content_extent(segment: &[u8], at: u32) -> (usize, usize)
     ensures segment { (used : ℕ) (ws : List ℕ) → IsSegment segment.now used → StandsAt at (objects segment.now used) → length ws ≡ result.1 → IsSegment (with_content at ws segment.now) used }
     ensures objects { (used : ℕ) (ws : List ℕ) → IsSegment segment.now used → StandsAt at (objects segment.now used) → length ws ≡ result.1 → objects (with_content at ws segment.now) used ≡ objects segment.now used }
 {
-    let size = read_descriptor(segment, at).size;
+    behind_descriptor(at, read_descriptor(segment, at).size)
+}
+
+// Where the content lies of an object of that size at the offset.
+fn behind_descriptor(at: u32, size: u32) -> (usize, usize)
+    requires within { at + size ≤ sizes.segment }
+    requires descriptor { sizes.descriptor ≤ size }
+    ensures start { result.0 ≡ at + sizes.descriptor }
+    ensures size { result.1 + sizes.descriptor ≡ size }
+{
     ((at + DESCRIPTOR) as usize, (size - DESCRIPTOR) as usize)
 }
 

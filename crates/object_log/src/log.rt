@@ -1,4 +1,4 @@
-ghost use Rattle.std.specs.Prelude.{◌≡◌, ℕ, ◌+◌, ◌-◌, ◌≤◌, ◌⊎◌, ◌++◌, [], ◌∷◌, length, take, drop, replicate, slice_set};
+ghost use Rattle.std.specs.Prelude.{◌≡◌, ℕ, ◌+◌, ◌-◌, ◌<◌, ◌≤◌, ◌⊎◌, ◌++◌, [], ◌∷◌, length, take, drop, replicate, slice_set};
 ghost use Rattle.object_log.specs.inside.Made.{object_bytes};
 ghost use Rattle.layout.specs.Sizes as sizes;
 ghost use Rattle.object_log.specs.Objects.{objects, live, killed, content_at, IsSize, IsSegment, IsEnd, LivesAt};
@@ -64,5 +64,12 @@ pub fn kill(segment: &mut [u8], at: u32)
     ensures segment { (used : ℕ) → IsSegment segment.old used → LivesAt at (objects segment.old used) → IsSegment segment.new used }
     ensures state { segment.new ≡ slice_set segment.old at 2 }
 {
-    segment[at as usize] = DEAD;
+    mark_dead(segment, at as usize);
+}
+
+fn mark_dead(segment: &mut [u8], at: usize)
+    requires { at < length segment.old }
+    ensures { segment.new ≡ slice_set segment.old at 2 }
+{
+    segment[at] = DEAD;
 }

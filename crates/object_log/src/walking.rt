@@ -1,4 +1,4 @@
-ghost use Rattle.std.specs.Prelude.{◌≡◌};
+ghost use Rattle.std.specs.Prelude.{◌≡◌, ◌≢◌, [], ◌∷◌};
 ghost use Rattle.std.specs.Iterator.{YieldsFirst, item_count};
 ghost use Rattle.std.specs.List.Sorted.{IsStrictlyIncreasing};
 ghost use Rattle.object_log.specs.Objects.{objects, offsets, IsSegment};
@@ -54,8 +54,18 @@ impl<'a> Iterator for Walk<'a> {
         if self.at == self.used {
             return None;
         }
+        Some(self.step())
+    }
+}
+
+impl<'a> Walk<'a> {
+    // Goes to the end of the object where it stands, and answers where that began.
+    fn step(&mut self) -> u32
+        requires { self.old ≢ [] }
+        ensures { self.old ≡ result ∷ self.new }
+    {
         let at = self.at;
         self.at += descriptor_in(self.segment, at as usize).size;
-        Some(at)
+        at
     }
 }

@@ -12,12 +12,12 @@ pub returns-clause-segment : goal.returns-clause-segment
 returns-clause-segment c used ws s stands long =
     let bytes = c.args.segment.now in let at = c.args.at in
     let f = fits bytes used at s stands in
-    let size : c.read_descriptor-size.result.size ≡ (object_at bytes at).size = ap (λ d. d.size) c.read_descriptor-size.ensures.read in
+    let size : c.read_descriptor.result.size ≡ (object_at bytes at).size = ap (λ d. d.size) c.read_descriptor.ensures.read in
     IsSegment-written bytes ws used at (object_at bytes at).size s (has-object bytes 0 used at (objects bytes used) s.objects stands) f.0.0 f.1 (omega (arith, long, size, f.0.0))
 
 pub returns-clause-objects : goal.returns-clause-objects
 returns-clause-objects c used ws s stands long =
     let bytes = c.args.segment.now in let at = c.args.at in
     let f = fits bytes used at s stands in
-    let size : c.read_descriptor-size.result.size ≡ (object_at bytes at).size = ap (λ d. d.size) c.read_descriptor-size.ensures.read in
+    let size : c.read_descriptor.result.size ≡ (object_at bytes at).size = ap (λ d. d.size) c.read_descriptor.ensures.read in
     objects-written bytes ws used at (object_at bytes at).size s (has-object bytes 0 used at (objects bytes used) s.objects stands) f.0.0 f.1 (omega (arith, long, size, f.0.0))
