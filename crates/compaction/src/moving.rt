@@ -1,10 +1,10 @@
 //! One live object, from a closed segment to the active one.
-ghost use Rattle.std.specs.Prelude.{◌≡◌, ◌≢◌, ℕ, ◌+◌, ◌≤◌, Option, Some, None, IsSome, IsNone};
+ghost use Rattle.std.specs.Prelude.{◌≡◌, ◌≢◌, ℕ, ◌+◌, ◌≤◌, Option, Some, None, IsSome, IsNone, option_map};
 ghost use Rattle.object_log.specs.Objects.{IsSize};
 ghost use Rattle.regions.specs.Shapes.{shape, active_of, IsClosed};
 ghost use Rattle.regions.specs.Counts.{used_counts, live_counts, live_bytes_at, used_total, live_total, plus, left};
-ghost use Rattle.regions.specs.Contents.{standing_at, live_at, ChangesAt, IsLiveAt};
-ghost use Rattle.regions.specs.Stores.{store_of};
+ghost use Rattle.regions.specs.Contents.{Item, standing_at, live_at, ChangesAt, IsLiveAt};
+ghost use Rattle.regions.specs.Stores.{Live, StandsFor, SameBut, store_of, less, renamed};
 ghost use Rattle.regions.specs.declared.place.Place.{Place};
 ghost use Rattle.compaction.specs.Emptied.{IsSameAt};
 ghost use Rattle.compaction.specs.inside.Drained.{IsDrained};
@@ -59,6 +59,20 @@ pub(crate) fn move_object<M: Movers>(
     ensures left { left region.new + size ≡ left region.old }
 {
     let to = append_copy(region, from, kind, size);
-    movers.moved(region, kind, from, to);
+    tell(region, movers, kind, from, to);
     region.kill(from);
+}
+
+// Tells the mover that the live object was copied.
+fn tell<M: Movers>(region: &mut Region, movers: &mut M, kind: u8, from: Place, to: Place)
+    requires copied { (i : Item) × (i.kind ≡ kind) × (live_at region.old from ≡ Some i) × (live_at region.old to ≡ Some i) }
+    requires apart { from ≢ to }
+    requires fits { M.fits movers.old (less to (live_at region.old)) }
+    ensures stands { (m : M) (live : Live) → M.fits m live → StandsFor M.bare (store_of M.bare (M.place_of m) live) (M.place_of m) live }
+    ensures names { (n : ℕ) → M.place_of movers.new n ≡ option_map (renamed from to) (M.place_of movers.old n) }
+    ensures fits { M.fits movers.new (less from (live_at region.new)) }
+    ensures store { SameBut M.bare region.old region.new }
+    ensures rest { M.rest movers.new ≡ M.rest movers.old }
+{
+    movers.moved(region, kind, from, to);
 }
