@@ -23,7 +23,9 @@ pub fn write_row(content: &mut [u8], number: u32, put: u32, key: &[u8], value: &
     requires short_value { length value.now ≤ greatest_value }
     requires size { length content.old + descriptor ≡ size key.now value.now }
     requires zero { content.old ≡ replicate (length content.old) 0 }
-    ensures { rows.HoldsRow content.new number (record { key = key.now; value = value.now; number = put }) }
+    ensures holds { rows.HoldsRow content.new number (record { key = key.now; value = value.now; number = put }) }
+    ensures read { rows.row_in content.new ≡ record { key = key.now; value = value.now; number = put } }
+    ensures number { rows.number_in content.new ≡ number }
 {
     let (header, behind) = content.split_at_mut(HEADER);
     write_front(
