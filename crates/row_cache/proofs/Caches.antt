@@ -1,0 +1,163 @@
+-- What holds of a cache, where a row comes, goes, or is another.
+use Rattle.std.proofs.Common.{◌≡◌, ℕ, ◌+◌, ◌*◌, ◌^◌, ◌≤◌, List, [], ◌∷◌, map, Option, Some, None, refl, sym, ap, subst, ◌∙◌, arith}
+use Rattle.std.specs.Prelude.{slice_get, slice_set, IfSome}
+use Rattle.std.proofs.lemmas.List.Sums.{sum_by-cons}
+use Rattle.cache_model.specs.Row.{Row, size, live}
+use Rattle.common_lemmas.specs.Lists.{times, delete}
+use Rattle.key_index.specs.declared.place.Place.{Place as IndexPlace}
+use Rattle.regions.specs.Segments.{RegionState}
+use Rattle.regions.specs.Counts.{live_total}
+use Rattle.regions.specs.Contents.{Item, Keeps, item_if_live, live_at, standing_at, size_of}
+use Rattle.regions.specs.Stores.{Live}
+use Rattle.regions.specs.declared.place.Place.{Place}
+use Rattle.row_cache.specs.Rows.{row_at, rows_at, Stay}
+use Rattle.row_cache.specs.inside.Tables.{TableState, AreTablesOf, IsListed, IsRowOf, Adds, Drops, Replaces, AddsRow, ReplacesRow, next_number, placed}
+use Rattle.row_cache.specs.inside.Consistent.{IsConsistent, rows_in, rows_with}
+use Rattle.row_cache.proofs.Listed.{Apart, map_same, live_without, live_at_most}
+use Rattle.row_cache.proofs.States.{row_is, some_none, other_stays, still_listed, replaced_rows, replaced_others, added_here, added_others}
+
+-- ---- where no object changes
+
+same_live : (r s : RegionState) → Keeps r s → live_at s ≡ live_at r
+same_live r s keeps = λ i p. item_if_live (keeps p i)
+
+pub consistent_kept : (t : TableState) (r s : RegionState) (bytes : ℕ) → IsConsistent t r bytes → Keeps r s → live_total s ≡ live_total r → IsConsistent t s bytes
+consistent_kept t r s bytes c keeps total =
+    let same = same_live r s keeps in
+    record {
+      tables = subst (λ l. AreTablesOf t l) (sym same) c.tables;
+      counted = c.counted ∙ sym total;
+      sizes = ap (λ l. live (rows_at l t.places t.recency)) same ∙ (c.sizes ∙ sym total);
+    }
+
+pub keeps_same : (r s : RegionState) (guards : ℕ) → s ≡ record r { guards = guards } → Keeps r s
+keeps_same r s guards e = λ p. ap (λ (x : RegionState). standing_at x p) e
+
+pub stays_kept : (r s : RegionState) → Keeps r s → Stay r s
+stays_kept r s keeps = λ p x e. (x, keeps p ∙ e, refl)
+
+-- ---- the sizes of rows
+
+pub of_some : {A : Type 0} (P : A → Type 0) (o : Option A) (x : A) → IfSome o P → o ≡ Some x → P x
+of_some {A} P o x h e = subst (λ q. IfSome q P) e h
+
+size_small : (item : Item) (n : ℕ) (row : Row) → IsRowOf item n row → size row.key row.value ≤ 13000
+size_small item n row is = (let k = is.holds.storable.short_key in let v = is.holds.storable.short_value in omega (arith, k, v))
+
+pub item_small : (item : Item) (n : ℕ) (row : Row) → IsRowOf item n row → size_of item ≤ 13000
+item_small item n row is = (let s = size_small item n row is in let e = is.size in omega (arith, s, e))
+
+pub bytes_small : (t : TableState) (r : RegionState) (bytes : ℕ) → IsConsistent t r bytes → bytes ≤ 13000 * 2 ^ 32
+bytes_small t r bytes c =
+    let a = c.tables.numbers in
+    let row = row_at (live_at r) t.places in
+    let most = live_at_most row t.recency 13000 (λ n l. (let h = c.tables.rows n l in subst (λ (x : Row). size x.key x.value ≤ 13000) (sym (row_is (live_at r) t.places n h)) (size_small h.item n h.row h.is_row))) in
+    let count = a.count in let few = a.few in let small = a.small in let counted = c.counted in let sizes = c.sizes in
+    omega (arith, most, count, few, small, counted, sizes)
+
+pub apart_rows : (t : TableState) (l : Live) → AreTablesOf t l → Apart (row_at l t.places) t.recency
+apart_rows t l are = λ m n lm ln e. are.apart m n lm ln e
+
+-- ---- a row comes
+
+pub rows_added : (t u : TableState) (there : IndexPlace) (place : Place) (row : Row) (old new : Live) (r : AddsRow t there place row old new)
+    → u.recency ≡ next_number t ∷ t.recency → u.places ≡ placed (next_number t) place t.places
+    → rows_at new u.places u.recency ≡ row ∷ rows_at old t.places t.recency
+rows_added t u there place row old new r recency places =
+    let ps = placed (next_number t) place t.places in
+    ap (λ ns. rows_at new u.places ns) recency
+    ∙ (ap (λ (qs : List Place). rows_at new qs (next_number t ∷ t.recency)) places
+    ∙ (ap (λ (x : Row). x ∷ rows_at new ps t.recency) (added_here t there place row old new r).1
+    ∙ ap (λ (xs : List Row). row ∷ xs) (map_same (row_at new ps) (row_at old t.places) t.recency (λ m l. (added_others t there place row old new r m l).1))))
+
+pub consistent_added : (t u : TableState) (r s : RegionState) (bytes more : ℕ) (row : Row) → IsConsistent t r bytes → AreTablesOf u (live_at s)
+    → rows_in u s ≡ row ∷ rows_in t r → live_total s ≡ live_total r + size row.key row.value → more ≡ bytes + size row.key row.value → IsConsistent u s more
+consistent_added t u r s bytes more row c tables rows total is =
+    let counted = c.counted in let sizes = c.sizes in
+    let all = sum_by-cons (λ (x : Row). size x.key x.value) row (rows_in t r) in
+    let now : live (rows_in u s) ≡ live (row ∷ rows_in t r) = ap live rows in
+    record { tables = tables; counted = omega (arith, counted, total, is); sizes = omega (arith, now, all, sizes, total) }
+
+-- ---- a row stands elsewhere, as another of its key
+
+pub replaces_both : (old middle new : Live) (from to : Place) (item was : Item) → old from ≡ Some was → Adds to item old middle → Drops from middle new → Replaces from to item old new
+replaces_both old middle new from to item was here adds drops = record {
+  absent = adds.absent;
+  gone = drops.here;
+  here = drops.others to (λ e. some_none here (sym (ap old e) ∙ adds.absent)) ∙ adds.here;
+  others = λ q not_from not_to. drops.others q not_from ∙ adds.others q not_to;
+}
+
+pub rows_replaced : (t u : TableState) (n : ℕ) (to : Place) (row : Row) (old new : Live) (r : ReplacesRow t n to row old new) → IsListed t n
+    → u.recency ≡ n ∷ delete n t.recency → u.places ≡ slice_set t.places n to
+    → rows_at new u.places u.recency ≡ row ∷ rows_at old t.places (delete n t.recency)
+rows_replaced t u n to row old new r listed recency places =
+    let ps = slice_set t.places n to in
+    ap (λ ns. rows_at new u.places ns) recency
+    ∙ (ap (λ (qs : List Place). rows_at new qs (n ∷ delete n t.recency)) places
+    ∙ (ap (λ (x : Row). x ∷ rows_at new ps (delete n t.recency)) (replaced_rows t n to row old new r listed).1
+    ∙ ap (λ (xs : List Row). row ∷ xs) (map_same (row_at new ps) (row_at old t.places) (delete n t.recency)
+    (λ m l. (let w = still_listed t n m r.tables.numbers listed l in (replaced_others t n to row old new r listed m w.0 w.1).1)))))
+
+-- the sizes of the rows that are left, and of the one that was
+pub sizes_without : (t : TableState) (r : RegionState) (bytes n : ℕ) (c : IsConsistent t r bytes) (listed : IsListed t n)
+    → live_total r ≡ size_of (c.tables.rows n listed).item + live (rows_with t r (delete n t.recency))
+sizes_without t r bytes n c listed =
+    let h = c.tables.rows n listed in let row = row_at (live_at r) t.places in
+    let whole = live_without row n t.recency listed in
+    let is : size (row n).key (row n).value ≡ size_of h.item = ap (λ (x : Row). size x.key x.value) (row_is (live_at r) t.places n h) ∙ sym h.is_row.size in
+    let sizes = c.sizes in
+    omega (arith, whole, is, sizes)
+
+pub consistent_replaced : (t u : TableState) (r s : RegionState) (bytes more n : ℕ) (row : Row) (c : IsConsistent t r bytes) (listed : IsListed t n) → AreTablesOf u (live_at s)
+    → rows_in u s ≡ row ∷ rows_with t r (delete n t.recency) → live_total s + size_of (c.tables.rows n listed).item ≡ live_total r + size row.key row.value
+    → more + size_of (c.tables.rows n listed).item ≡ bytes + size row.key row.value → IsConsistent u s more
+consistent_replaced t u r s bytes more n row c listed tables rows total is =
+    let counted = c.counted in let old = sizes_without t r bytes n c listed in
+    let all = sum_by-cons (λ (x : Row). size x.key x.value) row (rows_with t r (delete n t.recency)) in
+    let now : live (rows_in u s) ≡ live (row ∷ rows_with t r (delete n t.recency)) = ap live rows in
+    record { tables = tables; counted = omega (arith, counted, total, is); sizes = omega (arith, now, all, old, total) }
+
+-- ---- a row goes
+
+pub rows_dropped : (t u : TableState) (r s : RegionState) (n : ℕ) (p : Place) → AreTablesOf t (live_at r) → IsListed t n → slice_get t.places n ≡ Some p → Drops p (live_at r) (live_at s)
+    → u.recency ≡ delete n t.recency → u.places ≡ t.places → rows_in u s ≡ rows_with t r (delete n t.recency)
+rows_dropped t u r s n p are listed here drops recency places =
+    ap (λ ns. rows_at (live_at s) u.places ns) recency
+    ∙ (ap (λ (qs : List Place). rows_at (live_at s) qs (delete n t.recency)) places
+    ∙ map_same (row_at (live_at s) t.places) (row_at (live_at r) t.places) (delete n t.recency)
+    (λ m l. (let w = still_listed t n m are.numbers listed l in (other_stays t (live_at r) (live_at s) n p are listed here drops m w.0 w.1).1)))
+
+pub consistent_dropped : (t u : TableState) (r s : RegionState) (bytes fewer n : ℕ) (c : IsConsistent t r bytes) (listed : IsListed t n) → AreTablesOf u (live_at s)
+    → rows_in u s ≡ rows_with t r (delete n t.recency) → live_total s + size_of (c.tables.rows n listed).item ≡ live_total r
+    → fewer + size_of (c.tables.rows n listed).item ≡ bytes → IsConsistent u s fewer
+consistent_dropped t u r s bytes fewer n c listed tables rows total is =
+    let counted = c.counted in let old = sizes_without t r bytes n c listed in
+    let now : live (rows_in u s) ≡ live (rows_with t r (delete n t.recency)) = ap live rows in
+    record { tables = tables; counted = omega (arith, counted, total, is); sizes = omega (arith, now, old, total) }
+
+-- ---- every row went
+
+mapped_none : (row : ℕ → Row) (ns : List ℕ) → map row ns ≡ [] → ns ≡ []
+mapped_none row [] e = refl
+mapped_none row (n ∷ ns) e = absurd (let clash : row n ∷ map row ns ≡ [] = e in cc)
+
+none_live : (t : TableState) (l : Live) → AreTablesOf t l → t.recency ≡ [] → (o : Option Item) (p : Place) → l p ≡ o → o ≡ None
+none_live t l are empty None p e = refl
+none_live t l are empty (Some i) p e =
+    absurd (let w = are.every p i e in let none : times w.0 t.recency ≡ 0 = ap (λ ns. times w.0 ns) empty in let listed = w.1 in omega (arith, none, listed))
+
+pub consistent_emptied : (t : TableState) (r s : RegionState) (bytes : ℕ) → IsConsistent t r bytes → t.recency ≡ [] → ((p : Place) → standing_at s p ≡ None) → live_total s ≡ 0 → IsConsistent t s bytes
+consistent_emptied t r s bytes c empty gone total =
+    let was : (p : Place) → live_at r p ≡ None = λ p. none_live t (live_at r) c.tables empty (live_at r p) p refl in
+    let same : live_at s ≡ live_at r = λ i p. (ap item_if_live (gone p) ∙ sym (was p)) i in
+    let none : live (rows_in t r) ≡ 0 = ap (λ ns. live (rows_with t r ns)) empty in
+    let both : live_total s ≡ live_total r = total ∙ (sym none ∙ c.sizes) in
+    record {
+      tables = subst (λ l. AreTablesOf t l) (sym same) c.tables;
+      counted = c.counted ∙ sym both;
+      sizes = ap (λ l. live (rows_at l t.places t.recency)) same ∙ (c.sizes ∙ sym both);
+    }
+
+pub no_numbers : (t : TableState) (r : RegionState) → rows_in t r ≡ [] → t.recency ≡ []
+no_numbers t r e = mapped_none (row_at (live_at r) t.places) t.recency e

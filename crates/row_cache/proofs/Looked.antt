@@ -1,0 +1,166 @@
+-- What a key's row is among all rows, and where it stands.
+use Rattle.std.proofs.Common.{◌≡◌, ◌≢◌, ℕ, zero, suc, ◌-◌, ◌≤◌, inl, inr, take, replicate, get_or, arith, Bool, true, false, List, [], ◌∷◌, length, map, Option, Some, None, refl, sym, ap, subst, ◌∙◌}
+use Rattle.std.proofs.lemmas.List.{take-map, length-map}
+use Rattle.std.proofs.lemmas.List.Sums.{sum_by-cons}
+use Rattle.std.proofs.lemmas.Bool.Decides.{eqb_tells}
+use Rattle.std.specs.List.{last_or, sum}
+use Rattle.std.specs.Prelude.{slice_get, IsSome, option_map}
+use Rattle.cache_model.specs.Row.{Row, live, size}
+use Rattle.cache_model.specs.Legal.{is_of_put}
+use Rattle.cache_model.specs.Apply as apply
+use Rattle.row_bytes.specs.Rows.{IsRow, put_in, row_in, value_in}
+use Rattle.common_lemmas.specs.Lists.{times, delete}
+use Rattle.regions.specs.Segments.{RegionState, SegmentState}
+use Rattle.regions.specs.Counts.{live_total, live_in}
+use Rattle.regions.specs.Contents.{Item, Standing, item_if_live, if_live, live_at, standing_at, standing_in}
+use Rattle.regions.specs.Stores.{Live, store_of, found}
+use Rattle.regions.specs.declared.place.Place.{Place}
+use Rattle.row_cache.specs.Rows.{row_at, key_at, rows_at, HoldsValue}
+use Rattle.row_cache.specs.inside.Tables.{TableState, AreTablesOf, IsListed, HasRow, IsLast, place_of}
+use Rattle.row_cache.specs.inside.Consistent.{IsConsistent, rows_in, rows_with}
+use Rattle.row_cache.proofs.Listed.{map_same, live_without, last_row, delete_last, none_has, none_found, none_without, one_has, one_found, one_without}
+use Rattle.row_cache.proofs.Numbers.{once, numbers_kept, times_front, length_front}
+use Rattle.row_cache.proofs.States.{row_is, some_same}
+use Rattle.row_cache.proofs.Moving.{listed_place}
+use Rattle.row_cache.proofs.Caches.{apart_rows}
+
+abbrev none_of_type : (A : Type 0) → Option A
+none_of_type A = None
+
+-- the row of a key, and the others
+pub record HasKey (t : TableState) (l : Live) (key : List ℕ) (n : ℕ) : Type 0 where
+  pub has : apply.has key (rows_at l t.places t.recency) ≡ true
+  pub found : apply.row_of key (rows_at l t.places t.recency) ≡ Some (row_at l t.places n)
+  pub without : apply.without key (rows_at l t.places t.recency) ≡ rows_at l t.places (delete n t.recency)
+
+pub has_key : (t : TableState) (l : Live) (key : List ℕ) (n : ℕ) → AreTablesOf t l → IsListed t n → key_at l t.places n ≡ key → HasKey t l key n
+has_key t l key n are listed is = record {
+  has = one_has (row_at l t.places) key n t.recency listed is;
+  found = one_found (row_at l t.places) key n t.recency (apart_rows t l are) listed is;
+  without = one_without (row_at l t.places) key n t.recency (apart_rows t l are) listed (once t are.numbers) is;
+}
+
+pub record LacksKey (t : TableState) (l : Live) (key : List ℕ) : Type 0 where
+  pub has : apply.has key (rows_at l t.places t.recency) ≡ false
+  pub found : apply.row_of key (rows_at l t.places t.recency) ≡ None
+  pub without : apply.without key (rows_at l t.places t.recency) ≡ rows_at l t.places t.recency
+
+pub lacks_key : (t : TableState) (l : Live) (key : List ℕ) → ((n : ℕ) → IsListed t n → key_at l t.places n ≢ key) → LacksKey t l key
+lacks_key t l key none = record {
+  has = none_has (row_at l t.places) key t.recency none;
+  found = none_found (row_at l t.places) key t.recency none;
+  without = none_without (row_at l t.places) key t.recency none;
+}
+
+-- ---- where it stands
+
+live_standing : (live : Bool) (item i : Item) → if_live live item ≡ Some i → item ≡ i
+live_standing false item i e = absurd (let clash : None ≡ Some i = e in cc)
+live_standing true item i e = (let s : Some item ≡ Some i = e in cc)
+
+standing_live : (o : Option Standing) (i : Item) → item_if_live o ≡ Some i → (s : Standing) × (o ≡ Some s) × (s.item ≡ i)
+standing_live None i e = absurd (let clash : None ≡ Some i = e in cc)
+standing_live (Some s) i e = (s, refl, live_standing s.live s.item i e)
+
+pub is_some : {A : Type 0} (o : Option A) (x : A) → o ≡ Some x → IsSome o
+is_some {A} o x e = subst (λ q. IsSome q) (sym e) refl
+
+pub holds_value : (r : RegionState) (places : List Place) (n : ℕ) (h : HasRow (live_at r) places n) (p : Place) → slice_get places n ≡ Some p
+    → HoldsValue r p (row_at (live_at r) places n).value × IsSome (live_at r p)
+holds_value r places n h p there =
+    let at : h.place ≡ p = some_same h.placed there in
+    let is : live_at r p ≡ Some h.item = sym (ap (live_at r) at) ∙ h.is_live in
+    let s = standing_live (standing_at r p) h.item is in (
+      (
+        s.0,
+        s.1,
+        subst (λ (i : Item). IsRow i.content) (sym s.2) (n, h.row, h.is_row.holds),
+        ap (λ (i : Item). value_in i.content) s.2 ∙ (ap (λ (x : Row). x.value) h.is_row.read ∙ sym (ap (λ (x : Row). x.value) (row_is (live_at r) places n h))),
+      ),
+      is_some (live_at r p) h.item is,
+    )
+
+-- ---- rows that were moved
+
+stored_item : (t : TableState) (l : Live) (are : AreTablesOf t l) (n : ℕ) (listed : IsListed t n) → store_of (λ (i : Item). i) (place_of t) l n ≡ Some (are.rows n listed).item
+stored_item t l are n listed =
+    let h = are.rows n listed in
+    ap (found (λ (i : Item). i) l) (listed_place t n listed ∙ h.placed) ∙ ap (option_map (λ (i : Item). i)) h.is_live
+
+pub rows_moved : (t u : TableState) (l m : Live) → AreTablesOf t l → AreTablesOf u m → u.recency ≡ t.recency
+    → ((n : ℕ) → store_of (λ (i : Item). i) (place_of u) m n ≡ store_of (λ (i : Item). i) (place_of t) l n)
+    → rows_at m u.places u.recency ≡ rows_at l t.places t.recency
+rows_moved t u l m are now recency same =
+    ap (λ ns. rows_at m u.places ns) recency
+    ∙ map_same (row_at m u.places) (row_at l t.places) t.recency (λ n listed.
+    (let k : IsListed u n = subst (λ ns. 1 ≤ times n ns) (sym recency) listed in
+    let a = are.rows n listed in let b = now.rows n k in
+    let items : b.item ≡ a.item = some_same (stored_item u m now n k) (same n ∙ stored_item t l are n listed) in
+    row_is m u.places n b ∙ (sym b.is_row.read ∙ (ap (λ (i : Item). row_in i.content) items ∙ (a.is_row.read ∙ sym (row_is l t.places n a))))))
+
+pub consistent_moved : (t u : TableState) (r s : RegionState) (bytes : ℕ) → IsConsistent t r bytes → AreTablesOf u (live_at s) → rows_in u s ≡ rows_in t r → live_total s ≡ live_total r → IsConsistent u s bytes
+consistent_moved t u r s bytes c tables rows total = record { tables = tables; counted = c.counted ∙ sym total; sizes = ap live rows ∙ (c.sizes ∙ sym total) }
+
+-- ---- a row is used
+
+abbrev pub touched : TableState → ℕ → TableState
+touched t n = record t { recency = n ∷ delete n t.recency }
+
+pub consistent_touched : (t : TableState) (r : RegionState) (bytes n : ℕ) → IsConsistent t r bytes → IsListed t n → IsConsistent (touched t n) r bytes
+consistent_touched t r bytes n c listed =
+    let are = c.tables in let u = touched t n in let row = row_at (live_at r) t.places in
+    let same : (m : ℕ) → times m u.recency ≡ times m t.recency = λ m. times_front m n t.recency listed in
+    let was : (m : ℕ) → IsListed u m → IsListed t m = λ m l. (let e = same m in omega (arith, e, l)) in
+    let now : (m : ℕ) → IsListed t m → IsListed u m = λ m l. (let e = same m in omega (arith, e, l)) in
+    let first = sum_by-cons (λ (x : Row). size x.key x.value) (row n) (rows_at (live_at r) t.places (delete n t.recency)) in
+    let whole = live_without row n t.recency listed in let sizes = c.sizes in
+    record {
+      tables = record {
+        numbers = numbers_kept t u are.numbers refl refl refl refl same (length_front n t.recency listed);
+        rows = λ m l. are.rows m (was m l);
+        every = λ p i e. (let w = are.every p i e in (w.0, now w.0 w.1, w.2));
+        apart = λ x y lx ly e. are.apart x y (was x lx) (was y ly) e;
+        index = are.index;
+      };
+      counted = c.counted;
+      sizes = omega (arith, first, whole, sizes);
+    }
+
+-- ---- the row that was used longest ago
+
+same_put : (row : Row) (put : ℕ) → put ≡ row.number → is_of_put put (Some row) ≡ true
+same_put row put e = elim (eqb_tells row.number put) [ inl h ↦ h.0 | inr h ↦ absurd (h.1 (sym e)) ]
+
+pub last_put : (t : TableState) (r : RegionState) (n : ℕ) (h : HasRow (live_at r) t.places n) (put : ℕ) → IsLast n t.recency → put ≡ put_in h.item.content
+    → is_of_put put (last_or None (rows_in t r)) ≡ true
+last_put t r n h put last is =
+    ap (is_of_put put) (last_row (row_at (live_at r) t.places) n t.recency last)
+    ∙ same_put (row_at (live_at r) t.places n) put (is ∙ (ap (λ (x : Row). x.number) h.is_row.read ∙ sym (ap (λ (x : Row). x.number) (row_is (live_at r) t.places n h))))
+
+pub rows_before_last : (t : TableState) (r : RegionState) (n : ℕ) → AreTablesOf t (live_at r) → IsLast n t.recency
+    → rows_with t r (delete n t.recency) ≡ take (length (rows_in t r) - 1) (rows_in t r)
+rows_before_last t r n are last =
+    let row = row_at (live_at r) t.places in
+    ap (λ ns. rows_with t r ns) (delete_last n t.recency (once t are.numbers) last)
+    ∙ (sym (take-map row (length t.recency - 1) t.recency) ∙ ap (λ k. take (k - 1) (rows_in t r)) (sym (length-map t.recency row)))
+
+-- ---- no row
+
+none_there : {A : Type 0} (n k : ℕ) → get_or (replicate n (none_of_type A)) k None ≡ None
+none_there {A} zero k = refl
+none_there {A} (suc n) zero = refl
+none_there {A} (suc n) (suc k) = none_there {A = A} n k
+
+none_live : (n : ℕ) → sum (map live_in (replicate n (none_of_type SegmentState))) ≡ 0
+none_live zero = refl
+none_live (suc n) = let e = sum_by-cons (λ (x : ℕ). x) 0 (map live_in (replicate n (none_of_type SegmentState))) in let ih = none_live n in omega (arith, e, ih)
+
+pub consistent_new : (t : TableState) (r : RegionState) (n : ℕ) → r ≡ record { most = n; guards = 0; active = None; segments = replicate n None } → t.recency ≡ []
+    → ((live : Live) → ((p : Place) → live p ≡ None) → AreTablesOf t live) → IsConsistent t r 0
+consistent_new t r n is none tables =
+    let total : live_total r ≡ 0 = ap live_total is ∙ none_live n in
+    record {
+      tables = tables (live_at r) (λ p. ap (λ (x : RegionState). live_at x p) is ∙ ap (λ s. item_if_live (standing_in s p.at)) (none_there {A = SegmentState} n p.segment));
+      counted = sym total;
+      sizes = ap (λ ns. live (rows_with t r ns)) none ∙ sym total;
+    }

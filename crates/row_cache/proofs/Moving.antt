@@ -1,0 +1,123 @@
+-- A row is moved, and the tables stand for the store of all rows.
+use Rattle.std.proofs.Common.{◌≡◌, ◌≢◌, ℕ, ◌⊎◌, inl, inr, true, false, cond, ◌&&◌, Some, None, refl, sym, ap, subst, ◌∙◌, arith}
+use Rattle.std.specs.Prelude.{nat_lt, ◌==◌, slice_get, slice_set, IsSome, option_map}
+use Rattle.std.proofs.lemmas.Bool.{cases_eq}
+use Rattle.std.proofs.lemmas.Bool.Decides.{leb_tells, eqb_tells}
+use Rattle.cache_model.specs.Row.{Row}
+use Rattle.row_bytes.specs.Rows.{IsRow, number_in}
+use Rattle.common_lemmas.specs.Lists.{times}
+use Rattle.regions.specs.Contents.{Item}
+use Rattle.regions.specs.Stores.{Live, StandsFor, store_of, found, is_place, less, renamed}
+use Rattle.regions.specs.declared.place.Place.{Place}
+use Rattle.row_cache.specs.inside.Tables.{TableState, AreTablesOf, IsListed, ReplacesRow, place_of}
+use Rattle.row_cache.proofs.Numbers.{listed_below}
+use Rattle.row_cache.proofs.States.{row_is, some_same, some_none, same_number, got_set, got_past_set}
+
+-- ---- the places of names
+
+pub listed_place : (t : TableState) (n : ℕ) → IsListed t n → place_of t n ≡ slice_get t.places n
+listed_place t n h = elim (leb_tells 1 (times n t.recency)) [ inl k ↦ ap (λ b. cond b (slice_get t.places n) None) k.0 | inr k ↦ absurd (let l = k.1 in omega (arith, l, h)) ]
+
+place_listed : (t : TableState) (n : ℕ) (p : Place) → place_of t n ≡ Some p → IsListed t n
+place_listed t n p e = elim (leb_tells 1 (times n t.recency)) [ inl k ↦ k.1 | inr k ↦ some_none e (ap (λ b. cond b (slice_get t.places n) None) k.0) ]
+
+pub tables_stand : (t : TableState) (live : Live) → AreTablesOf t live → StandsFor (λ (i : Item). i) (store_of (λ (i : Item). i) (place_of t) live) (place_of t) live
+tables_stand t live are =
+    let at : (n : ℕ) (l : IsListed t n) → place_of t n ≡ Some (are.rows n l).place = λ n l. listed_place t n l ∙ (are.rows n l).placed in
+    record {
+      placed = λ n i e. elim (leb_tells 1 (times n t.recency)) [
+        | inl k ↦ (let h = are.rows n k.1 in (h.place, at n k.1, sym (ap (found (λ (x : Item). x) live) (at n k.1)) ∙ e))
+        | inr k ↦ some_none e (ap (λ b. found (λ (x : Item). x) live (cond b (slice_get t.places n) None)) k.0)
+      ];
+      known = λ n p e. (let l = place_listed t n p e in let h = are.rows n l in
+          subst (λ o. IsSome (found (λ (x : Item). x) live o)) (sym (at n l)) (subst (λ o. IsSome (option_map (λ (x : Item). x) o)) (sym h.is_live) refl));
+      apart = λ m n p em en. (let lm = place_listed t m p em in let ln = place_listed t n p en in
+          same_number live t.places m n (are.rows m lm) (are.rows n ln) (some_same (at m lm) em ∙ sym (some_same (at n ln) en)));
+      every = λ p i e. (let w = are.every p i e in let n = w.0 in let there : place_of t n ≡ Some p = listed_place t n w.1 ∙ w.2 in
+          (n, there, ap (found (λ (x : Item). x) live) there ∙ ap (option_map (λ (x : Item). x)) e));
+    }
+
+-- ---- one row is moved
+
+abbrev at_fields : ℕ → ℕ → Place
+at_fields s a = record { segment = s; at = a }
+
+place_tells : (p q : Place) → ((is_place p q ≡ true) × (p ≡ q)) ⊎ ((is_place p q ≡ false) × (p ≢ q))
+place_tells p q = elim (eqb_tells p.segment q.segment) [
+  | inl a ↦
+      elim (eqb_tells p.at q.at) [
+        | inl b ↦ inl (ap (λ x. x && (p.at == q.at)) a.0 ∙ b.0, ap (λ (s : ℕ). at_fields s p.at) a.1 ∙ ap (λ (x : ℕ). at_fields q.segment x) b.1)
+        | inr b ↦ inr (ap (λ x. x && (p.at == q.at)) a.0 ∙ b.0, λ e. b.1 (ap (λ (x : Place). x.at) e))
+      ]
+  | inr a ↦ inr (ap (λ x. x && (p.at == q.at)) a.0, λ e. a.1 (ap (λ (x : Place). x.segment) e))
+]
+
+less_here : (p : Place) (live : Live) → less p live p ≡ None
+less_here p live = elim (place_tells p p) [ inl h ↦ ap (λ b. cond b None (live p)) h.0 | inr h ↦ absurd (h.1 refl) ]
+
+less_past : (p q : Place) (live : Live) → p ≢ q → less p live q ≡ live q
+less_past p q live far = elim (place_tells p q) [ inl h ↦ absurd (far h.1) | inr h ↦ ap (λ b. cond b None (live q)) h.0 ]
+
+renamed_here : (from to : Place) → renamed from to from ≡ to
+renamed_here from to = elim (place_tells from from) [ inl h ↦ ap (λ b. cond b to from) h.0 | inr h ↦ absurd (h.1 refl) ]
+
+renamed_past : (from to p : Place) → from ≢ p → renamed from to p ≡ p
+renamed_past from to p far = elim (place_tells from p) [ inl h ↦ absurd (far h.1) | inr h ↦ ap (λ b. cond b to p) h.0 ]
+
+-- the row that is moved
+pub record IsMoved (t : TableState) (live : Live) (from to : Place) (i : Item) : Type 0 where
+  pub n : ℕ
+  pub listed : IsListed t n
+  pub number : number_in i.content ≡ n
+  pub content : IsRow i.content
+  pub was : slice_get t.places n ≡ Some from
+  pub row : Row
+  pub replaces : ReplacesRow t n to row (less to live) (less from live)
+
+pub row_moved : (t : TableState) (live : Live) (from to : Place) (i : Item) → AreTablesOf t (less to live) → from ≢ to → live from ≡ Some i → live to ≡ Some i → IsMoved t live from to i
+row_moved t live from to i are apart here there =
+    let at_from : less to live from ≡ Some i = less_past to from live (λ e. apart (sym e)) ∙ here in
+    let w = are.every from i at_from in let n = w.0 in let h = are.rows n w.1 in
+    let at : h.place ≡ from = some_same h.placed w.2 in
+    let item : h.item ≡ i = some_same h.is_live (ap (less to live) at ∙ at_from) in
+    record {
+      n = n;
+      listed = w.1;
+      number = sym (ap (λ (x : Item). number_in x.content) item) ∙ h.is_row.number;
+      content = subst (λ (x : Item). IsRow x.content) item (n, h.row, h.is_row.holds);
+      was = w.2;
+      row = h.row;
+      replaces = record {
+        tables = are;
+        item = h.item;
+        is_row = h.is_row;
+        from = from;
+        was = w.2;
+        replaces = record {
+          absent = less_here to live;
+          gone = less_here from live;
+          here = less_past from to live apart ∙ (there ∙ ap (λ (x : Item). Some x) (sym item));
+          others = λ q not_from not_to. less_past from q live (λ e. not_from (sym e)) ∙ sym (less_past to q live (λ e. not_to (sym e)));
+        };
+        key = ap (λ (r : Row). r.key) (row_is (less to live) t.places n h);
+      };
+    }
+
+pub names_moved : (t : TableState) (live : Live) (from to : Place) (i : Item) (moved : IsMoved t live from to i) (m : ℕ)
+    → cond (nat_lt 0 (times m t.recency)) (slice_get (slice_set t.places moved.n to) m) None ≡ option_map (renamed from to) (place_of t m)
+names_moved t live from to i moved m = elim (leb_tells 1 (times m t.recency)) [
+  | inl k ↦
+      (let n = moved.n in let r = moved.replaces in let are = r.tables in
+      ap (λ b. cond b (slice_get (slice_set t.places n to) m) None) k.0
+      ∙ ((elim (cases_eq m n) [
+        | inl e ↦
+            subst (λ x. slice_get (slice_set t.places n to) x ≡ option_map (renamed from to) (slice_get t.places x)) (sym e)
+            (got_set t.places n to (listed_below t are.numbers n moved.listed) ∙ sym (ap (option_map (renamed from to)) moved.was ∙ ap (λ x. Some x) (renamed_here from to)))
+        | inr far ↦
+            (let h = are.rows m k.1 in
+            let hn = are.rows n moved.listed in
+            let other : from ≢ h.place = λ e. far (same_number (less to live) t.places m n h hn (sym e ∙ sym (some_same hn.placed moved.was))) in
+            got_past_set t.places n m to far ∙ (h.placed ∙ sym (ap (option_map (renamed from to)) h.placed ∙ ap (λ x. Some x) (renamed_past from to h.place other))))
+      ]) ∙ ap (option_map (renamed from to)) (sym (listed_place t m k.1))))
+  | inr k ↦ ap (λ b. cond b (slice_get (slice_set t.places moved.n to) m) None) k.0 ∙ sym (ap (λ b. option_map (renamed from to) (cond b (slice_get t.places m) None)) k.0)
+]

@@ -1,0 +1,63 @@
+-- A row is written into a new object.
+use Rattle.std.proofs.Common.{◌≡◌, ℕ, ◌+◌, ◌-◌, ◌≤◌, inl, inr, List, length, replicate, Option, Some, None, refl, sym, ap, ◌∙◌, arith}
+use Rattle.std.specs.Prelude.{option_map, slice_index}
+use Rattle.std.proofs.lemmas.Bool.Decides.{leb_tells}
+use Rattle.std.proofs.lemmas.List.{get_or-set_same, length-replicate, set_past}
+use Rattle.std.specs.List.{sum}
+use Rattle.layout.specs.Sizes.{descriptor, segment}
+use Rattle.regions.specs.Segments.{RegionState}
+use Rattle.regions.specs.Shapes.{active_of}
+use Rattle.regions.specs.Counts.{left, left_of, plus, used_counts}
+use Rattle.regions.specs.Contents.{Item, Standing, ChangesAt, item_if_live, live_at, standing_at, with_bytes, zeros}
+use Rattle.regions.specs.declared.place.Place.{Place}
+use Rattle.row_cache.specs.Rows.{Stay}
+use Rattle.row_cache.specs.inside.Tables.{Adds}
+use Rattle.row_cache.proofs.States.{some_none, place_cases}
+
+abbrev item_of : ℕ → List ℕ → Item
+item_of kind ws = record { kind = kind; content = ws }
+
+pub object_added : (r m s : RegionState) (p : Place) (kind size : ℕ) (ws : List ℕ) → ChangesAt p (Some (zeros kind size)) r m → standing_at r p ≡ None
+    → ChangesAt p (option_map (with_bytes ws) (standing_at m p)) m s → Adds p (record { kind = kind; content = ws }) (live_at r) (live_at s)
+object_added r m s p kind size ws first unused second = record {
+  absent = ap item_if_live unused;
+  here = ap item_if_live (second.here ∙ ap (option_map (with_bytes ws)) first.here);
+  others = λ q far. ap item_if_live (second.others q far ∙ first.others q far);
+}
+
+pub object_stays : (r m s : RegionState) (p : Place) (a b : Option Standing) → ChangesAt p a r m → standing_at r p ≡ None → ChangesAt p b m s → Stay r s
+object_stays r m s p a b first unused second = λ q x e. elim (place_cases q p) [
+  | inl same ↦ some_none (sym (ap (λ y. standing_at r y) same) ∙ e) unused
+  | inr far ↦ (x, second.others q far ∙ (first.others q far ∙ e), refl)
+]
+
+-- the new content has the length of the zeros that it is written over
+pub zeros_long : (m : RegionState) (p : Place) (kind size : ℕ) (bytes : List ℕ) → standing_at m p ≡ Some (zeros kind size)
+    → option_map (λ (s : Standing). s.item.content) (standing_at m p) ≡ Some bytes → length bytes ≡ size - descriptor
+zeros_long m p kind size bytes here e =
+    let both : Some (replicate (size - descriptor) 0) ≡ Some bytes = sym (ap (option_map (λ (s : Standing). s.item.content)) here) ∙ e in
+    let same : replicate (size - descriptor) 0 ≡ bytes = cc in
+    sym (ap (λ ws. length ws) same) ∙ length-replicate (size - descriptor) 0
+
+-- ---- what is left of the active segment
+
+fewer_left : (used : List ℕ) (n size : ℕ) → sum (plus n size used) ≡ sum used + size → 1 ≤ size → size ≤ segment - slice_index used n
+    → (segment - slice_index (plus n size used) n) + size ≡ segment - slice_index used n
+fewer_left used n size total some room = elim (leb_tells (length used) n) [
+  | inl past ↦ absurd (let same : sum (plus n size used) ≡ sum used = ap (λ xs. sum xs) (set_past used n (slice_index used n + size) past.1) in omega (arith, same, total, some))
+  | inr inside ↦ (let e : slice_index (plus n size used) n ≡ slice_index used n + size = get_or-set_same used n (slice_index used n + size) 0 inside.1 in omega (arith, e, room))
+]
+
+pub left_added : (r m s : RegionState) (n size : ℕ) → active_of r ≡ Some n → active_of s ≡ active_of r → used_counts m ≡ plus n size (used_counts r) → used_counts s ≡ used_counts m
+    → sum (used_counts m) ≡ sum (used_counts r) + size → 1 ≤ size → size ≤ left r → left s + size ≡ left r
+left_added r m s n size active same used kept total some room =
+    let was : left r ≡ left_of (used_counts r) (Some n) = ap (left_of (used_counts r)) active in
+    let now : left s ≡ left_of (plus n size (used_counts r)) (Some n) = ap (left_of (used_counts s)) (same ∙ active) ∙ ap (λ u. left_of u (Some n)) (kept ∙ used) in
+    let e = fewer_left (used_counts r) n size (sym (ap (λ u. sum u) used) ∙ total) some (omega (arith, was, room)) in
+    omega (arith, was, now, e)
+
+pub stays_both : (r m s : RegionState) → Stay r m → Stay m s → Stay r s
+stays_both r m s first second = λ p x e. (let a = first p x e in let b = second p a.0 a.1 in (b.0, b.1, b.2 ∙ a.2))
+
+pub stays_same : (r s : RegionState) → s ≡ r → Stay r s
+stays_same r s same = λ p x e. (x, ap (λ (y : RegionState). standing_at y p) same ∙ e, refl)

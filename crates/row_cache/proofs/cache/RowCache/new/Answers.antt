@@ -1,0 +1,5 @@
+use Rattle.row_cache.proofs.Looked.{consistent_new}
+use Rattle.row_cache.proofs.cache.RowCache.new.Goals as goal
+
+pub invariant_of-result : goal.invariant_of-result
+invariant_of-result c = consistent_new c.in_ok-new-2.field-0 c.in_ok-new.field-0 c.args.segments c.in_ok-new.ensures c.in_ok-new-2.ensures.empty.1 c.in_ok-new-2.ensures.none

@@ -1,0 +1,34 @@
+use Rattle.std.proofs.Common.{◌≡◌, ◌+◌, ◌≤◌, false, true, inl, inr, length, refl, sym, ap, ◌∙◌, arith}
+use Rattle.std.proofs.lemmas.Bool.Decides.{leb_tells}
+use Rattle.regions.specs.Shapes.{Shape}
+use Rattle.regions.specs.Counts.{left}
+use Rattle.regions.specs.Lends.{with_content}
+use Rattle.row_cache.proofs.Placed.{object_added, object_stays, zeros_long, left_added, stays_same}
+use Rattle.row_cache.proofs.cache.storing.place_row.Goals as goal
+
+pub returns-in_err-place-clause-stay : goal.returns-in_err-place-clause-stay
+returns-in_err-place-clause-stay c = stays_same c.args.region.now c.place.new.self c.in_err-place.ensures.unchanged
+
+pub returns-clause-added : goal.returns-clause-added
+returns-clause-added c =
+    let ws = c.write_row.new.content in let p = c.in_ok-place.place in let e = c.in_ok-place.ensures in let w = c.write_row.ensures in
+    let old = zeros_long c.place.new.self p 1 c.row_size.result c.bytes_mut.result.now e.added.here c.bytes_mut.ensures.value in
+    let same : length ws ≡ length c.bytes_mut.result.now = c.write_row.auto.content in
+    let whole = c.row_size.ensures in (
+      record { kind = 1; content = ws },
+      object_added c.args.region.now c.place.new.self (with_content c.place.new.self p ws) p 1 c.row_size.result ws e.added e.unused (c.bytes_mut.ensures.left ws same),
+      record { kind = refl; holds = w.holds; read = w.read; number = w.number; size = omega (arith, old, same, whole) },
+    )
+
+pub returns-clause-left : goal.returns-clause-left
+returns-clause-left c =
+    let ws = c.write_row.new.content in let p = c.in_ok-place.place in let e = c.in_ok-place.ensures in let b = c.bytes_mut.ensures in
+    let s = with_content c.place.new.self p ws in let whole = c.row_size.ensures in
+    let room : c.row_size.result ≤ left c.args.region.now = elim (leb_tells c.row_size.result (left c.args.region.now)) [ inl h ↦ h.1 | inr h ↦ absurd (let clash : false ≡ true = e.full.1 h.1 in cc) ] in
+    ap (λ n. left s + n) (sym whole)
+    ∙ left_added c.args.region.now c.place.new.self s p.segment c.row_size.result e.segment (ap (λ (s : Shape). s.active) (b.shape ws ∙ e.shape)) e.used (b.used ws) e.used_total (omega (arith, whole)) room
+
+pub returns-clause-stay : goal.returns-clause-stay
+returns-clause-stay c =
+    let ws = c.write_row.new.content in let p = c.in_ok-place.place in let e = c.in_ok-place.ensures in
+    object_stays c.args.region.now c.place.new.self (with_content c.place.new.self p ws) p _ _ e.added e.unused (c.bytes_mut.ensures.left ws c.write_row.auto.content)

@@ -1,0 +1,4 @@
+-- What only the private parts of a row cache cite.
+pub mod Tables
+pub mod Consistent
+pub mod NewRows

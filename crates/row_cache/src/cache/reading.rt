@@ -1,0 +1,77 @@
+//! What a cache tells of itself.
+ghost use Rattle.std.specs.Prelude.{◌≡◌, ◌⊎◌, ◌+◌, ◌*◌, ◌≤◌, ℕ, List, length, take, Some, None, IsSome, IfSome, MatchOption};
+ghost use Rattle.cache_model.specs.Row.{Row, live};
+ghost use Rattle.cache_model.specs.Apply as apply;
+ghost use Rattle.regions.specs.Shapes.{guards_of, free_count};
+ghost use Rattle.regions.specs.Counts.{left, live_total};
+ghost use Rattle.regions.specs.Contents.{live_at};
+ghost use Rattle.row_cache.specs.Rows.{rows_of, HoldsValue};
+
+use super::RowCache;
+use regions::Place;
+use row_bytes::value_in;
+
+impl RowCache {
+    /// How many rows there are.
+    pub fn rows(&self) -> u32
+        ensures { result ≡ length (rows_of self.now) }
+    {
+        self.tables.len()
+    }
+
+    /// The live bytes: the sizes of all rows together, which are those of the segments' live objects.
+    pub fn live(&self) -> u64
+        ensures rows { result ≡ live (rows_of self.now) }
+        ensures segments { result ≡ live_total self.now.region }
+    {
+        self.live
+    }
+
+    /// The length of the value of a key's row, in bytes. None where no row has the key.
+    pub fn find_len(&self, key: &[u8]) -> Option<u32>
+        ensures { MatchOption result (apply.row_of key.now (rows_of self.now) ≡ None) (λ len. (row : Row) × (apply.row_of key.now (rows_of self.now) ≡ Some row) × (len ≡ length row.value)) }
+    {
+        let place = self.place_of(key)?;
+        Some(value_in(self.region.bytes(place)).len() as u32)
+    }
+
+    /// Where the row of a key stands. None where no row has the key.
+    pub fn place_of(&self, key: &[u8]) -> Option<Place>
+        ensures { MatchOption result (apply.row_of key.now (rows_of self.now) ≡ None) (λ place. (row : Row) × (apply.row_of key.now (rows_of self.now) ≡ Some row) × HoldsValue self.now.region place row.value × IsSome (live_at self.now.region place)) }
+    {
+        let Ok(found) = self.tables.search(&self.region, key) else {
+            return None;
+        };
+        Some(self.tables.place(found.row))
+    }
+
+    /// The value of the row at a place, live, or dead under a guard.
+    pub fn value_at(&self, place: Place) -> &[u8]
+        requires row { (value : List ℕ) × HoldsValue self.now.region place value }
+        requires live { IsSome (live_at self.now.region place) ⊎ (1 ≤ guards_of self.now.region) }
+        ensures { HoldsValue self.now.region place result.now }
+    {
+        value_in(self.region.bytes(place))
+    }
+
+    /// How many segments are free.
+    pub fn free_segments(&self) -> u32
+        ensures { result ≡ free_count self.now.region }
+    {
+        self.region.free_segments()
+    }
+
+    /// The bytes that the active segment has left, or 0 where there is none.
+    pub fn left(&self) -> u32
+        ensures { result ≡ left self.now.region }
+    {
+        self.region.left()
+    }
+
+    /// How many guards stand.
+    pub fn guards(&self) -> u32
+        ensures { result ≡ guards_of self.now.region }
+    {
+        self.region.guards()
+    }
+}

@@ -1,0 +1,107 @@
+//! The segments of a cache: the region's calls, which leave its rows as they are.
+ghost use Rattle.std.specs.Prelude.{◌≡◌, ◌↔◌, ◌⊎◌, ◌+◌, ◌-◌, ◌<◌, ◌≤◌, ℕ, [], length, Some, None, IfSome, IsNone, IsSome};
+ghost use Rattle.layout.specs.Sizes as sizes;
+ghost use Rattle.regions.specs.Segments.{segment_at, with_segment, fresh, all_emptied};
+ghost use Rattle.regions.specs.Shapes.{shape, active_of, guards_of, held_count, free_count, activated, IsLeastFree, IsGreatestFree, IsGreatestHeld, IsLeastUnused};
+ghost use Rattle.regions.specs.Counts.{left};
+ghost use Rattle.compaction.specs.Sparse.{IsCompacted};
+ghost use Rattle.compaction.specs.Emptied.{HoldsTheSame};
+ghost use Rattle.row_cache.specs.Rows.{rows_of, Stay};
+
+use super::RowCache;
+use compaction::{Compacted, pass};
+use raw_range::Piece;
+
+impl RowCache {
+    /// The piece becomes a free segment, with the least number that no segment has.
+    pub fn add_segment(&mut self, piece: Piece)
+        requires room { held_count self.old.region < (shape self.old.region).most }
+        requires segment { length piece.bytes ≡ sizes.segment }
+        ensures rows { rows_of self.new ≡ rows_of self.old }
+        ensures room { self.new.room ≡ self.old.room }
+        ensures added { (n : ℕ) × IsLeastUnused self.old.region n × (self.new.region ≡ with_segment self.old.region n (Some (fresh piece))) }
+        ensures held { held_count self.new.region ≡ held_count self.old.region + 1 }
+        ensures free { free_count self.new.region ≡ free_count self.old.region + 1 }
+        ensures stay { Stay self.old.region self.new.region }
+    {
+        self.region.add_segment(piece);
+    }
+
+    /// Takes the free segment with the greatest number out. None where at most one segment is free.
+    pub fn take_free(&mut self) -> Option<Piece>
+        ensures none { IsNone result ↔ free_count self.old.region ≤ 1 }
+        ensures unchanged { IsNone result → self.new ≡ self.old }
+        ensures rows { rows_of self.new ≡ rows_of self.old }
+        ensures room { self.new.room ≡ self.old.room }
+        ensures taken { IfSome result (λ piece. (n : ℕ) × IsGreatestFree self.old.region n × (segment_at self.old.region n ≡ Some (fresh piece)) × (self.new.region ≡ with_segment self.old.region n None)) }
+        ensures held { IsSome result → held_count self.new.region + 1 ≡ held_count self.old.region }
+        ensures free { IsSome result → free_count self.new.region + 1 ≡ free_count self.old.region }
+        ensures stay { Stay self.old.region self.new.region }
+    {
+        self.region.take_free()
+    }
+
+    /// Closes the active segment, and makes the free one with the least number active.
+    pub fn next_active(&mut self)
+        requires free { (2 ≤ free_count self.old.region) ⊎ ((1 ≤ free_count self.old.region) × (active_of self.old.region ≡ None)) }
+        requires full { IsSome (active_of self.old.region) → left self.old.region < sizes.greatest_object }
+        ensures rows { rows_of self.new ≡ rows_of self.old }
+        ensures room { self.new.room ≡ self.old.room }
+        ensures activated { (n : ℕ) × IsLeastFree self.old.region n × (shape self.new.region ≡ activated n (shape self.old.region)) }
+        ensures left { left self.new.region ≡ sizes.segment }
+        ensures stay { Stay self.old.region self.new.region }
+    {
+        self.region.next_active();
+    }
+
+    /// Empties segments into the active one until two are free, or no closed one is sparse.
+    pub fn compact(&mut self) -> Compacted
+        requires { 1 ≤ free_count self.old.region }
+        ensures rows { rows_of self.new ≡ rows_of self.old }
+        ensures room { self.new.room ≡ self.old.room }
+        ensures guarded { result ≡ Compacted.Guarded ↔ 1 ≤ guards_of self.old.region }
+        ensures unchanged { result ≡ Compacted.Guarded → self.new ≡ self.old }
+        ensures freed { result ≡ Compacted.Freed → 2 ≤ free_count self.new.region }
+        ensures none { result ≡ Compacted.NoneSparse → IsCompacted self.new.region }
+        ensures free { 1 ≤ free_count self.new.region }
+        ensures holds { HoldsTheSame self.old.region self.new.region }
+    {
+        pass(&mut self.region, &mut self.tables)
+    }
+
+    /// One guard more. While one stands, no row is moved and no byte of a row that went is used again. Guards nest.
+    pub fn guard(&mut self)
+        requires { guards_of self.old.region < 1000000 }
+        ensures rows { rows_of self.new ≡ rows_of self.old }
+        ensures room { self.new.room ≡ self.old.room }
+        ensures guards { self.new.region ≡ record self.old.region { guards = guards_of self.old.region + 1 } }
+        ensures stay { Stay self.old.region self.new.region }
+    {
+        self.region.guard();
+    }
+
+    /// One guard less.
+    pub fn unguard(&mut self)
+        requires { 1 ≤ guards_of self.old.region }
+        ensures rows { rows_of self.new ≡ rows_of self.old }
+        ensures room { self.new.room ≡ self.old.room }
+        ensures guards { self.new.region ≡ record self.old.region { guards = guards_of self.old.region - 1 } }
+        ensures stay { Stay self.old.region self.new.region }
+    {
+        self.region.unguard();
+    }
+
+    /// Removes all rows, makes every segment free, and takes the one with the greatest number out. None where no segment
+    /// is held.
+    pub fn give_up(&mut self) -> Option<Piece>
+        requires { guards_of self.old.region ≡ 0 }
+        ensures none { IsNone result ↔ held_count self.old.region ≡ 0 }
+        ensures rows { rows_of self.new ≡ [] }
+        ensures room { self.new.room ≡ self.old.room }
+        ensures held { IsSome result → held_count self.new.region + 1 ≡ held_count self.old.region }
+        ensures free { free_count self.new.region ≡ held_count self.new.region }
+    {
+        while self.evict_last().is_some() {}
+        self.region.give_up()
+    }
+}

@@ -1,0 +1,207 @@
+ghost use Rattle.std.specs.Prelude.{◌≡◌, ◌≢◌, ◌+◌, ◌<◌, ◌≤◌, ℕ, [], ◌∷◌, length, Some, None, slice_get, slice_set, IfOk, MatchOption, MatchResult, All, vec_len, vec_capacity, List, ◌-◌, ◌^◌, take};
+ghost use Rattle.std.specs.List.{last_or};
+ghost use Rattle.cache_model.specs.Row.{Row};
+ghost use Rattle.common_lemmas.specs.Lists.{delete};
+ghost use Rattle.key_index.specs.Index.{IsPlaceFor, IsRowAt};
+ghost use Rattle.regions.specs.Contents.{live_at};
+ghost use Rattle.regions.specs.Stores.{Live};
+ghost use Rattle.row_cache.specs.Rows.{key_at};
+ghost use Rattle.row_cache.specs.inside.Tables as tables;
+
+use crate::row_keys::RowKeys;
+use index_lists::IndexLists;
+use key_index::{KeyIndex, RowAt};
+use regions::{Movers, Place, Region};
+use row_bytes::number_in;
+use std::alloc::{AllocError, Global};
+use std::marker::Model;
+
+// The one list of numbers: the recency of the rows.
+const RECENCY: u32 = 0;
+
+// The tables of a row cache: the mover of its region.
+#[derive(Drop)]
+pub(crate) struct Tables {
+    recency: IndexLists,
+    places: Vec<Place>,
+    freed: Vec<u32>,
+    index: KeyIndex,
+}
+
+impl Model for Tables {
+    ghost use Rattle.std.specs.Prelude.{◌≡◌, ◌≤◌, length, vec_capacity, slice_index_or, []};
+    ghost use Rattle.row_cache.specs.inside.Tables.{TableState, AreNumbers};
+
+    ghost Value = { TableState };
+
+    ghost view = { λ t. record { room = t.recency.indices; recency = slice_index_or t.recency.lists 0 []; places = t.places.items; freed = t.freed.items; index = t.index } };
+
+    ghost invariant = { λ t. AreNumbers (record { room = t.recency.indices; recency = slice_index_or t.recency.lists 0 []; places = t.places.items; freed = t.freed.items; index = t.index })
+        × (length t.recency.lists ≡ 1) × (t.recency.indices ≤ vec_capacity t.places) × (t.recency.indices ≤ vec_capacity t.freed) };
+}
+
+impl Tables {
+    // Tables with room for so many rows. No other call takes memory.
+    pub(crate) fn new(alloc: Global, room: u32) -> Result<Tables, AllocError>
+        requires { room < 2 ^ 32 - 1 }
+        ensures empty { IfOk result (λ t. (t.room ≡ room) × (t.recency ≡ []) × (t.places ≡ []) × (t.freed ≡ [])) }
+        ensures none { IfOk result (λ t. (live : Live) → ((p : Place) → live p ≡ None) → tables.AreTablesOf t live) }
+    {
+        Ok(Tables {
+            recency: IndexLists::new(alloc, room, 1)?,
+            places: Vec::with_capacity(alloc, room as usize)?,
+            freed: Vec::with_capacity(alloc, room as usize)?,
+            index: KeyIndex::new(alloc, room)?,
+        })
+    }
+
+    // How many rows there are.
+    pub(crate) fn len(&self) -> u32
+        ensures { result ≡ length self.now.recency }
+    {
+        self.recency.len(RECENCY)
+    }
+
+    // The row that was used longest ago.
+    pub(crate) fn last(&self) -> Option<u32>
+        ensures { MatchOption result (self.now.recency ≡ []) (λ n. tables.IsLast n self.now.recency) }
+    {
+        self.recency.back(RECENCY)
+    }
+
+    // Where a row stands.
+    pub(crate) fn place(&self, number: u32) -> Place
+        requires { number < length self.now.places }
+        ensures { slice_get self.now.places number ≡ Some result }
+    {
+        self.places[number as usize]
+    }
+
+    // The number of the next row.
+    pub(crate) fn next_number(&self) -> u32
+        ensures { result ≡ tables.next_number self.now }
+    {
+        match self.freed.last() {
+            Some(number) => *number,
+            None => self.places.len() as u32,
+        }
+    }
+
+    // The row of a key, or where the index would have one.
+    pub(crate) fn search(&self, region: &Region, key: &[u8]) -> Result<RowAt, key_index::Place>
+        requires { tables.AreTablesOf self.now (live_at region.now) }
+        ensures { MatchResult result
+            (λ found. IsRowAt self.now.index found.place found.row × tables.IsListed self.now found.row × (key_at (live_at region.now) self.now.places found.row ≡ key.now))
+            (λ at. IsPlaceFor (key_at (live_at region.now) self.now.places) key.now self.now.index at
+            × ((n : ℕ) → tables.IsListed self.now n → key_at (live_at region.now) self.now.places n ≢ key.now)) }
+    {
+        self.index.law();
+        self.index.search(&self.keys(region), key)
+    }
+
+    // The row is the one used last.
+    pub(crate) fn touch(&mut self, number: u32)
+        requires { tables.IsListed self.old number }
+        ensures { self.new ≡ record self.old { recency = number ∷ delete number self.old.recency } }
+    {
+        self.recency.remove(RECENCY, number);
+        self.recency.push_front(RECENCY, number);
+    }
+
+    // The row stands elsewhere, and is the one used last.
+    pub(crate) fn replace(&mut self, number: u32, place: Place)
+        requires { tables.IsListed self.old number }
+        ensures state { self.new ≡ record self.old { recency = number ∷ delete number self.old.recency; places = slice_set self.old.places number place } }
+        ensures tables { (row : Row) (old new : Live) → tables.ReplacesRow self.old number place row old new → tables.AreTablesOf self.new new }
+    {
+        self.index.law();
+        self.places[number as usize] = place;
+        self.touch(number);
+    }
+
+    // A new row, with the next number, stands at the place.
+    pub(crate) fn insert(&mut self, region: &Region, at: key_index::Place, place: Place)
+        requires room { length self.old.recency < self.old.room }
+        requires tables { (row : Row) × (old : Live) × tables.AddsRow self.old at place row old (live_at region.now) }
+        ensures room { self.new.room ≡ self.old.room }
+        ensures recency { self.new.recency ≡ tables.next_number self.old ∷ self.old.recency }
+        ensures places { self.new.places ≡ tables.placed (tables.next_number self.old) place self.old.places }
+        ensures tables { tables.AreTablesOf self.new (live_at region.now) }
+    {
+        self.index.law();
+        let number = give_number(&mut self.places, &mut self.freed, place);
+        let keys = RowKeys {
+            region,
+            places: self.places.as_slice(),
+        };
+        self.index.insert_at(&keys, at, number);
+        self.recency.push_front(RECENCY, number);
+    }
+
+    // Takes a row out, and gives its number back. Its object is to be killed.
+    pub(crate) fn remove(&mut self, found: RowAt)
+        requires at { IsRowAt self.old.index found.place found.row }
+        requires listed { tables.IsListed self.old found.row }
+        ensures recency { self.new.recency ≡ delete found.row self.old.recency }
+        ensures places { self.new.places ≡ self.old.places }
+        ensures room { self.new.room ≡ self.old.room }
+        ensures tables { (place : Place) (old new : Live) → tables.AreTablesOf self.old old → slice_get self.old.places found.row ≡ Some place → tables.Drops place old new → tables.AreTablesOf self.new new }
+    {
+        self.index.remove_at(found);
+        self.index.law();
+        self.recency.remove(RECENCY, found.row);
+        self.freed.push(found.row).unwrap();
+    }
+
+    fn keys<'a>(&'a self, region: &'a Region) -> RowKeys<'a>
+        ensures region { result.region.now ≡ region.now }
+        ensures places { result.places.now ≡ self.now.places }
+    {
+        RowKeys {
+            region,
+            places: self.places.as_slice(),
+        }
+    }
+}
+
+// The number that was given back last, or the least that was never given; its row stands at the place.
+fn give_number(places: &mut Vec<Place>, freed: &mut Vec<u32>, place: Place) -> u32
+    requires room { (freed.old.items ≡ []) → vec_len places.old < vec_capacity places.old }
+    requires given { All (λ n. n < length places.old.items) freed.old.items }
+    requires small { length places.old.items < 2 ^ 32 }
+    ensures number { result ≡ tables.number_or (length places.old.items) (last_or None freed.old.items) }
+    ensures places { places.new.items ≡ tables.placed result place places.old.items }
+    ensures freed { freed.new.items ≡ take (length freed.old.items - 1) freed.old.items }
+    ensures capacity { (vec_capacity places.old ≤ vec_capacity places.new) × (vec_capacity freed.old ≤ vec_capacity freed.new) }
+{
+    let Some(number) = freed.pop() else {
+        let number = places.len() as u32;
+        places.push(place).unwrap();
+        return number;
+    };
+    places[number as usize] = place;
+    number
+}
+
+impl Movers for Tables {
+    ghost use Rattle.std.specs.Prelude.{[]};
+    ghost use Rattle.row_cache.specs.inside.Tables as tables;
+
+    ghost fits = { tables.AreTablesOf };
+
+    ghost place_of = { tables.place_of };
+
+    ghost bare = { λ item. item };
+
+    ghost references = { λ _. [] };
+
+    ghost Rest = { tables.TableState };
+
+    ghost rest = { λ t. record t { places = [] } };
+
+    fn moved(&mut self, store: &mut Region, _kind: u8, _from: Place, to: Place) {
+        self.index.law();
+        let number = number_in(store.bytes(to));
+        self.places[number as usize] = to;
+    }
+}
