@@ -1,0 +1,51 @@
+//! Segments are added, and taken out once compaction freed them.
+ghost use Rattle.std.specs.Prelude.{◌≡◌, ◌-◌, ◌*◌, ◌^◌, ◌<◌, ◌≤◌, [], IfOk};
+ghost use Rattle.layout.specs.Sizes as sizes;
+ghost use Rattle.regions.specs.Shapes.{shape, held_count};
+
+use layout::{SEGMENT, SEGMENT_PAGES};
+use raw_range::Range;
+use row_cache::{Compacted, RowCache};
+use std::alloc::{AllocError, Global};
+
+/// A cache with room for so many rows and with free segments: the pieces of one range, side by side.
+pub fn new_cache(alloc: Global, rows: u32, segments: u32) -> Result<RowCache, AllocError>
+    requires rows { rows < 2 ^ 32 - 1 }
+    requires some { 0 < segments }
+    requires few { sizes.segment_pages * segments ≤ sizes.most_pages }
+    ensures { IfOk result (λ c. c.room ≡ rows) }
+{
+    let mut range = Range::new(alloc, 0, segments * SEGMENT_PAGES)?;
+    let mut cache = RowCache::new(alloc, rows, segments)?;
+    add_segments(&mut cache, &mut range, segments);
+    Ok(cache)
+}
+
+/// Adds the pieces of a range to a cache without segments.
+fn add_segments(cache: &mut RowCache, range: &mut Range, segments: u32)
+    requires few { sizes.segment_pages * segments ≤ sizes.most_pages }
+    requires none { held_count cache.old.region ≡ 0 }
+    requires most { (shape cache.old.region).most ≡ segments }
+    requires pages { range.old.pages ≡ sizes.segment_pages * segments }
+    requires allocated { range.old.allocated ≡ [] }
+    ensures room { cache.new.room ≡ cache.old.room }
+{
+    for number in 0..segments {
+        cache.add_segment(range.take(number * SEGMENT, SEGMENT));
+    }
+}
+
+/// Compacts and takes a free segment out, until none is sparse. How many were taken out, of so many at most.
+pub fn compact_all(cache: &mut RowCache, segments: u32) -> u32 {
+    let mut taken: u32 = 0;
+    for _ in 0..segments {
+        if cache.free_segments() == 0
+            || cache.compact() != Compacted::Freed
+            || cache.take_free().is_none()
+        {
+            return taken;
+        }
+        taken = taken.wrapping_add(1);
+    }
+    taken
+}
