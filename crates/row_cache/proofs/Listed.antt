@@ -154,3 +154,11 @@ last_row row n (m ∷ k ∷ ns) e = last_row row n (k ∷ ns) e
 pub times_append : (n : ℕ) (xs ys : List ℕ) → times n (xs ++ ys) ≡ times n xs + times n ys
 times_append n [] ys = omega arith
 times_append n (x ∷ xs) ys = let ih = times_append n xs ys in omega (arith, ih)
+
+pub found_has : (key : List ℕ) (rows : List Row) (row : Row) → row_of key rows ≡ Some row → has key rows ≡ true
+found_has key [] row e = absurd (let no : None ≡ Some row = e in cc)
+found_has key (r ∷ rows) row e =
+    elim (of_key key r) [
+      | inl t ↦ ap (λ b. b || has key rows) t.0
+      | inr f ↦ ap (λ b. b || has key rows) f.0 ∙ found_has key rows row (sym (ap (λ b. cond b (Some r) (row_of key rows)) f.0) ∙ e)
+    ]

@@ -1,5 +1,5 @@
 -- A row is written into a new object.
-use Rattle.std.proofs.Common.{◌≡◌, ℕ, ◌+◌, ◌-◌, ◌≤◌, inl, inr, List, length, replicate, Option, Some, None, refl, sym, ap, ◌∙◌, arith}
+use Rattle.std.proofs.Common.{◌≡◌, ℕ, ◌+◌, ◌-◌, ◌≤◌, inl, inr, List, length, replicate, Option, Some, None, refl, sym, ap, subst, ◌∙◌, arith}
 use Rattle.std.specs.Prelude.{option_map, slice_index}
 use Rattle.std.proofs.lemmas.Bool.Decides.{leb_tells}
 use Rattle.std.proofs.lemmas.List.{get_or-set_same, length-replicate, set_past}
@@ -10,7 +10,8 @@ use Rattle.regions.specs.Shapes.{active_of}
 use Rattle.regions.specs.Counts.{left, left_of, plus, used_counts}
 use Rattle.regions.specs.Contents.{Item, Standing, ChangesAt, item_if_live, live_at, standing_at, with_bytes, zeros}
 use Rattle.regions.specs.declared.place.Place.{Place}
-use Rattle.row_cache.specs.Rows.{Stay}
+use Rattle.row_bytes.specs.Rows.{IsRow, value_in}
+use Rattle.row_cache.specs.Rows.{Stay, HoldsValue}
 use Rattle.row_cache.specs.inside.Tables.{Adds}
 use Rattle.row_cache.proofs.States.{some_none, place_cases}
 
@@ -61,3 +62,8 @@ stays_both r m s first second = λ p x e. (let a = first p x e in let b = second
 
 pub stays_same : (r s : RegionState) → s ≡ r → Stay r s
 stays_same r s same = λ p x e. (x, ap (λ (y : RegionState). standing_at y p) same ∙ e, refl)
+
+pub value_stays : (r s : RegionState) (p : Place) (value : List ℕ) → Stay r s → HoldsValue r p value → HoldsValue s p value
+value_stays r s p value stay holds =
+    let t = stay p holds.0 holds.1 in
+    (t.0, t.1, subst (λ (i : Item). IsRow i.content) (sym t.2) holds.2, ap (λ (i : Item). value_in i.content) t.2 ∙ holds.3)
