@@ -115,7 +115,12 @@ fn value_of<'a>(cache: &'a RowCache, key: &[u8]) -> Option<&'a [u8]> {
 }
 
 // Rows of the greatest size, each byte of a row being its number. Ten fill a segment.
-pub(crate) fn put_greatest(alloc: Global, cache: &mut RowCache, from: u8, to: u8) -> Result<u32, AllocError>
+pub(crate) fn put_greatest(
+    alloc: Global,
+    cache: &mut RowCache,
+    from: u8,
+    to: u8,
+) -> Result<u32, AllocError>
     requires room { cache.old.room ≡ 64 }
     ensures room { cache.new.room ≡ cache.old.room }
 {
