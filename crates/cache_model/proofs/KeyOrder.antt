@@ -4,7 +4,9 @@ use Rattle.std.specs.Prelude.{All}
 use Rattle.std.specs.Ordering.{is_le, is_some_and, ordering_reverse, nat_cmp}
 use Rattle.std.specs.Cmp.Lexicographic.{slice_cmp, slice_partial_cmp, lists_agrees}
 use Rattle.std.specs.List.{swap}
+use Rattle.std.specs.List.Sorted.{IsSortedByKey}
 use Rattle.std.proofs.lemmas.Cmp.{nat_list_cmp_total, tied_itself, alike_right}
+use Rattle.std.proofs.lemmas.List.{map-id}
 use Rattle.std.proofs.lemmas.List.Elements.{All-head, All-tail, All-cons, All-filter, All-take}
 use Rattle.std.proofs.lemmas.List.Sorted.{IsPermutation-keeps, IsPermutation-map}
 use Rattle.std.proofs.lemmas.Map.Lookups.{exact_bytes}
@@ -187,20 +189,30 @@ not_below Less e = cc
 not_below Equal e = refl
 not_below Greater e = refl
 
-from_sorted : (keys : List (Bor (List ℕ))) → IsSorted key_cmp keys → IsInOrder (map (λ key. key.now) keys)
-from_sorted [] sorted = tt
-from_sorted (a ∷ []) sorted = (tt, tt)
-from_sorted (a ∷ b ∷ keys) sorted =
-    let first : is_lt (key_cmp b a) ≡ false = sorted 0 a (omega arith) (omega arith) in
-    let tail : IsSorted key_cmp (b ∷ keys) = λ k d p q. rw add-one (rw add-one at (sorted (suc k) d (omega arith) (omega arith))) in
-    (ap is_le (nat_list_cmp_total.antisymm a.now b.now) ∙ not_below (key_cmp b a) first, from_sorted (b ∷ keys) tail)
+-- what is sorted by its keys has keys in order
+from_sorted : {X : Type 0} (key : X → List ℕ) (xs : List X) → IsSortedByKey key (slice_cmp nat_cmp) xs → IsInOrder (map key xs)
+from_sorted key [] sorted = tt
+from_sorted key (a ∷ []) sorted = (tt, tt)
+from_sorted key (a ∷ b ∷ xs) sorted =
+    let first : is_lt (slice_cmp nat_cmp (key b) (key a)) ≡ false = sorted 0 a (omega arith) (omega arith) in
+    let tail : IsSortedByKey key (slice_cmp nat_cmp) (b ∷ xs) = λ k d p q. rw add-one (rw add-one at (sorted (suc k) d (omega arith) (omega arith))) in
+    (ap is_le (nat_list_cmp_total.antisymm (key a) (key b)) ∙ not_below (slice_cmp nat_cmp (key b) (key a)) first, from_sorted key (b ∷ xs) tail)
+
+sorted_by : {X : Type 0} (key : X → List ℕ) (xs sorted : List X) → IsPermutation xs sorted → IsSortedByKey key (slice_cmp nat_cmp) sorted → map key sorted ≡ in_order (map key xs)
+sorted_by key xs sorted moved rises =
+    sym (in_order-stays (map key sorted) (from_sorted key sorted rises))
+    ∙ in_order-permutation (map key xs) (map key sorted) (IsPermutation-map key xs sorted moved)
 
 -- the keys sorted by their bytes
 pub sorted_is : (keys sorted : List (Bor (List ℕ))) → IsPermutation keys sorted → IsSorted key_cmp sorted
     → map (λ key. key.now) sorted ≡ in_order (map (λ key. key.now) keys)
-sorted_is keys sorted moved rises =
-    sym (in_order-stays (map (λ key. key.now) sorted) (from_sorted sorted rises))
-    ∙ in_order-permutation (map (λ key. key.now) keys) (map (λ key. key.now) sorted) (IsPermutation-map (λ key. key.now) keys sorted moved)
+sorted_is keys sorted moved rises = sorted_by (λ key. key.now) keys sorted moved rises
+
+-- keys in order are the one sorted list of them
+pub sorted_one : (keys sorted : List (List ℕ)) → IsPermutation keys sorted → IsSorted (slice_cmp nat_cmp) sorted → in_order keys ≡ sorted
+sorted_one keys sorted moved rises =
+    let are : IsInOrder sorted = rw map-id at (from_sorted (λ key. key) sorted rises) in
+    sym (in_order-permutation keys sorted moved) ∙ in_order-stays sorted are
 
 -- ---- what holds of all keys holds of those in order
 

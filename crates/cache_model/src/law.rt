@@ -1,5 +1,5 @@
 //! Laws of the definitions.
-ghost use Rattle.std.specs.Prelude.{◌≡◌, ◌==◌, ◌+◌, ◌<◌, ◌≤◌, ℕ, Bool, false, List, [], ◌∷◌, ◌++◌, length, map, take, filter, Option, Some, IsSome, All, Contains};
+ghost use Rattle.std.specs.Prelude.{◌≡◌, ◌==◌, ◌+◌, ◌<◌, ◌≤◌, ℕ, Bool, false, List, [], ◌∷◌, ◌++◌, length, map, take, filter, Option, Some, IsSome, All, Contains, IsPermutation, IsSorted};
 ghost use Rattle.trace_text.specs.Trace.{Trace};
 ghost use Rattle.cache_model.specs.declared.entry.Entry.{Entry as JournalEntry};
 ghost use Rattle.cache_model.specs.Row.{Row};
@@ -13,8 +13,10 @@ ghost use Rattle.cache_model.specs.KeyBody.{AreKeys, IsKey};
 ghost use Rattle.cache_model.specs.Report.{HasNumbers, Occupancy, PrintsJournals, answers, answer_text, journal_text, occupancy_text, report_of, text_lines};
 ghost use Rattle.cache_model.specs.Spelled.{spelled};
 ghost use Rattle.cache_model.specs.Unbroken.{IsUnbroken};
+ghost use Rattle.std.specs.Cmp.Lexicographic.{slice_cmp};
 ghost use Rattle.std.specs.List.{slice_get, slice_index_or, enumerate_from};
 ghost use Rattle.std.specs.Option.{option_map};
+ghost use Rattle.std.specs.Ordering.{nat_cmp};
 ghost use Rattle.cache_model.specs.OwnParts.{HoldsReplies, issued_parts, part_reply, parts_of};
 ghost use Rattle.trace_text.specs.Parts.{longest_value, own_parts, parts};
 ghost use Rattle.cache_model.specs.Holds.{PutHolds, PutsHold, RowsHold, ReplyHolds};
@@ -41,6 +43,11 @@ pub fn other_rows_are_distinct()
 pub fn scanned_keys_are_in_order()
     ensures among { (count : ℕ) (test : List ℕ → Bool) (keys : List (List ℕ)) → All (Contains keys) (take count (in_order (filter test keys))) }
     ensures stay { (count : ℕ) (keys : List (List ℕ)) → in_order (take count (in_order keys)) ≡ take count (in_order keys) }
+{}
+
+/// Keys in order are the one sorted list of them.
+pub fn sorted_keys_are_in_order()
+    ensures { (keys sorted : List (List ℕ)) → IsPermutation keys sorted → IsSorted (slice_cmp nat_cmp) sorted → in_order keys ≡ sorted }
 {}
 
 /// What holds of the keys and the values of a trace's puts holds of each row of a cache to which a journal leads, and of
