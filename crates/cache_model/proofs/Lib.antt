@@ -1,7 +1,9 @@
 pub mod Along
 pub mod Bodies
 pub mod Distinct
+pub mod Evictions
 pub mod Holds
+pub mod Journals
 pub mod KeyBodies
 pub mod KeyOrder
 pub mod Logged

@@ -1,5 +1,5 @@
 -- Examples on which the definitions are checked.
-use Rattle.std.specs.Prelude.{◌≡◌, ℕ, true, false, List, [], ◌∷◌, length, replicate, codes, Some, None}
+use Rattle.std.specs.Prelude.{◌≡◌, ℕ, true, false, List, [], ◌∷◌, length, take, replicate, codes, Some, None}
 use Rattle.layout.specs.Sizes.{dense}
 use Rattle.trace_text.specs.declared.command.Kind.{Kind}
 use Rattle.trace_text.specs.declared.command.Kind.TheVariants.{Put, Get, Scan}
@@ -8,6 +8,7 @@ use Rattle.trace_text.specs.Trace.{Trace, trace_with}
 use Rattle.cache_model.specs.declared.entry.Entry.{Entry}
 use Rattle.cache_model.specs.declared.entry.Entry.TheVariants.{Done, Evicted}
 use Rattle.cache_model.specs.Row.{Row, floor, live, tight_floor}
+use Rattle.cache_model.specs.Evictions.{Evicts}
 use Rattle.cache_model.specs.Apply.{Stored, Missing, Keys}
 use Rattle.cache_model.specs.Legal.{IsLegal, IsComplete, can_evict, reply_at}
 use Rattle.cache_model.specs.OwnParts.{issued_parts}
@@ -105,4 +106,8 @@ pub record EvictionsAreRight : Type 0 where
   pub another : IsLegal puts 1088 (Done 1 ∷ Done 2 ∷ Evicted 2 ∷ []) → ⊥
   pub gone : IsLegal puts 1088 (Done 1 ∷ Evicted 1 ∷ Evicted 1 ∷ []) → ⊥
   pub at_floor : (live (ten_rows 10303) ≡ dense) × (can_evict 1120 10 (ten_rows 10303) ≡ false)
+  -- one of them goes in turn, and with it gone no other may
+  pub one_goes : Evicts dense (ten_rows 10304) (10 ∷ []) (take 9 (ten_rows 10304))
+  pub no_more : Evicts dense (ten_rows 10304) (10 ∷ 9 ∷ []) (take 8 (ten_rows 10304)) → ⊥
+  pub not_another : Evicts dense (ten_rows 10304) (9 ∷ []) (take 9 (ten_rows 10304)) → ⊥
   pub above_floor : (live (ten_rows 10304) ≡ 118784) × (can_evict 1120 10 (ten_rows 10304) ≡ true)

@@ -1,6 +1,7 @@
 pub mod Answer
 pub mod Apply
 pub mod Bodies
+pub mod Evictions
 pub mod Examples
 pub mod Fits
 pub mod Holds

@@ -1,10 +1,13 @@
 //! Laws of the definitions.
-ghost use Rattle.std.specs.Prelude.{◌≡◌, ◌==◌, ◌+◌, ◌<◌, ◌≤◌, ℕ, Bool, false, List, [], ◌∷◌, ◌++◌, length, map, take, filter, Option, Some, IsSome, All, Contains, IsPermutation, IsSorted};
+ghost use Rattle.std.specs.Prelude.{◌≡◌, ◌==◌, ◌+◌, ◌-◌, ◌<◌, ◌≤◌, ℕ, Bool, false, List, [], ◌∷◌, ◌++◌, length, map, take, filter, Option, Some, None, IsSome, All, Contains, IsPermutation, IsSorted, true};
 ghost use Rattle.trace_text.specs.Trace.{Trace};
 ghost use Rattle.cache_model.specs.declared.entry.Entry.{Entry as JournalEntry};
-ghost use Rattle.cache_model.specs.Row.{Row};
+ghost use Rattle.cache_model.specs.declared.entry.Entry.TheVariants.{Done, Evicted};
+ghost use Rattle.cache_model.specs.Row.{Row, floor, live, tight_floor};
+ghost use Rattle.layout.specs.Sizes.{dense};
 ghost use Rattle.cache_model.specs.Apply.{Reply, apply, has, in_order, row_of, without, HasDistinctKeys};
 ghost use Rattle.cache_model.specs.Answer.{answer, answer_from};
+ghost use Rattle.cache_model.specs.Evictions.{Evicts};
 ghost use Rattle.cache_model.specs.Fits.{Fits};
 ghost use Rattle.cache_model.specs.Logged.{AreLogged};
 ghost use Rattle.cache_model.specs.declared.reply_kind.ReplyKind.{ReplyKind};
@@ -14,19 +17,54 @@ ghost use Rattle.cache_model.specs.Report.{HasNumbers, Occupancy, PrintsJournals
 ghost use Rattle.cache_model.specs.Spelled.{spelled};
 ghost use Rattle.cache_model.specs.Unbroken.{IsUnbroken};
 ghost use Rattle.std.specs.Cmp.Lexicographic.{slice_cmp};
-ghost use Rattle.std.specs.List.{slice_get, slice_index_or, enumerate_from};
+ghost use Rattle.std.specs.List.{last_or, list_any, slice_get, slice_index_or, enumerate_from};
 ghost use Rattle.std.specs.Option.{option_map};
 ghost use Rattle.std.specs.Ordering.{nat_cmp};
 ghost use Rattle.cache_model.specs.OwnParts.{HoldsReplies, issued_parts, part_reply, parts_of};
 ghost use Rattle.trace_text.specs.Parts.{longest_value, own_parts, parts};
 ghost use Rattle.cache_model.specs.Holds.{PutHolds, PutsHold, RowsHold, ReplyHolds};
 ghost use Rattle.trace_text.specs.Operation.{Operation};
-ghost use Rattle.cache_model.specs.Legal.{cache_after, command_of, reply_at};
+ghost use Rattle.cache_model.specs.Legal.{EvictsAbove, cache_after, cache_from, command_of, done, is_done, is_of_put, reply_at};
 
 /// No two rows of the cache to which a journal leads have one key.
 pub fn keys_are_distinct()
     ensures { (trace : Trace) (pages : ℕ) (journal : List JournalEntry) (cache : List Row)
         → cache_after trace pages journal ≡ Some cache → HasDistinctKeys cache }
+{}
+
+/// A journal goes on from the cache to which it leads, and what was replied in it stays so. A command that is done at its
+/// end, and was not before, has the reply that it has on that cache.
+pub fn a_journal_goes_on()
+    ensures leads { (trace : Trace) (pages : ℕ) (journal entries : List JournalEntry) (cache : List Row)
+        → cache_after trace pages journal ≡ Some cache → cache_after trace pages (journal ++ entries) ≡ cache_from trace pages cache entries }
+    ensures kept { (trace : Trace) (pages : ℕ) (journal entries : List JournalEntry) (i : ℕ) (reply : Reply)
+        → reply_at trace pages journal i ≡ Some reply → reply_at trace pages (journal ++ entries) i ≡ Some reply }
+    ensures replied { (trace : Trace) (pages i : ℕ) (journal : List JournalEntry) (cache : List Row) (operation : Operation)
+        → list_any (is_done i) journal ≡ false → command_of trace i ≡ Some operation → cache_after trace pages journal ≡ Some cache
+        → reply_at trace pages (journal ++ Done i ∷ []) i ≡ Some (apply operation cache).1 }
+    ensures evicts { (trace : Trace) (pages bound i : ℕ) (journal : List JournalEntry)
+        → EvictsAbove trace pages bound journal → EvictsAbove trace pages bound (journal ++ Done i ∷ []) }
+    ensures number { (i : ℕ) (journal : List JournalEntry) → list_any (is_done i) journal ≡ list_any (λ j. j == i) (done journal) }
+{}
+
+/// Evictions in turn above a bound that is at least the floor are legal, and stand above the bound in the journal that
+/// they go on from.
+pub fn evictions_in_turn_are_legal()
+    ensures legal { (trace : Trace) (pages bound : ℕ) (cache rest : List Row) (puts : List ℕ)
+        → Evicts bound cache puts rest → floor pages ≤ bound → cache_from trace pages cache (map Evicted puts) ≡ Some rest }
+    ensures above { (trace : Trace) (pages bound : ℕ) (journal : List JournalEntry) (cache rest : List Row) (puts : List ℕ)
+        → cache_after trace pages journal ≡ Some cache → EvictsAbove trace pages bound journal
+        → Evicts bound cache puts rest → floor pages ≤ bound → EvictsAbove trace pages bound (journal ++ map Evicted puts) }
+    ensures pressure { (pages : ℕ) → floor pages ≤ tight_floor pages 0 + dense }
+{}
+
+/// Evictions in turn: of none, of one more at the end, and how many rows they leave.
+pub fn evictions_are_counted()
+    ensures none { (bound : ℕ) (cache : List Row) → Evicts bound cache [] cache }
+    ensures more { (bound q : ℕ) (cache rest : List Row) (puts : List ℕ)
+        → Evicts bound cache puts rest → is_of_put q (last_or None rest) ≡ true → bound < live rest
+        → Evicts bound cache (puts ++ q ∷ []) (take (length rest - 1) rest) }
+    ensures count { (bound : ℕ) (cache rest : List Row) (puts : List ℕ) → Evicts bound cache puts rest → length puts + length rest ≡ length cache }
 {}
 
 /// What the rows of other keys are: where no row has the key they are all rows, and no two of them have one key. A row
