@@ -2,7 +2,7 @@
 use Rattle.std.specs.Prelude.{◌≡◌, ℕ, true, false, List, [], ◌∷◌, length, take, replicate, codes, Some, None}
 use Rattle.layout.specs.Sizes.{dense}
 use Rattle.trace_text.specs.declared.command.Kind.{Kind}
-use Rattle.trace_text.specs.declared.command.Kind.TheVariants.{Put, Get, Scan}
+use Rattle.trace_text.specs.declared.command.Kind.TheVariants.{Put, Get, Erase, Scan}
 use Rattle.trace_text.specs.Operation.{Operation}
 use Rattle.trace_text.specs.Trace.{Trace, trace_with}
 use Rattle.cache_model.specs.declared.entry.Entry.{Entry}
@@ -13,6 +13,7 @@ use Rattle.cache_model.specs.Apply.{Stored, Missing, Keys}
 use Rattle.cache_model.specs.Legal.{IsLegal, IsComplete, can_evict, reply_at}
 use Rattle.cache_model.specs.OwnParts.{issued_parts}
 use Rattle.cache_model.specs.Report.{report}
+use Rattle.cache_model.specs.Summary.{summary}
 use Rattle.cache_model.specs.Answer.{answer}
 
 abbrev pub asks : ℕ → Kind → List ℕ → List ℕ → ℕ → Operation
@@ -85,9 +86,24 @@ pub record ReportsAreRight : Type 0 where
   pub joined : report two_shards 2 8192 (first ∷ second ∷ [])
       ≡ codes "1 stored\n2 missing\n3 stored\n4 missing\n5 stored\n6 missing\n7 keys a b c\njournal 0 1 5 7\njournal 1 2 3 4 6 7\nshard 0 rows 2 live 96 lent 2 back 2\nshard 1 rows 1 live 48 lent 2 back 2\n"
 
--- evictions: with 1,088 pages the floor is 0, and with 1,120 it is that of one dense segment
+-- summaries, byte for byte: each answer is counted once, and so is each eviction
 abbrev pub puts : Trace
 puts = trace_with (asks 1 Put (codes "a") (codes "1") 0 ∷ asks 2 Put (codes "b") (codes "2") 0 ∷ [])
+
+abbrev pub one_of_each : Trace
+one_of_each = trace_with (
+    asks 1 Put (codes "a") (codes "1") 0 ∷ asks 2 Put (codes "a") (codes "2") 0 ∷ asks 3 Get (codes "a") [] 0
+    ∷ asks 4 Erase (codes "a") [] 0 ∷ asks 5 Get (codes "a") [] 0 ∷ asks 6 Scan (codes "a") [] 1 ∷ [])
+
+pub record SummariesAreRight : Type 0 where
+  pub each : summary one_of_each 1 8192 ((Done 1 ∷ Done 2 ∷ Done 3 ∷ Done 4 ∷ Done 5 ∷ Done 6 ∷ []) ∷ [])
+      ≡ codes "commands 6\nstored 1 replaced 1 values 1 missing 1 erased 1 scans 1\nevictions 0\nshard 0 rows 0 live 0 lent 0 back 0\n"
+  pub joined : summary two_shards 2 8192 (first ∷ second ∷ [])
+      ≡ codes "commands 7\nstored 3 replaced 0 values 0 missing 3 erased 0 scans 1\nevictions 0\nshard 0 rows 2 live 96 lent 2 back 2\nshard 1 rows 1 live 48 lent 2 back 2\n"
+  pub evicted : summary puts 1 1088 ((Done 1 ∷ Done 2 ∷ Evicted 1 ∷ []) ∷ [])
+      ≡ codes "commands 2\nstored 2 replaced 0 values 0 missing 0 erased 0 scans 0\nevictions 1\nshard 0 rows 1 live 48 lent 0 back 0\n"
+
+-- evictions: with 1,088 pages the floor is 0, and with 1,120 it is that of one dense segment
 
 -- a row whose key is one letter
 abbrev pub wide_row : ℕ → ℕ → Row

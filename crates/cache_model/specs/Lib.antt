@@ -12,4 +12,5 @@ pub mod OwnParts
 pub mod Report
 pub mod Row
 pub mod Spelled
+pub mod Summary
 pub mod Unbroken

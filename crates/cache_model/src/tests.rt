@@ -1,4 +1,4 @@
-ghost use Rattle.cache_model.specs.Examples.{EvictionsAreRight, ReportsAreRight, TwoShardsAreRight};
+ghost use Rattle.cache_model.specs.Examples.{EvictionsAreRight, ReportsAreRight, SummariesAreRight, TwoShardsAreRight};
 
 /// Two shards: their journals are legal and complete, in each order that keeps an origin's own, and a scan joins
 /// the keys of both.
@@ -19,6 +19,16 @@ fn reports()
 #[test]
 fn reports_are_byte_for_byte() {
     reports()
+}
+
+/// The summaries of one command of each answer, of two shards, and of a journal with an eviction.
+fn summaries()
+    ensures { SummariesAreRight }
+{}
+
+#[test]
+fn summaries_are_byte_for_byte() {
+    summaries()
 }
 
 /// The oldest row may go, and another may not; at the floor none may.
