@@ -81,8 +81,8 @@ impl KeyIndex {
     pub fn search<K: Keys>(&self, keys: &K, key: &[u8]) -> Result<RowAt, Place>
         requires { IsIndexOf (K.has_row keys.now) (K.key_of keys.now) self.now }
         ensures { MatchResult result
-            (λ found. IsRowAt self.now found.place found.row × (K.key_of keys.now found.row ≡ key.now))
-            (λ place. IsPlaceFor (K.key_of keys.now) key.now self.now place) }
+            (λ found. IsRowAt self.now found.place found.row × Contains self.now.rows found.row × (K.key_of keys.now found.row ≡ key.now))
+            (λ place. IsPlaceFor (K.key_of keys.now) key.now self.now place × All (λ row. K.key_of keys.now row ≢ key.now) self.now.rows) }
     {
         let blocks = self.blocks.as_slice();
         let place = seek(keys, blocks, key);
@@ -149,10 +149,11 @@ impl KeyIndex {
         self.insert_at(keys, place, row);
     }
 
-    /// Takes a row out at its place. The index stays one of the same keys, and needs the row's no longer.
+    /// Takes a row out at its place. The index is one of any keys that the other rows still have: it needs the row's no
+    /// longer.
     pub fn remove_at(&mut self, found: RowAt)
         requires { IsRowAt self.old found.place found.row }
-        ensures ordered { (key_of : ℕ → List ℕ) → IsOrdered key_of self.old → IsOrdered key_of self.new }
+        ensures ordered { (before after : ℕ → List ℕ) → IsOrdered before self.old → All (λ row. after row ≡ before row) self.new.rows → IsOrdered after self.new }
         ensures room { self.new.room ≡ self.old.room }
         ensures rows { TakesOut found.row self.old.rows self.new.rows }
     {
@@ -193,8 +194,6 @@ impl KeyIndex {
         ensures moved { (before after : ℕ → List ℕ) → All (λ row. after row ≡ before row) self.now.rows → IsOrdered before self.now → IsOrdered after self.now }
         ensures place { (before after : ℕ → List ℕ) (key : List ℕ) (place : Place) → All (λ row. after row ≡ before row) self.now.rows
             → IsPlaceFor before key self.now place → IsPlaceFor after key self.now place }
-        ensures absent { (key_of : ℕ → List ℕ) (key : List ℕ) (place : Place) → IsPlaceFor key_of key self.now place → All (λ row. key_of row ≢ key) self.now.rows }
-        ensures there { (place : Place) (row : ℕ) → IsRowAt self.now place row → Contains self.now.rows row }
         ensures put_in { (key_of : ℕ → List ℕ) (row other : ℕ) (before : List ℕ) → PutsIn key_of row before self.now.rows
             → (Contains self.now.rows other → (other ≡ row) ⊎ Contains before other)
             × Contains self.now.rows row × (Contains before other → Contains self.now.rows other) }

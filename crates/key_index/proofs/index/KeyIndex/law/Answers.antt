@@ -1,8 +1,7 @@
-use Rattle.std.proofs.Common.{◌≡◌, ◌≢◌}
-use Rattle.key_index.proofs.Told.{all_each, each_all}
+use Rattle.std.proofs.Common.{◌≡◌}
+use Rattle.key_index.proofs.Told.{all_each}
 use Rattle.key_index.proofs.Unique.{one_order, one_row, put_in, taken_out}
 use Rattle.key_index.proofs.Moved.{moved_order, moved_place}
-use Rattle.key_index.proofs.Places.{absent_at, row_there}
 use Rattle.key_index.proofs.index.KeyIndex.law.Goals as goal
 
 pub returns-clause-moved : goal.returns-clause-moved
@@ -10,12 +9,6 @@ returns-clause-moved c = λ before after same is. moved_order before after c.arg
 
 pub returns-clause-place : goal.returns-clause-place
 returns-clause-place c = λ before after key place same is. moved_place before after key c.args.self.now place (all_each (λ row. after row ≡ before row) c.args.self.now.rows same) is
-
-pub returns-clause-absent : goal.returns-clause-absent
-returns-clause-absent c = λ key_of key place is. each_all (λ row. key_of row ≢ key) c.args.self.now.rows (absent_at key_of key c.args.self.now place is)
-
-pub returns-clause-there : goal.returns-clause-there
-returns-clause-there c = λ place row is. row_there c.args.self.now place row is
 
 pub returns-clause-one : goal.returns-clause-one
 returns-clause-one c = λ key_of row other is here there same. one_row key_of c.args.self.now.rows row other is.rising here there same
