@@ -19,7 +19,7 @@ use Rattle.row_cache.specs.Rows.{row_at, key_at, rows_at, HoldsValue}
 use Rattle.row_cache.specs.inside.Tables.{TableState, AreTablesOf, IsListed, HasRow, IsLast, place_of}
 use Rattle.row_cache.specs.inside.Consistent.{IsConsistent, rows_in, rows_with}
 use Rattle.row_cache.proofs.Listed.{map_same, live_without, last_row, delete_last, none_has, none_found, none_without, one_has, one_found, one_without}
-use Rattle.row_cache.proofs.Numbers.{once, numbers_kept, times_front, length_front}
+use Rattle.row_cache.proofs.Numbers.{once}
 use Rattle.row_cache.proofs.States.{row_is, some_same}
 use Rattle.row_cache.proofs.Moving.{listed_place}
 use Rattle.row_cache.proofs.Caches.{apart_rows}
@@ -106,25 +106,12 @@ consistent_moved t u r s bytes c tables rows total = record { tables = tables; c
 abbrev pub touched : TableState → ℕ → TableState
 touched t n = record t { recency = n ∷ delete n t.recency }
 
-pub consistent_touched : (t : TableState) (r : RegionState) (bytes n : ℕ) → IsConsistent t r bytes → IsListed t n → IsConsistent (touched t n) r bytes
-consistent_touched t r bytes n c listed =
-    let are = c.tables in let u = touched t n in let row = row_at (live_at r) t.places in
-    let same : (m : ℕ) → times m u.recency ≡ times m t.recency = λ m. times_front m n t.recency listed in
-    let was : (m : ℕ) → IsListed u m → IsListed t m = λ m l. (let e = same m in omega (arith, e, l)) in
-    let now : (m : ℕ) → IsListed t m → IsListed u m = λ m l. (let e = same m in omega (arith, e, l)) in
+pub consistent_touched : (t : TableState) (r : RegionState) (bytes n : ℕ) → IsConsistent t r bytes → AreTablesOf (touched t n) (live_at r) → IsListed t n → IsConsistent (touched t n) r bytes
+consistent_touched t r bytes n c tables listed =
+    let row = row_at (live_at r) t.places in
     let first = sum_by-cons (λ (x : Row). size x.key x.value) (row n) (rows_at (live_at r) t.places (delete n t.recency)) in
     let whole = live_without row n t.recency listed in let sizes = c.sizes in
-    record {
-      tables = record {
-        numbers = numbers_kept t u are.numbers refl refl refl refl same (length_front n t.recency listed);
-        rows = λ m l. are.rows m (was m l);
-        every = λ p i e. (let w = are.every p i e in (w.0, now w.0 w.1, w.2));
-        apart = λ x y lx ly e. are.apart x y (was x lx) (was y ly) e;
-        index = are.index;
-      };
-      counted = c.counted;
-      sizes = omega (arith, first, whole, sizes);
-    }
+    record { tables = tables; counted = c.counted; sizes = omega (arith, first, whole, sizes) }
 
 -- ---- the row that was used longest ago
 

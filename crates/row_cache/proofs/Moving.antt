@@ -4,12 +4,11 @@ use Rattle.std.specs.Prelude.{nat_lt, ◌==◌, slice_get, slice_set, IsSome, op
 use Rattle.std.proofs.lemmas.Bool.{cases_eq}
 use Rattle.std.proofs.lemmas.Bool.Decides.{leb_tells, eqb_tells}
 use Rattle.cache_model.specs.Row.{Row}
-use Rattle.row_bytes.specs.Rows.{IsRow, number_in}
 use Rattle.common_lemmas.specs.Lists.{times}
 use Rattle.regions.specs.Contents.{Item}
 use Rattle.regions.specs.Stores.{Live, StandsFor, store_of, found, is_place, less, renamed}
 use Rattle.regions.specs.declared.place.Place.{Place}
-use Rattle.row_cache.specs.inside.Tables.{TableState, AreTablesOf, IsListed, ReplacesRow, place_of}
+use Rattle.row_cache.specs.inside.Tables.{IsRowOf, TableState, AreTablesOf, IsListed, ReplacesRow, place_of}
 use Rattle.row_cache.proofs.Numbers.{listed_below}
 use Rattle.row_cache.proofs.States.{row_is, some_same, some_none, same_number, got_set, got_past_set}
 
@@ -68,10 +67,9 @@ renamed_past from to p far = elim (place_tells from p) [ inl h ↦ absurd (far h
 pub record IsMoved (t : TableState) (live : Live) (from to : Place) (i : Item) : Type 0 where
   pub n : ℕ
   pub listed : IsListed t n
-  pub number : number_in i.content ≡ n
-  pub content : IsRow i.content
   pub was : slice_get t.places n ≡ Some from
   pub row : Row
+  pub is_row : IsRowOf i n row
   pub replaces : ReplacesRow t n to row (less to live) (less from live)
 
 pub row_moved : (t : TableState) (live : Live) (from to : Place) (i : Item) → AreTablesOf t (less to live) → from ≢ to → live from ≡ Some i → live to ≡ Some i → IsMoved t live from to i
@@ -83,10 +81,9 @@ row_moved t live from to i are apart here there =
     record {
       n = n;
       listed = w.1;
-      number = sym (ap (λ (x : Item). number_in x.content) item) ∙ h.is_row.number;
-      content = subst (λ (x : Item). IsRow x.content) item (n, h.row, h.is_row.holds);
       was = w.2;
       row = h.row;
+      is_row = subst (λ (x : Item). IsRowOf x n h.row) item h.is_row;
       replaces = record {
         tables = are;
         item = h.item;

@@ -17,26 +17,23 @@ abbrev pub Missing : TableState → Live → List ℕ → Place → Type 0
 Missing t live key at = IsPlaceFor (key_at live t.places) key t.index at × ((n : ℕ) → IsListed t n → key_at live t.places n ≢ key)
 
 found_in : (t : TableState) (live : Live) (key : List ℕ) (result : Result RowAt Place) → AreTablesOf t live
-    → ((at : Place) (row : ℕ) → IsRowAt t.index at row → Contains t.index.rows row)
-    → ((key_of : ℕ → List ℕ) (key : List ℕ) (at : Place) → IsPlaceFor key_of key t.index at → All (λ row. key_of row ≢ key) t.index.rows)
-    → MatchResult result (λ found. IsRowAt t.index found.place found.row × (key_at live t.places found.row ≡ key)) (λ at. IsPlaceFor (key_at live t.places) key t.index at)
+    → MatchResult result (λ found. IsRowAt t.index found.place found.row × Contains t.index.rows found.row × (key_at live t.places found.row ≡ key))
+    (λ at. IsPlaceFor (key_at live t.places) key t.index at × All (λ row. key_at live t.places row ≢ key) t.index.rows)
     → MatchResult result (Found t live key) (Missing t live key)
-found_in t live key (Ok found) are there absent e =
-    (e.0, (let l = contained_times t.index.rows found.row (there found.place found.row e.0) in let i = are.numbers.indexed found.row in omega (arith, l, i)), e.1)
-found_in t live key (Err at) are there absent e = (
-  e,
-  λ n l. All-contains (λ row. key_at live t.places row ≢ key) t.index.rows n (absent (key_at live t.places) key at e)
+found_in t live key (Ok found) are e =
+    (e.0, (let l = contained_times t.index.rows found.row e.1 in let i = are.numbers.indexed found.row in omega (arith, l, i)), e.2)
+found_in t live key (Err at) are e = (
+  e.0,
+  λ n l. All-contains (λ row. key_at live t.places row ≢ key) t.index.rows n e.1
       (times_contained t.index.rows n (let i = are.numbers.indexed n in omega (arith, i, l))),
 )
 
 pub search_told : (t : TableState) (live : Live) (key : List ℕ) (k : ℕ → List ℕ) (i : Index) (result : Result RowAt Place) → AreTablesOf t live → i ≡ t.index → k ≡ key_at live t.places
-    → ((at : Place) (row : ℕ) → IsRowAt i at row → Contains i.rows row)
-    → ((key_of : ℕ → List ℕ) (key : List ℕ) (at : Place) → IsPlaceFor key_of key i at → All (λ row. key_of row ≢ key) i.rows)
-    → MatchResult result (λ found. IsRowAt i found.place found.row × (k found.row ≡ key)) (λ at. IsPlaceFor k key i at)
+    → MatchResult result (λ found. IsRowAt i found.place found.row × Contains i.rows found.row × (k found.row ≡ key)) (λ at. IsPlaceFor k key i at × All (λ row. k row ≢ key) i.rows)
     → MatchResult result (Found t live key) (Missing t live key)
-search_told t live key k i result are same keys there absent e =
+search_told t live key k i result are same keys e =
     found_in t live key result are
-    (subst (λ (x : Index). (at : Place) (row : ℕ) → IsRowAt x at row → Contains x.rows row) same there)
-    (subst (λ (x : Index). (key_of : ℕ → List ℕ) (key : List ℕ) (at : Place) → IsPlaceFor key_of key x at → All (λ row. key_of row ≢ key) x.rows) same absent)
-    (subst (λ (x : Index). MatchResult result (λ found. IsRowAt x found.place found.row × (key_at live t.places found.row ≡ key)) (λ at. IsPlaceFor (key_at live t.places) key x at)) same
-    (subst (λ (f : ℕ → List ℕ). MatchResult result (λ found. IsRowAt i found.place found.row × (f found.row ≡ key)) (λ at. IsPlaceFor f key i at)) keys e))
+    (subst (λ (x : Index). MatchResult result (λ found. IsRowAt x found.place found.row × Contains x.rows found.row × (key_at live t.places found.row ≡ key))
+    (λ at. IsPlaceFor (key_at live t.places) key x at × All (λ row. key_at live t.places row ≢ key) x.rows)) same
+    (subst (λ (f : ℕ → List ℕ). MatchResult result (λ found. IsRowAt i found.place found.row × Contains i.rows found.row × (f found.row ≡ key))
+    (λ at. IsPlaceFor f key i at × All (λ row. f row ≢ key) i.rows)) keys e))

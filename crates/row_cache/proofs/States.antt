@@ -104,6 +104,22 @@ got_past_set xs n m p far =
       | inr h ↦ (let g = h.1 in slice_get-get_or (slice_set xs n p) m p (omega (arith, len, g)) ∙ (ap (λ x. Some x) (get_or-set_other xs n m p p far) ∙ sym (slice_get-get_or xs m p g)))
     ]
 
+-- the same rows, in whatever order
+pub tables_kept : (t u : TableState) (live : Live) → AreTablesOf t live → AreNumbers u → ((m : ℕ) → times m u.recency ≡ times m t.recency) → u.places ≡ t.places → u.index ≡ t.index → AreTablesOf u live
+tables_kept t u live are numbers same places index =
+    let was : (m : ℕ) → IsListed u m → IsListed t m = λ m l. (let e = same m in omega (arith, e, l)) in
+    record {
+      numbers = numbers;
+      rows = subst (λ (ps : List Place). (m : ℕ) → IsListed u m → HasRow live ps m) (sym places) (λ m l. are.rows m (was m l));
+      every = λ p i e.
+          (let w = are.every p i e in let k = same w.0 in let l = w.1 in
+          (w.0, omega (arith, k, l), ap (λ (ps : List Place). slice_get ps w.0) places ∙ w.2));
+      apart = subst (λ (ps : List Place). (x y : ℕ) → IsListed u x → IsListed u y → key_at live ps x ≡ key_at live ps y → x ≡ y) (sym places)
+          (λ x y lx ly e. are.apart x y (was x lx) (was y ly) e);
+      index = subst (λ (ps : List Place). IsIndexOf (HasRow live ps) (key_at live ps) u.index) (sym places)
+          (subst (λ (i : Index). IsIndexOf (HasRow live t.places) (key_at live t.places) i) (sym index) are.index);
+    }
+
 -- ---- a row goes
 
 -- the others stay
@@ -120,18 +136,11 @@ still_listed t n m a listed l =
     let far : m ≢ n = λ e. (let g = gone_after t a n listed in let k : 1 ≤ times n (delete n t.recency) = subst (λ x. 1 ≤ times x (delete n t.recency)) e l in omega (arith, g, k)) in
     (let o = times-delete_other m n t.recency far in omega (arith, o, l), far)
 
-dropped_index : (before : Index) (n : ℕ) (after : Index) (old new : ℕ → List ℕ) → IsOrdered old before
-    → ((key_of : ℕ → List ℕ) → IsOrdered key_of before → IsOrdered key_of after)
-    → ((a b : ℕ → List ℕ) → All (λ row. b row ≡ a row) after.rows → IsOrdered a after → IsOrdered b after)
-    → All (λ row. new row ≡ old row) after.rows → IsOrdered new after
-dropped_index before n after old new ordered kept moved same = moved old new same (kept old ordered)
-
 pub tables_dropped : (t u : TableState) (live after : Live) (n : ℕ) (p : Place) → AreTablesOf t live → AreNumbers u → IsListed t n → slice_get t.places n ≡ Some p → Drops p live after
     → u.recency ≡ delete n t.recency → u.places ≡ t.places
-    → ((key_of : ℕ → List ℕ) → IsOrdered key_of t.index → IsOrdered key_of u.index)
-    → ((a b : ℕ → List ℕ) → All (λ row. b row ≡ a row) u.index.rows → IsOrdered a u.index → IsOrdered b u.index)
+    → ((a b : ℕ → List ℕ) → IsOrdered a t.index → All (λ row. b row ≡ a row) u.index.rows → IsOrdered b u.index)
     → AreTablesOf u after
-tables_dropped t u live after n p are numbers listed here drops recency places kept moved =
+tables_dropped t u live after n p are numbers listed here drops recency places kept =
     let a = are.numbers in
     let was : (m : ℕ) → IsListed u m → IsListed t m × (m ≢ n) = λ m l. still_listed t n m a listed (subst (λ ns. 1 ≤ times m ns) recency l) in
     let stays : (m : ℕ) → IsListed u m → (x : HasRow after t.places m) × (row_at after t.places m ≡ row_at live t.places m) =
@@ -151,7 +160,7 @@ tables_dropped t u live after n p are numbers listed here drops recency places k
       apart = λ x y lx ly e. are.apart x y (was x lx).0 (was y ly).0 (sym (same x lx) ∙ (e ∙ same y ly));
       index = record {
         readable = index_all u (HasRow after u.places) numbers rows;
-        ordered = dropped_index t.index n u.index (key_at live t.places) (key_at after u.places) are.index.ordered kept moved (index_all u (λ m. key_at after u.places m ≡ key_at live t.places m) numbers same);
+        ordered = kept (key_at live t.places) (key_at after u.places) are.index.ordered (index_all u (λ m. key_at after u.places m ≡ key_at live t.places m) numbers same);
       };
     }
 

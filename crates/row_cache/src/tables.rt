@@ -1,10 +1,11 @@
-ghost use Rattle.std.specs.Prelude.{◌≡◌, ◌≢◌, ◌+◌, ◌<◌, ◌≤◌, ℕ, [], ◌∷◌, length, Some, None, slice_get, slice_set, IfOk, MatchOption, MatchResult, All, vec_len, vec_capacity, List, ◌-◌, ◌^◌, take};
+ghost use Rattle.std.specs.Prelude.{◌≡◌, ◌≢◌, ◌+◌, ◌<◌, ◌≤◌, ℕ, [], ◌∷◌, length, Some, None, slice_get, slice_set, IfOk, IfSome, MatchOption, MatchResult, All, vec_len, vec_capacity, List, ◌-◌, ◌^◌, take};
 ghost use Rattle.std.specs.List.{last_or};
 ghost use Rattle.cache_model.specs.Row.{Row};
 ghost use Rattle.common_lemmas.specs.Lists.{delete};
 ghost use Rattle.key_index.specs.Index.{IsPlaceFor, IsRowAt};
-ghost use Rattle.regions.specs.Contents.{live_at};
+ghost use Rattle.regions.specs.Contents.{Item, live_at};
 ghost use Rattle.regions.specs.Stores.{Live};
+ghost use Rattle.row_bytes.specs.Rows.{number_in};
 ghost use Rattle.row_cache.specs.Rows.{key_at};
 ghost use Rattle.row_cache.specs.inside.Tables as tables;
 
@@ -95,14 +96,14 @@ impl Tables {
             (λ at. IsPlaceFor (key_at (live_at region.now) self.now.places) key.now self.now.index at
             × ((n : ℕ) → tables.IsListed self.now n → key_at (live_at region.now) self.now.places n ≢ key.now)) }
     {
-        self.index.law();
         self.index.search(&self.keys(region), key)
     }
 
     // The row is the one used last.
     pub(crate) fn touch(&mut self, number: u32)
         requires { tables.IsListed self.old number }
-        ensures { self.new ≡ record self.old { recency = number ∷ delete number self.old.recency } }
+        ensures state { self.new ≡ record self.old { recency = number ∷ delete number self.old.recency } }
+        ensures tables { (live : Live) → tables.AreTablesOf self.old live → tables.AreTablesOf self.new live }
     {
         self.recency.remove(RECENCY, number);
         self.recency.push_front(RECENCY, number);
@@ -114,9 +115,18 @@ impl Tables {
         ensures state { self.new ≡ record self.old { recency = number ∷ delete number self.old.recency; places = slice_set self.old.places number place } }
         ensures tables { (row : Row) (old new : Live) → tables.ReplacesRow self.old number place row old new → tables.AreTablesOf self.new new }
     {
+        self.put_at(number, place);
+        self.touch(number);
+    }
+
+    // The row of a number stands at the place. The index is one of its keys there, too.
+    fn put_at(&mut self, number: u32, place: Place)
+        requires { tables.IsListed self.old number }
+        ensures state { self.new ≡ record self.old { places = slice_set self.old.places number place } }
+        ensures tables { (row : Row) (old new : Live) → tables.ReplacesRow self.old number place row old new → tables.AreTablesOf self.new new }
+    {
         self.index.law();
         self.places[number as usize] = place;
-        self.touch(number);
     }
 
     // A new row, with the next number, stands at the place.
@@ -148,7 +158,6 @@ impl Tables {
         ensures tables { (place : Place) (old new : Live) → tables.AreTablesOf self.old old → slice_get self.old.places found.row ≡ Some place → tables.Drops place old new → tables.AreTablesOf self.new new }
     {
         self.index.remove_at(found);
-        self.index.law();
         self.recency.remove(RECENCY, found.row);
         self.freed.push(found.row).unwrap();
     }
@@ -183,6 +192,14 @@ fn give_number(places: &mut Vec<Place>, freed: &mut Vec<u32>, place: Place) -> u
     number
 }
 
+// The number of the row that stands at a place.
+fn number_at(region: &Region, place: Place) -> u32
+    requires { (item : Item) × (n : ℕ) × (row : Row) × (live_at region.now place ≡ Some item) × tables.IsRowOf item n row }
+    ensures { IfSome (live_at region.now place) (λ item. result ≡ number_in item.content) }
+{
+    number_in(region.bytes(place))
+}
+
 impl Movers for Tables {
     ghost use Rattle.std.specs.Prelude.{[]};
     ghost use Rattle.row_cache.specs.inside.Tables as tables;
@@ -200,8 +217,7 @@ impl Movers for Tables {
     ghost rest = { λ t. record t { places = [] } };
 
     fn moved(&mut self, store: &mut Region, _kind: u8, _from: Place, to: Place) {
-        self.index.law();
-        let number = number_in(store.bytes(to));
-        self.places[number as usize] = to;
+        let number = number_at(store, to);
+        self.put_at(number, to);
     }
 }

@@ -31,4 +31,4 @@ returns-clause-tables c = λ place old new are here drops.
     let out = one_set c.self.inside.recency c.remove.new.self (delete n v.recency) i.1 c.remove.ensures in
     let u : tables.TableState = record { room = c.remove.new.self.indices; recency = list_at c.remove.new.self 0; places = c.self.inside.places.items; freed = c.push.new.self.items; index = c.remove_at.new.self } in
     tables_dropped v u old new n place (subst (λ s. tables.AreTablesOf s old) (sym c.self.view_is) are) (invariant_of-self c).0
-    (subst (λ s. tables.IsListed s n) (sym c.self.view_is) c.requires.listed) (ap (λ (s : tables.TableState). slice_get s.places n) c.self.view_is ∙ here) drops out.1.1 refl c.remove_at.ensures.ordered c.law.ensures.moved
+    (subst (λ s. tables.IsListed s n) (sym c.self.view_is) c.requires.listed) (ap (λ (s : tables.TableState). slice_get s.places n) c.self.view_is ∙ here) drops out.1.1 refl c.remove_at.ensures.ordered

@@ -11,4 +11,4 @@ returns c =
     search_told c.args.self.now (live_at c.args.region.now) c.args.key.now (key_at (live_at k.region.now) k.places.now) c.self.inside.index c.search.result c.requires
     (ap (λ (t : tables.TableState). t.index) c.self.view_is)
     (ap (λ r. key_at (live_at r) k.places.now) c.keys.ensures.region ∙ ap (λ ps. key_at (live_at c.args.region.now) ps) c.keys.ensures.places)
-    c.law.ensures.there c.law.ensures.absent c.search.ensures
+    c.search.ensures
