@@ -1,7 +1,8 @@
--- How often a list has a place.
-use Rattle.std.proofs.Common.{◌≡◌, ◌≢◌, ℕ, zero, suc, ◌+◌, ◌≤◌, inl, inr, List, [], ◌∷◌, length, cond, eqb, refl, sym, ap, subst, ◌∙◌, arith}
+-- How often a list has a number.
+use Rattle.std.proofs.Common.{◌≡◌, ◌≢◌, ℕ, zero, suc, ◌+◌, ◌≤◌, inl, inr, Bool, true, false, List, [], ◌∷◌, length, filter, cond, eqb, IsPermutation, refl, sym, ap, subst, ◌∙◌, arith}
 use Rattle.std.proofs.lemmas.Bool.Decides.{nat_tests, eqb_tells}
 use Rattle.std.proofs.lemmas.Bool.{cases_eq}
+use Rattle.std.proofs.lemmas.List.Sorted.{IsPermutation-refl, IsPermutation-cons, IsPermutation-swap, IsPermutation-trans}
 use Rattle.common_lemmas.specs.Lists.{times, delete}
 
 pub absent_cons : (i x : ℕ) (xs : List ℕ) → times i (x ∷ xs) ≡ 0 → (x ≢ i) × (times i xs ≡ 0)
@@ -71,3 +72,54 @@ length_below (suc n) xs once below =
           let l = length-delete n xs here in
           omega (arith, short, l))
     ]
+
+-- ---- lists that have each number as often
+
+times-filter : (p : ℕ → Bool) (x : ℕ) (xs : List ℕ) → times x (filter p xs) ≡ cond (p x) (times x xs) 0
+times-filter p x [] = go (p x)
+  where
+    go : (b : Bool) → times x [] ≡ cond b (times x []) 0
+    go true = refl
+    go false = refl
+times-filter p x (y ∷ ys) =
+    elim (cases_eq y x) [
+      | inl e ↦ subst (λ z. times x (filter p (z ∷ ys)) ≡ cond (p x) (times x (z ∷ ys)) 0) (sym e) (here (p x) (times-filter p x ys))
+      | inr n ↦ rw (times_there x y ys n) (there n (p y) (times-filter p x ys))
+    ]
+  where
+    here : (b : Bool) → times x (filter p ys) ≡ cond b (times x ys) 0 → times x (cond b (x ∷ filter p ys) (filter p ys)) ≡ cond b (times x (x ∷ ys)) 0
+    here true ih = times_here x (filter p ys) ∙ (ap (λ k. 1 + k) ih ∙ sym (times_here x ys))
+    here false ih = ih
+
+    there : y ≢ x → (b : Bool) → times x (filter p ys) ≡ cond (p x) (times x ys) 0 → times x (cond b (y ∷ filter p ys) (filter p ys)) ≡ cond (p x) (times x ys) 0
+    there n true ih = times_there x y (filter p ys) n ∙ ih
+    there n false ih = ih
+
+-- those that pass a test are there as often too
+pub same-filter : (p : ℕ → Bool) (xs ys : List ℕ) → ((x : ℕ) → times x ys ≡ times x xs) → (x : ℕ) → times x (filter p ys) ≡ times x (filter p xs)
+same-filter p xs ys same x = times-filter p x ys ∙ (ap (λ k. cond (p x) k 0) (same x) ∙ sym (times-filter p x xs))
+
+from_front : (x : ℕ) (xs : List ℕ) → 1 ≤ times x xs → IsPermutation (x ∷ delete x xs) xs
+from_front x [] h = absurd (omega arith)
+from_front x (y ∷ ys) h =
+    elim (cases_eq y x) [
+      | inl e ↦ subst (λ z. IsPermutation (x ∷ delete x (z ∷ ys)) (z ∷ ys)) (sym e) (rw (delete_here x ys) (IsPermutation-refl (x ∷ ys)))
+      | inr n ↦
+          (let swapped = IsPermutation-swap (x ∷ y ∷ delete x ys) (y ∷ x ∷ delete x ys) 0 1 (omega arith) (omega arith) refl in
+          let behind = IsPermutation-cons y (x ∷ delete x ys) ys (from_front x ys (subst (λ t. 1 ≤ t) (times_there x y ys n) h)) in
+          rw (delete_there x y ys n) (IsPermutation-trans (x ∷ y ∷ delete x ys) (y ∷ x ∷ delete x ys) (y ∷ ys) swapped behind))
+    ]
+
+-- one is the other in some order
+pub same-permutation : (xs ys : List ℕ) → ((x : ℕ) → times x ys ≡ times x xs) → IsPermutation xs ys
+same-permutation [] [] same = IsPermutation-refl []
+same-permutation [] (y ∷ ys) same = absurd (let here = times_here y ys in let none = same y in omega (arith, here, none))
+same-permutation (x ∷ xs) ys same =
+    let first = times_here x xs in
+    let there : 1 ≤ times x ys = (let s = same x in omega (arith, s, first)) in
+    let others : (z : ℕ) → times z (delete x ys) ≡ times z xs =
+    λ z. elim (cases_eq z x) [
+      | inl e ↦ subst (λ y. times y (delete x ys) ≡ times y xs) (sym e) (let s = same x in let d = times-delete_same x ys there in omega (arith, s, d, first))
+      | inr n ↦ times-delete_other z x ys n ∙ (same z ∙ times_there z x xs (λ e. n (sym e)))
+    ] in
+    IsPermutation-trans (x ∷ xs) (x ∷ delete x ys) ys (IsPermutation-cons x xs (delete x ys) (same-permutation xs (delete x ys) others)) (from_front x ys there)
