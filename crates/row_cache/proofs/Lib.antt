@@ -6,3 +6,5 @@ pub mod Moving
 pub mod Caches
 pub mod Looked
 pub mod Placed
+pub mod Ordered
+pub mod Written

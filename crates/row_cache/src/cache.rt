@@ -12,6 +12,7 @@ ghost use Rattle.row_cache.specs.Rows.{rows_of, reply_of, Stay};
 mod first_row;
 mod getting;
 mod reading;
+mod scanning;
 mod segments;
 mod storing;
 

@@ -9,6 +9,7 @@
 mod cache;
 mod put;
 mod row_keys;
+mod scanned;
 mod tables;
 #[cfg(test)]
 mod tests;
@@ -16,3 +17,4 @@ mod tests;
 pub use cache::RowCache;
 pub use compaction::Compacted;
 pub use put::Put;
+pub use scanned::Scanned;

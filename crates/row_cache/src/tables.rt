@@ -1,6 +1,8 @@
-ghost use Rattle.std.specs.Prelude.{◌≡◌, ◌≢◌, ◌+◌, ◌<◌, ◌≤◌, ℕ, [], ◌∷◌, length, Some, None, slice_get, slice_set, IfOk, IfSome, MatchOption, MatchResult, All, vec_len, vec_capacity, List, ◌-◌, ◌^◌, take};
+ghost use Rattle.std.specs.Prelude.{◌≡◌, ◌≢◌, ◌+◌, ◌<◌, ◌≤◌, ℕ, [], ◌∷◌, length, Some, None, slice_get, slice_set, IfOk, IfSome, MatchOption, MatchResult, All, vec_len, vec_capacity, List, ◌-◌, ◌^◌, take, map, filter};
 ghost use Rattle.std.specs.List.{last_or};
 ghost use Rattle.cache_model.specs.Row.{Row};
+ghost use Rattle.cache_model.specs.Apply.{in_order, is_at_most};
+ghost use Rattle.cache_model.specs.KeyBody.{IsKey};
 ghost use Rattle.common_lemmas.specs.Lists.{delete};
 ghost use Rattle.key_index.specs.Index.{IsPlaceFor, IsRowAt};
 ghost use Rattle.regions.specs.Contents.{Item, live_at};
@@ -10,10 +12,11 @@ ghost use Rattle.row_cache.specs.Rows.{key_at};
 ghost use Rattle.row_cache.specs.inside.Tables as tables;
 
 use crate::row_keys::RowKeys;
+use cache_model::sorted_keys_are_in_order;
 use index_lists::IndexLists;
-use key_index::{KeyIndex, RowAt};
+use key_index::{KeyIndex, RowAt, Rows};
 use regions::{Movers, Place, Region};
-use row_bytes::number_in;
+use row_bytes::{key_in, number_in};
 use std::alloc::{AllocError, Global};
 use std::marker::Model;
 
@@ -160,6 +163,26 @@ impl Tables {
         self.index.remove_at(found);
         self.recency.remove(RECENCY, found.row);
         self.freed.push(found.row).unwrap();
+    }
+
+    // The rows whose keys are at or above one, in the order of their keys.
+    pub(crate) fn rows_from<'a>(&'a self, region: &'a Region, key: &[u8]) -> Rows<'a>
+        requires { tables.AreTablesOf self.now (live_at region.now) }
+        ensures listed { All (tables.IsListed self.now) result }
+        ensures order { map (key_at (live_at region.now) self.now.places) result
+            ≡ in_order (filter (is_at_most key.now) (map (key_at (live_at region.now) self.now.places) self.now.recency)) }
+    {
+        sorted_keys_are_in_order();
+        self.index.rows_from(&self.keys(region), key)
+    }
+
+    // The key of a row.
+    pub(crate) fn key<'a>(&'a self, region: &'a Region, number: u32) -> &'a [u8]
+        requires { tables.HasRow (live_at region.now) self.now.places number }
+        ensures key { result.now ≡ key_at (live_at region.now) self.now.places number }
+        ensures lengths { IsKey result.now }
+    {
+        key_in(region.bytes(self.place(number)))
     }
 
     fn keys<'a>(&'a self, region: &'a Region) -> RowKeys<'a>

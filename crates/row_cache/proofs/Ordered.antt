@@ -1,0 +1,60 @@
+-- The keys of rows in the order of the index are their keys in the order of their bytes.
+use Rattle.std.proofs.Common.{◌≡◌, ℕ, suc, zero, Bool, true, false, cond, List, [], ◌∷◌, map, filter, is_lt, IsPermutation, IsSorted, sym, ap, ◌∙◌, refl, arith, add-one, subst}
+use Rattle.std.specs.Prelude.{All}
+use Rattle.std.specs.Ordering.{nat_cmp, ordering_reverse}
+use Rattle.std.specs.Cmp.Lexicographic.{slice_cmp}
+use Rattle.std.proofs.lemmas.Cmp.{nat_list_cmp_total}
+use Rattle.std.proofs.lemmas.List.Elements.{All-filter}
+use Rattle.std.proofs.lemmas.List.Kept.{IsSortedBy-filter}
+use Rattle.std.proofs.lemmas.List.Sorted.{IsPermutation-map, ranks_by}
+use Rattle.cache_model.specs.Apply.{in_order, is_at_most}
+use Rattle.common_lemmas.specs.Lists.{times}
+use Rattle.common_lemmas.proofs.Counts.{same-filter, same-permutation}
+use Rattle.key_index.specs.Index.{Index}
+use Rattle.key_index.specs.Order.{key_cmp, AreRising, rows_from}
+use Rattle.regions.specs.Stores.{Live}
+use Rattle.row_cache.specs.Rows.{key_at}
+use Rattle.row_cache.specs.inside.Tables.{TableState, AreTablesOf, IsListed}
+use Rattle.row_cache.proofs.States.{index_all}
+
+filter-map : (p : List ℕ → Bool) (key : ℕ → List ℕ) (ns : List ℕ) → filter p (map key ns) ≡ map key (filter (λ n. p (key n)) ns)
+filter-map p key [] = refl
+filter-map p key (n ∷ ns) = go (p (key n)) (filter-map p key ns)
+  where
+    go : (b : Bool) → filter p (map key ns) ≡ map key (filter (λ m. p (key m)) ns)
+        → cond b (key n ∷ filter p (map key ns)) (filter p (map key ns)) ≡ map key (cond b (n ∷ filter (λ m. p (key m)) ns) (filter (λ m. p (key m)) ns))
+    go true ih = ap (λ (ks : List (List ℕ)). key n ∷ ks) ih
+    go false ih = ih
+
+-- keys that rise are sorted
+sorted_keys : (key : ℕ → List ℕ) (ns : List ℕ) → AreRising key ns → IsSorted (slice_cmp nat_cmp) (map key ns)
+unfolding key_cmp
+sorted_keys key [] up i d low high = absurd (omega arith)
+sorted_keys key (n ∷ []) up i d low high = absurd (omega arith)
+sorted_keys key (n ∷ m ∷ ns) up zero d low high = ap is_lt (nat_list_cmp_total.antisymm (key m) (key n) ∙ ap ordering_reverse up.0.0)
+sorted_keys key (n ∷ m ∷ ns) up (suc i) d low high = rw add-one (rw add-one at (sorted_keys key (m ∷ ns) up.1 i d (omega arith) (omega arith)))
+
+-- the rows of an index from a key on, where others are the same rows
+pub keys_from : (key : ℕ → List ℕ) (lo : List ℕ) (others rows : List ℕ) → ((n : ℕ) → times n rows ≡ times n others) → AreRising key rows
+    → ((keys sorted : List (List ℕ)) → IsPermutation keys sorted → IsSorted (slice_cmp nat_cmp) sorted → in_order keys ≡ sorted)
+    → map key (rows_from key lo rows) ≡ in_order (filter (is_at_most lo) (map key others))
+unfolding key_cmp
+keys_from key lo others rows same rising order =
+    let p : ℕ → Bool = λ n. is_at_most lo (key n) in
+    let moved = IsPermutation-map key (filter p others) (filter p rows) (same-permutation (filter p others) (filter p rows) (same-filter p others rows same)) in
+    let sorted = IsSortedBy-filter (λ a b. is_lt (slice_cmp nat_cmp a b)) (ranks_by nat_list_cmp_total (λ k. k)) (is_at_most lo) (map key rows) (sorted_keys key rows rising) in
+    sym (ap in_order (filter-map (is_at_most lo) key others) ∙ order (map key (filter p others)) (map key (filter p rows)) moved (rw (filter-map (is_at_most lo) key rows) at sorted))
+
+-- what the index of a cache's tables tells of the rows from a key on
+pub rows_told : (t : TableState) (live : Live) (lo : List ℕ) (key : ℕ → List ℕ) (i : Index) (result : List ℕ) → AreTablesOf t live → i ≡ t.index → key ≡ key_at live t.places
+    → ((keys sorted : List (List ℕ)) → IsPermutation keys sorted → IsSorted (slice_cmp nat_cmp) sorted → in_order keys ≡ sorted)
+    → result ≡ rows_from key lo i.rows
+    → All (IsListed t) result × (map (key_at live t.places) result ≡ in_order (filter (is_at_most lo) (map (key_at live t.places) t.recency)))
+unfolding key_cmp
+rows_told t live lo key i result are index keys order told =
+    let k = key_at live t.places in
+    let p : ℕ → Bool = λ n. is_at_most lo (k n) in
+    let is : result ≡ filter p t.index.rows = told ∙ (ap (λ (f : ℕ → List ℕ). rows_from f lo i.rows) keys ∙ ap (λ (x : Index). rows_from k lo x.rows) index) in (
+      subst (All (IsListed t)) (sym is) (All-filter p (IsListed t) t.index.rows (index_all t (IsListed t) are.numbers (λ n l. l))),
+      ap (map k) is ∙ keys_from k lo t.recency t.index.rows are.numbers.indexed are.index.ordered.rising order,
+    )

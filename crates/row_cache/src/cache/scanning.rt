@@ -1,0 +1,49 @@
+//! The keys of a cache, in the order of their bytes.
+ghost use Rattle.std.specs.Prelude.{◌≡◌, ◌+◌, ◌*◌, ◌≤◌, ℕ, List, ◌++◌, length, take, drop};
+ghost use Rattle.layout.specs.Sizes as sizes;
+ghost use Rattle.cache_model.specs.Apply as apply;
+ghost use Rattle.cache_model.specs.KeyBody.{AreKeys};
+ghost use Rattle.cache_model.specs.Spelled.{key_field};
+ghost use Rattle.row_cache.specs.Rows.{rows_of};
+
+use super::RowCache;
+use crate::scanned::Scanned;
+
+impl RowCache {
+    /// Writes the first `count` keys at or above `lo`, in the order of their bytes, to the front of `into`: each behind its
+    /// length in two bytes, low byte first, as the reply to a scan has them. The bytes behind them stay. `count` is 1 to
+    /// 32, and `into` has room for so many keys of the greatest length.
+    pub fn scan(&self, lo: &[u8], count: u32, into: &mut [u8]) -> Scanned
+        requires some { 1 ≤ count }
+        requires most { count ≤ sizes.most_keys }
+        requires room { sizes.key_room * count ≤ length into.old }
+        ensures keys { (keys : List (List ℕ)) × ((apply.scan lo.now count (rows_of self.now)).1 ≡ apply.Keys keys) × (result.keys ≡ length keys) × AreKeys (take result.bytes into.new) keys }
+        ensures within { result.bytes ≤ length into.old }
+        ensures behind { drop result.bytes into.new ≡ drop result.bytes into.old }
+    {
+        let mut rows = self.tables.rows_from(&self.region, lo);
+        let mut scanned = Scanned { keys: 0, bytes: 0 };
+        while scanned.keys < count {
+            let Some(row) = rows.next() else {
+                return scanned;
+            };
+            let key = self.tables.key(&self.region, row);
+            scanned.bytes += write_key(&mut into[scanned.bytes as usize..], key);
+            scanned.keys += 1;
+        }
+        scanned
+    }
+}
+
+// Writes a key behind its length to the front of `into`, and answers how many bytes these are.
+fn write_key(into: &mut [u8], key: &[u8]) -> u32
+    requires key { length key.now ≤ sizes.greatest_key }
+    requires room { 2 + length key.now ≤ length into.old }
+    ensures bytes { result ≡ 2 + length key.now }
+    ensures written { into.new ≡ key_field key.now ++ drop result into.old }
+{
+    let (len, behind) = into.split_at_mut(2);
+    len.copy_from_slice((key.len() as u16).to_le_bytes().as_slice());
+    behind[..key.len()].copy_from_slice(key);
+    2 + key.len() as u32
+}
