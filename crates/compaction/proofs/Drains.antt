@@ -23,6 +23,8 @@ some-same bare a (Some s) e there = refl
 
 pub holds-same : (old new : RegionState) → shape new ≡ shape old → live_total new ≡ live_total old → HoldsTheSame old new
 holds-same old new shapes total = record {
+  most = ap (λ (s : Shape). s.most) shapes;
+  active = subst (λ (s : Shape). IsSome s.active) (sym shapes);
   pieces = ap (λ (s : Shape). pieces_in s.slots) shapes;
   held = ap (λ (s : Shape). count_by is_held s.slots) shapes;
   guards = ap (λ (s : Shape). s.guards) shapes;
@@ -30,7 +32,7 @@ holds-same old new shapes total = record {
 }
 
 pub holds-on : (a b c : RegionState) → HoldsTheSame a b → HoldsTheSame b c → HoldsTheSame a c
-holds-on a b c h k = record { pieces = k.pieces ∙ h.pieces; held = k.held ∙ h.held; guards = k.guards ∙ h.guards; live_total = k.live_total ∙ h.live_total }
+holds-on a b c h k = record { most = k.most ∙ h.most; active = λ some. k.active (h.active some); pieces = k.pieces ∙ h.pieces; held = k.held ∙ h.held; guards = k.guards ∙ h.guards; live_total = k.live_total ∙ h.live_total }
 
 pub drained-none : (bare : Bare) (n : ℕ) (r : RegionState) → IsDrained bare n r r
 drained-none bare n r = record {

@@ -1,7 +1,7 @@
 -- What becomes of a segment that is emptied, and of the others.
 use Rattle.std.specs.Prelude.{◌≡◌, ◌≢◌, ℕ, ◌+◌, ◌<◌, ◌≤◌, IsSome, option_map}
 use Rattle.regions.specs.Segments.{RegionState}
-use Rattle.regions.specs.Shapes.{shape, activated, freed, guards_of, pieces, held_count, free_count, IsClosed, IsLeastFree}
+use Rattle.regions.specs.Shapes.{shape, active_of, activated, freed, guards_of, pieces, held_count, free_count, IsClosed, IsLeastFree}
 use Rattle.regions.specs.Counts.{used_at, live_bytes_at, used_total, live_total, left}
 use Rattle.regions.specs.Contents.{standing_at}
 use Rattle.regions.specs.Stores.{Bare, without_references}
@@ -26,8 +26,11 @@ pub record IsEmptied (bare : Bare) (n : ℕ) (old new : RegionState) : Type 0 wh
   pub live : (m : ℕ) → m ≢ n → IsClosed old m → live_bytes_at new m ≡ live_bytes_at old m
   pub used : used_total new + used_at old n ≡ used_total old + live_bytes_at old n
 
--- which segments are held, each with its piece, under how many guards, and how many bytes are live
+-- how many segments have room, which are held, each with its piece, under how many guards, and how many bytes are live;
+-- where a segment was active, one is
 pub record HoldsTheSame (old new : RegionState) : Type 0 where
+  pub most : (shape new).most ≡ (shape old).most
+  pub active : IsSome (active_of old) → IsSome (active_of new)
   pub pieces : pieces new ≡ pieces old
   pub held : held_count new ≡ held_count old
   pub guards : guards_of new ≡ guards_of old

@@ -17,10 +17,12 @@
 mod choice;
 mod compact;
 mod draining;
+mod law;
 mod moving;
 #[cfg(test)]
 mod tests;
 mod whole;
 
 pub use compact::{Compacted, compact_one};
+pub use law::a_compacted_region_is_full;
 pub use whole::pass;
