@@ -12,6 +12,14 @@ use regions::Place;
 use row_bytes::value_in;
 
 impl RowCache {
+    /// What holds of the cache at each time.
+    pub fn facts(&self)
+        ensures live { live (rows_of self.now) ≡ live_total self.now.region }
+        ensures room { length (rows_of self.now) ≤ self.now.room }
+    {
+        let _ = &self.region;
+    }
+
     /// How many rows there are.
     pub fn rows(&self) -> u32
         ensures { result ≡ length (rows_of self.now) }

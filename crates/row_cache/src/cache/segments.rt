@@ -2,7 +2,7 @@
 ghost use Rattle.std.specs.Prelude.{◌≡◌, ◌↔◌, ◌⊎◌, ◌+◌, ◌-◌, ◌<◌, ◌≤◌, ℕ, [], length, Some, None, IfSome, IsNone, IsSome};
 ghost use Rattle.layout.specs.Sizes as sizes;
 ghost use Rattle.regions.specs.Segments.{segment_at, with_segment, fresh, all_emptied};
-ghost use Rattle.regions.specs.Shapes.{shape, active_of, guards_of, held_count, free_count, activated, IsLeastFree, IsGreatestFree, IsGreatestHeld, IsLeastUnused};
+ghost use Rattle.regions.specs.Shapes.{shape, active_of, guards_of, pieces, held_count, free_count, activated, IsLeastFree, IsGreatestFree, IsGreatestHeld, IsLeastUnused};
 ghost use Rattle.regions.specs.Counts.{left};
 ghost use Rattle.compaction.specs.Sparse.{IsCompacted};
 ghost use Rattle.compaction.specs.Emptied.{HoldsTheSame};
@@ -49,6 +49,9 @@ impl RowCache {
         ensures room { self.new.room ≡ self.old.room }
         ensures activated { (n : ℕ) × IsLeastFree self.old.region n × (shape self.new.region ≡ activated n (shape self.old.region)) }
         ensures left { left self.new.region ≡ sizes.segment }
+        ensures pieces { pieces self.new.region ≡ pieces self.old.region }
+        ensures held { held_count self.new.region ≡ held_count self.old.region }
+        ensures free { free_count self.new.region + 1 ≡ free_count self.old.region }
         ensures stay { Stay self.old.region self.new.region }
     {
         self.region.next_active();
