@@ -10,5 +10,6 @@ pub mod Logged
 pub mod OneShard
 pub mod OwnParts
 pub mod Printed
+pub mod ReadBack
 pub mod Rising
 pub mod TextLines

@@ -1,13 +1,15 @@
 -- What the logs of all shards hold, and the answers that are read from them.
-use Rattle.std.specs.Prelude.{◌≡◌, ℕ, ◌<◌, List, map, All, Option, Some}
-use Rattle.std.specs.List.{range_with_len, slice_index_or}
-use Rattle.trace_text.specs.Parts.{longest_value}
+use Rattle.std.specs.Prelude.{◌≡◌, ℕ, ◌+◌, ◌<◌, Bool, true, false, List, [], ◌∷◌, length, map, All, Option, Some}
+use Rattle.std.specs.List.{range_with_len, slice_get, slice_index_or}
+use Rattle.trace_text.specs.Operation.{Operation}
+use Rattle.trace_text.specs.Parts.{is_scan, longest_value}
 use Rattle.trace_text.specs.Trace.{Trace}
 use Rattle.cache_model.specs.declared.reply_kind.ReplyKind.{ReplyKind}
-use Rattle.cache_model.specs.Answer.{answer_from}
-use Rattle.cache_model.specs.Apply.{Reply}
-use Rattle.cache_model.specs.Fits.{HasFitting}
+use Rattle.cache_model.specs.Answer.{answer_from, join, keys_in}
+use Rattle.cache_model.specs.Apply.{Reply, Keys}
+use Rattle.cache_model.specs.Fits.{Fits, HasFitting}
 use Rattle.cache_model.specs.OwnParts.{HoldsReplies, parts_of}
+use Rattle.cache_model.specs.Spelled.{spelled}
 
 -- The logs of n shards hold the replies to the parts that they issued, and these are the answers. `replies` has the
 -- reply to each part.
@@ -17,3 +19,24 @@ pub record AreLogged (trace : Trace) (n : ℕ) (logs : List (List (Option (Reply
   pub fit : All (λ operation. All (λ part. HasFitting (longest_value trace) operation (replies part)) (parts_of n operation)) trace.operations
   pub answered : map {B = ℕ × Option Reply} (λ answer. (answer.0, Some answer.1)) answers
       ≡ map {B = ℕ × Option Reply} (λ operation. (operation.number, answer_from n operation (map (λ s. replies (operation.number, s)) (range_with_len 0 n)))) trace.operations
+
+-- One answer, as it is read from one log.
+
+-- from part `first` on the log has these replies
+abbrev pub HasReplies : List (Option (ReplyKind × List ℕ)) → ℕ → List Reply → Type 0
+HasReplies log first replies =
+    (k : ℕ) (d : Reply) → k < length replies → slice_get log (first + k) ≡ Some (Some (spelled (slice_index_or replies k d)))
+
+-- what the replies to a command's parts say together: the one reply, or of a scan the keys of n replies, joined
+abbrev pub AreJoined : Bool → ℕ → ℕ → List Reply → Reply → Type 0
+AreJoined false n count replies answer = replies ≡ answer ∷ []
+AreJoined true n count replies answer =
+    (length replies ≡ n) × (answer ≡ Keys (join count (map (λ reply. keys_in (Some reply)) replies)))
+
+-- from part `first` on the log has the replies to the parts of a command. They fit it, and this is its answer.
+pub record IsRead (longest n : ℕ) (operation : Operation) (log : List (Option (ReplyKind × List ℕ))) (first : ℕ) (answer : ℕ × Reply) : Type 0 where
+  pub replies : List Reply
+  pub logged : HasReplies log first replies
+  pub fit : All (Fits longest operation) replies
+  pub number : answer.0 ≡ operation.number
+  pub joined : AreJoined (is_scan operation.kind) n operation.count replies answer.1

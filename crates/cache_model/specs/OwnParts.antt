@@ -1,10 +1,10 @@
 -- The parts that a shard issues, and the replies to them.
-use Rattle.std.specs.Prelude.{◌≡◌, ℕ, ◌==◌, List, [], ◌∷◌, map, filter, flat_map, if◌then◌else◌, Option}
+use Rattle.std.specs.Prelude.{◌≡◌, ℕ, ◌==◌, List, [], ◌∷◌, map, take, filter, flat_map, if◌then◌else◌, Option}
 use Rattle.std.specs.List.{range_with_len, slice_get}
 use Rattle.std.specs.Option.{option_map, option_and_then}
 use Rattle.trace_text.specs.Operation.{Operation}
-use Rattle.trace_text.specs.Parts.{is_scan, origin, owner}
-use Rattle.trace_text.specs.Trace.{Trace}
+use Rattle.trace_text.specs.Parts.{is_scan, origin, own_parts, owner}
+use Rattle.trace_text.specs.Trace.{Trace, trace_with}
 use Rattle.cache_model.specs.declared.entry.Entry.{Entry}
 use Rattle.cache_model.specs.declared.reply_kind.ReplyKind.{ReplyKind}
 use Rattle.cache_model.specs.Apply.{Reply}
@@ -22,6 +22,11 @@ parts_of n operation =
 -- the parts that shard o issues, in order. Part k of its log, from 0, is the k-th.
 abbrev pub issued_parts : Trace → ℕ → ℕ → List (ℕ × ℕ)
 issued_parts trace n o = flat_map (parts_of n) (filter (λ operation. origin operation.number n == o) trace.operations)
+
+-- how many parts shard o issues for the first i commands. In its log the parts of the next command that it issues stand
+-- behind so many.
+abbrev pub parts_before : Trace → ℕ → ℕ → ℕ → ℕ
+parts_before trace n o i = own_parts (trace_with (take i trace.operations)) n o
 
 -- the reply to a part: the one at its entry in the journal of its shard
 abbrev pub part_reply : Trace → ℕ → List (List Entry) → ℕ × ℕ → Option Reply

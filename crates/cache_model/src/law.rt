@@ -1,5 +1,5 @@
 //! Laws of the definitions.
-ghost use Rattle.std.specs.Prelude.{◌≡◌, ◌==◌, ◌+◌, ◌-◌, ◌<◌, ◌≤◌, ℕ, Bool, false, List, [], ◌∷◌, ◌++◌, length, map, take, filter, Option, Some, None, IsSome, All, Contains, IsPermutation, IsSorted, true};
+ghost use Rattle.std.specs.Prelude.{◌≡◌, ◌==◌, ◌+◌, ◌-◌, ◌*◌, ◌<◌, ◌≤◌, if◌then◌else◌, ℕ, Bool, false, List, [], ◌∷◌, ◌++◌, length, map, take, filter, Option, Some, None, IsSome, All, Contains, IsPermutation, IsSorted, true};
 ghost use Rattle.trace_text.specs.Trace.{Trace};
 ghost use Rattle.cache_model.specs.declared.entry.Entry.{Entry as JournalEntry};
 ghost use Rattle.cache_model.specs.declared.entry.Entry.TheVariants.{Done, Evicted};
@@ -9,7 +9,7 @@ ghost use Rattle.cache_model.specs.Apply.{Reply, apply, has, in_order, row_of, w
 ghost use Rattle.cache_model.specs.Answer.{answer, answer_from};
 ghost use Rattle.cache_model.specs.Evictions.{Evicts};
 ghost use Rattle.cache_model.specs.Fits.{Fits};
-ghost use Rattle.cache_model.specs.Logged.{AreLogged};
+ghost use Rattle.cache_model.specs.Logged.{AreLogged, IsRead};
 ghost use Rattle.cache_model.specs.declared.reply_kind.ReplyKind.{ReplyKind};
 ghost use Rattle.cache_model.specs.Bodies.{HasKeys, HasShortKeys, most_of_body};
 ghost use Rattle.cache_model.specs.KeyBody.{AreKeys, IsKey};
@@ -20,8 +20,8 @@ ghost use Rattle.std.specs.Cmp.Lexicographic.{slice_cmp};
 ghost use Rattle.std.specs.List.{last_or, list_any, slice_get, slice_index_or, enumerate_from};
 ghost use Rattle.std.specs.Option.{option_map};
 ghost use Rattle.std.specs.Ordering.{nat_cmp};
-ghost use Rattle.cache_model.specs.OwnParts.{HoldsReplies, issued_parts, part_reply, parts_of};
-ghost use Rattle.trace_text.specs.Parts.{longest_value, own_parts, parts};
+ghost use Rattle.cache_model.specs.OwnParts.{HoldsReplies, issued_parts, part_reply, parts_before, parts_of};
+ghost use Rattle.trace_text.specs.Parts.{is_scan, longest_value, origin, own_parts, parts};
 ghost use Rattle.cache_model.specs.Holds.{PutHolds, PutsHold, RowsHold, ReplyHolds};
 ghost use Rattle.trace_text.specs.Operation.{Operation};
 ghost use Rattle.cache_model.specs.Legal.{EvictsAbove, cache_after, cache_from, command_of, done, is_done, is_of_put, reply_at};
@@ -149,6 +149,28 @@ pub fn one_shard_answers_alone()
 pub fn issued_parts_are_counted()
     ensures count { (trace : Trace) (n o : ℕ) → length (issued_parts trace n o) ≡ own_parts trace n o }
     ensures peer { (trace : Trace) (n o q : ℕ) → q < n → map (λ part. part.0) (filter (λ part. part.1 == q) (issued_parts trace n o)) ≡ parts trace n o q }
+{}
+
+/// How many parts a shard issued before a command, with so many shards: they go up by the parts of the commands that it
+/// issues.
+pub fn parts_go_up_by_command()
+    ensures next { (trace : Trace) (n o i : ℕ) (d : Operation) → i < length trace.operations
+        → parts_before trace n o (i + 1) ≡ parts_before trace n o i
+        + (if origin (slice_index_or trace.operations i d).number n == o then (if is_scan (slice_index_or trace.operations i d).kind then n else 1) else 0) }
+    ensures most { (trace : Trace) (n o i : ℕ) → 1 ≤ n → parts_before trace n o i ≤ i * n }
+{}
+
+/// Each command has one answer, and it is read from the log of the command's origin, behind the parts that were issued
+/// before.
+pub fn answers_are_read_by_command()
+    ensures count { (trace : Trace) (n : ℕ) (logs : List (List (Option (ReplyKind × List ℕ)))) (answers : List (ℕ × Reply))
+        → AreLogged trace n logs answers → length answers ≡ length trace.operations }
+    ensures read { (trace : Trace) (n i : ℕ) (logs : List (List (Option (ReplyKind × List ℕ)))) (answers : List (ℕ × Reply))
+        (d : Operation) (e : List (Option (ReplyKind × List ℕ))) (f : ℕ × Reply)
+        → AreLogged trace n logs answers → 1 ≤ n → i < length trace.operations
+        → IsRead (longest_value trace) n (slice_index_or trace.operations i d)
+        (slice_index_or logs (origin (slice_index_or trace.operations i d).number n) e)
+        (parts_before trace n (origin (slice_index_or trace.operations i d).number n) i) (slice_index_or answers i f) }
 {}
 
 /// The reply to a part fits its command: on a cache whose rows have different keys, as long as a trace's keys are, and no
