@@ -12,8 +12,8 @@ pub fn is_at_most(key: &[u8], other: &[u8]) -> bool
 
 /// Puts keys in the order of their bytes.
 #[tactic(auto, using(crate::proofs::KeyOrder::sorted_is))]
-pub fn sort_keys(keys: &mut Vec<&[u8]>)
-    ensures { map (λ key. key.now) keys.new.items ≡ in_order (map (λ key. key.now) keys.old.items) }
+pub fn sort_keys(keys: &mut [&[u8]])
+    ensures { map (λ key. key.now) keys.new ≡ in_order (map (λ key. key.now) keys.old) }
 {
     keys.sort_unstable();
 }
