@@ -1,4 +1,4 @@
-ghost use Rattle.std.specs.Prelude.{◌≡◌, ◌+◌, ◌≤◌, [], ◌∷◌, ◌++◌, IfOk};
+ghost use Rattle.std.specs.Prelude.{◌≡◌, ◌+◌, ◌^◌, ◌<◌, ◌≤◌, length, [], ◌∷◌, ◌++◌, IfOk};
 
 use cache_model::Entry;
 use std::alloc::{AllocError, Global};
@@ -12,14 +12,14 @@ pub struct Journal {
 }
 
 impl Model for Journal {
-    ghost use Rattle.std.specs.Prelude.{◌≡◌, ◌-◌, ◌≤◌, vec_len, vec_capacity};
+    ghost use Rattle.std.specs.Prelude.{◌≡◌, ◌-◌, ◌^◌, ◌<◌, ◌≤◌, vec_len, vec_capacity};
     ghost use Rattle.run_log.specs.JournalState.{JournalState};
 
     ghost Value = { JournalState };
 
     ghost view = { λ j. record { entries = j.entries.items; spare = j.room - vec_len j.entries } };
 
-    ghost invariant = { λ j. (vec_len j.entries ≤ j.room) × (j.room ≤ vec_capacity j.entries) };
+    ghost invariant = { λ j. (vec_len j.entries ≤ j.room) × (j.room ≤ vec_capacity j.entries) × (j.room < 2 ^ 32) };
 }
 
 impl Journal {
@@ -35,7 +35,8 @@ impl Journal {
 
     /// What was written, in order.
     pub fn entries(&self) -> &[Entry]
-        ensures { result.now ≡ self.now.entries }
+        ensures value { result.now ≡ self.now.entries }
+        ensures few { length result.now < 2 ^ 32 }
     {
         self.entries.as_slice()
     }

@@ -6,10 +6,10 @@ returns-in_err-put_field g c = Writes-exit _ c.from_residual.ensures.1 (Writes-s
 
 pub returns-in_err-put_entries : goal.returns-in_err-put_entries
 returns-in_err-put_entries g c =
-    let entries = rw c.entries.ensures at c.in_err-put_entries.ensures in
+    let entries = rw c.entries.ensures.value at c.in_err-put_entries.ensures in
     Writes-exit _ c.from_residual-in_err-put_entries.ensures.1 (Writes-stop _ (Writes-then c.in_ok-put_field.ensures entries))
 
 pub returns : goal.returns
 returns g c =
-    let entries = rw c.entries.ensures at c.in_ok-put_entries.ensures in
+    let entries = rw c.entries.ensures.value at c.in_ok-put_entries.ensures in
     Writes-then (Writes-then c.in_ok-put_field.ensures entries) c.end_line.ensures
