@@ -3,3 +3,4 @@ pub mod Options
 pub mod Powers
 pub mod Counts
 pub mod Maps
+pub mod Sums

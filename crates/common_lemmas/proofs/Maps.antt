@@ -38,5 +38,11 @@ remove-insert m k v absent = maps_same _ _ (λ q. elim (cases_eq q k) [
   | inr d ↦ get_past_remove (insert m k v) k q d ∙ get_past_insert m k v q d
 ])
 
+pub insert-remove : (m : FinMap nat_cmp ℕ) (k v : ℕ) → get m k ≡ Some v → insert (remove m k) k v ≡ m
+insert-remove m k v here = maps_same _ _ (λ q. elim (cases_eq q k) [
+  | inl e ↦ get_inserted (remove m k) k v q e ∙ sym (ap (get m) e ∙ here)
+  | inr d ↦ get_past_insert (remove m k) k v q d ∙ get_past_remove m k q d
+])
+
 pub none_in_empty : {P : Type 0} (m : FinMap nat_cmp ℕ) (k v : ℕ) → m ≡ empty → get m k ≡ Some v → P
 none_in_empty m k v none here = some_or_none here (ap (λ n. get n k) none ∙ get-empty nat_cmp k)

@@ -1,13 +1,16 @@
 -- The allocated spans, as a map.
-use Rattle.std.proofs.Common.{◌≡◌, ◌≢◌, ℕ, zero, suc, ◌+◌, ◌<◌, inl, inr, cond, List, [], ◌∷◌, length, set, Some, None, refl, sym, ap, ◌∙◌, arith, get_or-set_other, get_or-set_same}
+use Rattle.std.proofs.Common.{◌≡◌, ◌≢◌, ℕ, zero, suc, ◌+◌, ◌^◌, ◌<◌, inl, inr, cond, List, [], ◌∷◌, length, set, Some, None, refl, sym, ap, ◌∙◌, arith, get_or-set_other, get_or-set_same}
 use Rattle.std.proofs.lemmas.Bool.{cases_eq}
+use Rattle.std.proofs.lemmas.List.Sums.{sum_by-cons}
 use Rattle.std.proofs.lemmas.Cmp.{nat_cmp_total}
+use Rattle.std.specs.Prelude.{sum_by}
 use Rattle.std.specs.Ordering.{nat_cmp}
-use Rattle.std.specs.FinMap.{get, insert, remove, find, get-from_entries}
+use Rattle.std.specs.FinMap.{get, insert, remove, empty, find, values, from_entries, get-empty, get-from_entries}
 use Rattle.common_lemmas.proofs.Maps.{tie_same, tie_apart, get_inserted, get_past_insert, get_removed, get_past_remove, maps_same}
+use Rattle.common_lemmas.proofs.Sums.{sum_inserted, sum_of_none}
 use Rattle.span_lists.specs.declared.spans.PageState.{PageState}
 use Rattle.span_lists.specs.declared.spans.PageState.TheVariants.{Inside, Free, Allocated}
-use Rattle.span_lists.specs.inside.Pages.{allocated_of, allocated_entries, allocated_order_of, state_at}
+use Rattle.span_lists.specs.inside.Pages.{allocated_of, allocated_entries, allocated_order_of, allocated_pages_of, state_at}
 
 found_here : (p k q : ℕ) (es : List (ℕ × ℕ)) → q ≡ p → find nat_cmp q ((p, k) ∷ es) ≡ Some k
 found_here p k q es e = ap (λ b. cond b (Some k) (find nat_cmp q es)) (tie_same q p e)
@@ -34,6 +37,21 @@ found_at q p (suc i) (Allocated k ∷ states) e = found_later p k q _ (λ d. abs
 pub get-allocated_of : (states : List PageState) (q : ℕ) → get (allocated_of states) q ≡ allocated_order_of (state_at states q)
 unfolding allocated_of
 get-allocated_of states q = get-from_entries nat_cmp_total (allocated_entries 0 states) q ∙ found_at q 0 q states (omega arith)
+
+-- the sum of its spans' lengths
+sum_from : (p : ℕ) (states : List PageState) → sum_by (λ k. 2 ^ k) (values (from_entries {R = nat_cmp} (allocated_entries p states))) ≡ sum_by allocated_pages_of states
+sum_from p [] = sum_of_none (λ k. 2 ^ k) empty (get-empty nat_cmp)
+sum_from p (Inside ∷ states) = (let rest = sum_from (suc p) states in let one = sum_by-cons allocated_pages_of Inside states in omega (arith, rest, one))
+sum_from p (Free k ∷ states) = (let rest = sum_from (suc p) states in let one = sum_by-cons allocated_pages_of (Free k) states in omega (arith, rest, one))
+sum_from p (Allocated k ∷ states) =
+    let rest = sum_from (suc p) states in
+    let one = sum_by-cons allocated_pages_of (Allocated k) states in
+    let more = sum_inserted (λ o. 2 ^ o) (from_entries (allocated_entries (suc p) states)) p k (get-from_entries nat_cmp_total (allocated_entries (suc p) states) p ∙ none_before p (suc p) states (omega arith)) in
+    omega (arith, rest, one, more)
+
+pub sum_allocated_of : (states : List PageState) → sum_by (λ k. 2 ^ k) (values (allocated_of states)) ≡ sum_by allocated_pages_of states
+unfolding allocated_of
+sum_allocated_of states = sum_from 0 states
 
 -- ---- states that are written
 

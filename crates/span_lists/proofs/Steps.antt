@@ -5,7 +5,6 @@ use Rattle.std.proofs.lemmas.Nat.{pow_pos}
 use Rattle.std.specs.Ordering.{nat_cmp}
 use Rattle.std.specs.FinMap as map
 use Rattle.common_lemmas.proofs.Orders.{lt_or_ge}
-use Rattle.common_lemmas.proofs.Orders.{lt_or_ge}
 use Rattle.common_lemmas.specs.Lists.{times, delete}
 use Rattle.common_lemmas.proofs.Counts.{times_here}
 use Rattle.span_lists.specs.Buddies.{buddy}
@@ -13,7 +12,7 @@ use Rattle.span_lists.specs.Layout.{Layout, free_at, IsFree, IsAllocated, Divide
 use Rattle.span_lists.specs.inside.Steps.{IsSplitTo, IsCoalescedTo}
 use Rattle.common_lemmas.proofs.Powers.{start_is, start_of_start}
 use Rattle.span_lists.proofs.Halves.{buddy_ends}
-use Rattle.common_lemmas.proofs.Maps.{maps_same, get_inserted, get_past_insert, get_removed, get_past_remove}
+use Rattle.common_lemmas.proofs.Maps.{maps_same, get_inserted, get_past_insert, get_removed, get_past_remove, remove-insert, insert-remove}
 
 -- ---- lists and maps that are written
 
@@ -33,18 +32,6 @@ insert_known : (m : map.FinMap nat_cmp ℕ) (x k : ℕ) → map.get m x ≡ Some
 insert_known m x k e = maps_same _ _ (λ q. elim (cases_eq q x) [
   | inl qx ↦ get_inserted m x k q qx ∙ sym e ∙ ap (map.get m) (sym qx)
   | inr n ↦ get_past_insert m x k q n
-])
-
-insert_removed : (m : map.FinMap nat_cmp ℕ) (x k : ℕ) → map.get m x ≡ Some k → map.insert (map.remove m x) x k ≡ m
-insert_removed m x k e = maps_same _ _ (λ q. elim (cases_eq q x) [
-  | inl qx ↦ get_inserted _ x k q qx ∙ sym e ∙ ap (map.get m) (sym qx)
-  | inr n ↦ get_past_insert _ x k q n ∙ get_past_remove m x q n
-])
-
-remove_inserted : (m : map.FinMap nat_cmp ℕ) (x k : ℕ) → map.get m x ≡ None → map.remove (map.insert m x k) x ≡ m
-remove_inserted m x k e = maps_same _ _ (λ q. elim (cases_eq q x) [
-  | inl qx ↦ get_removed _ x q qx ∙ sym e ∙ ap (map.get m) (sym qx)
-  | inr n ↦ get_past_remove _ x q n ∙ get_past_insert m x k q n
 ])
 
 -- ---- a request
@@ -123,7 +110,7 @@ coalesced_none old first order allocated divided coalesced =
       to_order = omega arith;
       to_within = omega arith;
       start = sym (start_is first first order span.1 (omega arith) (let pos = pow_pos order in omega arith));
-      allocated = sym (insert_removed old.allocated first order allocated);
+      allocated = sym (insert-remove old.allocated first order allocated);
       none = get_removed old.allocated first first refl;
       were_free = λ k low high. absurd (omega arith);
       buddies = λ k low high. absurd (omega arith);
@@ -157,7 +144,7 @@ coalesced_more old now new first order at to whole h small held start e none_bud
       to_order = omega arith;
       to_within = omega arith;
       start = start ∙ ap (λ z. span_start z (to + 1)) h.start ∙ start_of_start first to;
-      allocated = ap (λ (s : Layout). s.allocated) e ∙ ap (λ m. map.insert (map.remove m at) whole (to + 1)) h.allocated ∙ ap (λ m. map.insert m whole (to + 1)) (remove_inserted base at to h.none);
+      allocated = ap (λ (s : Layout). s.allocated) e ∙ ap (λ m. map.insert (map.remove m at) whole (to + 1)) h.allocated ∙ ap (λ m. map.insert m whole (to + 1)) (remove-insert base at to h.none);
       none = elim which [
         | inl q ↦ ap (map.get base) q ∙ h.none
         | inr q ↦ elim (cases_eq whole at) [
@@ -196,9 +183,16 @@ gave old mid new first order at to h e =
         lower = λ k l. free k ∙ free_other mid.free to k _ (λ z. absurd (omega arith)) ∙ h.lower k l;
         upper = λ k l. free k ∙ free_other mid.free to k _ (λ z. absurd (omega arith)) ∙ h.upper k (omega arith);
       },
-      ap (λ (s : Layout). s.allocated) e ∙ ap (λ m. map.remove m at) h.allocated ∙ remove_inserted (map.remove old.allocated first) at to h.none,
+      ap (λ (s : Layout). s.allocated) e ∙ ap (λ m. map.remove m at) h.allocated ∙ remove-insert (map.remove old.allocated first) at to h.none,
       ap (λ (s : Layout). s.pages) e ∙ h.pages,
     )
+
+-- a span of the order can be taken afterwards, and what could be taken before still can
+pub orders_after : (old new : Layout) (first order k : ℕ) → CoalescesInto old new first order → HasNone new k → (order < k) × HasNone old k
+orders_after old new first order k h none =
+    let low = h.to_order in
+    let past : h.to < k = (elim (lt_or_ge h.to k) [ inl l ↦ l | inr g ↦ absurd (let clash : [] ≡ span_start first h.to ∷ free_at old h.to = sym (none h.to g h.to_within) ∙ h.in_front in cc) ]) in
+    (omega (arith, low, past), λ j from within. sym (h.upper j (omega (arith, past, from))) ∙ none j from within)
 
 -- ---- the first state
 

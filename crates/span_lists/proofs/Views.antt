@@ -6,16 +6,15 @@ use Rattle.std.specs.Ordering.{nat_cmp}
 use Rattle.std.specs.FinMap as map
 use Rattle.index_lists.specs.Lists.{Lists, list_at, with_list}
 use Rattle.common_lemmas.proofs.Orders.{lt_or_ge, trichotomy}
-use Rattle.common_lemmas.proofs.Orders.{lt_or_ge, trichotomy}
 use Rattle.common_lemmas.specs.Lists.{times, delete}
 use Rattle.span_lists.specs.declared.spans.PageState.{PageState}
 use Rattle.span_lists.specs.declared.spans.PageState.TheVariants.{Inside, Free, Allocated}
 use Rattle.span_lists.specs.Buddies.{buddy}
-use Rattle.span_lists.specs.Layout.{Layout, free_at, IsFree, IsAllocated, IsSpan, Divides, IsCoalesced, span_start}
+use Rattle.span_lists.specs.Layout.{Layout, free_at, IsFree, IsAllocated, IsSpan, Divides, IsCoalesced, free_pages, allocated_pages, span_start}
 use Rattle.span_lists.specs.inside.Pages.{order_of, allocated_order_of, mark, state_at, IsConsistent, allocated_of}
 use Rattle.common_lemmas.proofs.Options.{some_is}
 use Rattle.common_lemmas.proofs.Maps.{maps_same, get_inserted, get_past_insert, get_removed, get_past_remove}
-use Rattle.span_lists.proofs.AllocatedSpans.{get-allocated_of, state_of_allocated, allocated_with, allocated_without, state_same, state_other}
+use Rattle.span_lists.proofs.AllocatedSpans.{get-allocated_of, sum_allocated_of, state_of_allocated, allocated_with, allocated_without, state_same, state_other}
 use Rattle.span_lists.proofs.Consistent.{mark_same, free_of_mark, state_within, consistent_coalesce_pair}
 use Rattle.common_lemmas.proofs.Powers.{pow_twice}
 use Rattle.span_lists.proofs.Halves.{buddy_ends}
@@ -104,6 +103,10 @@ divides_of pages states lists free h =
 
 pub coalesced_of : (pages : ℕ) (states : List PageState) (lists : Lists) (free : ℕ) → IsConsistent pages states lists free → IsCoalesced (layout_of pages states lists)
 coalesced_of pages states lists free h = λ p k small f g. h.coalesced p k small (state_of_free pages states lists free p k h f) (state_of_free pages states lists free (buddy p k) k h g)
+
+-- the free spans and the allocated ones have all pages
+pub pages_of : (pages : ℕ) (states : List PageState) (lists : Lists) (free : ℕ) → IsConsistent pages states lists free → free_pages (layout_of pages states lists) + allocated_pages (layout_of pages states lists) ≡ pages
+pages_of pages states lists free h = (let sum = sum_allocated_of states in let t = h.total in let c = h.count in omega (arith, sum, t, c))
 
 -- ---- the value that each step leaves
 

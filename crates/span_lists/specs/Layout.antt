@@ -1,5 +1,5 @@
 -- Spans of pages: the free ones, in one list for each order, and those that are allocated.
-use Rattle.std.specs.Prelude.{◌≡◌, ◌≢◌, ℕ, ◌+◌, ◌*◌, ◌/◌, ◌<◌, ◌≤◌, ◌%◌, ◌^◌, ◌⊎◌, List, [], ◌∷◌, length, slice_get, slice_index_or, Option, Some, None, option_map, refl}
+use Rattle.std.specs.Prelude.{◌≡◌, ◌≢◌, ℕ, ◌+◌, ◌*◌, ◌/◌, ◌<◌, ◌≤◌, ◌%◌, ◌^◌, ◌⊎◌, List, [], ◌∷◌, length, slice_get, slice_index_or, Option, Some, None, option_map, sum_by, refl}
 use Rattle.std.specs.Ordering.{nat_cmp}
 use Rattle.std.specs.FinMap as map
 use Rattle.std.specs.Coded.{Coded, code_by, coded×, coded_ℕ, coded_list}
@@ -35,8 +35,8 @@ abbrev pub IsSpan : Layout → ℕ → ℕ → Type 0
 IsSpan s first order = IsFree s first order ⊎ IsAllocated s first order
 
 -- the pages of the allocated span at a page
-abbrev pub allocated_pages : map.FinMap nat_cmp ℕ → ℕ → Option ℕ
-allocated_pages allocated first = option_map (λ order. 2 ^ order) (map.get allocated first)
+abbrev pub pages_at : map.FinMap nat_cmp ℕ → ℕ → Option ℕ
+pages_at allocated first = option_map (λ order. 2 ^ order) (map.get allocated first)
 
 -- the free spans and the allocated ones divide the pages among them: each page lies in exactly one
 pub record Divides (s : Layout) : Type 0 where
@@ -47,7 +47,7 @@ pub record Divides (s : Layout) : Type 0 where
   pub one : (p j k : ℕ) → IsSpan s p j → IsSpan s p k → j ≡ k
   pub either : (p k : ℕ) → IsFree s p k → map.get s.allocated p ≡ None
   pub once : (p k : ℕ) → k < 17 → times p (free_at s k) ≤ 1
-  pub blocks : Blocks s.pages (allocated_pages s.allocated)
+  pub blocks : Blocks s.pages (pages_at s.allocated)
 
 -- coalescing is complete: no two buddies of one order below the greatest are both free
 abbrev pub IsCoalesced : Layout → Type 0
@@ -61,6 +61,10 @@ pages_from order (firsts ∷ lists) = 2 ^ order * length firsts + pages_from (or
 -- the sum of the free spans' lengths
 abbrev pub free_pages : Layout → ℕ
 free_pages s = pages_from 0 s.free
+
+-- the sum of the allocated spans' lengths
+abbrev pub allocated_pages : Layout → ℕ
+allocated_pages s = sum_by (λ order. 2 ^ order) (map.values s.allocated)
 
 -- no free span has the order or a greater one
 abbrev pub HasNone : Layout → ℕ → Type 0

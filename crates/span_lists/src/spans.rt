@@ -36,6 +36,7 @@ ghost use Rattle.span_lists.specs.Layout.{
   Divides,
   IsCoalesced,
   free_pages,
+  allocated_pages,
   HasNone,
   TakesFrom,
   CoalescesInto,
@@ -109,6 +110,7 @@ impl Spans {
         ensures divided { Divides self.now }
         ensures coalesced { IsCoalesced self.now }
         ensures blocked { (order : ℕ) → order ≤ 16 → HasNone self.now order → IsBlocked self.now order }
+        ensures pages { free_pages self.now + allocated_pages self.now ≡ self.now.pages }
     {
         let _ = &self.states;
     }
@@ -137,6 +139,7 @@ impl Spans {
         requires { IsAllocated self.old first order }
         ensures allocated { self.new.allocated ≡ map.remove self.old.allocated first }
         ensures free { CoalescesInto self.old self.new first order }
+        ensures orders { (k : ℕ) → HasNone self.new k → (order < k) × HasNone self.old k }
         ensures pages { self.new.pages ≡ self.old.pages }
         ensures divided { Divides self.new }
         ensures coalesced { IsCoalesced self.new }
@@ -167,6 +170,7 @@ impl Spans {
     /// The number of pages in free spans.
     pub fn free_pages(&self) -> u32
         ensures value { result ≡ free_pages self.now }
+        ensures rest { result + allocated_pages self.now ≡ self.now.pages }
         ensures most { result ≤ self.now.pages }
     {
         self.free

@@ -1,4 +1,4 @@
-use Rattle.span_lists.proofs.Steps.{gave, allocated_of_coalesced}
+use Rattle.span_lists.proofs.Steps.{gave, allocated_of_coalesced, orders_after}
 use Rattle.span_lists.proofs.spans.Spans.put.Goals as goal
 
 pub release-requires-clause-allocated : goal.release-requires-clause-allocated
@@ -12,3 +12,6 @@ returns-clause-free c = (gave _ _ _ _ _ _ _ c.coalesce-at.ensures.coalesces c.re
 
 pub returns-clause-pages : goal.returns-clause-pages
 returns-clause-pages c = (gave _ _ _ _ _ _ _ c.coalesce-at.ensures.coalesces c.release.ensures.moves).2
+
+pub returns-clause-orders : goal.returns-clause-orders
+returns-clause-orders c = λ k. orders_after _ _ _ _ k (returns-clause-free c)
