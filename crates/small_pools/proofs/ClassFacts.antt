@@ -28,21 +28,6 @@ all_in_bounds : agree_below in_bounds (λ _. true) 37 ≡ true
 unfolding in_bounds size_of order_of capacity_of
 all_in_bounds = refl
 
-pub is_class : (c : ℕ) → c < 37 → IsClass c
-unfolding in_bounds
-is_class c h =
-    let p0 = and_true _ _ (agree_below_at in_bounds (λ _. true) 37 c all_in_bounds h) in
-    let p1 = and_true _ _ p0.1 in let p2 = and_true _ _ p1.1 in let p3 = and_true _ _ p2.1 in let p4 = and_true _ _ p3.1 in
-    record {
-      within = h;
-      size_least = le_of _ _ p0.0;
-      size_most = le_of _ _ p1.0;
-      order_most = le_of _ _ p2.0;
-      capacity_least = le_of _ _ p3.0;
-      capacity_most = le_of _ _ p4.0;
-      fits = le_of _ _ p4.1;
-    }
-
 -- ---- the tables of the code
 
 abbrev pub orders : List ℕ
@@ -67,7 +52,7 @@ order_at c h = eq_of _ _ (agree_below_at (λ z. eqb (get_or orders z 0) (order_o
 pub capacity_at : (c : ℕ) → c < 37 → get_or capacities c 0 ≡ capacity_of c
 capacity_at c h = eq_of _ _ (agree_below_at (λ z. eqb (get_or capacities z 0) (capacity_of z)) (λ _. true) 37 c capacities_agree h)
 
--- ---- the class of a size
+-- ---- the sizes
 
 steps_agree : agree_below (λ k. eqb (size_of (suc k)) ((5 + k % 4) * 2 ^ (k / 4 + 3))) (λ _. true) 36 ≡ true
 unfolding size_of
@@ -96,6 +81,26 @@ sizes_rise c (suc d) h small =
       | inl l ↦ (let below = sizes_rise c d l (omega arith) in omega (arith, below, here))
       | inr g ↦ (let e : c ≡ d = omega arith in subst (λ z. size_of z < size_of (suc d)) (sym e) (omega (arith, here)))
     ]
+
+-- ---- what holds of each class
+
+pub is_class : (c : ℕ) → c < 37 → IsClass c
+unfolding in_bounds
+is_class c h =
+    let p0 = and_true _ _ (agree_below_at in_bounds (λ _. true) 37 c all_in_bounds h) in
+    let p1 = and_true _ _ p0.1 in let p2 = and_true _ _ p1.1 in let p3 = and_true _ _ p2.1 in let p4 = and_true _ _ p3.1 in
+    record {
+      within = h;
+      size_least = le_of _ _ p0.0;
+      size_most = le_of _ _ p1.0;
+      order_most = le_of _ _ p2.0;
+      capacity_least = le_of _ _ p3.0;
+      capacity_most = le_of _ _ p4.0;
+      fits = le_of _ _ p4.1;
+      above = λ smaller l. sizes_rise smaller c l h;
+    }
+
+-- ---- the least class of a size
 
 -- a size between two classes that follow each other has the upper one
 pub least_between : (size k : ℕ) → k < 36 → size_of k < size → size ≤ size_of (k + 1) → IsLeastClass size (k + 1)

@@ -4,13 +4,12 @@ use Rattle.std.proofs.lemmas.Bool.{cases_eq}
 use Rattle.std.proofs.lemmas.Cmp.{nat_cmp_total}
 use Rattle.std.specs.Ordering.{nat_cmp}
 use Rattle.std.specs.FinMap as map
-use Rattle.span_lists.specs.Layout.{Layout, IsAllocated, Divides}
-use Rattle.common_lemmas.proofs.Orders.{trichotomy}
+use Rattle.span_lists.specs.Layout.{Layout, IsAllocated, HasNone, Divides}
 use Rattle.common_lemmas.proofs.Orders.{trichotomy}
 use Rattle.common_lemmas.proofs.Maps.{get_inserted, get_past_insert, get_removed, get_past_remove}
 use Rattle.common_lemmas.proofs.Options.{some_is}
 use Rattle.small_pools.specs.Classes.{size_of, order_of}
-use Rattle.small_pools.specs.Objects.{Objects, slot_place, IsHeld, HasObject, HasRoom, IsUsedUp, AreHeldIn, Trims}
+use Rattle.small_pools.specs.Objects.{Objects, slot_place, IsHeld, HasObject, HasRoom, IsUsedUp, AreHeldIn, Trims, KeepsRoom}
 
 -- a span with room keeps the class from being used up
 pub not_used_up : (s : Objects) (f c : ℕ) → IsHeld s f c → HasRoom s f c → ¬ IsUsedUp s c
@@ -121,3 +120,24 @@ fewer_held mid new f c held e =
 
 pub still_used : (a b : Objects) (s t : Layout) (f c : ℕ) → Trims a b s t → (IsHeld a f c → HasObject a f c) → IsHeld b f c → HasObject b f c
 still_used a b s t f c p used h = same_objects a b f c p.allocated (used (p.kept f c h))
+
+-- ---- what can still be taken
+
+pub room_same : (s : Objects) (l : Layout) → KeepsRoom s s l l
+room_same s l = record { classes = λ class lacks. lacks; orders = λ order none. none }
+
+pub room_twice : (a b c : Objects) (s t u : Layout) → KeepsRoom a b s t → KeepsRoom b c t u → KeepsRoom a c s u
+room_twice a b c s t u p q = record { classes = λ class lacks. p.classes class (q.classes class lacks); orders = λ order none. p.orders order (q.orders order none) }
+
+-- a span that is given back stands for the objects that it could have held
+pub room_less : (old new : Objects) (s t : Layout) (f c : ℕ) → IsHeld old f c → new ≡ record old { held = map.remove old.held f } → ((k : ℕ) → HasNone t k → (order_of c < k) × HasNone s k) → KeepsRoom old new s t
+room_less old new s t f c held e orders = record {
+  classes = λ class lacks. (
+    λ first slot h within.
+        (let other : first ≢ f = (λ q. (let same : c ≡ class = some_is held (ap (map.get old.held) (sym q) ∙ h) in let past = (orders (order_of class) lacks.1).0 in absurd (omega (arith, past, ap order_of same)))) in
+        let still : IsHeld new first class = ap (λ (o : Objects). map.get o.held first) e ∙ get_past_remove old.held f first other ∙ h in
+        sym (ap (λ (o : Objects). map.get o.allocated (slot_place first class slot)) e) ∙ lacks.0 first slot still within),
+    (orders (order_of class) lacks.1).1,
+  );
+  orders = λ order none. (orders order none).1;
+}

@@ -33,6 +33,7 @@ pub record IsClass (class : ℕ) : Type 0 where
   pub capacity_least : 4 ≤ capacity_of class
   pub capacity_most : capacity_of class ≤ 128
   pub fits : capacity_of class * size_of class ≤ page * 2 ^ order_of class
+  pub above : (smaller : ℕ) → smaller < class → size_of smaller < size_of class
 
 -- the least class that holds the size
 pub record IsLeastClass (size class : ℕ) : Type 0 where

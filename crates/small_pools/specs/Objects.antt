@@ -5,7 +5,7 @@ use Rattle.std.specs.FinMap as map
 use Rattle.std.specs.Coded.{Coded, code_by, coded×, coded_ℕ}
 use Rattle.layout.specs.Sizes.{page}
 use Rattle.layout.specs.Extents.{Blocks}
-use Rattle.span_lists.specs.Layout.{Layout, IsAllocated}
+use Rattle.span_lists.specs.Layout.{Layout, IsAllocated, HasNone}
 use Rattle.small_pools.specs.Classes.{size_of, order_of, capacity_of, IsClass}
 
 -- held: the class of each span that the pools hold, by its first page. allocated: the size of each allocated object, by its first byte
@@ -38,6 +38,14 @@ HasRoom s first class = (slot : ℕ) × (slot < capacity_of class) × (map.get s
 -- the class has no free object
 abbrev pub IsUsedUp : Objects → ℕ → Type 0
 IsUsedUp s class = (first slot : ℕ) → IsHeld s first class → slot < capacity_of class → map.get s.allocated (slot_place first class slot) ≡ Some (size_of class)
+
+-- each span that the pools hold has an allocated object
+abbrev pub AreUsed : Objects → Type 0
+AreUsed s = (first class : ℕ) → IsHeld s first class → HasObject s first class
+
+-- no object of the class can be taken: it has no free one, and no span of its order is free
+abbrev pub LacksObject : Objects → Layout → ℕ → Type 0
+LacksObject s spans class = IsUsedUp s class × HasNone spans (order_of class)
 
 -- an object stands in a slot of a span of its class, and within the pages of the span
 pub record IsObject (s : Objects) (place size : ℕ) : Type 0 where
@@ -77,3 +85,8 @@ pub record Trims (old new : Objects) (spans spans' : Layout) : Type 0 where
   pub left : (first class : ℕ) → IsHeld old first class → HasObject old first class → IsHeld new first class
   pub given : (first class : ℕ) → IsHeld old first class → map.get new.held first ≡ None → map.get spans'.allocated first ≡ None
   pub others : (first : ℕ) → map.get old.held first ≡ None → map.get spans'.allocated first ≡ map.get spans.allocated first
+
+-- what could be taken still can, objects and spans
+pub record KeepsRoom (old new : Objects) (spans spans' : Layout) : Type 0 where
+  pub classes : (class : ℕ) → LacksObject new spans' class → LacksObject old spans class
+  pub orders : (order : ℕ) → HasNone spans' order → HasNone spans order

@@ -40,6 +40,9 @@ ghost use Rattle.small_pools.specs.Objects.{
   AreHeldIn,
   HoldsFor,
   Trims,
+  AreUsed,
+  LacksObject,
+  KeepsRoom,
   slot_place,
 };
 
@@ -118,7 +121,7 @@ impl Pools {
     pub fn take(&mut self, spans: &mut Spans, class: u8) -> Option<u32>
         requires class { class < 37 }
         requires held { AreHeldIn self.old spans.old }
-        ensures none { IsNone result ↔ (IsUsedUp self.old class × HasNone spans.old (order_of class)) }
+        ensures none { IsNone result ↔ LacksObject self.old spans.old class }
         ensures unchanged { IfNone result ((self.new ≡ self.old) × (spans.new ≡ spans.old)) }
         ensures was_free { IfSome result (λ place. map.get self.old.allocated place ≡ None) }
         ensures allocated { IfSome result (λ place. self.new.allocated ≡ map.insert self.old.allocated place (size_of class)) }
@@ -151,8 +154,10 @@ impl Pools {
     /// Gives each span back to the pages that has no allocated object.
     pub fn trim(&mut self, spans: &mut Spans)
         requires { AreHeldIn self.old spans.old }
-        ensures used { (first class : ℕ) → IsHeld self.new first class → HasObject self.new first class }
+        ensures used { AreUsed self.new }
         ensures trims { Trims self.old self.new spans.old spans.new }
+        ensures room { KeepsRoom self.old self.new spans.old spans.new }
+        ensures unchanged { AreUsed self.old → (self.new ≡ self.old) × (spans.new ≡ spans.old) }
         ensures held { AreHeldIn self.new spans.new }
         ensures objects { AreObjects self.new }
         ensures divided { Divides spans.new }
@@ -180,6 +185,8 @@ impl Pools {
         requires coalesced { IsCoalesced spans.old }
         ensures used { (class : ℕ) → IsHeld self.new first class → HasObject self.new first class }
         ensures trims { Trims self.old self.new spans.old spans.new }
+        ensures room { KeepsRoom self.old self.new spans.old spans.new }
+        ensures unchanged { AreUsed self.old → (self.new ≡ self.old) × (spans.new ≡ spans.old) }
         ensures held { AreHeldIn self.new spans.new }
         ensures objects { AreObjects self.new }
         ensures divided { Divides spans.new }
@@ -213,7 +220,7 @@ impl Pools {
     fn span_with_room(&mut self, spans: &mut Spans, class: u8) -> Option<u32>
         requires class { class < 37 }
         requires held { AreHeldIn self.old spans.old }
-        ensures none { IsNone result ↔ (IsUsedUp self.old class × HasNone spans.old (order_of class)) }
+        ensures none { IsNone result ↔ LacksObject self.old spans.old class }
         ensures unchanged { IfNone result ((self.new ≡ self.old) × (spans.new ≡ spans.old)) }
         ensures found { IfSome result (λ first. IsHeld self.new first class) }
         ensures room { IfSome result (λ first. HasRoom self.new first class) }
