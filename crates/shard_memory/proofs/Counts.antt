@@ -11,7 +11,7 @@ use Rattle.span_lists.specs.Layout.{Layout, HasNone, IsBlocked}
 use Rattle.common_lemmas.proofs.Powers.{aligned_step, coarser, nested, start_is}
 use Rattle.std.proofs.lemmas.Nat.{pow_pos}
 use Rattle.small_pools.specs.Classes.{IsClass, capacity_of, order_of, size_of}
-use Rattle.small_pools.specs.Objects.{Objects, slot_place, IsHeld, HasObject}
+use Rattle.small_pools.specs.Objects.{Objects, AreUsed, slot_place}
 use Rattle.shard_memory.specs.inside.Parts.{IsConsistent, segments_of, blocks_of}
 use Rattle.shard_memory.proofs.Lists.{has_cases, both_kinds}
 
@@ -52,14 +52,14 @@ run_inside : (b n : ℕ) → b < n / 32 → 32 * b + 2 ^ 5 ≤ n
 run_inside b n l = omega (arith, l)
 
 -- a slot of a span lies in its pages
-slot_within : (first class slot : ℕ) → IsClass class → slot < capacity_of class → (page * first ≤ slot_place first class slot) × (slot_place first class slot + size_of class ≤ page * (first + 2 ^ order_of class))
+pub slot_within : (first class slot : ℕ) → IsClass class → slot < capacity_of class → (page * first ≤ slot_place first class slot) × (slot_place first class slot + size_of class ≤ page * (first + 2 ^ order_of class))
 slot_within first class slot is within =
     let fits = is.fits in
     let more : (slot + 1) * size_of class ≤ capacity_of class * size_of class = mul-le-mul_right (size_of class) (omega arith) in
     (omega arith, omega (arith, more, fits))
 
 -- a piece begins in each aligned run
-in_each_run : (n : ℕ) (allocated : List Extent) (spans : Layout) (pools : Objects) (b : ℕ) → IsConsistent n allocated spans pools → IsBlocked spans 5 → ((first class : ℕ) → IsHeld pools first class → HasObject pools first class) → b < n / 32
+in_each_run : (n : ℕ) (allocated : List Extent) (spans : Layout) (pools : Objects) (b : ℕ) → IsConsistent n allocated spans pools → IsBlocked spans 5 → AreUsed pools → b < n / 32
     → (p : Extent) × Contains allocated p × (p.start / 131072 ≡ b)
 in_each_run n allocated spans pools b h blocked used small =
     let a = start_of_run b in
@@ -88,7 +88,7 @@ in_each_run n allocated spans pools b h blocked used small =
           (extent (slot_place first c.0 o.0) allocated_at.0, allocated_at.2, in_run (slot_place first c.0 o.0) b (omega (arith, low_at, begins)) (omega (arith, high_at, ends, some))))
     ]
 
-pub pieces_enough : (n : ℕ) (allocated : List Extent) (spans : Layout) (pools : Objects) → IsConsistent n allocated spans pools → IsBlocked spans 5 → ((first class : ℕ) → IsHeld pools first class → HasObject pools first class)
+pub pieces_enough : (n : ℕ) (allocated : List Extent) (spans : Layout) (pools : Objects) → IsConsistent n allocated spans pools → IsBlocked spans 5 → AreUsed pools
     → n / 32 ≤ length (segments_of allocated) + length (blocks_of allocated)
 pieces_enough n allocated spans pools h blocked used =
     let all = all_there (n / 32) (runs allocated) (λ b l. (let p = in_each_run n allocated spans pools b h blocked used l in subst (λ z. 1 ≤ times z (runs allocated)) p.2 (has_run p.0 allocated p.1))) in
@@ -98,5 +98,5 @@ pieces_enough n allocated spans pools h blocked used =
 
 -- where no span of a small order is free, and each pool span has an allocated object
 pub crowded : (n order : ℕ) (allocated : List Extent) (spans : Layout) (pools : Objects) → IsConsistent n allocated spans pools → order ≤ 4 → HasNone spans order → ((o : ℕ) → o ≤ 16 → HasNone spans o → IsBlocked spans o)
-    → ((first class : ℕ) → IsHeld pools first class → HasObject pools first class) → n / 32 ≤ length (segments_of allocated) + length (blocks_of allocated)
+    → AreUsed pools → n / 32 ≤ length (segments_of allocated) + length (blocks_of allocated)
 crowded n order allocated spans pools h small none blocked used = pieces_enough n allocated spans pools h (blocked 5 (omega arith) (λ k low high. none k (omega arith) high)) used

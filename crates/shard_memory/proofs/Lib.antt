@@ -3,3 +3,5 @@ pub mod Lists
 pub mod Steps
 pub mod Given
 pub mod Rooms
+pub mod Changes
+pub mod PagesOut

@@ -47,7 +47,7 @@ still_has p q ps h =
       λ e. (let clash : false ≡ true = sym (ap not (eq-eqb q.start p.start e)) ∙ passes in cc),
     )
 
-not_apart : (p q : Extent) → 0 < p.len → 0 < q.len → p.start ≡ q.start → ¬ Disjoint p q
+pub not_apart : (p q : Extent) → 0 < p.len → 0 < q.len → p.start ≡ q.start → ¬ Disjoint p q
 not_apart p q some more e (inl a) = omega (arith, a, some, e)
 not_apart p q some more e (inr a) = omega (arith, a, more, e)
 

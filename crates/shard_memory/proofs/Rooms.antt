@@ -7,7 +7,7 @@ use Rattle.std.specs.FinMap as map
 use Rattle.common_lemmas.proofs.Orders.{lt_or_ge}
 use Rattle.span_lists.specs.Layout.{Layout, free_at, HasNone}
 use Rattle.small_pools.specs.Classes.{size_of, order_of, capacity_of}
-use Rattle.small_pools.specs.Objects.{Objects, AreObjects, IsHeld, HasObject, IsUsedUp, slot_place}
+use Rattle.small_pools.specs.Objects.{Objects, AreObjects, AreUsed, IsUsedUp, LacksObject, slot_place}
 use Rattle.shard_memory.specs.inside.Rooms.{each_below, test_some, is_some_with, is_empty, has_slot, is_unused, is_full, is_trimmed, is_used_up, has_none, gives_class, answers}
 
 -- ---- tests
@@ -66,7 +66,7 @@ empty_tells (x ∷ xs) e = absurd (let clash : false ≡ true = e in cc)
 
 -- ---- spans without an object
 
-pub trimmed_tells : (pools : Objects) → AreObjects pools → is_trimmed pools ≡ true → (first class : ℕ) → IsHeld pools first class → HasObject pools first class
+pub trimmed_tells : (pools : Objects) → AreObjects pools → is_trimmed pools ≡ true → AreUsed pools
 trimmed_tells pools objects e first class held =
     let span = (objects.spans first class held).1 in
     let some = pow_pos (order_of class) in
@@ -79,7 +79,7 @@ trimmed_tells pools objects e first class held =
     back true w = absurd (let clash : false ≡ true = w in cc)
     back false w = refl
 
-pub trimmed_of : (pools : Objects) → ((first class : ℕ) → IsHeld pools first class → HasObject pools first class) → is_trimmed pools ≡ true
+pub trimmed_of : (pools : Objects) → AreUsed pools → is_trimmed pools ≡ true
 trimmed_of pools used = each_of pools.pages _ (λ first l. go first (map.get pools.held first) refl)
   where
     go : (first : ℕ) (o : Option ℕ) → map.get pools.held first ≡ o → test_some o (λ class. not (is_unused pools first class)) ≡ true
@@ -129,7 +129,7 @@ none_of spans order none = each_of 17 _ (λ k high. elim (lt_or_ge k order) [
 pub lacks_of : (spans : Layout) (pools : Objects) (class : ℕ) → IsUsedUp pools class → HasNone spans (order_of class) → gives_class spans pools class ≡ false
 lacks_of spans pools class used none = ap (λ b. not (b && has_none spans (order_of class))) (used_up_of pools class used) ∙ ap not (none_of spans (order_of class) none)
 
-pub lacks_tells : (spans : Layout) (pools : Objects) (class : ℕ) → AreObjects pools → gives_class spans pools class ≡ false → IsUsedUp pools class × HasNone spans (order_of class)
+pub lacks_tells : (spans : Layout) (pools : Objects) (class : ℕ) → AreObjects pools → gives_class spans pools class ≡ false → LacksObject pools spans class
 lacks_tells spans pools class objects e =
     let both = not_false (is_used_up pools class && has_none spans (order_of class)) e in (
       used_up_tells pools class objects (and_left (is_used_up pools class) (has_none spans (order_of class)) both),
@@ -144,10 +144,10 @@ answer_at (suc n) from test (suc k) l = answer_at n (suc from) test k (omega (ar
 
 -- the same as callers see it
 
-pub class_lacks_of : (spans : Layout) (pools : Objects) (class : ℕ) → class < 37 → IsUsedUp pools class × HasNone spans (order_of class) → get_or (answers 37 0 (gives_class spans pools)) class false ≡ false
+pub class_lacks_of : (spans : Layout) (pools : Objects) (class : ℕ) → class < 37 → LacksObject pools spans class → get_or (answers 37 0 (gives_class spans pools)) class false ≡ false
 class_lacks_of spans pools class within h = answer_at 37 0 (gives_class spans pools) class within ∙ ap (gives_class spans pools) (zero-add class) ∙ lacks_of spans pools class h.0 h.1
 
-pub class_lacks_tells : (spans : Layout) (pools : Objects) (class : ℕ) → class < 37 → AreObjects pools → get_or (answers 37 0 (gives_class spans pools)) class false ≡ false → IsUsedUp pools class × HasNone spans (order_of class)
+pub class_lacks_tells : (spans : Layout) (pools : Objects) (class : ℕ) → class < 37 → AreObjects pools → get_or (answers 37 0 (gives_class spans pools)) class false ≡ false → LacksObject pools spans class
 class_lacks_tells spans pools class within objects e = lacks_tells spans pools class objects (sym (answer_at 37 0 (gives_class spans pools) class within ∙ ap (gives_class spans pools) (zero-add class)) ∙ e)
 
 pub segment_lacks_of : (spans : Layout) → HasNone spans 5 → not (has_none spans 5) ≡ false

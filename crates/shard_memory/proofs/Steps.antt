@@ -21,8 +21,8 @@ in_span : (n : ℕ) (allocated : List Extent) (spans : Layout) (pools : Objects)
 in_span n allocated spans pools q h has = elim (h.pieces q has) [
   | inl s ↦ (let len = s.0 in let at = s.1.1 in (s.1.0, 5, s.1.2, omega (arith, at), omega (arith, at, len)))
   | inr b ↦
-      (let o = h.objects.slots q.start b.0 b.1 in
-      let low = o.from in let high = o.to in let len = b.2 in
+      (let o = h.objects.slots q.start (size_of b.0) b.2 in
+      let low = o.from in let high = o.to in let len = b.1.holds in
       (o.first, order_of o.class, h.held.allocated o.first o.class o.held, low, omega (arith, high, len)))
 ]
 
@@ -121,9 +121,9 @@ segment_returned n allocated spans spans' pools p first h has len at is e same d
 pub segment_span : (n : ℕ) (allocated : List Extent) (spans : Layout) (pools : Objects) (p : Extent) → IsConsistent n allocated spans pools → Contains allocated p → p.len ≡ 131072 → (first : ℕ) × (p.start ≡ 4096 * first) × IsAllocated spans first 5
 segment_span n allocated spans pools p h has len = elim (h.pieces p has) [
   | inl s ↦ s.1
-  | inr b ↦ absurd (let t = h.objects.slots p.start b.0 b.1 in
+  | inr b ↦ absurd (let t = h.objects.slots p.start (size_of b.0) b.2 in
       let most = (h.objects.spans t.first t.class t.held).0.size_most in
-      let fits = b.2 in let size_is = t.size_is in
+      let fits = b.1.holds in let size_is = t.size_is in
       omega (arith, len, most, fits, size_is))
 ]
 
@@ -142,9 +142,9 @@ block_facts n allocated spans pools p h has =
       elim (h.pieces p a.0) [
         | inl s ↦ absurd (let clash : false ≡ true = sym (ap not (segment_is p s.0)) ∙ a.1 in cc)
         | inr b ↦
-            (let o = h.objects.slots p.start b.0 b.1 in
+            (let o = h.objects.slots p.start (size_of b.0) b.2 in
             let most = (h.objects.spans o.first o.class o.held).0.size_most in
-            let fits = b.2 in let size_is = o.size_is in
+            let fits = b.1.holds in let size_is = o.size_is in
             omega (arith, most, fits, size_is))
       ],
     )
@@ -173,7 +173,7 @@ block_returned n allocated spans pools pools' p h has len e held pages objects b
       few = (let less = fewer_blocks p allocated in let f = h.few in omega (arith, less, f));
       pieces = λ q has'. (let s = still_has p q allocated has' in elim (h.pieces q s.0) [
         | inl t ↦ inl t
-        | inr b ↦ inr (b.0, ap (λ m. map.get m q.start) e ∙ get_past_remove pools.allocated p.start q.start s.1 ∙ b.1, b.2)
+        | inr b ↦ inr (b.0, b.1, ap (λ m. map.get m q.start) e ∙ get_past_remove pools.allocated p.start q.start s.1 ∙ b.2)
       ]);
       spans_allocated = λ g k o. elim (h.spans_allocated g k o) [
         | inl s ↦ inl (
@@ -205,7 +205,7 @@ trimmed n allocated spans spans' pools pools' h t held objects divided coalesced
   few = h.few;
   pieces = λ q has. elim (h.pieces q has) [
     | inl s ↦ inl (s.0, (s.1.0, s.1.1, t.others s.1.0 (none_held s.1.0 s.1.2 (map.get pools.held s.1.0) refl) ∙ s.1.2))
-    | inr b ↦ inr (b.0, ap (λ m. map.get m q.start) t.allocated ∙ b.1, b.2)
+    | inr b ↦ inr (b.0, b.1, ap (λ m. map.get m q.start) t.allocated ∙ b.2)
   ];
   spans_allocated = λ g k o. was g k o (map.get pools.held g) (map.get pools'.held g) refl refl;
   objects_allocated = λ a size o. h.objects_allocated a size (sym (ap (λ m. map.get m a) t.allocated) ∙ o);
@@ -275,10 +275,10 @@ block_apart n allocated spans spans' pools pools' at class len h free e holds he
             | inr (inr l) ↦ (let a = divided.apart s.1.0 t.first 5 (order_of t.class) (inr there) (inr here) l in inr (omega (arith, a, low, q_at, q_len)))
           ])
       | inr b ↦
-          (let other : q.start ≢ at = (λ y. (let clash : Some b.0 ≡ None = sym b.1 ∙ ap (map.get pools.allocated) y ∙ free in cc)) in
-          let there : map.get pools'.allocated q.start ≡ Some b.0 = ap (λ m. map.get m q.start) e ∙ get_past_insert pools.allocated at (size_of class) q.start other ∙ b.1 in
-          let q_len = b.2 in
-          elim (objects.blocks.disjoint q.start at b.0 (size_of class) there now other) [
+          (let other : q.start ≢ at = (λ y. (let clash : Some (size_of b.0) ≡ None = sym b.2 ∙ ap (map.get pools.allocated) y ∙ free in cc)) in
+          let there : map.get pools'.allocated q.start ≡ Some (size_of b.0) = ap (λ m. map.get m q.start) e ∙ get_past_insert pools.allocated at (size_of class) q.start other ∙ b.2 in
+          let q_len = b.1.holds in
+          elim (objects.blocks.disjoint q.start at (size_of b.0) (size_of class) there now other) [
             | inl a ↦ inr (omega (arith, a, q_len))
             | inr a ↦ inl (omega (arith, a, fits))
           ])
@@ -288,10 +288,11 @@ one_more : (p : Extent) (allocated : List Extent) → length (blocks_of (p ∷ a
 one_more p allocated = elim (is_segment p) as (λ b. length (cond (not b) (p ∷ filter is_block allocated) (filter is_block allocated)) ≤ length (filter is_block allocated) + 1) [ true ↦ omega arith | false ↦ omega arith ]
 
 pub gave_block : (n : ℕ) (allocated : List Extent) (spans spans' : Layout) (pools pools' : Objects) (at class len : ℕ) → IsConsistent n allocated spans pools → map.get pools.allocated at ≡ None → pools'.allocated ≡ map.insert pools.allocated at (size_of class)
-    → pools'.pages ≡ pools.pages → HoldsFor pools pools' spans spans' class → AreHeldIn pools' spans' → AreObjects pools' → Divides spans' → IsCoalesced spans' → len ≤ size_of class → length (blocks_of allocated) < 1024 → AreDisjoint (4096 * n) (extent at len ∷ allocated)
+    → pools'.pages ≡ pools.pages → HoldsFor pools pools' spans spans' class → AreHeldIn pools' spans' → AreObjects pools' → Divides spans' → IsCoalesced spans' → IsLeastClass len class → length (blocks_of allocated) < 1024 → AreDisjoint (4096 * n) (extent at len ∷ allocated)
     → IsConsistent n (extent at len ∷ allocated) spans' pools'
-gave_block n allocated spans spans' pools pools' at class len h free e pages holds held objects divided coalesced fits few blocks =
+gave_block n allocated spans spans' pools pools' at class len h free e pages holds held objects divided coalesced least few blocks =
     let p = extent at len in
+    let fits = least.holds in
     record {
       most = h.most;
       whole = h.whole;
@@ -299,10 +300,10 @@ gave_block n allocated spans spans' pools pools' at class len h free e pages hol
       blocks = blocks;
       few = (let more = one_more p allocated in omega (arith, more, few));
       pieces = λ q has. elim (has_cases p q allocated has) [
-        | inl w ↦ inr (subst (IsBlockAt pools') w (size_of class, ap (λ m. map.get m at) e ∙ get_inserted pools.allocated at (size_of class) at refl, fits))
+        | inl w ↦ inr (subst (IsBlockAt pools') w (class, least, ap (λ m. map.get m at) e ∙ get_inserted pools.allocated at (size_of class) at refl))
         | inr old ↦ elim (h.pieces q old) [
           | inl s ↦ inl (s.0, (s.1.0, s.1.1, still_allocated pools pools' spans spans' class s.1.0 5 holds s.1.2))
-          | inr b ↦ inr (b.0, ap (λ m. map.get m q.start) e ∙ get_past_insert pools.allocated at (size_of class) q.start (λ y. (let clash : Some b.0 ≡ None = sym b.1 ∙ ap (map.get pools.allocated) y ∙ free in cc)) ∙ b.1, b.2)
+          | inr b ↦ inr (b.0, b.1, ap (λ m. map.get m q.start) e ∙ get_past_insert pools.allocated at (size_of class) q.start (λ y. (let clash : Some (size_of b.0) ≡ None = sym b.2 ∙ ap (map.get pools.allocated) y ∙ free in cc)) ∙ b.2)
         ]
       ];
       spans_allocated = λ g k o. elim (was_allocated pools pools' spans spans' class g k holds o) [

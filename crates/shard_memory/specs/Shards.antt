@@ -1,13 +1,13 @@
 -- The memory of one shard, as its callers think of it: the blocks that stay, the segments, and what can still be given.
-use Rattle.std.specs.Prelude.{◌≡◌, ℕ, ◌+◌, ◌*◌, ◌/◌, ◌≤◌, Bool, true, false, List, length, slice_index_or, All, Contains, refl}
+use Rattle.std.specs.Prelude.{◌≡◌, ℕ, ◌+◌, ◌*◌, ◌/◌, ◌≤◌, ◌^◌, ◌⊎◌, Bool, true, false, List, length, slice_index_or, All, Contains, refl}
 use Rattle.std.specs.Ordering.{nat_cmp}
 use Rattle.std.specs.FinMap as map
 use Rattle.std.specs.Coded.{Coded, code_by, coded×, coded_list, coded_ℕ, coded_bool}
 use denote.RawPtr.{Ptr, coded_ptr}
-use Rattle.layout.specs.Sizes.{page, segment_pages}
+use Rattle.layout.specs.Sizes.{page, segment_pages, greatest_block}
 use Rattle.layout.specs.Extents.{Extent, Disjoint, AreDisjoint, extent_code}
 use Rattle.raw_range.specs.Memory.{Lent, extent_of}
-use Rattle.small_pools.specs.Classes.{size_of, IsLeastClass}
+use Rattle.small_pools.specs.Classes.{size_of, order_of, IsLeastClass}
 
 -- what can still be given. classes: of each class, whether a block of it can. segment: whether a segment can. trimmed: whether `trim` would give nothing back
 pub record Room : Type 0 where
@@ -16,7 +16,7 @@ pub record Room : Type 0 where
   pub trimmed : Bool
 
 -- home and owner: those of its pieces. blocks: the pieces of `give_here`, the last one in front. objects: how many bytes are set aside for each of these, by its place.
--- segments: the pieces of `give_segment`. pages_out: the number of pages that are in no free span
+-- segments: the pieces of `give_segment`. pages_out: the number of pages in allocated spans
 pub record Shard : Type 0 where
   pub home : Ptr
   pub owner : ℕ
@@ -43,6 +43,10 @@ shard_code =
 -- the most pieces of `give_here` at once
 abbrev pub most_blocks : ℕ
 most_blocks = 1024
+
+-- the pages of the longest span from which blocks come
+abbrev pub longest_span : ℕ
+longest_span = 16
 
 -- the blocks and the segments lie within the pages, and each two of them are disjoint
 pub record AreApart (s : Shard) : Type 0 where
@@ -82,3 +86,17 @@ IsCrowded s = s.pages / segment_pages ≤ length s.segments + length s.blocks
 -- an object of the least class that holds the size was set aside at the place, and no other
 abbrev pub SetsAside : Shard → Shard → ℕ → ℕ → Type 0
 SetsAside old new size at = (class : ℕ) × IsLeastClass size class × (new.objects ≡ map.insert old.objects at (size_of class))
+
+-- the pages out are as many as before, or more by a span of the least class that holds the size
+abbrev pub TakesPages : Shard → Shard → ℕ → Type 0
+TakesPages old new size = (new.pages_out ≡ old.pages_out) ⊎ ((class : ℕ) × IsLeastClass size class × (new.pages_out ≡ old.pages_out + 2 ^ order_of class))
+
+-- what could be given still can
+pub record KeepsRoom (old new : Shard) : Type 0 where
+  pub classes : (class : ℕ) → LacksClass new class → LacksClass old class
+  pub segment : LacksSegment new → LacksSegment old
+
+-- a block of each size up to the greatest can be given, and a segment
+pub record HasAllRoom (s : Shard) : Type 0 where
+  pub blocks : (size : ℕ) → size ≤ greatest_block → ¬ LacksBlock s size
+  pub segment : ¬ LacksSegment s

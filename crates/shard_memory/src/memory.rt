@@ -25,7 +25,7 @@ ghost use Rattle.std.specs.FinMap as map;
 ghost use Rattle.layout.specs.Extents.{extent, Disjoint, AreDisjoint, Blocks};
 ghost use Rattle.layout.specs.Sizes.{page, segment, segment_pages, segment_order, most_pages, most_pieces, greatest_block, ArePages};
 ghost use Rattle.raw_range.specs.Memory.{Lent, extent_of, with_allocated, remove_extent};
-ghost use Rattle.span_lists.specs.Layout.{IsAllocated, Divides, IsCoalesced};
+ghost use Rattle.span_lists.specs.Layout.{IsAllocated, Divides, IsCoalesced, HasNone};
 ghost use Rattle.small_pools.specs.Classes.{IsClass, IsLeastClass};
 ghost use Rattle.small_pools.specs.Objects.{AreObjects};
 ghost use Rattle.shard_memory.specs.Shards.{
@@ -38,6 +38,10 @@ ghost use Rattle.shard_memory.specs.Shards.{
   IsTrimmed,
   IsCrowded,
   SetsAside,
+  TakesPages,
+  KeepsRoom,
+  HasAllRoom,
+  longest_span,
 };
 ghost use Rattle.shard_memory.specs.Refusals.{RefusesFor, MeansCrowded};
 
@@ -59,8 +63,8 @@ pub struct ShardMemory {
 }
 
 impl Model for ShardMemory {
-    ghost use Rattle.std.specs.Prelude.{◌≡◌, ◌-◌};
-    ghost use Rattle.span_lists.specs.Layout.{free_pages};
+    ghost use Rattle.std.specs.Prelude.{◌≡◌};
+    ghost use Rattle.span_lists.specs.Layout.{allocated_pages};
     ghost use Rattle.shard_memory.specs.Shards.{Shard, shard_code};
     ghost use Rattle.shard_memory.specs.inside.Parts.{blocks_of, segments_of, IsConsistent};
     ghost use Rattle.shard_memory.specs.inside.Rooms.{room_of};
@@ -76,7 +80,7 @@ impl Model for ShardMemory {
       blocks = blocks_of a.range.allocated;
       objects = a.pools.allocated;
       segments = segments_of a.range.allocated;
-      pages_out = a.range.pages - free_pages a.spans;
+      pages_out = allocated_pages a.spans;
       room = room_of a.spans a.pools;
     } };
 
@@ -93,6 +97,8 @@ impl ShardMemory {
         ensures numbers { IfOk result (λ memory. (memory.owner ≡ shard) × (memory.pages ≡ pages)) }
         ensures blocks { IfOk result (λ memory. (memory.blocks ≡ []) × (memory.objects ≡ map.empty)) }
         ensures segments { IfOk result (λ memory. memory.segments ≡ []) }
+        ensures pages_out { IfOk result (λ memory. memory.pages_out ≡ 0) }
+        ensures room { IfOk result HasAllRoom }
         ensures trimmed { IfOk result IsTrimmed }
     {
         let range = Range::new(alloc, shard, pages)?;
@@ -108,14 +114,16 @@ impl ShardMemory {
 
     /// What holds of the memory at each time.
     ///
-    /// Where `trim` would give nothing back, want of room for a segment says that segments and blocks are together
-    /// at least a 32nd of the pages.
+    /// Where `trim` would give nothing back, each block keeps at most 16 pages out beside the segments' own, and want
+    /// of room for a segment says that segments and blocks are together at least a 32nd of the pages.
     pub fn facts(&self)
         ensures apart { AreApart self.now }
         ensures kinds { (piece : Lent) → IsSegmentOf self.now piece → ¬ IsBlockOf self.now piece }
         ensures objects { Blocks (page * self.now.pages) (map.get self.now.objects) }
         ensures segments { segment_pages * length self.now.segments ≤ self.now.pages }
         ensures few { length self.now.blocks ≤ most_blocks }
+        ensures pages_out { (segment_pages * length self.now.segments ≤ self.now.pages_out) × (self.now.pages_out ≤ self.now.pages) }
+        ensures trimmed { IsTrimmed self.now → self.now.pages_out ≤ segment_pages * length self.now.segments + longest_span * length self.now.blocks }
         ensures crowded { IsTrimmed self.now → LacksSegment self.now → IsCrowded self.now }
     {
         self.spans.facts();
@@ -137,7 +145,9 @@ impl ShardMemory {
         ensures zeros { IfOk result (λ piece. piece.bytes ≡ replicate size 0) }
         ensures blocks { IfOk result (λ piece. self.new.blocks ≡ extent_of piece ∷ self.old.blocks) }
         ensures least { IfOk result (λ piece. SetsAside self.old self.new size piece.at) }
+        ensures pages_out { IfOk result (λ _. TakesPages self.old self.new size) }
         ensures segments { self.new.segments ≡ self.old.segments }
+        ensures trimmed { IsTrimmed self.old → IsTrimmed self.new }
         ensures same { (self.new.home ≡ self.old.home) × (self.new.owner ≡ self.old.owner) × (self.new.pages ≡ self.old.pages) }
     {
         let class = class_for(size)?;
@@ -156,6 +166,8 @@ impl ShardMemory {
         ensures objects { self.new.objects ≡ map.remove self.old.objects piece.at }
         ensures segments { self.new.segments ≡ self.old.segments }
         ensures spans { (self.new.pages_out ≡ self.old.pages_out) × (self.new.room.segment ≡ self.old.room.segment) }
+        ensures kept { KeepsRoom self.old self.new }
+        ensures room { ¬ LacksBlock self.new (length piece.bytes) }
         ensures same { (self.new.home ≡ self.old.home) × (self.new.owner ≡ self.old.owner) × (self.new.pages ≡ self.old.pages) }
     {
         put_object(&mut self.pools, &piece);
@@ -165,6 +177,9 @@ impl ShardMemory {
     /// Gives each span of the pools back to the pages that has no allocated object.
     pub fn trim(&mut self)
         ensures trimmed { IsTrimmed self.new }
+        ensures unchanged { IsTrimmed self.old → self.new ≡ self.old }
+        ensures pages_out { self.new.pages_out ≤ self.old.pages_out }
+        ensures kept { KeepsRoom self.old self.new }
         ensures same { self.new ≡ record self.old { pages_out = self.new.pages_out; room = self.new.room } }
     {
         self.pools.trim(&mut self.spans);
@@ -181,6 +196,7 @@ impl ShardMemory {
         ensures segments { IfSome result (λ piece. self.new.segments ≡ extent_of piece ∷ self.old.segments) }
         ensures one_more { IfSome result (λ _. length self.new.segments ≡ length self.old.segments + 1) }
         ensures blocks { (self.new.blocks ≡ self.old.blocks) × (self.new.objects ≡ self.old.objects) }
+        ensures pages_out { IfSome result (λ _. self.new.pages_out ≡ self.old.pages_out + segment_pages) }
         ensures trimmed { self.new.room.trimmed ≡ self.old.room.trimmed }
         ensures same { (self.new.home ≡ self.old.home) × (self.new.owner ≡ self.old.owner) × (self.new.pages ≡ self.old.pages) }
     {
@@ -196,6 +212,8 @@ impl ShardMemory {
         ensures segments { self.new.segments ≡ remove_extent (extent_of piece) self.old.segments }
         ensures one_less { length self.new.segments + 1 ≡ length self.old.segments }
         ensures blocks { (self.new.blocks ≡ self.old.blocks) × (self.new.objects ≡ self.old.objects) }
+        ensures pages_out { self.new.pages_out + segment_pages ≡ self.old.pages_out }
+        ensures room { HasAllRoom self.new }
         ensures trimmed { self.new.room.trimmed ≡ self.old.room.trimmed }
         ensures same { (self.new.home ≡ self.old.home) × (self.new.owner ≡ self.old.owner) × (self.new.pages ≡ self.old.pages) }
     {
@@ -259,6 +277,7 @@ fn segment_at(range: &mut Range, first: u32) -> Piece
 fn put_span(spans: &mut Spans, given: &Piece)
     requires { IsAllocated spans.old (given.now.at / page) segment_order }
     ensures allocated { spans.new.allocated ≡ map.remove spans.old.allocated (given.now.at / page) }
+    ensures orders { (order : ℕ) → HasNone spans.new order → segment_order < order }
     ensures pages { spans.new.pages ≡ spans.old.pages }
     ensures divided { Divides spans.new }
     ensures coalesced { IsCoalesced spans.new }

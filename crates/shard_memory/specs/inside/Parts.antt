@@ -5,7 +5,7 @@ use Rattle.std.specs.FinMap as map
 use Rattle.layout.specs.Sizes.{page, segment, segment_pages, segment_order, most_pages}
 use Rattle.layout.specs.Extents.{Extent, extent, AreDisjoint}
 use Rattle.span_lists.specs.Layout.{Layout, IsAllocated, Divides, IsCoalesced}
-use Rattle.small_pools.specs.Classes.{order_of}
+use Rattle.small_pools.specs.Classes.{size_of, order_of, IsLeastClass}
 use Rattle.small_pools.specs.Objects.{Objects, IsHeld, AreHeldIn, AreObjects}
 use Rattle.shard_memory.specs.Shards.{most_blocks}
 
@@ -26,9 +26,9 @@ blocks_of allocated = filter is_block allocated
 abbrev pub IsSegmentAt : Layout → Extent → Type 0
 IsSegmentAt spans p = (p.len ≡ segment) × ((first : ℕ) × (p.start ≡ page * first) × IsAllocated spans first segment_order)
 
--- a block is an allocated object, or the first bytes of one
+-- a block is the first bytes of an allocated object of the least class that holds them
 abbrev pub IsBlockAt : Objects → Extent → Type 0
-IsBlockAt pools p = (size : ℕ) × (map.get pools.allocated p.start ≡ Some size) × (p.len ≤ size)
+IsBlockAt pools p = (class : ℕ) × IsLeastClass p.len class × (map.get pools.allocated p.start ≡ Some (size_of class))
 
 -- the pieces are disjoint and inside the pages; each is a segment or a block; each allocated span is a segment or held by the pools; each allocated object is a block
 pub record IsConsistent (pages : ℕ) (allocated : List Extent) (spans : Layout) (pools : Objects) : Type 0 where

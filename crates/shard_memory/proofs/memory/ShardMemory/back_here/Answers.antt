@@ -1,11 +1,11 @@
 use Rattle.layout.specs.Sizes.{page}
-use Rattle.std.proofs.Common.{◌≡◌, ◌+◌, ◌-◌, ◌*◌, length, is_some, sym, ap, subst, ◌∙◌}
+use Rattle.std.proofs.Common.{◌≡◌, ◌+◌, ◌*◌, length, is_some, refl, sym, ap, subst, ◌∙◌}
 use Rattle.layout.specs.Extents.{AreDisjoint}
 use Rattle.raw_range.specs.Memory.{Memory, extent_of, remove_extent}
-use Rattle.span_lists.specs.Layout.{free_pages}
 use Rattle.shard_memory.specs.Shards.{Shard, IsBlockOf}
 use Rattle.shard_memory.specs.inside.Parts.{IsConsistent, is_block, blocks_of, segments_of}
 use Rattle.shard_memory.proofs.Lists.{removed_block, same_segments, remove_one, disjoint_still}
+use Rattle.shard_memory.proofs.Changes.{shard_of, room_kept, kept_by_put, room_of_block}
 use Rattle.shard_memory.proofs.Steps.{block_facts, block_object, block_returned}
 use Rattle.shard_memory.proofs.memory.ShardMemory.back_here.Goals as goal
 
@@ -14,7 +14,7 @@ put_object-requires c =
     (let r = subst (λ (s : Shard). IsBlockOf s c.args.piece) (sym c.self.view_is) c.requires in
     let f = block_facts c.self.inside.range.pages c.self.inside.range.allocated c.self.inside.spans c.self.inside.pools (extent_of c.args.piece) c.self.invariant.1 r.1 in
     let b = block_object c.self.inside.range.pages c.self.inside.range.allocated c.self.inside.spans c.self.inside.pools (extent_of c.args.piece) c.self.invariant.1 f.0 f.1 in
-    ap is_some b.1)
+    ap is_some b.2)
 
 pub put-requires-clause-piece : goal.put-requires-clause-piece
 put-requires-clause-piece c =
@@ -54,6 +54,20 @@ returns-clause-segments c =
 
 pub returns-clause-spans : goal.returns-clause-spans
 returns-clause-spans c = (
-  ap (λ (m : Memory). m.pages - free_pages c.self.inside.spans) c.put.ensures.back ∙ ap (λ (s : Shard). s.pages_out) c.self.view_is,
+  ap (λ (s : Shard). s.pages_out) c.self.view_is,
   ap (λ (s : Shard). s.room.segment) c.self.view_is,
 )
+
+pub returns-clause-kept : goal.returns-clause-kept
+returns-clause-kept c =
+    room_kept c.self.inside.spans c.self.inside.spans c.self.inside.pools c.put_object.new.pools c.args.self.now _ c.put_object.ensures.objects
+    (kept_by_put c.self.inside.spans c.self.inside.pools c.put_object.new.pools c.args.piece.at c.put_object.ensures.allocated c.put_object.ensures.held)
+    (ap (λ (s : Shard). s.room) c.self.view_is) refl
+
+pub returns-clause-room : goal.returns-clause-room
+returns-clause-room c =
+    (let r = subst (λ (s : Shard). IsBlockOf s c.args.piece) (sym c.self.view_is) c.requires in
+    let f = block_facts c.self.inside.range.pages c.self.inside.range.allocated c.self.inside.spans c.self.inside.pools (extent_of c.args.piece) c.self.invariant.1 r.1 in
+    room_of_block c.self.inside.spans c.self.inside.pools c.put_object.new.pools (extent_of c.args.piece) (shard_of c.put.new.self c.self.inside.spans c.put_object.new.pools) c.self.invariant.1.objects
+    (block_object c.self.inside.range.pages c.self.inside.range.allocated c.self.inside.spans c.self.inside.pools (extent_of c.args.piece) c.self.invariant.1 f.0 f.1)
+    c.put_object.ensures.objects c.put_object.ensures.allocated c.put_object.ensures.held refl)

@@ -1,4 +1,4 @@
-use Rattle.std.proofs.Common.{◌*◌, ◌/◌, ◌≤◌, length, subst, sym, ◌∙◌, arith}
+use Rattle.std.proofs.Common.{◌+◌, ◌*◌, ◌/◌, ◌≤◌, length, subst, sym, ◌∙◌, arith}
 use Rattle.std.specs.FinMap as map
 use Rattle.layout.specs.Sizes.{page}
 use Rattle.layout.specs.Extents.{Blocks}
@@ -7,6 +7,7 @@ use Rattle.shard_memory.specs.Shards.{Shard, AreApart, IsBlockOf, IsSegmentOf, L
 use Rattle.shard_memory.specs.inside.Parts.{is_block, is_segment}
 use Rattle.shard_memory.proofs.Counts.{pieces_enough}
 use Rattle.shard_memory.proofs.Lists.{few_segments, disjoint_still, block_segment_apart, not_both}
+use Rattle.shard_memory.proofs.PagesOut.{segments_pages, pages_at_most}
 use Rattle.shard_memory.proofs.Rooms.{trimmed_tells, segment_lacks_tells}
 use Rattle.shard_memory.proofs.memory.ShardMemory.facts.Goals as goal
 
@@ -44,3 +45,14 @@ returns-clause-crowded c =
     subst (λ (s : Shard). IsTrimmed s → LacksSegment s → IsCrowded s) c.self.view_is
     (λ trimmed lacks. pieces_enough c.self.inside.range.pages c.self.inside.range.allocated c.self.inside.spans c.self.inside.pools c.self.invariant.1
     (c.facts.ensures.blocked 5 (omega arith) (segment_lacks_tells c.self.inside.spans lacks)) (trimmed_tells c.self.inside.pools c.self.invariant.1.objects trimmed))
+
+pub returns-clause-pages_out : goal.returns-clause-pages_out
+returns-clause-pages_out c =
+    subst (λ (s : Shard). (32 * length s.segments ≤ s.pages_out) × (s.pages_out ≤ s.pages)) c.self.view_is
+    (let all = c.facts.ensures.pages in let same = c.self.invariant.1.same in
+    (segments_pages c.self.inside.range.pages c.self.inside.range.allocated c.self.inside.spans c.self.inside.pools c.self.invariant.1, omega (arith, all, same)))
+
+pub returns-clause-trimmed : goal.returns-clause-trimmed
+returns-clause-trimmed c =
+    subst (λ (s : Shard). IsTrimmed s → s.pages_out ≤ 32 * length s.segments + 16 * length s.blocks) c.self.view_is
+    (λ trimmed. pages_at_most c.self.inside.range.pages c.self.inside.range.allocated c.self.inside.spans c.self.inside.pools c.self.invariant.1 (trimmed_tells c.self.inside.pools c.self.invariant.1.objects trimmed))

@@ -1,8 +1,8 @@
-use Rattle.std.proofs.Common.{◌≡◌, ℕ, ◌*◌, ◌<◌, ◌≤◌, ◌∷◌, length, get_or, false, refl, sym, ap, subst, ◌∙◌, arith}
+use Rattle.std.proofs.Common.{◌≡◌, ℕ, ◌+◌, ◌*◌, ◌^◌, inl, inr, ◌<◌, ◌≤◌, ◌∷◌, length, get_or, false, refl, sym, ap, subst, ◌∙◌, arith}
 use Rattle.std.specs.Prelude.{Contains}
 use Rattle.std.specs.FinMap as map
 use Rattle.small_pools.specs.Classes.{size_of, order_of}
-use Rattle.small_pools.specs.Objects.{IsUsedUp}
+use Rattle.small_pools.specs.Objects.{LacksObject}
 use Rattle.span_lists.specs.Layout.{HasNone, IsBlocked}
 use Rattle.std.proofs.lemmas.List.{length-replicate}
 use Rattle.layout.specs.Extents.{Extent, extent, Disjoint, AreDisjoint}
@@ -11,7 +11,9 @@ use Rattle.shard_memory.specs.Shards.{Shard, LacksBlock, IsTrimmed, IsCrowded}
 use Rattle.shard_memory.specs.inside.Parts.{IsConsistent, is_block, blocks_of, segments_of}
 use Rattle.shard_memory.proofs.Lists.{all_of, few_pieces, has_first, kept_by, block_is, block_added, block_leaves_segments}
 use Rattle.shard_memory.proofs.Counts.{crowded}
-use Rattle.shard_memory.proofs.Rooms.{class_lacks_of, class_lacks_tells, trimmed_tells}
+use Rattle.shard_memory.proofs.Changes.{used_still}
+use Rattle.shard_memory.proofs.PagesOut.{pages_taken}
+use Rattle.shard_memory.proofs.Rooms.{class_lacks_of, class_lacks_tells, trimmed_of, trimmed_tells}
 use Rattle.shard_memory.proofs.Steps.{block_inside, block_apart, gave_block, least_one}
 use Rattle.shard_memory.proofs.memory.ShardMemory.give_here.Goals as goal
 
@@ -33,7 +35,7 @@ invariant_of-self-2 c = (
   c.self.invariant.0 ∙ sym (ap (λ (m : Memory). m.pages) c.take-2.ensures.allocated),
   subst (λ (m : Memory). IsConsistent m.pages m.allocated c.take.new.spans c.take.new.self) (sym c.take-2.ensures.allocated)
       (gave_block c.self.inside.range.pages c.self.inside.range.allocated c.self.inside.spans c.take.new.spans c.self.inside.pools c.take.new.self c.in-Some.place c.in_ok-class.class c.args.size c.self.invariant.1 c.in-Some.ensures.was_free
-      c.in-Some.ensures.allocated c.in-Some.ensures.pages c.in-Some.ensures.spans c.in-Some.ensures.held c.in-Some.ensures.objects c.in-Some.ensures.divided c.in-Some.ensures.coalesced c.in_ok-class.ensures.least.holds
+      c.in-Some.ensures.allocated c.in-Some.ensures.pages c.in-Some.ensures.spans c.in-Some.ensures.held c.in-Some.ensures.objects c.in-Some.ensures.divided c.in-Some.ensures.coalesced c.in_ok-class.ensures.least
       (subst (λ (s : Shard). length s.blocks < 1024) (sym c.self.view_is) c.requires.few)
       (subst (λ (m : Memory). AreDisjoint (4096 * m.pages) m.allocated) c.take-2.ensures.allocated c.take-2.ensures.blocks)),
 )
@@ -44,7 +46,7 @@ returns-in_default-clause-refused c =
     let none = c.in_default.ensures.none.0 refl in (
       omega (arith, fits, most),
       λ k least. subst (λ (s : Shard). get_or s.room.classes k false ≡ false) c.self.view_is (class_lacks_of c.self.inside.spans c.self.inside.pools k least.within
-          (subst (λ z. IsUsedUp c.self.inside.pools z × HasNone c.self.inside.spans (order_of z)) (least_one c.args.size c.in_ok-class.class k c.in_ok-class.ensures.least least) none)),
+          (subst (LacksObject c.self.inside.pools c.self.inside.spans) (least_one c.args.size c.in_ok-class.class k c.in_ok-class.ensures.least least) none)),
     ))
 
 pub returns-clause-room : goal.returns-clause-room
@@ -95,3 +97,17 @@ returns-in_default-clause-crowded c =
     let same = c.in_default.ensures.unchanged.1 in
     crowded c.self.inside.range.pages (order_of c.in_ok-class.class) c.self.inside.range.allocated c.self.inside.spans c.self.inside.pools c.self.invariant.1 c.in_ok-class.ensures.bounds.order_most none
     (subst (λ s. (o : ℕ) → o ≤ 16 → HasNone s o → IsBlocked s o) same c.facts.ensures.blocked) (trimmed_tells c.self.inside.pools c.self.invariant.1.objects trimmed)))
+
+pub returns-clause-pages_out : goal.returns-clause-pages_out
+returns-clause-pages_out c =
+    let before = ap (λ (s : Shard). s.pages_out) c.self.view_is in
+    elim (pages_taken c.self.inside.pools c.take.new.self c.self.inside.spans c.take.new.spans c.in_ok-class.class c.in-Some.ensures.spans) [
+      | inl same ↦ inl (same ∙ before)
+      | inr more ↦ inr (c.in_ok-class.class, c.in_ok-class.ensures.least, more ∙ ap (λ n. n + 2 ^ order_of c.in_ok-class.class) before)
+    ]
+
+pub returns-clause-trimmed : goal.returns-clause-trimmed
+returns-clause-trimmed c = λ trimmed.
+    trimmed_of c.take.new.self
+    (used_still c.self.inside.pools c.take.new.self c.self.inside.spans c.take.new.spans c.in-Some.place c.in_ok-class.class c.in-Some.ensures.objects c.in-Some.ensures.was_free c.in-Some.ensures.allocated c.in-Some.ensures.spans
+    (trimmed_tells c.self.inside.pools c.self.invariant.1.objects (subst IsTrimmed (sym c.self.view_is) trimmed)))

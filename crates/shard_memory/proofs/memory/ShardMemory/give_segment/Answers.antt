@@ -1,4 +1,4 @@
-use Rattle.std.proofs.Common.{◌≡◌, ◌*◌, ◌%◌, ◌∷◌, inr, length, true, false, refl, sym, ap, subst, ◌∙◌, arith}
+use Rattle.std.proofs.Common.{◌≡◌, ◌+◌, ◌*◌, ◌%◌, ◌∷◌, inr, length, true, false, refl, sym, ap, subst, ◌∙◌, arith}
 use Rattle.std.specs.Prelude.{Contains}
 use Rattle.std.specs.FinMap as map
 use Rattle.common_lemmas.proofs.Maps.{get_inserted}
@@ -8,6 +8,7 @@ use Rattle.shard_memory.specs.Shards.{Shard, LacksSegment, IsTrimmed, IsCrowded}
 use Rattle.shard_memory.specs.inside.Parts.{IsConsistent, is_segment, blocks_of, segments_of}
 use Rattle.shard_memory.proofs.Counts.{pieces_enough}
 use Rattle.shard_memory.proofs.Lists.{all_of, few_pieces, has_first, kept_by, segment_is, segment_added, segment_leaves_blocks, whole_start}
+use Rattle.shard_memory.proofs.PagesOut.{pages_more}
 use Rattle.shard_memory.proofs.Rooms.{segment_lacks_of, segment_lacks_tells, trimmed_tells}
 use Rattle.shard_memory.proofs.Steps.{inside_pages, apart_from_span, gave_segment}
 use Rattle.shard_memory.proofs.memory.ShardMemory.give_segment.Goals as goal
@@ -75,3 +76,7 @@ returns-clause-blocks c = (
   ap (λ (m : Memory). blocks_of m.allocated) c.segment_at.ensures.allocated ∙ segment_leaves_blocks c.self.inside.range.allocated (extent (4096 * c.in-Some.first) 131072) refl ∙ ap (λ (s : Shard). s.blocks) c.self.view_is,
   ap (λ (s : Shard). s.objects) c.self.view_is,
 )
+
+pub returns-clause-pages_out : goal.returns-clause-pages_out
+returns-clause-pages_out c =
+    pages_more c.self.inside.spans c.take.new.self c.in-Some.first 5 c.in-Some.ensures.was_free c.in-Some.ensures.allocated ∙ ap (λ (s : Shard). s.pages_out + 32) c.self.view_is

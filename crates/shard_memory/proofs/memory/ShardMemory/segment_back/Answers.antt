@@ -1,11 +1,13 @@
 use Rattle.layout.specs.Sizes.{page}
-use Rattle.std.proofs.Common.{◌≡◌, ◌+◌, ◌*◌, ◌/◌, length, sym, ap, subst, ◌∙◌}
+use Rattle.std.proofs.Common.{◌≡◌, ◌+◌, ◌*◌, ◌/◌, length, refl, sym, ap, subst, ◌∙◌}
 use Rattle.std.specs.FinMap as map
 use Rattle.layout.specs.Extents.{AreDisjoint}
 use Rattle.raw_range.specs.Memory.{Memory, extent_of, remove_extent}
 use Rattle.shard_memory.specs.Shards.{Shard, IsSegmentOf}
 use Rattle.shard_memory.specs.inside.Parts.{IsConsistent, is_segment, blocks_of, segments_of}
 use Rattle.shard_memory.proofs.Lists.{page_of_start, same_blocks, removed_segment, remove_one, disjoint_still}
+use Rattle.shard_memory.proofs.Changes.{all_room}
+use Rattle.shard_memory.proofs.PagesOut.{pages_less}
 use Rattle.shard_memory.proofs.Steps.{segment_facts, segment_span, segment_returned}
 use Rattle.shard_memory.proofs.memory.ShardMemory.segment_back.Goals as goal
 
@@ -51,3 +53,14 @@ returns-clause-blocks c =
           ∙ ap (λ (s : Shard). s.blocks) c.self.view_is,
       ap (λ (s : Shard). s.objects) c.self.view_is,
     ))
+
+pub returns-clause-pages_out : goal.returns-clause-pages_out
+returns-clause-pages_out c =
+    (let r = subst (λ (s : Shard). IsSegmentOf s c.args.piece) (sym c.self.view_is) c.requires in
+    let f = segment_facts c.self.inside.range.allocated (extent_of c.args.piece) r.1 in
+    let s = segment_span c.self.inside.range.pages c.self.inside.range.allocated c.self.inside.spans c.self.inside.pools (extent_of c.args.piece) c.self.invariant.1 f.0 f.1 in
+    pages_less c.self.inside.spans c.put_span.new.spans s.0 5 s.2 (c.put_span.ensures.allocated ∙ ap (map.remove c.self.inside.spans.allocated) (ap (λ z. z / 4096) s.1 ∙ page_of_start s.0))
+    ∙ ap (λ (t : Shard). t.pages_out) c.self.view_is)
+
+pub returns-clause-room : goal.returns-clause-room
+returns-clause-room c = all_room c.put_span.new.spans c.self.inside.pools _ c.self.invariant.1.objects c.put_span.ensures.orders refl
