@@ -1,0 +1,117 @@
+-- The region is made of the segments of the memory, also after one more was given.
+use Rattle.std.proofs.Common.{◌≡◌, ◌≢◌, ◌⊎◌, inl, inr, ℕ, zero, suc, ◌+◌, ◌*◌, Bool, false, cond, List, [], ◌∷◌, length, replicate, refl, sym, ap, ◌∙◌, subst, arith}
+use Rattle.std.specs.Prelude.{Option, None, Some, slice_get, slice_set, Contains, option_map, map}
+use Rattle.std.specs.List.{count_by}
+use Rattle.std.proofs.lemmas.List.{map-set}
+use Rattle.std.proofs.lemmas.List.Sums.{sum_by-cons}
+use Rattle.std.proofs.lemmas.List.Elements.{All-contains}
+use Rattle.layout.specs.Sizes.{page}
+use Rattle.layout.specs.Extents.{Extent, extent, Disjoint, IsWithin, AreDisjoint}
+use Rattle.raw_range.specs.Memory.{Lent, extent_of}
+use Rattle.shard_memory.specs.Shards.{Shard, AreApart}
+use Rattle.regions.specs.Segments.{RegionState, with_segment, fresh}
+use Rattle.regions.specs.Shapes.{Identity, Slot, identity, slot_of, slots_of, shape, is_held, pieces, pieces_in, guards_of, held_count}
+use Rattle.reclaim.specs.inside.Consistent.{IsOf, HoldsAll, IsMadeOf}
+
+got-set : {X : Type 0} (xs : List X) (n m : ℕ) (x y : X) → slice_get (slice_set xs n x) m ≡ Some y → ((m ≡ n) × (x ≡ y)) ⊎ (slice_get xs m ≡ Some y)
+got-set [] n m x y e = inr e
+got-set (a ∷ xs) zero zero x y e = inl (refl, (let some : Some x ≡ Some y = e in cc))
+got-set (a ∷ xs) zero (suc m) x y e = inr e
+got-set (a ∷ xs) (suc n) zero x y e = inr e
+got-set (a ∷ xs) (suc n) (suc m) x y e = elim (got-set xs n m x y e) [ inl here ↦ inl (ap (λ k. suc k) here.0, here.1) | inr there ↦ inr there ]
+
+-- the pieces of a region with another segment at the number
+pieces-set : (r : RegionState) (n : ℕ) (piece : Lent) → pieces (with_segment r n (Some (fresh piece))) ≡ slice_set (pieces r) n (Some (identity piece))
+pieces-set r n piece =
+    ap (map (λ s. option_map (λ (b : Slot). b.piece) s)) (map-set (λ s. option_map slot_of s) r.segments n (Some (fresh piece)))
+    ∙ map-set (λ s. option_map (λ (b : Slot). b.piece) s) (slots_of r.segments) n (Some (slot_of (fresh piece)))
+
+-- a segment that was just given begins where no other one does
+module _ (old new : Shard) (given : Extent) (apart : AreApart new) (segments : new.segments ≡ given ∷ old.segments) where
+  pub still-contained : (p : Extent) → Contains old.segments p → Contains new.segments p
+  still-contained p h = subst (λ xs. Contains xs p) (sym segments) (suc h.0, (let inside = h.1 in omega arith), h.2)
+
+  begins-elsewhere : (p : Extent) → Contains old.segments p → p.start ≢ given.start
+  begins-elsewhere p h same =
+      let all = subst (AreDisjoint (page * new.pages)) segments apart.segments in
+      let within : IsWithin (page * new.pages) p = All-contains (IsWithin (page * new.pages)) (given ∷ old.segments) p all.0 (suc h.0, (let inside = h.1 in omega arith), h.2) in
+      let here : IsWithin (page * new.pages) given = all.0 0 given (omega arith) in
+      let two : Disjoint given p = subst (λ q. Disjoint given q) h.2 (all.1 0 (suc h.0) p (omega arith) (let inside = h.1 in omega arith)) in
+      elim two [ inl before ↦ omega (arith, before, same, here.0) | inr behind ↦ omega (arith, behind, same, within.0) ]
+
+-- the region has it besides
+module _ (old new : Shard) (piece : Lent) (home : (piece.home ≡ old.home) × (new.home ≡ old.home)) (apart : AreApart new) (segments : new.segments ≡ extent_of piece ∷ old.segments)
+    (r : RegionState) (n : ℕ) (h : HoldsAll old r) where
+  abbrev next : RegionState
+  next = with_segment r n (Some (fresh piece))
+
+  held-by : (m : ℕ) (q : Identity) → slice_get (pieces next) m ≡ Some (Some q) → ((m ≡ n) × (identity piece ≡ q)) ⊎ (slice_get (pieces r) m ≡ Some (Some q))
+  held-by m q e =
+      elim (got-set (pieces r) n m (Some (identity piece)) (Some q) (ap (λ ps. slice_get ps m) (sym (pieces-set r n piece)) ∙ e)) [
+        | inl here ↦ inl (here.0, (let some : Some (identity piece) ≡ Some q = here.1 in cc))
+        | inr there ↦ inr there
+      ]
+
+  elsewhere : (m : ℕ) (q : Identity) → slice_get (pieces r) m ≡ Some (Some q) → q.at ≢ piece.at
+  elsewhere m q e = begins-elsewhere old new (extent_of piece) apart segments (extent q.at q.length) (h.of m q e).segment
+
+  pub holds-more : held_count next ≡ held_count r + 1 → HoldsAll new next
+  holds-more held = record {
+    of = λ m q e. elim (held-by m q e) [
+      | inl here ↦ subst (IsOf new) here.1 (record { home = home.0 ∙ sym home.1; segment = subst (λ xs. Contains xs (extent_of piece)) (sym segments) (0, omega arith, refl) })
+      | inr there ↦ record { home = (h.of m q there).home ∙ sym home.1; segment = still-contained old new (extent_of piece) apart segments (extent q.at q.length) (h.of m q there).segment }
+    ];
+    apart = λ j k a b f g same. elim (held-by j a f) [
+      | inl one ↦ elim (held-by k b g) [
+        | inl other ↦ one.0 ∙ sym other.0
+        | inr there ↦ absurd (elsewhere k b there (sym same ∙ ap (λ (i : Identity). i.at) (sym one.1)))
+      ]
+      | inr there ↦ elim (held-by k b g) [
+        | inl other ↦ absurd (elsewhere j a there (same ∙ ap (λ (i : Identity). i.at) (sym other.1)))
+        | inr too ↦ h.apart j k a b there too same
+      ]
+    ];
+    count = held ∙ ap (λ k. k + 1) h.count ∙ (let longer = ap length segments in omega (arith, longer));
+  }
+
+-- the pieces are as they were
+pub holds-kept : (memory : Shard) (old new : RegionState) → pieces new ≡ pieces old → held_count new ≡ held_count old → HoldsAll memory old → HoldsAll memory new
+holds-kept memory old new same held h = record {
+  of = λ n q e. h.of n q (ap (λ ps. slice_get ps n) (sym same) ∙ e);
+  apart = λ m n a b f g. h.apart m n a b (ap (λ ps. slice_get ps m) (sym same) ∙ f) (ap (λ ps. slice_get ps n) (sym same) ∙ g);
+  count = held ∙ h.count;
+}
+
+pub made-kept : (shard pages : ℕ) (memory : Shard) (old new : RegionState) → pieces new ≡ pieces old → held_count new ≡ held_count old → (shape new).most ≡ (shape old).most → guards_of new ≡ guards_of old
+    → IsMadeOf shard pages memory old → IsMadeOf shard pages memory new
+made-kept shard pages memory old new same held most guards h = record {
+  owner = h.owner;
+  size = h.size;
+  are_pages = h.are_pages;
+  blocks = h.blocks;
+  most = most ∙ h.most;
+  holds = holds-kept memory old new same held h.holds;
+  guards = guards ∙ h.guards;
+}
+
+-- a region that holds no segment
+abbrev nothing : ℕ → List (Option Slot)
+nothing k = slots_of (replicate k None)
+
+no-piece : (k n : ℕ) (q : Identity) → slice_get (pieces_in (nothing k)) n ≡ Some (Some q) → ⊥
+no-piece zero n q e = absurd (let clash : None ≡ Some (Some q) = e in cc)
+no-piece (suc k) zero q e = absurd (let clash : Some None ≡ Some (Some q) = e in cc)
+no-piece (suc k) (suc n) q e = no-piece k n q e
+
+pub none-counted : (p : Option Slot → Bool) (k : ℕ) → p None ≡ false → count_by p (nothing k) ≡ 0
+none-counted p zero off = refl
+none-counted p (suc k) off =
+    let step = sum_by-cons (λ s. cond (p s) 1 0) None (nothing k) in let rest = none-counted p k off in
+    let here = ap (λ (b : Bool). let n : ℕ = cond b 1 0 in n) off in omega (arith, step, rest, here)
+
+pub holds-none : (memory : Shard) (k : ℕ) (region : RegionState) → memory.segments ≡ [] → region.segments ≡ replicate k None → HoldsAll memory region
+holds-none memory k region segments none = record {
+  of = λ n q e. absurd (no-piece k n q (ap (λ xs. slice_get (pieces_in (slots_of xs)) n) (sym none) ∙ e));
+  apart = λ m n a b e f same. absurd (no-piece k n b (ap (λ xs. slice_get (pieces_in (slots_of xs)) n) (sym none) ∙ f));
+  count = ap (λ xs. count_by is_held (slots_of xs)) none ∙ none-counted is_held k refl ∙ ap length (sym segments);
+}

@@ -1,0 +1,2 @@
+-- What only the private parts of a space cite.
+pub mod Consistent

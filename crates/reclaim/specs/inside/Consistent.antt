@@ -1,0 +1,34 @@
+-- How a shard's memory and its cache go together.
+use Rattle.std.specs.Prelude.{◌≡◌, ℕ, ◌/◌, ◌≤◌, [], length, Some, slice_get, IsSome, Contains}
+use Rattle.layout.specs.Sizes.{segment_pages, ArePages}
+use Rattle.layout.specs.Extents.{extent}
+use Rattle.shard_memory.specs.Shards.{Shard}
+use Rattle.regions.specs.Segments.{RegionState}
+use Rattle.regions.specs.Shapes.{Identity, shape, pieces, active_of, guards_of, held_count, free_count}
+
+-- the piece is a segment of the memory
+pub record IsOf (memory : Shard) (piece : Identity) : Type 0 where
+  pub home : piece.home ≡ memory.home
+  pub segment : Contains memory.segments (extent piece.at piece.length)
+
+-- the region holds each segment of the memory, once
+pub record HoldsAll (memory : Shard) (region : RegionState) : Type 0 where
+  pub of : (n : ℕ) (piece : Identity) → slice_get (pieces region) n ≡ Some (Some piece) → IsOf memory piece
+  pub apart : (m n : ℕ) (a b : Identity) → slice_get (pieces region) m ≡ Some (Some a) → slice_get (pieces region) n ≡ Some (Some b) → a.at ≡ b.at → m ≡ n
+  pub count : held_count region ≡ length memory.segments
+
+-- The region is made of the segments of the shard's memory, of which no block stays with the shard. No guard stands.
+pub record IsMadeOf (shard pages : ℕ) (memory : Shard) (region : RegionState) : Type 0 where
+  pub owner : memory.owner ≡ shard
+  pub size : memory.pages ≡ pages
+  pub are_pages : ArePages pages
+  pub blocks : memory.blocks ≡ []
+  pub most : (shape region).most ≡ pages / segment_pages
+  pub holds : HoldsAll memory region
+  pub guards : guards_of region ≡ 0
+
+-- besides, a segment is active, and one is free
+pub record IsConsistent (shard pages : ℕ) (memory : Shard) (region : RegionState) : Type 0 where
+  pub made : IsMadeOf shard pages memory region
+  pub active : IsSome (active_of region)
+  pub free : 1 ≤ free_count region

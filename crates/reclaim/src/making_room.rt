@@ -1,0 +1,72 @@
+//! How a put comes to room in the active segment.
+ghost use Rattle.std.specs.Prelude.{◌≡◌, ℕ, ◌<◌, ◌≤◌, true, false, IsSome};
+ghost use Rattle.layout.specs.Sizes.{greatest_object};
+ghost use Rattle.cache_model.specs.Row.{live};
+ghost use Rattle.shard_memory.specs.Shards.{Shard, IsCrowded};
+ghost use Rattle.regions.specs.Shapes.{active_of, free_count};
+ghost use Rattle.regions.specs.Counts.{left};
+ghost use Rattle.compaction.specs.Sparse.{IsCompacted};
+ghost use Rattle.row_cache.specs.Rows.{rows_of};
+ghost use Rattle.reclaim.specs.Works.{pressure};
+ghost use Rattle.reclaim.specs.inside.Consistent.{IsConsistent};
+
+use crate::segments::add_segment;
+use compaction::a_compacted_region_is_full;
+use row_cache::{Compacted, RowCache};
+use shard_memory::ShardMemory;
+
+// Makes room for an object of so many bytes in the active segment, without an eviction. False where nothing is left but to
+// evict.
+pub(crate) fn make_room(memory: &mut ShardMemory, cache: &mut RowCache, size: u32) -> bool
+    requires size { size ≤ greatest_object }
+    requires consistent { IsConsistent memory.old.owner memory.old.pages memory.old cache.old.region }
+    ensures room { result ≡ true → size ≤ left cache.new.region }
+    ensures pressed { result ≡ false → pressure memory.old.pages < live (rows_of cache.new) }
+    ensures consistent { IsConsistent memory.old.owner memory.old.pages memory.new cache.new.region }
+    ensures rows { rows_of cache.new ≡ rows_of cache.old }
+    ensures tables { cache.new.room ≡ cache.old.room }
+{
+    if size <= cache.left() {
+        return true;
+    }
+    if !free_second(memory, cache) {
+        cache.facts();
+        a_compacted_region_is_full();
+        return size <= cache.left();
+    }
+    begin_next(cache, size);
+    true
+}
+
+// A second segment of the cache is free: it was before, it is one of the pages, or compaction frees it. False where none of
+// these can be had.
+fn free_second(memory: &mut ShardMemory, cache: &mut RowCache) -> bool
+    requires consistent { IsConsistent memory.old.owner memory.old.pages memory.old cache.old.region }
+    ensures freed { result ≡ true → 2 ≤ free_count cache.new.region }
+    ensures crowded { result ≡ false → IsCrowded memory.new }
+    ensures compacted { result ≡ false → IsCompacted cache.new.region }
+    ensures consistent { IsConsistent memory.old.owner memory.old.pages memory.new cache.new.region }
+    ensures rows { rows_of cache.new ≡ rows_of cache.old }
+    ensures tables { cache.new.room ≡ cache.old.room }
+{
+    if cache.free_segments() >= 2 {
+        return true;
+    }
+    memory.trim();
+    add_segment(memory, cache) || cache.compact() == Compacted::Freed
+}
+
+// Where the active segment has too little room, the next one becomes active.
+fn begin_next(cache: &mut RowCache, size: u32)
+    requires size { size ≤ greatest_object }
+    requires active { IsSome (active_of cache.old.region) }
+    requires free { 2 ≤ free_count cache.old.region }
+    ensures room { size ≤ left cache.new.region }
+    ensures consistent { (shard pages : ℕ) (memory : Shard) → IsConsistent shard pages memory cache.old.region → IsConsistent shard pages memory cache.new.region }
+    ensures rows { rows_of cache.new ≡ rows_of cache.old }
+    ensures tables { cache.new.room ≡ cache.old.room }
+{
+    if cache.left() < size {
+        cache.next_active();
+    }
+}

@@ -1,0 +1,65 @@
+//! Segments of the pages that go to the cache.
+ghost use Rattle.std.specs.Prelude.{◌≡◌, ◌+◌, ◌/◌, ◌<◌, ◌≤◌, true, false, None, [], length};
+ghost use Rattle.layout.specs.Sizes.{segment_pages};
+ghost use Rattle.shard_memory.specs.Shards.{IsTrimmed, IsCrowded};
+ghost use Rattle.regions.specs.Shapes.{active_of, free_count};
+ghost use Rattle.row_cache.specs.Rows.{rows_of};
+ghost use Rattle.reclaim.specs.inside.Consistent.{IsMadeOf, IsConsistent};
+
+use row_cache::RowCache;
+use shard_memory::ShardMemory;
+
+// Gives the cache its first two segments, one of them active.
+pub(crate) fn begin(memory: &mut ShardMemory, cache: &mut RowCache)
+    requires made { IsMadeOf memory.old.owner memory.old.pages memory.old cache.old.region }
+    requires none { memory.old.segments ≡ [] }
+    requires free { free_count cache.old.region ≡ 0 }
+    requires active { active_of cache.old.region ≡ None }
+    requires trimmed { IsTrimmed memory.old }
+    ensures consistent { IsConsistent memory.old.owner memory.old.pages memory.new cache.new.region }
+    ensures rows { rows_of cache.new ≡ rows_of cache.old }
+    ensures room { cache.new.room ≡ cache.old.room }
+{
+    add_first(memory, cache);
+    add_first(memory, cache);
+    cache.next_active();
+}
+
+// Gives the cache a free segment more, while most of the pages are free.
+fn add_first(memory: &mut ShardMemory, cache: &mut RowCache)
+    requires made { IsMadeOf memory.old.owner memory.old.pages memory.old cache.old.region }
+    requires few { length memory.old.segments < memory.old.pages / segment_pages }
+    requires trimmed { IsTrimmed memory.old }
+    ensures made { IsMadeOf memory.old.owner memory.old.pages memory.new cache.new.region }
+    ensures one_more { length memory.new.segments ≡ length memory.old.segments + 1 }
+    ensures free { free_count cache.new.region ≡ free_count cache.old.region + 1 }
+    ensures trimmed { IsTrimmed memory.new }
+    ensures active { active_of cache.new.region ≡ active_of cache.old.region }
+    ensures rows { rows_of cache.new ≡ rows_of cache.old }
+    ensures room { cache.new.room ≡ cache.old.room }
+{
+    if !add_segment(memory, cache) {
+        unreachable!()
+    }
+}
+
+// Gives the cache a free segment more, out of the pages. False where they have no room for one; then nothing changed.
+pub(crate) fn add_segment(memory: &mut ShardMemory, cache: &mut RowCache) -> bool
+    requires made { IsMadeOf memory.old.owner memory.old.pages memory.old cache.old.region }
+    ensures made { IsMadeOf memory.old.owner memory.old.pages memory.new cache.new.region }
+    ensures crowded { result ≡ false → IsTrimmed memory.old → IsCrowded memory.old }
+    ensures unchanged { result ≡ false → (memory.new ≡ memory.old) × (cache.new ≡ cache.old) }
+    ensures one_more { result ≡ true → length memory.new.segments ≡ length memory.old.segments + 1 }
+    ensures free { result ≡ true → free_count cache.new.region ≡ free_count cache.old.region + 1 }
+    ensures trimmed { IsTrimmed memory.old → IsTrimmed memory.new }
+    ensures active { active_of cache.new.region ≡ active_of cache.old.region }
+    ensures rows { rows_of cache.new ≡ rows_of cache.old }
+    ensures room { cache.new.room ≡ cache.old.room }
+{
+    let Some(piece) = memory.give_segment() else {
+        return false;
+    };
+    memory.facts();
+    cache.add_segment(piece);
+    true
+}
