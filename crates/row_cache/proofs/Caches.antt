@@ -1,19 +1,19 @@
 -- What holds of a cache, where a row comes, goes, or is another.
 use Rattle.std.proofs.Common.{◌≡◌, ℕ, ◌+◌, ◌*◌, ◌^◌, ◌≤◌, List, [], ◌∷◌, map, Option, Some, None, refl, sym, ap, subst, ◌∙◌, arith}
-use Rattle.std.specs.Prelude.{slice_get, slice_set, IfSome}
+use Rattle.std.specs.Prelude.{slice_get, slice_set, option_map, IfSome}
 use Rattle.std.proofs.lemmas.List.Sums.{sum_by-cons}
 use Rattle.cache_model.specs.Row.{Row, size, live}
 use Rattle.common_lemmas.specs.Lists.{times, delete}
 use Rattle.key_index.specs.declared.place.Place.{Place as IndexPlace}
 use Rattle.regions.specs.Segments.{RegionState}
 use Rattle.regions.specs.Counts.{live_total}
-use Rattle.regions.specs.Contents.{Item, Keeps, item_if_live, live_at, standing_at, size_of}
+use Rattle.regions.specs.Contents.{Item, Standing, Keeps, item_if_live, live_at, standing_at, size_of}
 use Rattle.regions.specs.Stores.{Live}
 use Rattle.regions.specs.declared.place.Place.{Place}
 use Rattle.row_cache.specs.Rows.{row_at, rows_at, Stay}
-use Rattle.row_cache.specs.inside.Tables.{TableState, AreTablesOf, IsListed, IsRowOf, Adds, Drops, Replaces, AddsRow, ReplacesRow, next_number, placed}
+use Rattle.row_cache.specs.inside.Tables.{TableState, AreTablesOf, IsListed, IsRowOf, Drops, HoldsARow, PlacesRow, SwapsRow, AddsRow, ReplacesRow, next_number, placed}
 use Rattle.row_cache.specs.inside.Consistent.{IsConsistent, rows_in, rows_with}
-use Rattle.row_cache.proofs.Listed.{Apart, map_same, live_without, live_at_most}
+use Rattle.row_cache.proofs.Listed.{map_same, live_without, live_at_most}
 use Rattle.row_cache.proofs.States.{row_is, some_none, other_stays, still_listed, replaced_rows, replaced_others, added_here, added_others}
 
 -- ---- where no object changes
@@ -34,7 +34,7 @@ pub keeps_same : (r s : RegionState) (guards : ℕ) → s ≡ record r { guards 
 keeps_same r s guards e = λ p. ap (λ (x : RegionState). standing_at x p) e
 
 pub stays_kept : (r s : RegionState) → Keeps r s → Stay r s
-stays_kept r s keeps = λ p x e. (x, keeps p ∙ e, refl)
+stays_kept r s keeps = λ p i e. ap (option_map (λ (x : Standing). x.item)) (keeps p) ∙ e
 
 -- ---- the sizes of rows
 
@@ -54,9 +54,6 @@ bytes_small t r bytes c =
     let most = live_at_most row t.recency 13000 (λ n l. (let h = c.tables.rows n l in subst (λ (x : Row). size x.key x.value ≤ 13000) (sym (row_is (live_at r) t.places n h)) (size_small h.item n h.row h.is_row))) in
     let count = a.count in let few = a.few in let small = a.small in let counted = c.counted in let sizes = c.sizes in
     omega (arith, most, count, few, small, counted, sizes)
-
-pub apart_rows : (t : TableState) (l : Live) → AreTablesOf t l → Apart (row_at l t.places) t.recency
-apart_rows t l are = λ m n lm ln e. are.apart m n lm ln e
 
 -- ---- a row comes
 
@@ -80,13 +77,23 @@ consistent_added t u r s bytes more row c tables rows total is =
 
 -- ---- a row stands elsewhere, as another of its key
 
-pub replaces_both : (old middle new : Live) (from to : Place) (item was : Item) → old from ≡ Some was → Adds to item old middle → Drops from middle new → Replaces from to item old new
-replaces_both old middle new from to item was here adds drops = record {
-  absent = adds.absent;
-  gone = drops.here;
-  here = drops.others to (λ e. some_none here (sym (ap old e) ∙ adds.absent)) ∙ adds.here;
-  others = λ q not_from not_to. drops.others q not_from ∙ adds.others q not_to;
-}
+pub row_swapped : (old middle new : Live) (from to : Place) (n : ℕ) (row : Row) → HoldsARow (old from) → PlacesRow to n row old middle → Drops from middle new → SwapsRow from to n row old new
+row_swapped old middle new from to n row here places drops =
+    let adds = places.adds in
+    record {
+      item = places.item;
+      is_row = places.is_row;
+      replaces = record {
+        absent = adds.absent;
+        gone = drops.here;
+        here = drops.others to (λ e. some_none here.is (sym (ap old e) ∙ adds.absent)) ∙ adds.here;
+        others = λ q not_from not_to. drops.others q not_from ∙ adds.others q not_to;
+      };
+    }
+
+-- a row stays where another is placed
+pub row_stays : (old new : Live) (p q : Place) (n : ℕ) (row : Row) → PlacesRow p n row old new → HoldsARow (old q) → new q ≡ old q
+row_stays old new p q n row places here = places.adds.others q (λ e. some_none here.is (ap old e ∙ places.adds.absent))
 
 pub rows_replaced : (t u : TableState) (n : ℕ) (to : Place) (row : Row) (old new : Live) (r : ReplacesRow t n to row old new) → IsListed t n
     → u.recency ≡ n ∷ delete n t.recency → u.places ≡ slice_set t.places n to

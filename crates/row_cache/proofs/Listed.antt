@@ -1,5 +1,5 @@
 -- Rows by their numbers: the list of the rows of some numbers.
-use Rattle.std.proofs.Common.{◌≡◌, ◌≢◌, ℕ, suc, ◌+◌, ◌-◌, ◌*◌, ◌≤◌, ◌⊎◌, inl, inr, Bool, true, false, not, ◌||◌, cond, List, [], ◌∷◌, ◌++◌, length, take, map, Some, None, refl, sym, ap, subst, ◌∙◌, arith}
+use Rattle.std.proofs.Common.{◌≡◌, ◌≢◌, ℕ, suc, ◌+◌, ◌-◌, ◌*◌, ◌≤◌, ◌⊎◌, inl, inr, Bool, true, false, not, ◌||◌, cond, List, [], ◌∷◌, ◌++◌, length, take, map, Option, Some, None, MatchOption, refl, sym, ap, subst, ◌∙◌, arith}
 use Rattle.std.proofs.lemmas.Bool.{cases_eq}
 use Rattle.std.specs.Bool.{Decides}
 use Rattle.std.proofs.lemmas.Slice.Eq.{bytes_eq-Decides}
@@ -162,3 +162,15 @@ found_has key (r ∷ rows) row e =
       | inl t ↦ ap (λ b. b || has key rows) t.0
       | inr f ↦ ap (λ b. b || has key rows) f.0 ∙ found_has key rows row (sym (ap (λ b. cond b (Some r) (row_of key rows)) f.0) ∙ e)
     ]
+
+last_some : (n : ℕ) (ns : List ℕ) (P : Type 0) → last_or (Some n) ns ≡ None → P
+last_some n [] P e = absurd (let clash : Some n ≡ None = e in cc)
+last_some n (m ∷ ns) P e = last_some m ns P e
+
+none_last : (ns : List ℕ) → last_or None ns ≡ None → ns ≡ []
+none_last [] e = refl
+none_last (n ∷ ns) e = last_some n ns (n ∷ ns ≡ []) e
+
+pub last_is : (o : Option ℕ) (ns : List ℕ) → o ≡ last_or None ns → MatchOption o (ns ≡ []) (λ n. last_or None ns ≡ Some n)
+last_is None ns e = none_last ns (sym e)
+last_is (Some n) ns e = sym e

@@ -1,5 +1,5 @@
 -- What a key's row is among all rows, and where it stands.
-use Rattle.std.proofs.Common.{◌≡◌, ◌≢◌, ℕ, zero, suc, ◌-◌, ◌≤◌, inl, inr, take, replicate, get_or, arith, Bool, true, false, List, [], ◌∷◌, length, map, Option, Some, None, refl, sym, ap, subst, ◌∙◌}
+use Rattle.std.proofs.Common.{◌≡◌, ℕ, zero, suc, ◌-◌, ◌≤◌, inl, inr, take, replicate, get_or, arith, Bool, true, false, List, [], ◌∷◌, length, map, Option, Some, None, refl, sym, ap, subst, ◌∙◌}
 use Rattle.std.proofs.lemmas.List.{take-map, length-map}
 use Rattle.std.proofs.lemmas.List.Sums.{sum_by-cons}
 use Rattle.std.proofs.lemmas.Bool.Decides.{eqb_tells}
@@ -7,7 +7,6 @@ use Rattle.std.specs.List.{last_or, sum}
 use Rattle.std.specs.Prelude.{slice_get, IsSome, option_map}
 use Rattle.cache_model.specs.Row.{Row, live, size}
 use Rattle.cache_model.specs.Legal.{is_of_put}
-use Rattle.cache_model.specs.Apply as apply
 use Rattle.row_bytes.specs.Rows.{IsRow, put_in, row_in, value_in}
 use Rattle.common_lemmas.specs.Lists.{times, delete}
 use Rattle.regions.specs.Segments.{RegionState, SegmentState}
@@ -15,42 +14,16 @@ use Rattle.regions.specs.Counts.{live_total, live_in}
 use Rattle.regions.specs.Contents.{Item, Standing, item_if_live, if_live, live_at, standing_at, standing_in}
 use Rattle.regions.specs.Stores.{Live, store_of, found}
 use Rattle.regions.specs.declared.place.Place.{Place}
-use Rattle.row_cache.specs.Rows.{row_at, key_at, rows_at, HoldsValue}
+use Rattle.row_cache.specs.Rows.{row_at, rows_at, HoldsValue}
 use Rattle.row_cache.specs.inside.Tables.{TableState, AreTablesOf, IsListed, HasRow, IsLast, place_of}
 use Rattle.row_cache.specs.inside.Consistent.{IsConsistent, rows_in, rows_with}
-use Rattle.row_cache.proofs.Listed.{map_same, live_without, last_row, delete_last, none_has, none_found, none_without, one_has, one_found, one_without}
+use Rattle.row_cache.proofs.Listed.{map_same, live_without, last_row, delete_last}
 use Rattle.row_cache.proofs.Numbers.{once}
 use Rattle.row_cache.proofs.States.{row_is, some_same}
 use Rattle.row_cache.proofs.Moving.{listed_place}
-use Rattle.row_cache.proofs.Caches.{apart_rows}
 
 abbrev none_of_type : (A : Type 0) → Option A
 none_of_type A = None
-
--- the row of a key, and the others
-pub record HasKey (t : TableState) (l : Live) (key : List ℕ) (n : ℕ) : Type 0 where
-  pub has : apply.has key (rows_at l t.places t.recency) ≡ true
-  pub found : apply.row_of key (rows_at l t.places t.recency) ≡ Some (row_at l t.places n)
-  pub without : apply.without key (rows_at l t.places t.recency) ≡ rows_at l t.places (delete n t.recency)
-
-pub has_key : (t : TableState) (l : Live) (key : List ℕ) (n : ℕ) → AreTablesOf t l → IsListed t n → key_at l t.places n ≡ key → HasKey t l key n
-has_key t l key n are listed is = record {
-  has = one_has (row_at l t.places) key n t.recency listed is;
-  found = one_found (row_at l t.places) key n t.recency (apart_rows t l are) listed is;
-  without = one_without (row_at l t.places) key n t.recency (apart_rows t l are) listed (once t are.numbers) is;
-}
-
-pub record LacksKey (t : TableState) (l : Live) (key : List ℕ) : Type 0 where
-  pub has : apply.has key (rows_at l t.places t.recency) ≡ false
-  pub found : apply.row_of key (rows_at l t.places t.recency) ≡ None
-  pub without : apply.without key (rows_at l t.places t.recency) ≡ rows_at l t.places t.recency
-
-pub lacks_key : (t : TableState) (l : Live) (key : List ℕ) → ((n : ℕ) → IsListed t n → key_at l t.places n ≢ key) → LacksKey t l key
-lacks_key t l key none = record {
-  has = none_has (row_at l t.places) key t.recency none;
-  found = none_found (row_at l t.places) key t.recency none;
-  without = none_without (row_at l t.places) key t.recency none;
-}
 
 -- ---- where it stands
 

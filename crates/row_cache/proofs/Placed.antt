@@ -11,7 +11,7 @@ use Rattle.regions.specs.Counts.{left, left_of, plus, used_counts}
 use Rattle.regions.specs.Contents.{Item, Standing, ChangesAt, item_if_live, live_at, standing_at, with_bytes, zeros}
 use Rattle.regions.specs.declared.place.Place.{Place}
 use Rattle.row_bytes.specs.Rows.{IsRow, value_in}
-use Rattle.row_cache.specs.Rows.{Stay, HoldsValue}
+use Rattle.row_cache.specs.Rows.{item_at, Stay, HoldsValue}
 use Rattle.row_cache.specs.inside.Tables.{Adds}
 use Rattle.row_cache.proofs.States.{some_none, place_cases}
 
@@ -27,9 +27,9 @@ object_added r m s p kind size ws first unused second = record {
 }
 
 pub object_stays : (r m s : RegionState) (p : Place) (a b : Option Standing) → ChangesAt p a r m → standing_at r p ≡ None → ChangesAt p b m s → Stay r s
-object_stays r m s p a b first unused second = λ q x e. elim (place_cases q p) [
-  | inl same ↦ some_none (sym (ap (λ y. standing_at r y) same) ∙ e) unused
-  | inr far ↦ (x, second.others q far ∙ (first.others q far ∙ e), refl)
+object_stays r m s p a b first unused second = λ q i e. elim (place_cases q p) [
+  | inl same ↦ some_none (sym (ap (λ y. item_at r y) same) ∙ e) (ap (option_map (λ (x : Standing). x.item)) unused)
+  | inr far ↦ ap (option_map (λ (x : Standing). x.item)) (second.others q far ∙ first.others q far) ∙ e
 ]
 
 -- the new content has the length of the zeros that it is written over
@@ -58,12 +58,16 @@ left_added r m s n size active same used kept total some room =
     omega (arith, was, now, e)
 
 pub stays_both : (r m s : RegionState) → Stay r m → Stay m s → Stay r s
-stays_both r m s first second = λ p x e. (let a = first p x e in let b = second p a.0 a.1 in (b.0, b.1, b.2 ∙ a.2))
+stays_both r m s first second = λ p i e. second p i (first p i e)
 
 pub stays_same : (r s : RegionState) → s ≡ r → Stay r s
-stays_same r s same = λ p x e. (x, ap (λ (y : RegionState). standing_at y p) same ∙ e, refl)
+stays_same r s same = λ p i e. ap (λ (y : RegionState). item_at y p) same ∙ e
+
+standing_of : (o : Option Standing) (i : Item) → option_map (λ (x : Standing). x.item) o ≡ Some i → (t : Standing) × (o ≡ Some t) × (t.item ≡ i)
+standing_of None i e = absurd (let clash : None ≡ Some i = e in cc)
+standing_of (Some t) i e = (t, refl, (let same : Some t.item ≡ Some i = e in cc))
 
 pub value_stays : (r s : RegionState) (p : Place) (value : List ℕ) → Stay r s → HoldsValue r p value → HoldsValue s p value
 value_stays r s p value stay holds =
-    let t = stay p holds.0 holds.1 in
+    let t = standing_of (standing_at s p) holds.0.item (stay p holds.0.item (ap (option_map (λ (x : Standing). x.item)) holds.1)) in
     (t.0, t.1, subst (λ (i : Item). IsRow i.content) (sym t.2) holds.2, ap (λ (i : Item). value_in i.content) t.2 ∙ holds.3)

@@ -21,7 +21,7 @@ use Rattle.regions.specs.Stores.{Live}
 use Rattle.regions.specs.declared.place.Place.{Place}
 use Rattle.row_cache.specs.Rows.{content_of, content_at, row_at, key_at}
 use Rattle.row_cache.specs.inside.Tables.{TableState, AreNumbers, AreTablesOf, IsListed, HasRow, Drops, AddsRow, ReplacesRow, next_number, placed}
-use Rattle.row_cache.proofs.Listed.{listed_here, listed_later, listed_apart}
+use Rattle.row_cache.proofs.Listed.{Apart, listed_here, listed_later, listed_apart}
 use Rattle.row_cache.proofs.Numbers.{listed_below, gone_after, next_absent, next_at_most}
 
 -- ---- one row
@@ -103,6 +103,9 @@ got_past_set xs n m p far =
       | inl h ↦ (let g = h.1 in slice_get_past (slice_set xs n p) m (omega (arith, len, g)) ∙ sym (slice_get_past xs m g))
       | inr h ↦ (let g = h.1 in slice_get-get_or (slice_set xs n p) m p (omega (arith, len, g)) ∙ (ap (λ x. Some x) (get_or-set_other xs n m p p far) ∙ sym (slice_get-get_or xs m p g)))
     ]
+
+pub apart_rows : (t : TableState) (l : Live) → AreTablesOf t l → Apart (row_at l t.places) t.recency
+apart_rows t l are = λ m n lm ln e. are.apart m n lm ln e
 
 -- the same rows, in whatever order
 pub tables_kept : (t u : TableState) (live : Live) → AreTablesOf t live → AreNumbers u → ((m : ℕ) → times m u.recency ≡ times m t.recency) → u.places ≡ t.places → u.index ≡ t.index → AreTablesOf u live

@@ -1,5 +1,5 @@
 -- The rows that a row cache means, read off the bytes of its segments.
-use Rattle.std.specs.Prelude.{◌≡◌, ℕ, List, [], Option, None, Some, slice_get, map}
+use Rattle.std.specs.Prelude.{◌≡◌, ℕ, List, [], Option, None, Some, slice_get, map, option_map}
 use Rattle.cache_model.specs.Row.{Row}
 use Rattle.cache_model.specs.Apply.{Reply, Stored, Replaced}
 use Rattle.row_cache.specs.declared.put.Put.{Put}
@@ -41,9 +41,13 @@ rows_at live places numbers = map (row_at live places) numbers
 abbrev pub rows_of : CacheState → List Row
 rows_of c = rows_at (live_at c.region) c.places c.recency
 
--- the objects that stood, live or dead, stand with their kind and content
+-- the object at a place, live or dead
+abbrev pub item_at : RegionState → Place → Option Item
+item_at r p = option_map (λ (s : Standing). s.item) (standing_at r p)
+
+-- the objects that stood stand with their kind and content
 abbrev pub Stay : RegionState → RegionState → Type 0
-Stay old new = (p : Place) (s : Standing) → standing_at old p ≡ Some s → (t : Standing) × (standing_at new p ≡ Some t) × (t.item ≡ s.item)
+Stay old new = (p : Place) (item : Item) → item_at old p ≡ Some item → item_at new p ≡ Some item
 
 -- the reply of a put
 abbrev pub reply_of : Put → Reply

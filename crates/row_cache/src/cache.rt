@@ -22,7 +22,7 @@ use regions::{NeedSegment, Region};
 use row_bytes::{key_in, put_in};
 use std::alloc::{AllocError, Global};
 use std::marker::Model;
-use storing::{NewRow, drop_row, replace_row, store_row};
+use storing::{NewRow, drop_row, put_row};
 
 /// The rows of one shard's cache, and the segments in which they stand.
 #[derive(Drop)]
@@ -87,18 +87,7 @@ impl RowCache {
             value,
             put: number,
         };
-        match self.tables.search(&self.region, key) {
-            Ok(found) => {
-                let (region, tables, live) = (&mut self.region, &mut self.tables, &mut self.live);
-                replace_row(region, tables, live, found.row, row)?;
-                Ok(Put::Replaced)
-            }
-            Err(at) => {
-                let (region, tables, live) = (&mut self.region, &mut self.tables, &mut self.live);
-                store_row(region, tables, live, at, row)?;
-                Ok(Put::Stored)
-            }
-        }
+        put_row(&mut self.region, &mut self.tables, &mut self.live, row)
     }
 
     /// Removes the row of a key. False where no row has the key.

@@ -3,12 +3,15 @@ ghost use Rattle.std.specs.List.{last_or};
 ghost use Rattle.cache_model.specs.Row.{Row};
 ghost use Rattle.cache_model.specs.Apply.{in_order, is_at_most};
 ghost use Rattle.cache_model.specs.KeyBody.{IsKey};
-ghost use Rattle.common_lemmas.specs.Lists.{delete};
-ghost use Rattle.key_index.specs.Index.{IsPlaceFor, IsRowAt};
+ghost use Rattle.common_lemmas.specs.Lists.{delete, times};
+ghost use Rattle.index_lists.specs.Lists.{list_at, with_list};
+ghost use Rattle.key_index.specs.Index.{IsOrdered, IsRowAt};
+ghost use Rattle.key_index.specs.Order.{TakesOut};
 ghost use Rattle.regions.specs.Contents.{Item, live_at};
 ghost use Rattle.regions.specs.Stores.{Live};
 ghost use Rattle.row_bytes.specs.Rows.{number_in};
 ghost use Rattle.row_cache.specs.Rows.{key_at};
+ghost use Rattle.row_cache.specs.inside.Sought.{IsFound, IsMissing};
 ghost use Rattle.row_cache.specs.inside.Tables as tables;
 
 use crate::row_keys::RowKeys;
@@ -67,6 +70,7 @@ impl Tables {
     }
 
     // The row that was used longest ago.
+    #[tactic(auto, using(crate::proofs::Listed::last_is))]
     pub(crate) fn last(&self) -> Option<u32>
         ensures { MatchOption result (self.now.recency ≡ []) (λ n. tables.IsLast n self.now.recency) }
     {
@@ -94,10 +98,7 @@ impl Tables {
     // The row of a key, or where the index would have one.
     pub(crate) fn search(&self, region: &Region, key: &[u8]) -> Result<RowAt, key_index::Place>
         requires { tables.AreTablesOf self.now (live_at region.now) }
-        ensures { MatchResult result
-            (λ found. IsRowAt self.now.index found.place found.row × tables.IsListed self.now found.row × (key_at (live_at region.now) self.now.places found.row ≡ key.now))
-            (λ at. IsPlaceFor (key_at (live_at region.now) self.now.places) key.now self.now.index at
-            × ((n : ℕ) → tables.IsListed self.now n → key_at (live_at region.now) self.now.places n ≢ key.now)) }
+        ensures { MatchResult result (IsFound self.now (live_at region.now) key.now) (IsMissing self.now (live_at region.now) key.now) }
     {
         self.index.search(&self.keys(region), key)
     }
@@ -160,8 +161,7 @@ impl Tables {
         ensures room { self.new.room ≡ self.old.room }
         ensures tables { (place : Place) (old new : Live) → tables.AreTablesOf self.old old → slice_get self.old.places found.row ≡ Some place → tables.Drops place old new → tables.AreTablesOf self.new new }
     {
-        self.index.remove_at(found);
-        self.recency.remove(RECENCY, found.row);
+        unlist(&mut self.recency, &mut self.index, found);
         self.freed.push(found.row).unwrap();
     }
 
@@ -215,9 +215,23 @@ fn give_number(places: &mut Vec<Place>, freed: &mut Vec<u32>, place: Place) -> u
     number
 }
 
+// Takes a row out of the index and the recency.
+fn unlist(recency: &mut IndexLists, index: &mut KeyIndex, found: RowAt)
+    requires list { length recency.old.lists ≡ 1 }
+    requires listed { 1 ≤ times found.row (list_at recency.old 0) }
+    requires at { IsRowAt index.old found.place found.row }
+    ensures recency { recency.new ≡ with_list recency.old 0 (delete found.row (list_at recency.old 0)) }
+    ensures rows { TakesOut found.row index.old.rows index.new.rows }
+    ensures ordered { (before after : ℕ → List ℕ) → IsOrdered before index.old → All (λ row. after row ≡ before row) index.new.rows → IsOrdered after index.new }
+    ensures room { index.new.room ≡ index.old.room }
+{
+    index.remove_at(found);
+    recency.remove(RECENCY, found.row);
+}
+
 // The number of the row that stands at a place.
 fn number_at(region: &Region, place: Place) -> u32
-    requires { (item : Item) × (n : ℕ) × (row : Row) × (live_at region.now place ≡ Some item) × tables.IsRowOf item n row }
+    requires { tables.HoldsARow (live_at region.now place) }
     ensures { IfSome (live_at region.now place) (λ item. result ≡ number_in item.content) }
 {
     number_in(region.bytes(place))

@@ -101,6 +101,26 @@ pub record Replaces (from to : Place) (item : Item) (old new : Live) : Type 0 wh
   pub here : new to ≡ Some item
   pub others : (q : Place) → q ≢ from → q ≢ to → new q ≡ old q
 
+-- the live object is a row
+pub record HoldsARow (o : Option Item) : Type 0 where
+  pub item : Item
+  pub is : o ≡ Some item
+  pub number : ℕ
+  pub row : Row
+  pub is_row : IsRowOf item number row
+
+-- one row more is live
+pub record PlacesRow (p : Place) (n : ℕ) (row : Row) (old new : Live) : Type 0 where
+  pub item : Item
+  pub is_row : IsRowOf item n row
+  pub adds : Adds p item old new
+
+-- a row is live instead of another object
+pub record SwapsRow (from to : Place) (n : ℕ) (row : Row) (old new : Live) : Type 0 where
+  pub item : Item
+  pub is_row : IsRowOf item n row
+  pub replaces : Replaces from to item old new
+
 -- the live objects are those of the tables and a new row, whose key no other row has
 pub record AddsRow (t : TableState) (there : IndexPlace) (place : Place) (row : Row) (old new : Live) : Type 0 where
   pub tables : AreTablesOf t old

@@ -1,17 +1,19 @@
 //! How a row comes into the segments of a cache, and how it goes.
-ghost use Rattle.std.specs.Prelude.{◌≡◌, ◌≢◌, ℕ, ◌+◌, ◌<◌, ◌≤◌, ◌↔◌, ◌∷◌, length, slice_get, Some, None, IfOk, IfErr, IfSome, IsErr, IsSome};
+ghost use Rattle.std.specs.Prelude.{◌≡◌, ◌≢◌, ℕ, ◌+◌, ◌<◌, ◌≤◌, ◌↔◌, ◌⊎◌, ◌∷◌, true, length, slice_get, Some, None, IfOk, IfErr, IfSome, IsErr, IsSome};
 ghost use Rattle.layout.specs.Sizes as sizes;
 ghost use Rattle.cache_model.specs.Row.{Row, size};
+ghost use Rattle.cache_model.specs.Apply as apply;
 ghost use Rattle.common_lemmas.specs.Lists.{delete};
 ghost use Rattle.key_index.specs.Index.{IsPlaceFor, IsRowAt};
 ghost use Rattle.regions.specs.Shapes.{shape, active_of};
 ghost use Rattle.regions.specs.Counts.{left, live_total};
 ghost use Rattle.regions.specs.Contents.{Item, live_at, size_of};
-ghost use Rattle.row_cache.specs.Rows.{key_at, Stay};
-ghost use Rattle.row_cache.specs.inside.Tables.{Adds, Drops, IsListed, IsRowOf};
+ghost use Rattle.row_cache.specs.Rows.{key_at, reply_of, Stay};
+ghost use Rattle.row_cache.specs.inside.Tables.{Drops, HoldsARow, IsListed, PlacesRow, SwapsRow};
 ghost use Rattle.row_cache.specs.inside.Consistent.{IsConsistent, rows_in, rows_with};
 ghost use Rattle.row_cache.specs.inside.NewRows.{row_of, IsStored};
 
+use crate::put::Put;
 use crate::tables::Tables;
 use key_index::RowAt;
 use layout::DESCRIPTOR;
@@ -29,8 +31,41 @@ pub(super) struct NewRow<'a> {
     pub(super) put: u32,
 }
 
+// Stores a row in front of the others, and instead of the one that has its key.
+pub(super) fn put_row(
+    region: &mut Region,
+    tables: &mut Tables,
+    live: &mut u64,
+    row: NewRow<'_>,
+) -> Result<Put, NeedSegment>
+    requires consistent { IsConsistent tables.old region.old live.old }
+    requires row { IsStored row }
+    requires active { IsSome (active_of region.old) }
+    requires room { (apply.has row.key.now (rows_in tables.old region.old) ≡ true) ⊎ (length (rows_in tables.old region.old) < tables.old.room) }
+    ensures full { IsErr result ↔ left region.old < size row.entry.key.now row.entry.value.now }
+    ensures unchanged { IfErr result (λ _. (region.new ≡ region.old) × (tables.new ≡ tables.old) × (live.new ≡ live.old)) }
+    ensures consistent { IsConsistent tables.new region.new live.new }
+    ensures rows { IfOk result (λ _. rows_in tables.new region.new ≡ (apply.put row.entry.key.now row.entry.value.now row.entry.put (rows_in tables.old region.old)).0) }
+    ensures reply { IfOk result (λ did. reply_of did ≡ (apply.put row.entry.key.now row.entry.value.now row.entry.put (rows_in tables.old region.old)).1) }
+    ensures room { tables.new.room ≡ tables.old.room }
+    ensures shape { shape region.new ≡ shape region.old }
+    ensures left { IfOk result (λ _. left region.new + size row.entry.key.now row.entry.value.now ≡ left region.old) }
+    ensures stay { Stay region.old region.new }
+{
+    match tables.search(region, row.key) {
+        Ok(found) => {
+            replace_row(region, tables, live, found.row, row)?;
+            Ok(Put::Replaced)
+        }
+        Err(at) => {
+            store_row(region, tables, live, at, row)?;
+            Ok(Put::Stored)
+        }
+    }
+}
+
 // Stores a row whose key no other row has, in front of the others.
-pub(super) fn store_row(
+fn store_row(
     region: &mut Region,
     tables: &mut Tables,
     live: &mut u64,
@@ -59,7 +94,7 @@ pub(super) fn store_row(
 }
 
 // Stores a row in front of the others, instead of the one with its number, which has its key.
-pub(super) fn replace_row(
+fn replace_row(
     region: &mut Region,
     tables: &mut Tables,
     live: &mut u64,
@@ -80,11 +115,9 @@ pub(super) fn replace_row(
     ensures left { IfOk result (λ _. left region.new + size row.entry.key.now row.entry.value.now ≡ left region.old) }
     ensures stay { Stay region.old region.new }
 {
-    let place = place_row(region, number, row)?;
-    let old = tables.place(number);
-    let size = kill_row(region, old);
+    let (place, bytes) = swap_row(region, number, row, tables.place(number))?;
     tables.replace(number, place);
-    *live = *live + u64::from(row_size(row.key, row.value)) - u64::from(size);
+    *live = *live + u64::from(row_size(row.key, row.value)) - u64::from(bytes);
     Ok(())
 }
 
@@ -105,13 +138,40 @@ pub(super) fn drop_row(region: &mut Region, tables: &mut Tables, live: &mut u64,
     *live -= u64::from(size);
 }
 
+// Places a row as a new object, and only then kills the live one at a place. Answers the new place, and the bytes of the
+// object that is dead.
+#[tactic(auto, using(crate::proofs::Caches::row_swapped))]
+fn swap_row(
+    region: &mut Region,
+    number: u32,
+    row: NewRow<'_>,
+    old: Place,
+) -> Result<(Place, u32), NeedSegment>
+    requires row { IsStored row }
+    requires active { IsSome (active_of region.old) }
+    requires old { HoldsARow (live_at region.old old) }
+    ensures full { IsErr result ↔ left region.old < size row.entry.key.now row.entry.value.now }
+    ensures unchanged { IfErr result (λ _. region.new ≡ region.old) }
+    ensures swapped { IfOk result (λ did. SwapsRow old did.0 number (row_of row.entry) (live_at region.old) (live_at region.new)) }
+    ensures bytes { IfOk result (λ did. IfSome (live_at region.old old) (λ item. did.1 ≡ size_of item)) }
+    ensures live { IfOk result (λ did. live_total region.new + did.1 ≡ live_total region.old + size row.entry.key.now row.entry.value.now) }
+    ensures shape { shape region.new ≡ shape region.old }
+    ensures left { IfOk result (λ _. left region.new + size row.entry.key.now row.entry.value.now ≡ left region.old) }
+    ensures stay { Stay region.old region.new }
+{
+    let place = place_row(region, number, row)?;
+    let bytes = kill_row(region, old);
+    Ok((place, bytes))
+}
+
 // Places a row as a new object.
 fn place_row(region: &mut Region, number: u32, row: NewRow<'_>) -> Result<Place, NeedSegment>
     requires row { IsStored row }
     requires active { IsSome (active_of region.old) }
     ensures full { IsErr result ↔ left region.old < size row.entry.key.now row.entry.value.now }
     ensures unchanged { IfErr result (λ _. region.new ≡ region.old) }
-    ensures added { IfOk result (λ place. (item : Item) × Adds place item (live_at region.old) (live_at region.new) × IsRowOf item number (row_of row.entry)) }
+    ensures added { IfOk result (λ place. PlacesRow place number (row_of row.entry) (live_at region.old) (live_at region.new)) }
+    ensures rows { IfOk result (λ _. (q : Place) → HoldsARow (live_at region.old q) → live_at region.new q ≡ live_at region.old q) }
     ensures shape { shape region.new ≡ shape region.old }
     ensures left { IfOk result (λ _. left region.new + size row.entry.key.now row.entry.value.now ≡ left region.old) }
     ensures live { IfOk result (λ _. live_total region.new ≡ live_total region.old + size row.entry.key.now row.entry.value.now) }
@@ -124,7 +184,7 @@ fn place_row(region: &mut Region, number: u32, row: NewRow<'_>) -> Result<Place,
 
 // The live object at a place is dead from now on. Answers its bytes, the descriptor included.
 fn kill_row(region: &mut Region, place: Place) -> u32
-    requires { (item : Item) × (n : ℕ) × (row : Row) × (live_at region.old place ≡ Some item) × IsRowOf item n row }
+    requires { HoldsARow (live_at region.old place) }
     ensures size { IfSome (live_at region.old place) (λ item. result ≡ size_of item) }
     ensures dropped { Drops place (live_at region.old) (live_at region.new) }
     ensures live { live_total region.new + result ≡ live_total region.old }

@@ -41,7 +41,7 @@ unreachable-requires c =
     let t = c.self.inside.tables in let r = c.self.inside.region in let n = c.in_ok-row.row in let bytes = c.bytes-content.result.now in
     let listed = last_listed n t.recency c.in_ok-row.ensures in let h = c.self.invariant.tables.rows n listed in
     let e = subst (λ p. option_map (λ (s : Standing). s.item.content) (standing_at r p) ≡ Some bytes) (some_same c.place.ensures h.placed) c.bytes-content.ensures in
-    c.in_default.ensures.1 n listed (sym (c.key_in.ensures ∙ key_read r t.places n h bytes e))
+    c.in_default.ensures.absent n listed (sym (c.key_in.ensures ∙ key_read r t.places n h bytes e))
 
 pub returns-clause-last : goal.returns-clause-last
 returns-clause-last c =
@@ -56,7 +56,7 @@ returns-clause-rows c = λ _.
     let t = c.self.inside.tables in let r = c.self.inside.region in let n = c.in_ok-row.row in let bytes = c.bytes-content.result.now in
     let listed = last_listed n t.recency c.in_ok-row.ensures in let h = c.self.invariant.tables.rows n listed in
     let e = subst (λ p. option_map (λ (s : Standing). s.item.content) (standing_at r p) ≡ Some bytes) (some_same c.place.ensures h.placed) c.bytes-content.ensures in
-    let same = c.self.invariant.tables.apart c.in-Ok.found.row n c.in-Ok.ensures.1 listed (c.in-Ok.ensures.2 ∙ (c.key_in.ensures ∙ key_read r t.places n h bytes e)) in
+    let same = c.self.invariant.tables.apart c.in-Ok.found.row n c.in-Ok.ensures.listed listed (c.in-Ok.ensures.same ∙ (c.key_in.ensures ∙ key_read r t.places n h bytes e)) in
     c.drop_row.ensures.rows
     ∙ (ap (λ m. rows_with t r (delete m t.recency)) same
     ∙ (rows_before_last t r n c.self.invariant.tables c.in_ok-row.ensures ∙ ap (λ (x : CacheState). take (length (rows_of x) - 1) (rows_of x)) c.self.view_is))

@@ -3,6 +3,9 @@ use Rattle.std.proofs.lemmas.Bool.Decides.{leb_tells}
 use Rattle.regions.specs.Shapes.{Shape}
 use Rattle.regions.specs.Counts.{left}
 use Rattle.regions.specs.Lends.{with_content}
+use Rattle.regions.specs.Contents.{live_at}
+use Rattle.row_cache.specs.inside.NewRows.{row_of}
+use Rattle.row_cache.proofs.Caches.{row_stays}
 use Rattle.row_cache.proofs.Placed.{object_added, object_stays, zeros_long, left_added, stays_same}
 use Rattle.row_cache.proofs.cache.storing.place_row.Goals as goal
 
@@ -14,11 +17,15 @@ returns-clause-added c =
     let ws = c.write_row.new.content in let p = c.in_ok-place.place in let e = c.in_ok-place.ensures in let w = c.write_row.ensures in
     let old = zeros_long c.place.new.self p 1 c.row_size.result c.bytes_mut.result.now e.added.here c.bytes_mut.ensures.value in
     let same : length ws ≡ length c.bytes_mut.result.now = c.write_row.auto.content in
-    let whole = c.row_size.ensures in (
-      record { kind = 1; content = ws },
-      object_added c.args.region.now c.place.new.self (with_content c.place.new.self p ws) p 1 c.row_size.result ws e.added e.unused (c.bytes_mut.ensures.left ws same),
-      record { kind = refl; holds = w.holds; read = w.read; number = w.number; size = omega (arith, old, same, whole) },
-    )
+    let whole = c.row_size.ensures in
+    record {
+      item = record { kind = 1; content = ws };
+      is_row = record { kind = refl; holds = w.holds; read = w.read; number = w.number; size = omega (arith, old, same, whole) };
+      adds = object_added c.args.region.now c.place.new.self (with_content c.place.new.self p ws) p 1 c.row_size.result ws e.added e.unused (c.bytes_mut.ensures.left ws same);
+    }
+
+pub returns-clause-rows : goal.returns-clause-rows
+returns-clause-rows c = λ q here. row_stays (live_at c.args.region.now) (live_at (with_content c.place.new.self c.in_ok-place.place c.write_row.new.content)) c.in_ok-place.place q c.args.number (row_of c.args.row) (returns-clause-added c) here
 
 pub returns-clause-left : goal.returns-clause-left
 returns-clause-left c =

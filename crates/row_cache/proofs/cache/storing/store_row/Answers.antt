@@ -17,9 +17,9 @@ returns-clause-rows c =
     let t = c.args.tables.now in let r = c.args.region.now in let s = c.place_row.new.region in let added = c.in_ok-place.ensures.added in let row : Row = row_of c.args.row in
     let adds : AddsRow t c.args.at c.in_ok-place.place row (live_at r) (live_at s) = record {
       tables = c.requires.consistent.tables;
-      item = added.0;
-      is_row = subst (λ n. IsRowOf added.0 n row) c.next_number.ensures added.2;
-      adds = added.1;
+      item = added.item;
+      is_row = subst (λ n. IsRowOf added.item n row) c.next_number.ensures added.is_row;
+      adds = added.adds;
       absent = c.requires.absent;
       at = c.requires.at;
     } in

@@ -13,7 +13,7 @@ pub number_at-number-requires : goal.number_at-number-requires
 number_at-number-requires c =
     let live : Live = live_at c.args.store.now in let h = c.requires.copied in
     let m : IsMoved c.args.self.now live c.args._from c.args.to h.0 = row_moved c.args.self.now live c.args._from c.args.to h.0 c.requires.fits c.requires.apart h.2 h.3 in
-    (h.0, m.n, m.row, h.3, m.is_row)
+    record { item = h.0; is = h.3; number = m.n; row = m.row; is_row = m.is_row }
 
 pub put_at-requires : goal.put_at-requires
 put_at-requires c =
