@@ -1,3 +1,4 @@
 pub mod Spaces
 pub mod Works
+pub mod Lends
 pub mod inside

@@ -1,2 +1,3 @@
 -- What only the private parts of a space cite.
 pub mod Consistent
+pub mod Evicted

@@ -7,8 +7,10 @@
 //! ours.
 #![tactic(auto)]
 
+mod evicting;
 mod making_room;
 mod segments;
 mod space;
 
+pub use row_cache::{Put, Scanned};
 pub use space::Space;

@@ -1,12 +1,30 @@
-ghost use Rattle.std.specs.Prelude.{◌≡◌, ◌-◌, ◌^◌, ◌<◌, [], length, IfOk};
-ghost use Rattle.layout.specs.Sizes.{ArePages};
-ghost use Rattle.cache_model.specs.Row.{live};
-ghost use Rattle.reclaim.specs.Spaces.{SpaceState};
+ghost use Rattle.std.specs.Prelude.{◌≡◌, ◌⊎◌, ◌*◌, ◌+◌, ◌-◌, ◌^◌, ◌<◌, ◌≤◌, ℕ, List, [], ◌∷◌, length, take, drop, true, IfOk, IsSome};
+ghost use Rattle.layout.specs.Sizes as sizes;
+ghost use Rattle.trace_text.specs.declared.command.Kind.{Kind as Kinds};
+ghost use Rattle.cache_model.specs.declared.entry.Entry.{Entry as Entries};
+ghost use Rattle.cache_model.specs.Row.{live, size};
+ghost use Rattle.cache_model.specs.Apply as apply;
+ghost use Rattle.cache_model.specs.KeyBody.{AreKeys};
+ghost use Rattle.shard_memory.specs.Shards.{Shard};
+ghost use Rattle.regions.specs.Shapes.{active_of};
+ghost use Rattle.regions.specs.Counts.{left};
+ghost use Rattle.row_cache.specs.Rows.{rows_of, reply_of};
+ghost use Rattle.shard_rings.specs.Ask.{asked, IsAskable};
+ghost use Rattle.reclaim.specs.Spaces.{SpaceState, with_rows};
+ghost use Rattle.reclaim.specs.Works.{Records, StoresUnderPressure};
+ghost use Rattle.reclaim.specs.inside.Consistent.{IsConsistent};
 
+mod getting;
+
+use crate::evicting::find_room;
 use crate::segments::begin;
+use cache_model::Entry;
 use layout::SEGMENT_PAGES;
-use row_cache::RowCache;
+use row_bytes::row_size;
+use row_cache::{Put, RowCache, Scanned};
+use run_log::Journal;
 use shard_memory::ShardMemory;
+use shard_rings::Ask;
 use std::alloc::{AllocError, Global};
 use std::marker::Model;
 
@@ -36,7 +54,7 @@ impl Space {
     /// # Errors
     /// Want of memory. No other call takes memory.
     pub fn open(alloc: Global, shard: u32, pages: u32, rows: u32) -> Result<Space, AllocError>
-        requires pages { ArePages pages }
+        requires pages { sizes.ArePages pages }
         requires rows { rows < 2 ^ 32 - 1 }
         ensures { IfOk result (λ space. space ≡ record { shard = shard; pages = pages; room = rows; rows = [] }) }
     {
@@ -44,6 +62,51 @@ impl Space {
         let mut memory = ShardMemory::open(alloc, shard, pages)?;
         begin(&mut memory, &mut cache);
         Ok(Space { memory, cache })
+    }
+
+    /// Stores a row in front of the others; no other row has its key afterwards. It always stores: where no room can be made
+    /// otherwise, the rows that were used longest ago go, one by one, and the journal has an entry for each. Then it has
+    /// one that the command is done.
+    pub fn put(&mut self, ask: &Ask<'_>, journal: &mut Journal) -> Put
+        requires kind { ask.now.kind ≡ Kinds.Put }
+        requires askable { IsAskable (asked ask.now) }
+        requires room { (apply.has ask.now.key.now self.old.rows ≡ true) ⊎ (length self.old.rows < self.old.room) }
+        requires spare { length self.old.rows + 1 ≤ journal.old.spare }
+        ensures { StoresUnderPressure (asked ask.now) (reply_of result) self.old self.new journal.old journal.new }
+    {
+        let (memory, cache) = (&mut self.memory, &mut self.cache);
+        find_room(memory, cache, row_size(ask.key, ask.value), journal);
+        store(cache, ask, journal)
+    }
+
+    /// Removes the row of a key. False where no row has the key.
+    pub fn erase_here(&mut self, ask: &Ask<'_>, journal: &mut Journal) -> bool
+        requires kind { ask.now.kind ≡ Kinds.Erase }
+        requires spare { 1 ≤ journal.old.spare }
+        ensures found { result ≡ apply.has ask.now.key.now self.old.rows }
+        ensures rows { self.new ≡ with_rows self.old (apply.without ask.now.key.now self.old.rows) }
+        ensures recorded { Records journal.old journal.new (Entries.Done ask.now.number ∷ []) }
+    {
+        journal.add(Entry::Done(ask.number));
+        self.cache.erase(ask.key)
+    }
+
+    /// Writes the first keys at or above a key, in the order of their bytes and at most the count of the ask, to the front of
+    /// `into`: each behind its length in two bytes, low byte first. The bytes behind them stay. `into` has room for so many
+    /// keys of the greatest length.
+    pub fn scan_here(&mut self, ask: &Ask<'_>, into: &mut [u8], journal: &mut Journal) -> Scanned
+        requires kind { ask.now.kind ≡ Kinds.Scan }
+        requires askable { IsAskable (asked ask.now) }
+        requires room { sizes.key_room * ask.now.count ≤ length into.old }
+        requires spare { 1 ≤ journal.old.spare }
+        ensures keys { (keys : List (List ℕ)) × ((apply.scan ask.now.key.now ask.now.count self.old.rows).1 ≡ apply.Keys keys) × (result.keys ≡ length keys) × AreKeys (take result.bytes into.new) keys }
+        ensures within { result.bytes ≤ length into.old }
+        ensures behind { drop result.bytes into.new ≡ drop result.bytes into.old }
+        ensures unchanged { self.new ≡ self.old }
+        ensures recorded { Records journal.old journal.new (Entries.Done ask.now.number ∷ []) }
+    {
+        journal.add(Entry::Done(ask.number));
+        self.cache.scan(ask.key, ask.count, into)
     }
 
     /// How many rows there are.
@@ -59,4 +122,24 @@ impl Space {
     {
         self.cache.live()
     }
+}
+
+// Stores the row, for which the active segment has room.
+fn store(cache: &mut RowCache, ask: &Ask<'_>, journal: &mut Journal) -> Put
+    requires askable { IsAskable (asked ask.now) }
+    requires active { IsSome (active_of cache.old.region) }
+    requires fits { size ask.now.key.now ask.now.value.now ≤ left cache.old.region }
+    requires room { (apply.has ask.now.key.now (rows_of cache.old) ≡ true) ⊎ (length (rows_of cache.old) < cache.old.room) }
+    requires spare { 1 ≤ journal.old.spare }
+    ensures rows { rows_of cache.new ≡ (apply.put ask.now.key.now ask.now.value.now ask.now.number (rows_of cache.old)).0 }
+    ensures reply { reply_of result ≡ (apply.put ask.now.key.now ask.now.value.now ask.now.number (rows_of cache.old)).1 }
+    ensures recorded { Records journal.old journal.new (Entries.Done ask.now.number ∷ []) }
+    ensures consistent { (shard pages : ℕ) (memory : Shard) → IsConsistent shard pages memory cache.old.region → IsConsistent shard pages memory cache.new.region }
+    ensures tables { cache.new.room ≡ cache.old.room }
+{
+    let Ok(did) = cache.put(ask.key, ask.value, ask.number) else {
+        unreachable!()
+    };
+    journal.add(Entry::Done(ask.number));
+    did
 }
