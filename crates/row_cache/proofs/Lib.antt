@@ -8,3 +8,4 @@ pub mod Looked
 pub mod Placed
 pub mod Ordered
 pub mod Written
+pub mod GivenUp

@@ -1,8 +1,8 @@
 //! The segments of a cache: the region's calls, which leave its rows as they are.
-ghost use Rattle.std.specs.Prelude.{◌≡◌, ◌↔◌, ◌⊎◌, ◌+◌, ◌-◌, ◌<◌, ◌≤◌, ℕ, [], length, Some, None, IfSome, IsNone, IsSome};
+ghost use Rattle.std.specs.Prelude.{◌≡◌, ◌↔◌, ◌⊎◌, ◌+◌, ◌-◌, ◌<◌, ◌≤◌, ℕ, [], length, slice_get, slice_set, Some, None, IfSome, IsNone, IsSome};
 ghost use Rattle.layout.specs.Sizes as sizes;
 ghost use Rattle.regions.specs.Segments.{segment_at, with_segment, fresh, all_emptied};
-ghost use Rattle.regions.specs.Shapes.{shape, active_of, guards_of, pieces, held_count, free_count, activated, IsLeastFree, IsGreatestFree, IsGreatestHeld, IsLeastUnused};
+ghost use Rattle.regions.specs.Shapes.{identity, shape, active_of, guards_of, pieces, held_count, free_count, activated, IsLeastFree, IsGreatestFree, IsGreatestHeld, IsLeastUnused};
 ghost use Rattle.regions.specs.Counts.{left};
 ghost use Rattle.compaction.specs.Sparse.{IsCompacted};
 ghost use Rattle.compaction.specs.Emptied.{HoldsTheSame};
@@ -101,8 +101,11 @@ impl RowCache {
         ensures none { IsNone result ↔ held_count self.old.region ≡ 0 }
         ensures rows { rows_of self.new ≡ [] }
         ensures room { self.new.room ≡ self.old.room }
+        ensures given { IfSome result (λ piece. (n : ℕ) × IsGreatestHeld self.old.region n × (slice_get (pieces self.old.region) n ≡ Some (Some (identity piece))) × (pieces self.new.region ≡ slice_set (pieces self.old.region) n None)) }
         ensures held { IsSome result → held_count self.new.region + 1 ≡ held_count self.old.region }
         ensures free { free_count self.new.region ≡ held_count self.new.region }
+        ensures most { (shape self.new.region).most ≡ (shape self.old.region).most }
+        ensures guards { guards_of self.new.region ≡ 0 }
     {
         while self.evict_last().is_some() {}
         self.region.give_up()
