@@ -1,24 +1,25 @@
 -- The region is made of the segments of the memory, also after one more was given.
-use Rattle.std.proofs.Common.{◌≡◌, ◌≢◌, ◌⊎◌, inl, inr, ℕ, zero, suc, ◌+◌, ◌*◌, Bool, false, cond, List, [], ◌∷◌, length, replicate, refl, sym, ap, ◌∙◌, subst, arith}
-use Rattle.std.specs.Prelude.{Option, None, Some, slice_get, slice_set, Contains, option_map, map}
+use Rattle.std.proofs.Common.{◌≡◌, ◌≢◌, ◌⊎◌, inl, inr, ℕ, zero, suc, ◌+◌, ◌*◌, ◌<◌, Bool, true, false, not, ◌==◌, cond, List, [], ◌∷◌, length, replicate, refl, sym, ap, ◌∙◌, subst, arith}
+use Rattle.std.specs.Prelude.{Option, None, Some, slice_get, slice_set, slice_index_or, filter, Contains, option_map, map}
 use Rattle.std.specs.List.{count_by}
+use Rattle.std.proofs.lemmas.Bool.{ne_eqb}
 use Rattle.std.proofs.lemmas.List.{map-set}
 use Rattle.std.proofs.lemmas.List.Sums.{sum_by-cons}
 use Rattle.std.proofs.lemmas.List.Elements.{All-contains}
 use Rattle.layout.specs.Sizes.{page}
 use Rattle.layout.specs.Extents.{Extent, extent, Disjoint, IsWithin, AreDisjoint}
-use Rattle.raw_range.specs.Memory.{Lent, extent_of}
+use Rattle.raw_range.specs.Memory.{Lent, extent_of, remove_extent}
 use Rattle.shard_memory.specs.Shards.{Shard, AreApart}
 use Rattle.regions.specs.Segments.{RegionState, with_segment, fresh}
 use Rattle.regions.specs.Shapes.{Identity, Slot, identity, slot_of, slots_of, shape, is_held, pieces, pieces_in, guards_of, held_count}
 use Rattle.reclaim.specs.inside.Consistent.{IsOf, HoldsAll, IsMadeOf}
 
-got-set : {X : Type 0} (xs : List X) (n m : ℕ) (x y : X) → slice_get (slice_set xs n x) m ≡ Some y → ((m ≡ n) × (x ≡ y)) ⊎ (slice_get xs m ≡ Some y)
-got-set [] n m x y e = inr e
+got-set : {X : Type 0} (xs : List X) (n m : ℕ) (x y : X) → slice_get (slice_set xs n x) m ≡ Some y → ((m ≡ n) × (x ≡ y)) ⊎ ((m ≢ n) × (slice_get xs m ≡ Some y))
+got-set [] n m x y e = absurd (let clash : None ≡ Some y = e in cc)
 got-set (a ∷ xs) zero zero x y e = inl (refl, (let some : Some x ≡ Some y = e in cc))
-got-set (a ∷ xs) zero (suc m) x y e = inr e
-got-set (a ∷ xs) (suc n) zero x y e = inr e
-got-set (a ∷ xs) (suc n) (suc m) x y e = elim (got-set xs n m x y e) [ inl here ↦ inl (ap (λ k. suc k) here.0, here.1) | inr there ↦ inr there ]
+got-set (a ∷ xs) zero (suc m) x y e = inr (λ h. omega (arith, h), e)
+got-set (a ∷ xs) (suc n) zero x y e = inr (λ h. omega (arith, h), e)
+got-set (a ∷ xs) (suc n) (suc m) x y e = elim (got-set xs n m x y e) [ inl here ↦ inl (ap (λ k. suc k) here.0, here.1) | inr there ↦ inr (λ h. there.0 (omega (arith, h)), there.1) ]
 
 -- the pieces of a region with another segment at the number
 pieces-set : (r : RegionState) (n : ℕ) (piece : Lent) → pieces (with_segment r n (Some (fresh piece))) ≡ slice_set (pieces r) n (Some (identity piece))
@@ -26,10 +27,13 @@ pieces-set r n piece =
     ap (map (λ s. option_map (λ (b : Slot). b.piece) s)) (map-set (λ s. option_map slot_of s) r.segments n (Some (fresh piece)))
     ∙ map-set (λ s. option_map (λ (b : Slot). b.piece) s) (slots_of r.segments) n (Some (slot_of (fresh piece)))
 
+further : (p q : Extent) (ps : List Extent) → Contains ps q → Contains (p ∷ ps) q
+further p q ps h = (suc h.0, (let inside = h.1 in omega arith), h.2)
+
 -- a segment that was just given begins where no other one does
 module _ (old new : Shard) (given : Extent) (apart : AreApart new) (segments : new.segments ≡ given ∷ old.segments) where
   pub still-contained : (p : Extent) → Contains old.segments p → Contains new.segments p
-  still-contained p h = subst (λ xs. Contains xs p) (sym segments) (suc h.0, (let inside = h.1 in omega arith), h.2)
+  still-contained p h = subst (λ xs. Contains xs p) (sym segments) (further given p old.segments h)
 
   begins-elsewhere : (p : Extent) → Contains old.segments p → p.start ≢ given.start
   begins-elsewhere p h same =
@@ -49,7 +53,7 @@ module _ (old new : Shard) (piece : Lent) (home : (piece.home ≡ old.home) × (
   held-by m q e =
       elim (got-set (pieces r) n m (Some (identity piece)) (Some q) (ap (λ ps. slice_get ps m) (sym (pieces-set r n piece)) ∙ e)) [
         | inl here ↦ inl (here.0, (let some : Some (identity piece) ≡ Some q = here.1 in cc))
-        | inr there ↦ inr there
+        | inr there ↦ inr there.1
       ]
 
   elsewhere : (m : ℕ) (q : Identity) → slice_get (pieces r) m ≡ Some (Some q) → q.at ≢ piece.at
@@ -115,3 +119,31 @@ holds-none memory k region segments none = record {
   apart = λ m n a b e f same. absurd (no-piece k n b (ap (λ xs. slice_get (pieces_in (slots_of xs)) n) (sym none) ∙ f));
   count = ap (λ xs. count_by is_held (slots_of xs)) none ∙ none-counted is_held k refl ∙ ap length (sym segments);
 }
+
+-- what passes stays in a list where the others go
+kept-at : (test : Extent → Bool) (q : Extent) (ps : List Extent) (k : ℕ) → k < length ps → slice_index_or ps k q ≡ q → test q ≡ true → Contains (filter test ps) q
+kept-at test q [] k inside at is = absurd (omega (arith, inside))
+kept-at test q (p ∷ ps) zero inside at is = subst (λ b. Contains (cond b (p ∷ filter test ps) (filter test ps)) q) (sym (ap test at ∙ is)) (0, omega arith, at)
+kept-at test q (p ∷ ps) (suc k) inside at is =
+    let rest = kept-at test q ps k (omega (arith, inside)) at is in
+    elim (test p) as (λ b. Contains (cond b (p ∷ filter test ps) (filter test ps)) q) [ true ↦ further p q (filter test ps) rest | false ↦ rest ]
+
+-- a segment was given back
+module _ (old new : Shard) (home : new.home ≡ old.home) (piece : Lent) (segments : new.segments ≡ remove_extent (extent_of piece) old.segments) (one-less : length new.segments + 1 ≡ length old.segments)
+    (r next : RegionState) (n : ℕ) (there : slice_get (pieces r) n ≡ Some (Some (identity piece))) (without : pieces next ≡ slice_set (pieces r) n None) (held : held_count next + 1 ≡ held_count r) (h : HoldsAll old r) where
+  held-still : (m : ℕ) (q : Identity) → slice_get (pieces next) m ≡ Some (Some q) → (m ≢ n) × (slice_get (pieces r) m ≡ Some (Some q))
+  held-still m q e =
+      elim (got-set (pieces r) n m None (Some q) (ap (λ ps. slice_get ps m) (sym without) ∙ e)) [
+        | inl here ↦ absurd (let clash : None ≡ Some q = here.1 in cc)
+        | inr other ↦ other
+      ]
+
+  pub holds-less : HoldsAll new next
+  holds-less = record {
+    of = λ m q e.
+        let was = held-still m q e in let of = h.of m q was.1 in
+        let elsewhere : q.at ≢ piece.at = λ same. was.0 (h.apart m n q (identity piece) was.1 there same) in
+        record { home = of.home ∙ sym home; segment = subst (λ xs. Contains xs (extent q.at q.length)) (sym segments) (kept-at (λ b. not (b.start == piece.at)) (extent q.at q.length) old.segments of.segment.0 of.segment.1 of.segment.2 (ap not (ne_eqb q.at piece.at elsewhere))) };
+    apart = λ j k a b f g same. h.apart j k a b (held-still j a f).1 (held-still k b g).1 same;
+    count = let counted = h.count in omega (arith, held, one-less, counted);
+  }

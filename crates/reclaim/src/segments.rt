@@ -63,3 +63,26 @@ pub(crate) fn add_segment(memory: &mut ShardMemory, cache: &mut RowCache) -> boo
     cache.add_segment(piece);
     true
 }
+
+// Gives all segments of the cache back to the pages. Its rows go.
+pub(crate) fn give_back(memory: &mut ShardMemory, cache: &mut RowCache)
+    requires made { IsMadeOf memory.old.owner memory.old.pages memory.old cache.old.region }
+    ensures segments { memory.new.segments ≡ [] }
+    ensures blocks { memory.new.blocks ≡ [] }
+{
+    while give_one_back(memory, cache) {}
+}
+
+// Gives one segment of the cache back to the pages. False where it has none.
+fn give_one_back(memory: &mut ShardMemory, cache: &mut RowCache) -> bool
+    requires made { IsMadeOf memory.old.owner memory.old.pages memory.old cache.old.region }
+    ensures made { result ≡ true → IsMadeOf memory.new.owner memory.new.pages memory.new cache.new.region }
+    ensures one_less { result ≡ true → length memory.new.segments + 1 ≡ length memory.old.segments }
+    ensures none { result ≡ false → (memory.new.segments ≡ []) × (memory.new.blocks ≡ []) }
+{
+    let Some(piece) = cache.give_up() else {
+        return false;
+    };
+    memory.segment_back(piece);
+    true
+}

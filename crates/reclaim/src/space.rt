@@ -17,7 +17,7 @@ ghost use Rattle.reclaim.specs.inside.Consistent.{IsConsistent};
 mod getting;
 
 use crate::evicting::find_room;
-use crate::segments::begin;
+use crate::segments::{begin, give_back};
 use cache_model::Entry;
 use layout::SEGMENT_PAGES;
 use row_bytes::row_size;
@@ -121,6 +121,13 @@ impl Space {
         ensures { result ≡ live self.now.rows }
     {
         self.cache.live()
+    }
+
+    /// Gives the memory back.
+    pub fn finish(self) {
+        let (mut memory, mut cache) = (self.memory, self.cache);
+        give_back(&mut memory, &mut cache);
+        memory.finish();
     }
 }
 
