@@ -11,5 +11,5 @@ pub mod Members
 pub mod Emptied
 pub mod Sums
 pub mod Stores
-pub mod Places
 pub mod Walked
+pub mod Copied

@@ -1,2 +1,3 @@
 -- What only the private parts of a region cite.
 pub mod Consistent
+pub mod Tables

@@ -16,7 +16,7 @@ mod reading;
 use crate::live_table::{LiveTable, NOT_CLOSED};
 use crate::place::{NeedSegment, Place};
 use crate::segment::Segment;
-use crate::slots::{clear, clear_all, is_begun, piece_of, segment_in, segment_mut};
+use crate::slots::{clear, clear_all, copy_into, is_begun, piece_of, segment_in, segment_mut};
 use layout::SEGMENT;
 use number_set::NumberSet;
 use raw_range::Piece;
@@ -199,12 +199,10 @@ impl Region {
         segment_mut(&mut self.slots[place.segment as usize]).content_mut(place.at)
     }
 
-    /// Writes the content of the live object at `from` over that of the live object at `to`, which has the same size and
-    /// stands in another segment.
+    /// Writes the content of the live object at `from` over that of the live object at `to`, which has the same size.
     pub fn copy(&mut self, from: Place, to: Place)
         requires from { IsSome (live_at self.old from) }
         requires to { IsSome (live_at self.old to) }
-        requires apart { from.segment ≢ to.segment }
         requires size { option_map size_of (live_at self.old from) ≡ option_map size_of (live_at self.old to) }
         ensures copied { IfSome (live_at self.old from) (λ i. ChangesAt to (option_map (with_bytes i.content) (standing_at self.old to)) self.old self.new) }
         ensures used { used_counts self.new ≡ used_counts self.old }
@@ -213,8 +211,7 @@ impl Region {
         ensures shape { shape self.new ≡ shape self.old }
     {
         let mut target = mem::replace(&mut self.slots[to.segment as usize], None);
-        let content = segment_in(&self.slots[from.segment as usize]).content(from.at);
-        overwrite(segment_mut(&mut target).content_mut(to.at), content);
+        copy_into(segment_mut(&mut target), self.slots.as_slice(), from, to);
         self.slots[to.segment as usize] = target;
     }
 
@@ -298,14 +295,6 @@ fn least_absent_from(set: &NumberSet) -> u32
         unreachable!()
     };
     number
-}
-
-// The bytes are the content from now on.
-fn overwrite(content: &mut [u8], bytes: &[u8])
-    requires { length content.old ≡ length bytes.now }
-    ensures { content.new ≡ bytes.now }
-{
-    content.copy_from_slice(bytes);
 }
 
 fn is_active(active: Option<u32>, number: u32) -> bool

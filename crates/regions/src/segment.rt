@@ -2,10 +2,11 @@ ghost use Rattle.std.specs.Prelude.{◌≡◌, ◌⊎◌, ℕ, ◌+◌, ◌<◌,
 ghost use Rattle.std.specs.Borrow.{Array, Lends, sem, u8 as byte};
 ghost use Rattle.layout.specs.Sizes as sizes;
 ghost use Rattle.object_log.specs.Objects.{IsSize, IsSegment};
+ghost use Rattle.raw_range.specs.Memory.{written};
 ghost use Rattle.regions.specs.Segments.{fresh, emptied};
 ghost use Rattle.regions.specs.Shapes.{slot_of};
 ghost use Rattle.regions.specs.Counts.{live_in};
-ghost use Rattle.regions.specs.Contents.{standing_in, item_if_live, size_of, zeros, dead, rewritten, starts_in, none_lives_in, ChangesIn, IsLiveAt};
+ghost use Rattle.regions.specs.Contents.{standing_in, item_if_live, size_of, zeros, dead, rewritten, with_bytes, starts_in, none_lives_in, ChangesIn, IsLiveAt};
 
 use layout::DESCRIPTOR;
 use object_log::{append, content_extent, kill, read_descriptor};
@@ -152,6 +153,34 @@ impl Segment {
         self.piece.part_mut(start, len)
     }
 
+    // Writes the content of a live object over that of another of its size.
+    pub(crate) fn copy_within(&mut self, from: u32, to: u32)
+        requires from { IsSome (item_if_live (standing_in (Some self.old) from)) }
+        requires to { IsSome (item_if_live (standing_in (Some self.old) to)) }
+        requires size { option_map size_of (item_if_live (standing_in (Some self.old) from)) ≡ option_map size_of (item_if_live (standing_in (Some self.old) to)) }
+        ensures slot { slot_of self.new ≡ slot_of self.old }
+        ensures used { self.new.used ≡ self.old.used }
+        ensures live { live_in (Some self.new) ≡ live_in (Some self.old) }
+        ensures copied { IfSome (item_if_live (standing_in (Some self.old) from)) (λ i. ChangesIn to (option_map (with_bytes i.content) (standing_in (Some self.old) to)) (Some self.old) (Some self.new)) }
+    {
+        let (start, len) = content_extent(self.piece.bytes(), from);
+        let (target, _len) = content_extent(self.piece.bytes(), to);
+        copy_run(self.piece.bytes_mut(), start, len, target);
+    }
+
+    // The same, from a live object of another segment.
+    pub(crate) fn copy_from(&mut self, source: &Segment, from: u32, to: u32)
+        requires from { IsSome (item_if_live (standing_in (Some source.now) from)) }
+        requires to { IsSome (item_if_live (standing_in (Some self.old) to)) }
+        requires size { option_map size_of (item_if_live (standing_in (Some source.now) from)) ≡ option_map size_of (item_if_live (standing_in (Some self.old) to)) }
+        ensures slot { slot_of self.new ≡ slot_of self.old }
+        ensures used { self.new.used ≡ self.old.used }
+        ensures live { live_in (Some self.new) ≡ live_in (Some self.old) }
+        ensures copied { IfSome (item_if_live (standing_in (Some source.now) from)) (λ i. ChangesIn to (option_map (with_bytes i.content) (standing_in (Some self.old) to)) (Some self.old) (Some self.new)) }
+    {
+        overwrite(self.content_mut(to), source.content(from));
+    }
+
     // The first live object from the offset on: its own offset, its kind and its size.
     pub(crate) fn next_live(&self, from: u32) -> Option<(u32, u8, u32)>
         requires begun { self.now.free ≡ false }
@@ -195,6 +224,23 @@ fn part(bytes: &[u8], at: usize, len: usize) -> &[u8]
     ensures { result.now ≡ take len (drop at bytes.now) }
 {
     &bytes[at..at + len]
+}
+
+// The bytes are the content from now on.
+fn overwrite(content: &mut [u8], bytes: &[u8])
+    requires { length content.old ≡ length bytes.now }
+    ensures { content.new ≡ bytes.now }
+{
+    content.copy_from_slice(bytes);
+}
+
+// Writes `len` bytes from `from` on over as many from `to` on.
+fn copy_run(bytes: &mut [u8], from: usize, len: usize, to: usize)
+    requires from { from + len ≤ length bytes.old }
+    requires to { to + len ≤ length bytes.old }
+    ensures { bytes.new ≡ written bytes.old to (take len (drop from bytes.old)) }
+{
+    bytes.copy_within(from..from + len, to);
 }
 
 // The bytes are a segment without objects from now on.

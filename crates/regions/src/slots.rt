@@ -1,13 +1,15 @@
 // One place of a region's table of segments, and the table.
-ghost use Rattle.std.specs.Prelude.{◌≡◌, ℕ, true, Some, None, option_map, IsSome, map};
+ghost use Rattle.std.specs.Prelude.{◌≡◌, ℕ, ◌<◌, true, Some, None, length, option_map, IsSome, IfSome, map};
 ghost use Rattle.std.specs.Borrow.{Lends, sem};
 ghost use Rattle.std.specs.contracts.option.Option.{the_row as OptionOf};
 ghost use Rattle.regions.specs.contracts.segment.Segment.{the_row};
 ghost use Rattle.regions.specs.Segments.{fresh, emptied};
 ghost use Rattle.regions.specs.Counts.{live_in};
-ghost use Rattle.regions.specs.Contents.{item_if_live, standing_in};
+ghost use Rattle.regions.specs.Contents.{item_if_live, standing_in, size_of, with_bytes, ChangesIn};
 ghost use Rattle.regions.specs.Shapes.{slot_of, is_free, is_begun};
+ghost use Rattle.regions.specs.inside.Tables.{standing_with};
 
+use crate::place::Place;
 use crate::segment::Segment;
 use raw_range::Piece;
 
@@ -28,6 +30,25 @@ pub(crate) fn segment_mut(slot: &mut Option<Segment>) -> &mut Segment
 {
     let Some(segment) = slot else { unreachable!() };
     segment
+}
+
+// Writes the content of the live object at `from` over that of the live object at `to`, which has the same size.
+// `target` is the segment of the second, which was taken out of the table.
+pub(crate) fn copy_into(target: &mut Segment, slots: &[Option<Segment>], from: Place, to: Place)
+    requires inside { to.segment < length slots.now }
+    requires from { IsSome (item_if_live (standing_with slots.now to.segment target.old from)) }
+    requires to { IsSome (item_if_live (standing_in (Some target.old) to.at)) }
+    requires size { option_map size_of (item_if_live (standing_with slots.now to.segment target.old from)) ≡ option_map size_of (item_if_live (standing_in (Some target.old) to.at)) }
+    ensures slot { slot_of target.new ≡ slot_of target.old }
+    ensures used { target.new.used ≡ target.old.used }
+    ensures live { live_in (Some target.new) ≡ live_in (Some target.old) }
+    ensures copied { IfSome (item_if_live (standing_with slots.now to.segment target.old from)) (λ i. ChangesIn to.at (option_map (with_bytes i.content) (standing_in (Some target.old) to.at)) (Some target.old) (Some target.new)) }
+{
+    if from.segment == to.segment {
+        target.copy_within(from.at, to.at);
+    } else {
+        target.copy_from(segment_in(&slots[from.segment as usize]), from.at, to.at);
+    }
 }
 
 // The piece of a free segment.

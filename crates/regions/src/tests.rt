@@ -5,7 +5,7 @@ ghost use Rattle.layout.specs.Sizes as sizes;
 ghost use Rattle.regions.specs.Shapes.{active_of, IsClosed};
 ghost use Rattle.regions.specs.Contents.{standing_at, live_at, with_bytes, ChangesAt, IsLiveAt};
 
-use crate::{Movers, NeedSegment, Place, Region};
+use crate::{NeedSegment, Place, Region};
 use raw_range::{Piece, Range};
 use std::alloc::{AllocError, Global};
 use std::test::Fail;
@@ -336,6 +336,37 @@ fn a_content_is_copied_into_the_active_segment(rt: HostRuntime) -> Result<(), Fa
     Ok(())
 }
 
+// A content that is copied over another in the same segment. What the two are then.
+fn copy_beside(region: &mut Region) -> Option<(bool, bool)> {
+    if region.active().is_none() {
+        return None;
+    }
+    let Ok(first) = region.place(1, 48) else {
+        return None;
+    };
+    let Ok(second) = region.place(2, 48) else {
+        return None;
+    };
+    overwrite(region, first, &[7; 40]);
+    region.copy(first, second);
+    Some((
+        region.bytes(first) == [7u8; 40].as_slice(),
+        region.bytes(second) == [7u8; 40].as_slice(),
+    ))
+}
+
+#[test]
+fn a_content_is_copied_beside_its_object(rt: HostRuntime) -> Result<(), Fail> {
+    let mut region = three_segments(rt.alloc())?;
+    assert_eq!(rt; go_on(&mut region), Some(0));
+    assert_eq!(rt; copy_beside(&mut region), Some((true, true)));
+    spend_ten(&mut region);
+    assert_eq!(rt; go_on(&mut region), Some(1));
+    assert!(rt; has(&region, 0, 0, &[1, 1, 0, 0, 48, 0, 0, 0]));
+    assert!(rt; has(&region, 0, 48, &[1, 2, 0, 0, 48, 0, 0, 0, 7, 7]));
+    Ok(())
+}
+
 fn owner(piece: Option<Piece>) -> Option<u32> {
     match piece {
         Some(piece) => Some(piece.owner()),
@@ -360,32 +391,4 @@ fn the_last_free_segment_stays_until_all_is_given_up(rt: HostRuntime) -> Result<
     assert_eq!(rt; give_up(&mut region), Some(0));
     assert_eq!(rt; give_up(&mut region), None);
     Ok(())
-}
-
-// A mover with one name, 0, whose objects refer to none.
-#[derive(Drop)]
-struct One {
-    place: Place,
-}
-
-impl Movers for One {
-    ghost use Rattle.std.specs.Prelude.{◌≡◌, ◌==◌, cond, Some, None, IsSome, List, []};
-    ghost use Rattle.regions.specs.Contents.{Item};
-    ghost use Rattle.regions.specs.declared.place.Place.{Place as At};
-
-    ghost fits = { λ m live. IsSome (live m.place) × ((p : At) (i : Item) → live p ≡ Some i → p ≡ m.place) };
-
-    ghost place_of = { λ m n. cond (n == 0) (Some m.place) None };
-
-    ghost bare = { λ i. i };
-
-    ghost references = { λ i. [] };
-
-    ghost Rest = { Unit {0} };
-
-    ghost rest = { λ m. tt };
-
-    fn moved(&mut self, _store: &mut Region, _kind: u8, _from: Place, to: Place) {
-        self.place = to;
-    }
 }
