@@ -64,9 +64,13 @@ get key cache = get_where (row_of key cache) key cache
 abbrev pub erase : List ℕ → List Row → List Row × Reply
 erase key cache = (without key cache, if has key cache then Erased else Missing)
 
+-- the keys from one on, in the order of their bytes, at most so many
+abbrev pub scanned : List ℕ → ℕ → List Row → List (List ℕ)
+scanned key count cache = take count (in_order (filter (is_at_most key) (map (λ row. row.key) cache)))
+
 -- a scan looks up the keys from its own on, at most its count of them
 abbrev pub scan : List ℕ → ℕ → List Row → List Row × Reply
-scan key count cache = (cache, Keys (take count (in_order (filter (is_at_most key) (map (λ row. row.key) cache)))))
+scan key count cache = (cache, Keys (scanned key count cache))
 
 abbrev pub apply_kind : Kind → Operation → List Row → List Row × Reply
 apply_kind kinds.Put operation cache = put operation.key operation.value operation.number cache

@@ -2,7 +2,7 @@ ghost use Rattle.std.specs.Prelude.{◌≡◌, ◌+◌, ◌-◌, ◌*◌, ◌/�
 ghost use Rattle.std.specs.Bool.{OnTrue, OnFalse};
 ghost use Rattle.std.specs.List.{last_or};
 ghost use Rattle.trace_text.specs.Operation.{operation};
-ghost use Rattle.cache_model.specs.Apply.{apply, get, has, in_order, is_at_most, is_of, put, row_of, scan, without, HasDistinctKeys};
+ghost use Rattle.cache_model.specs.Apply.{apply, get, has, is_at_most, is_of, put, row_of, scan, scanned, without, HasDistinctKeys};
 ghost use Rattle.plain_cache.specs.inside.OwnedRow.{row_in, IsPositionOf, IsSmall};
 ghost use Rattle.cache_model.specs.Legal.{can_evict, is_of_put};
 ghost use Rattle.cache_model.specs.Row.{live, floor};
@@ -163,7 +163,7 @@ fn scanned<'a>(
     key: &[u8],
     count: u32,
 ) -> Result<Vec<&'a [u8]>, AllocError>
-    ensures keys { IfOk result (λ keys. map (λ found. found.now) keys.items ≡ take count (in_order (filter (is_at_most key.now) (map (λ row. row.key) (map row_in rows.now))))) }
+    ensures keys { IfOk result (λ keys. map (λ found. found.now) keys.items ≡ scanned key.now count (map row_in rows.now)) }
     ensures short { All IsSmall rows.now → IfOk result (λ keys. All (λ found. length found.now ≤ greatest_key) keys.items) }
 {
     let mut keys = keys_from(alloc, rows, key)?;
