@@ -1,4 +1,4 @@
-ghost use Rattle.std.specs.Prelude.{◌≡◌, ◌⊎◌, ◌*◌, ◌+◌, ◌-◌, ◌^◌, ◌<◌, ◌≤◌, ℕ, List, [], ◌∷◌, length, take, drop, true, IfOk, IsSome};
+ghost use Rattle.std.specs.Prelude.{◌≡◌, ◌⊎◌, ◌*◌, ◌+◌, ◌-◌, ◌^◌, ◌<◌, ◌≤◌, ℕ, [], ◌∷◌, length, take, drop, true, IfOk, IsSome};
 ghost use Rattle.layout.specs.Sizes as sizes;
 ghost use Rattle.trace_text.specs.declared.command.Kind.{Kind as Kinds};
 ghost use Rattle.cache_model.specs.declared.entry.Entry.{Entry as Entries};
@@ -99,7 +99,8 @@ impl Space {
         requires askable { IsAskable (asked ask.now) }
         requires room { sizes.key_room * ask.now.count ≤ length into.old }
         requires spare { 1 ≤ journal.old.spare }
-        ensures keys { (keys : List (List ℕ)) × ((apply.scan ask.now.key.now ask.now.count self.old.rows).1 ≡ apply.Keys keys) × (result.keys ≡ length keys) × AreKeys (take result.bytes into.new) keys }
+        ensures count { result.keys ≡ length (apply.scanned ask.now.key.now ask.now.count self.old.rows) }
+        ensures keys { AreKeys (take result.bytes into.new) (apply.scanned ask.now.key.now ask.now.count self.old.rows) }
         ensures within { result.bytes ≤ length into.old }
         ensures behind { drop result.bytes into.new ≡ drop result.bytes into.old }
         ensures unchanged { self.new ≡ self.old }

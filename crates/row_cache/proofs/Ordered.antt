@@ -7,15 +7,16 @@ use Rattle.std.proofs.lemmas.Cmp.{nat_list_cmp_total}
 use Rattle.std.proofs.lemmas.List.Elements.{All-filter}
 use Rattle.std.proofs.lemmas.List.Kept.{IsSortedBy-filter}
 use Rattle.std.proofs.lemmas.List.Sorted.{IsPermutation-map, ranks_by}
+use Rattle.std.proofs.lemmas.Simd.{map-map}
 use Rattle.cache_model.specs.Apply.{in_order, is_at_most}
+use Rattle.cache_model.specs.Row.{Row}
 use Rattle.common_lemmas.specs.Lists.{times}
 use Rattle.common_lemmas.proofs.Counts.{same-filter, same-permutation}
 use Rattle.key_index.specs.Index.{Index}
 use Rattle.key_index.specs.Order.{key_cmp, AreRising, rows_from}
 use Rattle.regions.specs.Stores.{Live}
-use Rattle.row_cache.specs.Rows.{key_at}
-use Rattle.row_cache.specs.inside.Tables.{TableState, AreTablesOf, IsListed}
-use Rattle.row_cache.proofs.States.{index_all}
+use Rattle.row_cache.specs.Rows.{key_at, row_at, rows_at}
+use Rattle.row_cache.specs.inside.Tables.{TableState, AreTablesOf, HasRow}
 
 filter-map : (p : List ℕ → Bool) (key : ℕ → List ℕ) (ns : List ℕ) → filter p (map key ns) ≡ map key (filter (λ n. p (key n)) ns)
 filter-map p key [] = refl
@@ -35,11 +36,11 @@ sorted_keys key (n ∷ m ∷ ns) up zero d low high = ap is_lt (nat_list_cmp_tot
 sorted_keys key (n ∷ m ∷ ns) up (suc i) d low high = rw add-one (rw add-one at (sorted_keys key (m ∷ ns) up.1 i d (omega arith) (omega arith)))
 
 -- the rows of an index from a key on, where others are the same rows
-pub keys_from : (key : ℕ → List ℕ) (lo : List ℕ) (others rows : List ℕ) → ((n : ℕ) → times n rows ≡ times n others) → AreRising key rows
+keys_in_order : (key : ℕ → List ℕ) (lo : List ℕ) (others rows : List ℕ) → ((n : ℕ) → times n rows ≡ times n others) → AreRising key rows
     → ((keys sorted : List (List ℕ)) → IsPermutation keys sorted → IsSorted (slice_cmp nat_cmp) sorted → in_order keys ≡ sorted)
     → map key (rows_from key lo rows) ≡ in_order (filter (is_at_most lo) (map key others))
 unfolding key_cmp
-keys_from key lo others rows same rising order =
+keys_in_order key lo others rows same rising order =
     let p : ℕ → Bool = λ n. is_at_most lo (key n) in
     let moved = IsPermutation-map key (filter p others) (filter p rows) (same-permutation (filter p others) (filter p rows) (same-filter p others rows same)) in
     let sorted = IsSortedBy-filter (λ a b. is_lt (slice_cmp nat_cmp a b)) (ranks_by nat_list_cmp_total (λ k. k)) (is_at_most lo) (map key rows) (sorted_keys key rows rising) in
@@ -49,12 +50,13 @@ keys_from key lo others rows same rising order =
 pub rows_told : (t : TableState) (live : Live) (lo : List ℕ) (key : ℕ → List ℕ) (i : Index) (result : List ℕ) → AreTablesOf t live → i ≡ t.index → key ≡ key_at live t.places
     → ((keys sorted : List (List ℕ)) → IsPermutation keys sorted → IsSorted (slice_cmp nat_cmp) sorted → in_order keys ≡ sorted)
     → result ≡ rows_from key lo i.rows
-    → All (IsListed t) result × (map (key_at live t.places) result ≡ in_order (filter (is_at_most lo) (map (key_at live t.places) t.recency)))
+    → All (HasRow live t.places) result × (map (key_at live t.places) result ≡ in_order (filter (is_at_most lo) (map (λ row. row.key) (rows_at live t.places t.recency))))
 unfolding key_cmp
 rows_told t live lo key i result are index keys order told =
     let k = key_at live t.places in
     let p : ℕ → Bool = λ n. is_at_most lo (k n) in
+    let of_rows : map (λ (row : Row). row.key) (rows_at live t.places t.recency) ≡ map k t.recency = map-map (λ (row : Row). row.key) (row_at live t.places) t.recency in
     let is : result ≡ filter p t.index.rows = told ∙ (ap (λ (f : ℕ → List ℕ). rows_from f lo i.rows) keys ∙ ap (λ (x : Index). rows_from k lo x.rows) index) in (
-      subst (All (IsListed t)) (sym is) (All-filter p (IsListed t) t.index.rows (index_all t (IsListed t) are.numbers (λ n l. l))),
-      ap (map k) is ∙ keys_from k lo t.recency t.index.rows are.numbers.indexed are.index.ordered.rising order,
+      subst (All (HasRow live t.places)) (sym is) (All-filter p (HasRow live t.places) t.index.rows are.index.readable),
+      ap (map k) is ∙ (keys_in_order k lo t.recency t.index.rows are.numbers.indexed are.index.ordered.rising order ∙ sym (ap (λ ks. in_order (filter (is_at_most lo) ks)) of_rows)),
     )

@@ -1,23 +1,19 @@
 -- The keys that a scan has written.
 use borrow.Rule.Slice.PartMut.{put_mid}
-use Rattle.std.proofs.Common.{◌≡◌, ℕ, ◌+◌, ◌-◌, ◌*◌, ◌≤◌, ◌⊎◌, inl, inr, List, [], ◌∷◌, ◌++◌, length, take, drop, map, filter, refl, sym, ap, subst, ◌∙◌, arith, length-append, append_assoc, append-nil}
+use Rattle.std.proofs.Common.{◌≡◌, ℕ, ◌+◌, ◌-◌, ◌*◌, ◌≤◌, ◌⊎◌, inl, inr, List, [], ◌∷◌, ◌++◌, length, take, drop, map, refl, sym, ap, subst, ◌∙◌, arith, length-append, append_assoc, append-nil}
 use Rattle.std.specs.List.{flat_map}
 use Rattle.std.specs.Prelude.{All, Contains}
 use Rattle.std.proofs.lemmas.List.{drop-drop, drop_all, length-drop, length-map, map-append, take_all, take_rest}
 use Rattle.std.proofs.lemmas.List.Elements.{All-contains, All-map, All-take, Contains-append_right}
 use Rattle.std.proofs.lemmas.Grind.{flat_map-append}
-use Rattle.std.proofs.lemmas.Simd.{map-map}
 use Rattle.std.proofs.Math.Seq.{take-append_seam, drop-append_seam}
-use Rattle.cache_model.specs.Apply as apply
 use Rattle.cache_model.specs.KeyBody.{IsKey, AreKeys}
 use Rattle.cache_model.specs.Row.{Row}
 use Rattle.cache_model.specs.Spelled.{key_field}
-use Rattle.regions.specs.Contents.{live_at}
-use Rattle.regions.specs.Segments.{RegionState}
 use Rattle.regions.specs.Stores.{Live}
 use Rattle.regions.specs.declared.place.Place.{Place}
-use Rattle.row_cache.specs.Rows.{CacheState, key_at, row_at, rows_at, rows_of}
-use Rattle.row_cache.specs.inside.Tables.{TableState, AreTablesOf, HasRow, IsListed}
+use Rattle.row_cache.specs.Rows.{key_at}
+use Rattle.row_cache.specs.inside.Tables.{HasRow}
 use Rattle.row_cache.proofs.States.{row_is}
 
 -- the bytes of these rows' keys
@@ -111,23 +107,14 @@ done_is key all done rest wanted split few (inr e) =
     let same : all ≡ done = split ∙ (ap (λ (ns : List ℕ). done ++ ns) e ∙ append-nil done) in
     sym (ap (λ (ns : List ℕ). take wanted (map key ns)) same ∙ take_all wanted (map key done) (omega (arith, length-map done key, few)))
 
--- what a scan of the cache gives of these tables and this region
-pub all_written : (t : TableState) (r : RegionState) {c : CacheState} (lo : List ℕ) (wanted : ℕ) {all rest : List ℕ} {count len : ℕ} {old new : List ℕ}
-    → record { room = t.room; recency = t.recency; places = t.places; region = r } ≡ c → AreTablesOf t (live_at r)
-    → AreWritten (key_at (live_at r) t.places) all rest count len old new → count ≤ wanted → (count ≡ wanted) ⊎ (rest ≡ []) → All (IsListed t) all
-    → map (key_at (live_at r) t.places) all ≡ apply.in_order (filter (apply.is_at_most lo) (map (key_at (live_at r) t.places) t.recency))
-    → (keys : List (List ℕ)) × ((apply.scan lo wanted (rows_of c)).1 ≡ apply.Keys keys) × (count ≡ length keys) × AreKeys (take len new) keys
-all_written t r lo wanted {all} {rest} {count} {len} {old} {new} view are w few ends listed order =
-    let key = key_at (live_at r) t.places in
-    let keys = take wanted (map key all) in
-    let done : map key w.done ≡ keys = done_is key all w.done rest wanted w.split (omega (arith, w.keys, few)) (elim ends [ inl e ↦ inl (sym w.keys ∙ e) | inr e ↦ inr e ]) in
-    let of_rows : map (λ (row : Row). row.key) (rows_at (live_at r) t.places t.recency) ≡ map key t.recency = map-map (λ (row : Row). row.key) (row_at (live_at r) t.places) t.recency in
-    let found : List (List ℕ) → apply.Reply = λ ks. apply.Keys (take wanted (apply.in_order (filter (apply.is_at_most lo) ks))) in (
-      keys,
-      sym (ap (λ (x : CacheState). found (map (λ row. row.key) (rows_of x))) view) ∙ (ap found of_rows ∙ ap (λ ks. apply.Keys (take wanted ks)) (sym order)),
-      w.keys ∙ (sym (length-map w.done key) ∙ ap length done),
-      record {
-        spelled = front_is w ∙ ap (flat_map key_field) done;
-        lengths = All-take IsKey wanted (map key all) (All-map IsKey key all (λ k d within. row_key (live_at r) t.places _ (are.rows _ (listed k d within))));
-      },
-    )
+pub all_written : (live : Live) (places : List Place) (wanted : ℕ) {all rest : List ℕ} {count len : ℕ} {old new : List ℕ}
+    → AreWritten (key_at live places) all rest count len old new → count ≤ wanted → (count ≡ wanted) ⊎ (rest ≡ []) → All (HasRow live places) all
+    → AreKeys (take len new) (take wanted (map (key_at live places) all))
+all_written live places wanted {all} {rest} {count} {len} {old} {new} w few ends rows =
+    let key = key_at live places in
+    let done : map key w.done ≡ take wanted (map key all) =
+    done_is key all w.done rest wanted w.split (omega (arith, w.keys, few)) (elim ends [ inl e ↦ inl (sym w.keys ∙ e) | inr e ↦ inr e ]) in
+    record {
+      spelled = front_is w ∙ ap (flat_map key_field) done;
+      lengths = All-take IsKey wanted (map key all) (All-map IsKey key all (λ k d within. row_key live places _ (rows k d within)));
+    }

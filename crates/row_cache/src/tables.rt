@@ -10,7 +10,7 @@ ghost use Rattle.key_index.specs.Order.{TakesOut};
 ghost use Rattle.regions.specs.Contents.{Item, live_at};
 ghost use Rattle.regions.specs.Stores.{Live};
 ghost use Rattle.row_bytes.specs.Rows.{number_in};
-ghost use Rattle.row_cache.specs.Rows.{key_at};
+ghost use Rattle.row_cache.specs.Rows.{key_at, rows_at};
 ghost use Rattle.row_cache.specs.inside.Sought.{IsFound, IsMissing};
 ghost use Rattle.row_cache.specs.inside.Tables as tables;
 
@@ -168,9 +168,9 @@ impl Tables {
     // The rows whose keys are at or above one, in the order of their keys.
     pub(crate) fn rows_from<'a>(&'a self, region: &'a Region, key: &[u8]) -> Rows<'a>
         requires { tables.AreTablesOf self.now (live_at region.now) }
-        ensures listed { All (tables.IsListed self.now) result }
+        ensures rows { All (tables.HasRow (live_at region.now) self.now.places) result }
         ensures order { map (key_at (live_at region.now) self.now.places) result
-            ≡ in_order (filter (is_at_most key.now) (map (key_at (live_at region.now) self.now.places) self.now.recency)) }
+            ≡ in_order (filter (is_at_most key.now) (map (λ row. row.key) (rows_at (live_at region.now) self.now.places self.now.recency))) }
     {
         sorted_keys_are_in_order();
         self.index.rows_from(&self.keys(region), key)

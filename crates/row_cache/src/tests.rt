@@ -5,6 +5,8 @@ ghost use Rattle.regions.specs.Shapes.{active_of, guards_of};
 ghost use Rattle.row_cache.specs.Rows.{rows_of};
 ghost use Rattle.layout.specs.Sizes as sizes;
 
+mod scans;
+
 use crate::{Compacted, Put, RowCache};
 use raw_range::{Piece, Range};
 use std::alloc::{AllocError, Global};

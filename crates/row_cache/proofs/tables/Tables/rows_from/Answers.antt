@@ -13,4 +13,4 @@ returns c =
     (ap (λ (t : tables.TableState). t.index) c.self.view_is)
     (ap (λ r. key_at (live_at r) k.places.now) c.keys.ensures.region ∙ ap (λ ps. key_at (live_at c.args.region.now) ps) c.keys.ensures.places)
     c.sorted_keys_are_in_order.ensures c.rows_from.ensures in
-    record { listed = told.0; order = told.1 }
+    record { rows = told.0; order = told.1 }
