@@ -11,6 +11,8 @@ mod evicting;
 mod making_room;
 mod segments;
 mod space;
+#[cfg(test)]
+mod tests;
 
 pub use row_cache::{Put, Scanned};
 pub use space::Space;
