@@ -1,310 +1,279 @@
--- The loop over the commands of one shard.
-use Rattle.std.proofs.Common.{◌≡◌, ℕ, ◌+◌, ◌-◌, ◌*◌, ◌<◌, ◌≤◌, suc, zero, Bool, true, false, eqb, ◌&&◌, not, cond, List, [], ◌∷◌, ◌++◌, length, take, drop, map, filter, get_or, append_assoc, replicate, Option, Some, None, arith, refl, sym, ap, ◌∙◌}
-use Rattle.std.specs.List.{All, count_by, slice_get, slice_set, sum_by}
-use native.Mathlib.Nat.{add-mul}
+-- One command more.
+use Rattle.std.proofs.Common.{◌≡◌, ℕ, ◌+◌, ◌-◌, ◌<◌, ◌≤◌, suc, zero, Bool, true, false, eqb, not, cond, List, [], ◌∷◌, ◌++◌, length, take, drop, map, filter, get_or, length-append, append_assoc, append-nil}
+use Rattle.std.proofs.Common.{replicate, slice_set, Option, Some, None, arith, refl, sym, ap, ◌∙◌}
+use Rattle.std.specs.List.{All, list_any, slice_get}
+use Rattle.std.specs.Option.{IsSome, is_some, option_map}
 use Rattle.std.proofs.lemmas.List.{take_more, map-append, length-take-le}
-use Rattle.std.proofs.lemmas.List.Sums.{count_by-le-length, length-filter, sum_by-cons, sum_by-drop_more}
+use Rattle.std.proofs.lemmas.List.Elements.{All-append, All-cons, All-head, All-tail, filter_map-append}
+use Rattle.std.proofs.lemmas.List.Sums.{count_by-le-length, length-filter, sum_by-drop_more}
 use Rattle.std.proofs.Math.Seq.{set-append_seam}
-use Rattle.layout.specs.Sizes.{scan_room}
-use Rattle.trace_text.specs.declared.command.Command.{Command}
+use Rattle.layout.specs.Sizes.{dense}
 use Rattle.trace_text.specs.declared.command.Kind.{Kind}
 use Rattle.trace_text.specs.declared.command.Kind.TheVariants as kinds
-use Rattle.trace_text.specs.Operation.{Operation, operation, operations}
+use Rattle.trace_text.specs.Operation.{Operation}
 use Rattle.trace_text.specs.Trace.{Trace, trace_with}
-use Rattle.trace_text.specs.Parsed.{AreNumbered, HasItsFields, IsWellFormed}
-use Rattle.trace_text.specs.Parts.{longest_value, is_get, is_scan, origin, own_parts, here_parts, reply_bytes}
+use Rattle.trace_text.specs.Parsed.{IsWellFormed}
+use Rattle.trace_text.specs.Parts.{is_put, longest_value}
 use Rattle.cache_model.specs.declared.entry.Entry.{Entry}
-use Rattle.cache_model.specs.declared.entry.Entry.TheVariants.{Done}
+use Rattle.cache_model.specs.declared.entry.Entry.TheVariants.{Done, Evicted}
 use Rattle.cache_model.specs.declared.reply_kind.ReplyKind.{ReplyKind}
 use Rattle.cache_model.specs.Apply.{Reply, apply, apply_kind, get_where, is_of, row_of}
-use Rattle.cache_model.specs.Bodies.{HasShortKeys, most_of_body, most_of_kind}
-use Rattle.cache_model.specs.Legal.{command_of, reply_at}
-use Rattle.cache_model.specs.Row.{Row}
+use Rattle.cache_model.specs.Bodies.{HasShortKeys, most_of_body}
+use Rattle.cache_model.specs.Evictions.{Evicts}
+use Rattle.cache_model.specs.Legal.{EvictsAbove, cache_after, cache_from, command_of, done, done_number, is_done, reply_at}
+use Rattle.cache_model.specs.Row.{Row, floor, tight_floor}
 use Rattle.cache_model.specs.Spelled.{spelled}
-use Rattle.plain_cache.specs.Cache.{Cache}
 use Rattle.run_log.specs.Replies.{Replies}
 use Rattle.run_log.specs.JournalState.{JournalState}
-use Rattle.shardcache.proofs.OneShard.{Numbered, at_origin, command_at, journal_of, part_here, replies_from, reply_run, rows_from, rows_from-append}
+use Rattle.reclaim.specs.Spaces.{SpaceState}
+use Rattle.reclaim.specs.Works.{pressure}
+use Rattle.shardcache.specs.inside.Progress.{HasDone, most_of_bodies, puts_among}
+use Rattle.shardcache.specs.inside.Works.{DoesCommand}
+use Rattle.shardcache.proofs.Numbered.{Numbered, command_at, not_before, number_at}
 
--- a log with these answers in front, and room for so many more
-abbrev pub log_of : List (ℕ × Reply) → ℕ → List (Option (ReplyKind × List ℕ))
-log_of answers unanswered = map (λ answer. Some (spelled answer.1)) answers ++ replicate unanswered None
+-- the laws of journals, of evictions and of bodies, as their functions promise them
+pub record Laws : Type 0 where
+  pub leads : (trace : Trace) (pages : ℕ) (journal entries : List Entry) (cache : List Row)
+      → cache_after trace pages journal ≡ Some cache → cache_after trace pages (journal ++ entries) ≡ cache_from trace pages cache entries
+  pub kept : (trace : Trace) (pages : ℕ) (journal entries : List Entry) (i : ℕ) (reply : Reply)
+      → reply_at trace pages journal i ≡ Some reply → reply_at trace pages (journal ++ entries) i ≡ Some reply
+  pub replied : (trace : Trace) (pages i : ℕ) (journal : List Entry) (cache : List Row) (operation : Operation)
+      → list_any (is_done i) journal ≡ false → command_of trace i ≡ Some operation → cache_after trace pages journal ≡ Some cache
+      → reply_at trace pages (journal ++ Done i ∷ []) i ≡ Some (apply operation cache).1
+  pub evicts : (trace : Trace) (pages bound i : ℕ) (journal : List Entry)
+      → EvictsAbove trace pages bound journal → EvictsAbove trace pages bound (journal ++ Done i ∷ [])
+  pub number : (i : ℕ) (journal : List Entry) → list_any (is_done i) journal ≡ list_any (λ j. eqb j i) (done journal)
+  pub legal : (trace : Trace) (pages bound : ℕ) (cache rest : List Row) (puts : List ℕ)
+      → Evicts bound cache puts rest → floor pages ≤ bound → cache_from trace pages cache (map Evicted puts) ≡ Some rest
+  pub above : (trace : Trace) (pages bound : ℕ) (journal : List Entry) (cache rest : List Row) (puts : List ℕ)
+      → cache_after trace pages journal ≡ Some cache → EvictsAbove trace pages bound journal
+      → Evicts bound cache puts rest → floor pages ≤ bound → EvictsAbove trace pages bound (journal ++ map Evicted puts)
+  pub low : (pages : ℕ) → floor pages ≤ tight_floor pages 0 + dense
+  pub count : (bound : ℕ) (cache rest : List Row) (puts : List ℕ) → Evicts bound cache puts rest → length puts + length rest ≡ length cache
+  pub bodies : (trace : Trace) (pages : ℕ) (journal : List Entry) (operation : Operation) (reply : Reply)
+      → HasShortKeys trace → command_of trace operation.number ≡ Some operation → reply_at trace pages journal operation.number ≡ Some reply
+      → length (spelled reply).1 ≤ most_of_body (longest_value trace) operation
 
--- the most bytes of a reply's body: of a get's a value, of a scan's its keys
-abbrev pub reply_bound : Kind → ℕ → ℕ
-reply_bound kinds.Get most = most
-reply_bound kinds.Scan most = scan_room
-reply_bound kinds.Put most = 0
-reply_bound kinds.Erase most = 0
+-- ---- rows and puts
 
--- what stands when the first k commands are done
-pub record HasDone (trace : List Operation) (pages k : ℕ) (plain : Cache) (log : Replies) (journal : JournalState) : Type 0 where
-  pub within : k ≤ length trace
-  pub pages_stay : plain.pages ≡ pages
-  pub rows : plain.rows ≡ rows_from (take k trace) []
-  pub few : length plain.rows ≤ k
-  pub entries : journal.entries ≡ journal_of (take k trace)
-  pub replies : log.replies ≡ log_of (replies_from (take k trace) []) (length trace - k)
-  pub room : sum_by (λ operation. reply_bound operation.kind (longest_value (trace_with trace))) (drop k trace) ≤ log.room
-  pub spare : length trace - k ≤ journal.spare
+abbrev one_if : Bool → ℕ
+one_if b = cond b 1 0
 
--- ---- one command more
+length-filter-le : (p : Row → Bool) (rows : List Row) → length (filter p rows) ≤ length rows
+length-filter-le p rows = rw length-filter (count_by-le-length p rows)
 
-replies_from-append : (front : List Operation) (operation : Operation) (cache : List Row)
-    → replies_from (front ++ operation ∷ []) cache ≡ replies_from front cache ++ (operation.number, (apply operation (rows_from front cache)).1) ∷ []
-replies_from-append [] operation cache = refl
-replies_from-append (first ∷ front) operation cache =
-    ap (λ answers. (first.number, (apply first cache).1) ∷ answers) (replies_from-append front operation (apply first cache).0)
+-- what is found is passed over, and others may be
+found-cond : (key : List ℕ) (b : Bool) (first row : Row) (o : Option Row) (rows : List Row) → is_of key first ≡ b → length rows ≡ length rows
+    → length (filter (λ r. not (is_of key r)) rows) ≤ length rows
+    → (o ≡ Some row → length (filter (λ r. not (is_of key r)) rows) < length rows)
+    → cond b (Some first) o ≡ Some row → length (cond (not b) (first ∷ filter (λ r. not (is_of key r)) rows) (filter (λ r. not (is_of key r)) rows)) < suc (length rows)
+found-cond key true first row o rows is same at_most fewer e = omega arith
+found-cond key false first row o rows is same at_most fewer e = let less = fewer e in omega arith
 
-pub length-replies_from : (trace : List Operation) (cache : List Row) → length (replies_from trace cache) ≡ length trace
-length-replies_from [] cache = refl
-length-replies_from (operation ∷ trace) cache = ap suc (length-replies_from trace (apply operation cache).0)
+found-fewer : (key : List ℕ) (rows : List Row) (row : Row) → row_of key rows ≡ Some row → length (filter (λ r. not (is_of key r)) rows) < length rows
+found-fewer key [] row e = cc
+found-fewer key (first ∷ rows) row e =
+    found-cond key (is_of key first) first row (row_of key rows) rows refl refl (length-filter-le (λ r. not (is_of key r)) rows) (found-fewer key rows row) e
 
-slice_get-seam : {X : Type 0} (xs : List X) (y : X) (ys : List X) → slice_get (xs ++ y ∷ ys) (length xs) ≡ Some y
-slice_get-seam [] y ys = refl
-slice_get-seam (x ∷ xs) y ys = slice_get-seam xs y ys
+got-grows : (o : Option Row) (key : List ℕ) (cache : List Row) → row_of key cache ≡ o → length (get_where o key cache).0 ≤ length cache
+got-grows None key cache e = omega arith
+got-grows (Some row) key cache e = let fewer = found-fewer key cache row e in omega arith
+
+-- a put may add a row, and no other command does
+kind-grows : (kind : Kind) (operation : Operation) (cache : List Row) → length (apply_kind kind operation cache).0 ≤ length cache + one_if (is_put kind)
+kind-grows kinds.Put operation cache = omega (arith, length-filter-le (λ r. not (is_of operation.key r)) cache)
+kind-grows kinds.Get operation cache = omega (arith, got-grows (row_of operation.key cache) operation.key cache refl)
+kind-grows kinds.Erase operation cache = omega (arith, length-filter-le (λ r. not (is_of operation.key r)) cache)
+kind-grows kinds.Scan operation cache = omega arith
+
+pub grows : (operation : Operation) (cache : List Row) → length (apply operation cache).0 ≤ length cache + one_if (is_put operation.kind)
+grows operation cache = kind-grows operation.kind operation cache
+
+puts-left : (trace : List Operation) (k : ℕ) (d : Operation) → k < length trace
+    → puts_among (drop k trace) ≡ one_if (is_put (get_or trace k d).kind) + puts_among (drop (k + 1) trace)
+puts-left trace k d lt = sum_by-drop_more (λ operation. one_if (is_put operation.kind)) trace k d lt
+
+bodies-left : (trace : List Operation) (k : ℕ) (d : Operation) → k < length trace
+    → most_of_bodies (trace_with trace) (drop k trace)
+    ≡ most_of_body (longest_value (trace_with trace)) (get_or trace k d) + most_of_bodies (trace_with trace) (drop (k + 1) trace)
+bodies-left trace k d lt = sum_by-drop_more (λ operation. most_of_body (longest_value (trace_with trace)) operation) trace k d lt
+
+-- ---- the log
+
+-- the reply to a command, as a log has it
+abbrev pub answer_in : Trace → ℕ → List Entry → Operation → Option (ReplyKind × List ℕ)
+answer_in trace pages journal operation = option_map spelled (reply_at trace pages journal operation.number)
+
+abbrev pub log-of : Trace → ℕ → List Entry → List Operation → List (Option (ReplyKind × List ℕ))
+log-of trace pages journal operations = map (answer_in trace pages journal) operations
+
+-- a reply that was there is there when the journal goes on
+still-some : (before after : Option Reply) → ((reply : Reply) → before ≡ Some reply → after ≡ Some reply) → IsSome before → after ≡ before
+still-some None after kept some = cc
+still-some (Some reply) after kept some = kept reply refl
+
+pub same-replies : Laws → (trace : Trace) (pages : ℕ) (journal more : List Entry) (operations : List Operation)
+    → All (λ operation. IsSome (reply_at trace pages journal operation.number)) operations
+    → log-of trace pages (journal ++ more) operations ≡ log-of trace pages journal operations
+same-replies laws trace pages journal more [] replied = refl
+same-replies laws trace pages journal more (operation ∷ operations) replied =
+    let Replied = λ (o : Operation). IsSome (reply_at trace pages journal o.number) in
+    let here : reply_at trace pages (journal ++ more) operation.number ≡ reply_at trace pages journal operation.number =
+    still-some (reply_at trace pages journal operation.number) (reply_at trace pages (journal ++ more) operation.number)
+    (λ reply e. laws.kept trace pages journal more operation.number reply e) (All-head Replied operation operations replied) in
+    let rest = same-replies laws trace pages journal more operations (All-tail Replied operation operations replied) in
+    rw here (ap (λ list. option_map spelled (reply_at trace pages journal operation.number) ∷ list) rest)
+
+pub still-replied : Laws → (trace : Trace) (pages : ℕ) (journal more : List Entry) (operations : List Operation)
+    → All (λ operation. IsSome (reply_at trace pages journal operation.number)) operations
+    → All (λ operation. IsSome (reply_at trace pages (journal ++ more) operation.number)) operations
+still-replied laws trace pages journal more operations replied = λ i d within.
+    let operation = get_or operations i d in
+    let some : IsSome (reply_at trace pages journal operation.number) = replied i d within in
+    let same = still-some (reply_at trace pages journal operation.number) (reply_at trace pages (journal ++ more) operation.number)
+    (λ reply e. laws.kept trace pages journal more operation.number reply e) some in
+    rw same some
 
 length-map' : {X Y : Type 0} (f : X → Y) (xs : List X) → length (map f xs) ≡ length xs
 length-map' f [] = refl
 length-map' f (x ∷ xs) = ap suc (length-map' f xs)
 
-open_log : (answers : List (ℕ × Reply)) (n : ℕ) → 0 < n → log_of answers n ≡ map (λ answer. Some (spelled answer.1)) answers ++ None ∷ replicate (n - 1) None
-open_log answers zero some = absurd (omega arith)
-open_log answers (suc n) some = let same : suc n - 1 ≡ n = omega arith in rw same refl
+open-log : {A : Type 0} (front : List (Option A)) (n : ℕ) → 0 < n → front ++ replicate n None ≡ front ++ None ∷ replicate (n - 1) None
+open-log front zero some = absurd (omega arith)
+open-log front (suc n) some = let same : suc n - 1 ≡ n = omega arith in rw same refl
+
+slice_get-seam : {X : Type 0} (xs : List X) (y : X) (ys : List X) → slice_get (xs ++ y ∷ ys) (length xs) ≡ Some y
+slice_get-seam [] y ys = refl
+slice_get-seam (x ∷ xs) y ys = slice_get-seam xs y ys
 
 -- the next part has no reply
-pub next_unanswered : (trace : List Operation) (pages k : ℕ) (plain : Cache) (log : Replies) (journal : JournalState)
-    → HasDone trace pages k plain log journal → k < length trace → slice_get log.replies k ≡ Some None
-next_unanswered trace pages k plain log journal has lt =
-    let answers = replies_from (take k trace) [] in
-    let some : 0 < length trace - k = omega arith in
-    let len : length (map (λ answer. Some (spelled answer.1)) answers) ≡ k =
-    length-map' (λ answer. Some (spelled answer.1)) answers ∙ length-replies_from (take k trace) [] ∙ length-take-le k trace has.within in
-    rw (has.replies, open_log answers (length trace - k) some)
-    (ap (λ at. slice_get (map (λ answer. Some (spelled answer.1)) answers ++ None ∷ replicate (length trace - k - 1) None) at) (sym len)
-    ∙ slice_get-seam (map (λ answer. Some (spelled answer.1)) answers) None (replicate (length trace - k - 1) None))
+pub unanswered-at : {A : Type 0} (front : List (Option A)) (k n : ℕ) → length front ≡ k → 0 < n → slice_get (front ++ replicate n None) k ≡ Some None
+unanswered-at front k n len some =
+    rw (open-log front n some) (ap (λ at. slice_get (front ++ None ∷ replicate (n - 1) None) at) (sym len) ∙ slice_get-seam front None (replicate (n - 1) None))
 
--- ---- the next body has room
+log-more : {A : Type 0} (front : List (Option A)) (k n : ℕ) (reply : Option A) → length front ≡ k → 0 < n
+    → slice_set (front ++ replicate n None) k reply ≡ (front ++ reply ∷ []) ++ replicate (n - 1) None
+log-more front k n reply len some =
+    rw (open-log front n some, ← len, set-append_seam front None (replicate (n - 1) None) reply, append_assoc) refl
 
--- the body of a reply has at most its command's share of the room
-abbrev pub HaveRoom : Type 0
-HaveRoom = (trace : Trace) (pages : ℕ) (journal : List Entry) (operation : Operation) (reply : Reply)
-    → HasShortKeys trace → command_of trace operation.number ≡ Some operation → reply_at trace pages journal operation.number ≡ Some reply
-    → length (spelled reply).1 ≤ most_of_body (longest_value trace) operation
+-- ---- one command more
 
-share-le : (kind : Kind) (value : List ℕ) (count most : ℕ) → HasItsFields kind value count → most_of_kind kind most count ≤ reply_bound kind most
-share-le kinds.Put value count most fields = omega arith
-share-le kinds.Get value count most fields = omega arith
-share-le kinds.Erase value count most fields = omega arith
-share-le kinds.Scan value count most fields = omega (arith, fields.2)
+abbrev pub Replied : Trace → ℕ → List Entry → Operation → Type 0
+Replied trace pages journal operation = IsSome (reply_at trace pages journal operation.number)
 
-split_at : (trace : List Operation) (k : ℕ) (d : Operation) → k < length trace → trace ≡ take k trace ++ get_or trace k d ∷ drop (k + 1) trace
-split_at [] k d lt = absurd (omega arith)
-split_at (first ∷ trace) zero d lt = refl
-split_at (first ∷ trace) (suc k) d lt =
-    let next : suc k + 1 ≡ suc (k + 1) = omega arith in
-    rw next (ap (λ rest. first ∷ rest) (split_at trace k d (omega arith)))
+short-keys : (trace : List Operation) → All IsWellFormed trace → HasShortKeys (trace_with trace)
+short-keys trace formed = λ i d within is. (formed i d within).key_most
 
-body-fits : HaveRoom → (trace : List Operation) (pages k : ℕ) (d : Operation) (plain : Cache) (log : Replies) (journal : JournalState) → Numbered 1 trace
-    → HasDone trace pages k plain log journal → k < length trace → All IsWellFormed trace
-    → length (spelled (apply (get_or trace k d) plain.rows).1).1 ≤ reply_bound (get_or trace k d).kind (longest_value (trace_with trace))
-body-fits room trace pages k d plain log journal numbered has lt formed =
+-- the body of a command's reply behind a journal in which all before it are done
+body-fits : Laws → (trace : List Operation) (pages k : ℕ) (d : Operation) (journal : List Entry) (cache : List Row) → Numbered 1 trace → All IsWellFormed trace
+    → k < length trace → done journal ≡ map (λ operation. operation.number) (take k trace) → cache_after (trace_with trace) pages journal ≡ Some cache
+    → length (spelled (apply (get_or trace k d) cache).1).1 ≤ most_of_body (longest_value (trace_with trace)) (get_or trace k d)
+body-fits laws trace pages k d journal cache numbered formed lt are leads =
     let operation = get_or trace k d in
-    let split = split_at trace k d lt in
-    let reply = (apply operation (rows_from (take k trace) [])).1 in
-    let body : length (spelled reply).1 ≤ most_of_body (longest_value (trace_with trace)) operation =
-    room (trace_with trace) pages (journal_of trace) operation reply (λ i e within. λ _. (formed i e within).key_most)
-    (command_at trace (take k trace) operation (drop (k + 1) trace) numbered split)
-    (reply_run trace pages (take k trace) operation (drop (k + 1) trace) numbered split) in
-    let share = share-le operation.kind operation.value operation.count (longest_value (trace_with trace)) (formed k d lt).fields in
-    rw has.rows (omega (arith, body, share))
+    let unseen : list_any (is_done operation.number) journal ≡ false = laws.number operation.number journal ∙ rw are (not_before trace k d numbered lt) in
+    let command = command_at trace k d numbered lt in
+    laws.bodies (trace_with trace) pages (journal ++ Done operation.number ∷ []) operation (apply operation cache).1 (short-keys trace formed) command
+    (laws.replied (trace_with trace) pages operation.number journal cache operation unseen command leads)
 
-left-more : (trace : List Operation) (k : ℕ) (d : Operation) → k < length trace
-    → sum_by (λ operation. reply_bound operation.kind (longest_value (trace_with trace))) (drop k trace)
-    ≡ reply_bound (get_or trace k d).kind (longest_value (trace_with trace)) + sum_by (λ operation. reply_bound operation.kind (longest_value (trace_with trace))) (drop (k + 1) trace)
-left-more trace k d lt = sum_by-drop_more (λ operation. reply_bound operation.kind (longest_value (trace_with trace))) trace k d lt
-
-pub next_fits : HaveRoom → (trace : List Operation) (pages k : ℕ) (d : Operation) (plain : Cache) (log : Replies) (journal : JournalState) → Numbered 1 trace
-    → HasDone trace pages k plain log journal → k < length trace → All IsWellFormed trace
-    → length (spelled (apply (get_or trace k d) plain.rows).1).1 ≤ log.room
-next_fits room trace pages k d plain log journal numbered has lt formed =
-    let body = body-fits room trace pages k d plain log journal numbered has lt formed in
-    let left = left-more trace k d lt in
+pub next-fits : Laws → (trace : List Operation) (k : ℕ) (d : Operation) (space : SpaceState) (journal : JournalState) (log : Replies) → Numbered 1 trace
+    → All IsWellFormed trace → HasDone (trace_with trace) k space journal log → k < length trace
+    → length (spelled (apply (get_or trace k d) space.rows).1).1 ≤ log.room
+next-fits laws trace k d space journal log numbered formed has lt =
+    let body = body-fits laws trace space.pages k d journal.entries space.rows numbered formed lt has.done has.leads in
+    let left = bodies-left trace k d lt in
     omega (arith, has.room, left, body)
 
-length-filter-le : (p : Row → Bool) (rows : List Row) → length (filter p rows) ≤ length rows
-length-filter-le p rows = rw length-filter (count_by-le-length p rows)
+pub next-unanswered : (trace : List Operation) (k : ℕ) (space : SpaceState) (journal : JournalState) (log : Replies)
+    → HasDone (trace_with trace) k space journal log → k < length trace → slice_get log.replies k ≡ Some None
+next-unanswered trace k space journal log has lt =
+    let front = log-of (trace_with trace) space.pages journal.entries (take k trace) in
+    let len : length front ≡ k =
+    length-map' (λ operation. option_map spelled (reply_at (trace_with trace) space.pages journal.entries operation.number)) (take k trace) ∙ length-take-le k trace has.within in
+    rw has.replies (unanswered-at front k (length trace - k) len (omega arith))
 
-pair-grows : (o : Option Row) (key : List ℕ) (cache : List Row) → length (get_where o key cache).0 ≤ length cache + 1
-pair-grows None key cache = omega arith
-pair-grows (Some row) key cache = omega (arith, length-filter-le (λ r. not (is_of key r)) cache)
+pub next-tables : (trace : List Operation) (k : ℕ) (d : Operation) (space : SpaceState) (journal : JournalState) (log : Replies)
+    → HasDone (trace_with trace) k space journal log → k < length trace → is_put (get_or trace k d).kind ≡ true → length space.rows < space.room
+next-tables trace k d space journal log has lt is =
+    let puts = puts-left trace k d lt in
+    let one : one_if (is_put (get_or trace k d).kind) ≡ 1 = rw is refl in
+    let tables : length space.rows + puts_among (drop k trace) ≤ space.room = has.tables in
+    omega arith
 
-kind-grows : (kind : Kind) (operation : Operation) (cache : List Row) → length (apply_kind kind operation cache).0 ≤ length cache + 1
-kind-grows kinds.Put operation cache = omega (arith, length-filter-le (λ r. not (is_of operation.key r)) cache)
-kind-grows kinds.Get operation cache = pair-grows (row_of operation.key cache) operation.key cache
-kind-grows kinds.Erase operation cache = omega (arith, length-filter-le (λ r. not (is_of operation.key r)) cache)
-kind-grows kinds.Scan operation cache = omega arith
+-- the journal behind the evictions of a command, before it is done
+record IsPressed (trace : Trace) (pages : ℕ) (journal : List Entry) (evicted numbers : List ℕ) (rest : List Row) : Type 0 where
+  leads : cache_after trace pages (journal ++ map Evicted evicted) ≡ Some rest
+  evicts : EvictsAbove trace pages (pressure pages) (journal ++ map Evicted evicted)
+  done : done (journal ++ map Evicted evicted) ≡ numbers
 
-log_of-more : (answers : List (ℕ × Reply)) (n k : ℕ) (answer : ℕ × Reply) → 0 < n → length answers ≡ k
-    → slice_set (log_of answers n) k (Some (spelled answer.1)) ≡ log_of (answers ++ answer ∷ []) (n - 1)
-log_of-more answers n k answer some len =
-    let shown = map (λ a. Some (spelled a.1)) answers in
-    let at : length shown ≡ k = length-map' (λ a. Some (spelled a.1)) answers ∙ len in
-    rw (
-      open_log answers n some,
-      ← at,
-      set-append_seam shown None (replicate (n - 1) None) (Some (spelled answer.1)),
-      map-append (λ a. Some (spelled a.1)) answers (answer ∷ []),
-      append_assoc,
-    ) refl
+evictions-do-none : (evicted : List ℕ) → done (map Evicted evicted) ≡ []
+evictions-do-none [] = refl
+evictions-do-none (put ∷ evicted) = evictions-do-none evicted
 
-pub has_done_more : HaveRoom → (trace : List Operation) (pages k : ℕ) (d : Operation) (plain plain' : Cache) (log log' : Replies) (journal journal' : JournalState)
-    → Numbered 1 trace
-    → HasDone trace pages k plain log journal → k < length trace → All IsWellFormed trace
-    → plain' ≡ record plain { rows = (apply (get_or trace k d) plain.rows).0 }
-    → log'.replies ≡ slice_set log.replies k (Some (spelled (apply (get_or trace k d) plain.rows).1))
-    → log'.room + length (spelled (apply (get_or trace k d) plain.rows).1).1 ≡ log.room
-    → journal'.entries ≡ journal.entries ++ Done (get_or trace k d).number ∷ []
-    → journal'.spare + 1 ≡ journal.spare
-    → HasDone trace pages (k + 1) plain' log' journal'
-has_done_more room trace pages k d plain plain' log log' journal journal' numbered so_far lt formed rows' replies' room' entries' spare' =
+pressed : Laws → (trace : Trace) (pages : ℕ) (journal : List Entry) (evicted numbers : List ℕ) (cache rest : List Row) → done journal ≡ numbers
+    → cache_after trace pages journal ≡ Some cache → EvictsAbove trace pages (pressure pages) journal → Evicts (pressure pages) cache evicted rest
+    → IsPressed trace pages journal evicted numbers rest
+pressed laws trace pages journal evicted numbers cache rest are leads above evicts = record {
+  leads = laws.leads trace pages journal (map Evicted evicted) cache leads ∙ laws.legal trace pages (pressure pages) cache rest evicted evicts (laws.low pages);
+  evicts = laws.above trace pages (pressure pages) journal cache rest evicted leads above evicts (laws.low pages);
+  done = filter_map-append done_number journal (map Evicted evicted) ∙ rw (are, evictions-do-none evicted) (append-nil numbers);
+}
+
+pub has-done-more : Laws → (trace : List Operation) (k : ℕ) (d : Operation) (old new : SpaceState) (before after : JournalState) (log logged : Replies)
+    → Numbered 1 trace → All IsWellFormed trace → k < length trace → HasDone (trace_with trace) k old before log
+    → DoesCommand (get_or trace k d) old new before after log logged → HasDone (trace_with trace) (k + 1) new after logged
+has-done-more laws trace k d old new before after log logged numbered formed lt has does =
+    let T = trace_with trace in
+    let pages = old.pages in
     let operation = get_or trace k d in
-    let taken = take_more trace k d lt in
-    let answer : ℕ × Reply = (operation.number, (apply operation plain.rows).1) in
-    let len : length (replies_from (take k trace) []) ≡ k = length-replies_from (take k trace) [] ∙ length-take-le k trace so_far.within in
-    let some : 0 < length trace - k = omega arith in
+    let middle = pressed laws T pages before.entries does.works.evicted _ old.rows does.works.rest has.done has.leads has.evicts does.works.evicts in
+    let J = before.entries ++ map Evicted does.works.evicted in
+    let entries : after.entries ≡ J ++ Done operation.number ∷ [] =
+    does.works.recorded.entries ∙ sym (append_assoc before.entries (map Evicted does.works.evicted) (Done operation.number ∷ [])) in
+    let command = command_at trace k d numbered lt in
+    let unseen : list_any (is_done operation.number) J ≡ false = laws.number operation.number J ∙ rw middle.done (not_before trace k d numbered lt) in
+    let answered : reply_at T pages after.entries operation.number ≡ Some does.reply =
+    rw entries (laws.replied T pages operation.number J does.works.rest operation unseen command middle.leads) ∙ ap Some (sym does.works.reply) in
+    let counted = laws.count (pressure pages) old.rows does.works.rest does.works.evicted does.works.evicts in
+    let more_rows = grows operation does.works.rest in
+    let puts = puts-left trace k d lt in
+    let body = body-fits laws trace pages k d J does.works.rest numbered formed lt middle.done middle.leads in
+    let reply_body : length (spelled does.reply).1 ≤ most_of_body (longest_value T) operation = rw does.works.reply body in
+    let bodies = bodies-left trace k d lt in
+    let all = still-replied laws T pages before.entries (map Evicted does.works.evicted ++ Done operation.number ∷ []) (take k trace) has.replied in
+    let one : All (Replied T pages after.entries) (operation ∷ []) =
+    All-cons (Replied T pages after.entries) operation [] (ap is_some answered) (λ i d within. absurd (omega (arith, within))) in
+    let front = log-of T pages before.entries (take k trace) in
+    let len : length front ≡ k = length-map' (answer_in T pages before.entries) (take k trace) ∙ length-take-le k trace has.within in
+    let same_front : log-of T pages after.entries (take k trace) ≡ front =
+    rw does.works.recorded.entries (same-replies laws T pages before.entries (map Evicted does.works.evicted ++ Done operation.number ∷ []) (take k trace) has.replied) in
+    let taken : log-of T pages after.entries (take (k + 1) trace) ≡ log-of T pages after.entries (take k trace) ++ answer_in T pages after.entries operation ∷ [] =
+    rw (take_more trace k d lt) (map-append (answer_in T pages after.entries) (take k trace) (operation ∷ [])) in
     let fewer : length trace - k - 1 ≡ length trace - (k + 1) = omega arith in
-    let body = body-fits room trace pages k d plain log journal numbered so_far lt formed in
-    record {
+    let number : operation.number - 1 ≡ k = omega (arith, number_at 1 trace k d numbered lt) in
+    let added : slice_set log.replies (operation.number - 1) (Some (spelled does.reply))
+    ≡ (front ++ answer_in T pages after.entries operation ∷ []) ++ replicate (length trace - (k + 1)) None =
+    rw (has.replies, number, ← fewer, answered) (log-more front k (length trace - k) (Some (spelled does.reply)) len (omega arith)) in
+    let rows = (apply operation does.works.rest).0 in
+    let entries_more : length (map Evicted does.works.evicted ++ Done operation.number ∷ []) ≡ length does.works.evicted + 1 =
+    length-append (map Evicted does.works.evicted) (Done operation.number ∷ []) ∙ rw (length-map' Evicted does.works.evicted) refl in
+    let tables_were : length old.rows + puts_among (drop k trace) ≤ old.room = has.tables in
+    let tables_are : length rows + puts_among (drop (k + 1) trace) ≤ old.room = omega arith in
+    let spare_was : length old.rows + puts_among (drop k trace) + (length trace - k) ≤ before.spare = has.spare in
+    let spare_fell : after.spare + (length does.works.evicted + 1) ≡ before.spare = rw entries_more at does.works.recorded.spare in
+    let spare_is : length rows + puts_among (drop (k + 1) trace) + (length trace - (k + 1)) ≤ after.spare = omega arith in
+    let room_was : most_of_bodies T (drop k trace) ≤ log.room = has.room in
+    let room_is : most_of_bodies T (drop (k + 1) trace) ≤ logged.room = omega (arith, does.logs.room) in
+    rw does.works.rows (record {
       within = omega arith;
-      pages_stay = ap (λ p. p.pages) rows' ∙ so_far.pages_stay;
-      rows = ap (λ p. p.rows) rows' ∙ rw (so_far.rows, taken, rows_from-append (take k trace) (operation ∷ []) []) refl;
-      few = rw (ap (λ p. p.rows) rows') (omega (arith, kind-grows operation.kind operation plain.rows, so_far.few));
-      entries = entries' ∙ rw (so_far.entries, taken, map-append (λ o. Done o.number) (take k trace) (operation ∷ [])) refl;
-      replies = replies' ∙ ap (λ replies. slice_set replies k (Some (spelled answer.1))) so_far.replies
-          ∙ log_of-more (replies_from (take k trace) []) (length trace - k) k answer some len
-          ∙ rw (fewer, taken, replies_from-append (take k trace) operation [], ← so_far.rows) refl;
-      room = omega (arith, so_far.room, left-more trace k d lt, body, room');
-      spare = omega arith;
-    }
-
--- ---- the first and the last
-
-each_sums : (f : Operation → ℕ) (trace : List Operation) → ((operation : Operation) → f operation ≡ 1) → sum_by f trace ≡ length trace
-each_sums f [] one = refl
-each_sums f (operation ∷ trace) one = rw (sum_by-cons f operation trace, one operation, each_sums f trace one) (omega arith)
-
-same_sums : (f g : Operation → ℕ) (trace : List Operation) → ((operation : Operation) → f operation ≡ g operation) → sum_by f trace ≡ sum_by g trace
-same_sums f g [] same = refl
-same_sums f g (operation ∷ trace) same =
-    rw (sum_by-cons f operation trace, sum_by-cons g operation trace, same operation, same_sums f g trace same) refl
-
-one_part : (b : Bool) → let parts : ℕ = cond b 1 1 in parts ≡ 1
-one_part true = refl
-one_part false = refl
-
-own_one : (trace : List Operation) → own_parts (trace_with trace) 1 0 ≡ length trace
-own_one trace = each_sums _ trace (λ operation. rw (at_origin operation.number 0 (omega arith)) (one_part (is_scan operation.kind)))
-
-here_one : (trace : List Operation) → here_parts (trace_with trace) 1 0 ≡ length trace
-here_one trace = each_sums _ trace (λ operation. rw (part_here operation) refl)
-
-abbrev one_if : Bool → ℕ
-one_if b = cond b 1 0
-
--- the reply's share of the room, by the two counts
-bound_is : (kind : Kind) (most : ℕ) → reply_bound kind most ≡ one_if (is_get kind && true) * most + one_if (is_scan kind && true) * (1 * scan_room)
-bound_is kinds.Put most = omega arith
-bound_is kinds.Get most = omega arith
-bound_is kinds.Erase most = omega arith
-bound_is kinds.Scan most = omega arith
-
-bounds_are : (trace : List Operation) (most : ℕ)
-    → sum_by (λ operation. reply_bound operation.kind most) trace
-    ≡ count_by (λ operation. is_get operation.kind && eqb (origin operation.number 1) 0) trace * most
-    + count_by (λ operation. is_scan operation.kind && eqb (origin operation.number 1) 0) trace * (1 * scan_room)
-bounds_are [] most = omega arith
-bounds_are (first ∷ trace) most = rw (
-  sum_by-cons (λ o. reply_bound o.kind most) first trace,
-  sum_by-cons (λ o. one_if (is_get o.kind && eqb (origin o.number 1) 0)) first trace,
-  sum_by-cons (λ o. one_if (is_scan o.kind && eqb (origin o.number 1) 0)) first trace,
-  at_origin first.number 0 (omega arith),
-  add-mul,
-  add-mul,
-) (omega (arith, bound_is first.kind most, bounds_are trace most))
-
-unanswered-all : (n m : ℕ) → n ≡ m → replicate n None ≡ log_of [] (m - 0)
-unanswered-all n m e = let all_left : m - 0 ≡ m = omega arith in rw (all_left, e) refl
-
-pub has_done_none : (trace : List Operation) (pages own bytes spare : ℕ) (plain : Cache) (log : Replies) (journal : JournalState)
-    → own ≡ own_parts (trace_with trace) 1 0 → bytes ≡ reply_bytes (trace_with trace) 1 0 → here_parts (trace_with trace) 1 0 ≤ spare
-    → plain ≡ record { pages = pages; rows = [] } → log ≡ record { replies = replicate own None; room = bytes }
-    → journal ≡ record { entries = []; spare = spare } → HasDone trace pages 0 plain log journal
-has_done_none trace pages own bytes spare plain log journal own_is bytes_is enough plain_is log_is journal_is =
-    let own_all : own ≡ length trace = own_is ∙ own_one trace in
-    record {
-      within = omega arith;
-      pages_stay = ap (λ p. p.pages) plain_is;
-      rows = ap (λ p. p.rows) plain_is;
-      few = rw (ap (λ p. p.rows) plain_is) (omega arith);
-      entries = ap (λ j. j.entries) journal_is;
-      replies = ap (λ l. l.replies) log_is ∙ unanswered-all own (length trace) own_all;
-      room = rw (ap (λ l. l.room) log_is, bytes_is, ← bounds_are trace (longest_value (trace_with trace))) (omega arith);
-      spare = rw (ap (λ j. j.spare) journal_is) (omega (arith, here_one trace));
-    }
-
--- ---- the commands of a trace
-
-numbered-from : (bytes : List ℕ) (n : ℕ) (commands : List Command)
-    → ((k : ℕ) (d : Command) → k < length commands → (get_or commands k d).number ≡ n + k) → Numbered n (operations bytes commands)
-numbered-from bytes n [] numbered = tt
-numbered-from bytes n (command ∷ commands) numbered = (
-  numbered 0 command (omega arith) ∙ omega arith,
-  numbered-from bytes (n + 1) commands (λ k d lt. numbered (suc k) d (omega arith) ∙ omega arith),
-)
-
-pub numbered : (bytes : List ℕ) (commands : List Command) → AreNumbered commands → Numbered 1 (operations bytes commands)
-numbered bytes commands are = numbered-from bytes 1 commands (λ k d lt. are k d lt ∙ omega arith)
-
-operation_at : (bytes : List ℕ) (commands : List Command) (k : ℕ) (d : Command)
-    → get_or (operations bytes commands) k (operation bytes d) ≡ operation bytes (get_or commands k d)
-operation_at bytes [] k d = refl
-operation_at bytes (command ∷ commands) zero d = refl
-operation_at bytes (command ∷ commands) (suc k) d = operation_at bytes commands k d
-
-within_at : (bytes : List ℕ) (commands : List Command) (k : ℕ) → k < length commands → k < length (operations bytes commands)
-within_at bytes commands k lt = rw (length-map' (operation bytes) commands) lt
-
-index_at : (commands : List Command) (k : ℕ) (d : Command) → k < length commands → AreNumbered commands → (get_or commands k d).number - 1 ≡ k
-index_at commands k d lt are = let is = are k d lt in omega (arith, is)
-
--- the same of a command as it stands in the trace
-pub unanswered_at : (bytes : List ℕ) (commands : List Command) (pages k : ℕ) (d : Command) (plain : Cache) (log : Replies) (journal : JournalState)
-    → HasDone (operations bytes commands) pages k plain log journal → k < length commands → AreNumbered commands
-    → slice_get log.replies ((get_or commands k d).number - 1) ≡ Some None
-unanswered_at bytes commands pages k d plain log journal so_far lt are =
-    rw (index_at commands k d lt are) (next_unanswered (operations bytes commands) pages k plain log journal so_far (within_at bytes commands k lt))
-
-pub fits_at : HaveRoom → (bytes : List ℕ) (commands : List Command) (pages k : ℕ) (d : Command) (plain : Cache) (log : Replies) (journal : JournalState)
-    → HasDone (operations bytes commands) pages k plain log journal → k < length commands → AreNumbered commands → All IsWellFormed (operations bytes commands)
-    → length (spelled (apply (operation bytes (get_or commands k d)) plain.rows).1).1 ≤ log.room
-fits_at room bytes commands pages k d plain log journal so_far lt are formed =
-    rw (operation_at bytes commands k d) at
-    (next_fits room (operations bytes commands) pages k (operation bytes d) plain log journal (numbered bytes commands are) so_far (within_at bytes commands k lt) formed)
-
-pub more_at : HaveRoom → (bytes : List ℕ) (commands : List Command) (pages k : ℕ) (d : Command) (plain plain' : Cache) (log log' : Replies) (journal journal' : JournalState)
-    → HasDone (operations bytes commands) pages k plain log journal → k < length commands → AreNumbered commands → All IsWellFormed (operations bytes commands)
-    → plain' ≡ record plain { rows = (apply (operation bytes (get_or commands k d)) plain.rows).0 }
-    → log'.replies ≡ slice_set log.replies ((get_or commands k d).number - 1) (Some (spelled (apply (operation bytes (get_or commands k d)) plain.rows).1))
-    → log'.room + length (spelled (apply (operation bytes (get_or commands k d)) plain.rows).1).1 ≡ log.room
-    → journal'.entries ≡ journal.entries ++ Done (get_or commands k d).number ∷ []
-    → journal'.spare + 1 ≡ journal.spare
-    → HasDone (operations bytes commands) pages (k + 1) plain' log' journal'
-more_at have_room bytes commands pages k d plain plain' log log' journal journal' so_far lt are formed rows replies room entries spare =
-    let is = operation_at bytes commands k d in
-    has_done_more have_room (operations bytes commands) pages k (operation bytes d) plain plain' log log' journal journal' (numbered bytes commands are) so_far
-    (within_at bytes commands k lt) formed
-    (rw is rows) (rw is (rw (index_at commands k d lt are) at replies)) (rw is room) (rw is entries) spare
-
-pub ended_at : (bytes : List ℕ) (commands : List Command) (k : ℕ) → length commands ≤ k → length (operations bytes commands) ≤ k
-ended_at bytes commands k ended = rw (length-map' (operation bytes) commands) ended
+      done = rw (entries, take_more trace k d lt)
+          (filter_map-append done_number J (Done operation.number ∷ []) ∙ rw middle.done (sym (map-append (λ o. o.number) (take k trace) (operation ∷ []))));
+      leads = rw entries (laws.leads T pages J (Done operation.number ∷ []) does.works.rest middle.leads ∙ rw command refl);
+      evicts = rw entries (laws.evicts T pages (pressure pages) operation.number J middle.evicts);
+      replied = rw (take_more trace k d lt)
+          (All-append (Replied T pages after.entries) (take k trace) (operation ∷ []) (rw does.works.recorded.entries all) one);
+      replies = does.logs.replies ∙ added
+          ∙ ap (λ list. list ++ replicate (length trace - (k + 1)) None) (ap (λ list. list ++ answer_in T pages after.entries operation ∷ []) (sym same_front) ∙ sym taken);
+      tables = tables_are;
+      spare = spare_is;
+      room = room_is;
+    })

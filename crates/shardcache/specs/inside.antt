@@ -1,2 +1,4 @@
 pub mod Ending
 pub mod Finished
+pub mod Progress
+pub mod Works

@@ -1,43 +1,40 @@
 -- From the first command to the last.
-use Rattle.std.proofs.Common.{arith}
+use Rattle.std.proofs.Common.{◌∙◌}
 use Rattle.trace_text.specs.Parsed.{trace_in}
-use Rattle.shardcache.proofs.Progress.{ended_at, has_done_none, fits_at, more_at, numbered, unanswered_at}
-use Rattle.shardcache.proofs.OneReport.{is_run}
+use Rattle.shardcache.proofs.Numbered.{ended_at, index_at, numbered}
+use Rattle.shardcache.proofs.OneReport.{ReportLaws, is_run}
 use Rattle.shardcache.proofs.run.do_all.Goals as goal
+use Rattle.shardcache.proofs.run.do_all.Goals.{After-logs_hold_the_answers}
 
-pub loop-command-init : goal.loop-command-init
-loop-command-init c =
-    has_done_none (trace_in c.args.trace.now).operations c.args.pages _ _ _ _ _ _ c.needs-needs.ensures.own_parts c.needs-needs.ensures.reply_bytes
-    (omega (arith, c.needs-needs.ensures.here_parts)) c.in_ok-plain.ensures c.in_ok-log.ensures c.in_ok-journal.ensures
+laws : After-logs_hold_the_answers → ReportLaws
+laws c = record {
+  holds = c.replies_hold_what_was_put.ensures.answers;
+  lines = c.a_report_has_its_lines.ensures.journals;
+  part = c.one_shard_answers_alone.ensures.part;
+  parts = c.one_shard_answers_alone.ensures.parts;
+  alone = c.one_shard_answers_alone.ensures.answers;
+  logged = c.logs_hold_the_answers.ensures;
+}
 
-pub do_command-requires-clause-unanswered : goal.do_command-requires-clause-unanswered
-do_command-requires-clause-unanswered c =
-    let numbers = rw c.commands-commands.ensures.value at c.commands-commands.ensures.numbered in
-    rw c.commands-commands.ensures.value
-    (unanswered_at c.args.trace.now.bytes c.args.trace.now.commands c.args.pages c.loop-command.command-index _ _ _ _ c.loop-command.invariant
-    (rw c.commands-commands.ensures.value at c.loop-command-test.true) numbers)
+pub do_command-requires-clause-so_far : goal.do_command-requires-clause-so_far
+do_command-requires-clause-so_far c =
+    rw (index_at _ _ _ c.loop-command-test.true c.commands-commands.ensures.numbered) c.loop-command.invariant.done
 
-pub do_command-requires-clause-fits : goal.do_command-requires-clause-fits
-do_command-requires-clause-fits c =
-    rw c.commands-commands.ensures.value
-    (fits_at c.bodies_have_room.ensures c.args.trace.now.bytes c.args.trace.now.commands c.args.pages c.loop-command.command-index _ _ _ _ c.loop-command.invariant
-    (rw c.commands-commands.ensures.value at c.loop-command-test.true)
-    (rw c.commands-commands.ensures.value at c.commands-commands.ensures.numbered) c.commands-commands.ensures.well_formed)
+pub do_command-requires-clause-numbered : goal.do_command-requires-clause-numbered
+do_command-requires-clause-numbered c = rw c.commands-commands.ensures.value at c.commands-commands.ensures.numbered
 
 pub loop-command-preserved : goal.loop-command-preserved
-loop-command-preserved c =
-    let is = c.commands-commands.ensures.value in
-    let done = c.in_ok-do_command.ensures in
-    more_at c.bodies_have_room.ensures c.args.trace.now.bytes c.args.trace.now.commands c.args.pages c.loop-command.command-index _ _ _ _ _ _ _ c.loop-command.invariant
-    (rw is at c.loop-command-test.true) (rw is at c.commands-commands.ensures.numbered) c.commands-commands.ensures.well_formed
-    (rw is at done.applied) (rw is at done.replied) (rw is at done.room) (rw is at done.done) done.spare
+loop-command-preserved c = record {
+  done = rw (c.commands-commands.ensures.numbered c.loop-command.command-index _ c.loop-command-test.true) at c.do_command.ensures.done;
+  pages = c.do_command.ensures.pages ∙ c.loop-command.invariant.pages;
+  keys = c.do_command.ensures.keys ∙ c.loop-command.invariant.keys;
+}
 
 pub returns : goal.returns
 returns c =
-    let left = c.left_by.ensures in
-    rw (left.journal, left.log)
-    (is_run c.one_shard_answers_alone.ensures.answers c.one_shard_answers_alone.ensures.part c.one_shard_answers_alone.ensures.parts c.logs_hold_the_answers.ensures
-    c.replies_hold_what_was_put.ensures.part c.a_report_has_its_lines.ensures.journals
-    (trace_in c.args.trace.now).operations c.args.pages _ _ _ _ _ _ (numbered _ _ (rw c.commands-commands.ensures.value at c.commands-commands.ensures.numbered))
-    c.commands-commands.ensures.well_formed c.loop-command.invariant
-    (ended_at _ _ _ (rw c.commands-commands.ensures.value at c.loop-command-test.false)) left.rows left.live)
+    let left = c.finish.ensures in
+    let listed = c.commands-commands.ensures in
+    rw (left.journal, left.log, ← c.loop-command.invariant.pages)
+    (is_run (laws (goal.at.returns c).After-logs_hold_the_answers) (trace_in c.args.trace.now).operations c.loop-command.command-index _ _ _ _ _
+    (numbered _ _ (rw listed.value at listed.numbered)) listed.well_formed c.loop-command.invariant.done
+    (ended_at _ _ _ (rw listed.value at c.loop-command-test.false)) left.rows left.live)

@@ -1,7 +1,13 @@
 -- The first commands are done.
+use Rattle.std.specs.Prelude.{◌≡◌, ◌*◌, vec_len}
+use Rattle.layout.specs.Sizes.{key_room, most_keys}
 use Rattle.trace_text.specs.Parsed.{trace_in}
-use Rattle.shardcache.proofs.Progress.{HasDone}
+use Rattle.shardcache.specs.inside.Progress.{HasDone}
 use Rattle.shardcache.proofs.run.do_all.Given as goal
 
 abbrev pub invariant-loop-command : goal.invariant-loop-command
-invariant-loop-command l = HasDone (trace_in l.trace).operations l.pages l.command-index l.plain l.log l.journal
+invariant-loop-command l = record {
+  done : HasDone (trace_in l.trace) l.command-index l.shard.space l.shard.journal l.shard.log;
+  pages : l.shard.space.pages ≡ l.pages;
+  keys : vec_len l.shard.keys ≡ key_room * most_keys;
+}

@@ -1,0 +1,10 @@
+-- None of the commands is done.
+use Rattle.trace_text.specs.Parsed.{trace_in}
+use Rattle.shardcache.proofs.Opening.{opened}
+use Rattle.shardcache.proofs.run.shard.Shard.open.Goals as goal
+
+pub returns-clause-done : goal.returns-clause-done
+returns-clause-done c =
+    let needs = c.needs-needs.ensures in
+    opened (trace_in c.args.trace.now).operations c.args.pages _ _ _ _ _ _ _ c.requires.well_formed needs.own_parts needs.here_parts needs.here_puts needs.reply_bytes
+    c.in_ok-open.ensures c.in_ok-new.ensures c.in_ok-new-2.ensures

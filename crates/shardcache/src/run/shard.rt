@@ -1,0 +1,115 @@
+//! A shard at work on a trace.
+ghost use Rattle.std.specs.Prelude.{◌≡◌, ◌*◌, ◌-◌, ◌≤◌, List, length, vec_len, All, Contains, IfOk};
+ghost use Rattle.layout.specs.Sizes.{ArePages, key_room, most_keys};
+ghost use Rattle.trace_text.specs.Operation.{operation};
+ghost use Rattle.trace_text.specs.Parsed.{AreNumbered, IsWellFormed, trace_in};
+ghost use Rattle.trace_text.specs.Reading.{most_commands};
+ghost use Rattle.cache_model.specs.Apply.{apply};
+ghost use Rattle.cache_model.specs.Row.{Row, live};
+ghost use Rattle.shard_rings.specs.Ask.{asked, on_no_line, IsAskable};
+ghost use Rattle.shardcache.specs.inside.Progress.{HasDone};
+
+use super::Finished;
+use super::parts::do_part;
+use cache_model::{
+    a_journal_goes_on, bodies_have_room, evictions_are_counted, evictions_in_turn_are_legal,
+};
+use layout::{KEY_ROOM, MOST_KEYS};
+use reclaim::Space;
+use run_log::{Journal, ReplyLog};
+use shard_rings::{Ask, commands_can_be_asked};
+use std::alloc::{AllocError, Global};
+use trace_text::{Command, Trace};
+
+/// A shard's rows, what it wrote down so far, and the room for what it will write.
+#[derive(Drop)]
+pub struct Shard {
+    pub space: Space,
+    pub journal: Journal,
+    pub log: ReplyLog,
+    /// Where the keys of a scan stand on their way into the log.
+    pub keys: Vec<u8>,
+}
+
+impl Shard {
+    /// The one shard of a trace, with so many pages. It takes all the memory that the trace will need.
+    pub fn open(alloc: Global, trace: &Trace, pages: u32) -> Result<Shard, AllocError>
+        requires pages { ArePages pages }
+        requires one_shard { trace.now.shards ≡ 1 }
+        requires few { length trace.now.commands ≤ most_commands }
+        requires well_formed { All IsWellFormed (trace_in trace.now).operations }
+        ensures done { IfOk result (λ shard. HasDone (trace_in trace.now) 0 shard.space shard.journal shard.log) }
+        ensures pages { IfOk result (λ shard. shard.space.pages ≡ pages) }
+        ensures keys { IfOk result (λ shard. vec_len shard.keys ≡ key_room * most_keys) }
+    {
+        let needs = trace.needs(0, 1);
+        Ok(Shard {
+            space: Space::open(alloc, 0, pages, needs.here_puts)?,
+            journal: Journal::new(alloc, needs.here_parts + needs.here_puts)?,
+            log: ReplyLog::new(alloc, needs.own_parts, needs.reply_bytes)?,
+            keys: vec![in alloc; 0; (KEY_ROOM * MOST_KEYS) as usize]?,
+        })
+    }
+
+    /// Does the next command. It takes no memory.
+    pub fn do_command(&mut self, trace: &Trace, command: &Command)
+        requires of_trace { Contains trace.now.commands command.now }
+        requires numbered { AreNumbered trace.now.commands }
+        requires well_formed { All IsWellFormed (trace_in trace.now).operations }
+        requires so_far { HasDone (trace_in trace.now) (command.now.number - 1) self.old.space self.old.journal self.old.log }
+        requires keys { vec_len self.old.keys ≡ key_room * most_keys }
+        ensures done { HasDone (trace_in trace.now) command.now.number self.new.space self.new.journal self.new.log }
+        ensures pages { self.new.space.pages ≡ self.old.space.pages }
+        ensures keys { vec_len self.new.keys ≡ vec_len self.old.keys }
+    {
+        a_journal_goes_on();
+        evictions_in_turn_are_legal();
+        evictions_are_counted();
+        bodies_have_room();
+        let ask = ask_of(trace, command);
+        let (space, journal, log) = (&mut self.space, &mut self.journal, &mut self.log);
+        do_part(space, &ask, self.keys.as_mut_slice(), journal, log);
+    }
+
+    /// What the shard leaves. Its memory is given back.
+    pub fn finish(self) -> Finished
+        ensures journal { result.journal ≡ self.journal }
+        ensures log { result.log ≡ self.log }
+        ensures rows { result.rows ≡ length self.space.rows }
+        ensures live { result.live ≡ live self.space.rows }
+    {
+        let Shard {
+            space,
+            journal,
+            log,
+            ..
+        } = self;
+        let rows = space.rows();
+        let live = space.live();
+        space.finish();
+        Finished {
+            journal,
+            log,
+            rows,
+            live,
+        }
+    }
+}
+
+/// What a command of the trace asks.
+fn ask_of<'a>(trace: &'a Trace, command: &Command) -> Ask<'a>
+    requires of_trace { Contains trace.now.commands command.now }
+    requires formed { IsWellFormed (operation trace.now.bytes command.now) }
+    ensures asked { asked result ≡ on_no_line (operation trace.now.bytes command.now) }
+    ensures askable { IsAskable (asked result) }
+    ensures same { (cache : List Row) → apply (asked result) cache ≡ apply (operation trace.now.bytes command.now) cache }
+{
+    commands_can_be_asked();
+    Ask {
+        kind: command.kind,
+        key: trace.key(command),
+        value: trace.value(command),
+        count: command.count,
+        number: command.number,
+    }
+}
