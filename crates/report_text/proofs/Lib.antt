@@ -1,8 +1,11 @@
 pub mod Answered
 pub mod Fronts
+pub mod Gathered
 pub mod Keys
 pub mod KeysOfReplies
 pub mod Logs
 pub mod Outputs
+pub mod Places
 pub mod Sent
 pub mod Texts
+pub mod TwoShards

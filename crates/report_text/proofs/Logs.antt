@@ -89,6 +89,20 @@ two_keys key count enough from_b from_c = (b_and_c, two_found key count enough f
 
 -- ---- one part after another
 
+-- the first n parts are recorded, and the next has no reply yet
+pub next_is_none : (front parts : List (Option (ReplyKind × List ℕ))) (n m : ℕ) → length front ≡ n → parts ≡ front ++ replicate (suc m) None → slice_get parts n ≡ Some None
+next_is_none front parts n m many is =
+    let within : length front < length (front ++ None ∷ replicate m None) = simp length-append (omega arith) in
+    ap (λ ps. slice_get ps n) is ∙ ap (slice_get (front ++ None ∷ replicate m None)) (sym many)
+    ∙ slice_get-get_or (front ++ None ∷ replicate m None) (length front) None within ∙ ap Some (get_or-append_seam front None (replicate m None) None)
+
+-- it is recorded
+pub next_is_set : (front parts : List (Option (ReplyKind × List ℕ))) (n m : ℕ) (part : Option (ReplyKind × List ℕ)) → length front ≡ n → parts ≡ front ++ replicate (suc m) None
+    → slice_set parts n part ≡ (front ++ part ∷ []) ++ replicate m None
+next_is_set front parts n m part many is =
+    ap (λ ps. slice_set ps n part) is ∙ ap (λ k. slice_set (front ++ None ∷ replicate m None) k part) (sym many)
+    ∙ set-append_seam front None (replicate m None) part ∙ sym (append_assoc front (part ∷ []) (replicate m None))
+
 abbrev pub part_of : Reply → Option (ReplyKind × List ℕ)
 part_of reply = Some (spelled reply)
 
@@ -109,12 +123,7 @@ pub none_filled : (longest : ℕ) (operations : List Operation) (m : ℕ) → Is
 none_filled longest operations m = record { replies = []; many = refl; fit = tt; parts_are = refl }
 
 pub empty_at : (longest : ℕ) (operations : List Operation) (parts : List (Option (ReplyKind × List ℕ))) (n m : ℕ) → IsFilled longest operations parts n (suc m) → slice_get parts n ≡ Some None
-empty_at longest operations parts n m p =
-    let front = map part_of p.replies in
-    let at : length front ≡ n = simp length-map (p.many) in
-    let within : length front < length (front ++ None ∷ replicate m None) = simp length-append (omega arith) in
-    ap (λ ps. slice_get ps n) p.parts_are ∙ ap (slice_get (front ++ None ∷ replicate m None)) (sym at)
-    ∙ slice_get-get_or (front ++ None ∷ replicate m None) (length front) None within ∙ ap Some (get_or-append_seam front None (replicate m None) None)
+empty_at longest operations parts n m p = next_is_none (map part_of p.replies) parts n m (simp length-map p.many) p.parts_are
 
 fit-more : (longest : ℕ) (operations : List Operation) (replies : List Reply) (reply : Reply) (d : Operation) → FitEach longest operations replies → length replies < length operations
     → Fits longest (get_or operations (length replies) d) reply → FitEach longest operations (replies ++ reply ∷ [])
@@ -126,19 +135,15 @@ fit-more longest (operation ∷ operations) (first ∷ replies) reply d fit belo
 pub one_more_filled : (longest : ℕ) (operations : List Operation) (parts : List (Option (ReplyKind × List ℕ))) (n m : ℕ) (reply : Reply) (d : Operation) → n < length operations
     → Fits longest (get_or operations n d) reply → IsFilled longest operations parts n (suc m)
     → IsFilled longest operations (slice_set parts n (part_of reply)) (n + 1) m
-one_more_filled longest operations parts n m reply d below fits p =
-    let front = map part_of p.replies in
-    let at : n ≡ length front = sym (simp length-map (p.many)) in
-    record {
-      replies = p.replies ++ reply ∷ [];
-      many = simp length-append (ap (λ k. k + 1) p.many);
-      fit = fit-more longest operations p.replies reply d p.fit (omega (arith, p.many, below))
-          (subst (λ (k : ℕ). Fits longest (get_or operations k d) reply) (sym p.many) fits);
-      parts_are =
-          ap (λ ps. slice_set ps n (part_of reply)) p.parts_are ∙ ap (λ k. slice_set (front ++ None ∷ replicate m None) k (part_of reply)) at
-          ∙ set-append_seam front None (replicate m None) (part_of reply) ∙ sym (append_assoc front (part_of reply ∷ []) (replicate m None))
-          ∙ ap (λ ps. ps ++ replicate m None) (sym (map-append part_of p.replies (reply ∷ [])));
-    }
+one_more_filled longest operations parts n m reply d below fits p = record {
+  replies = p.replies ++ reply ∷ [];
+  many = simp length-append (ap (λ k. k + 1) p.many);
+  fit = fit-more longest operations p.replies reply d p.fit (omega (arith, p.many, below))
+      (subst (λ (k : ℕ). Fits longest (get_or operations k d) reply) (sym p.many) fits);
+  parts_are =
+      next_is_set (map part_of p.replies) parts n m (part_of reply) (simp length-map p.many) p.parts_are
+      ∙ ap (λ ps. ps ++ replicate m None) (sym (map-append part_of p.replies (reply ∷ [])));
+}
 
 -- the command at an index, as what it asks
 pub fits_at : (longest : ℕ) (bytes : List ℕ) (commands : List Command) (n : ℕ) (d e : Command) (reply : Reply) → n < length commands

@@ -1,7 +1,9 @@
 -- The lines of a report as they are put, piece by piece.
-use Rattle.std.proofs.Common.{◌≡◌, ℕ, List, [], ◌∷◌, ◌++◌, refl, sym, ap, ◌∙◌, append_assoc}
+use Rattle.std.proofs.Common.{◌≡◌, ℕ, List, [], ◌∷◌, ◌++◌, map, refl, sym, ap, ◌∙◌, append_assoc, append-nil}
 use Rattle.std.specs.List.{flat_map}
+use denote.Ref.{Bor}
 use Rattle.std.specs.Prelude.{codes, decimal}
+use Rattle.std.proofs.lemmas.List.Folds.{flat_map-map}
 use Rattle.cache_model.specs.declared.entry.Entry.{Entry}
 use Rattle.cache_model.specs.declared.reply_kind.ReplyKind.{ReplyKind}
 use Rattle.cache_model.specs.declared.reply_kind.ReplyKind.TheVariants as kinds
@@ -21,6 +23,12 @@ entry_piece entry = 32 ∷ entry_text entry
 abbrev pub key_piece : List ℕ → List ℕ
 key_piece key = 32 ∷ key
 
+abbrev pub word_piece : Bor (List ℕ) → List ℕ
+word_piece word = 32 ∷ word.now
+
+abbrev pub field_piece : Bor (List ℕ) × ℕ → List ℕ
+field_piece field = field.0.now ++ decimal field.1
+
 abbrev pub answer_line : ℕ × Reply → List ℕ
 answer_line answer = line (answer_text answer)
 
@@ -33,16 +41,19 @@ journal_line journal = line (journal_text journal)
 abbrev pub occupancy_line : ℕ × Occupancy → List ℕ
 occupancy_line occupancy = line (occupancy_text occupancy)
 
+pub words_are : (words : List (Bor (List ℕ))) → flat_map word_piece words ≡ flat_map key_piece (map (λ word. word.now) words)
+words_are words = sym (flat_map-map key_piece (λ (word : Bor (List ℕ)). word.now) words)
+
 -- ---- a line by its pieces
 
-regroup : (a x b y c z d w e v n : List ℕ) → (a ++ x) ++ (b ++ y) ++ (c ++ z) ++ (d ++ w) ++ (e ++ v) ++ n ≡ a ++ x ++ b ++ y ++ c ++ z ++ d ++ w ++ e ++ v ++ n
-regroup a x b y c z d w e v n = simp append_assoc
+five : (a x b y c z d w e v n : List ℕ) → ((a ++ x) ++ ((b ++ y) ++ ((c ++ z) ++ ((d ++ w) ++ ((e ++ v) ++ []))))) ++ n ≡ a ++ x ++ b ++ y ++ c ++ z ++ d ++ w ++ e ++ v ++ n
+five a x b y c z d w e v n = simp (append_assoc, append-nil)
 
 pub shard_line_is : (shard : ℕ) (o : Occupancy)
-    → (codes "shard " ++ decimal shard) ++ (codes " rows " ++ decimal o.rows) ++ (codes " live " ++ decimal o.live) ++ (codes " lent " ++ decimal o.lent) ++ (codes " back " ++ decimal o.back) ++ codes "\n"
+    → ((codes "shard " ++ decimal shard) ++ ((codes " rows " ++ decimal o.rows) ++ ((codes " live " ++ decimal o.live) ++ ((codes " lent " ++ decimal o.lent) ++ ((codes " back " ++ decimal o.back) ++ []))))) ++ codes "\n"
     ≡ line (occupancy_text (shard, o))
 shard_line_is shard o =
-    regroup (codes "shard ") (decimal shard) (codes " rows ") (decimal o.rows) (codes " live ") (decimal o.live) (codes " lent ") (decimal o.lent) (codes " back ") (decimal o.back) (codes "\n")
+    five (codes "shard ") (decimal shard) (codes " rows ") (decimal o.rows) (codes " live ") (decimal o.live) (codes " lent ") (decimal o.lent) (codes " back ") (decimal o.back) (codes "\n")
 
 -- ---- a reply as it is spelled
 
@@ -90,3 +101,6 @@ keys_said kind body reply p keys =
 
 pub reply_line_is : (number : ℕ) (reply : Reply) → decimal number ++ codes " " ++ reply_text reply ++ codes "\n" ≡ line (answer_text (number, reply))
 reply_line_is number reply = ap (λ l. l ++ codes "\n") (append_assoc (decimal number) (codes " ") (reply_text reply))
+
+pub keys_line_is : (number : ℕ) (keys : List (List ℕ)) → decimal number ++ codes " keys" ++ flat_map key_piece keys ++ codes "\n" ≡ line (answer_text (number, Keys keys))
+keys_line_is number keys = ap (λ l. l ++ codes "\n") (append_assoc (decimal number) (codes " keys") (flat_map key_piece keys))

@@ -1,3 +1,5 @@
+pub mod Found
 pub mod Output
+pub mod Places
 pub mod Spells
 pub mod Words

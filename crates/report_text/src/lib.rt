@@ -2,8 +2,11 @@
 //! holds at the end. See [`write_report`].
 #![tactic(auto)]
 
+mod answers;
 mod buffer;
+mod found;
 mod lines;
+mod place;
 mod report;
 mod shard_line;
 #[cfg(test)]

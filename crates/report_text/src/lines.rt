@@ -1,12 +1,11 @@
 //! The lines of a report.
-ghost use Rattle.std.specs.Prelude.{◌≡◌, ℕ, ◌-◌, ◌^◌, ◌<◌, ◌≤◌, length, List, ◌∷◌, ◌++◌, codes, decimal, flat_map, Some};
-ghost use Rattle.std.specs.List.{slice_get};
+ghost use Rattle.std.specs.Prelude.{◌≡◌, ℕ, ◌^◌, ◌<◌, length, List, ◌∷◌, ◌++◌, codes, decimal, flat_map};
+ghost use Rattle.std.specs.List.{enumerate_from};
 ghost use Rattle.cache_model.specs.Apply.{Reply};
 ghost use Rattle.cache_model.specs.KeyBody.{AreKeys};
 ghost use Rattle.cache_model.specs.Report.{line, answer_text, reply_text, entry_text, journal_text, occupancy_text};
-ghost use Rattle.cache_model.specs.Spelled.{spelled};
-ghost use Rattle.report_text.specs.inside.Spells.{HasLegalKeys, Spells};
-ghost use Rattle.report_text.specs.Views.{occupancy_in};
+ghost use Rattle.report_text.specs.inside.Spells.{Spells};
+ghost use Rattle.report_text.specs.Views.{occupancies_in, occupancy_in};
 ghost use Rattle.report_text.specs.inside.Output.{Writes, output};
 ghost use Rattle.report_text.specs.inside.Words.{word};
 
@@ -14,7 +13,7 @@ use crate::ShardLine;
 use crate::buffer::{Buffer, end_line, put, put_field, put_number, put_word};
 use cache_model::{Entry, ReplyKind};
 use outside::{Failed, Sink};
-use run_log::{Journal, ReplyLog, next_key};
+use run_log::{Journal, next_key};
 
 fn word(kind: ReplyKind) -> &'static [u8]
     ensures { result.now ≡ word kind }
@@ -63,7 +62,7 @@ fn put_reply<K: Sink>(
 }
 
 /// The line of an answer.
-fn put_reply_line<K: Sink>(
+pub(crate) fn put_reply_line<K: Sink>(
     sink: &mut K,
     buffer: &mut Buffer,
     number: u32,
@@ -78,23 +77,6 @@ fn put_reply_line<K: Sink>(
     put(sink, buffer, b" ")?;
     put_reply(sink, buffer, kind, body)?;
     end_line(sink, buffer)
-}
-
-/// The line of the answer to the command with this number, of a log whose parts are numbered as the
-/// commands are.
-pub(crate) fn put_answer<K: Sink>(
-    sink: &mut K,
-    buffer: &mut Buffer,
-    number: u32,
-    log: &ReplyLog,
-) -> Result<(), Failed>
-    requires first { 1 ≤ number }
-    requires answered { (reply : Reply) × HasLegalKeys reply × (slice_get log.now.replies (number - 1) ≡ Some (Some (spelled reply))) }
-    ensures { (reply : Reply) → slice_get log.now.replies (number - 1) ≡ Some (Some (spelled reply)) → HasLegalKeys reply →
-        Writes result (output (K.written sink.old) (K.faults sink.old) buffer.old.items) (output (K.written sink.new) (K.faults sink.new) buffer.new.items) (line (answer_text (number, reply))) }
-{
-    let (kind, body) = log.reply(number - 1).unwrap();
-    put_reply_line(sink, buffer, number, kind, body)
 }
 
 fn put_entry<K: Sink>(sink: &mut K, buffer: &mut Buffer, entry: Entry) -> Result<(), Failed>
@@ -129,8 +111,34 @@ pub(crate) fn put_journal<K: Sink>(
     end_line(sink, buffer)
 }
 
+/// Fields, each a name and a number.
+fn put_fields<K: Sink>(
+    sink: &mut K,
+    buffer: &mut Buffer,
+    fields: &[(&[u8], u64)],
+) -> Result<(), Failed>
+    ensures { Writes result (output (K.written sink.old) (K.faults sink.old) buffer.old.items) (output (K.written sink.new) (K.faults sink.new) buffer.new.items) (flat_map (λ field. field.0.now ++ decimal field.1) fields.now) }
+{
+    for (name, number) in fields {
+        put_field(sink, buffer, name, *number)?;
+    }
+    Ok(())
+}
+
+/// A line of fields.
+pub(crate) fn put_field_line<K: Sink>(
+    sink: &mut K,
+    buffer: &mut Buffer,
+    fields: &[(&[u8], u64)],
+) -> Result<(), Failed>
+    ensures { Writes result (output (K.written sink.old) (K.faults sink.old) buffer.old.items) (output (K.written sink.new) (K.faults sink.new) buffer.new.items) (line (flat_map (λ field. field.0.now ++ decimal field.1) fields.now)) }
+{
+    put_fields(sink, buffer, fields)?;
+    end_line(sink, buffer)
+}
+
 /// The line of what a shard holds.
-pub(crate) fn put_shard_line<K: Sink>(
+fn put_shard_line<K: Sink>(
     sink: &mut K,
     buffer: &mut Buffer,
     shard: u64,
@@ -138,10 +146,29 @@ pub(crate) fn put_shard_line<K: Sink>(
 ) -> Result<(), Failed>
     ensures { Writes result (output (K.written sink.old) (K.faults sink.old) buffer.old.items) (output (K.written sink.new) (K.faults sink.new) buffer.new.items) (line (occupancy_text (shard, occupancy_in occupancy.now))) }
 {
-    put_field(sink, buffer, b"shard ", shard)?;
-    put_field(sink, buffer, b" rows ", u64::from(occupancy.rows))?;
-    put_field(sink, buffer, b" live ", occupancy.live)?;
-    put_field(sink, buffer, b" lent ", occupancy.lent)?;
-    put_field(sink, buffer, b" back ", occupancy.back)?;
-    end_line(sink, buffer)
+    put_field_line(
+        sink,
+        buffer,
+        &[
+            (b"shard ", shard),
+            (b" rows ", u64::from(occupancy.rows)),
+            (b" live ", occupancy.live),
+            (b" lent ", occupancy.lent),
+            (b" back ", occupancy.back),
+        ],
+    )
+}
+
+/// The lines of what the shards hold.
+pub(crate) fn put_shard_lines<K: Sink>(
+    sink: &mut K,
+    buffer: &mut Buffer,
+    lines: &[ShardLine],
+) -> Result<(), Failed>
+    ensures { Writes result (output (K.written sink.old) (K.faults sink.old) buffer.old.items) (output (K.written sink.new) (K.faults sink.new) buffer.new.items) (flat_map (λ occupancy. line (occupancy_text occupancy)) (enumerate_from 0 (occupancies_in lines.now))) }
+{
+    for (shard, line) in lines.iter().enumerate() {
+        put_shard_line(sink, buffer, shard as u64, line)?;
+    }
+    Ok(())
 }

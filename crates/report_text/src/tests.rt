@@ -7,6 +7,8 @@ ghost use Rattle.cache_model.specs.Logged.{AreLogged};
 ghost use Rattle.cache_model.specs.Spelled.{spelled};
 ghost use Rattle.trace_text.specs.declared.command.Kind.TheVariants as CommandKind;
 
+mod two_shards;
+
 use crate::{ShardLine, write_report};
 use cache_model::{Entry, ReplyKind, is_at_most, one_shard_answers_alone};
 use outside::{Failed, MemorySink};

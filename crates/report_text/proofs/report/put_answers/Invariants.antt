@@ -1,4 +1,4 @@
--- The lines of the answers so far were added.
+-- The lines of the answers so far were added, and the places are those of the next command.
 use Rattle.std.proofs.Common.{ℕ, List, take}
 use Rattle.std.specs.List.{flat_map}
 use Rattle.cache_model.specs.Apply.{Reply}
@@ -7,10 +7,14 @@ use Rattle.cache_model.specs.Report.{line, answer_text}
 use Rattle.trace_text.specs.Parsed.{trace_in}
 use Rattle.report_text.specs.Views.{replies_in}
 use Rattle.report_text.specs.inside.Output.{output}
+use Rattle.report_text.specs.inside.Places.{ArePlaces}
 use Rattle.report_text.proofs.Outputs.{Added}
 use Rattle.report_text.proofs.report.put_answers.Given as goal
 
-abbrev pub invariant-loop-command : goal.invariant-loop-command
-invariant-loop-command g l = (answers : List (ℕ × Reply)) → AreLogged (trace_in l.trace) 1 (replies_in l.logs) answers →
-    Added (output (g.K.Sink.written l.fn.sink) (g.K.Sink.faults l.fn.sink) l.fn.buffer.items) (output (g.K.Sink.written l.sink) (g.K.Sink.faults l.sink) l.buffer.items)
-    (flat_map (λ answer. line (answer_text answer)) (take l.command-index answers))
+abbrev pub invariant-loop-index : goal.invariant-loop-index
+invariant-loop-index g l = record {
+  places : ArePlaces (trace_in l.trace) l.trace.shards l.index l.places;
+  added : (answers : List (ℕ × Reply)) → AreLogged (trace_in l.trace) l.shards (replies_in l.logs) answers →
+      Added (output (g.K.Sink.written l.fn.sink) (g.K.Sink.faults l.fn.sink) l.fn.buffer.items) (output (g.K.Sink.written l.sink) (g.K.Sink.faults l.sink) l.buffer.items)
+      (flat_map (λ answer. line (answer_text answer)) (take l.index answers));
+}

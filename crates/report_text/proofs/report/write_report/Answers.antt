@@ -1,7 +1,4 @@
-use Rattle.std.proofs.Common.{◌≡◌, ℕ, List, Option, subst, append-nil}
-use Rattle.trace_text.specs.Trace.{Trace}
-use Rattle.cache_model.specs.declared.reply_kind.ReplyKind.{ReplyKind}
-use Rattle.cache_model.specs.Apply.{Reply}
+use Rattle.std.proofs.Common.{subst, append-nil}
 use Rattle.std.proofs.lemmas.Result.{IfOk-from_err}
 use Rattle.trace_text.specs.Parsed.{trace_in}
 use Rattle.cache_model.specs.Logged.{AreLogged}
@@ -12,15 +9,12 @@ use Rattle.report_text.proofs.Outputs.{Writes-then, Writes-stop, Writes-exit}
 use Rattle.report_text.proofs.Sent.{Sent-from}
 use Rattle.report_text.proofs.report.write_report.Goals as goal
 
-on_one : {trace : Trace} {n : ℕ} {logs : List (List (Option (ReplyKind × List ℕ)))} {answers : List (ℕ × Reply)} → n ≡ 1 → AreLogged trace n logs answers → AreLogged trace 1 logs answers
-on_one {trace} {n} {logs} {answers} one logged = subst (λ m. AreLogged trace m logs answers) one logged
-
 pub returns-in_err-put_answers : goal.returns-in_err-put_answers
 returns-in_err-put_answers g c =
     let sent = Sent-from c.from_residual.result (output (g.K.Sink.written c.args.sink.now) (g.K.Sink.faults c.args.sink.now) c.new-buffer.result.items) (output
     (g.K.Sink.written c.put_answers.new.sink) (g.K.Sink.faults c.put_answers.new.sink) c.put_answers.new.buffer.items) (AreLogged (trace_in c.args.trace.now) c.args.shards
     (replies_in c.args.logs.now)) (λ answers. report_of answers (journals_in c.args.journals.now) (occupancies_in c.args.lines.now)) c.requires.answered c.new-buffer.ensures
-    (IfOk-from_err _ _ c.from_residual.ensures.0) (λ answers logged. Writes-exit _ c.from_residual.ensures.1 (Writes-stop _ (Writes-stop _ (c.in_err-put_answers.ensures answers (on_one c.requires.one_shard logged))))) in
+    (IfOk-from_err _ _ c.from_residual.ensures.0) (λ answers logged. Writes-exit _ c.from_residual.ensures.1 (Writes-stop _ (Writes-stop _ (c.in_err-put_answers.ensures answers logged)))) in
     record { written = sent.written; front = sent.front; failed = sent.failed; never_falls = sent.never_falls }
 
 pub returns-in_err-put_journals : goal.returns-in_err-put_journals
@@ -29,7 +23,7 @@ returns-in_err-put_journals g c =
     (g.K.Sink.written c.put_journals.new.sink) (g.K.Sink.faults c.put_journals.new.sink) c.put_journals.new.buffer.items) (AreLogged (trace_in c.args.trace.now) c.args.shards
     (replies_in c.args.logs.now)) (λ answers. report_of answers (journals_in c.args.journals.now) (occupancies_in c.args.lines.now)) c.requires.answered c.new-buffer.ensures
     (IfOk-from_err _ _ c.from_residual-in_err-put_journals.ensures.0) (λ answers logged. Writes-exit _ c.from_residual-in_err-put_journals.ensures.1 (Writes-stop _ (Writes-then
-    (c.in_ok-put_answers.ensures answers (on_one c.requires.one_shard logged)) c.in_err-put_journals.ensures))) in
+    (c.in_ok-put_answers.ensures answers logged) c.in_err-put_journals.ensures))) in
     record { written = sent.written; front = sent.front; failed = sent.failed; never_falls = sent.never_falls }
 
 pub returns-in_err-put_shard_lines : goal.returns-in_err-put_shard_lines
@@ -38,7 +32,7 @@ returns-in_err-put_shard_lines g c =
     (g.K.Sink.written c.put_shard_lines.new.sink) (g.K.Sink.faults c.put_shard_lines.new.sink) c.put_shard_lines.new.buffer.items) (AreLogged (trace_in c.args.trace.now) c.args.shards
     (replies_in c.args.logs.now)) (λ answers. report_of answers (journals_in c.args.journals.now) (occupancies_in c.args.lines.now)) c.requires.answered c.new-buffer.ensures
     (IfOk-from_err _ _ c.from_residual-in_err-put_shard_lines.ensures.0) (λ answers logged. Writes-exit _ c.from_residual-in_err-put_shard_lines.ensures.1 (Writes-then (Writes-then
-    (c.in_ok-put_answers.ensures answers (on_one c.requires.one_shard logged)) c.in_ok-put_journals.ensures) c.in_err-put_shard_lines.ensures)) in
+    (c.in_ok-put_answers.ensures answers logged) c.in_ok-put_journals.ensures) c.in_err-put_shard_lines.ensures)) in
     record { written = sent.written; front = sent.front; failed = sent.failed; never_falls = sent.never_falls }
 
 pub returns : goal.returns
@@ -48,5 +42,5 @@ returns g c =
     (journals_in c.args.journals.now) (occupancies_in c.args.lines.now)) c.requires.answered c.new-buffer.ensures
     c.flush.ensures.empty
     (λ answers logged. subst (Writes _ _ _) (append-nil _) (Writes-then (Writes-then (Writes-then (c.in_ok-put_answers.ensures answers
-    (on_one c.requires.one_shard logged)) c.in_ok-put_journals.ensures) c.in_ok-put_shard_lines.ensures) c.flush.ensures.wrote)) in
+    logged) c.in_ok-put_journals.ensures) c.in_ok-put_shard_lines.ensures) c.flush.ensures.wrote)) in
     record { written = sent.written; front = sent.front; failed = sent.failed; never_falls = sent.never_falls }

@@ -4,7 +4,7 @@ use Rattle.report_text.specs.Views.{occupancy_in}
 use Rattle.report_text.specs.declared.shard_line.ShardLine.{ShardLine}
 use Rattle.report_text.proofs.Outputs.{Writes-next-numbered, Writes-broken-numbered, Writes-all-numbered, Writes-exit}
 use Rattle.report_text.proofs.Texts.{occupancy_line}
-use Rattle.report_text.proofs.report.put_shard_lines.Goals as goal
+use Rattle.report_text.proofs.lines.put_shard_lines.Goals as goal
 
 abbrev none : ShardLine
 none = record { rows = 0; live = 0; lent = 0; back = 0 }

@@ -5,7 +5,7 @@ use Rattle.cache_model.specs.Report.{line, occupancy_text}
 use Rattle.report_text.specs.Views.{occupancies_in}
 use Rattle.report_text.specs.inside.Output.{output}
 use Rattle.report_text.proofs.Outputs.{Added}
-use Rattle.report_text.proofs.report.put_shard_lines.Given as goal
+use Rattle.report_text.proofs.lines.put_shard_lines.Given as goal
 
 abbrev pub invariant-loop-shard : goal.invariant-loop-shard
 invariant-loop-shard g l =

@@ -1,0 +1,12 @@
+-- The words so far were added.
+use Rattle.std.proofs.Common.{take}
+use Rattle.std.specs.List.{flat_map}
+use Rattle.report_text.specs.inside.Output.{output}
+use Rattle.report_text.proofs.Outputs.{Added}
+use Rattle.report_text.proofs.Texts.{word_piece}
+use Rattle.report_text.proofs.answers.put_words.Given as goal
+
+abbrev pub invariant-loop-word : goal.invariant-loop-word
+invariant-loop-word g l =
+    Added (output (g.K.Sink.written l.fn.sink) (g.K.Sink.faults l.fn.sink) l.fn.buffer.items) (output (g.K.Sink.written l.sink) (g.K.Sink.faults l.sink) l.buffer.items)
+    (flat_map word_piece (take l.word-index l.words))

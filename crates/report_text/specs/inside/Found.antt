@@ -1,0 +1,15 @@
+-- What the shards found in a scan, as a log has it.
+use Rattle.std.specs.Prelude.{◌≡◌, ℕ, ◌+◌, ◌<◌, ◌≤◌, List, length, All, Option, Some}
+use Rattle.std.specs.List.{slice_get, slice_index_or}
+use Rattle.layout.specs.Sizes.{most_keys}
+use Rattle.cache_model.specs.declared.reply_kind.ReplyKind.{ReplyKind}
+use Rattle.cache_model.specs.Apply.{Keys}
+use Rattle.cache_model.specs.KeyBody.{IsKey}
+use Rattle.cache_model.specs.Spelled.{spelled}
+
+-- from part `first` on the log has the replies of n shards, each with its list of keys
+pub record HasFound (log : List (Option (ReplyKind × List ℕ))) (first n : ℕ) (lists : List (List (List ℕ))) : Type 0 where
+  pub many : length lists ≡ n
+  pub logged : (k : ℕ) (d : List (List ℕ)) → k < length lists → slice_get log (first + k) ≡ Some (Some (spelled (Keys (slice_index_or lists k d))))
+  pub few : All (λ keys. length keys ≤ most_keys) lists
+  pub legal : All (All IsKey) lists

@@ -1,0 +1,132 @@
+//! The lines of the answers, as they are read from the logs.
+ghost use Rattle.std.specs.Prelude.{◌≡◌, ◌⊎◌, ◌+◌, ◌^◌, ◌<◌, ◌≤◌, ℕ, true, false, List, ◌∷◌, map, take, flat_map, Some};
+ghost use Rattle.std.specs.List.{slice_get};
+ghost use Rattle.layout.specs.Sizes.{most_keys};
+ghost use Rattle.trace_text.specs.Operation.{operation};
+ghost use Rattle.trace_text.specs.Parts.{is_scan, most_shards};
+ghost use Rattle.cache_model.specs.Answer.{join};
+ghost use Rattle.cache_model.specs.Apply.{Reply, Keys, in_order};
+ghost use Rattle.cache_model.specs.Logged.{IsRead};
+ghost use Rattle.cache_model.specs.Report.{line, answer_text};
+ghost use Rattle.cache_model.specs.Spelled.{spelled};
+ghost use Rattle.report_text.specs.inside.Found.{HasFound};
+ghost use Rattle.report_text.specs.inside.Output.{Writes, output};
+ghost use Rattle.report_text.specs.inside.Spells.{HasLegalKeys};
+
+use crate::buffer::{Buffer, end_line, put, put_number, put_word};
+use crate::found::{Found, add_found};
+use crate::lines::put_reply_line;
+use cache_model::{one_shard_answers_alone, sort_keys};
+use outside::{Failed, Sink};
+use run_log::ReplyLog;
+use trace_text::{Command, Kind};
+
+/// The line of an answer that is one reply of a log.
+fn put_one<K: Sink>(
+    sink: &mut K,
+    buffer: &mut Buffer,
+    number: u32,
+    log: &ReplyLog,
+    part: u32,
+) -> Result<(), Failed>
+    requires answered { (reply : Reply) × HasLegalKeys reply × (slice_get log.now.replies part ≡ Some (Some (spelled reply))) }
+    ensures { (reply : Reply) → slice_get log.now.replies part ≡ Some (Some (spelled reply)) → HasLegalKeys reply →
+        Writes result (output (K.written sink.old) (K.faults sink.old) buffer.old.items) (output (K.written sink.new) (K.faults sink.new) buffer.new.items) (line (answer_text (number, reply))) }
+{
+    let (kind, body) = log.reply(part).unwrap();
+    put_reply_line(sink, buffer, number, kind, body)
+}
+
+/// The words, each behind a space.
+fn put_words<K: Sink>(sink: &mut K, buffer: &mut Buffer, words: &[&[u8]]) -> Result<(), Failed>
+    ensures { Writes result (output (K.written sink.old) (K.faults sink.old) buffer.old.items) (output (K.written sink.new) (K.faults sink.new) buffer.new.items) (flat_map (λ word. 32 ∷ word) (map (λ word. word.now) words.now)) }
+{
+    for word in words {
+        put_word(sink, buffer, word)?;
+    }
+    Ok(())
+}
+
+/// The line of an answer of these keys.
+fn put_keys_line<K: Sink>(
+    sink: &mut K,
+    buffer: &mut Buffer,
+    number: u32,
+    keys: &[&[u8]],
+) -> Result<(), Failed>
+    ensures { Writes result (output (K.written sink.old) (K.faults sink.old) buffer.old.items) (output (K.written sink.new) (K.faults sink.new) buffer.new.items) (line (answer_text (number, Keys (map (λ key. key.now) keys.now)))) }
+{
+    put_number(sink, buffer, u64::from(number))?;
+    put(sink, buffer, b" keys")?;
+    put_words(sink, buffer, keys)?;
+    end_line(sink, buffer)
+}
+
+fn sort_found(found: &mut Found)
+    ensures { map (λ key. key.now) found.new.items ≡ in_order (map (λ key. key.now) found.old.items) }
+{
+    sort_keys(found.as_mut_slice());
+}
+
+/// The first so many keys, or all of them.
+fn first_keys<'s, 'l>(keys: &'s [&'l [u8]], count: u32) -> &'s [&'l [u8]]
+    ensures { result.now ≡ take count keys.now }
+{
+    &keys[..keys.len().min(count as usize)]
+}
+
+/// The line of the answer to a scan: the first keys in byte order of those that `shards` shards found.
+fn put_scan<K: Sink>(
+    sink: &mut K,
+    buffer: &mut Buffer,
+    command: &Command,
+    shards: u32,
+    log: &ReplyLog,
+    first: u32,
+) -> Result<(), Failed>
+    requires most { shards ≤ most_shards }
+    requires room { first + shards < 2 ^ 32 }
+    requires replied { (lists : List (List (List ℕ))) × HasFound log.now.replies first shards lists }
+    ensures { (lists : List (List (List ℕ))) → HasFound log.now.replies first shards lists →
+        Writes result (output (K.written sink.old) (K.faults sink.old) buffer.old.items) (output (K.written sink.new) (K.faults sink.new) buffer.new.items) (line (answer_text (command.now.number, Keys (join command.now.count lists)))) }
+{
+    let mut found = Found::new();
+    add_found(&mut found, log, first, shards);
+    sort_found(&mut found);
+    let keys = first_keys(found.as_slice(), command.count);
+    put_keys_line(sink, buffer, command.number, keys)
+}
+
+/// Whether the answer is joined from the replies of several shards.
+fn is_joined(kind: Kind, shards: u32) -> bool
+    requires { 1 ≤ shards }
+    ensures joined { result ≡ true → is_scan kind ≡ true }
+    ensures alone { result ≡ false → (is_scan kind ≡ false) ⊎ (shards ≡ 1) }
+{
+    matches!(kind, Kind::Scan) && shards > 1
+}
+
+/// The line of the answer to a command whose replies stand in a log from part `first` on.
+pub(crate) fn put_answer<K: Sink>(
+    sink: &mut K,
+    buffer: &mut Buffer,
+    command: &Command,
+    shards: u32,
+    log: &ReplyLog,
+    first: u32,
+) -> Result<(), Failed>
+    requires some { 1 ≤ shards }
+    requires most { shards ≤ most_shards }
+    requires few { command.now.count ≤ most_keys }
+    requires room { first + shards < 2 ^ 32 }
+    requires read { (bytes : List ℕ) × (longest : ℕ) × (answer : ℕ × Reply) × IsRead longest shards (operation bytes command.now) log.now.replies first answer }
+    ensures { (bytes : List ℕ) (longest : ℕ) (answer : ℕ × Reply) → IsRead longest shards (operation bytes command.now) log.now.replies first answer →
+        Writes result (output (K.written sink.old) (K.faults sink.old) buffer.old.items) (output (K.written sink.new) (K.faults sink.new) buffer.new.items) (line (answer_text answer)) }
+{
+    one_shard_answers_alone();
+    if is_joined(command.kind, shards) {
+        put_scan(sink, buffer, command, shards, log, first)
+    } else {
+        put_one(sink, buffer, command.number, log, first)
+    }
+}

@@ -1,0 +1,85 @@
+//! Two shards: a and c belong to shard 0, b and z to shard 1.
+ghost use Rattle.std.specs.Prelude.{◌≡◌, ℕ, List, map, Some, IfOk};
+ghost use Rattle.trace_text.specs.Parsed.{trace_in};
+ghost use Rattle.cache_model.specs.Apply.{Reply};
+ghost use Rattle.cache_model.specs.Examples.{two_shards};
+ghost use Rattle.cache_model.specs.Logged.{AreLogged};
+ghost use Rattle.report_text.specs.Views.{replies_in};
+
+use super::journal_of;
+use crate::{ShardLine, write_report};
+use cache_model::{Entry, ReplyKind};
+use outside::MemorySink;
+use run_log::ReplyLog;
+use std::alloc::Global;
+use std::process::Abort;
+use std::test::Fail;
+use trace_text::{Trace, parse};
+
+/// The trace on which the definitions are checked by computation.
+fn two_shards(alloc: Global) -> Result<Trace, Fail>
+    ensures trace { IfOk result (λ trace. trace_in trace ≡ two_shards) }
+    ensures shards { IfOk result (λ trace. trace.shards ≡ 2) }
+{
+    let text = b"put a 1\nget z\nput b 2\nget z\nput c 3\nget z\nscan a 3\n";
+    Ok(parse(alloc, Vec::from_slice(alloc, text)?, 2)?)
+}
+
+/// A log of these replies.
+fn filled_log(
+    rt: &impl Abort,
+    alloc: Global,
+    replies: &[(ReplyKind, &[u8])],
+) -> Result<ReplyLog, Fail>
+    ensures { IfOk result (λ log. log.replies ≡ map (λ reply. Some (reply.0, reply.1.now)) replies.now) }
+{
+    assert!(rt; replies.len() <= 10);
+    let mut log = ReplyLog::new(alloc, replies.len() as u32, 1000)?;
+    for (part, (kind, body)) in replies.iter().enumerate() {
+        assert!(rt; body.len() <= 100);
+        log.record(part as u32, *kind, body);
+    }
+    Ok(log)
+}
+
+/// The replies to the parts that each shard issues.
+fn two_logs(rt: &impl Abort, alloc: Global) -> Result<[ReplyLog; 2], Fail>
+    ensures { IfOk result (λ logs. (answers : List (ℕ × Reply)) × AreLogged two_shards 2 (replies_in logs) answers) }
+{
+    use ReplyKind::{Keys, Missing, Stored};
+    let first: [(ReplyKind, &[u8]); 5] = [
+        (Stored, b""),
+        (Stored, b""),
+        (Stored, b""),
+        (Keys, b"\x01\0a\x01\0c"),
+        (Keys, b"\x01\0b"),
+    ];
+    let second: [(ReplyKind, &[u8]); 3] = [(Missing, b""), (Missing, b""), (Missing, b"")];
+    Ok([
+        filled_log(rt, alloc, &first)?,
+        filled_log(rt, alloc, &second)?,
+    ])
+}
+
+#[test]
+fn a_scan_is_joined_from_two_shards(rt: HostRuntime) -> Result<(), Fail> {
+    let trace = two_shards(rt.alloc())?;
+    let logs = two_logs(&rt, rt.alloc())?;
+    let journals = [
+        journal_of(rt.alloc(), 3, &[1, 5, 7].map(Entry::Done))?,
+        journal_of(rt.alloc(), 5, &[2, 4, 3, 6, 7].map(Entry::Done))?,
+    ];
+    let lines = [(2, 96), (1, 48)].map(|(rows, live)| ShardLine {
+        rows,
+        live,
+        lent: 2,
+        back: 2,
+    });
+    let shards = "shard 0 rows 2 live 96 lent 2 back 2\nshard 1 rows 1 live 48 lent 2 back 2\n";
+    let mut sink = MemorySink::new(rt.alloc(), 1000)?;
+    write_report(&mut sink, &trace, 2, &logs, &journals, &lines)?;
+    let answers = "1 stored\n2 missing\n3 stored\n4 missing\n5 stored\n6 missing\n7 keys a b c\n";
+    let report = format!(in rt.alloc(); "{answers}journal 0 1 5 7\njournal 1 2 4 3 6 7\n{shards}")?;
+    assert_eq!(rt; sink.bytes(), report.as_bytes());
+    Ok(())
+}
