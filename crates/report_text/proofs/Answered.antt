@@ -142,6 +142,32 @@ read_joined longest n operation log first answer scan few p =
       joined = joined.1;
     }
 
+-- ---- the kind of an answer
+
+-- the first reply, whose kind is the answer's
+pub record IsKindAt (log : Log) (first : ℕ) (answer : Reply) : Type 0 where
+  pub part : ReplyKind × List ℕ
+  pub recorded : slice_get log first ≡ Some (Some part)
+  pub same : part.0 ≡ (spelled answer).0
+
+pub read_kind : (longest n : ℕ) (operation : Operation) (log : Log) (first : ℕ) (answer : ℕ × Reply) → 1 ≤ n → IsRead longest n operation log first answer → IsKindAt log first answer.1
+read_kind longest n operation log first answer some p = go (is_scan operation.kind) refl p.joined
+  where
+    go : (scan : Bool) → is_scan operation.kind ≡ scan → AreJoined scan n operation.count p.replies answer.1 → IsKindAt log first answer.1
+    go false is joined =
+        let here = alone-at longest operation log first p.replies answer.1 p.logged p.fit joined in
+        record { part = spelled answer.1; recorded = here.recorded; same = refl }
+    go true is joined =
+        let within : 0 < length p.replies = omega (arith, joined.0) in
+        let reply = get_or p.replies 0 Stored in
+        let scan = of-scan operation.kind longest operation.key operation.count reply is (p.fit 0 Stored within) in
+        let start : first + 0 ≡ first = omega arith in
+        record {
+          part = spelled reply;
+          recorded = ap (slice_get log) (sym start) ∙ p.logged 0 Stored within;
+          same = ap (λ r. (spelled r).0) scan.is ∙ sym (ap (λ r. (spelled r).0) joined.1);
+        }
+
 pub answer-pair : (answer : ℕ × Reply) (number : ℕ) (reply : Reply) → answer.0 ≡ number → answer.1 ≡ reply → (number, reply) ≡ answer
 answer-pair answer number reply p q = ap (λ k. (k, reply)) (sym p) ∙ ap (λ r. (answer.0, r)) (sym q)
 

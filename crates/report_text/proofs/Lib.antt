@@ -7,5 +7,6 @@ pub mod Logs
 pub mod Outputs
 pub mod Places
 pub mod Sent
+pub mod Tallied
 pub mod Texts
 pub mod TwoShards

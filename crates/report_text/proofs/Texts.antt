@@ -10,6 +10,7 @@ use Rattle.cache_model.specs.declared.reply_kind.ReplyKind.TheVariants as kinds
 use Rattle.cache_model.specs.Apply.{Reply, Stored, Replaced, Value, Missing, Erased, Keys}
 use Rattle.cache_model.specs.Report.{Occupancy, line, answer_text, entry_text, journal_text, reply_text, occupancy_text}
 use Rattle.cache_model.specs.Spelled.{spelled}
+use Rattle.cache_model.specs.Summary.{Tally, tally_text}
 use Rattle.run_log.specs.JournalState.{JournalState}
 use Rattle.report_text.specs.inside.Spells.{Spells}
 use Rattle.report_text.specs.inside.Words.{word}
@@ -54,6 +55,21 @@ pub shard_line_is : (shard : ℕ) (o : Occupancy)
     ≡ line (occupancy_text (shard, o))
 shard_line_is shard o =
     five (codes "shard ") (decimal shard) (codes " rows ") (decimal o.rows) (codes " live ") (decimal o.live) (codes " lent ") (decimal o.lent) (codes " back ") (decimal o.back) (codes "\n")
+
+six : (a x b y c z d w e v f u n : List ℕ)
+    → ((a ++ x) ++ ((b ++ y) ++ ((c ++ z) ++ ((d ++ w) ++ ((e ++ v) ++ ((f ++ u) ++ [])))))) ++ n ≡ a ++ x ++ b ++ y ++ c ++ z ++ d ++ w ++ e ++ v ++ f ++ u ++ n
+six a x b y c z d w e v f u n = simp (append_assoc, append-nil)
+
+pub tally_line_is : (t : Tally)
+    → ((codes "stored " ++ decimal t.stored) ++ ((codes " replaced " ++ decimal t.replaced) ++ ((codes " values " ++ decimal t.values)
+    ++ ((codes " missing " ++ decimal t.missing) ++ ((codes " erased " ++ decimal t.erased) ++ ((codes " scans " ++ decimal t.scans) ++ [])))))) ++ codes "\n"
+    ≡ line (tally_text t)
+tally_line_is t =
+    six (codes "stored ") (decimal t.stored) (codes " replaced ") (decimal t.replaced) (codes " values ") (decimal t.values) (codes " missing ") (decimal t.missing)
+    (codes " erased ") (decimal t.erased) (codes " scans ") (decimal t.scans) (codes "\n")
+
+pub commands_line_is : (n m : ℕ) → m ≡ n → ((codes "commands " ++ decimal m) ++ []) ++ codes "\n" ≡ line (codes "commands " ++ decimal n)
+commands_line_is n m is = ap (λ l. l ++ codes "\n") (append-nil (codes "commands " ++ decimal m)) ∙ ap (λ k. line (codes "commands " ++ decimal k)) is
 
 -- ---- a reply as it is spelled
 

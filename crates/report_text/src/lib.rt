@@ -1,5 +1,6 @@
 //! The report of a run: the answer to each command, the journal of each shard, and what each shard
-//! holds at the end. See [`write_report`].
+//! holds at the end. See [`write_report`]. The summary of a run has numbers in place of answers and journals; see
+//! [`write_summary`].
 #![tactic(auto)]
 
 mod answers;
@@ -9,8 +10,11 @@ mod lines;
 mod place;
 mod report;
 mod shard_line;
+mod summary;
+mod tally;
 #[cfg(test)]
 mod tests;
 
 pub use report::write_report;
 pub use shard_line::ShardLine;
+pub use summary::write_summary;

@@ -9,7 +9,7 @@ ghost use Rattle.trace_text.specs.declared.command.Kind.TheVariants as CommandKi
 
 mod two_shards;
 
-use crate::{ShardLine, write_report};
+use crate::{ShardLine, write_report, write_summary};
 use cache_model::{Entry, ReplyKind, is_at_most, one_shard_answers_alone};
 use outside::{Failed, MemorySink};
 use run_log::{Journal, ReplyLog};
@@ -249,5 +249,39 @@ fn a_report_longer_than_a_buffer_is_complete(rt: HostRuntime) -> Result<(), Fail
     let mut sink = MemorySink::new(rt.alloc(), 200_000)?;
     write_report(&mut sink, &trace, 1, &[log], &[journal], &[line])?;
     assert!(rt; sink.bytes() == want.as_slice());
+    Ok(())
+}
+
+#[test]
+fn a_summary_counts_answers_and_evictions(rt: HostRuntime) -> Result<(), Fail> {
+    use ReplyKind::{Erased, Keys, Missing, Replaced, Stored, Value};
+    let input = b"put a 1\nput a 2\nget a\nerase a\nerase a\nget a\nscan a 3\n";
+    let trace = parse(rt.alloc(), Vec::from_slice(rt.alloc(), input)?, 1)?;
+    let replies: [(ReplyKind, &[u8]); 7] = [
+        (Stored, b""),
+        (Replaced, b""),
+        (Value, b"2"),
+        (Erased, b""),
+        (Missing, b""),
+        (Missing, b""),
+        (Keys, b""),
+    ];
+    let logs = [log_of(&rt, rt.alloc(), &trace, &replies)?];
+    let entries = [Entry::Done(1), Entry::Evicted(1), Entry::Evicted(2)];
+    let journals = [journal_of(rt.alloc(), 3, &entries)?];
+    let lines = [ShardLine {
+        rows: 5,
+        live: 240,
+        lent: 3,
+        back: 2,
+    }];
+    let text =
+        b"commands 7\nstored 1 replaced 1 values 1 missing 2 erased 1 scans 1\nevictions 2\nshard 0 rows 5 live 240 lent 3 back 2\n".as_slice();
+    for (room, want) in [(1000, Ok(())), (30, Err(Failed))] {
+        let mut sink = MemorySink::new(rt.alloc(), room)?;
+        let met = write_summary(&mut sink, &trace, 1, &logs, &journals, &lines);
+        assert!(rt; met == want);
+        assert_eq!(rt; sink.bytes(), &text[..room.min(text.len())]);
+    }
     Ok(())
 }

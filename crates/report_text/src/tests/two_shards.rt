@@ -7,7 +7,7 @@ ghost use Rattle.cache_model.specs.Logged.{AreLogged};
 ghost use Rattle.report_text.specs.Views.{replies_in};
 
 use super::journal_of;
-use crate::{ShardLine, write_report};
+use crate::{ShardLine, write_report, write_summary};
 use cache_model::{Entry, ReplyKind};
 use outside::MemorySink;
 use run_log::ReplyLog;
@@ -61,8 +61,9 @@ fn two_logs(rt: &impl Abort, alloc: Global) -> Result<[ReplyLog; 2], Fail>
     ])
 }
 
+/// What a report says of the two shards, and what a summary says.
 #[test]
-fn a_scan_is_joined_from_two_shards(rt: HostRuntime) -> Result<(), Fail> {
+fn two_shards_are_reported_and_summed_up(rt: HostRuntime) -> Result<(), Fail> {
     let trace = two_shards(rt.alloc())?;
     let logs = two_logs(&rt, rt.alloc())?;
     let journals = [
@@ -81,5 +82,10 @@ fn a_scan_is_joined_from_two_shards(rt: HostRuntime) -> Result<(), Fail> {
     let answers = "1 stored\n2 missing\n3 stored\n4 missing\n5 stored\n6 missing\n7 keys a b c\n";
     let report = format!(in rt.alloc(); "{answers}journal 0 1 5 7\njournal 1 2 4 3 6 7\n{shards}")?;
     assert_eq!(rt; sink.bytes(), report.as_bytes());
+    let mut sink = MemorySink::new(rt.alloc(), 1000)?;
+    write_summary(&mut sink, &trace, 2, &logs, &journals, &lines)?;
+    let counts = "stored 3 replaced 0 values 0 missing 3 erased 0 scans 1";
+    let summary = format!(in rt.alloc(); "commands 7\n{counts}\nevictions 0\n{shards}")?;
+    assert_eq!(rt; sink.bytes(), summary.as_bytes());
     Ok(())
 }

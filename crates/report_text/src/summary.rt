@@ -1,0 +1,136 @@
+//! The summary.
+ghost use Rattle.std.specs.Prelude.{◌≡◌, ◌^◌, ◌<◌, ◌≤◌, ℕ, List, ◌++◌, length, count_by, codes, decimal, OnOk, OnErr};
+ghost use Rattle.std.specs.Io.KnownBytes.{Appends};
+ghost use Rattle.outside.specs.Moves.{AppendsFront};
+ghost use Rattle.outside.specs.Rose.{Rose};
+ghost use Rattle.trace_text.specs.Parsed.{trace_in};
+ghost use Rattle.cache_model.specs.Apply.{Reply};
+ghost use Rattle.cache_model.specs.Logged.{AreLogged};
+ghost use Rattle.cache_model.specs.Report.{line};
+ghost use Rattle.cache_model.specs.Summary.{evictions, is_evicted, summary_of, tally, tally_text};
+ghost use Rattle.report_text.specs.Views.{journals_in, occupancies_in, replies_in};
+ghost use Rattle.report_text.specs.inside.Output.{Writes, output};
+ghost use Rattle.report_text.specs.inside.Tallies.{tally_in};
+
+use crate::ShardLine;
+use crate::buffer::{Buffer, flush};
+use crate::lines::{put_field_line, put_shard_lines};
+use crate::tally::{Tally, tally_of};
+use cache_model::{Entry, answers_are_read_by_command};
+use outside::{Failed, Sink};
+use run_log::{Journal, ReplyLog};
+use trace_text::Trace;
+
+/// Writes the summary of a run of `trace` on `shards` shards, 1 to 16, each with its log, its journal and its line. Each
+/// line of the summary ends with LF:
+///
+/// - `commands` and how many there are;
+/// - `stored`, `replaced`, `values`, `missing`, `erased` and `scans`, each with the number of commands that were answered
+///   so;
+/// - `evictions` and how many rows were evicted;
+/// - for each shard, its line of the report.
+///
+/// The logs are as [`write_report`](crate::write_report) wants them.
+///
+/// # Errors
+///
+/// [`Failed`] where the sink failed. A front of the summary was written then.
+pub fn write_summary<K: Sink>(
+    sink: &mut K,
+    trace: &Trace,
+    shards: u32,
+    logs: &[ReplyLog],
+    journals: &[Journal],
+    lines: &[ShardLine],
+) -> Result<(), Failed>
+    requires parsed_for { shards ≡ trace.now.shards }
+    requires one_log_each { length logs.now ≡ shards }
+    requires one_journal_each { length journals.now ≡ shards }
+    requires one_line_each { length lines.now ≡ shards }
+    requires answered { (answers : List (ℕ × Reply)) × AreLogged (trace_in trace.now) shards (replies_in logs.now) answers }
+    ensures written { OnOk result ((answers : List (ℕ × Reply)) → AreLogged (trace_in trace.now) shards (replies_in logs.now) answers → Appends (K.written sink.old) (K.written sink.new) (summary_of answers (journals_in journals.now) (occupancies_in lines.now))) }
+    ensures front { OnErr result ((answers : List (ℕ × Reply)) → AreLogged (trace_in trace.now) shards (replies_in logs.now) answers → AppendsFront (K.written sink.old) (K.written sink.new) (summary_of answers (journals_in journals.now) (occupancies_in lines.now))) }
+    ensures failed { OnErr result (Rose (K.faults sink.old) (K.faults sink.new)) }
+    ensures never_falls { K.faults sink.old ≤ K.faults sink.new }
+{
+    let mut buffer = Buffer::new();
+    put_counts(sink, &mut buffer, trace, shards, logs)?;
+    put_evictions(sink, &mut buffer, journals)?;
+    put_shard_lines(sink, &mut buffer, lines)?;
+    flush(sink, &mut buffer)
+}
+
+/// The lines of the commands and of their answers, counted.
+fn put_counts<K: Sink>(
+    sink: &mut K,
+    buffer: &mut Buffer,
+    trace: &Trace,
+    shards: u32,
+    logs: &[ReplyLog],
+) -> Result<(), Failed>
+    requires parsed_for { shards ≡ trace.now.shards }
+    requires one_log_each { length logs.now ≡ shards }
+    requires answered { (answers : List (ℕ × Reply)) × AreLogged (trace_in trace.now) shards (replies_in logs.now) answers }
+    ensures { (answers : List (ℕ × Reply)) → AreLogged (trace_in trace.now) shards (replies_in logs.now) answers →
+        Writes result (output (K.written sink.old) (K.faults sink.old) buffer.old.items) (output (K.written sink.new) (K.faults sink.new) buffer.new.items) (line (codes "commands " ++ decimal (length answers)) ++ line (tally_text (tally answers))) }
+{
+    answers_are_read_by_command();
+    let commands = trace.commands().len() as u64;
+    put_field_line(sink, buffer, &[(b"commands ", commands)])?;
+    let tally = tally_of(trace, shards, logs);
+    put_tally(sink, buffer, &tally)
+}
+
+/// The line of the counted answers.
+fn put_tally<K: Sink>(sink: &mut K, buffer: &mut Buffer, tally: &Tally) -> Result<(), Failed>
+    ensures { Writes result (output (K.written sink.old) (K.faults sink.old) buffer.old.items) (output (K.written sink.new) (K.faults sink.new) buffer.new.items) (line (tally_text (tally_in tally.now))) }
+{
+    put_field_line(
+        sink,
+        buffer,
+        &[
+            (b"stored ", u64::from(tally.stored)),
+            (b" replaced ", u64::from(tally.replaced)),
+            (b" values ", u64::from(tally.values)),
+            (b" missing ", u64::from(tally.missing)),
+            (b" erased ", u64::from(tally.erased)),
+            (b" scans ", u64::from(tally.scans)),
+        ],
+    )
+}
+
+/// How many rows were evicted, by one journal.
+fn evictions_in(journal: &Journal) -> u64
+    ensures count { result ≡ count_by is_evicted journal.now.entries }
+    ensures few { result < 2 ^ 32 }
+{
+    journal
+        .entries()
+        .iter()
+        .filter(|entry| matches!(entry, Entry::Evicted(_)))
+        .count() as u64
+}
+
+/// How many rows were evicted, by all journals.
+fn evictions_of(journals: &[Journal]) -> u64
+    requires few { length journals.now < 2 ^ 32 }
+    ensures { result ≡ evictions (journals_in journals.now) }
+{
+    let mut evictions = 0;
+    for journal in journals {
+        evictions += evictions_in(journal);
+    }
+    evictions
+}
+
+/// The line of the evictions.
+fn put_evictions<K: Sink>(
+    sink: &mut K,
+    buffer: &mut Buffer,
+    journals: &[Journal],
+) -> Result<(), Failed>
+    requires few { length journals.now < 2 ^ 32 }
+    ensures { Writes result (output (K.written sink.old) (K.faults sink.old) buffer.old.items) (output (K.written sink.new) (K.faults sink.new) buffer.new.items) (line (codes "evictions " ++ decimal (evictions (journals_in journals.now)))) }
+{
+    put_field_line(sink, buffer, &[(b"evictions ", evictions_of(journals))])
+}
