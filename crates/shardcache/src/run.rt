@@ -6,6 +6,8 @@ ghost use Rattle.shardcache.specs.inside.Finished.{IsRunOf};
 
 mod parts;
 mod shard;
+#[cfg(test)]
+mod tests;
 
 use cache_model::{
     a_report_has_its_lines, logs_hold_the_answers, one_shard_answers_alone,

@@ -1,3 +1,5 @@
+mod evictions;
+
 use super::*;
 use outside::{MemorySink, MemorySource};
 use std::alloc::{AllocError, Global};
