@@ -9,3 +9,4 @@ pub mod Found
 pub mod Fresh
 pub mod Steps
 pub mod Trimmed
+pub mod Marked

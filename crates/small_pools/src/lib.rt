@@ -9,6 +9,7 @@ pub use classes::class_of;
 pub use pools::Pools;
 
 mod classes;
+mod held_spans;
 mod listing;
 mod masks;
 mod pools;

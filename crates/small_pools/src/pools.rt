@@ -1,56 +1,13 @@
-ghost use Rattle.std.specs.Prelude.{
-  ◌≡◌,
-  ◌⊎◌,
-  ℕ,
-  ◌+◌,
-  ◌<◌,
-  ◌≤◌,
-  ◌≢◌,
-  ◌^◌,
-  ◌↔◌,
-  [],
-  List,
-  length,
-  slice_get,
-  slice_index,
-  vec_len,
-  replicate,
-  IfOk,
-  IfSome,
-  IfNone,
-  IsNone,
-  IsSome,
-  IsTrue,
-  Some,
-  None,
-};
-ghost use Rattle.std.specs.Ordering.{nat_cmp};
+ghost use Rattle.std.specs.Prelude.{◌≡◌, ◌≢◌, ◌<◌, ◌↔◌, IfOk, IfSome, IfNone, IsNone, IsSome, Some, None};
 ghost use Rattle.std.specs.FinMap as map;
-ghost use Rattle.layout.specs.Sizes.{ArePages, most_pages};
-ghost use Rattle.index_lists.specs.Lists.{list_at};
-ghost use Rattle.span_lists.specs.Layout.{Divides, IsCoalesced, HasNone, IsAllocated};
-ghost use Rattle.small_pools.specs.Classes.{size_of, order_of, capacity_of};
-ghost use Rattle.small_pools.specs.Objects.{
-  Objects,
-  IsHeld,
-  HasObject,
-  HasRoom,
-  IsUsedUp,
-  AreObjects,
-  AreHeldIn,
-  HoldsFor,
-  Trims,
-  AreUsed,
-  LacksObject,
-  KeepsRoom,
-  slot_place,
-};
+ghost use Rattle.layout.specs.Sizes.{ArePages};
+ghost use Rattle.span_lists.specs.Layout.{Divides, IsCoalesced};
+ghost use Rattle.small_pools.specs.Classes.{size_of};
+ghost use Rattle.small_pools.specs.Objects.{AreObjects, AreHeldIn, AreUsed, HoldsFor, KeepsRoom, LacksObject, Trims};
+ghost use Rattle.small_pools.specs.inside.Marks.{AreMarked};
 
-use crate::classes::{CLASSES, class_capacity, class_order, class_size};
-use crate::listing::{list_for, relist};
-use crate::masks::{all_free, least_free, occupied, released};
-use index_lists::IndexLists;
-use layout::PAGE;
+use crate::held_spans::HeldSpans;
+use number_set::NumberSet;
 use span_lists::Spans;
 use std::alloc::{AllocError, Global};
 use std::marker::Model;
@@ -58,15 +15,9 @@ use std::marker::Model;
 /// The pools of all classes of one shard.
 #[derive(Drop)]
 pub struct Pools {
-    pages: u32,
-    // the class of each span that is held, at its first page
-    classes: Vec<Option<u8>>,
-    // of each page of a span that is held, the span's first page
-    firsts: Vec<u32>,
-    // of each span, at its first page, the free slots
-    masks: Vec<u128>,
-    // of each class the spans with a free slot
-    lists: IndexLists,
+    held: HeldSpans,
+    // the first pages of the spans that may have no allocated object; each other one has
+    marks: NumberSet,
 }
 
 impl Model for Pools {
@@ -76,11 +27,11 @@ impl Model for Pools {
 
     ghost coded = { objects_code };
 
-    ghost use Rattle.small_pools.specs.inside.Tables.{objects_of, IsConsistent};
+    ghost use Rattle.small_pools.specs.inside.Marks.{AreMarked};
 
-    ghost view = { λ a. objects_of (record { pages = a.pages; classes = a.classes.items; firsts = a.firsts.items; masks = a.masks.items; lists = a.lists }) };
+    ghost view = { λ p. p.held };
 
-    ghost invariant = { λ a. IsConsistent (record { pages = a.pages; classes = a.classes.items; firsts = a.firsts.items; masks = a.masks.items; lists = a.lists }) };
+    ghost invariant = { λ p. AreMarked p.held p.marks };
 }
 
 impl Pools {
@@ -95,16 +46,9 @@ impl Pools {
         ensures none_allocated { IfOk result (λ pools. pools.allocated ≡ map.empty) }
         ensures objects { IfOk result AreObjects }
     {
-        let classes = no_classes(alloc, pages)?;
-        let firsts = zeros(alloc, pages)?;
-        let masks = no_masks(alloc, pages)?;
-        let lists = IndexLists::new(alloc, pages, CLASSES as u32)?;
         Ok(Pools {
-            pages,
-            classes,
-            firsts,
-            masks,
-            lists,
+            held: HeldSpans::new(alloc, pages)?,
+            marks: NumberSet::new(alloc, pages)?,
         })
     }
 
@@ -112,7 +56,7 @@ impl Pools {
     pub fn facts(&self)
         ensures objects { AreObjects self.now }
     {
-        let _ = &self.lists;
+        self.held.facts();
     }
 
     /// Allocates an object of the class, and answers its first byte.
@@ -132,8 +76,7 @@ impl Pools {
         ensures divided { Divides spans.new }
         ensures coalesced { IsCoalesced spans.new }
     {
-        let first = self.span_with_room(spans, class)?;
-        Some(self.pop(first, class))
+        self.held.take(spans, class)
     }
 
     /// Gives an allocated object back, by its first byte.
@@ -144,14 +87,14 @@ impl Pools {
         ensures pages { self.new.pages ≡ self.old.pages }
         ensures objects { AreObjects self.new }
     {
-        let first = self.firsts[(place / PAGE) as usize];
-        if let Some(class) = self.classes[first as usize] {
-            let slot = (place - PAGE * first) / class_size(class);
-            self.release(first, class, slot as u8);
+        let first = self.held.put(place);
+        if self.held.unused_at(first).is_some() {
+            self.marks.insert(first);
         }
     }
 
-    /// Gives each span back to the pages that has no allocated object.
+    /// Gives each span back to the pages that has no allocated object. It looks only at spans that had none after a `put`
+    /// since the last call.
     pub fn trim(&mut self, spans: &mut Spans)
         requires { AreHeldIn self.old spans.old }
         ensures used { AreUsed self.new }
@@ -163,209 +106,30 @@ impl Pools {
         ensures divided { Divides spans.new }
         ensures coalesced { IsCoalesced spans.new }
     {
-        self.facts();
-        spans.facts();
-        for first in 0..self.pages() {
-            self.trim_span(spans, first);
-        }
-    }
-
-    fn pages(&self) -> u32
-        ensures { result ≡ self.now.pages }
-    {
-        self.pages
-    }
-
-    /// Gives the span that begins at the page back to the pages where it has no allocated object.
-    fn trim_span(&mut self, spans: &mut Spans, first: u32)
-        requires page { first < self.old.pages }
-        requires held { AreHeldIn self.old spans.old }
-        requires objects { AreObjects self.old }
-        requires divided { Divides spans.old }
-        requires coalesced { IsCoalesced spans.old }
-        ensures used { (class : ℕ) → IsHeld self.new first class → HasObject self.new first class }
-        ensures trims { Trims self.old self.new spans.old spans.new }
-        ensures room { KeepsRoom self.old self.new spans.old spans.new }
-        ensures unchanged { AreUsed self.old → (self.new ≡ self.old) × (spans.new ≡ spans.old) }
-        ensures held { AreHeldIn self.new spans.new }
-        ensures objects { AreObjects self.new }
-        ensures divided { Divides spans.new }
-        ensures coalesced { IsCoalesced spans.new }
-    {
-        let Some(class) = self.unused_at(first) else {
-            return;
-        };
-        self.remove(first, class);
-        spans.put(first, class_order(class));
-    }
-
-    /// The class of the span that begins at the page, where it has no allocated object.
-    fn unused_at(&self, first: u32) -> Option<u8>
-        requires { first < self.now.pages }
-        ensures none { IfNone result ((class : ℕ) → IsHeld self.now first class → HasObject self.now first class) }
-        ensures class { IfSome result (λ class. class < 37) }
-        ensures held { IfSome result (λ class. IsHeld self.now first class) }
-        ensures unused { IfSome result (λ class. ¬ HasObject self.now first class) }
-    {
-        let Some(class) = self.classes[first as usize] else {
-            return None;
-        };
-        if !is_unused(self.masks[first as usize], all_free(class_capacity(class))) {
-            return None;
-        }
-        Some(class)
-    }
-
-    /// A held span of the class with a free object, taken from the pages where the pools hold none.
-    fn span_with_room(&mut self, spans: &mut Spans, class: u8) -> Option<u32>
-        requires class { class < 37 }
-        requires held { AreHeldIn self.old spans.old }
-        ensures none { IsNone result ↔ LacksObject self.old spans.old class }
-        ensures unchanged { IfNone result ((self.new ≡ self.old) × (spans.new ≡ spans.old)) }
-        ensures found { IfSome result (λ first. IsHeld self.new first class) }
-        ensures room { IfSome result (λ first. HasRoom self.new first class) }
-        ensures allocated { self.new.allocated ≡ self.old.allocated }
-        ensures spans { IfSome result (λ _. HoldsFor self.old self.new spans.old spans.new class) }
-        ensures pages { self.new.pages ≡ self.old.pages }
-        ensures held { AreHeldIn self.new spans.new }
-        ensures objects { AreObjects self.new }
-        ensures divided { Divides spans.new }
-        ensures coalesced { IsCoalesced spans.new }
-    {
-        if let Some(first) = self.find(class) {
-            spans.facts();
-            return Some(first);
-        }
-        let first = spans.take(class_order(class))?;
-        self.add(first, class);
-        Some(first)
-    }
-
-    /// A held span of the class with a free object.
-    fn find(&self, class: u8) -> Option<u32>
-        requires { class < 37 }
-        ensures none { IfNone result (IsUsedUp self.now class) }
-        ensures held { IfSome result (λ first. IsHeld self.now first class) }
-        ensures room { IfSome result (λ first. HasRoom self.now first class) }
-        ensures objects { AreObjects self.now }
-    {
-        first_with_room(&self.lists, class)
-    }
-
-    /// Allocates an object of a span that has a free one, and answers its first byte.
-    fn pop(&mut self, first: u32, class: u8) -> u32
-        requires held { IsHeld self.old first class }
-        requires room { HasRoom self.old first class }
-        ensures was_free { map.get self.old.allocated result ≡ None }
-        ensures moves { self.new ≡ record self.old { allocated = map.insert self.old.allocated result (size_of class) } }
-        ensures objects { AreObjects self.new }
-    {
-        let before = self.masks[first as usize];
-        let slot = least_free(before);
-        let mask = occupied(before, slot);
-        self.masks[first as usize] = mask;
-        relist(
-            &mut self.lists,
-            first,
-            Some(class as u32),
-            list_for(class, mask),
-        );
-        PAGE * first + slot as u32 * class_size(class)
-    }
-
-    /// Makes a slot of a span free.
-    fn release(&mut self, first: u32, class: u8, slot: u8)
-        requires held { IsHeld self.old first class }
-        requires slot { slot < capacity_of class }
-        ensures moves { self.new ≡ record self.old { allocated = map.remove self.old.allocated (slot_place first class slot) } }
-        ensures objects { AreObjects self.new }
-    {
-        let before = self.masks[first as usize];
-        self.masks[first as usize] = released(before, slot);
-        relist(
-            &mut self.lists,
-            first,
-            list_for(class, before),
-            Some(class as u32),
-        );
-    }
-
-    /// Holds a span for a class.
-    fn add(&mut self, first: u32, class: u8)
-        requires class { class < 37 }
-        requires inside { first + 2 ^ order_of class ≤ self.old.pages }
-        requires clear { (other held : ℕ) → IsHeld self.old other held → (other + 2 ^ order_of held ≤ first) ⊎ (first + 2 ^ order_of class ≤ other) }
-        ensures moves { self.new ≡ record self.old { held = map.insert self.old.held first class } }
-        ensures room { HasRoom self.new first class }
-        ensures objects { AreObjects self.new }
-    {
-        own(&mut self.firsts, first, 1 << class_order(class));
-        self.classes[first as usize] = Some(class);
-        self.masks[first as usize] = all_free(class_capacity(class));
-        relist(&mut self.lists, first, None, Some(class as u32));
-    }
-
-    /// Lets a span go that has no allocated object.
-    fn remove(&mut self, first: u32, class: u8)
-        requires held { IsHeld self.old first class }
-        requires unused { ¬ HasObject self.old first class }
-        ensures moves { self.new ≡ record self.old { held = map.remove self.old.held first } }
-        ensures objects { AreObjects self.new }
-    {
-        let mask = self.masks[first as usize];
-        relist(&mut self.lists, first, list_for(class, mask), None);
-        self.classes[first as usize] = None;
+        trim_marked(&mut self.held, &mut self.marks, spans);
     }
 }
 
-/// The span in front of the list of the class.
-fn first_with_room(lists: &IndexLists, class: u8) -> Option<u32>
-    requires { class < length lists.now.lists }
-    ensures { result ≡ slice_get (list_at lists.now class) 0 }
+/// Gives each span of a mark back to the pages that has no allocated object, and takes the marks away.
+fn trim_marked(held: &mut HeldSpans, marks: &mut NumberSet, spans: &mut Spans)
+    requires marked { AreMarked held.old marks.old }
+    requires held { AreHeldIn held.old spans.old }
+    ensures marked { AreMarked held.new marks.new }
+    ensures used { AreUsed held.new }
+    ensures trims { Trims held.old held.new spans.old spans.new }
+    ensures room { KeepsRoom held.old held.new spans.old spans.new }
+    ensures unchanged { AreUsed held.old → (held.new ≡ held.old) × (spans.new ≡ spans.old) }
+    ensures held { AreHeldIn held.new spans.new }
+    ensures objects { AreObjects held.new }
+    ensures divided { Divides spans.new }
+    ensures coalesced { IsCoalesced spans.new }
 {
-    lists.front(class as u32)
-}
-
-/// Whether a span that has these free slots has no other.
-fn is_unused(mask: u128, all: u128) -> bool
-    ensures { IsTrue result ↔ (mask ≡ all) }
-{
-    mask == all
-}
-
-/// Makes a page the first one of so many.
-fn own(firsts: &mut Vec<u32>, first: u32, count: u32)
-    requires within { first + count ≤ vec_len firsts.old }
-    requires small { vec_len firsts.old ≤ most_pages }
-    ensures len { vec_len firsts.new ≡ vec_len firsts.old }
-    ensures mine { (page : ℕ) → first ≤ page → page < first + count → slice_index firsts.new.items page ≡ first }
-    ensures others { (page : ℕ) → (page < first) ⊎ (first + count ≤ page) → slice_index firsts.new.items page ≡ slice_index firsts.old.items page }
-{
-    for page in first..first + count {
-        firsts[page as usize] = first;
+    held.facts();
+    spans.facts();
+    while let Some(first) = marks.least() {
+        held.trim_span(spans, first);
+        marks.remove(first);
     }
-}
-
-fn no_classes(alloc: Global, pages: u32) -> Result<Vec<Option<u8>>, AllocError>
-    ensures { IfOk result (λ classes. classes.items ≡ replicate pages None) }
-{
-    let mut classes = Vec::with_capacity(alloc, pages as usize)?;
-    for _ in 0..pages {
-        classes.push(None)?;
-    }
-    Ok(classes)
-}
-
-fn zeros(alloc: Global, pages: u32) -> Result<Vec<u32>, AllocError>
-    ensures { IfOk result (λ firsts. firsts.items ≡ replicate pages 0) }
-{
-    vec![in alloc; 0; pages as usize]
-}
-
-fn no_masks(alloc: Global, pages: u32) -> Result<Vec<u128>, AllocError>
-    ensures { IfOk result (λ masks. masks.items ≡ replicate pages 0) }
-{
-    vec![in alloc; 0; pages as usize]
 }
 
 #[cfg(test)]

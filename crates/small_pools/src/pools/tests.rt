@@ -4,7 +4,7 @@ ghost use Rattle.small_pools.specs.Objects.{AreHeldIn};
 ghost use Rattle.small_pools.specs.inside.Given.{AreAllocated};
 
 use super::*;
-use crate::class_of;
+use crate::classes::{CLASSES, class_of};
 use std::collections::VecDeque;
 use std::test::Fail;
 

@@ -1,15 +1,10 @@
-use Rattle.small_pools.proofs.Fresh.{consistent_new, nothing_held, nothing_allocated}
-use Rattle.small_pools.proofs.Tables.{are_objects}
+use Rattle.std.proofs.Common.{false, sym, ap, ◌∙◌}
+use Rattle.std.specs.Prelude.{length}
+use Rattle.std.proofs.lemmas.List.{length-replicate}
+use Rattle.small_pools.proofs.Marked.{marked_none}
 use Rattle.small_pools.proofs.pools.Pools.new.Goals as goal
 
 pub invariant_of-result : goal.invariant_of-result
-invariant_of-result c = consistent_new _ c.requires.1 c.in_ok-classes.ensures c.in_ok-firsts.ensures c.in_ok-masks.ensures c.in_ok-lists.ensures
-
-pub returns-clause-none_held : goal.returns-clause-none_held
-returns-clause-none_held c = nothing_held (record { pages = c.args.pages; classes = c.in_ok-classes.classes.items; firsts = c.in_ok-firsts.firsts.items; masks = c.in_ok-masks.masks.items; lists = c.in_ok-lists.lists }) c.in_ok-classes.ensures
-
-pub returns-clause-none_allocated : goal.returns-clause-none_allocated
-returns-clause-none_allocated c = nothing_allocated (record { pages = c.args.pages; classes = c.in_ok-classes.classes.items; firsts = c.in_ok-firsts.firsts.items; masks = c.in_ok-masks.masks.items; lists = c.in_ok-lists.lists }) c.in_ok-classes.ensures
-
-pub returns-clause-objects : goal.returns-clause-objects
-returns-clause-objects c = are_objects (invariant_of-result c)
+invariant_of-result c =
+    let e = c.in_ok-new.ensures in
+    marked_none c.in_ok-new.field-0 c.in_ok-new-2.field-0 e.none_held (ap length c.in_ok-new-2.ensures ∙ length-replicate c.args.pages false ∙ sym e.pages)

@@ -7,7 +7,7 @@ use Rattle.small_pools.specs.Objects.{Objects, IsHeld}
 use Rattle.small_pools.proofs.Tables.{are_objects, IsOwned}
 use Rattle.small_pools.proofs.Found.{not_listed, room_of}
 use Rattle.small_pools.proofs.Steps.{same_fields, added}
-use Rattle.small_pools.proofs.pools.Pools.add.Goals as goal
+use Rattle.small_pools.proofs.held_spans.HeldSpans.add.Goals as goal
 
 -- the pages of the span are its own
 owned_by : (old new : List ℕ) (f k o : ℕ) → k ≡ o → k ≤ 4 → length new ≡ length old → ((x : ℕ) → f ≤ x → x < f + 1 * 2 ^ k % 2 ^ 32 → get_or new x 0 ≡ f)

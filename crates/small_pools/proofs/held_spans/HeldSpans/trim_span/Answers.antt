@@ -5,7 +5,7 @@ use Rattle.common_lemmas.proofs.Maps.{get_removed}
 use Rattle.common_lemmas.proofs.Options.{some_or_none}
 use Rattle.small_pools.specs.Objects.{Objects}
 use Rattle.small_pools.proofs.Trimmed.{trims_none, trims_more, held_less, room_same, room_less}
-use Rattle.small_pools.proofs.pools.Pools.trim_span.Goals as goal
+use Rattle.small_pools.proofs.held_spans.HeldSpans.trim_span.Goals as goal
 
 pub returns-clause-used : goal.returns-clause-used
 returns-clause-used c = λ class held.

@@ -1,9 +1,10 @@
-use Rattle.std.proofs.Common.{inr, refl, ap, ◌∙◌}
+use Rattle.std.proofs.Common.{inl, inr, refl, sym, ap, ◌∙◌}
+use Rattle.std.proofs.lemmas.Bool.{cases_eq}
 use Rattle.std.specs.FinMap as map
-use Rattle.common_lemmas.proofs.Maps.{get_inserted}
+use Rattle.common_lemmas.proofs.Maps.{get_inserted, get_past_insert}
 use Rattle.small_pools.specs.Objects.{Objects}
 use Rattle.small_pools.proofs.Trimmed.{clear_of, inside_of, held_more, free_before}
-use Rattle.small_pools.proofs.pools.Pools.span_with_room.Goals as goal
+use Rattle.small_pools.proofs.held_spans.HeldSpans.span_with_room.Goals as goal
 
 pub add-requires-clause-inside : goal.add-requires-clause-inside
 add-requires-clause-inside c = inside_of c.args.self.now c.args.spans.now c.take.new.self c.in_ok-first.first c.args.class c.requires.held
@@ -32,3 +33,9 @@ returns-clause-spans c = inr (
 pub returns-clause-held : goal.returns-clause-held
 returns-clause-held c = held_more c.args.self.now c.add.new.self c.args.spans.now c.take.new.self c.in_ok-first.first c.args.class c.requires.held c.in_ok-first.ensures.was_free
     (c.in_ok-first.ensures.allocated ∙ ap (map.insert c.args.spans.now.allocated c.in_ok-first.first) c.class_order.ensures.value) c.in_ok-first.ensures.pages c.add.ensures.moves
+
+pub returns-clause-come : goal.returns-clause-come
+returns-clause-come c = λ other held h. elim (cases_eq other c.in_ok-first.first) [
+  | inl here ↦ inl here
+  | inr far ↦ inr (sym (get_past_insert c.args.self.now.held c.in_ok-first.first c.args.class other far) ∙ sym (ap (λ (s : Objects). map.get s.held other) c.add.ensures.moves) ∙ h)
+]

@@ -4,11 +4,12 @@ use Rattle.std.specs.FinMap as map
 use Rattle.layout.specs.Sizes.{page}
 use Rattle.common_lemmas.proofs.Options.{some_is}
 use Rattle.small_pools.specs.Classes.{size_of, capacity_of}
-use Rattle.small_pools.specs.Objects.{Objects, slot_place, IsHeld}
+use Rattle.small_pools.specs.Objects.{Objects, slot_place, IsHeld, AreObjects}
 use Rattle.small_pools.specs.inside.Tables.{Tables, class_at}
-use Rattle.small_pools.proofs.Tables.{get_held}
+use Rattle.small_pools.proofs.Marked.{others_used}
+use Rattle.small_pools.proofs.Tables.{get_held, are_objects}
 use Rattle.small_pools.proofs.Steps.{allocated_at, page_within, found_at, IsFoundAt, slot_is}
-use Rattle.small_pools.proofs.pools.Pools.put.Goals as goal
+use Rattle.small_pools.proofs.held_spans.HeldSpans.put.Goals as goal
 
 -- the class that is read at the span's first page is the object's
 read_class : {t : Tables} {place f : ℕ} → IsFoundAt t place f → (now : Option ℕ) → now ≡ get_or t.classes f now → now ≡ class_at t f
@@ -88,6 +89,26 @@ returns-in_default-clause-allocated c =
 
 pub returns-in_default-clause-objects : goal.returns-in_default-clause-objects
 returns-in_default-clause-objects c =
+    let o = allocated_at c.self.invariant c.self.view_is c.args.place c.requires in
+    let found = found_at c.self.invariant c.args.place o.0 c.index-first.result.now o.1 c.index-first.ensures in
+    absurd (c.in_default.not-Some found.class (read_class found c.index.result.now c.index.ensures ∙ found.span.at))
+
+pub returns-in-Some-clause-within : goal.returns-in-Some-clause-within
+returns-in-Some-clause-within c =
+    let o = allocated_at c.self.invariant c.self.view_is c.args.place c.requires in
+    let found = found_at c.self.invariant c.args.place o.0 c.index-first.result.now o.1 c.index-first.ensures in
+    subst (λ (s : Objects). c.index-first.result.now < s.pages) c.self.view_is found.span.below
+
+pub returns-in-Some-clause-others : goal.returns-in-Some-clause-others
+returns-in-Some-clause-others c = λ f d far held object.
+    let o = allocated_at c.self.invariant c.self.view_is c.args.place c.requires in
+    let found = found_at c.self.invariant c.args.place o.0 c.index-first.result.now o.1 c.index-first.ensures in
+    let first = subst (λ s. IsHeld s c.index-first.result.now c.in-Some.class) c.self.view_is (get_held c.self.invariant c.index-first.result.now ∙ sym (read_class found c.index.result.now c.index.ensures) ∙ c.in-Some.is) in
+    others_used c.args.self.now c.release.new.self f d c.index-first.result.now c.in-Some.class _ (subst AreObjects c.self.view_is (are_objects c.self.invariant)) held first far
+    (slot_fits found c.index.result.now c.in-Some.class c.class_size.result c.index.ensures c.in-Some.is c.class_size.ensures.value) (ap (λ (s : Objects). s.allocated) c.release.ensures.moves) object
+
+pub returns-in_default-clause-within : goal.returns-in_default-clause-within
+returns-in_default-clause-within c =
     let o = allocated_at c.self.invariant c.self.view_is c.args.place c.requires in
     let found = found_at c.self.invariant c.args.place o.0 c.index-first.result.now o.1 c.index-first.ensures in
     absurd (c.in_default.not-Some found.class (read_class found c.index.result.now c.index.ensures ∙ found.span.at))

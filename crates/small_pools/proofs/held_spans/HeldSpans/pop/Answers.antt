@@ -1,11 +1,12 @@
-use Rattle.std.proofs.Common.{◌+◌, ◌*◌, sym, ap, ◌∙◌, arith}
+use Rattle.std.proofs.Common.{◌+◌, ◌*◌, refl, sym, ap, ◌∙◌, arith}
 use Rattle.std.specs.FinMap as map
 use Rattle.layout.specs.Sizes.{page}
 use Rattle.small_pools.specs.Classes.{size_of}
-use Rattle.small_pools.specs.Objects.{Objects}
+use Rattle.common_lemmas.proofs.Maps.{get_inserted}
+use Rattle.small_pools.specs.Objects.{Objects, slot_place}
 use Rattle.small_pools.proofs.Tables.{are_objects}
 use Rattle.small_pools.proofs.Steps.{same_fields, held_at, has_free, stands_with_room, popped, place_fits}
-use Rattle.small_pools.proofs.pools.Pools.pop.Goals as goal
+use Rattle.small_pools.proofs.held_spans.HeldSpans.pop.Goals as goal
 
 pub index-before-requires : goal.index-before-requires
 index-before-requires c = (let inside = (held_at c.self.invariant c.self.view_is c.args.first c.args.class c.requires.held).in_masks in omega arith)
@@ -80,3 +81,12 @@ returns-clause-moves c =
 
 pub returns-clause-objects : goal.returns-clause-objects
 returns-clause-objects c = are_objects (invariant_of-self c)
+
+pub returns-clause-has : goal.returns-clause-has
+returns-clause-has c =
+    let span = held_at c.self.invariant c.self.view_is c.args.first c.args.class c.requires.held in
+    let step = popped c.self.invariant c.args.first c.args.class c.index-before.result.now c.least_free-slot.result c.occupied-mask.result c.list_for.result c.relist.new.lists
+    span c.index-before.ensures c.least_free-slot.ensures.free c.occupied-mask.ensures.taken c.occupied-mask.ensures.others c.list_for.ensures.value
+    (record { stands = c.relist.ensures.stands; others = c.relist.ensures.others; indices = c.relist.ensures.indices; lists = c.relist.ensures.lists }) in
+    let place = slot_place c.args.first c.args.class c.least_free-slot.result in
+    (c.least_free-slot.result, step.in_slot, ap (λ m. map.get m place) step.allocated ∙ get_inserted _ place (size_of c.args.class) place refl)

@@ -7,7 +7,7 @@ use Rattle.small_pools.specs.inside.Tables.{Tables, class_at, objects_of, IsCons
 use Rattle.small_pools.proofs.Tables.{get_held, class_of_held}
 use Rattle.small_pools.proofs.Found.{no_object, some_object}
 use Rattle.small_pools.proofs.Steps.{IsSpanAt, span_at, read_mask}
-use Rattle.small_pools.proofs.pools.Pools.unused_at.Goals as goal
+use Rattle.small_pools.proofs.held_spans.HeldSpans.unused_at.Goals as goal
 
 -- what is read at a page
 read_class : {t : Tables} {s : Objects} → IsConsistent t → objects_of t ≡ s → (f : ℕ) (now : Option ℕ) → f < s.pages → now ≡ get_or t.classes f now → now ≡ class_at t f

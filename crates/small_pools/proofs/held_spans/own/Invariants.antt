@@ -1,5 +1,5 @@
 use Rattle.std.proofs.Common.{◌≡◌, ◌<◌, ◌≤◌, ◌⊎◌, ℕ, get_or, length}
-use Rattle.small_pools.proofs.pools.own.Given as goal
+use Rattle.small_pools.proofs.held_spans.own.Given as goal
 
 abbrev pub invariant-loop-page : goal.invariant-loop-page
 invariant-loop-page l =

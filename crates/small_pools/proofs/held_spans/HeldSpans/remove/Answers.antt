@@ -3,7 +3,7 @@ use Rattle.std.specs.FinMap as map
 use Rattle.small_pools.specs.Objects.{Objects}
 use Rattle.small_pools.proofs.Tables.{are_objects}
 use Rattle.small_pools.proofs.Steps.{same_fields, held_at, stands_by_mask, dropped}
-use Rattle.small_pools.proofs.pools.Pools.remove.Goals as goal
+use Rattle.small_pools.proofs.held_spans.HeldSpans.remove.Goals as goal
 
 pub index-mask-requires : goal.index-mask-requires
 index-mask-requires c = (let inside = (held_at c.self.invariant c.self.view_is c.args.first c.args.class c.requires.held).in_masks in omega arith)

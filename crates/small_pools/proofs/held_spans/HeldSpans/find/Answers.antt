@@ -3,7 +3,7 @@ use Rattle.index_lists.specs.Lists.{list_at}
 use Rattle.small_pools.specs.Objects.{IsHeld, HasRoom, IsUsedUp, AreObjects}
 use Rattle.small_pools.proofs.Tables.{get_held, are_objects}
 use Rattle.small_pools.proofs.Found.{in_front, room_of, used_up}
-use Rattle.small_pools.proofs.pools.Pools.find.Goals as goal
+use Rattle.small_pools.proofs.held_spans.HeldSpans.find.Goals as goal
 
 pub returns-clause-none : goal.returns-clause-none
 returns-clause-none c = go c.first_with_room.result c.first_with_room.ensures

@@ -3,7 +3,7 @@ use Rattle.std.specs.FinMap as map
 use Rattle.small_pools.specs.Objects.{Objects, slot_place}
 use Rattle.small_pools.proofs.Tables.{are_objects}
 use Rattle.small_pools.proofs.Steps.{same_fields, held_at, stands_by_mask, pushed}
-use Rattle.small_pools.proofs.pools.Pools.release.Goals as goal
+use Rattle.small_pools.proofs.held_spans.HeldSpans.release.Goals as goal
 
 pub index-before-requires : goal.index-before-requires
 index-before-requires c = (let inside = (held_at c.self.invariant c.self.view_is c.args.first c.args.class c.requires.held).in_masks in omega arith)
