@@ -101,9 +101,9 @@ impl ShardMemory {
         ensures room { IfOk result HasAllRoom }
         ensures trimmed { IfOk result IsTrimmed }
     {
-        let range = Range::new(alloc, shard, pages)?;
         let spans = Spans::new(alloc, pages)?;
         let pools = Pools::new(alloc, pages)?;
+        let range = Range::new(alloc, shard, pages)?;
         Ok(ShardMemory {
             pages,
             range,
