@@ -3,6 +3,7 @@ use Rattle.std.proofs.Common.{◌≡◌, ℕ, ◌<◌, List, [], ◌∷◌, leng
 use Rattle.std.proofs.lemmas.Bool.{ne_eqb, not_from_false}
 use Rattle.std.proofs.lemmas.List.{with_items_is}
 use seplogic.Ra.Ura.{Ura}
+use mir.Syntax.{Args, Dict, a_type, dcons, dnil}
 use mir.Val.{Val}
 use base.Fraction.{full_share}
 use base.Logic.{ent, sep, wand, never, id⊢}
@@ -12,15 +13,28 @@ use types.Kit.{‵, ◌$◌, ◌∵◌, !, qed, move, frame, each, assume, show,
 use denote.RattleType.{RattleType}
 use denote.Builtin.{u8}
 use denote.Array.{Array}
+use denote.Param.{param, bounded}
+use denote.Param.Laws.{Laws, param_laws, of_field}
+use denote.Param.Shared.{copy_shared}
+use denote.Struct.Laws.{u8-laws, u8-copy}
+use denote.Struct.Field.{u8-field}
 use denote.RawPtr.{Ptr, block_ptr, lies_at, in_block, in_a_block}
 use Rattle.std.specs.declared.alloc.Allocator.{Ghosts}
 use Rattle.std.specs.Allocator.{block_with_items}
 use Rattle.std.specs.Vec.{with_items}
 use Rattle.std_alloc.specs.Vec.Ownership.{owns_if, has_block}
 use Rattle.std_alloc.specs.contracts.vec.Vec as V
+use Rattle.std_alloc.proofs.vec.Vec.TheLaws as vec_laws
 use Rattle.raw_range.specs.inside.Ownership.{run_owns}
 use Rattle.raw_range.specs.contracts.memory.Sole as Sole
 use Rattle.raw_range.proofs.Walks.{plainly, one, one_made}
+
+-- the type arguments of a function over vectors of an allocator, and the laws of such a vector of bytes
+abbrev pub of_allocator : RattleType → Dict → Dict → Args
+of_allocator A d dd = bounded (a_type ∷ []) (A, tt) (dcons d (dcons dd dnil))
+
+pub byte_vec_laws : (A : RattleType) (L : Laws A) (g : Ghosts A.Denot) → Laws (V.the_row u8 (param 0 A) g)
+byte_vec_laws A L g = vec_laws.the_row_laws u8 (param 0 A) g (of_field u8-field u8-laws refl (copy_shared u8-field u8-copy)) (param_laws 0 A L)
 
 module _ (P : RattleType) (g : Ghosts P.Denot) {M : Type 1} {𝓤 : Ura M} (𝓛 : Logic 𝓤) (v : Vec ℕ P.Denot) (u : Val) where
   pub carve : 0 < v.len → ent 𝓤 (sem 𝓛 ((V.the_row u8 P g).own_val v (u ∷ []))) (sep 𝓤 (sem 𝓛 (run_owns v.ptr v.items)) (sem 𝓛 (Sole.the_own P g (record { ptr = v.ptr; len = v.len }) (one u ∷ []))))
