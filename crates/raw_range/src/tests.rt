@@ -1,5 +1,7 @@
-// What no clause says: that memory is found, and that a piece goes to another thread and back.
+// What no clause says: that memory is found and is freed, and that a piece goes to another thread and back.
+use crate::parts::{attach, detach};
 use crate::{Piece, Range};
+use linked_list_allocator::LocalHeap;
 use std::test::Fail;
 use std::thread;
 
@@ -31,6 +33,18 @@ fn two_pages_are_written_apart_and_put_back(rt: HostRuntime) -> Result<(), Fail>
     range.put(first);
     range.put(second);
     range.finish();
+    Ok(())
+}
+
+// A range takes its vector apart so, and `finish` puts it together and drops it.
+#[test]
+fn a_vector_that_was_taken_apart_is_freed_as_a_whole(rt: HostRuntime) -> Result<(), Fail> {
+    let heap = LocalHeap::new(rt.alloc(), 65_536)?;
+    let vec = Vec::from_elem(&heap, 0u8, 4096)?;
+    let (run, sole) = detach(vec);
+    assert!(rt; heap.used() >= 4096);
+    drop(attach(run, sole));
+    assert_eq!(rt; heap.used(), 0);
     Ok(())
 }
 
