@@ -1,5 +1,5 @@
 // Words of 64 bits. Bit n of a word is worth 2 to the n, and bit n of many words is bit n % 64 of word n / 64.
-ghost use Rattle.std.specs.Prelude.{◌≡◌, ◌≢◌, ℕ, ◌+◌, ◌*◌, ◌/◌, ◌%◌, ◌<◌, ◌≤◌, ◌==◌, true, false, length, slice_index, slice_set, IfSome, IsNone};
+ghost use Rattle.std.specs.Prelude.{◌≡◌, ◌≢◌, ℕ, ◌+◌, ◌*◌, ◌/◌, ◌%◌, ◌<◌, ◌≤◌, ◌==◌, true, false, length, IfSome, IsNone};
 ghost use Rattle.std.specs.Int.{bit_at};
 ghost use Rattle.number_set.specs.inside.Words.{bit_of};
 

@@ -3,7 +3,7 @@ ghost use Rattle.std.specs.Prelude.{◌≡◌, ℕ, ◌+◌, ◌≤◌, List, []
 ghost use Rattle.std.specs.Vec.{with_items};
 ghost use base.Fml.{ftrue, fex, fall, fwand, fsep, feq};
 ghost use denote.RawPtr.{Ptr, ◌+ₚ◌};
-ghost use Rattle.layout.specs.Extents.{Extent, extent, Disjoint, AreDisjoint, IsWithin};
+ghost use Rattle.layout.specs.Extents.{Extent, extent, Disjoint, AreDisjoint};
 ghost use Rattle.raw_range.specs.Memory.{remove_extent, written};
 ghost use Rattle.raw_range.specs.inside.Ownership.{Buffer, buffer_code, IsPlaced, run_owns, unallocated_owns};
 

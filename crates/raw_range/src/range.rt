@@ -1,4 +1,4 @@
-ghost use Rattle.std.specs.Prelude.{◌≡◌, ◌+◌, ◌*◌, ◌<◌, ◌≤◌, List, [], ◌∷◌, length, take, drop, replicate, All, Contains, IfOk};
+ghost use Rattle.std.specs.Prelude.{◌≡◌, ◌+◌, ◌*◌, ◌<◌, ◌≤◌, [], ◌∷◌, length, take, drop, replicate, All, Contains, IfOk};
 ghost use Rattle.layout.specs.Extents.{extent, Disjoint, AreDisjoint};
 ghost use Rattle.layout.specs.Sizes.{page, most_pages, most_pieces};
 ghost use Rattle.raw_range.specs.Memory.{extent_of, with_allocated, remove_extent, written};

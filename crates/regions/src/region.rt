@@ -1,4 +1,4 @@
-ghost use Rattle.std.specs.Prelude.{◌≡◌, ◌≢◌, ◌↔◌, ◌⊎◌, ℕ, ◌+◌, ◌-◌, ◌<◌, ◌≤◌, List, true, false, cond, length, slice_index, Some, None, option_map, replicate, slice_set, IfOk, IfErr, IfSome, IsSome, IsNone, IsErr};
+ghost use Rattle.std.specs.Prelude.{◌≡◌, ◌↔◌, ◌⊎◌, ℕ, ◌+◌, ◌-◌, ◌<◌, ◌≤◌, List, true, false, cond, length, slice_index, Some, None, option_map, replicate, slice_set, IfOk, IfErr, IfSome, IsSome, IsNone, IsErr};
 ghost use Rattle.std.specs.Borrow.{sem};
 ghost use Rattle.layout.specs.Sizes as sizes;
 ghost use Rattle.number_set.specs.Numbers.{size, IsLeast, IsGreatest, IsLeastAbsent};
@@ -13,10 +13,10 @@ ghost use Rattle.regions.specs.inside.Consistent.{with_closed};
 mod closed;
 mod reading;
 
-use crate::live_table::{LiveTable, NOT_CLOSED};
+use crate::live_table::LiveTable;
 use crate::place::{NeedSegment, Place};
 use crate::segment::Segment;
-use crate::slots::{clear, clear_all, copy_into, is_begun, piece_of, segment_in, segment_mut};
+use crate::slots::{clear, clear_all, copy_into, piece_of, segment_mut};
 use layout::SEGMENT;
 use number_set::NumberSet;
 use raw_range::Piece;

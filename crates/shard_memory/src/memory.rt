@@ -20,7 +20,6 @@ ghost use Rattle.std.specs.Prelude.{
   IsSome,
   All,
 };
-ghost use Rattle.std.specs.Ordering.{nat_cmp};
 ghost use Rattle.std.specs.FinMap as map;
 ghost use Rattle.layout.specs.Extents.{extent, Disjoint, AreDisjoint, Blocks};
 ghost use Rattle.layout.specs.Sizes.{page, segment, segment_pages, segment_order, most_pages, most_pieces, greatest_block, ArePages};

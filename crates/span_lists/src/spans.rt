@@ -9,11 +9,7 @@ ghost use Rattle.std.specs.Prelude.{
   ◌^◌,
   ◌↔◌,
   ◌∷◌,
-  [],
-  List,
-  length,
   slice_set,
-  slice_get,
   IfOk,
   IfSome,
   IfNone,
@@ -24,9 +20,8 @@ ghost use Rattle.std.specs.Prelude.{
   min,
   replicate,
 };
-ghost use Rattle.std.specs.Ordering.{nat_cmp};
 ghost use Rattle.std.specs.FinMap as map;
-ghost use Rattle.common_lemmas.specs.Lists.{times, delete};
+ghost use Rattle.common_lemmas.specs.Lists.{delete};
 ghost use Rattle.span_lists.specs.Buddies.{buddy};
 ghost use Rattle.span_lists.specs.Layout.{
   Layout,
