@@ -1,5 +1,6 @@
 -- A set of numbers as the bits of words.
-use Rattle.std.proofs.Common.{◌≡◌, ◌≢◌, ℕ, suc, ◌+◌, ◌*◌, ◌/◌, ◌<◌, ◌≤◌, inl, inr, Bool, true, false, cond, List, [], ◌∷◌, length, replicate, get_or, set, refl, sym, ap, ◌∙◌, subst, arith, ext_get_or, length-set, get_or-set_same, get_or-set_other}
+use Rattle.std.proofs.Common.{◌≡◌, ◌≢◌, ℕ, suc, ◌+◌, ◌*◌, ◌/◌, ◌<◌, ◌≤◌, inl, inr, Bool, true, false, cond, List, [], ◌∷◌, length}
+use Rattle.std.proofs.Common.{replicate, get_or, set, refl, sym, ap, ◌∙◌, subst, arith, ext_get_or, length-set, get_or-set_same, get_or-set_other, Option, Some, None, IsNone, ◌↔◌}
 use Rattle.std.proofs.lemmas.Bool.{cases_eq, cases_lt}
 use Rattle.std.proofs.lemmas.List.{get_or_past, set-get_or, get_or-replicate, length-replicate}
 use Rattle.std.proofs.lemmas.List.FromFn.{length-map-range_with_len, get_or-map-range_with_len}
@@ -117,17 +118,29 @@ module _ (bound count : ℕ) (words : List ℕ) (c : IsConsistent bound count wo
   pub low-bit : (n : ℕ) → n < length s → n < 64 * length words
   low-bit n low = within-words bound count words c n (omega (arith, low, long))
 
-  pub empty-if : ((n : ℕ) → bit_of words n ≡ false) → size s ≡ 0
-  empty-if none = size-none s (λ k. has-is k ∙ none k)
-
-  pub has-some : (n : ℕ) → bit_of words n ≡ true → 1 ≤ size s
-  has-some n e = size-some s n (has-is n ∙ e)
-
   pub all-if : ((n : ℕ) → n < bound → bit_of words n ≡ true) → size s ≡ length s
   all-if all = size-all s (λ k low. has-is k ∙ all k (omega (arith, low, long)))
 
   pub lacks-if : (n : ℕ) → n < bound → bit_of words n ≡ false → size s < length s
   lacks-if n low e = size-lacks s n (omega (arith, low, long)) (has-is n ∙ e)
+
+  pub has-some : (n : ℕ) → bit_of words n ≡ true → 1 ≤ size s
+  has-some n e = size-some s n (has-is n ∙ e)
+
+  -- what a look through the words finds, or does not
+  module _ (now : List ℕ) (same : now ≡ words) where
+    now-is : (k : ℕ) → has s k ≡ bit_of now k
+    now-is k = has-is k ∙ ap (λ w. bit_of w k) (sym same)
+
+    pub missed : (found : Option ℕ) → found ≡ None → ((n : ℕ) → bit_of now n ≡ false) → IsNone found ↔ size s ≡ 0
+    missed found e none = (λ _. size-none s (λ k. now-is k ∙ none k), λ _. subst IsNone (sym e) refl)
+
+    pub found : (n x : ℕ) → bit_of now n ≡ true → IsNone (Some x) ↔ size s ≡ 0
+    found n x e = (λ clash. absurd (let c : true ≡ false = clash in cc), λ z. absurd (let some = size-some s n (now-is n ∙ e) in omega (arith, some, z)))
+
+    -- the number is in the set, and none beyond it is
+    pub at-end : (beyond : ℕ → Type 0) (n : ℕ) → bit_of now n ≡ true → ((m : ℕ) → beyond m → bit_of now m ≡ false) → (has s n ≡ true) × ((m : ℕ) → beyond m → has s m ≡ false)
+    at-end beyond n e none = (now-is n ∙ e, λ m far. now-is m ∙ none m far)
 
 pub zero-bits : (n m : ℕ) → bit_of (replicate n 0) m ≡ false
 zero-bits n m =
