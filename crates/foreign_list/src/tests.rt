@@ -1,6 +1,6 @@
 // What no clause says: that memory is found, who wins a race, and in which order blocks come home.
 ghost use Rattle.std.specs.Prelude.{◌≡◌, ◌≤◌, [], IfOk};
-ghost use Rattle.foreign_list.specs.OwnerSeats.{IsSeatOf};
+ghost use Rattle.foreign_list.specs.OwnerSeats.{IsSeatOf, IsIdle};
 
 use crate::{Foreign, ForeignBlock, LinkedBlock, OwnerSeat, Released, Tally, law_of_the_list};
 use raw_range::{Piece, Range};
@@ -18,6 +18,33 @@ fn piece_of(alloc: Global, owner: u32) -> Result<Piece, AllocError>
 {
     let mut range = Range::new(alloc, owner, 1)?;
     Ok(range.take(16, 64))
+}
+
+// Lends the tickets 0 and 8.
+fn lend_two<'f>(
+    alloc: Global,
+    list: &'f Foreign,
+    seat: &mut OwnerSeat,
+) -> Result<(ForeignBlock<'f>, ForeignBlock<'f>), AllocError>
+    requires seat { IsSeatOf list.now seat.old × (seat.old.walk ≡ []) }
+    requires owner { list.now.owner ≡ 3 }
+    requires idle { IsIdle seat.old 0 × IsIdle seat.old 8 }
+    ensures { IsSeatOf list.now seat.new × (seat.new.walk ≡ []) }
+{
+    let a = list.lend(seat, 0, piece_of(alloc, OWNER)?);
+    let b = list.lend(seat, 8, piece_of(alloc, OWNER)?);
+    Ok((a, b))
+}
+
+// The ticket 8 comes home, then 0, and then none.
+fn expect_two(rt: &impl Abort, list: &Foreign, seat: &mut OwnerSeat)
+    requires { IsSeatOf list.now seat.old }
+    ensures { IsSeatOf list.now seat.new }
+{
+    let first = list.next_back(seat).expect(rt, "none came home");
+    let second = list.next_back(seat).expect(rt, "one came home");
+    assert_eq!(rt; (first.ticket, second.ticket), (8, 0));
+    assert!(rt; list.next_back(seat).is_none());
 }
 
 fn release<'f>(rt: &impl Abort, block: ForeignBlock<'f>) -> Released<'f> {
@@ -63,8 +90,7 @@ fn close_idle(rt: &impl Abort, list: Foreign, seat: OwnerSeat)
 fn the_newest_comes_home_first(rt: HostRuntime) -> Result<(), Fail> {
     let alloc = rt.alloc();
     let (list, mut seat) = Foreign::new(alloc, OWNER)?;
-    let a = list.lend(&mut seat, 0, piece_of(alloc, OWNER)?);
-    let b = list.lend(&mut seat, 8, piece_of(alloc, OWNER)?);
+    let (a, b) = lend_two(alloc, &list, &mut seat)?;
     assert_eq!(rt; (a.home(), a.ticket(), b.ticket()), (OWNER, 0, 8));
     assert!(rt; !seat.is_idle(0) && !seat.is_idle(8) && seat.is_idle(1) && !seat.is_idle(32));
     let mut tally = Tally::new();
@@ -73,11 +99,7 @@ fn the_newest_comes_home_first(rt: HostRuntime) -> Result<(), Fail> {
     assert!(rt; !seat.is_idle(0) && !seat.is_idle(8) && tally.count() == 2);
     list.take_whole(&mut seat);
     assert!(rt; !seat.is_idle(0) && !seat.is_idle(8));
-    let first = list.next_back(&mut seat).ok_or("none came home")?;
-    let second = list.next_back(&mut seat).ok_or("one came home")?;
-    assert_eq!(rt; first.ticket, 8);
-    assert_eq!(rt; second.ticket, 0);
-    assert!(rt; list.next_back(&mut seat).is_none());
+    expect_two(&rt, &list, &mut seat);
     assert!(rt; seat.is_idle(0) && seat.is_idle(8));
     close_idle(&rt, list, seat);
     law_of_the_list();
@@ -88,17 +110,14 @@ fn the_newest_comes_home_first(rt: HostRuntime) -> Result<(), Fail> {
 fn a_swing_races_with_another(rt: HostRuntime) -> Result<(), Fail> {
     let alloc = rt.alloc();
     let (list, mut seat) = Foreign::new(alloc, OWNER)?;
-    let a = list.lend(&mut seat, 0, piece_of(alloc, OWNER)?);
-    let b = list.lend(&mut seat, 8, piece_of(alloc, OWNER)?);
+    let (a, b) = lend_two(alloc, &list, &mut seat)?;
     let a = a.begin();
     let b = b.begin();
     drop(swing(&rt, a));
     let b = race(&rt, b, None, Some(0));
     drop(release(&rt, b));
     list.take_whole(&mut seat);
-    let first = list.next_back(&mut seat).ok_or("none came home")?;
-    let second = list.next_back(&mut seat).ok_or("one came home")?;
-    assert_eq!(rt; (first.ticket, second.ticket), (8, 0));
+    expect_two(&rt, &list, &mut seat);
     Ok(())
 }
 
@@ -106,8 +125,7 @@ fn a_swing_races_with_another(rt: HostRuntime) -> Result<(), Fail> {
 fn a_swing_races_with_a_take_whole(rt: HostRuntime) -> Result<(), Fail> {
     let alloc = rt.alloc();
     let (list, mut seat) = Foreign::new(alloc, OWNER)?;
-    let a = list.lend(&mut seat, 0, piece_of(alloc, OWNER)?);
-    let b = list.lend(&mut seat, 8, piece_of(alloc, OWNER)?);
+    let (a, b) = lend_two(alloc, &list, &mut seat)?;
     drop(release(&rt, a));
     let b = b.begin();
     list.take_whole(&mut seat);
@@ -120,8 +138,7 @@ fn a_swing_races_with_a_take_whole(rt: HostRuntime) -> Result<(), Fail> {
 fn a_head_that_came_again_is_the_one_expected(rt: HostRuntime) -> Result<(), Fail> {
     let alloc = rt.alloc();
     let (list, mut seat) = Foreign::new(alloc, OWNER)?;
-    let a = list.lend(&mut seat, 0, piece_of(alloc, OWNER)?);
-    let b = list.lend(&mut seat, 8, piece_of(alloc, OWNER)?);
+    let (a, b) = lend_two(alloc, &list, &mut seat)?;
     drop(release(&rt, a));
     let b = b.begin();
     list.take_whole(&mut seat);
@@ -132,9 +149,7 @@ fn a_head_that_came_again_is_the_one_expected(rt: HostRuntime) -> Result<(), Fai
     drop(release(&rt, list.lend(&mut seat, 0, back.piece)));
     drop(swing(&rt, b));
     list.take_whole(&mut seat);
-    let first = list.next_back(&mut seat).ok_or("none came home")?;
-    let second = list.next_back(&mut seat).ok_or("one came home")?;
-    assert_eq!(rt; (first.ticket, second.ticket), (8, 0));
+    expect_two(&rt, &list, &mut seat);
     Ok(())
 }
 
