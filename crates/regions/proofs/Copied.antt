@@ -1,26 +1,16 @@
 -- A segment once the content of one live object is also that of another.
-use Rattle.std.proofs.Common.{◌≡◌, ℕ, ◌+◌, ◌-◌, ◌≤◌, Bool, true, false, List, length, take, drop, refl, sym, ap, ◌∙◌, subst, arith, eq-eqb, length-take-le, length-drop}
-use Rattle.std.specs.Prelude.{Some, IsSome, IfSome, option_map}
+use Rattle.std.proofs.Common.{◌≡◌, ℕ, ◌+◌, ◌-◌, ◌≤◌, Bool, List, length, take, drop, refl, sym, ap, ◌∙◌, subst, arith, eq-eqb, length-take-le, length-drop}
+use Rattle.std.specs.Prelude.{Some, IfSome, option_map}
 use Rattle.std.specs.List.{refill}
-use Rattle.object_log.specs.Objects.{Object, objects, descriptor_at, content_at, IsSegment, StandsAt}
+use Rattle.object_log.specs.Objects.{objects, descriptor_at, content_at, IsSegment}
 use Rattle.raw_range.specs.Memory.{Lent, written}
 use Rattle.regions.specs.Segments.{SegmentState}
 use Rattle.regions.specs.Counts.{live_in}
 use Rattle.regions.specs.Contents.{standing, standing_among, standing_in, if_live, item_if_live, size_of, with_bytes, ChangesIn}
 use Rattle.regions.specs.Lends.{bytes_with}
-use Rattle.regions.proofs.Objects.{found-any}
 use Rattle.regions.proofs.Appended.{refill-same}
 use Rattle.regions.proofs.Regions.{live-content, if-some}
-use Rattle.regions.proofs.Written.{IsLive, IsWritten, is-live, as-there, content-size, content-read, whole-content, segment-kept, live-same, changed}
-
--- an object that is live to a caller
-pub live-there : (p : Lent) (used at : ℕ) (free : Bool) (h : SegmentState) → (free ≡ true → used ≡ 0) → (free ≡ false → IsSegment p.bytes used) → record { piece = p; used = used; free = free } ≡ h
-    → IsSome (item_if_live (standing_in (Some h) at)) → IsLive p.bytes used at
-live-there p used at free h unused begun view alive = is-live p.bytes used at free unused begun (subst (λ h. IsSome (item_if_live (standing_in (Some h) at))) (sym view) alive)
-
--- and what is asked where it is read
-pub stands-in : (bytes now : List ℕ) (used at : ℕ) → IsLive bytes used at → now ≡ bytes → IsSegment now used × StandsAt at (objects now used)
-stands-in bytes now used at l is = rw is (l.segment, found-any (λ (o : Object). o.at ≡ at) at (objects bytes used) l.it l.is-it (l.found).place)
+use Rattle.regions.proofs.Written.{IsLive, IsWritten, as-there, content-size, content-read, whole-content, segment-kept, live-same, changed}
 
 -- its content lies in the segment
 pub within : (bytes now : List ℕ) (used at start len : ℕ) (l : IsLive bytes used at) → now ≡ bytes → start ≡ at + 8 → len + 8 ≡ (descriptor_at bytes at).size → start + len ≤ length now

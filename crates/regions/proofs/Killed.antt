@@ -64,8 +64,15 @@ live-killed bytes a used at (o ∷ os) it h e one =
           rw (ne_eqb o.at at far) (omega (arith, rest))
     ]
 
+-- the segment afterwards
+pub record IsKilled (p : Lent) (new : List ℕ) (used at : ℕ) (free : Bool) (it : Object) (old : SegmentState) : Type 0 where
+  pub kept : IsSegment (refill (length p.bytes) p.bytes new) used
+  pub slot : slot_of (record { piece = record p { bytes = refill (length p.bytes) p.bytes new }; used = used; free = free }) ≡ slot_of old
+  pub live : live_in (Some old) ≡ live_in (Some (record { piece = record p { bytes = refill (length p.bytes) p.bytes new }; used = used; free = free })) + it.size
+  pub killed : ChangesIn at (option_map dead (standing_in (Some old) at)) (Some old) (Some (record { piece = record p { bytes = refill (length p.bytes) p.bytes new }; used = used; free = free }))
+
 module _ (p : Lent) (free : Bool) (now new : List ℕ) (used at : ℕ) (is-now : now ≡ p.bytes) (stated : new ≡ slice_set now at 2) (buried-now : objects new used ≡ killed at (objects now used))
-    (segment : IsSegment p.bytes used) (it : Object) (is-it : object_with at (objects p.bytes used) ≡ Some it) (one : it.state ≡ 1) (old : SegmentState) (is-old : record { piece = p; used = used; free = free } ≡ old) where
+    (segment : IsSegment p.bytes used) (it : Object) (is-it : object_with at (objects p.bytes used) ≡ Some it) (one : it.state ≡ 1) (still : IsSegment new used) (old : SegmentState) (is-old : record { piece = p; used = used; free = free } ≡ old) where
   state : new ≡ slice_set p.bytes at 2
   state = rw is-now at stated
 
@@ -75,7 +82,7 @@ module _ (p : Lent) (free : Bool) (now new : List ℕ) (used at : ℕ) (is-now :
   as-long : length new ≡ length p.bytes
   as-long = ap length state ∙ length-set p.bytes at 2
 
-  pub is-new : refill (length p.bytes) p.bytes new ≡ new
+  is-new : refill (length p.bytes) p.bytes new ≡ new
   is-new = refill-same (length p.bytes) p.bytes new refl as-long
 
   abbrev after : List ℕ → SegmentState
@@ -89,10 +96,7 @@ module _ (p : Lent) (free : Bool) (now new : List ℕ) (used at : ℕ) (is-now :
       subst (λ h. live_in (Some h) ≡ live_in (Some (after (refill (length p.bytes) p.bytes new))) + it.size) is-old
       (sym (ap (λ b. live_in (Some (after b)) + it.size) is-new ∙ live-less))
 
-  pub live-less-size : {n : ℕ} → it.size ≡ n → live_in (Some old) ≡ live_in (Some (after (refill (length p.bytes) p.bytes new))) + n
-  live-less-size size = live-shrunk ∙ ap (λ n. live_in (Some (after (refill (length p.bytes) p.bytes new))) + n) size
-
-  pub slot-same : slot_of (after (refill (length p.bytes) p.bytes new)) ≡ slot_of old
+  slot-same : slot_of (after (refill (length p.bytes) p.bytes new)) ≡ slot_of old
   slot-same =
       subst (λ h. slot_of (after (refill (length p.bytes) p.bytes new)) ≡ slot_of h) is-old
       (ap (λ n. record { piece = record (identity p) { length = n }; free = free }) (ap length is-new ∙ as-long))
@@ -113,7 +117,7 @@ module _ (p : Lent) (free : Bool) (now new : List ℕ) (used at : ℕ) (is-now :
       let f = found p.bytes 0 used at (objects p.bytes used) it segment.objects is-it in
       content-same it p.bytes new (ap (take (it.size - 8)) (window-behind (at + 1) (it.at + 8) p.bytes new (omega (arith, f.place)) back))
 
-  pub changed : ChangesIn at (option_map dead (standing_in (Some old) at)) (Some old) (Some (record { piece = record p { bytes = refill (length p.bytes) p.bytes new }; used = used; free = free }))
+  changed : ChangesIn at (option_map dead (standing_in (Some old) at)) (Some old) (Some (record { piece = record p { bytes = refill (length p.bytes) p.bytes new }; used = used; free = free }))
   changed =
       subst (λ h. ChangesIn at (option_map dead (standing_in (Some h) at)) (Some h) (Some (after (refill (length p.bytes) p.bytes new)))) is-old
       (subst (λ b. ChangesIn at (option_map dead (standing_among p.bytes at (objects p.bytes used))) (Some (record { piece = p; used = used; free = free })) (Some (after b))) (sym is-new)
@@ -125,3 +129,6 @@ module _ (p : Lent) (free : Bool) (now new : List ℕ) (used at : ℕ) (is-now :
         others = λ b ne.
             ap (λ os. standing_among new b os) gone ∙ ap (option_map (standing new)) (killed-other at b (objects p.bytes used) ne) ∙ beside b;
       }))
+
+  pub is-killed : IsKilled p new used at free it old
+  is-killed = record { kept = subst (λ b. IsSegment b used) (sym is-new) still; slot = slot-same; live = live-shrunk; killed = changed }

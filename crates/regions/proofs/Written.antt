@@ -3,14 +3,14 @@ use Rattle.std.proofs.Common.{◌≡◌, ℕ, ◌+◌, ◌-◌, inl, Bool, true,
 use Rattle.std.specs.Prelude.{Option, None, Some, IsSome, option_map}
 use Rattle.std.specs.List.{refill, length_refill}
 use Rattle.std.proofs.lemmas.List.{take_at, drop_at}
-use Rattle.object_log.specs.Objects.{Object, objects, descriptor_at, content_at, with_content, IsSegment}
+use Rattle.object_log.specs.Objects.{Object, objects, descriptor_at, content_at, with_content, IsSegment, StandsAt, LivesAt}
 use Rattle.raw_range.specs.Memory.{Lent, written}
 use Rattle.regions.specs.Segments.{SegmentState}
 use Rattle.regions.specs.Shapes.{identity, slot_of}
 use Rattle.regions.specs.Counts.{live_bytes, live_in}
-use Rattle.regions.specs.Contents.{Standing, standing, standing_among, item_if_live, object_with, rewritten, with_bytes, ChangesIn}
+use Rattle.regions.specs.Contents.{Standing, standing, standing_among, standing_in, item_if_live, object_with, rewritten, with_bytes, ChangesIn}
 use Rattle.regions.specs.Lends.{bytes_with}
-use Rattle.regions.proofs.Objects.{IsFound, found, standing-beside, live-found, live-standing, some-found, begun-if}
+use Rattle.regions.proofs.Objects.{IsFound, found, found-any, standing-beside, live-found, live-standing, some-found, begun-if}
 
 -- an object that stands at the offset, in a segment that is not free
 pub record IsThere (bytes : List ℕ) (used at : ℕ) : Type 0 where
@@ -43,6 +43,22 @@ is-live bytes used at free unused begun alive =
 abbrev pub as-there : (bytes : List ℕ) (used at : ℕ) → IsLive bytes used at → IsThere bytes used at
 as-there bytes used at live = record { segment = live.segment; it = live.it; is-it = live.is-it; found = live.found }
 
+-- the same of what a caller sees
+pub there-seen : (p : Lent) (used at : ℕ) (free : Bool) (h : SegmentState) → (free ≡ true → used ≡ 0) → (free ≡ false → IsSegment p.bytes used) → record { piece = p; used = used; free = free } ≡ h
+    → IsSome (standing_in (Some h) at) → IsThere p.bytes used at
+there-seen p used at free h unused begun view there = is-there p.bytes used at free unused begun (subst (λ h. IsSome (standing_in (Some h) at)) (sym view) there)
+
+pub live-seen : (p : Lent) (used at : ℕ) (free : Bool) (h : SegmentState) → (free ≡ true → used ≡ 0) → (free ≡ false → IsSegment p.bytes used) → record { piece = p; used = used; free = free } ≡ h
+    → IsSome (item_if_live (standing_in (Some h) at)) → IsLive p.bytes used at
+live-seen p used at free h unused begun view alive = is-live p.bytes used at free unused begun (subst (λ h. IsSome (item_if_live (standing_in (Some h) at))) (sym view) alive)
+
+-- what is asked where its descriptor is read, and where it is killed
+pub stands-read : (bytes now : List ℕ) (used at : ℕ) → IsThere bytes used at → now ≡ bytes → IsSegment now used × StandsAt at (objects now used)
+stands-read bytes now used at l is = rw is (l.segment, found-any (λ (o : Object). o.at ≡ at) at (objects bytes used) l.it l.is-it (l.found).place)
+
+pub lives-read : (bytes now : List ℕ) (used at : ℕ) → IsLive bytes used at → now ≡ bytes → IsSegment now used × LivesAt at (objects now used)
+lives-read bytes now used at l is = rw is (l.segment, found-any (λ (o : Object). (o.at ≡ at) × (o.state ≡ 1)) at (objects bytes used) l.it l.is-it ((l.found).place, l.alive))
+
 -- the content is read where it lies
 pub content-read : (bytes now : List ℕ) (used at start len : ℕ) (there : IsThere bytes used at) → now ≡ bytes → start ≡ at + 8 → len + 8 ≡ (descriptor_at now at).size
     → option_map (λ s. s.item.content) (standing_among bytes at (objects bytes used)) ≡ Some (take len (drop start bytes))
@@ -71,13 +87,30 @@ pub record IsWritten (bytes : List ℕ) (used at size : ℕ) : Type 0 where
   pub segment : (ws : List ℕ) → length ws ≡ size - 8 → IsSegment (with_content at ws bytes) used
   pub objects : (ws : List ℕ) → length ws ≡ size - 8 → objects (with_content at ws bytes) used ≡ objects bytes used
 
-pub is-written : (bytes now : List ℕ) (used at len : ℕ) → now ≡ bytes → len + 8 ≡ (descriptor_at now at).size
+is-written : (bytes now : List ℕ) (used at len : ℕ) → now ≡ bytes → len + 8 ≡ (descriptor_at now at).size
     → ((ws : List ℕ) → length ws ≡ len → IsSegment (with_content at ws now) used) → ((ws : List ℕ) → length ws ≡ len → objects (with_content at ws now) used ≡ objects now used)
     → IsWritten bytes used at (descriptor_at bytes at).size
 is-written bytes now used at len is ends s o =
     let n : (descriptor_at bytes at).size ≡ len + 8 = ap (λ b. (descriptor_at b at).size) (sym is) ∙ sym ends in record {
       segment = λ ws long. subst (λ b. IsSegment (with_content at ws b) used) is (s ws (omega (arith, long, n)));
       objects = λ ws long. subst (λ b. objects (with_content at ws b) used ≡ objects b used) is (o ws (omega (arith, long, n)));
+    }
+
+-- a live object, and what writing its content leaves
+pub record IsOpen (bytes : List ℕ) (used at : ℕ) : Type 0 where
+  pub live : IsLive bytes used at
+  pub size : (live.it).size ≡ (descriptor_at bytes at).size
+  pub law : IsWritten bytes used at (descriptor_at bytes at).size
+
+-- as where the content lies tells it
+pub opened : (bytes now : List ℕ) (used at len : ℕ) (l : IsLive bytes used at) → now ≡ bytes → len + 8 ≡ (descriptor_at now at).size
+    → ((used : ℕ) (ws : List ℕ) → IsSegment now used → StandsAt at (objects now used) → length ws ≡ len → IsSegment (with_content at ws now) used)
+    → ((used : ℕ) (ws : List ℕ) → IsSegment now used → StandsAt at (objects now used) → length ws ≡ len → objects (with_content at ws now) used ≡ objects now used) → IsOpen bytes used at
+opened bytes now used at len l is ends segment same =
+    let s = stands-read bytes now used at (as-there bytes used at l) is in record {
+      live = l;
+      size = ap (λ o. o.size) (l.found).is;
+      law = is-written bytes now used at len is ends (λ ws. segment used ws s.0 s.1) (λ ws. same used ws s.0 s.1);
     }
 
 module _ (p : Lent) (ws : List ℕ) (used at size : ℕ) (live : IsLive p.bytes used at) (is-size : (live.it).size ≡ size) (law : IsWritten p.bytes used at size) where
