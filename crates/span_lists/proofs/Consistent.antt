@@ -14,7 +14,7 @@ use Rattle.span_lists.specs.declared.spans.PageState.{PageState}
 use Rattle.span_lists.specs.declared.spans.PageState.TheVariants.{Inside, Free, Allocated}
 use Rattle.span_lists.specs.Buddies.{buddy}
 use Rattle.span_lists.specs.Layout.{pages_from}
-use Rattle.span_lists.specs.inside.Pages.{order_of, mark, allocated_pages_of, state_at, IsSpanAt, IsConsistent}
+use Rattle.span_lists.specs.inside.Pages.{order_of, mark, allocated_pages_of, state_at, IsSpanAt, IsCut, IsConsistent}
 use Rattle.common_lemmas.proofs.Powers.{pow_twice}
 use Rattle.span_lists.proofs.Halves.{buddy_twice, buddy_of_upper}
 use Rattle.span_lists.proofs.Cuts.{same_cut, cut_split, cut_coalesced}
@@ -126,6 +126,13 @@ pages_from-replicate o (suc n) = (let rest = pages_from-replicate (o + 1) n in o
 
 -- ---- the steps
 
+-- a span stands where one of its order stood
+cut_kept : (pages : ℕ) (states : List PageState) (x : ℕ) (v : PageState) → x < length states → order_of v ≡ order_of (state_at states x) → IsCut pages (λ y. order_of (state_at states y)) → IsCut pages (λ y. order_of (state_at (set states x v) y))
+cut_kept pages states x v inside same cut = same_cut pages _ _ (λ y. elim (cases_eq y x) [
+  | inl e ↦ ap order_of (state_same states x y v inside e) ∙ same ∙ sym (ap (λ z. order_of (state_at states z)) e)
+  | inr n ↦ ap order_of (state_other states x y v n)
+]) cut
+
 -- a free span is allocated
 pub consistent_allocate : (pages : ℕ) (states : List PageState) (lists : Lists) (free x k : ℕ) → IsConsistent pages states lists free → k < 17 → 1 ≤ times x (list_at lists k)
     → (2 ^ k ≤ free) × IsConsistent pages (set states x (Allocated k)) (with_list lists k (delete x (list_at lists k))) (free - 2 ^ k)
@@ -153,10 +160,7 @@ consistent_allocate pages states lists free x k h small held =
         states_len = length-set states x (Allocated k) ∙ h.states_len;
         indices = h.indices;
         orders = length-set lists.lists k _ ∙ h.orders;
-        cut = same_cut pages _ _ (λ y. elim (cases_eq y x) [
-          | inl e ↦ ap (λ z. order_of (state_at states' z)) e ∙ ap order_of now ∙ sym (ap (λ z. order_of (state_at states z)) e ∙ ap order_of was)
-          | inr n ↦ ap order_of (others y n)
-        ]) h.cut;
+        cut = cut_kept pages states x (Allocated k) inside (sym (ap order_of was)) h.cut;
         listed = listed_remove lists.lists states states' k x h.orders small h.listed was (λ j. ap (mark j) now) (λ z j n. ap (mark j) (others z n));
         coalesced = λ y j b e d. h.coalesced y j b (back y j e) (back (buddy y j) j d);
         count = omega arith;
@@ -187,10 +191,7 @@ consistent_release pages states lists free x k h small was apart =
         states_len = length-set states x (Free k) ∙ h.states_len;
         indices = h.indices;
         orders = length-set lists.lists k _ ∙ h.orders;
-        cut = same_cut pages _ _ (λ y. elim (cases_eq y x) [
-          | inl e ↦ ap (λ z. order_of (state_at states' z)) e ∙ ap order_of now ∙ sym (ap (λ z. order_of (state_at states z)) e ∙ ap order_of was)
-          | inr n ↦ ap order_of (others y n)
-        ]) h.cut;
+        cut = cut_kept pages states x (Free k) inside (sym (ap order_of was)) h.cut;
         listed = listed_push lists.lists states states' k x h.orders small h.listed now (λ j. ap (mark j) was) (λ z j n. ap (mark j) (others z n));
         coalesced = λ y j b e d.
             elim (cases_eq y x) [
