@@ -6,7 +6,7 @@ use Rattle.regions.specs.Segments.{RegionState}
 use Rattle.std.specs.List.{sum, count_by}
 use Rattle.regions.specs.Shapes.{activated, is_free, slot_at, Shape, shape, is_closed, is_held, active_of, pieces_in, IsClosed}
 use Rattle.regions.specs.Counts.{used_counts, live_counts, live_bytes_at, used_total, live_total, plus}
-use Rattle.regions.specs.Contents.{Item, Standing, IsLiveAt, size_of, standing_at, item_if_live, if_live, ChangesAt, Keeps}
+use Rattle.regions.specs.Contents.{Item, Standing, IsLiveAt, size_of, live_at, standing_at, item_if_live, if_live, ChangesAt, Keeps}
 use Rattle.regions.specs.Stores.{Bare, SameBut, without_references}
 use Rattle.regions.specs.declared.place.Place.{Place}
 use Rattle.compaction.specs.Emptied.{IsSameAt, HoldsTheSame}
@@ -132,8 +132,18 @@ module _ (bare : Bare) (from to : Place) (size : ℕ) (old copied told new : Reg
   same-behind p far closed = same-at p far (closed-elsewhere p closed)
 
   module _ (shapes : (shape copied ≡ shape old) × (shape new ≡ shape told)) (used-copied : used_counts copied ≡ plus to.segment size (used_counts old)) (used-new : used_counts new ≡ used_counts told)
-      (live-copied : live_counts copied ≡ plus to.segment size (live_counts old)) (live-new : live_counts told ≡ plus from.segment size (live_counts new))
-      (used-sum : used_total copied ≡ used_total old + size) (live-sum : live_total copied ≡ live_total old + size) (live-less : live_total new + size ≡ live_total told) where
+      (live-copied : live_counts copied ≡ plus to.segment size (live_counts old)) (live-killed : IfSome (standing_at told from) (λ s. live_counts told ≡ plus from.segment (size_of s.item) (live_counts new)))
+      (used-sum : used_total copied ≡ used_total old + size) (live-sum : live_total copied ≡ live_total old + size) (live-lost : IfSome (standing_at told from) (λ s. live_total new + size_of s.item ≡ live_total told))
+      (kind : ℕ) (alive : IsLiveAt (live_at old from) kind size) where
+    still-there : IsSameAt bare old told from
+    still-there = but.objects from ∙ ap (option_map (without_references bare)) (copy.others from (closed-elsewhere from shut))
+
+    live-new : live_counts told ≡ plus from.segment size (live_counts new)
+    live-new = size-there bare (standing_at old from) (standing_at told from) kind size (λ k. live_counts told ≡ plus from.segment k (live_counts new)) alive still-there live-killed
+
+    live-less : live_total new + size ≡ live_total told
+    live-less = size-there bare (standing_at old from) (standing_at told from) kind size (λ k. live_total new + k ≡ live_total told) alive still-there live-lost
+
     shapes-same : shape new ≡ shape old
     shapes-same = shapes.1 ∙ but.shape ∙ shapes.0
 

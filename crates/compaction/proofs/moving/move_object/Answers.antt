@@ -1,11 +1,8 @@
-use Rattle.std.proofs.Common.{◌≡◌, ◌≢◌, ◌+◌, sym, ap, ◌∙◌, subst}
+use Rattle.std.proofs.Common.{◌≢◌, sym, ap, ◌∙◌, subst}
 use Rattle.std.specs.Prelude.{option_map}
-use Rattle.regions.specs.Counts.{live_counts, live_total, plus}
 use Rattle.regions.specs.Contents.{item_if_live, standing_at, live_at, dead}
-use Rattle.regions.specs.Stores.{without_references}
-use Rattle.compaction.specs.Emptied.{IsSameAt}
 use Rattle.compaction.proofs.Moves.{copied-live, killed-live, same-live, same-store}
-use Rattle.compaction.proofs.Drains.{size-there, same-at, closed-elsewhere, drained-moved, live-here}
+use Rattle.compaction.proofs.Drains.{same-at, closed-elsewhere, drained-moved, live-here}
 use Rattle.compaction.proofs.moving.move_object.Goals as goal
 
 pub tell-requires-clause-fits : goal.tell-requires-clause-fits
@@ -32,36 +29,12 @@ returns-clause-store g c =
 
 pub returns-clause-drained : goal.returns-clause-drained
 returns-clause-drained g c =
-    let a = c.append_copy-to in let bare = g.M.Movers.bare in let from = c.args.from in let to = a.result in
-    let old = c.args.region.now in let told = c.tell.new.region in let new = c.kill.new.self in
-    let dies = option_map dead (standing_at told from) in
-    let apart : from ≢ to =
-    closed-elsewhere bare from to c.args.size old a.new.region told new c.requires.closed a.ensures.segment a.ensures.copied a.ensures.unused c.tell.ensures.store dies c.kill.ensures.killed from c.requires.closed
-    in
-    let there : IsSameAt bare old told from = c.tell.ensures.store.objects from ∙ ap (option_map (without_references bare)) (a.ensures.copied.others from apart) in
-    let less : live_counts told ≡ plus from.segment c.args.size (live_counts new) =
-    size-there bare (standing_at old from) (standing_at told from) c.args.kind c.args.size (λ k. live_counts told ≡ plus from.segment k (live_counts new)) c.requires.live there c.kill.ensures.live
-    in
-    let total : live_total new + c.args.size ≡ live_total told =
-    size-there bare (standing_at old from) (standing_at told from) c.args.kind c.args.size (λ k. live_total new + k ≡ live_total told) c.requires.live there c.kill.ensures.live_total
-    in
-    drained-moved bare from to c.args.size old a.new.region told new c.requires.closed a.ensures.segment a.ensures.copied a.ensures.unused c.tell.ensures.store dies c.kill.ensures.killed
-    (a.ensures.shape, c.kill.ensures.shape) a.ensures.used c.kill.ensures.used a.ensures.live less a.ensures.used_total a.ensures.live_total total
+    let a = c.append_copy-to in let told = c.tell.new.region in let k = c.kill.ensures in
+    drained-moved g.M.Movers.bare c.args.from a.result c.args.size c.args.region.now a.new.region told c.kill.new.self c.requires.closed a.ensures.segment a.ensures.copied a.ensures.unused c.tell.ensures.store (option_map dead (standing_at told c.args.from)) k.killed
+    (a.ensures.shape, k.shape) a.ensures.used k.used a.ensures.live k.live a.ensures.used_total a.ensures.live_total k.live_total c.args.kind c.requires.live
 
 pub returns-clause-live : goal.returns-clause-live
 returns-clause-live g c =
-    let a = c.append_copy-to in let bare = g.M.Movers.bare in let from = c.args.from in let to = a.result in
-    let old = c.args.region.now in let told = c.tell.new.region in let new = c.kill.new.self in
-    let dies = option_map dead (standing_at told from) in
-    let apart : from ≢ to =
-    closed-elsewhere bare from to c.args.size old a.new.region told new c.requires.closed a.ensures.segment a.ensures.copied a.ensures.unused c.tell.ensures.store dies c.kill.ensures.killed from c.requires.closed
-    in
-    let there : IsSameAt bare old told from = c.tell.ensures.store.objects from ∙ ap (option_map (without_references bare)) (a.ensures.copied.others from apart) in
-    let less : live_counts told ≡ plus from.segment c.args.size (live_counts new) =
-    size-there bare (standing_at old from) (standing_at told from) c.args.kind c.args.size (λ k. live_counts told ≡ plus from.segment k (live_counts new)) c.requires.live there c.kill.ensures.live
-    in
-    let total : live_total new + c.args.size ≡ live_total told =
-    size-there bare (standing_at old from) (standing_at told from) c.args.kind c.args.size (λ k. live_total new + k ≡ live_total told) c.requires.live there c.kill.ensures.live_total
-    in
-    live-here bare from to c.args.size old a.new.region told new c.requires.closed a.ensures.segment a.ensures.copied a.ensures.unused c.tell.ensures.store dies c.kill.ensures.killed
-    (a.ensures.shape, c.kill.ensures.shape) a.ensures.used c.kill.ensures.used a.ensures.live less a.ensures.used_total a.ensures.live_total total
+    let a = c.append_copy-to in let told = c.tell.new.region in let k = c.kill.ensures in
+    live-here g.M.Movers.bare c.args.from a.result c.args.size c.args.region.now a.new.region told c.kill.new.self c.requires.closed a.ensures.segment a.ensures.copied a.ensures.unused c.tell.ensures.store (option_map dead (standing_at told c.args.from)) k.killed
+    (a.ensures.shape, k.shape) a.ensures.used k.used a.ensures.live k.live a.ensures.used_total a.ensures.live_total k.live_total c.args.kind c.requires.live
