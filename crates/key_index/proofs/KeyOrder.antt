@@ -77,24 +77,22 @@ agrees a b r e f = go (pointwise eqb a b) refl
     go true s = (bytes_eq-Decides a b).0 s
     go false s = absurd (true≢false (sym (ap not s) ∙ sym e ∙ f))
 
-pub least_le : (a b : List ℕ) → is_lt (key_cmp a b) ≡ false → is_le (key_cmp b a) ≡ true
+-- a key that is not below another, seen from the other
+not_less : (P : Ordering → Bool) (t : Bool) (a b : List ℕ) → P Equal ≡ t → P Less ≡ t → is_lt (key_cmp a b) ≡ false → P (key_cmp b a) ≡ t
 unfolding key_cmp
-least_le a b e = go (slice_cmp nat_cmp a b) refl
+not_less P t a b equal less e = go (slice_cmp nat_cmp a b) refl
   where
-    go : (o : Ordering) → slice_cmp nat_cmp a b ≡ o → is_le (slice_cmp nat_cmp b a) ≡ true
+    go : (o : Ordering) → slice_cmp nat_cmp a b ≡ o → P (slice_cmp nat_cmp b a) ≡ t
     go Less s = absurd (true≢false (sym (ap is_lt s) ∙ e))
-    go Equal s = ap is_le (nat_list_cmp_total.antisymm b a ∙ ap ordering_reverse s)
-    go Greater s = ap is_le (nat_list_cmp_total.antisymm b a ∙ ap ordering_reverse s)
+    go Equal s = ap P (nat_list_cmp_total.antisymm b a ∙ ap ordering_reverse s) ∙ equal
+    go Greater s = ap P (nat_list_cmp_total.antisymm b a ∙ ap ordering_reverse s) ∙ less
+
+pub least_le : (a b : List ℕ) → is_lt (key_cmp a b) ≡ false → is_le (key_cmp b a) ≡ true
+least_le a b e = not_less is_le true a b refl refl e
 
 pub greater_least : (o : Ordering) → o ≡ Greater → is_lt o ≡ false
 greater_least o e = ap is_lt e
 
 -- what is not below a key, the key is not above
 pub least_most : (a b : List ℕ) → is_lt (key_cmp a b) ≡ false → is_gt (key_cmp b a) ≡ false
-unfolding key_cmp
-least_most a b e = go (slice_cmp nat_cmp a b) refl
-  where
-    go : (o : Ordering) → slice_cmp nat_cmp a b ≡ o → is_gt (slice_cmp nat_cmp b a) ≡ false
-    go Less s = absurd (true≢false (sym (ap is_lt s) ∙ e))
-    go Equal s = ap is_gt (nat_list_cmp_total.antisymm b a ∙ ap ordering_reverse s)
-    go Greater s = ap is_gt (nat_list_cmp_total.antisymm b a ∙ ap ordering_reverse s)
+least_most a b e = not_less is_gt false a b refl refl e
