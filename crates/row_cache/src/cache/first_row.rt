@@ -1,7 +1,8 @@
 // The bytes of the first row of an empty cache, in its segment.
 use super::RowCache;
 use crate::Put;
-use crate::tests::{cache_of, go_on, put, put_greatest};
+use crate::tests::moved::fill;
+use crate::tests::trial::Trial;
 use std::test::Fail;
 
 // The descriptor, the header, the key `a`, the value `abc`, and zeros up to the size.
@@ -21,11 +22,10 @@ fn begins_with(cache: &RowCache, bytes: &[u8]) -> bool {
 
 #[test]
 fn the_first_row_has_48_bytes(rt: HostRuntime) -> Result<(), Fail> {
-    let mut cache = cache_of(rt.alloc(), 64)?;
-    assert_eq!(rt; put(&mut cache, 64, b"a", b"abc", 1), Some(Put::Stored));
-    assert!(rt; content_of(&cache, b"a") == Some(&OBJECT[8..]));
-    assert_eq!(rt; put_greatest(rt.alloc(), &mut cache, 0, 10)?, 10);
-    assert!(rt; go_on(&mut cache));
-    assert!(rt; begins_with(&cache, &OBJECT));
+    let mut trial = Trial::new(rt.alloc(), 11)?;
+    assert_eq!(rt; trial.put(b"a", b"abc", 1), Some(Put::Stored));
+    assert!(rt; content_of(trial.cache(), b"a") == Some(&OBJECT[8..]));
+    assert!(rt; fill(rt.alloc(), &mut trial, 0)?);
+    assert!(rt; begins_with(trial.cache(), &OBJECT));
     Ok(())
 }

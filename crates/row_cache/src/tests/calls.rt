@@ -1,0 +1,159 @@
+//! The replies of a row cache are those of a list of rows, through calls that are drawn at random.
+use super::list::List;
+use super::trial::Trial;
+use crate::Compacted;
+use rand_core::utils::NextWord;
+use rand_pcg::Lcg64Xsh32;
+use std::alloc::{AllocError, Global};
+use std::test::Fail;
+
+/// For how many rows there is room, of the 200 keys that are drawn.
+const ROWS: u32 = 150;
+
+/// The room of five keys.
+const ROOM: usize = 1290;
+
+#[derive(Drop)]
+struct Both {
+    trial: Trial,
+    list: List,
+    /// How often another segment was begun. Each but the first three was freed by compaction.
+    begun: u32,
+}
+
+/// One of 200 keys, of which each begins many others.
+fn key_of(alloc: Global, draw: u32) -> Result<Vec<u8>, AllocError> {
+    let mut key = Vec::from_elem(alloc, 0xfe, draw as usize % 20 + 1)?;
+    let tail = draw / 20 % 10;
+    if tail > 0 {
+        key.push(tail as u8 * 25)?;
+    }
+    Ok(key)
+}
+
+/// The length of a value: one of eight is any length, and the others are short.
+fn length_of(draw: u32) -> usize {
+    if draw % 8 == 0 {
+        draw as usize / 8 % 12_001
+    } else {
+        draw as usize / 8 % 400
+    }
+}
+
+impl Both {
+    fn new(alloc: Global) -> Result<Both, AllocError> {
+        Ok(Both {
+            trial: Trial::new(alloc, ROWS)?,
+            list: List::new(alloc),
+            begun: 0,
+        })
+    }
+
+    /// Begins another segment or frees one, and else evicts a row.
+    fn make_room(&mut self) -> bool {
+        if self.trial.go_on() {
+            self.begun = self.begun.wrapping_add(1);
+            return true;
+        }
+        if self.trial.free().0 < 2 && self.trial.compact() == Some(Compacted::Freed) {
+            return true;
+        }
+        self.evict()
+    }
+
+    fn evict(&mut self) -> bool {
+        self.trial.evict_last() == self.list.evict_last()
+    }
+
+    fn put(
+        &mut self,
+        alloc: Global,
+        key: &[u8],
+        value: &[u8],
+        number: u32,
+    ) -> Result<bool, AllocError> {
+        for _ in 0..ROWS {
+            if let Some(put) = self.trial.put(key, value, number) {
+                return Ok(put == self.list.put(alloc, key, value, number)?);
+            }
+            if !self.make_room() {
+                return Ok(false);
+            }
+        }
+        Ok(false)
+    }
+
+    fn get(&mut self, key: &[u8]) -> bool {
+        self.trial.gets(key, self.list.get(key))
+    }
+
+    fn find(&self, key: &[u8]) -> bool {
+        self.trial.value_of(key) == self.list.find(key)
+    }
+
+    fn erase(&mut self, key: &[u8]) -> bool {
+        self.trial.erase(key) == self.list.erase(key)
+    }
+
+    fn compact(&mut self) -> bool {
+        self.trial.compact().is_some()
+    }
+
+    fn scan(&self, alloc: Global, lo: &[u8], count: u32) -> Result<bool, AllocError> {
+        let mut into = [0u8; ROOM];
+        let (keys, bytes) = self.list.scan(alloc, lo, count)?;
+        let Some(scanned) = self.trial.scan(lo, count, &mut into) else {
+            return Ok(false);
+        };
+        Ok(scanned.keys == keys && into.get(..scanned.bytes as usize) == Some(bytes.as_slice()))
+    }
+
+    fn are_alike(&self) -> bool {
+        let (rows, live) = self.trial.size();
+        rows as usize == self.list.len() && live == self.list.live()
+    }
+}
+
+/// One call, drawn at random, and whether both reply alike.
+fn one_call(
+    alloc: Global,
+    both: &mut Both,
+    random: &mut Lcg64Xsh32,
+    number: u32,
+) -> Result<bool, AllocError> {
+    let draw = random.next_word();
+    let key = key_of(alloc, draw / 16)?;
+    match draw % 16 {
+        0..=6 => {
+            let value = Vec::from_elem(alloc, (number % 251) as u8, length_of(random.next_word()))?;
+            both.put(alloc, &key, &value, number)
+        }
+        7..=9 => Ok(both.get(&key)),
+        10 => Ok(both.find(&key)),
+        11 | 12 => Ok(both.erase(&key)),
+        13 => Ok(both.evict()),
+        14 => Ok(both.compact()),
+        _ => both.scan(alloc, &key, number % 5 + 1),
+    }
+}
+
+#[test]
+fn a_hundred_thousand_replies_are_those_of_a_list(rt: HostRuntime) -> Result<(), Fail> {
+    let mut both = Both::new(rt.alloc())?;
+    let mut random = Lcg64Xsh32::new(11, 1);
+    for number in 0..100_000u32 {
+        assert!(rt;
+            one_call(rt.alloc(), &mut both, &mut random, number)?,
+            "at {number}"
+        );
+        if number % 64 == 0 {
+            assert!(rt; both.are_alike(), "at {number}");
+        }
+    }
+    assert!(rt; both.begun > 100);
+    for _ in 0..ROWS {
+        assert!(rt; both.evict());
+    }
+    assert_eq!(rt; both.trial.size(), (0, 0));
+    Ok(())
+}

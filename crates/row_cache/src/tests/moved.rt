@@ -1,0 +1,82 @@
+//! Rows are read as before where compaction moved them.
+use super::steps::{Step, first_wrong};
+use super::trial::Trial;
+use crate::{Compacted, Put};
+use std::alloc::{AllocError, Global};
+use std::test::Fail;
+
+/// A row of the greatest size, each byte of which is this one.
+fn put_greatest(alloc: Global, trial: &mut Trial, byte: u8) -> Result<bool, AllocError> {
+    let key = Vec::from_elem(alloc, byte, 256)?;
+    let value = Vec::from_elem(alloc, byte, 12_000)?;
+    Ok(trial.put(&key, &value, u32::from(byte)) == Some(Put::Stored))
+}
+
+/// Ten rows of the greatest size, which fill a segment, and whether another one is active then.
+pub(crate) fn fill(alloc: Global, trial: &mut Trial, first: u8) -> Result<bool, AllocError> {
+    for n in 0..10u8 {
+        if !put_greatest(alloc, trial, first.wrapping_add(n))? {
+            return Ok(false);
+        }
+    }
+    Ok(trial.go_on())
+}
+
+/// Whether the row of a byte stands as it was put, or has gone.
+fn stands(alloc: Global, trial: &Trial, byte: u8, went: bool) -> Result<bool, AllocError> {
+    let key = Vec::from_elem(alloc, byte, 256)?;
+    let value = Vec::from_elem(alloc, byte, 12_000)?;
+    let found = trial.value_of(&key);
+    Ok(if went {
+        found.is_none()
+    } else {
+        found == Some(value.as_slice())
+    })
+}
+
+/// Whether the rows of odd bytes below 20 stand, and those of even ones have gone.
+fn odd_rows_stand(alloc: Global, trial: &Trial) -> Result<bool, AllocError> {
+    for byte in 0..20u8 {
+        if !stands(alloc, trial, byte, byte % 2 == 0)? {
+            return Ok(false);
+        }
+    }
+    Ok(true)
+}
+
+fn erase_even(alloc: Global, trial: &mut Trial) -> Result<bool, AllocError> {
+    for half in 0..10u8 {
+        let key = Vec::from_elem(alloc, half * 2, 256)?;
+        if !trial.erase(&key) {
+            return Ok(false);
+        }
+    }
+    Ok(true)
+}
+
+/// Two segments of ten rows each, of which every other one goes.
+fn halve(alloc: Global, trial: &mut Trial) -> Result<bool, AllocError> {
+    Ok(fill(alloc, trial, 0)? && fill(alloc, trial, 10)? && erase_even(alloc, trial)?)
+}
+
+/// Whether the rows that are left stand before and after one of the two segments is freed.
+fn stand_moved(alloc: Global, trial: &mut Trial) -> Result<bool, AllocError> {
+    let steps = [
+        Step::Free(1, 131_072),
+        Step::Compact(Some(Compacted::Freed)),
+        Step::Free(2, 69_592),
+        Step::Size(10, 122_960),
+    ];
+    let stood = odd_rows_stand(alloc, trial)?;
+    let moved = first_wrong(trial, &steps).is_none();
+    Ok(stood && moved && odd_rows_stand(alloc, trial)?)
+}
+
+#[test]
+fn compaction_moves_rows_and_each_is_read_as_before(rt: HostRuntime) -> Result<(), Fail> {
+    let mut trial = Trial::new(rt.alloc(), 20)?;
+    assert!(rt; halve(rt.alloc(), &mut trial)?);
+    assert!(rt; stand_moved(rt.alloc(), &mut trial)?);
+    assert_eq!(rt; trial.evict_last(), Some(1));
+    Ok(())
+}
