@@ -1,5 +1,5 @@
 -- What holds of a cache, where a row comes, goes, or is another.
-use Rattle.std.proofs.Common.{◌≡◌, ℕ, ◌+◌, ◌*◌, ◌^◌, ◌≤◌, List, [], ◌∷◌, map, Option, Some, None, refl, sym, ap, subst, ◌∙◌, arith}
+use Rattle.std.proofs.Common.{◌≡◌, ℕ, ◌+◌, ◌*◌, ◌^◌, ◌<◌, ◌≤◌, List, [], ◌∷◌, map, Option, Some, None, refl, sym, ap, subst, ◌∙◌, arith}
 use Rattle.std.specs.Prelude.{slice_get, slice_set, option_map, IfSome}
 use Rattle.std.proofs.lemmas.List.Sums.{sum_by-cons}
 use Rattle.cache_model.specs.Row.{Row, size, live}
@@ -12,6 +12,8 @@ use Rattle.regions.specs.Stores.{Live}
 use Rattle.regions.specs.declared.place.Place.{Place}
 use Rattle.row_cache.specs.Rows.{row_at, rows_at, Stay}
 use Rattle.row_cache.specs.inside.Tables.{TableState, AreTablesOf, IsListed, IsRowOf, Drops, HoldsARow, PlacesRow, SwapsRow, AddsRow, ReplacesRow, next_number, placed}
+use Rattle.row_cache.specs.declared.cache.storing.NewRow.{NewRow}
+use Rattle.row_cache.specs.inside.NewRows.{IsStored}
 use Rattle.row_cache.specs.inside.Consistent.{IsConsistent, rows_in, rows_with}
 use Rattle.row_cache.proofs.Listed.{map_same, live_without, live_at_most}
 use Rattle.row_cache.proofs.States.{row_is, some_none, other_stays, still_listed, replaced_rows, replaced_others, added_here, added_others}
@@ -54,6 +56,12 @@ bytes_small t r bytes c =
     let most = live_at_most row t.recency 13000 (λ n l. (let h = c.tables.rows n l in subst (λ (x : Row). size x.key x.value ≤ 13000) (sym (row_is (live_at r) t.places n h)) (size_small h.item n h.row h.is_row))) in
     let count = a.count in let few = a.few in let small = a.small in let counted = c.counted in let sizes = c.sizes in
     omega (arith, most, count, few, small, counted, sizes)
+
+-- the bytes of a row more are counted
+pub counts_more : (t : TableState) (r : RegionState) (bytes more : ℕ) (row : NewRow) → IsConsistent t r bytes → IsStored row → more ≡ size row.key.now row.value.now → bytes + more < 2 ^ 64
+counts_more t r bytes more row c is e =
+    let small = bytes_small t r bytes c in let key = is.short_key in let value = is.short_value in
+    omega (arith, small, key, value, e)
 
 -- ---- a row comes
 

@@ -7,14 +7,14 @@ use Rattle.std.specs.List.{last_or, sum}
 use Rattle.std.specs.Prelude.{slice_get, IsSome, option_map}
 use Rattle.cache_model.specs.Row.{Row, live, size}
 use Rattle.cache_model.specs.Legal.{is_of_put}
-use Rattle.row_bytes.specs.Rows.{IsRow, put_in, row_in, value_in}
+use Rattle.row_bytes.specs.Rows.{IsRow, row_in}
 use Rattle.common_lemmas.specs.Lists.{times, delete}
 use Rattle.regions.specs.Segments.{RegionState, SegmentState}
 use Rattle.regions.specs.Counts.{live_total, live_in}
 use Rattle.regions.specs.Contents.{Item, Standing, item_if_live, if_live, live_at, standing_at, standing_in}
 use Rattle.regions.specs.Stores.{Live, store_of, found}
 use Rattle.regions.specs.declared.place.Place.{Place}
-use Rattle.row_cache.specs.Rows.{row_at, rows_at, HoldsValue}
+use Rattle.row_cache.specs.Rows.{row_at, rows_at, StandsAt}
 use Rattle.row_cache.specs.inside.Tables.{TableState, AreTablesOf, IsListed, HasRow, IsLast, place_of}
 use Rattle.row_cache.specs.inside.Consistent.{IsConsistent, rows_in, rows_with}
 use Rattle.row_cache.proofs.Listed.{map_same, live_without, last_row, delete_last}
@@ -38,9 +38,9 @@ standing_live (Some s) i e = (s, refl, live_standing s.live s.item i e)
 pub is_some : {A : Type 0} (o : Option A) (x : A) → o ≡ Some x → IsSome o
 is_some {A} o x e = subst (λ q. IsSome q) (sym e) refl
 
-pub holds_value : (r : RegionState) (places : List Place) (n : ℕ) (h : HasRow (live_at r) places n) (p : Place) → slice_get places n ≡ Some p
-    → HoldsValue r p (row_at (live_at r) places n).value × IsSome (live_at r p)
-holds_value r places n h p there =
+pub row_stands : (r : RegionState) (places : List Place) (n : ℕ) (h : HasRow (live_at r) places n) (p : Place) → slice_get places n ≡ Some p
+    → StandsAt r p (row_at (live_at r) places n) × IsSome (live_at r p)
+row_stands r places n h p there =
     let at : h.place ≡ p = some_same h.placed there in
     let is : live_at r p ≡ Some h.item = sym (ap (live_at r) at) ∙ h.is_live in
     let s = standing_live (standing_at r p) h.item is in (
@@ -48,7 +48,7 @@ holds_value r places n h p there =
         s.0,
         s.1,
         subst (λ (i : Item). IsRow i.content) (sym s.2) (n, h.row, h.is_row.holds),
-        ap (λ (i : Item). value_in i.content) s.2 ∙ (ap (λ (x : Row). x.value) h.is_row.read ∙ sym (ap (λ (x : Row). x.value) (row_is (live_at r) places n h))),
+        ap (λ (i : Item). row_in i.content) s.2 ∙ (h.is_row.read ∙ sym (row_is (live_at r) places n h)),
       ),
       is_some (live_at r p) h.item is,
     )
@@ -91,11 +91,8 @@ consistent_touched t r bytes n c tables listed =
 same_put : (row : Row) (put : ℕ) → put ≡ row.number → is_of_put put (Some row) ≡ true
 same_put row put e = elim (eqb_tells row.number put) [ inl h ↦ h.0 | inr h ↦ absurd (h.1 (sym e)) ]
 
-pub last_put : (t : TableState) (r : RegionState) (n : ℕ) (h : HasRow (live_at r) t.places n) (put : ℕ) → IsLast n t.recency → put ≡ put_in h.item.content
-    → is_of_put put (last_or None (rows_in t r)) ≡ true
-last_put t r n h put last is =
-    ap (is_of_put put) (last_row (row_at (live_at r) t.places) n t.recency last)
-    ∙ same_put (row_at (live_at r) t.places n) put (is ∙ (ap (λ (x : Row). x.number) h.is_row.read ∙ sym (ap (λ (x : Row). x.number) (row_is (live_at r) t.places n h))))
+pub last_put : (t : TableState) (r : RegionState) (n : ℕ) (put : ℕ) → IsLast n t.recency → put ≡ (row_at (live_at r) t.places n).number → is_of_put put (last_or None (rows_in t r)) ≡ true
+last_put t r n put last is = ap (is_of_put put) (last_row (row_at (live_at r) t.places) n t.recency last) ∙ same_put (row_at (live_at r) t.places n) put is
 
 pub rows_before_last : (t : TableState) (r : RegionState) (n : ℕ) → AreTablesOf t (live_at r) → IsLast n t.recency
     → rows_with t r (delete n t.recency) ≡ take (length (rows_in t r) - 1) (rows_in t r)

@@ -4,14 +4,15 @@ use Rattle.std.specs.Prelude.{option_map, slice_index}
 use Rattle.std.proofs.lemmas.Bool.Decides.{leb_tells}
 use Rattle.std.proofs.lemmas.List.{get_or-set_same, length-replicate, set_past}
 use Rattle.std.specs.List.{sum}
+use Rattle.cache_model.specs.Row.{Row}
 use Rattle.layout.specs.Sizes.{descriptor, segment}
 use Rattle.regions.specs.Segments.{RegionState}
 use Rattle.regions.specs.Shapes.{active_of}
 use Rattle.regions.specs.Counts.{left, left_of, plus, used_counts}
 use Rattle.regions.specs.Contents.{Item, Standing, ChangesAt, item_if_live, live_at, standing_at, with_bytes, zeros}
 use Rattle.regions.specs.declared.place.Place.{Place}
-use Rattle.row_bytes.specs.Rows.{IsRow, value_in}
-use Rattle.row_cache.specs.Rows.{item_at, Stay, HoldsValue}
+use Rattle.row_bytes.specs.Rows.{IsRow, row_in}
+use Rattle.row_cache.specs.Rows.{item_at, Stay, StandsAt}
 use Rattle.row_cache.specs.inside.Tables.{Adds}
 use Rattle.row_cache.proofs.States.{some_none, place_cases}
 
@@ -67,7 +68,7 @@ standing_of : (o : Option Standing) (i : Item) → option_map (λ (x : Standing)
 standing_of None i e = absurd (let clash : None ≡ Some i = e in cc)
 standing_of (Some t) i e = (t, refl, (let same : Some t.item ≡ Some i = e in cc))
 
-pub value_stays : (r s : RegionState) (p : Place) (value : List ℕ) → Stay r s → HoldsValue r p value → HoldsValue s p value
-value_stays r s p value stay holds =
-    let t = standing_of (standing_at s p) holds.0.item (stay p holds.0.item (ap (option_map (λ (x : Standing). x.item)) holds.1)) in
-    (t.0, t.1, subst (λ (i : Item). IsRow i.content) (sym t.2) holds.2, ap (λ (i : Item). value_in i.content) t.2 ∙ holds.3)
+pub row_stays_at : (r s : RegionState) (p : Place) (row : Row) → Stay r s → StandsAt r p row → StandsAt s p row
+row_stays_at r s p row stay here =
+    let t = standing_of (standing_at s p) here.0.item (stay p here.0.item (ap (option_map (λ (x : Standing). x.item)) here.1)) in
+    (t.0, t.1, subst (λ (i : Item). IsRow i.content) (sym t.2) here.2, ap (λ (i : Item). row_in i.content) t.2 ∙ here.3)

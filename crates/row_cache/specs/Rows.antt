@@ -4,7 +4,7 @@ use Rattle.cache_model.specs.Row.{Row}
 use Rattle.cache_model.specs.Apply.{Reply, Stored, Replaced}
 use Rattle.row_cache.specs.declared.put.Put.{Put}
 use Rattle.row_cache.specs.declared.put.Put.TheVariants as puts
-use Rattle.row_bytes.specs.Rows.{row_in, value_in, IsRow}
+use Rattle.row_bytes.specs.Rows.{row_in, IsRow}
 use Rattle.regions.specs.Segments.{RegionState}
 use Rattle.regions.specs.Contents.{Item, Standing, standing_at, live_at}
 use Rattle.regions.specs.Stores.{Live}
@@ -54,6 +54,6 @@ abbrev pub reply_of : Put → Reply
 reply_of puts.Stored = Stored
 reply_of puts.Replaced = Replaced
 
--- a row with that value stands at the place, live or dead
-abbrev pub HoldsValue : RegionState → Place → List ℕ → Type 0
-HoldsValue r p value = (s : Standing) × (standing_at r p ≡ Some s) × IsRow s.item.content × (value_in s.item.content ≡ value)
+-- the row stands at the place, live or dead
+abbrev pub StandsAt : RegionState → Place → Row → Type 0
+StandsAt r p row = (s : Standing) × (standing_at r p ≡ Some s) × IsRow s.item.content × (row_in s.item.content ≡ row)

@@ -19,7 +19,6 @@ mod storing;
 use crate::put::Put;
 use crate::tables::Tables;
 use regions::{NeedSegment, Region};
-use row_bytes::{key_in, put_in};
 use std::alloc::{AllocError, Global};
 use std::marker::Model;
 use storing::{NewRow, drop_row, put_row};
@@ -118,11 +117,8 @@ impl RowCache {
         ensures stay { Stay self.old.region self.new.region }
     {
         let row = self.tables.last()?;
-        let content = self.region.bytes(self.tables.place(row));
-        let put = put_in(content);
-        let Ok(found) = self.tables.search(&self.region, key_in(content)) else {
-            unreachable!()
-        };
+        let put = self.tables.put_of(&self.region, row);
+        let found = self.tables.find(&self.region, row);
         drop_row(&mut self.region, &mut self.tables, &mut self.live, found);
         Some(put)
     }

@@ -1,3 +1,9 @@
+ghost use Rattle.std.specs.Prelude.{◌≡◌};
+ghost use Rattle.row_bytes.specs.Rows.{IsRow, row_in};
+ghost use Rattle.regions.specs.Contents.{live_at};
+ghost use Rattle.row_cache.specs.Rows.{row_at};
+ghost use Rattle.row_cache.specs.inside.Tables.{HasRow};
+
 use key_index::Keys;
 use regions::{Place, Region};
 use row_bytes::key_in;
@@ -7,6 +13,15 @@ use row_bytes::key_in;
 pub(crate) struct RowKeys<'a> {
     pub(crate) region: &'a Region,
     pub(crate) places: &'a [Place],
+}
+
+// The content of the row of a number.
+pub(crate) fn content_of<'a>(region: &'a Region, places: &[Place], number: u32) -> &'a [u8]
+    requires { HasRow (live_at region.now) places.now number }
+    ensures row { IsRow result.now }
+    ensures read { row_in result.now ≡ row_at (live_at region.now) places.now number }
+{
+    region.bytes(places[number as usize])
 }
 
 impl<'a> Keys for RowKeys<'a> {
@@ -19,6 +34,6 @@ impl<'a> Keys for RowKeys<'a> {
     ghost key_of = { λ k. key_at (live_at k.region.now) k.places.now };
 
     fn key(&self, row: u32) -> &[u8] {
-        key_in(self.region.bytes(self.places[row as usize]))
+        key_in(content_of(self.region, self.places, row))
     }
 }

@@ -10,16 +10,16 @@ ghost use Rattle.key_index.specs.Order.{TakesOut};
 ghost use Rattle.regions.specs.Contents.{Item, live_at};
 ghost use Rattle.regions.specs.Stores.{Live};
 ghost use Rattle.row_bytes.specs.Rows.{number_in};
-ghost use Rattle.row_cache.specs.Rows.{key_at, rows_at};
+ghost use Rattle.row_cache.specs.Rows.{key_at, row_at, rows_at};
 ghost use Rattle.row_cache.specs.inside.Sought.{IsFound, IsMissing};
 ghost use Rattle.row_cache.specs.inside.Tables as tables;
 
-use crate::row_keys::RowKeys;
+use crate::row_keys::{RowKeys, content_of};
 use cache_model::sorted_keys_are_in_order;
 use index_lists::IndexLists;
 use key_index::{KeyIndex, RowAt, Rows};
 use regions::{Movers, Place, Region};
-use row_bytes::{key_in, number_in};
+use row_bytes::{key_in, number_in, put_in};
 use std::alloc::{AllocError, Global};
 use std::marker::Model;
 
@@ -182,7 +182,28 @@ impl Tables {
         ensures key { result.now ≡ key_at (live_at region.now) self.now.places number }
         ensures lengths { IsKey result.now }
     {
-        key_in(region.bytes(self.place(number)))
+        key_in(content_of(region, &self.places, number))
+    }
+
+    // The number of the put that stored a row.
+    pub(crate) fn put_of(&self, region: &Region, number: u32) -> u32
+        requires { tables.HasRow (live_at region.now) self.now.places number }
+        ensures { result ≡ (row_at (live_at region.now) self.now.places number).number }
+    {
+        put_in(content_of(region, &self.places, number))
+    }
+
+    // Where the index has a row.
+    pub(crate) fn find(&self, region: &Region, number: u32) -> RowAt
+        requires tables { tables.AreTablesOf self.now (live_at region.now) }
+        requires listed { tables.IsListed self.now number }
+        ensures at { IsRowAt self.now.index result.place result.row }
+        ensures row { result.row ≡ number }
+    {
+        let Ok(found) = self.search(region, self.key(region, number)) else {
+            unreachable!()
+        };
+        found
     }
 
     fn keys<'a>(&'a self, region: &'a Region) -> RowKeys<'a>

@@ -3,7 +3,7 @@ ghost use Rattle.std.specs.Prelude.{◌≡◌, Some, None, IsSome, MatchOption};
 ghost use Rattle.cache_model.specs.Row.{Row};
 ghost use Rattle.cache_model.specs.Apply as apply;
 ghost use Rattle.regions.specs.Contents.{live_at};
-ghost use Rattle.row_cache.specs.Rows.{rows_of, HoldsValue};
+ghost use Rattle.row_cache.specs.Rows.{rows_of, StandsAt};
 
 use super::RowCache;
 use regions::Place;
@@ -23,7 +23,7 @@ impl RowCache {
 
     // Makes the row of a key the one used last, and tells where it stands.
     fn use_row(&mut self, key: &[u8]) -> Option<Place>
-        ensures found { MatchOption result (apply.row_of key.now (rows_of self.old) ≡ None) (λ place. (row : Row) × (apply.row_of key.now (rows_of self.old) ≡ Some row) × HoldsValue self.new.region place row.value × IsSome (live_at self.new.region place)) }
+        ensures found { MatchOption result (apply.row_of key.now (rows_of self.old) ≡ None) (λ place. (row : Row) × (apply.row_of key.now (rows_of self.old) ≡ Some row) × StandsAt self.new.region place row × IsSome (live_at self.new.region place)) }
         ensures rows { rows_of self.new ≡ (apply.get key.now (rows_of self.old)).0 }
         ensures room { self.new.room ≡ self.old.room }
         ensures region { self.new.region ≡ self.old.region }

@@ -5,7 +5,7 @@ ghost use Rattle.cache_model.specs.Apply as apply;
 ghost use Rattle.regions.specs.Shapes.{guards_of, free_count};
 ghost use Rattle.regions.specs.Counts.{left, live_total};
 ghost use Rattle.regions.specs.Contents.{live_at};
-ghost use Rattle.row_cache.specs.Rows.{rows_of, HoldsValue};
+ghost use Rattle.row_cache.specs.Rows.{rows_of, StandsAt};
 
 use super::RowCache;
 use regions::Place;
@@ -45,7 +45,7 @@ impl RowCache {
 
     /// Where the row of a key stands. None where no row has the key.
     pub fn place_of(&self, key: &[u8]) -> Option<Place>
-        ensures { MatchOption result (apply.row_of key.now (rows_of self.now) ≡ None) (λ place. (row : Row) × (apply.row_of key.now (rows_of self.now) ≡ Some row) × HoldsValue self.now.region place row.value × IsSome (live_at self.now.region place)) }
+        ensures { MatchOption result (apply.row_of key.now (rows_of self.now) ≡ None) (λ place. (row : Row) × (apply.row_of key.now (rows_of self.now) ≡ Some row) × StandsAt self.now.region place row × IsSome (live_at self.now.region place)) }
     {
         let Ok(found) = self.tables.search(&self.region, key) else {
             return None;
@@ -55,9 +55,9 @@ impl RowCache {
 
     /// The value of the row at a place, live, or dead under a guard.
     pub fn value_at(&self, place: Place) -> &[u8]
-        requires row { (value : List ℕ) × HoldsValue self.now.region place value }
+        requires row { (row : Row) × StandsAt self.now.region place row }
         requires live { IsSome (live_at self.now.region place) ⊎ (1 ≤ guards_of self.now.region) }
-        ensures { HoldsValue self.now.region place result.now }
+        ensures { (row : Row) × StandsAt self.now.region place row × (result.now ≡ row.value) }
     {
         value_in(self.region.bytes(place))
     }

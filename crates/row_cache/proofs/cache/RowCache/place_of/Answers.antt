@@ -1,9 +1,9 @@
 use Rattle.std.proofs.Common.{◌≡◌, Some, None, subst}
 use Rattle.cache_model.specs.Apply as apply
 use Rattle.regions.specs.Contents.{live_at}
-use Rattle.row_cache.specs.Rows.{CacheState, rows_of, row_at, HoldsValue}
+use Rattle.row_cache.specs.Rows.{CacheState, rows_of, row_at, StandsAt}
 use Rattle.std.specs.Prelude.{IsSome}
-use Rattle.row_cache.proofs.Looked.{holds_value}
+use Rattle.row_cache.proofs.Looked.{row_stands}
 use Rattle.row_cache.proofs.cache.RowCache.place_of.Goals as goal
 
 pub returns-in_default : goal.returns-in_default
@@ -13,9 +13,9 @@ pub returns : goal.returns
 returns c =
     let t = c.self.inside.tables in let r = c.self.inside.region in let n = c.in-Ok.found.row in
     let row = row_at (live_at r) t.places n in
-    let v = holds_value r t.places n (c.self.invariant.tables.rows n c.in-Ok.ensures.listed) c.place.result c.place.ensures in (
+    let v = row_stands r t.places n (c.self.invariant.tables.rows n c.in-Ok.ensures.listed) c.place.result c.place.ensures in (
       row,
       subst (λ (x : CacheState). apply.row_of c.args.key.now (rows_of x) ≡ Some row) c.self.view_is c.in-Ok.ensures.row,
-      subst (λ (x : CacheState). HoldsValue x.region c.place.result row.value) c.self.view_is v.0,
+      subst (λ (x : CacheState). StandsAt x.region c.place.result row) c.self.view_is v.0,
       subst (λ (x : CacheState). IsSome (live_at x.region c.place.result)) c.self.view_is v.1,
     )

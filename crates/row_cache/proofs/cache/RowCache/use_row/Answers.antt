@@ -6,7 +6,7 @@ use Rattle.regions.specs.Contents.{live_at}
 use Rattle.row_cache.specs.Rows.{CacheState, rows_of, row_at}
 use Rattle.row_cache.specs.inside.Tables.{TableState, AreTablesOf}
 use Rattle.row_cache.specs.inside.Consistent.{IsConsistent, rows_in}
-use Rattle.row_cache.proofs.Looked.{holds_value, consistent_touched}
+use Rattle.row_cache.proofs.Looked.{row_stands, consistent_touched}
 use Rattle.row_cache.proofs.cache.RowCache.use_row.Goals as goal
 
 pub returns-in_default-clause-found : goal.returns-in_default-clause-found
@@ -28,7 +28,7 @@ pub returns-clause-found : goal.returns-clause-found
 returns-clause-found c =
     let t = c.self.inside.tables in let r = c.self.inside.region in let n = c.in-Ok.found.row in
     let row = row_at (live_at r) t.places n in
-    let v = holds_value r t.places n (c.self.invariant.tables.rows n c.in-Ok.ensures.listed) c.place.result (sym (ap (λ (x : TableState). slice_get x.places n) c.touch.ensures.state) ∙ c.place.ensures) in
+    let v = row_stands r t.places n (c.self.invariant.tables.rows n c.in-Ok.ensures.listed) c.place.result (sym (ap (λ (x : TableState). slice_get x.places n) c.touch.ensures.state) ∙ c.place.ensures) in
     (row, subst (λ (x : CacheState). apply.row_of c.args.key.now (rows_of x) ≡ Some row) c.self.view_is c.in-Ok.ensures.row, v.0, v.1)
 
 pub returns-clause-rows : goal.returns-clause-rows

@@ -7,7 +7,7 @@ use Rattle.regions.specs.declared.place.Place.{Place}
 use Rattle.row_cache.specs.Rows.{key_at}
 use Rattle.row_cache.specs.inside.Tables.{TableState, AreTablesOf, SwapsRow, ReplacesRow}
 use Rattle.row_cache.specs.inside.NewRows.{row_of}
-use Rattle.row_cache.proofs.Caches.{of_some, bytes_small, rows_replaced, consistent_replaced}
+use Rattle.row_cache.proofs.Caches.{of_some, counts_more, rows_replaced, consistent_replaced}
 use Rattle.row_cache.proofs.States.{some_same}
 use Rattle.row_cache.proofs.cache.storing.replace_row.Goals as goal
 
@@ -21,9 +21,7 @@ swap_row-requires-clause-old c =
 
 pub overflow_add-live : goal.overflow_add-live
 overflow_add-live c =
-    let small = bytes_small c.args.tables.now c.args.region.now c.args.live.now c.requires.consistent in
-    let key = c.requires.row.short_key in let value = c.requires.row.short_value in let whole = c.row_size.ensures in let from = c.from.ensures in
-    omega (arith, small, key, value, whole, from)
+    let less = counts_more c.args.tables.now c.args.region.now c.args.live.now c.from.result c.args.row c.requires.consistent c.requires.row (c.from.ensures ∙ c.row_size.ensures) in omega (arith, less)
 
 pub returns-clause-rows : goal.returns-clause-rows
 returns-clause-rows c =

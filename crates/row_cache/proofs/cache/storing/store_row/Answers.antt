@@ -1,16 +1,14 @@
-use Rattle.std.proofs.Common.{◌+◌, subst, arith}
+use Rattle.std.proofs.Common.{◌+◌, subst, ◌∙◌, arith}
 use Rattle.cache_model.specs.Row.{Row}
 use Rattle.regions.specs.Contents.{live_at}
 use Rattle.row_cache.specs.inside.Tables.{AddsRow, IsRowOf}
 use Rattle.row_cache.specs.inside.NewRows.{row_of}
-use Rattle.row_cache.proofs.Caches.{bytes_small, rows_added, consistent_added}
+use Rattle.row_cache.proofs.Caches.{counts_more, rows_added, consistent_added}
 use Rattle.row_cache.proofs.cache.storing.store_row.Goals as goal
 
 pub overflow_add-live : goal.overflow_add-live
 overflow_add-live c =
-    let small = bytes_small c.args.tables.now c.args.region.now c.args.live.now c.requires.consistent in
-    let key = c.requires.row.short_key in let value = c.requires.row.short_value in let whole = c.row_size.ensures in let from = c.from.ensures in
-    omega (arith, small, key, value, whole, from)
+    let less = counts_more c.args.tables.now c.args.region.now c.args.live.now c.from.result c.args.row c.requires.consistent c.requires.row (c.from.ensures ∙ c.row_size.ensures) in omega (arith, less)
 
 pub returns-clause-rows : goal.returns-clause-rows
 returns-clause-rows c =

@@ -16,35 +16,21 @@ use Rattle.row_cache.proofs.tables.Tables.insert.Goals as goal
 pub give_number-number-requires-clause-given : goal.give_number-number-requires-clause-given
 give_number-number-requires-clause-given c = let t : tables.TableState = the_view c.self.inside in all_freed_below t c.self.invariant.0
 
-pub insert_at-requires-clause-index : goal.insert_at-requires-clause-index
-insert_at-requires-clause-index c =
-    let t : tables.TableState = the_view c.self.inside in let live : Live = live_at c.args.region.now in
+pub insert_at-requires : goal.insert_at-requires
+insert_at-requires c =
+    let t : tables.TableState = the_view c.self.inside in let live : Live = live_at c.args.region.now in let g = c.give_number-number in
+    let ps : List Place = tables.placed (tables.next_number t) c.args.place t.places in
     let row = c.requires.tables.0 in let old = c.requires.tables.1 in
     let r : tables.AddsRow t c.args.at c.args.place row old live = subst (λ s. tables.AddsRow s c.args.at c.args.place row old live) (sym c.self.view_is) c.requires.tables.2 in
-    let all : c.as_slice.result.now ≡ tables.placed (tables.next_number t) c.args.place t.places =
-    c.as_slice.ensures.value ∙ (c.give_number-number.ensures.places ∙ ap (λ n. tables.placed n c.args.place t.places) c.give_number-number.ensures.number) in
-    subst (λ (ps : List Place). IsIndexOf (tables.HasRow live ps) (key_at live ps) t.index) (sym all) (added_index t c.args.at c.args.place row old live r c.law.ensures.moved)
-
-pub insert_at-requires-clause-readable : goal.insert_at-requires-clause-readable
-insert_at-requires-clause-readable c =
-    let t : tables.TableState = the_view c.self.inside in let live : Live = live_at c.args.region.now in
-    let row = c.requires.tables.0 in let old = c.requires.tables.1 in
-    let r : tables.AddsRow t c.args.at c.args.place row old live = subst (λ s. tables.AddsRow s c.args.at c.args.place row old live) (sym c.self.view_is) c.requires.tables.2 in
-    let all : c.as_slice.result.now ≡ tables.placed (tables.next_number t) c.args.place t.places =
-    c.as_slice.ensures.value ∙ (c.give_number-number.ensures.places ∙ ap (λ n. tables.placed n c.args.place t.places) c.give_number-number.ensures.number) in
-    subst (λ (ps : List Place). tables.HasRow live ps c.give_number-number.result) (sym all)
-    (subst (λ n. tables.HasRow live (tables.placed (tables.next_number t) c.args.place t.places) n) (sym c.give_number-number.ensures.number) (added_here t c.args.at c.args.place row old live r).0)
-
-pub insert_at-requires-clause-place : goal.insert_at-requires-clause-place
-insert_at-requires-clause-place c =
-    let t : tables.TableState = the_view c.self.inside in let live : Live = live_at c.args.region.now in
-    let row = c.requires.tables.0 in let old = c.requires.tables.1 in
-    let r : tables.AddsRow t c.args.at c.args.place row old live = subst (λ s. tables.AddsRow s c.args.at c.args.place row old live) (sym c.self.view_is) c.requires.tables.2 in
-    let all : c.as_slice.result.now ≡ tables.placed (tables.next_number t) c.args.place t.places =
-    c.as_slice.ensures.value ∙ (c.give_number-number.ensures.places ∙ ap (λ n. tables.placed n c.args.place t.places) c.give_number-number.ensures.number) in
-    subst (λ (ps : List Place). IsPlaceFor (key_at live ps) (key_at live ps c.give_number-number.result) t.index c.args.at) (sym all)
-    (subst (λ n. (let ps : List Place = tables.placed (tables.next_number t) c.args.place t.places in IsPlaceFor (key_at live ps) (key_at live ps n) t.index c.args.at)) (sym c.give_number-number.ensures.number)
-    (added_place t c.args.at c.args.place row old live r c.law.ensures.place))
+    let all : c.as_slice.result.now ≡ ps = c.as_slice.ensures.value ∙ (g.ensures.places ∙ ap (λ n. tables.placed n c.args.place t.places) g.ensures.number) in
+    record {
+      index = subst (λ (qs : List Place). IsIndexOf (tables.HasRow live qs) (key_at live qs) t.index) (sym all) (added_index t c.args.at c.args.place row old live r c.law.ensures.moved);
+      readable = subst (λ (qs : List Place). tables.HasRow live qs g.result) (sym all) (subst (λ n. tables.HasRow live ps n) (sym g.ensures.number) (added_here t c.args.at c.args.place row old live r).0);
+      place = subst (λ (qs : List Place). IsPlaceFor (key_at live qs) (key_at live qs g.result) t.index c.args.at) (sym all)
+          (subst (λ n. IsPlaceFor (key_at live ps) (key_at live ps n) t.index c.args.at) (sym g.ensures.number) (added_place t c.args.at c.args.place row old live r c.law.ensures.place));
+      room = (let a = c.self.invariant.0 in let count = a.index_count in let same = a.room in
+          let less = subst (λ (s : tables.TableState). length s.recency < s.room) (sym c.self.view_is) c.requires.room in omega (arith, count, same, less));
+    }
 
 pub push_front-requires-clause-index : goal.push_front-requires-clause-index
 push_front-requires-clause-index c =
