@@ -2,15 +2,32 @@
 use Rattle.std.proofs.Common.{◌≡◌, ℕ, ◌+◌, ◌<◌, ◌≤◌, Bool, true, false, cond, eqb, List, [], ◌∷◌, length, take, drop, map, Option, Some, None, arith, refl, ap}
 use Rattle.std.specs.List.{position, position_or_len, slice_split}
 use Rattle.std.proofs.lemmas.List.Splits.{slice_split_none, slice_split_first}
-use Rattle.std.proofs.lemmas.List.Sums.{fails_before_first}
+use Rattle.std.proofs.lemmas.List.Sums.{fails_before_first, position_or_len_is}
+use Rattle.std.proofs.lemmas.Bool.{lt-ltb, le-ltb}
 use Rattle.std.proofs.lemmas.Option.{cond_some}
 use borrow.Author.Tests.{ltb-true, ltb-false}
+use Rattle.memchr.specs.Find.{IsFirstByte}
 use Rattle.trace_text.specs.Line.{cut_where, cut_at}
 use Rattle.trace_text.specs.Reading.{lines, command_lines, strip_cr}
 
 some_not : {A : Type 0} (b : Bool) (x : A) → cond b (Some x) None ≡ None → b ≡ false
 some_not true x e = cc
 some_not false x e = refl
+
+not_so : (b : Bool) → ¬ (b ≡ true) → b ≡ false
+not_so true other = absurd (other refl)
+not_so false other = refl
+
+-- where a search for the first byte that passes ends
+pub first_byte_position : (p : ℕ → Bool) (xs : List ℕ) (r : Option ℕ) → IsFirstByte p xs r → r ≡ position p xs
+first_byte_position p xs None nowhere =
+    let all : position_or_len p xs ≡ length xs = position_or_len_is p xs (length xs) 0 (omega arith)
+    (λ k below. not_so _ (nowhere k (omega arith) below)) (λ below. absurd (omega arith)) in
+    rw (all, le-ltb (length xs) (length xs) (omega arith)) refl
+first_byte_position p xs (Some i) (first, passes) =
+    let here : position_or_len p xs ≡ i = position_or_len_is p xs i 0 (omega (arith, first.high))
+    (λ k below. not_so _ (first.before k (omega arith) below)) (λ below. passes) in
+    rw (here, lt-ltb i (length xs) first.high) refl
 
 -- a text with no such element is one part
 split_none : (p : ℕ → Bool) (xs : List ℕ) → position p xs ≡ None → slice_split p xs ≡ xs ∷ []

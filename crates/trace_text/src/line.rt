@@ -1,16 +1,17 @@
 //! One line of a trace.
-ghost use Rattle.std.specs.Prelude.{◌≡◌, ◌⊎◌, ◌==◌, ◌&&◌, nat_le, nat_lt, decimal, position, None, Some, IfSome, IfOk, IfErr};
+ghost use Rattle.std.specs.Prelude.{◌≡◌, ◌⊎◌, ◌==◌, ◌<◌, ◌&&◌, nat_le, nat_lt, length, decimal, position, None, Some, IfSome, IfOk, IfErr};
 ghost use Rattle.std.specs.List.{list_all};
 ghost use Rattle.std.specs.Option.{option_map};
 ghost use Rattle.std.specs.Str.{bytes_eq};
 ghost use Rattle.layout.specs.Sizes.{most_keys};
-ghost use Rattle.trace_text.specs.Line.{is_passed, cut_at, is_key_byte, is_value_byte, key_fault, value_fault, kind_of, count_of, from_key, fields_of};
+ghost use Rattle.trace_text.specs.Line.{is_passed, cut_at, cut_where, is_key_byte, is_value_byte, key_fault, value_fault, kind_of, count_of, from_key, fields_of};
 ghost use Rattle.trace_text.specs.inside.Found.{digits_in, reading_of, IsRestOf, LieIn};
 
 use crate::command::Kind;
 use crate::refusal::Cause;
 use itoa::Buffer;
 use layout::{GREATEST_KEY, GREATEST_VALUE, MOST_KEYS};
+use memchr::memchr;
 
 /// What a line asks, and where its key and its value stand in it.
 #[derive(Clone, Copy)]
@@ -33,33 +34,65 @@ pub fn is_passed(line: &[u8]) -> bool
     }
 }
 
+// The words and keys of a line are short, and its end may be far.
 fn position_of(text: &[u8], byte: u8) -> Option<usize>
     ensures { result ≡ position (λ b. b == byte) text.now }
 {
     text.iter().position(|b| *b == byte)
 }
 
-/// A text cut at the first such byte: what stands before it, and what stands behind it.
-pub fn cut(text: &[u8], byte: u8) -> (&[u8], Option<&[u8]>)
-    ensures parts { (result.0.now, option_map (λ behind. behind.now) result.1) ≡ cut_at byte text.now }
+fn position_of_lf(text: &[u8]) -> Option<usize>
+    ensures { result ≡ position (λ b. b == 10) text.now }
+{
+    memchr(b'\n', text)
+}
+
+fn cut_where(text: &[u8], at: Option<usize>) -> (&[u8], Option<&[u8]>)
+    requires { IfSome at (λ i. i < length text.now) }
+    ensures parts { (result.0.now, option_map (λ behind. behind.now) result.1) ≡ cut_where at text.now }
     ensures rest { IfSome result.1 (λ behind. IsRestOf text.now behind.now) }
 {
-    match position_of(text, byte) {
+    match at {
         None => (text, None),
         Some(at) => (&text[..at], Some(&text[at + 1..])),
     }
 }
 
+/// A text cut at the first such byte: what stands before it, and what stands behind it.
+fn cut(text: &[u8], byte: u8) -> (&[u8], Option<&[u8]>)
+    ensures parts { (result.0.now, option_map (λ behind. behind.now) result.1) ≡ cut_at byte text.now }
+    ensures rest { IfSome result.1 (λ behind. IsRestOf text.now behind.now) }
+{
+    cut_where(text, position_of(text, byte))
+}
+
+/// A text cut at the first LF.
+pub fn cut_at_lf(text: &[u8]) -> (&[u8], Option<&[u8]>)
+    ensures parts { (result.0.now, option_map (λ behind. behind.now) result.1) ≡ cut_at 10 text.now }
+    ensures rest { IfSome result.1 (λ behind. IsRestOf text.now behind.now) }
+{
+    cut_where(text, position_of_lf(text))
+}
+
+// No early exit in this loop and the next, so that each tests many bytes at a time.
 fn are_key_bytes(key: &[u8]) -> bool
     ensures { result ≡ list_all is_key_byte key.now }
 {
-    key.iter().all(|b| *b > 32 && *b != 127)
+    let mut are = true;
+    for b in key {
+        are &= (*b > 32) & (*b != 127);
+    }
+    are
 }
 
 fn are_value_bytes(value: &[u8]) -> bool
     ensures { result ≡ list_all is_value_byte value.now }
 {
-    value.iter().all(|b| *b > 31 && *b != 127)
+    let mut are = true;
+    for b in value {
+        are &= (*b > 31) & (*b != 127);
+    }
+    are
 }
 
 /// What is wrong with a key.

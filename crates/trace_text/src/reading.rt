@@ -6,7 +6,7 @@ ghost use Rattle.trace_text.specs.Parts.{most_shards};
 ghost use Rattle.trace_text.specs.Reading.{AtLine, is_cr, line_reading, lines, most_bytes, most_commands, most_replies, operations_of, command_lines, trace_of, strip_cr, IsRefusedAs};
 
 use crate::command::{Command, Span};
-use crate::line::{cut, fields_of, is_passed};
+use crate::line::{cut_at_lf, fields_of, is_passed};
 use crate::parts::replies_room;
 use crate::refusal::{Cause, ParseRefusal};
 use crate::trace::Trace;
@@ -49,7 +49,7 @@ fn cut_line(text: &[u8]) -> (&[u8], &[u8])
     ensures progress { 0 < length text.now → length result.1.now < length text.now }
     ensures lines { (line : ℕ) → command_lines line (lines text.now) ≡ command_lines line (result.0.now ∷ lines result.1.now) }
 {
-    match cut(text, b'\n') {
+    match cut_at_lf(text) {
         (line, None) => (strip_cr(line), &[]),
         (line, Some(after)) => (strip_cr(line), after),
     }

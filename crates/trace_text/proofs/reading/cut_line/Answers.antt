@@ -4,9 +4,9 @@ use Rattle.trace_text.proofs.reading.cut_line.Goals as goal
 
 pub returns-in_default-None-clause-lines : goal.returns-in_default-None-clause-lines
 returns-in_default-None-clause-lines c line =
-    rw c.strip_cr.ensures.line (rw (← c.cut.ensures.parts, c.in_default-None.is-1) at (cut_lines line c.args.text.now))
+    rw c.strip_cr.ensures.line (rw (← c.cut_at_lf.ensures.parts, c.in_default-None.is-1) at (cut_lines line c.args.text.now))
 
 pub returns-in_default-Some-clause-lines : goal.returns-in_default-Some-clause-lines
 returns-in_default-Some-clause-lines c line =
     rw (c.strip_cr-in_default-Some.ensures.line, c.in_default-Some.is-1)
-    (rw (← c.cut.ensures.parts, c.in_default-Some.is-1) at (cut_lines line c.args.text.now))
+    (rw (← c.cut_at_lf.ensures.parts, c.in_default-Some.is-1) at (cut_lines line c.args.text.now))
