@@ -5,6 +5,7 @@
 #![tactic(auto)]
 
 mod command;
+mod command_list;
 mod line;
 mod parts;
 mod reading;

@@ -6,7 +6,8 @@ ghost use Rattle.trace_text.specs.Parts.{most_shards, hash, owner, origin, is_pu
 ghost use Rattle.trace_text.specs.Reading.{most_commands};
 ghost use Rattle.trace_text.specs.Trace.{trace_with};
 
-use crate::command::{Command, Kind};
+use crate::command::Kind;
+use crate::command_list::{CommandList, is_get, is_scan};
 use crate::trace::Trace;
 use layout::SCAN_ROOM;
 
@@ -30,6 +31,10 @@ pub fn owner_of(key: &[u8], shards: u32) -> u32
     requires most { shards ≤ most_shards }
     ensures { result ≡ owner key.now shards }
 {
+    // Most runs have one shard.
+    if shards == 1 {
+        return 0;
+    }
     (hash(key) % u64::from(shards)) as u32
 }
 
@@ -98,78 +103,30 @@ impl Trace {
 
     /// The length of the longest value that a command of this trace has, in bytes: 0 to 12,000. No value that a shard
     /// replies is longer.
-    #[tactic(auto, using(crate::proofs::Tallies::longest_in))]
     pub fn longest_value(&self) -> u32
         ensures { result ≡ longest_value (trace_in self.now) }
     {
-        greatest_among(self.commands())
+        self.commands.longest_value()
     }
 }
 
 /// The room for all replies to these commands, with so many shards, in bytes: the longest value for each get, and
 /// [`SCAN_ROOM`] bytes for each shard's part of a scan.
-pub(crate) fn replies_room(commands: &[Command], shards: u32) -> u64
+pub(crate) fn replies_room(commands: &CommandList, shards: u32) -> u64
     requires few { length commands.now ≤ most_commands }
     requires most { shards ≤ most_shards }
     ensures { (bytes : List ℕ) → All (LiesWithin bytes) commands.now
         → result ≡ replies_room (trace_with (operations bytes commands.now)) shards }
 {
-    let gets = gets_among(commands) as u64;
-    let scans = scans_among(commands) as u64;
-    gets * u64::from(greatest_among(commands)) + scans * u64::from(shards * SCAN_ROOM)
-}
-
-fn gets_among(commands: &[Command]) -> usize
-    ensures value { result ≡ count_by (λ command. is_get command.kind) commands.now }
-    ensures most { result ≤ length commands.now }
-{
-    commands
-        .iter()
-        .filter(|command| is_get(command.kind))
-        .count()
-}
-
-fn scans_among(commands: &[Command]) -> usize
-    ensures value { result ≡ count_by (λ command. is_scan command.kind) commands.now }
-    ensures most { result ≤ length commands.now }
-{
-    commands
-        .iter()
-        .filter(|command| is_scan(command.kind))
-        .count()
-}
-
-/// The greatest length of a value.
-fn greatest_among(commands: &[Command]) -> u32
-    ensures { result ≡ fold (λ most command. max most command.value.len) 0 commands.now }
-{
-    commands
-        .iter()
-        .fold(0, |most, command| max(most, command.value.len))
-}
-
-fn max(left: u32, right: u32) -> u32
-    ensures { result ≡ max left right }
-{
-    if left < right { right } else { left }
+    let gets = commands.gets() as u64;
+    let scans = commands.scans() as u64;
+    gets * u64::from(commands.longest_value()) + scans * u64::from(shards * SCAN_ROOM)
 }
 
 fn is_put(kind: Kind) -> bool
     ensures { result ≡ is_put kind }
 {
     matches!(kind, Kind::Put)
-}
-
-fn is_get(kind: Kind) -> bool
-    ensures { result ≡ is_get kind }
-{
-    matches!(kind, Kind::Get)
-}
-
-fn is_scan(kind: Kind) -> bool
-    ensures { result ≡ is_scan kind }
-{
-    matches!(kind, Kind::Scan)
 }
 
 fn has_part(kind: Kind, owns: bool) -> bool

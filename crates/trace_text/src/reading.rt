@@ -6,6 +6,7 @@ ghost use Rattle.trace_text.specs.Parts.{most_shards};
 ghost use Rattle.trace_text.specs.Reading.{AtLine, is_cr, line_reading, lines, most_bytes, most_commands, most_replies, operations_of, command_lines, trace_of, strip_cr, IsRefusedAs};
 
 use crate::command::{Command, Span};
+use crate::command_list::CommandList;
 use crate::line::{cut_at_lf, fields_of, is_passed};
 use crate::parts::replies_room;
 use crate::refusal::{Cause, ParseRefusal};
@@ -81,16 +82,16 @@ fn command_at(text: &[u8], start: usize, number: u32, line: u32) -> Result<Comma
 
 /// Adds the command on a line that begins at `start` of the trace, or passes it over.
 fn add_line(
-    commands: &mut Vec<Command>,
+    commands: &mut CommandList,
     text: &[u8],
     start: usize,
     line: u32,
 ) -> Result<(), ParseRefusal>
     requires end { start + length text.now < 2 ^ 32 }
-    requires few { vec_len commands.old ≤ most_commands }
-    ensures added { OnOk result (AddsLine text.now start line commands.old.items commands.new.items) }
-    ensures few { OnOk result (length commands.new.items ≤ most_commands) }
-    ensures refused { IfErr result (λ refusal. RefusesLine refusal text.now (length commands.old.items + 1) line) }
+    requires few { length commands.old ≤ most_commands }
+    ensures added { OnOk result (AddsLine text.now start line commands.old commands.new) }
+    ensures few { OnOk result (length commands.new ≤ most_commands) }
+    ensures refused { IfErr result (λ refusal. RefusesLine refusal text.now (length commands.old + 1) line) }
 {
     if is_passed(text) {
         return Ok(());
@@ -111,12 +112,12 @@ fn add_line(
 }
 
 /// The commands that the bytes spell.
-fn commands_of(alloc: Global, bytes: &[u8]) -> Result<Vec<Command>, ParseRefusal>
+fn commands_of(alloc: Global, bytes: &[u8]) -> Result<CommandList, ParseRefusal>
     requires { length bytes.now ≤ most_bytes }
-    ensures read { IfOk result (λ commands. AreSpelled bytes.now commands.items) }
+    ensures read { IfOk result (λ commands. AreSpelled bytes.now commands) }
     ensures refused { IfErr result (λ refusal. IsRefusedAs refusal (operations_of 1 (command_lines 1 (lines bytes.now)))) }
 {
-    let mut commands = Vec::new(alloc);
+    let mut commands = CommandList::new(alloc);
     let mut rest = bytes;
     let mut line = 1u32;
     while !rest.is_empty() {
@@ -150,7 +151,7 @@ pub fn parse(alloc: Global, bytes: Vec<u8>, shards: u32) -> Result<Trace, ParseR
     ensures refused { IfErr result (λ refusal. IsRefusedAs refusal (trace_of bytes.items shards)) }
 {
     let commands = commands_of(alloc, bytes.as_slice())?;
-    if replies_room(commands.as_slice(), shards) > MOST_REPLIES {
+    if replies_room(&commands, shards) > MOST_REPLIES {
         return Err(ParseRefusal::Trace {
             line: 0,
             cause: Cause::RepliesTooLarge,

@@ -7,6 +7,7 @@ ghost use Rattle.trace_text.specs.Parts.{most_shards, replies_room};
 ghost use Rattle.trace_text.specs.Reading.{most_commands, most_replies, trace_of};
 
 use crate::command::Command;
+use crate::command_list::CommandList;
 use std::marker::Model;
 
 /// The commands of a trace, with its bytes. Contracts see the bytes, the commands, and the number of
@@ -14,7 +15,7 @@ use std::marker::Model;
 #[derive(Drop)]
 pub struct Trace {
     pub(crate) bytes: Vec<u8>,
-    pub(crate) commands: Vec<Command>,
+    pub(crate) commands: CommandList,
     pub(crate) shards: u32,
 }
 
@@ -23,9 +24,9 @@ impl Model for Trace {
 
     ghost Value = { Parsed };
 
-    ghost view = { λ t. record { bytes = t.bytes.items; commands = t.commands.items; shards = t.shards } };
+    ghost view = { λ t. record { bytes = t.bytes.items; commands = t.commands; shards = t.shards } };
 
-    ghost invariant = { λ t. IsConsistent (record { bytes = t.bytes.items; commands = t.commands.items; shards = t.shards }) };
+    ghost invariant = { λ t. IsConsistent (record { bytes = t.bytes.items; commands = t.commands; shards = t.shards }) };
 }
 
 impl Trace {

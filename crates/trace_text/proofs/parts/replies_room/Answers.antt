@@ -10,9 +10,9 @@ returns c bytes lie = rw (
   ← count_in bytes (λ o. is_scan o.kind) c.args.commands.now,
   ← longest_in bytes c.args.commands.now lie,
 ) (rw (
-  c.gets_among-gets.ensures.value,
+  c.gets-gets.ensures.value,
   c.from.ensures,
-  c.greatest_among.ensures,
-  c.scans_among-scans.ensures.value,
+  c.longest_value.ensures,
+  c.scans-scans.ensures.value,
   c.from-2.ensures,
 ) refl)
