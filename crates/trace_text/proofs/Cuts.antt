@@ -3,30 +3,26 @@ use Rattle.std.proofs.Common.{◌≡◌, ℕ, ◌+◌, ◌<◌, ◌≤◌, Bool,
 use Rattle.std.specs.List.{position, position_or_len, slice_split}
 use Rattle.std.proofs.lemmas.List.Splits.{slice_split_none, slice_split_first}
 use Rattle.std.proofs.lemmas.List.Sums.{fails_before_first, position_or_len_is}
-use Rattle.std.proofs.lemmas.Bool.{lt-ltb, le-ltb}
+use Rattle.std.proofs.lemmas.Bool.{false_from_ne_true, lt-ltb, le-ltb}
 use Rattle.std.proofs.lemmas.Option.{cond_some}
 use borrow.Author.Tests.{ltb-true, ltb-false}
 use Rattle.memchr.specs.Find.{IsFirstByte}
 use Rattle.trace_text.specs.Line.{cut_where, cut_at}
 use Rattle.trace_text.specs.Reading.{lines, command_lines, strip_cr}
 
-some_not : {A : Type 0} (b : Bool) (x : A) → cond b (Some x) None ≡ None → b ≡ false
+pub some_not : {A : Type 0} (b : Bool) (x : A) → cond b (Some x) None ≡ None → b ≡ false
 some_not true x e = cc
 some_not false x e = refl
-
-not_so : (b : Bool) → ¬ (b ≡ true) → b ≡ false
-not_so true other = absurd (other refl)
-not_so false other = refl
 
 -- where a search for the first byte that passes ends
 pub first_byte_position : (p : ℕ → Bool) (xs : List ℕ) (r : Option ℕ) → IsFirstByte p xs r → r ≡ position p xs
 first_byte_position p xs None nowhere =
     let all : position_or_len p xs ≡ length xs = position_or_len_is p xs (length xs) 0 (omega arith)
-    (λ k below. not_so _ (nowhere k (omega arith) below)) (λ below. absurd (omega arith)) in
+    (λ k below. false_from_ne_true _ (nowhere k (omega arith) below)) (λ below. absurd (omega arith)) in
     rw (all, le-ltb (length xs) (length xs) (omega arith)) refl
 first_byte_position p xs (Some i) (first, passes) =
     let here : position_or_len p xs ≡ i = position_or_len_is p xs i 0 (omega (arith, first.high))
-    (λ k below. not_so _ (first.before k (omega arith) below)) (λ below. passes) in
+    (λ k below. false_from_ne_true _ (first.before k (omega arith) below)) (λ below. passes) in
     rw (here, lt-ltb i (length xs) first.high) refl
 
 -- a text with no such element is one part
@@ -36,7 +32,7 @@ split_none p xs e =
     slice_split_none p xs (λ k d high. fails_before_first p xs k d (omega arith))
 
 -- else the first part ends there
-split_some : (p : ℕ → Bool) (xs : List ℕ) (i : ℕ) → position p xs ≡ Some i
+pub split_some : (p : ℕ → Bool) (xs : List ℕ) (i : ℕ) → position p xs ≡ Some i
     → slice_split p xs ≡ take i xs ∷ slice_split p (drop (i + 1) xs)
 split_some p xs i e =
     let found = cond_some _ _ _ e in

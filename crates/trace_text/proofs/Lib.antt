@@ -3,5 +3,6 @@ pub mod Cuts
 pub mod LinesRead
 pub mod PartCounts
 pub mod Offsets
+pub mod PlainText
 pub mod Tallies
 pub mod TraceRead

@@ -8,6 +8,7 @@ mod command;
 mod command_list;
 mod line;
 mod parts;
+mod plain;
 mod reading;
 mod refusal;
 mod trace;

@@ -1,11 +1,12 @@
 //! One line of a trace.
-ghost use Rattle.std.specs.Prelude.{◌≡◌, ◌⊎◌, ◌==◌, ◌<◌, ◌&&◌, nat_le, nat_lt, length, decimal, position, None, Some, IfSome, IfOk, IfErr};
+ghost use Rattle.std.specs.Prelude.{◌≡◌, ◌⊎◌, ◌==◌, ◌<◌, ◌&&◌, nat_le, nat_lt, length, decimal, position, true, None, Some, IfSome, IfOk, IfErr, IsTrue};
 ghost use Rattle.std.specs.List.{list_all};
 ghost use Rattle.std.specs.Option.{option_map};
 ghost use Rattle.std.specs.Str.{bytes_eq};
 ghost use Rattle.layout.specs.Sizes.{most_keys};
 ghost use Rattle.trace_text.specs.Line.{is_passed, cut_at, cut_where, is_key_byte, is_value_byte, key_fault, value_fault, kind_of, count_of, from_key, fields_of};
 ghost use Rattle.trace_text.specs.inside.Found.{digits_in, reading_of, IsRestOf, LieIn};
+ghost use Rattle.trace_text.specs.inside.Plain.{IsPlain};
 
 use crate::command::Kind;
 use crate::refusal::Cause;
@@ -95,26 +96,28 @@ fn are_value_bytes(value: &[u8]) -> bool
     are
 }
 
-/// What is wrong with a key.
-fn key_fault(key: &[u8]) -> Option<Cause>
+/// What is wrong with a key. `sound` says that its bytes are known to be those of a key.
+fn key_fault(key: &[u8], sound: bool) -> Option<Cause>
+    requires { IsTrue sound → list_all is_key_byte key.now ≡ true }
     ensures { result ≡ key_fault key.now }
 {
     if key.is_empty() || key.len() > GREATEST_KEY {
         Some(Cause::KeyLength)
-    } else if are_key_bytes(key) {
+    } else if sound || are_key_bytes(key) {
         None
     } else {
         Some(Cause::KeyByte)
     }
 }
 
-/// What is wrong with a value.
-fn value_fault(value: &[u8]) -> Option<Cause>
+/// What is wrong with a value. `sound` says that its bytes are known to be those of a value.
+fn value_fault(value: &[u8], sound: bool) -> Option<Cause>
+    requires { IsTrue sound → IsPlain value.now }
     ensures { result ≡ value_fault value.now }
 {
     if value.len() > GREATEST_VALUE {
         Some(Cause::ValueLength)
-    } else if are_value_bytes(value) {
+    } else if sound || are_value_bytes(value) {
         None
     } else {
         Some(Cause::ValueByte)
@@ -159,27 +162,30 @@ fn count_of(field: &[u8]) -> Option<u32>
 }
 
 /// The key with which the fields begin, and what stands behind the space after it.
-fn key_in(fields: &[u8]) -> Result<(&[u8], Option<&[u8]>), Cause>
+fn key_in(fields: &[u8], sound: bool) -> Result<(&[u8], Option<&[u8]>), Cause>
+    requires { IsTrue sound → IsPlain fields.now }
     ensures parts { IfOk result (λ parts. (parts.0.now, option_map (λ behind. behind.now) parts.1) ≡ cut_at 32 fields.now) }
     ensures sound { IfOk result (λ parts. key_fault parts.0.now ≡ None) }
     ensures rest { IfOk result (λ parts. IfSome parts.1 (λ behind. IsRestOf fields.now behind.now)) }
     ensures fault { IfErr result (λ cause. key_fault (cut_at 32 fields.now).0 ≡ Some cause) }
 {
     let (key, behind) = cut(fields, b' ');
-    match key_fault(key) {
+    match key_fault(key, sound) {
         Some(cause) => Err(cause),
         None => Ok((key, behind)),
     }
 }
 
 /// The key, a space, and the value, which is all that follows.
-fn put_in(fields: &[u8]) -> Result<Found<'_>, Cause>
+#[tactic(auto, using(crate::proofs::PlainText::plain_rest))]
+fn put_in(fields: &[u8], sound: bool) -> Result<Found<'_>, Cause>
+    requires { IsTrue sound → IsPlain fields.now }
     ensures fields { reading_of result ≡ from_key Kind.Put (cut_at 32 fields.now) }
     ensures offsets { IfOk result (LieIn fields.now) }
 {
-    let (key, behind) = key_in(fields)?;
+    let (key, behind) = key_in(fields, sound)?;
     let value = behind.ok_or(Cause::MissingField)?;
-    match value_fault(value) {
+    match value_fault(value, sound) {
         Some(cause) => Err(cause),
         None => Ok(Found {
             kind: Kind::Put,
@@ -193,12 +199,13 @@ fn put_in(fields: &[u8]) -> Result<Found<'_>, Cause>
 }
 
 /// A key, and nothing behind it.
-fn bare_in(kind: Kind, fields: &[u8]) -> Result<Found<'_>, Cause>
-    requires { (kind ≡ Kind.Get) ⊎ (kind ≡ Kind.Erase) }
+fn bare_in(kind: Kind, fields: &[u8], sound: bool) -> Result<Found<'_>, Cause>
+    requires sound { IsTrue sound → IsPlain fields.now }
+    requires kind { (kind ≡ Kind.Get) ⊎ (kind ≡ Kind.Erase) }
     ensures fields { reading_of result ≡ from_key kind (cut_at 32 fields.now) }
     ensures offsets { IfOk result (LieIn fields.now) }
 {
-    let (key, behind) = key_in(fields)?;
+    let (key, behind) = key_in(fields, sound)?;
     if behind.is_some() {
         return Err(Cause::ExtraField);
     }
@@ -213,11 +220,12 @@ fn bare_in(kind: Kind, fields: &[u8]) -> Result<Found<'_>, Cause>
 }
 
 /// A key, a space, and a count.
-fn scan_in(fields: &[u8]) -> Result<Found<'_>, Cause>
+fn scan_in(fields: &[u8], sound: bool) -> Result<Found<'_>, Cause>
+    requires { IsTrue sound → IsPlain fields.now }
     ensures fields { reading_of result ≡ from_key Kind.Scan (cut_at 32 fields.now) }
     ensures offsets { IfOk result (LieIn fields.now) }
 {
-    let (key, behind) = key_in(fields)?;
+    let (key, behind) = key_in(fields, sound)?;
     let behind = behind.ok_or(Cause::MissingField)?;
     let (field, extra) = cut(behind, b' ');
     let count = count_of(field).ok_or(Cause::Count)?;
@@ -247,26 +255,29 @@ fn kind_of(word: &[u8]) -> Option<Kind>
     }
 }
 
-fn fields_behind(kind: Kind, fields: &[u8]) -> Result<Found<'_>, Cause>
+fn fields_behind(kind: Kind, fields: &[u8], sound: bool) -> Result<Found<'_>, Cause>
+    requires { IsTrue sound → IsPlain fields.now }
     ensures fields { reading_of result ≡ from_key kind (cut_at 32 fields.now) }
     ensures offsets { IfOk result (LieIn fields.now) }
 {
     match kind {
-        Kind::Put => put_in(fields),
-        Kind::Get | Kind::Erase => bare_in(kind, fields),
-        Kind::Scan => scan_in(fields),
+        Kind::Put => put_in(fields, sound),
+        Kind::Get | Kind::Erase => bare_in(kind, fields, sound),
+        Kind::Scan => scan_in(fields, sound),
     }
 }
 
-/// What a line asks, or the first thing that is wrong with it.
-pub fn fields_of(line: &[u8]) -> Result<Found<'_>, Cause>
+/// What a line asks, or the first thing that is wrong with it. `sound` says that its bytes are known to be those
+/// of a value.
+pub fn fields_of(line: &[u8], sound: bool) -> Result<Found<'_>, Cause>
+    requires { IsTrue sound → IsPlain line.now }
     ensures fields { reading_of result ≡ fields_of line.now }
     ensures offsets { IfOk result (LieIn line.now) }
 {
     let (word, fields) = cut(line, b' ');
     let kind = kind_of(word).ok_or(Cause::UnknownWord)?;
     let fields = fields.ok_or(Cause::MissingField)?;
-    let found = fields_behind(kind, fields)?;
+    let found = fields_behind(kind, fields, sound)?;
     let before = line.len() - fields.len();
     Ok(Found {
         key_at: before + found.key_at,

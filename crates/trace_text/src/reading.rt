@@ -1,6 +1,7 @@
 //! The reading of a trace.
-ghost use Rattle.std.specs.Prelude.{◌≡◌, ℕ, ◌+◌, ◌<◌, ◌≤◌, ◌^◌, ◌∷◌, length, IfOk, IfErr, OnOk, Ok, Err, vec_len};
+ghost use Rattle.std.specs.Prelude.{◌≡◌, ℕ, ◌+◌, ◌<◌, ◌≤◌, ◌^◌, ◌∷◌, length, IfOk, IfErr, OnOk, Ok, Err, IsTrue};
 ghost use Rattle.trace_text.specs.inside.Found.{AddsLine, IsCommandAt, IsRestOf, LiesAt, RefusesLine};
+ghost use Rattle.trace_text.specs.inside.Plain.{IsPlain};
 ghost use Rattle.trace_text.specs.Parsed.{AreSpelled, trace_in};
 ghost use Rattle.trace_text.specs.Parts.{most_shards};
 ghost use Rattle.trace_text.specs.Reading.{AtLine, is_cr, line_reading, lines, most_bytes, most_commands, most_replies, operations_of, command_lines, trace_of, strip_cr, IsRefusedAs};
@@ -9,6 +10,7 @@ use crate::command::{Command, Span};
 use crate::command_list::CommandList;
 use crate::line::{cut_at_lf, fields_of, is_passed};
 use crate::parts::replies_room;
+use crate::plain::plain_front;
 use crate::refusal::{Cause, ParseRefusal};
 use crate::trace::Trace;
 use std::alloc::Global;
@@ -43,27 +45,39 @@ fn strip_cr(text: &[u8]) -> &[u8]
     }
 }
 
-/// The first line of a text, and what follows its LF.
-fn cut_line(text: &[u8]) -> (&[u8], &[u8])
+/// The first line of a text, what follows its LF, and whether the line's bytes are known to be those of a value.
+fn cut_line(text: &[u8]) -> (&[u8], &[u8], bool)
     ensures front { LiesAt text.now 0 result.0.now }
     ensures rest { IsRestOf text.now result.1.now }
     ensures progress { 0 < length text.now → length result.1.now < length text.now }
     ensures lines { (line : ℕ) → command_lines line (lines text.now) ≡ command_lines line (result.0.now ∷ lines result.1.now) }
+    ensures sound { IsTrue result.2 → IsPlain result.0.now }
 {
+    let end = plain_front(text);
+    if end < text.len() && text[end] == b'\n' {
+        return (&text[..end], &text[end + 1..], true);
+    }
     match cut_at_lf(text) {
-        (line, None) => (strip_cr(line), &[]),
-        (line, Some(after)) => (strip_cr(line), after),
+        (line, None) => (strip_cr(line), &[], false),
+        (line, Some(after)) => (strip_cr(line), after, false),
     }
 }
 
 /// The command on a line that begins at `start` of the trace.
-fn command_at(text: &[u8], start: usize, number: u32, line: u32) -> Result<Command, Cause>
+fn command_at(
+    text: &[u8],
+    sound: bool,
+    start: usize,
+    number: u32,
+    line: u32,
+) -> Result<Command, Cause>
+    requires sound { IsTrue sound → IsPlain text.now }
     requires end { start + length text.now < 2 ^ 32 }
     requires few { number ≤ most_commands }
     ensures found { IfOk result (IsCommandAt text.now start number line) }
     ensures refused { IfErr result (λ cause. line_reading (number, (line, text.now)) ≡ Err (AtLine line cause)) }
 {
-    let found = fields_of(text)?;
+    let found = fields_of(text, sound)?;
     Ok(Command {
         number,
         line,
@@ -84,9 +98,11 @@ fn command_at(text: &[u8], start: usize, number: u32, line: u32) -> Result<Comma
 fn add_line(
     commands: &mut CommandList,
     text: &[u8],
+    sound: bool,
     start: usize,
     line: u32,
 ) -> Result<(), ParseRefusal>
+    requires sound { IsTrue sound → IsPlain text.now }
     requires end { start + length text.now < 2 ^ 32 }
     requires few { length commands.old ≤ most_commands }
     ensures added { OnOk result (AddsLine text.now start line commands.old commands.new) }
@@ -102,7 +118,7 @@ fn add_line(
             cause: Cause::TooManyCommands,
         });
     }
-    match command_at(text, start, commands.len() as u32 + 1, line) {
+    match command_at(text, sound, start, commands.len() as u32 + 1, line) {
         Ok(command) => {
             commands.push(command)?;
             Ok(())
@@ -122,8 +138,8 @@ fn commands_of(alloc: Global, bytes: &[u8]) -> Result<CommandList, ParseRefusal>
     let mut line = 1u32;
     while !rest.is_empty() {
         let start = bytes.len() - rest.len();
-        let (text, after) = cut_line(rest);
-        add_line(&mut commands, text, start, line)?;
+        let (text, after, sound) = cut_line(rest);
+        add_line(&mut commands, text, sound, start, line)?;
         rest = after;
         line += 1;
     }

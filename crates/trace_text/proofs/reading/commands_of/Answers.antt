@@ -6,5 +6,5 @@ use Rattle.trace_text.proofs.reading.commands_of.Goals as goal
 pub loop-rest-preserved : goal.loop-rest-preserved
 loop-rest-preserved c =
     let some : 0 < length c.loop-rest.rest.now = grind arith in
-    reads_more c.args.bytes.now _ _ _ _ c.cut_line.result.0.now _ c.loop-rest.invariant (c.cut_line.ensures.lines c.loop-rest.line)
-    c.cut_line.ensures.rest c.cut_line.ensures.front (c.cut_line.ensures.progress some) c.in_ok-add_line.ensures.added c.in_ok-add_line.ensures.few
+    reads_more c.args.bytes.now _ _ _ _ c.cut_line-sound.result.0.now _ c.loop-rest.invariant (c.cut_line-sound.ensures.lines c.loop-rest.line)
+    c.cut_line-sound.ensures.rest c.cut_line-sound.ensures.front (c.cut_line-sound.ensures.progress some) c.in_ok-add_line.ensures.added c.in_ok-add_line.ensures.few
