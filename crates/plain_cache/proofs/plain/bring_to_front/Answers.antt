@@ -3,29 +3,17 @@ use Rattle.std.proofs.Common.{◌≡◌, arith, length}
 use Rattle.plain_cache.proofs.Rotation.{rotated, rotated_distinct, rotated_rows, written}
 use Rattle.plain_cache.proofs.plain.bring_to_front.Goals as goal
 
-pub returns-clause-rows : goal.returns-clause-rows
-returns-clause-rows c =
+pub returns : goal.returns
+returns c =
     let rows = c.args.rows.now.items in
     let front = c.rotate_right.new.self in
     let all : c.args.rows.now.len ≡ length rows = omega arith in
     let is = rotated c.args.key.now rows c.slice_mut.result.now front c.args.at c.args.rows.now.len c.requires.of_key c.requires.distinct all
     c.slice_mut.ensures.value c.rotate_right.ensures.len c.rotate_right.ensures.after in
-    rotated_rows c.args.key.now rows (written c.args.rows.now.len front rows) is.0 is.1
-
-pub returns-clause-distinct_still : goal.returns-clause-distinct_still
-returns-clause-distinct_still c =
-    let rows = c.args.rows.now.items in
-    let front = c.rotate_right.new.self in
-    let all : c.args.rows.now.len ≡ length rows = omega arith in
-    let is = rotated c.args.key.now rows c.slice_mut.result.now front c.args.at c.args.rows.now.len c.requires.of_key c.requires.distinct all
-    c.slice_mut.ensures.value c.rotate_right.ensures.len c.rotate_right.ensures.after in
-    rotated_distinct c.other_rows_are_distinct.ensures.brought c.args.key.now rows (written c.args.rows.now.len front rows) is.0 is.1 c.requires.distinct
-
-pub returns-clause-small : goal.returns-clause-small
-returns-clause-small c =
-    let rows = c.args.rows.now.items in
-    let front = c.rotate_right.new.self in
-    let all : c.args.rows.now.len ≡ length rows = omega arith in
-    let is = rotated c.args.key.now rows c.slice_mut.result.now front c.args.at c.args.rows.now.len c.requires.of_key c.requires.distinct all
-    c.slice_mut.ensures.value c.rotate_right.ensures.len c.rotate_right.ensures.after in
-    is.1.small
+    let now = written c.args.rows.now.len front rows in
+    record {
+      rows = rotated_rows c.args.key.now rows now is.0 is.1;
+      distinct_still = rotated_distinct c.other_rows_are_distinct.ensures.brought c.args.key.now rows now is.0 is.1 c.requires.distinct;
+      small = is.1.small;
+      fewer = omega arith;
+    }

@@ -33,17 +33,8 @@ invariant_of-self c =
     c.class_capacity.result c.class_capacity.ensures.value c.all_free.ensures.free c.all_free.ensures.none
     (record { stands = c.relist.ensures.stands; others = c.relist.ensures.others; indices = c.relist.ensures.indices; lists = c.relist.ensures.lists })).0.consistent
 
-pub returns-clause-moves : goal.returns-clause-moves
-returns-clause-moves c =
-    let len : length c.own.new.firsts.items ≡ length c.self.inside.firsts.items = (let l = c.own.ensures.len in omega (arith, l, c.own.new.firsts.ok, c.self.inside.firsts.ok)) in
-    let owned = owned_by c.self.inside.firsts.items c.own.new.firsts.items c.args.first c.class_order.result (order_of c.args.class) c.class_order.ensures.value c.class_order.ensures.most len c.own.ensures.mine c.own.ensures.others in
-    let step = added c.self.invariant c.self.view_is c.args.first c.args.class c.all_free.result c.own.new.firsts.items c.relist.new.lists c.requires.class c.requires.inside c.requires.clear owned
-    c.class_capacity.result c.class_capacity.ensures.value c.all_free.ensures.free c.all_free.ensures.none
-    (record { stands = c.relist.ensures.stands; others = c.relist.ensures.others; indices = c.relist.ensures.indices; lists = c.relist.ensures.lists }) in
-    same_fields _ _ (ap (λ (s : Objects). s.pages) c.self.view_is) (step.0.held ∙ ap (λ (s : Objects). map.insert s.held c.args.first c.args.class) c.self.view_is) (step.0.allocated ∙ ap (λ (s : Objects). s.allocated) c.self.view_is)
-
-pub returns-clause-room : goal.returns-clause-room
-returns-clause-room c =
+pub returns : goal.returns
+returns c =
     let len : length c.own.new.firsts.items ≡ length c.self.inside.firsts.items = (let l = c.own.ensures.len in omega (arith, l, c.own.new.firsts.ok, c.self.inside.firsts.ok)) in
     let owned = owned_by c.self.inside.firsts.items c.own.new.firsts.items c.args.first c.class_order.result (order_of c.args.class) c.class_order.ensures.value c.class_order.ensures.most len c.own.ensures.mine c.own.ensures.others in
     let step = added c.self.invariant c.self.view_is c.args.first c.args.class c.all_free.result c.own.new.firsts.items c.relist.new.lists c.requires.class c.requires.inside c.requires.clear owned
@@ -51,8 +42,9 @@ returns-clause-room c =
     (record { stands = c.relist.ensures.stands; others = c.relist.ensures.others; indices = c.relist.ensures.indices; lists = c.relist.ensures.lists }) in
     let below : c.args.first < c.self.inside.pages = (let i = subst (λ (s : Objects). c.args.first + 2 ^ order_of c.args.class ≤ s.pages) (sym c.self.view_is) c.requires.inside in let pos = pow_pos (order_of c.args.class) in omega arith) in
     let cl = c.self.invariant.classes_len in let ml = c.self.invariant.masks_len in
-    room_of step.0.consistent c.args.first c.args.class (get_or-set_same c.self.inside.classes.items c.args.first (Some c.args.class) None (omega arith))
-    (λ z. step.1 (sym (get_or-set_same c.self.inside.masks.items c.args.first c.all_free.result 0 (omega arith)) ∙ z))
-
-pub returns-clause-objects : goal.returns-clause-objects
-returns-clause-objects c = are_objects (invariant_of-self c)
+    record {
+      moves = same_fields _ _ (ap (λ (s : Objects). s.pages) c.self.view_is) (step.0.held ∙ ap (λ (s : Objects). map.insert s.held c.args.first c.args.class) c.self.view_is) (step.0.allocated ∙ ap (λ (s : Objects). s.allocated) c.self.view_is);
+      room = room_of step.0.consistent c.args.first c.args.class (get_or-set_same c.self.inside.classes.items c.args.first (Some c.args.class) None (omega arith))
+          (λ z. step.1 (sym (get_or-set_same c.self.inside.masks.items c.args.first c.all_free.result 0 (omega arith)) ∙ z));
+      objects = are_objects (invariant_of-self c);
+    }

@@ -59,34 +59,19 @@ invariant_of-self c =
     span c.index-before.ensures c.least_free-slot.ensures.free c.occupied-mask.ensures.taken c.occupied-mask.ensures.others c.list_for.ensures.value
     (record { stands = c.relist.ensures.stands; others = c.relist.ensures.others; indices = c.relist.ensures.indices; lists = c.relist.ensures.lists })).consistent
 
-pub returns-clause-was_free : goal.returns-clause-was_free
-returns-clause-was_free c =
-    let span = held_at c.self.invariant c.self.view_is c.args.first c.args.class c.requires.held in
-    let step = popped c.self.invariant c.args.first c.args.class c.index-before.result.now c.least_free-slot.result c.occupied-mask.result c.list_for.result c.relist.new.lists
-    span c.index-before.ensures c.least_free-slot.ensures.free c.occupied-mask.ensures.taken c.occupied-mask.ensures.others c.list_for.ensures.value
-    (record { stands = c.relist.ensures.stands; others = c.relist.ensures.others; indices = c.relist.ensures.indices; lists = c.relist.ensures.lists }) in
-    ap (λ n. map.get c.args.self.now.allocated (page * c.args.first + c.least_free-slot.result * n)) c.class_size.ensures.value
-    ∙ ap (λ (s : Objects). map.get s.allocated (page * c.args.first + c.least_free-slot.result * size_of c.args.class)) (sym c.self.view_is) ∙ step.was_free
-
-pub returns-clause-moves : goal.returns-clause-moves
-returns-clause-moves c =
-    let span = held_at c.self.invariant c.self.view_is c.args.first c.args.class c.requires.held in
-    let step = popped c.self.invariant c.args.first c.args.class c.index-before.result.now c.least_free-slot.result c.occupied-mask.result c.list_for.result c.relist.new.lists
-    span c.index-before.ensures c.least_free-slot.ensures.free c.occupied-mask.ensures.taken c.occupied-mask.ensures.others c.list_for.ensures.value
-    (record { stands = c.relist.ensures.stands; others = c.relist.ensures.others; indices = c.relist.ensures.indices; lists = c.relist.ensures.lists }) in
-    same_fields _ _ (ap (λ (s : Objects). s.pages) c.self.view_is) (ap (λ (s : Objects). s.held) c.self.view_is)
-    (step.allocated
-    ∙ ap (λ (s : Objects). map.insert s.allocated (page * c.args.first + c.least_free-slot.result * size_of c.args.class) (size_of c.args.class)) c.self.view_is
-    ∙ ap (λ n. map.insert c.args.self.now.allocated (page * c.args.first + c.least_free-slot.result * n) (size_of c.args.class)) (sym c.class_size.ensures.value))
-
-pub returns-clause-objects : goal.returns-clause-objects
-returns-clause-objects c = are_objects (invariant_of-self c)
-
-pub returns-clause-has : goal.returns-clause-has
-returns-clause-has c =
+pub returns : goal.returns
+returns c =
     let span = held_at c.self.invariant c.self.view_is c.args.first c.args.class c.requires.held in
     let step = popped c.self.invariant c.args.first c.args.class c.index-before.result.now c.least_free-slot.result c.occupied-mask.result c.list_for.result c.relist.new.lists
     span c.index-before.ensures c.least_free-slot.ensures.free c.occupied-mask.ensures.taken c.occupied-mask.ensures.others c.list_for.ensures.value
     (record { stands = c.relist.ensures.stands; others = c.relist.ensures.others; indices = c.relist.ensures.indices; lists = c.relist.ensures.lists }) in
     let place = slot_place c.args.first c.args.class c.least_free-slot.result in
-    (c.least_free-slot.result, step.in_slot, ap (λ m. map.get m place) step.allocated ∙ get_inserted _ place (size_of c.args.class) place refl)
+    record {
+      was_free = ap (λ n. map.get c.args.self.now.allocated (page * c.args.first + c.least_free-slot.result * n)) c.class_size.ensures.value
+          ∙ ap (λ (s : Objects). map.get s.allocated place) (sym c.self.view_is) ∙ step.was_free;
+      moves = same_fields _ _ (ap (λ (s : Objects). s.pages) c.self.view_is) (ap (λ (s : Objects). s.held) c.self.view_is)
+          (step.allocated ∙ ap (λ (s : Objects). map.insert s.allocated place (size_of c.args.class)) c.self.view_is
+          ∙ ap (λ n. map.insert c.args.self.now.allocated (page * c.args.first + c.least_free-slot.result * n) (size_of c.args.class)) (sym c.class_size.ensures.value));
+      has = (c.least_free-slot.result, step.in_slot, ap (λ m. map.get m place) step.allocated ∙ get_inserted _ place (size_of c.args.class) place refl);
+      objects = are_objects (invariant_of-self c);
+    }
