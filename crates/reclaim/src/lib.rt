@@ -11,6 +11,7 @@ mod evicting;
 mod making_room;
 mod segments;
 mod space;
+mod storing;
 #[cfg(test)]
 mod tests;
 

@@ -1,26 +1,21 @@
-ghost use Rattle.std.specs.Prelude.{◌≡◌, ◌⊎◌, ◌*◌, ◌+◌, ◌-◌, ◌^◌, ◌<◌, ◌≤◌, ℕ, [], ◌∷◌, length, take, drop, true, IfOk, IsSome};
+ghost use Rattle.std.specs.Prelude.{◌≡◌, ◌⊎◌, ◌*◌, ◌+◌, ◌-◌, ◌^◌, ◌<◌, ◌≤◌, [], ◌∷◌, length, take, drop, true, IfOk};
 ghost use Rattle.layout.specs.Sizes as sizes;
 ghost use Rattle.trace_text.specs.declared.command.Kind.{Kind as Kinds};
 ghost use Rattle.cache_model.specs.declared.entry.Entry.{Entry as Entries};
-ghost use Rattle.cache_model.specs.Row.{live, size};
+ghost use Rattle.cache_model.specs.Row.{live};
 ghost use Rattle.cache_model.specs.Apply as apply;
 ghost use Rattle.cache_model.specs.KeyBody.{AreKeys};
-ghost use Rattle.shard_memory.specs.Shards.{Shard};
-ghost use Rattle.regions.specs.Shapes.{active_of};
-ghost use Rattle.regions.specs.Counts.{left};
 ghost use Rattle.row_cache.specs.Rows.{rows_of, reply_of};
 ghost use Rattle.shard_rings.specs.Ask.{asked, IsAskable};
 ghost use Rattle.reclaim.specs.Spaces.{SpaceState, with_rows};
 ghost use Rattle.reclaim.specs.Works.{Records, StoresUnderPressure};
-ghost use Rattle.reclaim.specs.inside.Consistent.{IsConsistent};
 
 mod getting;
 
-use crate::evicting::find_room;
 use crate::segments::{begin, give_back};
+use crate::storing::put_row;
 use cache_model::Entry;
 use layout::SEGMENT_PAGES;
-use row_bytes::row_size;
 use row_cache::{Put, RowCache, Scanned};
 use run_log::Journal;
 use shard_memory::ShardMemory;
@@ -74,9 +69,7 @@ impl Space {
         requires spare { length self.old.rows + 1 ≤ journal.old.spare }
         ensures { StoresUnderPressure (asked ask.now) (reply_of result) self.old self.new journal.old journal.new }
     {
-        let (memory, cache) = (&mut self.memory, &mut self.cache);
-        find_room(memory, cache, row_size(ask.key, ask.value), journal);
-        store(cache, ask, journal)
+        put_row(&mut self.memory, &mut self.cache, ask, journal)
     }
 
     /// Removes the row of a key. False where no row has the key.
@@ -130,24 +123,4 @@ impl Space {
         give_back(&mut memory, &mut cache);
         memory.finish();
     }
-}
-
-// Stores the row, for which the active segment has room.
-fn store(cache: &mut RowCache, ask: &Ask<'_>, journal: &mut Journal) -> Put
-    requires askable { IsAskable (asked ask.now) }
-    requires active { IsSome (active_of cache.old.region) }
-    requires fits { size ask.now.key.now ask.now.value.now ≤ left cache.old.region }
-    requires room { (apply.has ask.now.key.now (rows_of cache.old) ≡ true) ⊎ (length (rows_of cache.old) < cache.old.room) }
-    requires spare { 1 ≤ journal.old.spare }
-    ensures rows { rows_of cache.new ≡ (apply.put ask.now.key.now ask.now.value.now ask.now.number (rows_of cache.old)).0 }
-    ensures reply { reply_of result ≡ (apply.put ask.now.key.now ask.now.value.now ask.now.number (rows_of cache.old)).1 }
-    ensures recorded { Records journal.old journal.new (Entries.Done ask.now.number ∷ []) }
-    ensures consistent { (shard pages : ℕ) (memory : Shard) → IsConsistent shard pages memory cache.old.region → IsConsistent shard pages memory cache.new.region }
-    ensures tables { cache.new.room ≡ cache.old.room }
-{
-    let Ok(did) = cache.put(ask.key, ask.value, ask.number) else {
-        unreachable!()
-    };
-    journal.add(Entry::Done(ask.number));
-    did
 }

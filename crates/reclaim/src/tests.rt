@@ -1,8 +1,9 @@
 // Puts, look-ups and scans on one shard, and the rows that go where there is no room for a put.
-ghost use Rattle.std.specs.Prelude.{◌≡◌, IfOk};
+ghost use Rattle.std.specs.Prelude.{◌≡◌, []};
 
 use crate::{Put, Space};
 use cache_model::Entry;
+use layout::{GREATEST_KEY, GREATEST_VALUE};
 use run_log::Journal;
 use shard_rings::Ask;
 use std::alloc::{AllocError, Global};
@@ -14,223 +15,191 @@ const ROWS: u32 = 512;
 
 const ENTRIES: u32 = 1200;
 
-fn open(alloc: Global) -> Result<Space, AllocError>
-    ensures { IfOk result (λ space. space.room ≡ 512) }
-{
-    Space::open(alloc, 0, 1280, ROWS)
+// A space of 1,280 pages, and its journal. A call for which there is no room changes nothing.
+#[derive(Drop)]
+struct Trial {
+    space: Space,
+    journal: Journal,
+    ghost room: { space.room ≡ 512 },
 }
 
-// What is asked of a key alone, as command 9.
-fn ask<'a>(kind: Kind, key: &'a [u8]) -> Ask<'a>
-    ensures { result.kind ≡ kind }
+// What is asked of a key, as command 9.
+fn ask<'a>(kind: Kind, key: &'a [u8], count: u32) -> Ask<'a>
+    ensures kind { result.kind ≡ kind }
+    ensures key { result.key.now ≡ key.now }
+    ensures value { result.value.now ≡ [] }
+    ensures count { result.count ≡ count }
 {
     Ask {
         kind,
         key,
         value: &[],
-        count: 0,
-        number: 9,
-    }
-}
-
-// None where the row is none, or where its evictions may have no room in the journal.
-fn put(
-    space: &mut Space,
-    journal: &mut Journal,
-    key: &[u8],
-    value: &[u8],
-    number: u32,
-) -> Option<Put>
-    requires { space.old.room ≡ 512 }
-    ensures { space.new.room ≡ space.old.room }
-{
-    if key.is_empty() || key.len() > 256 || value.len() > 12_000 {
-        return None;
-    }
-    if space.rows() >= ROWS || space.rows() >= journal.spare() {
-        return None;
-    }
-    let ask = Ask {
-        kind: Kind::Put,
-        key,
-        value,
-        count: 0,
-        number,
-    };
-    Some(space.put(&ask, journal))
-}
-
-// Whether the key has this value, or none.
-fn has(space: &mut Space, journal: &mut Journal, key: &[u8], value: Option<&[u8]>) -> bool
-    ensures { space.new.room ≡ space.old.room }
-{
-    journal.spare() > 0 && space.get_here(&ask(Kind::Get, key), journal) == value
-}
-
-fn erase(space: &mut Space, journal: &mut Journal, key: &[u8]) -> bool
-    ensures { space.new.room ≡ space.old.room }
-{
-    journal.spare() > 0 && space.erase_here(&ask(Kind::Erase, key), journal)
-}
-
-// Whether the first keys from one on are spelled like this.
-fn scans(space: &mut Space, journal: &mut Journal, key: &[u8], count: u32, body: &[u8]) -> bool
-    ensures { space.new.room ≡ space.old.room }
-{
-    if key.is_empty() || key.len() > 256 || count == 0 || count > 4 || journal.spare() == 0 {
-        return false;
-    }
-    let ask = Ask {
-        kind: Kind::Scan,
-        key,
-        value: &[],
         count,
         number: 9,
-    };
-    let mut into = [0; 1032];
-    let scanned = space.scan_here(&ask, &mut into, journal);
-    &into[..scanned.bytes as usize] == body
+    }
+}
+
+impl Trial {
+    fn new(alloc: Global) -> Result<Trial, AllocError> {
+        let journal = Journal::new(alloc, ENTRIES)?;
+        let space = Space::open(alloc, 0, 1280, ROWS)?;
+        Ok(Trial { space, journal })
+    }
+
+    // None where the row is none, or where its evictions may have no room in the journal.
+    fn put(&mut self, key: &[u8], value: &[u8], number: u32) -> Option<Put> {
+        if key.is_empty() || key.len() > GREATEST_KEY || value.len() > GREATEST_VALUE {
+            return None;
+        }
+        if self.space.rows() >= ROWS || self.space.rows() >= self.journal.spare() {
+            return None;
+        }
+        let ask = Ask {
+            kind: Kind::Put,
+            key,
+            value,
+            count: 0,
+            number,
+        };
+        Some(self.space.put(&ask, &mut self.journal))
+    }
+
+    // Whether the key has this value, or none.
+    fn has(&mut self, key: &[u8], value: Option<&[u8]>) -> bool {
+        self.journal.spare() > 0
+            && self
+                .space
+                .get_here(&ask(Kind::Get, key, 0), &mut self.journal)
+                == value
+    }
+
+    fn erase(&mut self, key: &[u8]) -> bool {
+        self.journal.spare() > 0
+            && self
+                .space
+                .erase_here(&ask(Kind::Erase, key, 0), &mut self.journal)
+    }
+
+    // Whether the first keys from one on are spelled like this.
+    fn scans(&mut self, key: &[u8], count: u32, body: &[u8]) -> bool {
+        if key.is_empty()
+            || key.len() > GREATEST_KEY
+            || count == 0
+            || count > 4
+            || self.journal.spare() == 0
+        {
+            return false;
+        }
+        let mut into = [0; 1032];
+        let scanned = self
+            .space
+            .scan_here(&ask(Kind::Scan, key, count), &mut into, &mut self.journal);
+        &into[..scanned.bytes as usize] == body
+    }
+
+    // Puts rows of 12,048 bytes, ten of which fill a segment, and answers how many had new keys. The keys are the numbers.
+    fn put_large(&mut self, alloc: Global, from: u32, to: u32) -> Result<u32, AllocError> {
+        let value = Vec::from_elem(alloc, b'x', 12_000)?;
+        let mut stored = 0u32;
+        for number in from..to {
+            if self.put(&number.to_be_bytes(), &value, number) == Some(Put::Stored) {
+                stored = stored.saturating_add(1);
+            }
+        }
+        Ok(stored)
+    }
+
+    // Puts a row of 12,048 bytes of one key so many times.
+    fn put_again(&mut self, alloc: Global, times: u32) -> Result<u32, AllocError> {
+        let value = Vec::from_elem(alloc, b'x', 12_000)?;
+        let mut replaced = 0u32;
+        for number in 0..times {
+            if self.put(b"a", &value, number) == Some(Put::Replaced) {
+                replaced = replaced.saturating_add(1);
+            }
+        }
+        Ok(replaced)
+    }
+
+    // How many rows there are, and the live bytes.
+    fn size(&self) -> (u32, u64) {
+        (self.space.rows(), self.space.live())
+    }
+
+    fn ends_with(&self, entries: &[Entry]) -> bool {
+        self.journal.entries().ends_with(entries)
+    }
+
+    fn finish(self) {
+        self.space.finish();
+    }
 }
 
 #[test]
 fn a_row_is_stored_replaced_and_erased(rt: HostRuntime) -> Result<(), Fail> {
-    let mut space = open(rt.alloc())?;
-    let mut journal = Journal::new(rt.alloc(), ENTRIES)?;
-    assert_eq!(rt;
-        put(&mut space, &mut journal, b"a", b"1", 1),
-        Some(Put::Stored)
-    );
-    assert_eq!(rt;
-        put(&mut space, &mut journal, b"a", b"abc", 2),
-        Some(Put::Replaced)
-    );
-    assert_eq!(rt; (space.rows(), space.live()), (1, 48));
-    assert!(rt; has(&mut space, &mut journal, b"a", Some(b"abc")));
-    assert!(rt; erase(&mut space, &mut journal, b"a") && !erase(&mut space, &mut journal, b"a"));
-    assert!(rt; has(&mut space, &mut journal, b"a", None));
-    assert_eq!(rt; (space.rows(), space.live()), (0, 0));
+    let mut trial = Trial::new(rt.alloc())?;
+    assert_eq!(rt; trial.put(b"a", b"1", 1), Some(Put::Stored));
+    assert_eq!(rt; trial.put(b"a", b"abc", 2), Some(Put::Replaced));
+    assert_eq!(rt; trial.size(), (1, 48));
+    assert!(rt; trial.has(b"a", Some(b"abc")));
+    assert!(rt; trial.erase(b"a") && !trial.erase(b"a"));
+    assert!(rt; trial.has(b"a", None));
+    assert_eq!(rt; trial.size(), (0, 0));
     let done = [1, 2, 9, 9, 9, 9].map(|number| Entry::Done(number));
-    assert!(rt; journal.entries() == done.as_slice());
-    space.finish();
+    assert!(rt; trial.journal.entries() == done.as_slice());
+    trial.finish();
     Ok(())
 }
 
 #[test]
 fn a_scan_gives_the_keys_from_its_own_on(rt: HostRuntime) -> Result<(), Fail> {
-    let mut space = open(rt.alloc())?;
-    let mut journal = Journal::new(rt.alloc(), ENTRIES)?;
-    assert_eq!(rt;
-        put(&mut space, &mut journal, b"a", b"1", 1),
-        Some(Put::Stored)
-    );
-    assert_eq!(rt;
-        put(&mut space, &mut journal, b"c", b"3", 2),
-        Some(Put::Stored)
-    );
-    assert_eq!(rt;
-        put(&mut space, &mut journal, b"b", b"2", 3),
-        Some(Put::Stored)
-    );
-    assert!(rt; scans(&mut space, &mut journal, b"b", 2, b"\x01\0b\x01\0c"));
-    assert!(rt; scans(&mut space, &mut journal, b"d", 4, b""));
-    assert_eq!(rt; (space.rows(), space.live()), (3, 144));
-    space.finish();
+    let mut trial = Trial::new(rt.alloc())?;
+    assert_eq!(rt; trial.put(b"a", b"1", 1), Some(Put::Stored));
+    assert_eq!(rt; trial.put(b"c", b"3", 2), Some(Put::Stored));
+    assert_eq!(rt; trial.put(b"b", b"2", 3), Some(Put::Stored));
+    assert!(rt; trial.scans(b"b", 2, b"\x01\0b\x01\0c"));
+    assert!(rt; trial.scans(b"d", 4, b""));
+    assert_eq!(rt; trial.size(), (3, 144));
+    trial.finish();
     Ok(())
-}
-
-// Puts rows of 12,048 bytes, whose keys are their numbers. Ten fill a segment.
-fn put_large(
-    alloc: Global,
-    space: &mut Space,
-    journal: &mut Journal,
-    from: u32,
-    to: u32,
-) -> Result<u32, AllocError>
-    requires { space.old.room ≡ 512 }
-    ensures { space.new.room ≡ space.old.room }
-{
-    let value = Vec::from_elem(alloc, b'x', 12_000)?;
-    let mut stored = 0u32;
-    for number in from..to {
-        if put(space, journal, &number.to_be_bytes(), &value, number) == Some(Put::Stored) {
-            stored = stored.saturating_add(1);
-        }
-    }
-    Ok(stored)
 }
 
 #[test]
 fn the_oldest_row_goes_where_nothing_else_makes_room(rt: HostRuntime) -> Result<(), Fail> {
-    let mut space = open(rt.alloc())?;
-    let mut journal = Journal::new(rt.alloc(), ENTRIES)?;
-    assert_eq!(rt;
-        put_large(rt.alloc(), &mut space, &mut journal, 1, 391)?,
-        390
-    );
-    assert_eq!(rt; journal.entries().len(), 390);
-    assert_eq!(rt;
-        put_large(rt.alloc(), &mut space, &mut journal, 391, 393)?,
-        2
-    );
-    assert_eq!(rt; (space.rows(), space.live()), (390, 4_698_720));
+    let mut trial = Trial::new(rt.alloc())?;
+    assert_eq!(rt; trial.put_large(rt.alloc(), 1, 391)?, 390);
+    assert_eq!(rt; trial.journal.entries().len(), 390);
+    assert_eq!(rt; trial.put_large(rt.alloc(), 391, 393)?, 2);
+    assert_eq!(rt; trial.size(), (390, 4_698_720));
     let last = [
         Entry::Evicted(1),
         Entry::Done(391),
         Entry::Evicted(2),
         Entry::Done(392),
     ];
-    assert!(rt; journal.entries().ends_with(&last));
-    assert!(rt; has(&mut space, &mut journal, &1u32.to_be_bytes(), None));
-    space.finish();
+    assert!(rt; trial.ends_with(&last));
+    assert!(rt; trial.has(&1u32.to_be_bytes(), None));
+    trial.finish();
     Ok(())
 }
 
 #[test]
 fn a_row_may_go_for_the_one_that_replaces_it(rt: HostRuntime) -> Result<(), Fail> {
-    let mut space = open(rt.alloc())?;
-    let mut journal = Journal::new(rt.alloc(), ENTRIES)?;
-    assert_eq!(rt;
-        put_large(rt.alloc(), &mut space, &mut journal, 1, 391)?,
-        390
-    );
-    assert_eq!(rt; put_large(rt.alloc(), &mut space, &mut journal, 1, 2)?, 1);
-    assert!(rt;
-        journal
-            .entries()
-            .ends_with(&[Entry::Done(390), Entry::Evicted(1), Entry::Done(1)])
-    );
-    assert_eq!(rt; (space.rows(), space.live()), (390, 4_698_720));
-    space.finish();
+    let mut trial = Trial::new(rt.alloc())?;
+    assert_eq!(rt; trial.put_large(rt.alloc(), 1, 391)?, 390);
+    assert_eq!(rt; trial.put_large(rt.alloc(), 1, 2)?, 1);
+    assert!(rt; trial.ends_with(&[Entry::Done(390), Entry::Evicted(1), Entry::Done(1)]));
+    assert_eq!(rt; trial.size(), (390, 4_698_720));
+    trial.finish();
     Ok(())
-}
-
-// Puts the row of one key again and again.
-fn put_again(
-    alloc: Global,
-    space: &mut Space,
-    journal: &mut Journal,
-    times: u32,
-) -> Result<u32, AllocError>
-    requires { space.old.room ≡ 512 }
-    ensures { space.new.room ≡ space.old.room }
-{
-    let value = Vec::from_elem(alloc, b'x', 12_000)?;
-    let mut replaced = 0u32;
-    for number in 0..times {
-        if put(space, journal, b"a", &value, number) == Some(Put::Replaced) {
-            replaced = replaced.saturating_add(1);
-        }
-    }
-    Ok(replaced)
 }
 
 #[test]
 fn nothing_goes_while_compaction_makes_room(rt: HostRuntime) -> Result<(), Fail> {
-    let mut space = open(rt.alloc())?;
-    let mut journal = Journal::new(rt.alloc(), ENTRIES)?;
-    assert_eq!(rt; put_again(rt.alloc(), &mut space, &mut journal, 1000)?, 999);
-    assert_eq!(rt; (space.rows(), space.live()), (1, 12_048));
-    assert_eq!(rt; journal.entries().len(), 1000);
-    space.finish();
+    let mut trial = Trial::new(rt.alloc())?;
+    assert_eq!(rt; trial.put_again(rt.alloc(), 1000)?, 999);
+    assert_eq!(rt; trial.size(), (1, 12_048));
+    assert_eq!(rt; trial.journal.entries().len(), 1000);
+    trial.finish();
     Ok(())
 }

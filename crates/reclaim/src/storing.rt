@@ -1,0 +1,62 @@
+//! How a row is stored, behind the evictions that make room for it.
+ghost use Rattle.std.specs.Prelude.{◌≡◌, ◌⊎◌, ℕ, ◌+◌, ◌<◌, ◌≤◌, [], ◌∷◌, length, true, IsSome};
+ghost use Rattle.trace_text.specs.declared.command.Kind.{Kind as Kinds};
+ghost use Rattle.cache_model.specs.Row.{size};
+ghost use Rattle.cache_model.specs.Apply as apply;
+ghost use Rattle.shard_memory.specs.Shards.{Shard};
+ghost use Rattle.regions.specs.Shapes.{active_of};
+ghost use Rattle.regions.specs.Counts.{left};
+ghost use Rattle.row_cache.specs.Rows.{rows_of, reply_of};
+ghost use Rattle.shard_rings.specs.Ask.{asked, IsAskable};
+ghost use Rattle.reclaim.specs.Works.{pressure};
+ghost use Rattle.reclaim.specs.inside.Consistent.{IsConsistent};
+ghost use Rattle.reclaim.specs.inside.Evicted.{HasStored};
+
+use crate::evicting::find_room;
+use cache_model::Entry;
+use row_bytes::row_size;
+use row_cache::{Put, RowCache};
+use run_log::Journal;
+use shard_memory::ShardMemory;
+use shard_rings::Ask;
+
+// Makes room for the row of a put and stores it. The journal has an entry for each row that went, and then one that the
+// command is done.
+pub(crate) fn put_row(
+    memory: &mut ShardMemory,
+    cache: &mut RowCache,
+    ask: &Ask<'_>,
+    journal: &mut Journal,
+) -> Put
+    requires kind { ask.now.kind ≡ Kinds.Put }
+    requires askable { IsAskable (asked ask.now) }
+    requires consistent { IsConsistent memory.old.owner memory.old.pages memory.old cache.old.region }
+    requires room { (apply.has ask.now.key.now (rows_of cache.old) ≡ true) ⊎ (length (rows_of cache.old) < cache.old.room) }
+    requires spare { length (rows_of cache.old) + 1 ≤ journal.old.spare }
+    ensures stored { HasStored (pressure memory.old.pages) (asked ask.now) (reply_of result) (rows_of cache.old) (rows_of cache.new) journal.old journal.new }
+    ensures consistent { IsConsistent memory.old.owner memory.old.pages memory.new cache.new.region }
+    ensures tables { cache.new.room ≡ cache.old.room }
+{
+    find_room(memory, cache, row_size(ask.key, ask.value), journal);
+    let did = store(cache, ask);
+    journal.add(Entry::Done(ask.number));
+    did
+}
+
+// Stores the row, for which the active segment has room.
+fn store(cache: &mut RowCache, ask: &Ask<'_>) -> Put
+    requires kind { ask.now.kind ≡ Kinds.Put }
+    requires askable { IsAskable (asked ask.now) }
+    requires active { IsSome (active_of cache.old.region) }
+    requires fits { size ask.now.key.now ask.now.value.now ≤ left cache.old.region }
+    requires room { (apply.has ask.now.key.now (rows_of cache.old) ≡ true) ⊎ (length (rows_of cache.old) < cache.old.room) }
+    ensures rows { rows_of cache.new ≡ (apply.apply (asked ask.now) (rows_of cache.old)).0 }
+    ensures reply { reply_of result ≡ (apply.apply (asked ask.now) (rows_of cache.old)).1 }
+    ensures consistent { (shard pages : ℕ) (memory : Shard) → IsConsistent shard pages memory cache.old.region → IsConsistent shard pages memory cache.new.region }
+    ensures tables { cache.new.room ≡ cache.old.room }
+{
+    let Ok(did) = cache.put(ask.key, ask.value, ask.number) else {
+        unreachable!()
+    };
+    did
+}
