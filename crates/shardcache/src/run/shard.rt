@@ -32,7 +32,8 @@ pub struct Shard {
 }
 
 impl Shard {
-    /// The one shard of a trace, with so many pages. It takes all the memory that the trace will need.
+    /// The one shard of a trace, with so many pages. It takes all the memory that the trace will need, the space last, which only
+    /// `finish` frees.
     pub fn open(alloc: Global, trace: &Trace, pages: u32) -> Result<Shard, AllocError>
         requires pages { ArePages pages }
         requires one_shard { trace.now.shards ≡ 1 }
@@ -43,11 +44,15 @@ impl Shard {
         ensures keys { IfOk result (λ shard. vec_len shard.keys ≡ key_room * most_keys) }
     {
         let needs = trace.needs(0, 1);
+        let journal = Journal::new(alloc, needs.here_parts + needs.here_puts)?;
+        let log = ReplyLog::new(alloc, needs.own_parts, needs.reply_bytes)?;
+        let keys = vec![in alloc; 0; (KEY_ROOM * MOST_KEYS) as usize]?;
+        let space = Space::open(alloc, 0, pages, needs.here_puts)?;
         Ok(Shard {
-            space: Space::open(alloc, 0, pages, needs.here_puts)?,
-            journal: Journal::new(alloc, needs.here_parts + needs.here_puts)?,
-            log: ReplyLog::new(alloc, needs.own_parts, needs.reply_bytes)?,
-            keys: vec![in alloc; 0; (KEY_ROOM * MOST_KEYS) as usize]?,
+            space,
+            journal,
+            log,
+            keys,
         })
     }
 

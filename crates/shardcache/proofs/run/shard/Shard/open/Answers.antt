@@ -7,4 +7,4 @@ pub returns-clause-done : goal.returns-clause-done
 returns-clause-done c =
     let needs = c.needs-needs.ensures in
     opened (trace_in c.args.trace.now).operations c.args.pages _ _ _ _ _ _ _ c.requires.well_formed needs.own_parts needs.here_parts needs.here_puts needs.reply_bytes
-    c.in_ok-open.ensures c.in_ok-new.ensures c.in_ok-new-2.ensures
+    c.in_ok-space.ensures c.in_ok-journal.ensures c.in_ok-log.ensures
