@@ -1,5 +1,5 @@
 -- What the owner of a list knows of it.
-use Rattle.std.specs.Prelude.{◌≡◌, ℕ, suc, List, [], ◌∷◌, Option, Some, None, slice_get, slice_set, replicate}
+use Rattle.std.specs.Prelude.{◌≡◌, ℕ, suc, List, [], ◌∷◌, Option, Some, None, slice_get, slice_set, replicate, All, IsNone}
 use Rattle.foreign_list.specs.declared.piece_id.PieceId.{PieceId}
 use Rattle.raw_range.specs.Memory.{Lent}
 use Rattle.foreign_list.specs.Lists.{ListId, OwnedList}
@@ -17,6 +17,12 @@ pub record OwnerState : Type 0 where
 -- the seat is that of the list's owner
 abbrev pub IsSeatOf : OwnedList → OwnerState → Type 0
 IsSeatOf home seat = seat.list ≡ home.id
+
+-- besides, all its tickets are idle, and nothing is left of its walk
+pub record IsAtRest (home : OwnedList) (seat : OwnerState) : Type 0 where
+  pub seat_of : IsSeatOf home seat
+  pub idle : All IsNone seat.lent
+  pub walk : seat.walk ≡ []
 
 abbrev pub IsIdle : OwnerState → ℕ → Type 0
 IsIdle seat t = slice_get seat.lent t ≡ Some None

@@ -1,5 +1,5 @@
 ghost use Rattle.std.specs.Prelude.{◌≡◌, ℕ, List, [], IfOk, IfSome, IfNone, IsNone, All};
-ghost use Rattle.foreign_list.specs.OwnerSeats.{IsSeatOf, IsIdle, all_idle, after_lend, after_take_whole, ComesBack};
+ghost use Rattle.foreign_list.specs.OwnerSeats.{IsSeatOf, IsAtRest, IsIdle, all_idle, after_lend, after_take_whole, ComesBack};
 ghost use Rattle.foreign_list.specs.Blocks.{piece_id_of, IsFresh};
 
 use crate::block::ForeignBlock;
@@ -25,6 +25,7 @@ impl Foreign {
     pub fn new(alloc: Global, owner: u32) -> Result<(Foreign, OwnerSeat), AllocError>
         ensures owner { IfOk result (λ r. r.0.owner ≡ owner) }
         ensures idle { IfOk result (λ r. r.1 ≡ all_idle r.0.id) }
+        ensures rest { IfOk result (λ r. IsAtRest r.0 r.1) }
     {
         let (table, seat) = ListTable::new(alloc)?;
         Ok((
