@@ -1,10 +1,8 @@
 -- From what was read and written to the table of the top call.
-use Rattle.std.proofs.Common.{◌≡◌, ◌⊎◌, ℕ, ◌+◌, ◌<◌, ◌≤◌, Bool, true, false, cond, ltb, List, [], ◌∷◌, length, take, drop, Option, Some, None, Result, Ok, Err, arith, refl, sym, ◌∙◌, inl, inr, append-nil}
-use Rattle.std.specs.Result.{IsOk, IsErr}
-use Rattle.std.specs.Io.KnownBytes.{Appends, Consumes, IsAtEnd}
+use Rattle.std.proofs.Common.{◌≡◌, ℕ, ◌+◌, ◌<◌, true, ltb, List, [], ◌∷◌, length, take, drop, Option, Some, None, Result, Ok, Err, arith, refl, inl, inr}
+use Rattle.std.specs.Io.KnownBytes.{Consumes, IsAtEnd}
 use Rattle.std.proofs.lemmas.Bool.Decides.{nat_tests}
-use Rattle.std.proofs.lemmas.List.{take-append-drop, length-append}
-use Rattle.outside.specs.Rose.{Rose}
+use Rattle.std.proofs.lemmas.List.{take-append-drop}
 use Rattle.trace_text.specs.declared.refusal.Cause.{Cause}
 use Rattle.trace_text.specs.Reading.{Refusal as TraceRefusal, TooLong, AtLine, most_bytes, trace_of}
 use Rattle.trace_text.specs.Trace.{Trace}
@@ -17,7 +15,7 @@ use Rattle.shardcache.specs.declared.status.Status.{Status}
 use Rattle.shardcache.specs.declared.status.Status.TheVariants as status
 use Rattle.shardcache.specs.Settings.{Settings, settings}
 use Rattle.shardcache.specs.Table.{FollowsTable, IsOutput, IsRead, Means, Reports, Writes, WritesAll, trace_bytes}
-use Rattle.shardcache.specs.TraceFor.{Refusal, NotYetShards, NoTrace, refusal_text, trace_for, trace_or_refusal}
+use Rattle.shardcache.specs.TraceFor.{NotYetShards, NoTrace, refusal_text, trace_for, trace_or_refusal}
 use Rattle.shardcache.specs.inside.Ending.{EndsRun, EndsWith}
 use Rattle.shardcache.specs.inside.Finished.{IsRunOf}
 
@@ -107,97 +105,11 @@ means_not_yet found words left asked more =
     let test : ltb 1 found.shards ≡ true = grind (arith, nat_tests) in
     record { wanted = asked; trace = rw test refl; read = read_nothing found.mode left }
 
--- ---- completeness
-
--- what was taken to the end is all that the source had
-all_taken : (bytes taken : List ℕ) (left : Option (List ℕ)) → Consumes (Some bytes) left taken → IsAtEnd left → taken ≡ bytes
-all_taken bytes taken None took ended = absurd took
-all_taken bytes taken (Some rest) took ended = sym (took ∙ rw ended (append-nil taken))
-
--- what was taken is no longer than what the source had
-taken-le : (bytes taken : List ℕ) (left : Option (List ℕ)) → Consumes (Some bytes) left taken → length taken ≤ length bytes
-taken-le bytes taken None took = absurd took
-taken-le bytes taken (Some rest) took = rw (took, length-append) (omega arith)
-
--- more shards than one are refused whatever the bytes are
-not_yet_whatever : (b : Bool) (r s : Result Trace TraceRefusal) → cond b (Err NotYetShards) (trace_or_refusal r) ≡ Err NotYetShards
-    → IsErr (cond b (Err NotYetShards) (trace_or_refusal s))
-not_yet_whatever true r s e = refl
-not_yet_whatever false (Ok trace) s e = cc
-not_yet_whatever false (Err refusal) s e = cc
-
-refused_either : (b : Bool) (r : Result Trace TraceRefusal) (refusal : TraceRefusal) → r ≡ Err refusal → IsErr (cond b (Err NotYetShards) (trace_or_refusal r))
-refused_either true r refusal e = refl
-refused_either false r refusal e = rw e refl
-
--- what is refused as taken is refused as the source had it
-refused_at_source : (mode : Mode) (found : Settings) (refusal : Refusal) (bytes taken : List ℕ) (left : Option (List ℕ)) → Consumes (Some bytes) left taken
-    → trace_for found (trace_bytes mode taken) ≡ Err refusal → IsRead mode (Err refusal) taken left → IsErr (trace_for found (trace_bytes mode bytes))
-refused_at_source Run found NotYetShards bytes taken left took is read =
-    not_yet_whatever (ltb 1 found.shards) (trace_of taken found.shards) (trace_of bytes found.shards) is
-refused_at_source Run found (NoTrace TooLong) bytes taken left took is read =
-    let le = taken-le bytes taken left took in
-    refused_either (ltb 1 found.shards) (trace_of bytes found.shards) TooLong (too_long bytes found.shards (omega (arith, le, read)))
-refused_at_source Run found (NoTrace (AtLine number cause)) bytes taken left took is read =
-    let same = all_taken bytes taken left took read in rw (← same, is) refl
-
--- and what is run is what the source had
-run_at_source : (mode : Mode) (found : Settings) (trace : Trace) (bytes taken : List ℕ) (left : Option (List ℕ)) → Consumes (Some bytes) left taken
-    → trace_for found (trace_bytes mode taken) ≡ Ok trace → IsRead mode (Ok trace) taken left → IsOk (trace_for found (trace_bytes mode bytes))
-run_at_source Run found trace bytes taken left took is read = let same = all_taken bytes taken left took read in rw (← same, is) refl
-
-not_ok_and_err : {T E : Type 0} (r : Result T E) → IsOk r → IsErr r → ⊥
-not_ok_and_err (Ok x) ok err = cc
-not_ok_and_err (Err e) ok err = cc
-
-some_settings : (o : Option Settings) (found : Settings) → o ≡ Some found → o ≡ None → ⊥
-some_settings (Some x) found some e = cc
-some_settings None found some e = cc
-
-same_settings : (o : Option Settings) (x y : Settings) → o ≡ Some x → o ≡ Some y → x ≡ y
-same_settings o x y p q = cc
-
--- where no fault rose, a trace is run unless memory runs out
-pub accepted : (answered : Status) (words : List (List ℕ)) (bytes : List ℕ) (found : Settings) (left before_sink after_sink : Option (List ℕ)) (f f' g g' : ℕ)
-    → FollowsTable answered words (Some bytes) left before_sink after_sink → (answered ≡ status.ReadFault → Rose f f') → (answered ≡ status.WriteFault → Rose g g')
-    → settings words ≡ Some found → IsOk (trace_for found (trace_bytes found.mode bytes)) → (Rose f f' → ⊥) → (Rose g g' → ⊥)
-    → (answered ≡ status.Done) ⊎ (answered ≡ status.Memory)
-accepted status.Done words bytes found left bs sink f f' g g' is rf wf asked ok nr nw = inl refl
-accepted status.Memory words bytes found left bs sink f f' g g' is rf wf asked ok nr nw = inr refl
-accepted status.Usage words bytes found left bs sink f f' g g' is rf wf asked ok nr nw = absurd (some_settings (settings words) found asked is.row.0)
-accepted status.Refused words bytes found left bs sink f f' g g' is rf wf asked ok nr nw =
-    let means = is.row.2 in
-    let same = same_settings (settings words) is.row.0 found means.wanted asked in
-    let err = rw same at (refused_at_source is.row.0.mode is.row.0 is.row.1 bytes is.taken left is.took means.trace means.read) in
-    absurd (not_ok_and_err (trace_for found (trace_bytes found.mode bytes)) ok err)
-accepted status.ReadFault words bytes found left bs sink f f' g g' is rf wf asked ok nr nw = absurd (nr (rf refl))
-accepted status.WriteFault words bytes found left bs sink f f' g g' is rf wf asked ok nr nw = absurd (nw (wf refl))
-
--- and what is no trace is refused
-pub refused : (answered : Status) (words : List (List ℕ)) (bytes : List ℕ) (found : Settings) (left before_sink after_sink : Option (List ℕ)) (f f' g g' : ℕ)
-    → FollowsTable answered words (Some bytes) left before_sink after_sink → (answered ≡ status.ReadFault → Rose f f') → (answered ≡ status.WriteFault → Rose g g')
-    → settings words ≡ Some found → IsErr (trace_for found (trace_bytes found.mode bytes)) → (Rose f f' → ⊥) → (Rose g g' → ⊥)
-    → (answered ≡ status.Refused) ⊎ (answered ≡ status.Memory)
-refused status.Refused words bytes found left bs sink f f' g g' is rf wf asked err nr nw = inl refl
-refused status.Memory words bytes found left bs sink f f' g g' is rf wf asked err nr nw = inr refl
-refused status.Usage words bytes found left bs sink f f' g g' is rf wf asked err nr nw = absurd (some_settings (settings words) found asked is.row.0)
-refused status.Done words bytes found left bs sink f f' g g' is rf wf asked err nr nw =
-    let means = is.row.2 in
-    let same = same_settings (settings words) is.row.0 found means.wanted asked in
-    let ok = rw same at (run_at_source is.row.0.mode is.row.0 is.row.1 bytes is.taken left is.took means.trace means.read) in
-    absurd (not_ok_and_err (trace_for found (trace_bytes found.mode bytes)) ok err)
-refused status.ReadFault words bytes found left bs sink f f' g g' is rf wf asked err nr nw = absurd (nr (rf refl))
-refused status.WriteFault words bytes found left bs sink f f' g g' is rf wf asked err nr nw = absurd (nw (wf refl))
-
 -- ---- what the reading says
 
 pub takes_none : (o : Option (List ℕ)) → Consumes o o []
 takes_none None = tt
 takes_none (Some xs) = refl
-
-pub appends_none : (o : Option (List ℕ)) → Appends o o []
-appends_none None = tt
-appends_none (Some xs) = sym (append-nil xs)
 
 -- ---- one shard
 
