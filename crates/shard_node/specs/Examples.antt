@@ -1,0 +1,103 @@
+-- A worked run on which the definitions are checked: two shards, and one put whose key the other shard owns.
+use Rattle.std.specs.Prelude.{◌≡◌, ℕ, false, true, List, [], ◌∷◌, ◌++◌, replicate, codes, Option, Some, None}
+use Rattle.std.specs.List.{slice_get}
+use Rattle.layout.specs.Sizes.{tickets}
+use Rattle.trace_text.specs.Trace.{Trace}
+use Rattle.cache_model.specs.declared.entry.Entry.{Entry}
+use Rattle.cache_model.specs.declared.entry.Entry.TheVariants.{Done}
+use Rattle.cache_model.specs.declared.reply_kind.ReplyKind.TheVariants as kinds
+use Rattle.cache_model.specs.Examples.{put_b}
+use Rattle.foreign_list.specs.Blocks.{Block}
+use Rattle.foreign_list.specs.Lists.{OwnedList}
+use Rattle.shard_rings.specs.Lanes.{each_lane}
+use Rattle.shard_rings.specs.declared.link.Packet.{Packet}
+use Rattle.shard_rings.specs.declared.link.Packet.TheVariants.{Block as InBlock, Bye}
+use Rattle.shard_node.specs.Nodes.{NodeState, Traffic}
+use Rattle.shard_node.specs.Due.{due, is_next, number_in, requests_taken}
+use Rattle.shard_node.specs.Standing.{InStanding}
+use Rattle.shard_node.specs.Turns.{IsDone, expected_said}
+
+-- the request of the put, byte for byte, and its reply
+abbrev pub put_request : List ℕ
+put_request = 1 ∷ 0 ∷ 1 ∷ 0 ∷ 1 ∷ 0 ∷ 0 ∷ 0 ∷ 1 ∷ 0 ∷ 0 ∷ 0 ∷ 0 ∷ 0 ∷ 0 ∷ 0 ∷ 98 ∷ 49 ∷ []
+
+abbrev pub put_reply : List ℕ
+put_reply = 17 ∷ 0 ∷ 0 ∷ 0 ∷ 1 ∷ 0 ∷ 0 ∷ 0 ∷ 0 ∷ 0 ∷ 0 ∷ 0 ∷ 0 ∷ 0 ∷ 0 ∷ 0 ∷ []
+
+-- the same request with the number 3, and with the value 2
+abbrev pub of_number_3 : List ℕ
+of_number_3 = 1 ∷ 0 ∷ 1 ∷ 0 ∷ 3 ∷ 0 ∷ 0 ∷ 0 ∷ 1 ∷ 0 ∷ 0 ∷ 0 ∷ 0 ∷ 0 ∷ 0 ∷ 0 ∷ 98 ∷ 49 ∷ []
+
+abbrev pub of_value_2 : List ℕ
+of_value_2 = 1 ∷ 0 ∷ 1 ∷ 0 ∷ 1 ∷ 0 ∷ 0 ∷ 0 ∷ 1 ∷ 0 ∷ 0 ∷ 0 ∷ 0 ∷ 0 ∷ 0 ∷ 0 ∷ 98 ∷ 50 ∷ []
+
+-- a packet with these bytes, in some block
+abbrev pub packet : Block → List ℕ → Packet
+packet block bytes = InBlock (record block { piece = record block.piece { bytes = bytes } })
+
+-- what shard 1 is told by shard 0
+abbrev pub to_the_owner : List (Option (List ℕ))
+to_the_owner = due put_b 2 0 1
+
+-- Which packets are taken, and the numbers of those that are not.
+pub record PacketsAreRight (block : Block) : Type 0 where
+  pub asked : to_the_owner ≡ Some put_request ∷ None ∷ []
+  pub asked_back : due put_b 2 1 0 ≡ None ∷ []
+  -- the right request, and then Bye
+  pub taken : requests_taken to_the_owner (packet block put_request ∷ Bye ∷ []) ≡ 2
+  -- a request of another number is set aside, and the right one behind it is taken
+  pub other_number : is_next to_the_owner 0 (packet block of_number_3) ≡ false
+  pub expects : expected_said (slice_get to_the_owner 0) ≡ 1
+  pub found : number_in (packet block of_number_3) ≡ 3
+  pub behind : requests_taken to_the_owner (packet block of_number_3 ∷ packet block put_request ∷ []) ≡ 1
+  -- so is one of the right number that differs elsewhere
+  pub other_value : is_next to_the_owner 0 (packet block of_value_2) ≡ false
+  pub other_value_found : number_in (packet block of_value_2) ≡ 1
+  -- Bye before its time, and five bytes
+  pub early_bye : is_next to_the_owner 0 Bye ≡ false
+  pub bye_found : number_in Bye ≡ 0
+  pub short : is_next to_the_owner 0 (packet block (1 ∷ 0 ∷ 1 ∷ 0 ∷ 1 ∷ [])) ≡ false
+  pub short_found : number_in (packet block (1 ∷ 0 ∷ 1 ∷ 0 ∷ 1 ∷ [])) ≡ 0
+  -- the right request a second time, where Bye is expected
+  pub twice : is_next to_the_owner 1 (packet block put_request) ≡ false
+  pub twice_expected : expected_said (slice_get to_the_owner 1) ≡ 0
+  pub twice_found : number_in (packet block put_request) ≡ 1
+  pub counted_once : requests_taken to_the_owner (packet block put_request ∷ packet block put_request ∷ Bye ∷ []) ≡ 2
+
+-- Shard 1 at the end: the put was asked of it, done and answered, and both said Bye. Its links are seen as what went over them.
+abbrev pub at_owner : Block → OwnedList → List Packet → List Entry → NodeState Traffic (Unit {0})
+at_owner block home requests entries = record {
+  shard = 1;
+  shards = 2;
+  pages = 8192;
+  trace = put_b;
+  home = home;
+  rows = record { key = codes "b"; value = codes "1"; number = 1 } ∷ [];
+  lending = record { lent = replicate tickets None; lends = 1; backs = 1; take_wholes = 3 };
+  journal = record { entries = entries; spare = 1 };
+  log = record { replies = []; room = 0 };
+  peers = record {
+    shard = 0;
+    link = record {
+      sent = record { requests = Bye ∷ []; replies = packet block put_reply ∷ [] };
+      received = record { requests = requests; replies = [] };
+      full = each_lane 0;
+      empty = each_lane 2;
+    };
+    held = each_lane None;
+    reply = None;
+  } ∷ [];
+  begun = 0;
+  request = None;
+  gate = tt;
+  tally = 1;
+  turns = 4;
+}
+
+-- It is in standing, and done. It is neither where the journal has the put twice, nor where it has not heard the request.
+pub record StandingIsRight (block : Block) (home : OwnedList) : Type 0 where
+  pub stands : InStanding (λ link. link) (at_owner block home (packet block put_request ∷ Bye ∷ []) (Done 1 ∷ []))
+  pub is_done : IsDone (λ link. link) (λ gate. 0) (at_owner block home (packet block put_request ∷ Bye ∷ []) (Done 1 ∷ []))
+  pub twice : InStanding (λ link. link) (at_owner block home (packet block put_request ∷ Bye ∷ []) (Done 1 ∷ Done 1 ∷ [])) → ⊥
+  pub unasked : InStanding (λ link. link) (at_owner block home (packet block of_number_3 ∷ Bye ∷ []) (Done 1 ∷ [])) → ⊥
+  pub not_heard : IsDone (λ link. link) (λ gate. 0) (at_owner block home (packet block put_request ∷ []) (Done 1 ∷ [])) → ⊥

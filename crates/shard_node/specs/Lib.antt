@@ -1,0 +1,6 @@
+pub mod Nodes
+pub mod Due
+pub mod Standing
+pub mod Turns
+pub mod Rans
+pub mod Examples

@@ -1,0 +1,196 @@
+-- What a turn answers, and exactly when.
+use Rattle.std.specs.Prelude.{◌≡◌, ◌≢◌, ℕ, suc, ◌+◌, ◌-◌, ◌<◌, ◌⊎◌, Bool, true, false, List, [], ◌∷◌, ◌++◌, length, map, take, drop, All, Option, Some, None, IsSome}
+use Rattle.std.specs.List.{slice_get}
+use Rattle.trace_text.specs.Operation.{Operation}
+use Rattle.cache_model.specs.Apply.{Reply}
+use Rattle.cache_model.specs.Legal.{done}
+use Rattle.cache_model.specs.OwnParts.{issued_parts}
+use Rattle.foreign_list.specs.Blocks.{Block}
+use Rattle.foreign_list.specs.declared.piece_id.PieceId.{PieceId}
+use Rattle.shard_rings.specs.Lanes.{Lanes, Rose, on}
+use Rattle.shard_rings.specs.declared.link.Lane.{Lane}
+use Rattle.shard_rings.specs.declared.link.Lane.TheVariants.{Requests, Replies}
+use Rattle.shard_rings.specs.declared.link.Packet.{Packet}
+use Rattle.shard_node.specs.declared.turn.Turn.{Turn}
+use Rattle.shard_node.specs.declared.turn.Turn.TheVariants.{Moved, Idle, Done, Stray}
+use Rattle.shard_node.specs.Nodes.{NodeState, PeerState, Traffic, Waiting}
+use Rattle.shard_node.specs.Due.{AnswersNot, Takes, due, is_next, number_in, number_said, operations_for, requests_taken, said}
+
+-- the tickets of requests are the first ones, and the others are those of replies
+abbrev pub request_tickets : ℕ
+request_tickets = 8
+
+abbrev pub NoneIdle : List (Option PieceId) → Type 0
+NoneIdle tickets = All (λ ticket. IsSome ticket) tickets
+
+abbrev pub IsEmpty : {A : Type 0} → Option A → Type 0
+IsEmpty option = option ≡ None
+
+-- the place k of two lists
+abbrev pub AtPlace : {A : Type 0} → List A → List A → ℕ → (A → A → Type 0) → Type 0
+AtPlace {A} old new k R = (a b : A) → slice_get old k ≡ Some a → slice_get new k ≡ Some b → R a b
+
+-- the answer for a packet that was not the one expected: who sent it, the number of the packet that was expected, and its own
+pub record Aside : Type 0 where
+  pub peer : ℕ
+  pub expected : ℕ
+  pub found : ℕ
+
+-- the number of the packet that was expected; Bye has 0, and so has what comes where nothing was
+abbrev pub expected_number : Option Operation → ℕ
+expected_number None = 0
+expected_number (Some operation) = operation.number
+
+abbrev pub expected_said : Option (Option (List ℕ)) → ℕ
+expected_said None = 0
+expected_said (Some what) = number_said what
+
+-- One node's turn, from `old` to `new`. Its links tell what went over them and what they counted, and its gate how often it
+-- held.
+module _ {L G : Type 0} (traffic : L → Traffic) (holds : G → ℕ) where
+  -- Done.
+
+  -- no more comes of the peer and nothing is left to send to it
+  pub record HasParted (node : NodeState L G) (peer : PeerState L) : Type 0 where
+    pub heard : requests_taken (due node.trace node.shards peer.shard node.shard) (traffic peer.link).received.requests
+        ≡ length (due node.trace node.shards peer.shard node.shard)
+    pub told : map said (traffic peer.link).sent.requests ≡ due node.trace node.shards node.shard peer.shard
+    pub released_requests : IsEmpty peer.held.requests
+    pub released_replies : IsEmpty peer.held.replies
+    pub replied : IsEmpty peer.reply
+
+  -- all own parts are answered, each Bye came and the own ones went, nothing waits, and all tickets are idle
+  pub record IsDone (node : NodeState L G) : Type 0 where
+    pub answered : All (λ reply. IsSome reply) node.log.replies
+    pub parted : All (HasParted node) node.peers
+    pub asked : IsEmpty node.request
+    pub idle : All (λ ticket. IsEmpty ticket) node.lending.lent
+
+  -- Stray.
+
+  abbrev pub IsAside : Lane → NodeState L G → Aside → PeerState L → PeerState L → Type 0
+  IsAside Replies node aside old new = (packet : Packet) × (replies : List Reply)
+      × ((traffic new.link).received.replies ≡ (traffic old.link).received.replies ++ packet ∷ [])
+      × Takes node.trace (operations_for node.trace node.shards node.shard old.shard) (traffic old.link).received.replies replies
+      × AnswersNot node.trace (slice_get (operations_for node.trace node.shards node.shard old.shard) (length replies)) packet
+      × (aside ≡ record { peer = old.shard; expected = expected_number (slice_get (operations_for node.trace node.shards node.shard old.shard) (length replies)); found = number_in packet })
+  IsAside Requests node aside old new = (packet : Packet)
+      × ((traffic new.link).received.requests ≡ (traffic old.link).received.requests ++ packet ∷ [])
+      × (is_next (due node.trace node.shards old.shard node.shard) (requests_taken (due node.trace node.shards old.shard node.shard) (traffic old.link).received.requests) packet ≡ false)
+      × (aside ≡ record { peer = old.shard;
+        expected = expected_said (slice_get (due node.trace node.shards old.shard node.shard) (requests_taken (due node.trace node.shards old.shard node.shard) (traffic old.link).received.requests));
+        found = number_in packet })
+
+  -- the peers are served in rising order, all lanes of replies before the lanes of requests
+  abbrev pub HasAside : Lane → NodeState L G → NodeState L G → ℕ → Aside → Type 0
+  HasAside lane old new k aside = (a b : PeerState L) × (slice_get old.peers k ≡ Some a) × (slice_get new.peers k ≡ Some b) × IsAside lane old aside a b
+
+  abbrev pub HasNone : Lane → NodeState L G → NodeState L G → ℕ → Type 0
+  HasNone lane old new k = (aside : Aside) → HasAside lane old new k aside → ⊥
+
+  -- the first packet of the turn that was not the expected one
+  abbrev pub IsFirstAside : NodeState L G → NodeState L G → Aside → Type 0
+  IsFirstAside old new aside =
+      ((k : ℕ) × HasAside Replies old new k aside × ((j : ℕ) → j < k → HasNone Replies old new j))
+      ⊎ ((k : ℕ) × HasAside Requests old new k aside × ((j : ℕ) → j < k → HasNone Requests old new j) × ((j : ℕ) → HasNone Replies old new j))
+
+  abbrev pub NoneAside : NodeState L G → NodeState L G → Type 0
+  NoneAside old new = (k : ℕ) → HasNone Replies old new k × HasNone Requests old new k
+
+  -- Moved.
+
+  -- a packet was sent to the peer, or received from it
+  abbrev pub HasMoved : PeerState L → PeerState L → Type 0
+  HasMoved old new = ((traffic new.link).sent ≢ (traffic old.link).sent) ⊎ ((traffic new.link).received ≢ (traffic old.link).received)
+
+  -- a block that waited to be released waits no more
+  abbrev pub HasReleased : PeerState L → PeerState L → Type 0
+  HasReleased old new = (lane : Lane) × IsSome (on lane old.held) × IsEmpty (on lane new.held)
+
+  -- so for some peer
+  abbrev pub ForSome : (PeerState L → PeerState L → Type 0) → NodeState L G → NodeState L G → Type 0
+  ForSome R old new = (k : ℕ) × (a b : PeerState L) × (slice_get old.peers k ≡ Some a) × (slice_get new.peers k ≡ Some b) × R a b
+
+  -- a block came back, a packet was sent or received, a part was done, or a block that waited was released
+  abbrev pub HasCause : NodeState L G → NodeState L G → Type 0
+  HasCause old new =
+      (old.lending.backs < new.lending.backs)
+      ⊎ ForSome HasMoved old new
+      ⊎ (length (done old.journal.entries) < length (done new.journal.entries))
+      ⊎ (ForSome HasReleased old new × Rose old.tally new.tally)
+
+  -- Idle.
+
+  -- the block waits still, and has seen the head of its list change since
+  abbrev pub Raced : Option Block → Option Block → Type 0
+  Raced None new = Unit {0}
+  Raced (Some block) None = ⊥
+  Raced (Some block) (Some later) = (later.pass ≡ block.pass) × (block.seen < later.seen)
+
+  abbrev pub IsFull : Lane → PeerState L → PeerState L → Type 0
+  IsFull lane old new = Rose (on lane (traffic old.link).full) (on lane (traffic new.link).full)
+
+  abbrev pub WasEmpty : Lane → PeerState L → PeerState L → Type 0
+  WasEmpty lane old new = Rose (on lane (traffic old.link).empty) (on lane (traffic new.link).empty)
+
+  -- all own parts were begun, and none waits: Bye is what is left to send on the lanes of requests
+  abbrev pub HasBegunAll : NodeState L G → Type 0
+  HasBegunAll node = (node.begun ≡ length (issued_parts node.trace node.shards node.shard)) × IsEmpty node.request
+
+  -- the peer has requests without a reply: fewer replies were taken of it than requests were sent to it
+  abbrev pub Owes : NodeState L G → PeerState L → Type 0
+  Owes node peer = (replies : List Reply)
+      × Takes node.trace (operations_for node.trace node.shards node.shard peer.shard) (traffic peer.link).received.replies replies
+      × (length replies < length (traffic peer.link).sent.requests)
+      × (length replies < length (operations_for node.trace node.shards node.shard peer.shard))
+
+  abbrev pub HasHeardBye : NodeState L G → PeerState L → Type 0
+  HasHeardBye node peer = requests_taken (due node.trace node.shards peer.shard node.shard) (traffic peer.link).received.requests
+      ≡ length (due node.trace node.shards peer.shard node.shard)
+
+  abbrev pub HasSentBye : NodeState L G → PeerState L → Type 0
+  HasSentBye node peer = map said (traffic peer.link).sent.requests ≡ due node.trace node.shards node.shard peer.shard
+
+  -- what held a node up toward one peer
+  pub record IsHeldUp (node later : NodeState L G) (old new : PeerState L) : Type 0 where
+    pub requests_raced : Raced old.held.requests new.held.requests
+    pub replies_raced : Raced old.held.replies new.held.replies
+    pub reply : IsSome old.reply → IsFull Replies old new
+    pub bye : HasBegunAll node → (HasSentBye node old → ⊥) → IsFull Requests old new
+    pub no_reply : Owes node old → IsEmpty old.held.replies → WasEmpty Replies old new
+    pub no_request : (HasHeardBye node old → ⊥) → IsEmpty old.held.requests → IsEmpty old.reply
+        → WasEmpty Requests old new ⊎ NoneIdle (drop request_tickets later.lending.lent)
+
+  -- the own part k is the first of its command
+  abbrev pub IsFirst : NodeState L G → ℕ → ℕ × ℕ → Type 0
+  IsFirst node k part = (k ≡ 0) ⊎ ((before : ℕ × ℕ) × (slice_get (issued_parts node.trace node.shards node.shard) (k - 1) ≡ Some before) × (before.0 ≢ part.0))
+
+  -- what held the next own part up: the gate, or that no ticket of a request is idle
+  abbrev pub IsHeldBack : NodeState L G → NodeState L G → Type 0
+  IsHeldBack old new = (part : ℕ × ℕ) → slice_get (issued_parts old.trace old.shards old.shard) old.begun ≡ Some part
+      → (IsFirst old old.begun part × (holds old.gate < holds new.gate))
+      ⊎ ((part.1 ≢ old.shard) × NoneIdle (take request_tickets new.lending.lent))
+
+  pub record IsIdle (old new : NodeState L G) : Type 0 where
+    pub nothing : HasCause old new → ⊥
+    pub took_whole : new.lending.take_wholes ≡ suc old.lending.take_wholes
+    pub peers : (k : ℕ) → AtPlace old.peers new.peers k (IsHeldUp old new)
+    pub request : (waiting : Waiting) (k : ℕ) → old.request ≡ Some waiting
+        → AtPlace old.peers new.peers k (λ a b. a.shard ≡ waiting.peer → IsFull Requests a b)
+    pub own : IsEmpty old.request → IsHeldBack old new
+
+  -- The answer of a turn.
+  abbrev pub IsAnswer : Turn → NodeState L G → NodeState L G → Type 0
+  IsAnswer Done old new = IsDone new
+  IsAnswer (Stray peer expected found) old new = (IsDone new → ⊥) × IsFirstAside old new (record { peer = peer; expected = expected; found = found })
+  IsAnswer Moved old new = (IsDone new → ⊥) × NoneAside old new × HasCause old new
+  IsAnswer Idle old new = (IsDone new → ⊥) × NoneAside old new × IsIdle old new
+
+-- What no turn changes.
+pub record IsSameNode {L G E : Type 0} (end : L → E) (old new : NodeState L G) : Type 0 where
+  pub shard : new.shard ≡ old.shard
+  pub shards : new.shards ≡ old.shards
+  pub pages : new.pages ≡ old.pages
+  pub trace : new.trace ≡ old.trace
+  pub home : new.home ≡ old.home
+  pub ends : map (λ peer. end peer.link) new.peers ≡ map (λ peer. end peer.link) old.peers

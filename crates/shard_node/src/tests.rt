@@ -1,0 +1,24 @@
+//! The definitions on a worked run.
+ghost use Rattle.foreign_list.specs.Blocks.{Block};
+ghost use Rattle.foreign_list.specs.Lists.{OwnedList};
+ghost use Rattle.shard_node.specs.Examples.{PacketsAreRight, StandingIsRight};
+
+/// Which packets a shard takes that was asked one put, and which it sets aside.
+fn packets()
+    ensures { (block : Block) → PacketsAreRight block }
+{}
+
+#[test]
+fn packets_are_taken_in_order() {
+    packets()
+}
+
+/// The shard is in standing and done where the put was done once.
+fn standing()
+    ensures { (block : Block) (home : OwnedList) → StandingIsRight block home }
+{}
+
+#[test]
+fn a_put_is_done_once_for_another_shard() {
+    standing()
+}
