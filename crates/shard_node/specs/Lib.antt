@@ -4,3 +4,4 @@ pub mod Standing
 pub mod Turns
 pub mod Rans
 pub mod Examples
+pub mod inside

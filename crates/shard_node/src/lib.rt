@@ -4,7 +4,12 @@
 #![tactic(auto)]
 
 mod gate;
+mod peer;
+mod peer_steps;
 mod ran;
+mod release;
+mod rest;
+mod send;
 mod turn;
 
 pub use gate::{Gate, Gates, OpenGate, OpenGates};

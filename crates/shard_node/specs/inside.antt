@@ -1,0 +1,5 @@
+-- What only the private parts of a node cite.
+pub mod Releases
+pub mod Rest
+pub mod Sends
+pub mod Peers

@@ -1,0 +1,33 @@
+//! The steps of a turn that deal with one peer and nothing else.
+ghost use Rattle.std.specs.Prelude.{◌≡◌};
+ghost use Rattle.shard_rings.specs.declared.link.Lane.{Lane as Lanes};
+ghost use Rattle.shard_node.specs.Nodes.{traffic_by};
+ghost use Rattle.shard_node.specs.inside.Peers.{held};
+ghost use Rattle.shard_node.specs.inside.Releases.{TriesBoth};
+ghost use Rattle.shard_node.specs.inside.Sends.{SendsHeld};
+
+use crate::peer::Peer;
+use crate::release::release_held;
+use crate::send::send_held;
+use foreign_list::Tally;
+use shard_rings::{Lane, Link};
+
+impl<'f, L: Link<'f> + Drop> Peer<'f, L> {
+    /// Tries each block that waits to be released once.
+    pub(crate) fn release_held(&mut self, tally: &mut Tally)
+        ensures tries { TriesBoth (held self.old) (held self.new) tally.old tally.new }
+        ensures same { self.new ≡ record self.old { held_request = self.new.held_request; held_reply = self.new.held_reply } }
+    {
+        release_held(&mut self.held_request, tally);
+        release_held(&mut self.held_reply, tally);
+    }
+
+    /// Sends the reply that waits.
+    pub(crate) fn send_reply(&mut self)
+        ensures sends { SendsHeld Lanes.Replies self.old.reply self.new.reply (traffic_by L.sent L.received L.full L.empty self.old.link) (traffic_by L.sent L.received L.full L.empty self.new.link) }
+        ensures same_end { L.end self.new.link ≡ L.end self.old.link }
+        ensures same { self.new ≡ record self.old { link = self.new.link; reply = self.new.reply } }
+    {
+        send_held(&mut self.link, Lane::Replies, &mut self.reply);
+    }
+}

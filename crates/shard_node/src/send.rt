@@ -1,0 +1,37 @@
+//! How blocks go to other shards.
+ghost use Rattle.std.specs.Prelude.{◌≡◌, Some};
+ghost use Rattle.shard_node.specs.Nodes.{traffic_by};
+ghost use Rattle.shard_node.specs.inside.Sends.{SendsHeld};
+
+use foreign_list::ForeignBlock;
+use shard_rings::{Lane, Link, Packet};
+
+/// Sends a block. One that is refused comes back, to wait.
+pub(crate) fn send<'f, L: Link<'f>>(
+    link: &mut L,
+    lane: Lane,
+    block: ForeignBlock<'f>,
+) -> Option<ForeignBlock<'f>>
+    ensures sends { SendsHeld lane (Some block.entry) result (traffic_by L.sent L.received L.full L.empty link.old) (traffic_by L.sent L.received L.full L.empty link.new) }
+    ensures same_end { L.end link.new ≡ L.end link.old }
+{
+    match link.send(lane, Packet::Block(block)) {
+        Ok(()) => None,
+        Err(Packet::Block(back)) => Some(back),
+        Err(Packet::Bye) => unreachable!(),
+    }
+}
+
+/// Sends what waits.
+pub(crate) fn send_held<'f, L: Link<'f>>(
+    link: &mut L,
+    lane: Lane,
+    held: &mut Option<ForeignBlock<'f>>,
+)
+    ensures sends { SendsHeld lane held.old held.new (traffic_by L.sent L.received L.full L.empty link.old) (traffic_by L.sent L.received L.full L.empty link.new) }
+    ensures same_end { L.end link.new ≡ L.end link.old }
+{
+    if let Some(block) = held.take() {
+        *held = send(link, lane, block);
+    }
+}
