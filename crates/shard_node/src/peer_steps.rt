@@ -2,8 +2,8 @@
 ghost use Rattle.std.specs.Prelude.{◌≡◌};
 ghost use Rattle.shard_rings.specs.declared.link.Lane.{Lane as Lanes};
 ghost use Rattle.shard_node.specs.Nodes.{traffic_by};
-ghost use Rattle.shard_node.specs.inside.Peers.{held};
-ghost use Rattle.shard_node.specs.inside.Releases.{TriesBoth};
+ghost use Rattle.shard_node.specs.inside.Peers.{held, held_by_all, Each, HoldsOther};
+ghost use Rattle.shard_node.specs.inside.Releases.{Releases, TriesBoth};
 ghost use Rattle.shard_node.specs.inside.Sends.{SendsHeld};
 
 use crate::peer::Peer;
@@ -12,16 +12,28 @@ use crate::send::send_held;
 use foreign_list::Tally;
 use shard_rings::{Lane, Link};
 
-impl<'f, L: Link<'f> + Drop> Peer<'f, L> {
+/// Tries each block that waits to be released once.
+pub(crate) fn release_all<'f, L: Drop>(peers: &mut [Peer<'f, L>], tally: &mut Tally)
+    ensures releases { Releases (held_by_all peers.old) (held_by_all peers.new) tally.old tally.new }
+    ensures same { Each HoldsOther peers.old peers.new }
+{
+    for peer in peers.iter_mut() {
+        peer.release_held(tally);
+    }
+}
+
+impl<'f, L: Drop> Peer<'f, L> {
     /// Tries each block that waits to be released once.
     pub(crate) fn release_held(&mut self, tally: &mut Tally)
         ensures tries { TriesBoth (held self.old) (held self.new) tally.old tally.new }
-        ensures same { self.new ≡ record self.old { held_request = self.new.held_request; held_reply = self.new.held_reply } }
+        ensures same { HoldsOther self.old self.new }
     {
         release_held(&mut self.held_request, tally);
         release_held(&mut self.held_reply, tally);
     }
+}
 
+impl<'f, L: Link<'f> + Drop> Peer<'f, L> {
     /// Sends the reply that waits.
     pub(crate) fn send_reply(&mut self)
         ensures sends { SendsHeld Lanes.Replies self.old.reply self.new.reply (traffic_by L.sent L.received L.full L.empty self.old.link) (traffic_by L.sent L.received L.full L.empty self.new.link) }

@@ -1,7 +1,8 @@
 -- Blocks that wait to be released, and the one try that each has in a turn.
-use Rattle.std.specs.Prelude.{◌≡◌, ℕ, ◌+◌, Option, Some, None}
+use Rattle.std.specs.Prelude.{◌≡◌, ℕ, ◌+◌, ◌≤◌, min, Option, Some, None}
 use Rattle.foreign_list.specs.Blocks.{Block, raced}
-use Rattle.shard_rings.specs.Lanes.{Lanes, counted}
+use Rattle.shard_rings.specs.Lanes.{Lanes, counted, greatest_count}
+use Rattle.shard_node.specs.Standing.{one_if}
 
 -- Nothing waited; or the block is on its list, and was counted; or it saw the head of the list change, and waits on.
 abbrev pub Tries : Option Block → Option Block → ℕ → ℕ → Type 0
@@ -14,3 +15,17 @@ pub record TriesBoth (old new : Lanes (Option Block)) (count count' : ℕ) : Typ
   pub between : ℕ
   pub requests : Tries old.requests new.requests count between
   pub replies : Tries old.replies new.replies between count'
+
+-- how many blocks wait to be released
+abbrev pub held_count : Lanes (Option Block) → ℕ
+held_count held = one_if held.requests + one_if held.replies
+
+-- a tally of so many more
+abbrev pub CountsOn : ℕ → ℕ → ℕ → Type 0
+CountsOn more count count' = count ≤ greatest_count → count' ≡ min (count + more) greatest_count
+
+-- of so many blocks these still wait, and the others were released and counted
+pub record Releases (before after count count' : ℕ) : Type 0 where
+  pub released : ℕ
+  pub all : released + after ≡ before
+  pub counts : CountsOn released count count'

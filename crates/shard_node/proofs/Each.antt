@@ -1,0 +1,43 @@
+-- A pass over all peers that changes one after the other.
+use Rattle.std.proofs.Common.{◌≡◌, ℕ, ◌+◌, ◌<◌, ◌≤◌, ◌⊎◌, inl, inr, List, length, get_or, slice_set, arith, refl, sym, ap, subst, ◌∙◌, sum_by}
+use Rattle.std.proofs.lemmas.Bool.{cases_order}
+use Rattle.std.proofs.lemmas.List.{get_or-set_same, get_or-set_other, get_or_default}
+use Rattle.std.proofs.lemmas.List.Sums.{sum_by-set}
+use Rattle.shard_node.specs.declared.peer.Peer.{Peer}
+use Rattle.shard_node.specs.inside.Peers.{Each, HoldsOther, held, held_by_all}
+use Rattle.shard_node.specs.inside.Releases.{Releases, TriesBoth, held_count}
+use Rattle.shard_node.proofs.Releases.{counts_on, two_tries}
+
+module _ {L : Type 0} where
+  -- one more was changed, from what it was after the changes before
+  pub each_next : (R : Peer L → Peer L → Type 0) (before peers : List (Peer L)) (i : ℕ) (e new : Peer L)
+      → ((a b c : Peer L) → R a b → R b c → R a c) → i < length peers → R (get_or peers i e) new
+      → Each R before peers → Each R before (slice_set peers i new)
+  each_next R before peers i e new joins within change each k d below = elim (cases_order k i) [
+      inl same ↦
+        let here : get_or (slice_set peers i new) k d ≡ new = ap (λ j. get_or (slice_set peers i new) j d) same ∙ get_or-set_same peers i new d within in
+        let was : get_or peers k d ≡ get_or peers i e = ap (λ j. get_or peers j d) same ∙ get_or_default peers i d e within in
+        let first : R (get_or before k d) (get_or peers i e) = subst (λ (x : Peer L). R (get_or before k d) x) was (each k d below) in
+        subst (λ (x : Peer L). R (get_or before k d) x) (sym here) (joins _ _ new first change)
+    | inr (inl less) ↦ subst (λ (x : Peer L). R (get_or before k d) x) (sym (get_or-set_other peers i k new d (λ e. omega (arith, e, less)))) (each k d below)
+    | inr (inr more) ↦ subst (λ (x : Peer L). R (get_or before k d) x) (sym (get_or-set_other peers i k new d (λ e. omega (arith, e, more)))) (each k d below)
+    ]
+
+  pub holds_other_joins : (a b c : Peer L) → HoldsOther a b → HoldsOther b c → HoldsOther a c
+  holds_other_joins a b c first second =
+      second ∙ ap (λ (x : Peer L). let y : Peer L = record x { held_request = c.held_request; held_reply = c.held_reply } in y) first
+
+  pub release_next : (before peers : List (Peer L)) (i x y z : ℕ) (e new : Peer L)
+      → i < length peers → TriesBoth (held (get_or peers i e)) (held new) y z
+      → Releases (held_by_all before) (held_by_all peers) x y → Releases (held_by_all before) (held_by_all (slice_set peers i new)) x z
+  release_next before peers i x y z e new within tries releases =
+      let one = two_tries (held (get_or peers i e)) (held new) y z tries in
+      let f : Peer L → ℕ = λ peer. held_count (held peer) in
+      let sums : sum_by f (slice_set peers i new) + f (get_or peers i e) ≡ sum_by f peers + f new = sum_by-set f peers i new e within in
+      let all = one.all in
+      let before-all = releases.all in
+      record {
+        released = releases.released + one.released;
+        all = omega (arith, sums, all, before-all);
+        counts = counts_on releases.released one.released x y z releases.counts one.counts;
+      }
