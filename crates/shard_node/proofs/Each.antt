@@ -8,6 +8,28 @@ use Rattle.shard_node.specs.inside.Peers.{Each, HoldsOther, held, held_by_all}
 use Rattle.shard_node.specs.inside.Releases.{Releases, TriesBoth, held_count}
 use Rattle.shard_node.proofs.Releases.{counts_on, two_tries}
 
+-- A pass that changes each element once: those before the place were changed, and the others are as they were.
+pub record ChangesOnce {X : Type 0} (R : X → X → Type 0) (before now : List X) (place : ℕ) : Type 0 where
+  pub changed : (k : ℕ) (d : X) → k < place → R (get_or before k d) (get_or now k d)
+  pub others : (k : ℕ) (d : X) → place ≤ k → get_or now k d ≡ get_or before k d
+
+pub once_begins : {X : Type 0} (R : X → X → Type 0) (xs : List X) → ChangesOnce R xs xs 0
+once_begins R xs = record { changed = λ k d below. absurd (omega (arith, below)); others = λ k d above. refl }
+
+pub once_next : {X : Type 0} (R : X → X → Type 0) (before now : List X) (place : ℕ) (e new : X) → place < length now
+    → R (get_or now place e) new → ChangesOnce R before now place → ChangesOnce R before (slice_set now place new) (place + 1)
+once_next {X} R before now place e new within change so_far = record {
+  changed = λ k d below. elim (cases_order k place) [
+      inl same ↦
+        let here : get_or (slice_set now place new) k d ≡ new = ap (λ j. get_or (slice_set now place new) j d) same ∙ get_or-set_same now place new d within in
+        let was : get_or now place e ≡ get_or before k d = get_or_default now place e d within ∙ so_far.others place d (omega arith) ∙ ap (λ j. get_or before j d) (sym same) in
+        subst (λ (x : X). R (get_or before k d) x) (sym here) (subst (λ (x : X). R x new) was change)
+    | inr (inl less) ↦ subst (λ (x : X). R (get_or before k d) x) (sym (get_or-set_other now place k new d (λ e. omega (arith, e, less)))) (so_far.changed k d less)
+    | inr (inr more) ↦ absurd (omega (arith, more, below))
+    ];
+  others = λ k d above. get_or-set_other now place k new d (λ e. omega (arith, e, above)) ∙ so_far.others k d (omega (arith, above));
+}
+
 module _ {L : Type 0} where
   -- one more was changed, from what it was after the changes before
   pub each_next : (R : Peer L → Peer L → Type 0) (before peers : List (Peer L)) (i : ℕ) (e new : Peer L)

@@ -1,10 +1,7 @@
 //! The steps of a turn that deal with one peer and nothing else.
-ghost use Rattle.std.specs.Prelude.{◌≡◌};
-ghost use Rattle.shard_rings.specs.declared.link.Lane.{Lane as Lanes};
 ghost use Rattle.shard_node.specs.Nodes.{traffic_by};
-ghost use Rattle.shard_node.specs.inside.Peers.{held, held_by_all, Each, HoldsOther};
+ghost use Rattle.shard_node.specs.inside.Peers.{held, held_by_all, Each, HoldsOther, SendsReply};
 ghost use Rattle.shard_node.specs.inside.Releases.{Releases, TriesBoth};
-ghost use Rattle.shard_node.specs.inside.Sends.{SendsHeld};
 
 use crate::peer::Peer;
 use crate::release::release_held;
@@ -36,10 +33,17 @@ impl<'f, L: Drop> Peer<'f, L> {
 impl<'f, L: Link<'f> + Drop> Peer<'f, L> {
     /// Sends the reply that waits.
     pub(crate) fn send_reply(&mut self)
-        ensures sends { SendsHeld Lanes.Replies self.old.reply self.new.reply (traffic_by L.sent L.received L.full L.empty self.old.link) (traffic_by L.sent L.received L.full L.empty self.new.link) }
-        ensures same_end { L.end self.new.link ≡ L.end self.old.link }
-        ensures same { self.new ≡ record self.old { link = self.new.link; reply = self.new.reply } }
+        ensures { SendsReply (traffic_by L.sent L.received L.full L.empty) L.end self.old self.new }
     {
         send_held(&mut self.link, Lane::Replies, &mut self.reply);
+    }
+}
+
+/// Sends each reply that waits.
+pub(crate) fn send_replies<'f, L: Link<'f> + Drop>(peers: &mut [Peer<'f, L>])
+    ensures { Each (SendsReply (traffic_by L.sent L.received L.full L.empty) L.end) peers.old peers.new }
+{
+    for peer in peers.iter_mut() {
+        peer.send_reply();
     }
 }

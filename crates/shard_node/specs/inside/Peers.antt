@@ -1,10 +1,12 @@
 -- What callers see of a peer, and what a step of a turn does to one.
 use Rattle.std.specs.Prelude.{◌≡◌, ℕ, ◌<◌, List, Option, length, slice_index_or, sum_by}
 use Rattle.foreign_list.specs.Blocks.{Block}
-use Rattle.shard_rings.specs.Lanes.{Lanes}
+use Rattle.shard_rings.specs.Lanes.{Lanes, LinkEnd}
+use Rattle.shard_rings.specs.declared.link.Lane.TheVariants.{Replies}
 use Rattle.shard_node.specs.declared.peer.Peer.{Peer}
-use Rattle.shard_node.specs.Nodes.{PeerState}
+use Rattle.shard_node.specs.Nodes.{PeerState, Traffic}
 use Rattle.shard_node.specs.inside.Releases.{held_count}
+use Rattle.shard_node.specs.inside.Sends.{SendsHeld}
 
 module _ {L : Type 0} where
   -- the blocks that wait to be released
@@ -25,3 +27,9 @@ module _ {L : Type 0} where
   -- a change of each peer
   abbrev pub Each : (Peer L → Peer L → Type 0) → List (Peer L) → List (Peer L) → Type 0
   Each R old new = (k : ℕ) (d : Peer L) → k < length old → R (slice_index_or old k d) (slice_index_or new k d)
+
+  -- the reply that waited was tried once, and nothing else of the peer has changed
+  pub record SendsReply (traffic : L → Traffic) (end : L → LinkEnd) (old new : Peer L) : Type 0 where
+    pub sends : SendsHeld Replies old.reply new.reply (traffic old.link) (traffic new.link)
+    pub same_end : end new.link ≡ end old.link
+    pub same : new ≡ record old { link = new.link; reply = new.reply }
