@@ -2,3 +2,4 @@ pub mod Places
 pub mod Releases
 pub mod Each
 pub mod Stands
+pub mod Sends
