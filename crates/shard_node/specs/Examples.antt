@@ -15,7 +15,8 @@ use Rattle.shard_rings.specs.declared.link.Packet.TheVariants.{Block as InBlock,
 use Rattle.shard_node.specs.Nodes.{NodeState, Traffic}
 use Rattle.shard_node.specs.Due.{due, is_next, number_in, requests_taken}
 use Rattle.shard_node.specs.Standing.{InStanding}
-use Rattle.shard_node.specs.Turns.{IsDone, expected_said}
+use Rattle.shard_node.specs.Turns.{IsAnswer, IsDone, expected_said}
+use Rattle.shard_node.specs.declared.turn.Turn.TheVariants.{Moved, Stray}
 
 -- the request of the put, byte for byte, and its reply
 abbrev pub put_request : List ℕ
@@ -101,3 +102,36 @@ pub record StandingIsRight (block : Block) (home : OwnedList) : Type 0 where
   pub twice : InStanding (λ link. link) (at_owner block home (packet block put_request ∷ Bye ∷ []) (Done 1 ∷ Done 1 ∷ [])) → ⊥
   pub unasked : InStanding (λ link. link) (at_owner block home (packet block of_number_3 ∷ Bye ∷ []) (Done 1 ∷ [])) → ⊥
   pub not_heard : IsDone (λ link. link) (λ gate. 0) (at_owner block home (packet block put_request ∷ []) (Done 1 ∷ [])) → ⊥
+
+-- Shard 1 before it has done anything, with what came on its lane of requests.
+abbrev pub at_start : OwnedList → List Packet → NodeState Traffic (Unit {0})
+at_start home requests = record {
+  shard = 1;
+  shards = 2;
+  pages = 8192;
+  trace = put_b;
+  home = home;
+  rows = [];
+  lending = record { lent = replicate tickets None; lends = 0; backs = 0; take_wholes = 1 };
+  journal = record { entries = []; spare = 2 };
+  log = record { replies = []; room = 0 };
+  peers = record {
+    shard = 0;
+    link = record { sent = each_lane []; received = record { requests = requests; replies = [] }; full = each_lane 0; empty = each_lane 0 };
+    held = each_lane None;
+    reply = None;
+  } ∷ [];
+  begun = 0;
+  request = None;
+  gate = tt;
+  tally = 0;
+  turns = 1;
+}
+
+-- Offered a request whose number is 3: of peer 0, expected 1, found 3. No other answer is right, and none where nothing came.
+pub record StrayIsRight (block : Block) (home : OwnedList) : Type 0 where
+  pub stray : IsAnswer (λ link. link) (λ gate. 0) (Stray 0 1 3) (at_start home []) (at_start home (packet block of_number_3 ∷ []))
+  pub other_number : IsAnswer (λ link. link) (λ gate. 0) (Stray 0 1 2) (at_start home []) (at_start home (packet block of_number_3 ∷ [])) → ⊥
+  pub moved : IsAnswer (λ link. link) (λ gate. 0) Moved (at_start home []) (at_start home (packet block of_number_3 ∷ [])) → ⊥
+  pub nothing : IsAnswer (λ link. link) (λ gate. 0) (Stray 0 1 3) (at_start home []) (at_start home []) → ⊥
+  pub expected : IsAnswer (λ link. link) (λ gate. 0) (Stray 0 1 1) (at_start home []) (at_start home (packet block put_request ∷ [])) → ⊥

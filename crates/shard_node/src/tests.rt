@@ -1,7 +1,7 @@
 //! The definitions on a worked run.
 ghost use Rattle.foreign_list.specs.Blocks.{Block};
 ghost use Rattle.foreign_list.specs.Lists.{OwnedList};
-ghost use Rattle.shard_node.specs.Examples.{PacketsAreRight, StandingIsRight};
+ghost use Rattle.shard_node.specs.Examples.{PacketsAreRight, StandingIsRight, StrayIsRight};
 
 /// Which packets a shard takes that was asked one put, and which it sets aside.
 fn packets()
@@ -21,4 +21,14 @@ fn standing()
 #[test]
 fn a_put_is_done_once_for_another_shard() {
     standing()
+}
+
+/// A request of another number is answered by its number and the one that was expected.
+fn stray()
+    ensures { (block : Block) (home : OwnedList) → StrayIsRight block home }
+{}
+
+#[test]
+fn a_request_out_of_order_is_stray() {
+    stray()
 }
