@@ -3,3 +3,4 @@ pub mod Releases
 pub mod Each
 pub mod Stands
 pub mod Sends
+pub mod Taken

@@ -5,8 +5,8 @@ use Rattle.std.proofs.lemmas.List.Sums.{sum_by-cons}
 use Rattle.foreign_list.specs.Blocks.{Block}
 use Rattle.shard_rings.specs.Lanes.{Lanes, greatest_count}
 use Rattle.std.proofs.Common.{Option}
-use Rattle.shard_node.specs.Nodes.{NodeState, PeerState, Traffic}
-use Rattle.shard_node.specs.Standing.{InStanding, LeadsToItsRows, AsksInOrder, ServesInOrder, DoesItsOwnInOrder, RepliesInOrder, LogsWhatCame, SendsEachRequest, SendsEachReply, held_of, received_from}
+use Rattle.shard_node.specs.Nodes.{Lending, NodeState, PeerState, Traffic}
+use Rattle.shard_node.specs.Standing.{InStanding, LeadsToItsRows, AsksInOrder, ServesInOrder, DoesItsOwnInOrder, RepliesInOrder, LogsWhatCame, SendsEachRequest, SendsEachReply, held_of, one_if, received_from}
 use Rattle.shard_node.specs.inside.Releases.{Releases}
 
 sum-of-two : {X : Type 0} (f : X → ℕ) (x y : X) (xs ys : List X) → f y ≡ f x → sum_by f ys ≡ sum_by f xs → sum_by f (y ∷ ys) ≡ sum_by f (x ∷ xs)
@@ -71,5 +71,30 @@ module _ {L G : Type 0} (traffic : L → Traffic) where
             (λ p h x. record { count = x.count; next = x.next }) same other stands.kept.requests;
           replies = still (SendsEachReply traffic node) (SendsEachReply traffic now) node.peers peers
             (λ p h x. record { count = x.count; next = x.next }) same other stands.kept.replies;
+        };
+      }
+
+  -- blocks come back: so many tickets fewer are out
+  pub came_back : (node : NodeState L G) (lending : Lending) → lending.lends ≡ node.lending.lends
+      → lending.backs + sum_by one_if lending.lent ≡ node.lending.backs + sum_by one_if node.lending.lent
+      → InStanding traffic node → InStanding traffic (record node { lending = lending })
+  came_back node lending lends out stands =
+      let now : NodeState L G = record node { lending = lending } in
+      record {
+        journal = record { legal = stands.journal.legal; pressure = stands.journal.pressure };
+        asked = stands.asked;
+        served = stands.served;
+        own = stands.own;
+        replied = stands.replied;
+        logged = record {
+          one_each = stands.logged.one_each;
+          own = stands.logged.own;
+          others = λ k d below. let x = stands.logged.others k d below in record { replies = x.replies; taken = x.taken; logged = x.logged };
+        };
+        lent = record { lends = lends ∙ stands.lent.lends; out = out ∙ (stands.lent.out ∙ sym lends) };
+        kept = record {
+          received = record { released = stands.kept.received.released; all = stands.kept.received.all; counted = stands.kept.received.counted };
+          requests = λ k d below. let x = stands.kept.requests k d below in record { count = x.count; next = x.next };
+          replies = λ k d below. let x = stands.kept.replies k d below in record { count = x.count; next = x.next };
         };
       }
