@@ -3,3 +3,4 @@ pub mod Releases
 pub mod Rest
 pub mod Sends
 pub mod Peers
+pub mod Rising

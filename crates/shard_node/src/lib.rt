@@ -9,6 +9,7 @@ mod peer_steps;
 mod ran;
 mod release;
 mod rest;
+mod rising;
 mod send;
 mod turn;
 
