@@ -4,3 +4,5 @@ pub mod Each
 pub mod Stands
 pub mod Sends
 pub mod Taken
+pub mod RisingKeys
+pub mod FitsByBody

@@ -4,3 +4,4 @@ pub mod Rest
 pub mod Sends
 pub mod Peers
 pub mod Rising
+pub mod Fitting
