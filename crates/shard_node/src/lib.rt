@@ -3,6 +3,7 @@
 //! A node does the parts that other shards ask of it, and issues its own, turn by turn. A turn waits for nobody.
 #![tactic(auto)]
 
+mod expected;
 mod fitting;
 mod gate;
 mod peer;

@@ -1,7 +1,7 @@
 //! How blocks go to other shards.
-ghost use Rattle.std.specs.Prelude.{◌≡◌, Some};
+ghost use Rattle.std.specs.Prelude.{◌≡◌, Some, false};
 ghost use Rattle.shard_node.specs.Nodes.{traffic_by};
-ghost use Rattle.shard_node.specs.inside.Sends.{SendsHeld};
+ghost use Rattle.shard_node.specs.inside.Sends.{SendsHeld, TriesBye};
 
 use foreign_list::ForeignBlock;
 use shard_rings::{Lane, Link, Packet};
@@ -34,4 +34,12 @@ pub(crate) fn send_held<'f, L: Link<'f>>(
     if let Some(block) = held.take() {
         *held = send(link, lane, block);
     }
+}
+
+/// Sends Bye on the lane of requests. False where it is refused.
+pub(crate) fn send_bye<'f, L: Link<'f>>(link: &mut L) -> bool
+    ensures sends { TriesBye false result (traffic_by L.sent L.received L.full L.empty link.old) (traffic_by L.sent L.received L.full L.empty link.new) }
+    ensures same_end { L.end link.new ≡ L.end link.old }
+{
+    link.send(Lane::Requests, Packet::Bye).is_ok()
 }

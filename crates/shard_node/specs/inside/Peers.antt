@@ -6,7 +6,7 @@ use Rattle.shard_rings.specs.declared.link.Lane.TheVariants.{Replies}
 use Rattle.shard_node.specs.declared.peer.Peer.{Peer}
 use Rattle.shard_node.specs.Nodes.{PeerState, Traffic}
 use Rattle.shard_node.specs.inside.Releases.{held_count}
-use Rattle.shard_node.specs.inside.Sends.{SendsHeld}
+use Rattle.shard_node.specs.inside.Sends.{SendsHeld, TriesBye}
 
 module _ {L : Type 0} where
   -- the blocks that wait to be released
@@ -33,3 +33,9 @@ module _ {L : Type 0} where
     pub sends : SendsHeld Replies old.reply new.reply (traffic old.link) (traffic new.link)
     pub same_end : end new.link ≡ end old.link
     pub same : new ≡ record old { link = new.link; reply = new.reply }
+
+  -- Bye was tried once, where it had not been sent, and nothing else of the peer has changed
+  pub record SaysBye (traffic : L → Traffic) (end : L → LinkEnd) (old new : Peer L) : Type 0 where
+    pub tries : TriesBye old.has_sent_bye new.has_sent_bye (traffic old.link) (traffic new.link)
+    pub same_end : end new.link ≡ end old.link
+    pub same : new ≡ record old { link = new.link; has_sent_bye = new.has_sent_bye }

@@ -1,10 +1,11 @@
 -- What waits to be sent over a link, and the one try that it has in a turn.
-use Rattle.std.specs.Prelude.{◌≡◌, ℕ, List, Option, Some, None}
+use Rattle.std.specs.Prelude.{◌≡◌, Bool, true, false, Option, Some, None}
 use Rattle.foreign_list.specs.Blocks.{Block}
 use Rattle.shard_rings.specs.Lanes.{NoneFell, Rose, adds, on}
 use Rattle.shard_rings.specs.declared.link.Lane.{Lane}
+use Rattle.shard_rings.specs.declared.link.Lane.TheVariants.{Requests}
 use Rattle.shard_rings.specs.declared.link.Packet.{Packet}
-use Rattle.shard_rings.specs.declared.link.Packet.TheVariants.{Block as InBlock}
+use Rattle.shard_rings.specs.declared.link.Packet.TheVariants.{Block as InBlock, Bye}
 use Rattle.shard_node.specs.Nodes.{Traffic}
 
 -- the packet is behind those that were sent on the lane
@@ -27,3 +28,9 @@ abbrev pub SendsHeld : Lane → Option Block → Option Block → Traffic → Tr
 SendsHeld lane None later old new = (later ≡ None) × (new ≡ old)
 SendsHeld lane (Some block) None old new = IsSent lane (InBlock block) old new
 SendsHeld lane (Some block) (Some later) old new = (later ≡ block) × IsRefused lane old new
+
+-- Bye was said before; or it was sent; or the lane was full
+abbrev pub TriesBye : Bool → Bool → Traffic → Traffic → Type 0
+TriesBye true after old new = (after ≡ true) × (new ≡ old)
+TriesBye false true old new = IsSent Requests Bye old new
+TriesBye false false old new = IsRefused Requests old new

@@ -1,0 +1,7 @@
+use Rattle.shard_node.specs.Nodes.{traffic_by}
+use Rattle.shard_node.specs.inside.Peers.{SaysBye}
+use Rattle.shard_node.proofs.Each.{ChangesOnce}
+use Rattle.shard_node.proofs.peer_steps.say_byes.Given as goal
+
+abbrev pub invariant-loop-peer : goal.invariant-loop-peer
+invariant-loop-peer g l = ChangesOnce (SaysBye (traffic_by g.L.Link.sent g.L.Link.received g.L.Link.full g.L.Link.empty) g.L.Link.end) l.initial.peers l.peers l.peer-index
