@@ -6,3 +6,4 @@ pub mod Sends
 pub mod Taken
 pub mod RisingKeys
 pub mod FitsByBody
+pub mod Asides

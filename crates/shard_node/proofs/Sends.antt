@@ -73,7 +73,7 @@ module _ {L : Type 0} where
       let inside : k < length old = omega (arith, below, same) in
       keeps (get_or old k d) (get_or new k d) (each k d inside) (all k d inside)
 
-along : {A B : Type 0} (P : A → B → Type 0) (a c : A) (b d : B) → c ≡ a → d ≡ b → P a b → P c d
+pub along : {A B : Type 0} (P : A → B → Type 0) (a c : A) (b d : B) → c ≡ a → d ≡ b → P a b → P c d
 along P a c b d e f p = subst (λ x. P x d) (sym e) (subst (λ y. P a y) (sym f) p)
 
 module _ {L G : Type 0} (traffic : L → Traffic) where
