@@ -1,7 +1,6 @@
 -- A node stays in standing as packets are set aside that it did not expect.
 use mathlib.Core.List.{IsPrefix}
-use Rattle.std.proofs.Common.{◌≡◌, ℕ, zero, suc, ◌+◌, ◌-◌, ◌<◌, ◌≤◌, List, [], ◌∷◌, ◌++◌, length, map, take, replicate, get_or, arith, refl, sym, ap, subst, ◌∙◌, sum_by, Option, Some, None, if◌then◌else◌, false}
-use Rattle.std.specs.List.{All, slice_get}
+use Rattle.std.proofs.Common.{◌≡◌, ℕ, suc, ◌+◌, ◌-◌, ◌<◌, List, [], ◌∷◌, ◌++◌, length, map, take, replicate, get_or, arith, refl, sym, ap, subst, ◌∙◌, sum_by, Option, Some, None, if◌then◌else◌, false}
 use Rattle.std.proofs.lemmas.List.Sums.{sum_by-cons}
 use Rattle.trace_text.specs.Parts.{parts}
 use Rattle.cache_model.specs.Apply.{Reply}
@@ -10,10 +9,10 @@ use Rattle.cache_model.specs.Spelled.{spelled}
 use Rattle.shard_rings.specs.Lanes.{Lanes}
 use Rattle.shard_rings.specs.declared.link.Packet.{Packet}
 use Rattle.shard_node.specs.Nodes.{NodeState, PeerState, Traffic}
-use Rattle.shard_node.specs.Due.{AnswersNot, Takes, due, is_next, operations_for, requests_taken, said}
+use Rattle.shard_node.specs.Due.{Takes, due, is_next, operations_for, requests_taken, said}
 use Rattle.shard_node.specs.Standing.{InStanding, AsksInOrder, ServesInOrder, RepliesInOrder, LogsWhatCame, SendsEachRequest, SendsEachReply, AreReplies, begun_at, blocks, done_for, held_of, logged_at, one_if, received_from, waiting_reply, waiting_request}
 use Rattle.shard_node.proofs.Sends.{along, each_still, EachState}
-use Rattle.shard_node.proofs.Taken.{requests_more, takes_none}
+use Rattle.shard_node.proofs.Taken.{requests_more}
 
 -- two sums whose difference is the same, element by element
 pub sums-shift : {X : Type 0} (f g : X → ℕ) (xs ys : List X) → length ys ≡ length xs
@@ -55,7 +54,7 @@ module _ {L G : Type 0} (traffic : L → Traffic) where
   serves_on : (node : NodeState L G) (a b : PeerState L) → SetsAside node a b → ServesInOrder traffic node a → ServesInOrder traffic node b
   serves_on node a b aside x =
       let here : done_for node.shards a.shard node.journal.entries ≡ take (requests_taken (due node.trace node.shards a.shard node.shard) (traffic b.link).received.requests) (parts node.trace node.shards a.shard node.shard) =
-        x ∙ ap (λ n. take n (parts node.trace node.shards a.shard node.shard)) (sym aside.requests) in
+      x ∙ ap (λ n. take n (parts node.trace node.shards a.shard node.shard)) (sym aside.requests) in
       subst (λ q. done_for node.shards q node.journal.entries ≡ take (requests_taken (due node.trace node.shards q node.shard) (traffic b.link).received.requests) (parts node.trace node.shards q node.shard)) (sym aside.shard) here
 
   logs_on : (node : NodeState L G) (a b : PeerState L) → SetsAside node a b → LogsWhatCame traffic node a → LogsWhatCame traffic node b
@@ -103,14 +102,14 @@ module _ {L G : Type 0} (traffic : L → Traffic) where
           one_each = stands.logged.one_each;
           own = stands.logged.own;
           others = each_still R (LogsWhatCame traffic node) (LogsWhatCame traffic now) node.peers peers
-            (λ a b aside x. let y = logs_on node a b aside x in record { replies = y.replies; taken = y.taken; logged = y.logged }) same each stands.logged.others;
+              (λ a b aside x. let y = logs_on node a b aside x in record { replies = y.replies; taken = y.taken; logged = y.logged }) same each stands.logged.others;
         };
         lent = record { lends = stands.lent.lends; out = stands.lent.out };
         kept = record {
           received = record { released = stands.kept.received.released; all = omega (arith, shift, all); counted = stands.kept.received.counted };
           requests = each_still R (SendsEachRequest traffic node) (SendsEachRequest traffic now) node.peers peers
-            (λ a b aside x. let y = requests_on node a b aside x in record { count = y.count; next = y.next }) same each stands.kept.requests;
+              (λ a b aside x. let y = requests_on node a b aside x in record { count = y.count; next = y.next }) same each stands.kept.requests;
           replies = each_still R (SendsEachReply traffic node) (SendsEachReply traffic now) node.peers peers
-            (λ a b aside x. let y = replies_on node a b aside x in record { count = y.count; next = y.next }) same each stands.kept.replies;
+              (λ a b aside x. let y = replies_on node a b aside x in record { count = y.count; next = y.next }) same each stands.kept.replies;
         };
       }

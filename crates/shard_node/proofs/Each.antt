@@ -1,5 +1,5 @@
 -- A pass over all peers that changes one after the other.
-use Rattle.std.proofs.Common.{◌≡◌, ℕ, ◌+◌, ◌<◌, ◌≤◌, ◌⊎◌, inl, inr, List, length, get_or, slice_set, arith, refl, sym, ap, subst, ◌∙◌, sum_by}
+use Rattle.std.proofs.Common.{◌≡◌, ℕ, ◌+◌, ◌<◌, ◌≤◌, inl, inr, List, length, get_or, slice_set, arith, refl, sym, ap, subst, ◌∙◌, sum_by}
 use Rattle.std.proofs.lemmas.Bool.{cases_order}
 use Rattle.std.proofs.lemmas.List.{get_or-set_same, get_or-set_other, get_or_default}
 use Rattle.std.proofs.lemmas.List.Sums.{sum_by-set}
@@ -20,13 +20,13 @@ pub once_next : {X : Type 0} (R : X → X → Type 0) (before now : List X) (pla
     → R (get_or now place e) new → ChangesOnce R before now place → ChangesOnce R before (slice_set now place new) (place + 1)
 once_next {X} R before now place e new within change so_far = record {
   changed = λ k d below. elim (cases_order k place) [
-      inl same ↦
+    | inl same ↦
         let here : get_or (slice_set now place new) k d ≡ new = ap (λ j. get_or (slice_set now place new) j d) same ∙ get_or-set_same now place new d within in
         let was : get_or now place e ≡ get_or before k d = get_or_default now place e d within ∙ so_far.others place d (omega arith) ∙ ap (λ j. get_or before j d) (sym same) in
         subst (λ (x : X). R (get_or before k d) x) (sym here) (subst (λ (x : X). R x new) was change)
     | inr (inl less) ↦ subst (λ (x : X). R (get_or before k d) x) (sym (get_or-set_other now place k new d (λ e. omega (arith, e, less)))) (so_far.changed k d less)
     | inr (inr more) ↦ absurd (omega (arith, more, below))
-    ];
+  ];
   others = λ k d above. get_or-set_other now place k new d (λ e. omega (arith, e, above)) ∙ so_far.others k d (omega (arith, above));
 }
 
@@ -36,14 +36,14 @@ module _ {L : Type 0} where
       → ((a b c : Peer L) → R a b → R b c → R a c) → i < length peers → R (get_or peers i e) new
       → Each R before peers → Each R before (slice_set peers i new)
   each_next R before peers i e new joins within change each k d below = elim (cases_order k i) [
-      inl same ↦
+    | inl same ↦
         let here : get_or (slice_set peers i new) k d ≡ new = ap (λ j. get_or (slice_set peers i new) j d) same ∙ get_or-set_same peers i new d within in
         let was : get_or peers k d ≡ get_or peers i e = ap (λ j. get_or peers j d) same ∙ get_or_default peers i d e within in
         let first : R (get_or before k d) (get_or peers i e) = subst (λ (x : Peer L). R (get_or before k d) x) was (each k d below) in
         subst (λ (x : Peer L). R (get_or before k d) x) (sym here) (joins _ _ new first change)
     | inr (inl less) ↦ subst (λ (x : Peer L). R (get_or before k d) x) (sym (get_or-set_other peers i k new d (λ e. omega (arith, e, less)))) (each k d below)
     | inr (inr more) ↦ subst (λ (x : Peer L). R (get_or before k d) x) (sym (get_or-set_other peers i k new d (λ e. omega (arith, e, more)))) (each k d below)
-    ]
+  ]
 
   pub holds_other_joins : (a b c : Peer L) → HoldsOther a b → HoldsOther b c → HoldsOther a c
   holds_other_joins a b c first second =

@@ -1,8 +1,7 @@
 -- A reply of a kind that a command can have fits it where its body does.
-use Rattle.std.proofs.Common.{◌≡◌, ℕ, false, true, List, ap, sym, ◌∙◌}
+use Rattle.std.proofs.Common.{◌≡◌, ℕ, false, true, List}
 use Rattle.trace_text.specs.declared.command.Kind.{Kind}
 use Rattle.trace_text.specs.declared.command.Kind.TheVariants.{Put, Get, Erase, Scan}
-use Rattle.cache_model.specs.declared.reply_kind.ReplyKind.{ReplyKind}
 use Rattle.cache_model.specs.Apply.{Reply, Stored, Replaced, Value, Missing, Erased, Keys}
 use Rattle.cache_model.specs.Fits.{FitsKind}
 use Rattle.cache_model.specs.Spelled.{spelled}

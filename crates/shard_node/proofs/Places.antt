@@ -1,5 +1,5 @@
 -- The places of the commands that one shard issues to another.
-use Rattle.std.proofs.Common.{◌≡◌, ℕ, zero, suc, ◌+◌, ◌-◌, ◌==◌, ◌<◌, ◌≤◌, ◌&&◌, ◌%◌, ◌⊎◌, Bool, true, false, cond, List, [], ◌∷◌, length, drop, get_or, arith, refl, sym, ap, ◌∙◌, add-one, add-zero, inl, inr}
+use Rattle.std.proofs.Common.{◌≡◌, ℕ, zero, suc, ◌+◌, ◌-◌, ◌<◌, ◌≤◌, ◌&&◌, ◌%◌, Bool, true, false, List, [], ◌∷◌, length, drop, get_or, arith, refl, sym, ap, ◌∙◌, add-zero, inl, inr}
 use Rattle.std.specs.List.{filter}
 use Rattle.std.proofs.Math.Nat.{mod-add-mod, mod-eq_of_lt, mod-lt, add-mod_right}
 use Rattle.std.proofs.lemmas.Bool.{cases_lt, ne_eqb}
@@ -14,18 +14,18 @@ use Rattle.shard_node.specs.inside.Rest.{is_for, left_from}
 -- a place less than n behind another has another remainder
 pub apart : (n a d : ℕ) → 1 ≤ d → d < n → (a + d) % n ≡ a % n → ⊥
 apart n a d some few same = elim (cases_lt (a % n + d) n) [
-  inl less ↦
-    let e : (a % n + d) % n ≡ a % n + d = mod-eq_of_lt less in
-    let f : (a % n + d) % n ≡ (a + d) % n = mod-add-mod a n d in
-    omega (arith, e, f, same)
+  | inl less ↦
+      let e : (a % n + d) % n ≡ a % n + d = mod-eq_of_lt less in
+      let f : (a % n + d) % n ≡ (a + d) % n = mod-add-mod a n d in
+      omega (arith, e, f, same)
   | inr more ↦
-    let r : a % n < n = mod-lt a (omega (arith, few)) in
-    let m : (a % n + d - n) % n ≡ a % n + d - n = mod-eq_of_lt (omega (arith, r, few)) in
-    let g : (a % n + d - n + n) % n ≡ (a % n + d - n) % n = add-mod_right (a % n + d - n) n in
-    let h : a % n + d - n + n ≡ a % n + d = omega (arith, more) in
-    let f : (a % n + d) % n ≡ (a + d) % n = mod-add-mod a n d in
-    let k : (a % n + d - n + n) % n ≡ (a % n + d) % n = ap (λ x. x % n) h in
-    omega (arith, m, g, k, f, same, r, few, more)
+      let r : a % n < n = mod-lt a (omega (arith, few)) in
+      let m : (a % n + d - n) % n ≡ a % n + d - n = mod-eq_of_lt (omega (arith, r, few)) in
+      let g : (a % n + d - n + n) % n ≡ (a % n + d - n) % n = add-mod_right (a % n + d - n) n in
+      let h : a % n + d - n + n ≡ a % n + d = omega (arith, more) in
+      let f : (a % n + d) % n ≡ (a + d) % n = mod-add-mod a n d in
+      let k : (a % n + d - n + n) % n ≡ (a % n + d) % n = ap (λ x. x % n) h in
+      omega (arith, m, g, k, f, same, r, few, more)
 ]
 
 pub fails-first : {X : Type 0} (p : X → Bool) (xs : List X) (at : ℕ) → at < length xs → ((d : X) → p (get_or xs at d) ≡ false)
@@ -40,11 +40,11 @@ pub gap : {X : Type 0} (p : X → Bool) (xs : List X) (from k : ℕ)
     → filter p (drop from xs) ≡ filter p (drop (from + k) xs)
 gap p xs from zero fails = rw add-zero refl
 gap {X} p xs from (suc k) fails = elim (cases_lt from (length xs)) [
-  inl within ↦
-    let more : filter p (drop (suc from) xs) ≡ filter p (drop (suc from + k) xs) =
+  | inl within ↦
+      let more : filter p (drop (suc from) xs) ≡ filter p (drop (suc from + k) xs) =
       gap p xs (suc from) k (λ j d above below inside. fails j d (omega (arith, above)) (omega (arith, below)) inside) in
-    let shift : suc from + k ≡ from + suc k = omega arith in
-    fails-first p xs from within (λ d. fails from d (omega arith) (omega arith) within) ∙ more ∙ ap (λ n. filter p (drop n xs)) shift
+      let shift : suc from + k ≡ from + suc k = omega arith in
+      fails-first p xs from within (λ d. fails from d (omega arith) (omega arith) within) ∙ more ∙ ap (λ n. filter p (drop n xs)) shift
   | inr ended ↦ ap (filter p) (drop_all from xs ended ∙ sym (drop_all (from + suc k) xs (omega (arith, ended))))
 ]
 
@@ -66,7 +66,7 @@ other-origin operations n o s j from d numbered here below above within =
     let is : origin (get_or operations j d).number n ≡ j % n = ap (λ i. (i - 1) % n) number ∙ ap (λ i. i % n) (omega arith) in
     let away : j + (from - j) ≡ from = omega (arith, below) in
     let other : origin (get_or operations j d).number n ≡ o → ⊥ =
-      λ e. apart n j (from - j) (omega (arith, below)) (omega (arith, below, above)) (ap (λ i. i % n) away ∙ here ∙ sym e ∙ is) in
+    λ e. apart n j (from - j) (omega (arith, below)) (omega (arith, below, above)) (ap (λ i. i % n) away ∙ here ∙ sym e ∙ is) in
     ap (λ b. b && has_part n s (get_or operations j d)) (ne_eqb _ _ other)
 
 pub skips : (operations : List Operation) (n o s j from : ℕ) → IsNumbered operations → from % n ≡ o → j ≤ from → from < j + n
@@ -74,7 +74,7 @@ pub skips : (operations : List Operation) (n o s j from : ℕ) → IsNumbered op
 skips operations n o s j from numbered here below above =
     let away : j + (from - j) ≡ from = omega (arith, below) in
     gap (is_for n o s) operations j (from - j)
-      (λ i d first last within. other-origin operations n o s i from d numbered here (omega (arith, last, below)) (omega (arith, first, above)) within)
+    (λ i d first last within. other-origin operations n o s i from d numbered here (omega (arith, last, below)) (omega (arith, first, above)) within)
     ∙ ap (λ i. filter (is_for n o s) (drop i operations)) away
 
 pub round : (n o at : ℕ) → at % n ≡ o → (at + n) % n ≡ o
@@ -85,7 +85,7 @@ pub passes-other : (operations : List Operation) (n o s at : ℕ) → IsNumbered
     → filter (is_for n o s) (drop (at + n) operations) ≡ filter (is_for n o s) (drop at operations)
 passes-other operations n o s at numbered some here other within =
     sym (fails-first (is_for n o s) operations at within other
-      ∙ skips operations n o s (suc at) (at + n) numbered (round n o at here) (omega (arith, some)) (omega arith))
+    ∙ skips operations n o s (suc at) (at + n) numbered (round n o at here) (omega (arith, some)) (omega arith))
 
 -- the operations of a trace that was read
 pub length-operations : (bytes : List ℕ) (commands : List Command) → length (operations bytes commands) ≡ length commands
@@ -115,7 +115,7 @@ pub next-round : (trace : Parsed) (n o s at : ℕ) (e : Command) → AreNumbered
 next-round trace n o s at e are some here within other =
     let inside : at < length (operations trace.bytes trace.commands) = rw (length-operations trace.bytes trace.commands) within in
     passes-other (operations trace.bytes trace.commands) n o s at (numbered trace.bytes trace.commands are) some here
-      (λ d. rw (operation-at trace.bytes trace.commands at e d within) (and-false _ _ other)) inside
+    (λ d. rw (operation-at trace.bytes trace.commands at e d within) (and-false _ _ other)) inside
 
 pub from-places : (trace : Parsed) (n o s from : ℕ) → AreNumbered trace.commands → from % n ≡ o
     → (place : ℕ) → place ≤ from → from < place + n → left_from trace n o s from ≡ left_from trace n o s place

@@ -1,5 +1,5 @@
 -- Keys that rise one after the other are in order, and each is at the first bound or above it.
-use Rattle.std.proofs.Common.{◌≡◌, ℕ, Bool, true, false, ◌&&◌, List, [], ◌∷◌, refl, sym, ap, ◌∙◌, Ordering, Less, Equal, Greater}
+use Rattle.std.proofs.Common.{◌≡◌, ℕ, Bool, true, false, ◌&&◌, List, [], ◌∷◌, refl, ap, ◌∙◌, Ordering, Less, Equal, Greater}
 use Rattle.std.specs.Ordering.{is_le, is_lt, nat_cmp}
 use Rattle.std.specs.Cmp.Lexicographic.{slice_cmp}
 use Rattle.std.specs.List.{All, AllByRecursion}
@@ -58,9 +58,11 @@ unfolding IsStrictlySortedBy
 found from [] e = (tt, All-from_recursion (λ key. is_at_most from key ≡ true) [] tt)
 found from (key ∷ keys) e =
     let parts = both-of (may_follow true from key) (rise false key keys) e in
-    let others = above-all key keys parts.1 in
-    (others, All-from_recursion (λ other. is_at_most from other ≡ true) (key ∷ keys)
-      (parts.0, each (IsBelow key) (λ other. is_at_most from other ≡ true) (λ other below. below-or-at (slice_cmp nat_cmp from key) from key other refl parts.0 below) keys others.0))
+    let others = above-all key keys parts.1 in (
+      others,
+      All-from_recursion (λ other. is_at_most from other ≡ true) (key ∷ keys)
+          (parts.0, each (IsBelow key) (λ other. is_at_most from other ≡ true) (λ other below. below-or-at (slice_cmp nat_cmp from key) from key other refl parts.0 below) keys others.0),
+    )
 
 pub finds : (from : List ℕ) (keys : List (List ℕ)) → IsStrictlySortedBy (slice_cmp nat_cmp) keys → All (λ key. is_at_most from key ≡ true) keys
     → rise true from keys ≡ true

@@ -1,6 +1,6 @@
 -- A node stays in standing as replies that wait are sent.
 use mathlib.Core.List.{IsPrefix}
-use Rattle.std.proofs.Common.{◌≡◌, ℕ, zero, suc, ◌+◌, ◌-◌, ◌<◌, ◌≤◌, List, [], ◌∷◌, ◌++◌, length, map, take, replicate, get_or, append-nil, arith, refl, sym, ap, subst, ◌∙◌, sum_by, Option, Some, None}
+use Rattle.std.proofs.Common.{◌≡◌, ℕ, ◌+◌, ◌-◌, ◌<◌, List, [], ◌∷◌, ◌++◌, length, map, take, replicate, get_or, append-nil, arith, sym, ap, subst, ◌∙◌, sum_by, Option, Some, None}
 use Rattle.std.specs.List.{All}
 use Rattle.std.proofs.lemmas.List.{length-append}
 use Rattle.trace_text.specs.Parts.{parts}
@@ -8,13 +8,13 @@ use Rattle.cache_model.specs.Apply.{Reply}
 use Rattle.cache_model.specs.Legal.{reply_at}
 use Rattle.cache_model.specs.Spelled.{spelled}
 use Rattle.foreign_list.specs.Blocks.{Block}
-use Rattle.shard_rings.specs.Lanes.{Lanes, adds}
+use Rattle.shard_rings.specs.Lanes.{Lanes}
 use Rattle.shard_rings.specs.declared.link.Lane.TheVariants.{Replies}
 use Rattle.shard_rings.specs.declared.link.Packet.{Packet}
 use Rattle.shard_rings.specs.declared.link.Packet.TheVariants.{Block as InBlock, Bye}
 use Rattle.shard_node.specs.Nodes.{NodeState, PeerState, Traffic}
 use Rattle.shard_node.specs.Due.{Takes, due, operations_for, requests_taken, said}
-use Rattle.shard_node.specs.Standing.{InStanding, AsksInOrder, ServesInOrder, RepliesInOrder, LogsWhatCame, SendsEachRequest, SendsEachReply, AreReplies, begun_at, blocks, done_for, held_of, one_if, logged_at, received_from, waiting_reply, waiting_request}
+use Rattle.shard_node.specs.Standing.{InStanding, AsksInOrder, ServesInOrder, LogsWhatCame, SendsEachRequest, SendsEachReply, AreReplies, begun_at, blocks, done_for, held_of, one_if, logged_at, received_from, waiting_reply, waiting_request}
 use Rattle.shard_node.specs.inside.Sends.{SendsHeld}
 use Rattle.shard_node.proofs.Stands.{sums-agree}
 
@@ -84,7 +84,7 @@ module _ {L G : Type 0} (traffic : L → Traffic) where
   serves_on : (node : NodeState L G) (a b : PeerState L) → SentReply traffic a b → ServesInOrder traffic node a → ServesInOrder traffic node b
   serves_on node a b sent x =
       along (λ (ps : Lanes (List Packet)) q. done_for node.shards q node.journal.entries ≡ take (requests_taken (due node.trace node.shards q node.shard) ps.requests) (parts node.trace node.shards q node.shard))
-        _ _ _ _ sent.keeps.received sent.shard x
+      _ _ _ _ sent.keeps.received sent.shard x
 
   logs_on : (node : NodeState L G) (a b : PeerState L) → SentReply traffic a b → LogsWhatCame traffic node a → LogsWhatCame traffic node b
   logs_on node a b sent x = record {
@@ -111,9 +111,9 @@ module _ {L G : Type 0} (traffic : L → Traffic) where
       let now : NodeState L G = record node { peers = peers } in
       let R : PeerState L → PeerState L → Type 0 = SentReply traffic in
       let received : sum_by (received_from traffic node) peers ≡ sum_by (received_from traffic node) node.peers =
-        sums-agree (received_from traffic node) node.peers peers same (λ k d below. ap (λ (ps : Lanes (List Packet)). blocks ps.requests + blocks ps.replies) (each k d below).keeps.received) in
+      sums-agree (received_from traffic node) node.peers peers same (λ k d below. ap (λ (ps : Lanes (List Packet)). blocks ps.requests + blocks ps.replies) (each k d below).keeps.received) in
       let held : sum_by (held_of traffic node) peers ≡ sum_by (held_of traffic node) node.peers =
-        sums-agree (held_of traffic node) node.peers peers same (λ k d below. ap (λ (h : Lanes (Option Block)). one_if h.requests + one_if h.replies) (each k d below).held) in
+      sums-agree (held_of traffic node) node.peers peers same (λ k d below. ap (λ (h : Lanes (Option Block)). one_if h.requests + one_if h.replies) (each k d below).held) in
       let all = stands.kept.received.all in
       let replies : All (SendsEachReply traffic node) peers = each_still R (SendsEachReply traffic node) (SendsEachReply traffic node) node.peers peers (replies_on node) same each stands.kept.replies in
       record {
@@ -126,13 +126,13 @@ module _ {L G : Type 0} (traffic : L → Traffic) where
           one_each = stands.logged.one_each;
           own = stands.logged.own;
           others = each_still R (LogsWhatCame traffic node) (LogsWhatCame traffic now) node.peers peers
-            (λ a b sent x. let y = logs_on node a b sent x in record { replies = y.replies; taken = y.taken; logged = y.logged }) same each stands.logged.others;
+              (λ a b sent x. let y = logs_on node a b sent x in record { replies = y.replies; taken = y.taken; logged = y.logged }) same each stands.logged.others;
         };
         lent = record { lends = stands.lent.lends; out = stands.lent.out };
         kept = record {
           received = record { released = stands.kept.received.released; all = omega (arith, received, held, all); counted = stands.kept.received.counted };
           requests = each_still R (SendsEachRequest traffic node) (SendsEachRequest traffic now) node.peers peers
-            (λ a b sent x. let y = requests_on node a b sent x in record { count = y.count; next = y.next }) same each stands.kept.requests;
+              (λ a b sent x. let y = requests_on node a b sent x in record { count = y.count; next = y.next }) same each stands.kept.requests;
           replies = λ k d below. record { count = (replies k d below).count; next = (replies k d below).next };
         };
       }

@@ -1,12 +1,12 @@
 -- A node stays in standing.
-use Rattle.std.proofs.Common.{◌≡◌, ℕ, zero, suc, ◌+◌, ◌<◌, ◌≤◌, min, List, [], ◌∷◌, length, get_or, arith, refl, sym, ap, subst, ◌∙◌, sum_by}
+use Rattle.std.proofs.Common.{◌≡◌, ℕ, suc, ◌+◌, ◌<◌, List, [], ◌∷◌, length, get_or, arith, refl, sym, ap, subst, ◌∙◌, sum_by}
 use Rattle.std.specs.List.{All}
 use Rattle.std.proofs.lemmas.List.Sums.{sum_by-cons}
 use Rattle.foreign_list.specs.Blocks.{Block}
-use Rattle.shard_rings.specs.Lanes.{Lanes, greatest_count}
+use Rattle.shard_rings.specs.Lanes.{Lanes}
 use Rattle.std.proofs.Common.{Option}
 use Rattle.shard_node.specs.Nodes.{Lending, NodeState, PeerState, Traffic}
-use Rattle.shard_node.specs.Standing.{InStanding, LeadsToItsRows, AsksInOrder, ServesInOrder, DoesItsOwnInOrder, RepliesInOrder, LogsWhatCame, SendsEachRequest, SendsEachReply, held_of, one_if, received_from}
+use Rattle.shard_node.specs.Standing.{InStanding, AsksInOrder, ServesInOrder, RepliesInOrder, LogsWhatCame, SendsEachRequest, SendsEachReply, held_of, one_if, received_from}
 use Rattle.shard_node.specs.inside.Releases.{Releases}
 
 sum-of-two : {X : Type 0} (f : X → ℕ) (x y : X) (xs ys : List X) → f y ≡ f x → sum_by f ys ≡ sum_by f xs → sum_by f (y ∷ ys) ≡ sum_by f (x ∷ xs)
@@ -44,7 +44,7 @@ module _ {L G : Type 0} (traffic : L → Traffic) where
   released node peers tally same other releases stands =
       let now : NodeState L G = record node { peers = peers; tally = tally } in
       let received : sum_by (received_from traffic node) peers ≡ sum_by (received_from traffic node) node.peers =
-        sums-agree (received_from traffic node) node.peers peers same (λ k d below. ap (received_from traffic node) (other k d below)) in
+      sums-agree (received_from traffic node) node.peers peers same (λ k d below. ap (received_from traffic node) (other k d below)) in
       let before = stands.kept.received.all in
       let more = releases.all in
       let counted = stands.kept.received.counted in
@@ -58,7 +58,7 @@ module _ {L G : Type 0} (traffic : L → Traffic) where
           one_each = stands.logged.one_each;
           own = stands.logged.own;
           others = still (LogsWhatCame traffic node) (LogsWhatCame traffic now) node.peers peers
-            (λ p h x. record { replies = x.replies; taken = x.taken; logged = x.logged }) same other stands.logged.others;
+              (λ p h x. record { replies = x.replies; taken = x.taken; logged = x.logged }) same other stands.logged.others;
         };
         lent = record { lends = stands.lent.lends; out = stands.lent.out };
         kept = record {
@@ -68,9 +68,9 @@ module _ {L G : Type 0} (traffic : L → Traffic) where
             counted = let e = releases.counts (omega (arith, counted)) in omega (arith, e, counted);
           };
           requests = still (SendsEachRequest traffic node) (SendsEachRequest traffic now) node.peers peers
-            (λ p h x. record { count = x.count; next = x.next }) same other stands.kept.requests;
+              (λ p h x. record { count = x.count; next = x.next }) same other stands.kept.requests;
           replies = still (SendsEachReply traffic node) (SendsEachReply traffic now) node.peers peers
-            (λ p h x. record { count = x.count; next = x.next }) same other stands.kept.replies;
+              (λ p h x. record { count = x.count; next = x.next }) same other stands.kept.replies;
         };
       }
 

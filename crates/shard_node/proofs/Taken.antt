@@ -1,5 +1,5 @@
 -- One packet more was received.
-use Rattle.std.proofs.Common.{◌≡◌, ℕ, zero, suc, ◌+◌, List, [], ◌∷◌, ◌++◌, length, drop, ◌⊎◌, inl, inr, Option, Some, None, slice_get, refl, sym, ap, subst, ◌∙◌}
+use Rattle.std.proofs.Common.{◌≡◌, ℕ, suc, List, [], ◌∷◌, ◌++◌, length, drop, inl, inr, Option, slice_get, refl, sym, ap, subst}
 use Rattle.std.proofs.lemmas.List.Sums.{fold-append}
 use Rattle.trace_text.specs.Operation.{Operation}
 use Rattle.trace_text.specs.Trace.{Trace}
@@ -24,10 +24,15 @@ takes_one trace operations [] replies packet reply takes answers =
     inl (reply, [], ap (λ rs. rs ++ reply ∷ []) takes, subst (λ (rs : List Reply). Answers trace (slice_get operations (length rs)) packet reply) takes answers, refl)
 takes_one trace operations (first ∷ packets) replies packet reply (inl taken) answers =
     let here : Answers trace (slice_get operations (suc (length taken.1))) packet reply =
-      subst (λ (rs : List Reply). Answers trace (slice_get operations (length rs)) packet reply) taken.2 answers in
-    inl (taken.0, taken.1 ++ reply ∷ [], ap (λ rs. rs ++ reply ∷ []) taken.2, taken.3,
+    subst (λ (rs : List Reply). Answers trace (slice_get operations (length rs)) packet reply) taken.2 answers in
+    inl (
+      taken.0,
+      taken.1 ++ reply ∷ [],
+      ap (λ rs. rs ++ reply ∷ []) taken.2,
+      taken.3,
       takes_one trace (drop 1 operations) packets taken.1 packet reply taken.4
-        (subst (λ o. Answers trace o packet reply) (sym (next_of operations (length taken.1))) here))
+          (subst (λ o. Answers trace o packet reply) (sym (next_of operations (length taken.1))) here),
+    )
 takes_one trace operations (first ∷ packets) replies packet reply (inr aside) answers =
     inr (aside.0, takes_one trace operations packets replies packet reply aside.1 answers)
 
@@ -39,9 +44,14 @@ takes_none trace operations [] replies packet takes none =
     inr (subst (λ (rs : List Reply). AnswersNot trace (slice_get operations (length rs)) packet) takes none, takes)
 takes_none trace operations (first ∷ packets) replies packet (inl taken) none =
     let here : AnswersNot trace (slice_get operations (suc (length taken.1))) packet =
-      subst (λ (rs : List Reply). AnswersNot trace (slice_get operations (length rs)) packet) taken.2 none in
-    inl (taken.0, taken.1, taken.2, taken.3,
+    subst (λ (rs : List Reply). AnswersNot trace (slice_get operations (length rs)) packet) taken.2 none in
+    inl (
+      taken.0,
+      taken.1,
+      taken.2,
+      taken.3,
       takes_none trace (drop 1 operations) packets taken.1 packet taken.4
-        (subst (λ o. AnswersNot trace o packet) (sym (next_of operations (length taken.1))) here))
+          (subst (λ o. AnswersNot trace o packet) (sym (next_of operations (length taken.1))) here),
+    )
 takes_none trace operations (first ∷ packets) replies packet (inr aside) none =
     inr (aside.0, takes_none trace operations packets replies packet aside.1 none)

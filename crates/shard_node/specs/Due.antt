@@ -9,7 +9,6 @@ use Rattle.trace_text.specs.Parts.{has_part, longest_value, origin}
 use Rattle.trace_text.specs.Trace.{Trace}
 use Rattle.cache_model.specs.Apply.{Reply}
 use Rattle.cache_model.specs.Fits.{Fits}
-use Rattle.foreign_list.specs.Blocks.{Block}
 use Rattle.shard_rings.specs.Reply.{HoldsReply}
 use Rattle.shard_rings.specs.Request.{request}
 use Rattle.shard_rings.specs.declared.link.Packet.{Packet}
@@ -69,7 +68,7 @@ abbrev pub Takes : Trace → List Operation → List Packet → List Reply → T
 Takes trace operations [] replies = replies ≡ []
 Takes trace operations (packet ∷ packets) replies =
     ((reply : Reply) × (others : List Reply) × (replies ≡ reply ∷ others) × Answers trace (slice_get operations 0) packet reply
-        × Takes trace (drop 1 operations) packets others)
+    × Takes trace (drop 1 operations) packets others)
     ⊎ (AnswersNot trace (slice_get operations 0) packet × Takes trace operations packets replies)
 
 -- Numbers of packets.

@@ -1,11 +1,9 @@
 -- A worked run on which the definitions are checked: two shards, and one put whose key the other shard owns.
-use Rattle.std.specs.Prelude.{◌≡◌, ℕ, false, true, List, [], ◌∷◌, ◌++◌, replicate, codes, Option, Some, None}
+use Rattle.std.specs.Prelude.{◌≡◌, ℕ, false, List, [], ◌∷◌, replicate, codes, Option, Some, None}
 use Rattle.std.specs.List.{slice_get}
 use Rattle.layout.specs.Sizes.{tickets}
-use Rattle.trace_text.specs.Trace.{Trace}
 use Rattle.cache_model.specs.declared.entry.Entry.{Entry}
 use Rattle.cache_model.specs.declared.entry.Entry.TheVariants.{Done}
-use Rattle.cache_model.specs.declared.reply_kind.ReplyKind.TheVariants as kinds
 use Rattle.cache_model.specs.Examples.{put_b}
 use Rattle.foreign_list.specs.Blocks.{Block}
 use Rattle.foreign_list.specs.Lists.{OwnedList}

@@ -1,5 +1,5 @@
 -- A node in good standing: what holds of it after each turn, whatever its links and its gate answer.
-use Rattle.std.specs.Prelude.{◌≡◌, ℕ, ◌+◌, ◌-◌, ◌==◌, Bool, true, false, not, List, [], ◌∷◌, ◌++◌, length, map, filter, take, replicate, count_by, sum_by, min, All, if◌then◌else◌, Option, Some, None, IsSome}
+use Rattle.std.specs.Prelude.{◌≡◌, ℕ, ◌+◌, ◌-◌, ◌==◌, Bool, true, false, not, List, [], ◌∷◌, ◌++◌, length, map, filter, take, replicate, count_by, sum_by, min, All, if◌then◌else◌, Option, Some, None}
 use Rattle.std.specs.List.{zip}
 use Rattle.std.specs.Option.{option_map}
 use mathlib.Core.List.{IsPrefix}
@@ -13,7 +13,7 @@ use Rattle.cache_model.specs.OwnParts.{issued_parts}
 use Rattle.cache_model.specs.Row.{tight_floor}
 use Rattle.cache_model.specs.Spelled.{spelled}
 use Rattle.foreign_list.specs.Blocks.{Block}
-use Rattle.shard_rings.specs.Lanes.{Lanes, greatest_count}
+use Rattle.shard_rings.specs.Lanes.{greatest_count}
 use Rattle.shard_rings.specs.Reply.{HoldsReply}
 use Rattle.shard_rings.specs.declared.link.Packet.{Packet}
 use Rattle.shard_rings.specs.declared.link.Packet.TheVariants.{Block as InBlock, Bye}

@@ -1,5 +1,5 @@
 -- What a turn answers, and exactly when.
-use Rattle.std.specs.Prelude.{◌≡◌, ◌≢◌, ℕ, suc, ◌+◌, ◌-◌, ◌<◌, ◌⊎◌, Bool, true, false, List, [], ◌∷◌, ◌++◌, length, map, take, drop, All, Option, Some, None, IsSome}
+use Rattle.std.specs.Prelude.{◌≡◌, ◌≢◌, ℕ, suc, ◌-◌, ◌<◌, ◌⊎◌, false, List, [], ◌∷◌, ◌++◌, length, map, take, drop, All, Option, Some, None, IsSome}
 use Rattle.std.specs.List.{slice_get}
 use Rattle.trace_text.specs.Operation.{Operation}
 use Rattle.cache_model.specs.Apply.{Reply}
@@ -7,7 +7,7 @@ use Rattle.cache_model.specs.Legal.{done}
 use Rattle.cache_model.specs.OwnParts.{issued_parts}
 use Rattle.foreign_list.specs.Blocks.{Block}
 use Rattle.foreign_list.specs.declared.piece_id.PieceId.{PieceId}
-use Rattle.shard_rings.specs.Lanes.{Lanes, Rose, on}
+use Rattle.shard_rings.specs.Lanes.{Rose, on}
 use Rattle.shard_rings.specs.declared.link.Lane.{Lane}
 use Rattle.shard_rings.specs.declared.link.Lane.TheVariants.{Requests, Replies}
 use Rattle.shard_rings.specs.declared.link.Packet.{Packet}
@@ -77,9 +77,11 @@ module _ {L G : Type 0} (traffic : L → Traffic) (holds : G → ℕ) where
   IsAside Requests node aside old new = (packet : Packet)
       × ((traffic new.link).received.requests ≡ (traffic old.link).received.requests ++ packet ∷ [])
       × (is_next (due node.trace node.shards old.shard node.shard) (requests_taken (due node.trace node.shards old.shard node.shard) (traffic old.link).received.requests) packet ≡ false)
-      × (aside ≡ record { peer = old.shard;
+      × (aside ≡ record {
+        peer = old.shard;
         expected = expected_said (slice_get (due node.trace node.shards old.shard node.shard) (requests_taken (due node.trace node.shards old.shard node.shard) (traffic old.link).received.requests));
-        found = number_in packet })
+        found = number_in packet;
+      })
 
   -- the peers are served in rising order, all lanes of replies before the lanes of requests
   abbrev pub HasAside : Lane → NodeState L G → NodeState L G → ℕ → Aside → Type 0

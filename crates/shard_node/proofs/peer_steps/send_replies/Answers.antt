@@ -1,6 +1,4 @@
 use Rattle.std.proofs.Common.{◌<◌, length, arith}
-use Rattle.shard_node.specs.Nodes.{traffic_by}
-use Rattle.shard_node.specs.inside.Peers.{SendsReply}
 use Rattle.shard_node.proofs.Each.{once_begins, once_next}
 use Rattle.shard_node.proofs.peer_steps.send_replies.Goals as goal
 

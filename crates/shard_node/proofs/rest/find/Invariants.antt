@@ -1,4 +1,4 @@
-use Rattle.std.proofs.Common.{length, ◌-◌, ◌≡◌, ◌%◌, ℕ}
+use Rattle.std.proofs.Common.{length, ◌-◌, ◌≡◌, ◌%◌}
 use Rattle.shard_node.specs.inside.Rest.{left_from}
 use Rattle.shard_node.proofs.rest.find.Given as goal
 

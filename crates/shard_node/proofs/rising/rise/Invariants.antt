@@ -1,4 +1,4 @@
-use Rattle.std.proofs.Common.{◌≡◌, ℕ, ◌+◌, ◌-◌, ◌<◌, ◌≤◌, List, length, true}
+use Rattle.std.proofs.Common.{◌≡◌, ℕ, ◌-◌, List, length, true}
 use Rattle.cache_model.specs.KeyBody.{AreKeys, AreKeysAt}
 use Rattle.shard_node.specs.inside.Rising.{rise}
 use Rattle.shard_node.proofs.rising.rise.Given as goal

@@ -45,7 +45,7 @@ at-first : (lane : Lane) (home : OwnedList) (before after : List Packet) (aside 
     → IsAside link_is holds lane (at_start home before) aside (peer_with before) (peer_with after)
 at-first lane home before after aside has =
     subst (λ b. IsAside link_is holds lane (at_start home before) aside (peer_with before) b) (some-is _ _ has.3)
-      (subst (λ a. IsAside link_is holds lane (at_start home before) aside a has.1) (some-is _ _ has.2) has.4)
+    (subst (λ a. IsAside link_is holds lane (at_start home before) aside a has.1) (some-is _ _ has.2) has.4)
 
 -- nothing came on the lane of replies
 quiet : (home : OwnedList) (before after : List Packet) (j : ℕ) → HasNone link_is holds Replies (at_start home before) (at_start home after) j
@@ -85,16 +85,16 @@ pub returns : goal.returns
 returns c block home = record {
   stray = (not-done home (packet block of_number_3) refl, inr (0, stray block home, (λ j below. absurd (omega (arith, below))), quiet home [] (packet block of_number_3 ∷ [])));
   other_number = λ answer. elim answer.1 [
-      inl first ↦ quiet home [] (packet block of_number_3 ∷ []) first.0 _ first.1
+    | inl first ↦ quiet home [] (packet block of_number_3 ∷ []) first.0 _ first.1
     | inr first ↦ two-three _ (came home (packet block of_number_3) first.0 _ first.1).1 refl
-    ];
+  ];
   moved = λ answer. (answer.1 0).1 _ (stray block home);
   nothing = λ answer. elim answer.1 [
-      inl first ↦ quiet home [] [] first.0 _ first.1
+    | inl first ↦ quiet home [] [] first.0 _ first.1
     | inr first ↦ silent home first.0 _ first.1
-    ];
+  ];
   expected = λ answer. elim answer.1 [
-      inl first ↦ quiet home [] (packet block put_request ∷ []) first.0 _ first.1
+    | inl first ↦ quiet home [] (packet block put_request ∷ []) first.0 _ first.1
     | inr first ↦ true-false (came home (packet block put_request) first.0 _ first.1).0
-    ];
+  ];
 }

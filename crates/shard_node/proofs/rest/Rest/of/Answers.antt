@@ -1,4 +1,4 @@
-use Rattle.std.proofs.Common.{rules, ◌≡◌, arith, refl, ap, ◌∙◌}
+use Rattle.std.proofs.Common.{arith, ap}
 use Rattle.shard_node.specs.inside.Rest.{RestState}
 use Rattle.shard_node.proofs.rest.Rest.of.Goals as goal
 

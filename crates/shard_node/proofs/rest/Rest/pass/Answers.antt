@@ -1,4 +1,4 @@
-use Rattle.std.proofs.Common.{ℕ, suc, arith, ◌∙◌, ◌≡◌, ◌<◌, ◌≤◌, length}
+use Rattle.std.proofs.Common.{suc, arith, ◌∙◌, ◌≤◌}
 use Rattle.shard_node.proofs.Places.{after-first, no_command, no_operation, round}
 use Rattle.shard_node.proofs.rest.Rest.pass.Goals as goal
 
@@ -10,5 +10,5 @@ returns-then-self-commands-clause-left c =
     let within = rw c.commands.ensures.value at c.if-self-commands.true in
     let some : 1 ≤ c.self.inside.shards = rw c.self.invariant.shards c.commands.ensures.some_shards in
     rw (← c.self.view_is)
-      (c.find-self-inside.ensures.left (suc c.self.inside.at) (omega (arith, some)) (omega arith)
-      ∙ after-first c.self.inside.trace.now c.self.inside.shards c.self.inside.origin c.self.inside.shard c.self.inside.at no_command no_operation within (c.self.invariant.here no_operation within))
+    (c.find-self-inside.ensures.left (suc c.self.inside.at) (omega (arith, some)) (omega arith)
+    ∙ after-first c.self.inside.trace.now c.self.inside.shards c.self.inside.origin c.self.inside.shard c.self.inside.at no_command no_operation within (c.self.invariant.here no_operation within))
