@@ -5,4 +5,3 @@ pub mod Sends
 pub mod Peers
 pub mod Rising
 pub mod Fitting
-pub mod Keeping

@@ -1,6 +1,9 @@
-//! One shard at work on its parts of a trace: a [`Node`].
+//! One shard at work on its parts of a trace: a node.
 //!
-//! A node does the parts that other shards ask of it, and issues its own, turn by turn. A turn waits for nobody.
+//! A node does the parts that other shards ask of it, and issues its own, turn by turn. A turn waits for nobody. Here stand
+//! what holds of a node between turns and what a turn may answer ([`specs/Standing.antt`], [`specs/Turns.antt`]), the gate
+//! that an own command waits for, the record of a run, and the steps of a turn that go over the other shards. The turn itself
+//! is not written yet.
 #![tactic(auto)]
 
 mod expected;
