@@ -14,7 +14,8 @@ use Rattle.span_lists.specs.Layout.{Layout, IsFree, Divides, allocated_pages, Ha
 use Rattle.small_pools.specs.Classes.{size_of, order_of, order_for, capacity_of, IsClass, IsLeastClass}
 use Rattle.small_pools.specs.Objects as pool
 use Rattle.small_pools.specs.Objects.{Objects, AreObjects, AreUsed, HasObject, HoldsFor, IsHeld, IsUsedUp, LacksObject, slot_place}
-use Rattle.shard_memory.specs.Shards.{Shard, Room, LacksBlock, KeepsRoom, HasAllRoom}
+use Rattle.shard_memory.specs.Room.{Room, LacksBlock, KeepsRoom, HasAllRoom}
+use Rattle.shard_memory.specs.inside.Pieces.{Pieces}
 use Rattle.shard_memory.specs.inside.Parts.{IsBlockAt, blocks_of, segments_of}
 use Rattle.shard_memory.specs.inside.Rooms.{answers, gives_class, room_of}
 use Rattle.shard_memory.proofs.Rooms.{class_lacks_of, class_lacks_tells, segment_lacks_of, segment_lacks_tells}
@@ -25,8 +26,8 @@ answers_len zero from test = refl
 answers_len (suc n) from test = ap suc (answers_len n (suc from) test)
 
 -- what callers see of the parts
-abbrev pub shard_of : Memory → Layout → Objects → Shard
-shard_of range spans pools = record {
+abbrev pub pieces_of : Memory → Layout → Objects → Pieces
+pieces_of range spans pools = record {
   home = range.home;
   owner = range.owner;
   pages = range.pages;
@@ -39,7 +40,7 @@ shard_of range spans pools = record {
 
 -- ---- what could be given still can
 
-pub room_kept : (spans spans' : Layout) (pools pools' : Objects) (s t : Shard) → AreObjects pools' → pool.KeepsRoom pools pools' spans spans' → room_of spans pools ≡ s.room → room_of spans' pools' ≡ t.room → KeepsRoom s t
+pub room_kept : (spans spans' : Layout) (pools pools' : Objects) (s t : Room) → AreObjects pools' → pool.KeepsRoom pools pools' spans spans' → room_of spans pools ≡ s → room_of spans' pools' ≡ t → KeepsRoom s t
 room_kept spans spans' pools pools' s t objects kept old new = record {
   classes = λ class lacks. subst (λ (r : Room). get_or r.classes class false ≡ false) old (before class (subst (λ (r : Room). get_or r.classes class false ≡ false) (sym new) lacks));
   segment = λ lacks. subst (λ (r : Room). r.segment ≡ false) old (segment_lacks_of spans (kept.orders 5 (segment_lacks_tells spans' (subst (λ (r : Room). r.segment ≡ false) (sym new) lacks))));
@@ -138,8 +139,8 @@ slot_of pools p objects b =
     }
 
 -- a block of the same size can be given again
-pub room_of_block : (spans : Layout) (pools pools' : Objects) (p : Extent) (s : Shard) → AreObjects pools → IsBlockAt pools p → AreObjects pools' → pools'.allocated ≡ map.remove pools.allocated p.start → pools'.held ≡ pools.held
-    → room_of spans pools' ≡ s.room → ¬ LacksBlock s p.len
+pub room_of_block : (spans : Layout) (pools pools' : Objects) (p : Extent) (s : Room) → AreObjects pools → IsBlockAt pools p → AreObjects pools' → pools'.allocated ≡ map.remove pools.allocated p.start → pools'.held ≡ pools.held
+    → room_of spans pools' ≡ s → ¬ LacksBlock s p.len
 room_of_block spans pools pools' p s objects block objects' e same room lacks =
     let o = slot_of pools p objects block in
     let none = class_lacks_tells spans pools' o.class o.least.within objects' (subst (λ (r : Room). get_or r.classes o.class false ≡ false) (sym room) (lacks o.class o.least)) in
@@ -183,7 +184,7 @@ least_class size h = elim (least_below 37 size (omega arith)) [
 ]
 
 -- where a span of a segment's order is free, so is one for each class
-pub all_room : (spans : Layout) (pools : Objects) (s : Shard) → AreObjects pools → ((order : ℕ) → HasNone spans order → 5 < order) → room_of spans pools ≡ s.room → HasAllRoom s
+pub all_room : (spans : Layout) (pools : Objects) (s : Room) → AreObjects pools → ((order : ℕ) → HasNone spans order → 5 < order) → room_of spans pools ≡ s → HasAllRoom s
 all_room spans pools s objects orders room = record {
   blocks = λ size small lacks.
       (let c = least_class size small in

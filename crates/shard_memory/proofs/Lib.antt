@@ -1,7 +1,8 @@
 pub mod Counts
 pub mod Lists
 pub mod Steps
-pub mod Given
 pub mod Rooms
 pub mod Changes
 pub mod PagesOut
+pub mod Tickets
+pub mod Lending

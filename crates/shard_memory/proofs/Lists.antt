@@ -146,7 +146,7 @@ few_segments n size ps blocks small =
     omega (arith, low, len)
 
 -- with so few pages there is room for one more piece
-pub few_pieces : (pages : ℕ) (allocated : List Extent) → pages ≤ 65536 → AreDisjoint (4096 * pages) allocated → length (blocks_of allocated) ≤ 1024 → length allocated < 4096
+pub few_pieces : (pages : ℕ) (allocated : List Extent) → pages ≤ 65536 → AreDisjoint (4096 * pages) allocated → length (blocks_of allocated) ≤ 1056 → length allocated < 4096
 few_pieces pages allocated most blocks few =
     let segs = few_segments 2048 (4096 * pages) allocated blocks (omega (arith, most)) in
     let both = both_kinds allocated in
@@ -158,7 +158,7 @@ page_of_start first = omega arith
 pub whole_start : (first : ℕ) → first % 2 ^ 5 ≡ 0 → 4096 * first % 131072 ≡ 0
 whole_start first h = omega (arith, h)
 
-filter_swap : (t u : Extent → Bool) (ps : List Extent) → filter t (filter u ps) ≡ filter u (filter t ps)
+pub filter_swap : (t u : Extent → Bool) (ps : List Extent) → filter t (filter u ps) ≡ filter u (filter t ps)
 filter_swap t u [] = refl
 filter_swap t u (p ∷ ps) = swap_step t u p ps (t p) (u p) refl refl (filter_swap t u ps)
   where

@@ -13,7 +13,7 @@ use Rattle.common_lemmas.proofs.Options.{some_is}
 use Rattle.small_pools.specs.Classes.{size_of, order_of, IsClass, IsLeastClass}
 use Rattle.small_pools.specs.Objects.{Objects, IsHeld, AreHeldIn, AreObjects, HoldsFor, Trims}
 use Rattle.shard_memory.specs.inside.Parts.{IsConsistent, IsSegmentAt, IsBlockAt, is_segment, is_block, blocks_of, segments_of}
-use Rattle.shard_memory.proofs.Lists.{has_first, has_later, has_cases, kept, still_has, same_place, fewer_blocks, passes, len_of, segment_is}
+use Rattle.shard_memory.proofs.Lists.{has_first, has_later, has_cases, kept, still_has, same_place, fewer_blocks, passes, len_of, segment_is, kept_by, block_is}
 
 -- a piece that is allocated lies in an allocated span
 in_span : (n : ℕ) (allocated : List Extent) (spans : Layout) (pools : Objects) (q : Extent) → IsConsistent n allocated spans pools → Contains allocated q
@@ -148,6 +148,17 @@ block_facts n allocated spans pools p h has =
             omega (arith, most, fits, size_is))
       ],
     )
+
+-- the block of an object
+pub block_of_object : (n : ℕ) (allocated : List Extent) (spans : Layout) (pools : Objects) (at size : ℕ) → IsConsistent n allocated spans pools → map.get pools.allocated at ≡ Some size
+    → (len : ℕ) × Contains (blocks_of allocated) (extent at len)
+block_of_object n allocated spans pools at size was is =
+    let b = was.objects_allocated at size is in
+    let o = was.objects.slots at size is in
+    let most = (was.objects.spans o.first o.class o.held).0.size_most in
+    let size_is = o.size_is in
+    let small = b.1 in
+    (b.0, kept_by is_block (extent at b.0) allocated b.2 (block_is (extent at b.0) (omega (arith, most, size_is, small))))
 
 pub segment_facts : (allocated : List Extent) (p : Extent) → Contains (segments_of allocated) p → Contains allocated p × (p.len ≡ 131072)
 segment_facts allocated p has = (let a = passes is_segment allocated p has in (a.0, len_of p a.1))
@@ -288,7 +299,7 @@ one_more : (p : Extent) (allocated : List Extent) → length (blocks_of (p ∷ a
 one_more p allocated = elim (is_segment p) as (λ b. length (cond (not b) (p ∷ filter is_block allocated) (filter is_block allocated)) ≤ length (filter is_block allocated) + 1) [ true ↦ omega arith | false ↦ omega arith ]
 
 pub gave_block : (n : ℕ) (allocated : List Extent) (spans spans' : Layout) (pools pools' : Objects) (at class len : ℕ) → IsConsistent n allocated spans pools → map.get pools.allocated at ≡ None → pools'.allocated ≡ map.insert pools.allocated at (size_of class)
-    → pools'.pages ≡ pools.pages → HoldsFor pools pools' spans spans' class → AreHeldIn pools' spans' → AreObjects pools' → Divides spans' → IsCoalesced spans' → IsLeastClass len class → length (blocks_of allocated) < 1024 → AreDisjoint (4096 * n) (extent at len ∷ allocated)
+    → pools'.pages ≡ pools.pages → HoldsFor pools pools' spans spans' class → AreHeldIn pools' spans' → AreObjects pools' → Divides spans' → IsCoalesced spans' → IsLeastClass len class → length (blocks_of allocated) < 1056 → AreDisjoint (4096 * n) (extent at len ∷ allocated)
     → IsConsistent n (extent at len ∷ allocated) spans' pools'
 gave_block n allocated spans spans' pools pools' at class len h free e pages holds held objects divided coalesced least few blocks =
     let p = extent at len in
@@ -331,7 +342,7 @@ all_free n m allocated spans pools e most whole none spans_pages no_spans pools_
       whole = ap (λ z. z % 32) e ∙ whole;
       same = spans_pages ∙ sym e;
       blocks = subst (AreDisjoint (4096 * m)) (sym none) (λ i d w. absurd (omega (arith, w)), λ i j d l w. absurd (omega (arith, w)));
-      few = subst (λ o. length (blocks_of o) ≤ 1024) (sym none) (omega arith);
+      few = subst (λ o. length (blocks_of o) ≤ 1056) (sym none) (omega arith);
       pieces = λ q has. absurd (let h : Contains [] q = subst (λ o. Contains o q) none has in let l = h.1 in omega (arith, l));
       spans_allocated = λ g k o. absurd (empty_at spans.allocated g k no_spans o);
       objects_allocated = λ a size o. absurd (empty_at pools.allocated a size no_allocated o);

@@ -1,3 +1,5 @@
 -- Words that only the private parts cite.
+pub mod Pieces
 pub mod Parts
 pub mod Rooms
+pub mod Lending

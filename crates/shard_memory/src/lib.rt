@@ -3,12 +3,18 @@
 //!
 //! A block comes from the pool of its size class, a segment is a span of 32 pages. Pools take their memory in spans
 //! of the same pages, and keep a span until `trim` finds no object of it allocated.
+//!
+//! Some blocks stay with the shard. The others are lent, each with one of the 32 tickets of the shard's list: they may go to any
+//! thread, are released there, and are free once the shard takes them back.
 #![tactic(auto)]
 
 pub use give_refusal::GiveRefusal;
 pub use memory::ShardMemory;
+pub use share::Share;
 
 mod give_refusal;
 mod memory;
+mod piece_allocator;
+mod share;
 #[cfg(test)]
 mod tests;

@@ -1,131 +1,216 @@
-ghost use Rattle.std.specs.Prelude.{
-  ◌≡◌,
-  ℕ,
-  ◌+◌,
-  ◌*◌,
-  ◌/◌,
-  ◌%◌,
-  ◌<◌,
-  ◌≤◌,
-  ◌↔◌,
-  [],
-  ◌∷◌,
-  length,
-  replicate,
-  IfOk,
-  IfErr,
-  IfSome,
-  IfNone,
-  IsNone,
-  IsSome,
-  All,
-};
+ghost use Rattle.std.specs.Prelude.{◌≡◌, ℕ, ◌+◌, ◌*◌, ◌%◌, ◌^◌, ◌<◌, ◌≤◌, ◌↔◌, [], ◌∷◌, suc, cond, false, length, replicate, IfOk, IfErr, IfSome, IfNone, IsNone, IsTrue, All, Some, slice_set};
 ghost use Rattle.std.specs.FinMap as map;
-ghost use Rattle.layout.specs.Extents.{extent, Disjoint, AreDisjoint, Blocks};
-ghost use Rattle.layout.specs.Sizes.{page, segment, segment_pages, segment_order, most_pages, most_pieces, greatest_block, ArePages};
-ghost use Rattle.raw_range.specs.Memory.{Lent, extent_of, with_allocated, remove_extent};
-ghost use Rattle.span_lists.specs.Layout.{IsAllocated, Divides, IsCoalesced, HasNone};
-ghost use Rattle.small_pools.specs.Classes.{IsClass, IsLeastClass};
-ghost use Rattle.small_pools.specs.Objects.{AreObjects};
+ghost use Rattle.layout.specs.Extents.{Blocks};
+ghost use Rattle.layout.specs.Sizes.{page, segment, segment_pages, tickets, greatest_block, ArePages};
+ghost use Rattle.raw_range.specs.Memory.{Lent, extent_of, remove_extent};
+ghost use Rattle.foreign_list.specs.OwnerSeats.{IsSeatOf, IsAtRest};
+ghost use Rattle.foreign_list.specs.Blocks.{piece_id_of, IsFresh};
+ghost use Rattle.shard_memory.specs.Room.{LacksBlock, LacksSegment, IsTrimmed, KeepsRoom, HasAllRoom};
+ghost use Rattle.shard_memory.specs.Tickets.{first_ticket, end_ticket, HasIdle, IsLeastIdle, tickets_out, raised};
 ghost use Rattle.shard_memory.specs.Shards.{
+  Shard,
   most_blocks,
+  longest_span,
   AreApart,
+  AreOfRange,
+  HaveObjects,
   IsBlockOf,
   IsSegmentOf,
-  LacksBlock,
-  LacksSegment,
-  IsTrimmed,
   IsCrowded,
   SetsAside,
   TakesPages,
-  KeepsRoom,
-  HasAllRoom,
-  longest_span,
+  ComeBack,
 };
-ghost use Rattle.shard_memory.specs.Refusals.{RefusesFor, MeansCrowded};
+ghost use Rattle.shard_memory.specs.Refusals.{RefusesFor, RefusesHere};
+ghost use Rattle.shard_memory.specs.inside.Lending.{AreLent, ArePutBack};
 
 use crate::give_refusal::GiveRefusal;
-use layout::{PAGE, SEGMENT, SEGMENT_ORDER};
-use raw_range::{Piece, Range};
-use small_pools::{Pools, class_of};
-use span_lists::Spans;
-use std::alloc::{AllocError, Global};
+use crate::piece_allocator::PieceAllocator;
+use crate::share::Share;
+use foreign_list::{Foreign, ForeignBlock, OwnerSeat};
+use layout::{GREATEST_BLOCK, TICKETS};
+use raw_range::Piece;
+use std::alloc::Global;
 use std::marker::Model;
 
-/// The memory of one shard. One that is dropped is not freed: only `finish` gives its memory back.
+/// The tickets for requests: the first ones.
+const REQUEST_TICKETS: u32 = 8;
+
+/// The memory of one shard, with the owner's seat at its list. One that is dropped is not freed: only `finish` gives its memory
+/// back.
 #[derive(Drop)]
-pub struct ShardMemory {
-    pages: u32,
-    range: Range,
-    spans: Spans,
-    pools: Pools,
+pub struct ShardMemory<'f> {
+    home: &'f Foreign,
+    seat: OwnerSeat,
+    own: PieceAllocator,
+    // How many tickets are not idle.
+    out: u32,
+    // How many blocks came home, at most the greatest u64.
+    back: u64,
 }
 
-impl Model for ShardMemory {
-    ghost use Rattle.std.specs.Prelude.{◌≡◌};
-    ghost use Rattle.span_lists.specs.Layout.{allocated_pages};
+impl<'f> Model for ShardMemory<'f> {
     ghost use Rattle.shard_memory.specs.Shards.{Shard, shard_code};
-    ghost use Rattle.shard_memory.specs.inside.Parts.{blocks_of, segments_of, IsConsistent};
-    ghost use Rattle.shard_memory.specs.inside.Rooms.{room_of};
+    ghost use Rattle.shard_memory.specs.Tickets.{tickets_out, raised};
+    ghost use Rattle.shard_memory.specs.inside.Lending.{staying, IsLending};
 
     ghost Value = { Shard };
 
     ghost coded = { shard_code };
 
-    ghost view = { λ a. record {
-      home = a.range.home;
-      owner = a.range.owner;
-      pages = a.range.pages;
-      blocks = blocks_of a.range.allocated;
-      objects = a.pools.allocated;
-      segments = segments_of a.range.allocated;
-      pages_out = allocated_pages a.spans;
-      room = room_of a.spans a.pools;
+    ghost view = { λ m. record {
+      home = m.own.home;
+      owner = m.own.owner;
+      pages = m.own.pages;
+      blocks = staying m.seat.lent m.own.blocks;
+      objects = m.own.objects;
+      segments = m.own.segments;
+      pages_out = m.own.pages_out;
+      room = m.own.room;
+      list = m.home.now;
+      lent = m.seat.lent;
+      lends = raised m.back (tickets_out m.seat.lent);
+      backs = m.back;
+      take_wholes = m.seat.take_wholes;
     } };
 
-    ghost invariant = { λ a. (a.pages ≡ a.range.pages) × IsConsistent a.range.pages a.range.allocated a.spans a.pools };
+    ghost invariant = { λ m. IsLending m.home.now m.seat m.own m.out };
 }
 
-impl ShardMemory {
-    /// The memory of a shard of so many pages of 4,096 bytes, all of it free.
+impl<'f> ShardMemory<'f> {
+    /// The memory of a shard of so many pages of 4,096 bytes, all of it free, whose lent blocks come home over this list.
     ///
     /// # Errors
-    /// Want of memory.
-    pub fn open(alloc: Global, shard: u32, pages: u32) -> Result<ShardMemory, AllocError>
-        requires { ArePages pages }
+    /// Want of memory; then the seat is handed back.
+    pub fn open(
+        alloc: Global,
+        shard: u32,
+        pages: u32,
+        home: &'f Foreign,
+        seat: OwnerSeat,
+    ) -> Result<ShardMemory<'f>, OwnerSeat>
+        requires pages { ArePages pages }
+        requires owner { home.now.owner ≡ shard }
+        requires seat { IsAtRest home.now seat }
+        ensures refused { IfErr result (λ back. back ≡ seat) }
         ensures numbers { IfOk result (λ memory. (memory.owner ≡ shard) × (memory.pages ≡ pages)) }
+        ensures list { IfOk result (λ memory. memory.list ≡ home.now) }
         ensures blocks { IfOk result (λ memory. (memory.blocks ≡ []) × (memory.objects ≡ map.empty)) }
         ensures segments { IfOk result (λ memory. memory.segments ≡ []) }
         ensures pages_out { IfOk result (λ memory. memory.pages_out ≡ 0) }
-        ensures room { IfOk result HasAllRoom }
-        ensures trimmed { IfOk result IsTrimmed }
+        ensures lent { IfOk result (λ memory. memory.lent ≡ seat.lent) }
+        ensures counts { IfOk result (λ memory. (memory.lends ≡ 0) × (memory.backs ≡ 0) × (memory.take_wholes ≡ seat.take_wholes)) }
+        ensures room { IfOk result (λ memory. HasAllRoom memory.room) }
+        ensures trimmed { IfOk result (λ memory. IsTrimmed memory.room) }
     {
-        let spans = Spans::new(alloc, pages)?;
-        let pools = Pools::new(alloc, pages)?;
-        let range = Range::new(alloc, shard, pages)?;
-        Ok(ShardMemory {
-            pages,
-            range,
-            spans,
-            pools,
-        })
+        seat.facts();
+        match PieceAllocator::open(alloc, shard, pages) {
+            Ok(own) => Ok(ShardMemory {
+                home,
+                seat,
+                own,
+                out: 0,
+                back: 0,
+            }),
+            Err(_) => Err(seat),
+        }
     }
 
     /// What holds of the memory at each time.
     ///
-    /// Where `trim` would give nothing back, each block keeps at most 16 pages out beside the segments' own, and want
+    /// Where `trim` would give nothing back, each block, lent or not, keeps at most 16 pages out beside the segments' own, and want
     /// of room for a segment says that segments and blocks are together at least a 32nd of the pages.
     pub fn facts(&self)
+        ensures owner { self.now.owner ≡ self.now.list.owner }
         ensures apart { AreApart self.now }
+        ensures range { AreOfRange self.now }
         ensures kinds { (piece : Lent) → IsSegmentOf self.now piece → ¬ IsBlockOf self.now piece }
         ensures objects { Blocks (page * self.now.pages) (map.get self.now.objects) }
+        ensures of_blocks { HaveObjects self.now }
         ensures segments { segment_pages * length self.now.segments ≤ self.now.pages }
         ensures few { length self.now.blocks ≤ most_blocks }
+        ensures tickets { length self.now.lent ≡ tickets }
+        ensures lends { self.now.lends ≡ raised self.now.backs (tickets_out self.now.lent) }
+        ensures backs { self.now.backs < 2 ^ 64 }
         ensures pages_out { (segment_pages * length self.now.segments ≤ self.now.pages_out) × (self.now.pages_out ≤ self.now.pages) }
-        ensures trimmed { IsTrimmed self.now → self.now.pages_out ≤ segment_pages * length self.now.segments + longest_span * length self.now.blocks }
-        ensures crowded { IsTrimmed self.now → LacksSegment self.now → IsCrowded self.now }
+        ensures trimmed { IsTrimmed self.now.room → self.now.pages_out ≤ segment_pages * length self.now.segments + longest_span * (length self.now.blocks + tickets_out self.now.lent) }
+        ensures crowded { IsTrimmed self.now.room → LacksSegment self.now.room → IsCrowded self.now }
     {
-        self.spans.facts();
+        let _backs = self.back;
+        self.own.facts();
+    }
+
+    /// Lends a block of so many bytes, all of them 0, with the least idle ticket of the share.
+    ///
+    /// # Errors
+    /// `TooLarge` above 16,384 bytes, `NoTicket` where no ticket of the share is idle, and `NoSpan` where neither the pool of the
+    /// size's class nor the pages have room, in this order.
+    pub fn give(&mut self, size: u32, share: Share) -> Result<ForeignBlock<'f>, GiveRefusal>
+        requires { 1 ≤ size }
+        ensures refused { IfErr result (RefusesFor self.old share size) }
+        ensures room { IfOk result (λ _. (size ≤ greatest_block) × ¬ LacksBlock self.old.room size) }
+        ensures crowded { IfErr result (λ refusal. refusal ≡ GiveRefusal.NoSpan → IsTrimmed self.old.room → IsCrowded self.old) }
+        ensures unchanged { IfErr result (λ _. self.new ≡ self.old) }
+        ensures ticket { IfOk result (λ block. IsLeastIdle self.old.lent share block.ticket) }
+        ensures fresh { IfOk result (λ block. IsFresh self.old.list.id block.ticket block.piece block) }
+        ensures mine { IfOk result (λ block. (block.piece.home ≡ self.old.home) × (block.piece.owner ≡ self.old.owner)) }
+        ensures zeros { IfOk result (λ block. block.piece.bytes ≡ replicate size 0) }
+        ensures lent { IfOk result (λ block. self.new.lent ≡ slice_set self.old.lent block.ticket (Some (piece_id_of block.piece))) }
+        ensures lends { IfOk result (λ _. self.new.lends ≡ raised self.old.lends 1) }
+        ensures out { IfOk result (λ _. tickets_out self.new.lent ≡ tickets_out self.old.lent + 1) }
+        ensures least { IfOk result (λ block. SetsAside self.old.objects self.new.objects size block.piece.at) }
+        ensures pages_out { IfOk result (λ _. TakesPages self.old.pages_out self.new.pages_out size) }
+        ensures trimmed { IsTrimmed self.old.room → IsTrimmed self.new.room }
+        ensures same { self.new ≡ record self.old { lent = self.new.lent; lends = self.new.lends; objects = self.new.objects; pages_out = self.new.pages_out; room = self.new.room } }
+    {
+        if size > GREATEST_BLOCK {
+            return Err(GiveRefusal::TooLarge);
+        }
+        let Some(ticket) = first_idle(&self.seat, share) else {
+            return Err(GiveRefusal::NoTicket);
+        };
+        let piece = self.own.give_block(size)?;
+        self.out += 1;
+        Ok(self.home.lend(&mut self.seat, ticket, piece))
+    }
+
+    /// Takes back each lent block that was released, by one look at the list. Their tickets are idle, and their bytes free.
+    /// Answers how many came.
+    pub fn take_back(&mut self) -> u32
+        ensures { ComeBack self.old self.new result }
+    {
+        let count = take_all(self.home, &mut self.seat, &mut self.own);
+        self.out -= count;
+        self.back = self.back.saturating_add(u64::from(count));
+        count
+    }
+
+    /// Whether a ticket of the share is idle.
+    pub fn is_idle(&self, share: Share) -> bool
+        ensures { IsTrue result ↔ HasIdle self.now.lent share }
+    {
+        first_idle(&self.seat, share).is_some()
+    }
+
+    /// How many tickets are not idle.
+    pub fn tickets_out(&self) -> u32
+        ensures { result ≡ tickets_out self.now.lent }
+    {
+        self.out
+    }
+
+    /// How many blocks `give` has lent. It stands at the greatest u64.
+    pub fn lent(&self) -> u64
+        ensures { result ≡ self.now.lends }
+    {
+        self.back.saturating_add(u64::from(self.out))
+    }
+
+    /// How many blocks `take_back` has taken back. It stands at the greatest u64.
+    pub fn back(&self) -> u64
+        ensures { result ≡ self.now.backs }
+    {
+        self.back
     }
 
     /// Gives a block of so many bytes, all of them 0, that stays with this shard.
@@ -135,26 +220,20 @@ impl ShardMemory {
     pub fn give_here(&mut self, size: u32) -> Result<Piece, GiveRefusal>
         requires some { 1 ≤ size }
         requires few { length self.old.blocks < most_blocks }
-        ensures refused { IfErr result (RefusesFor self.old size) }
-        ensures room { IfOk result (λ _. (size ≤ greatest_block) × ¬ LacksBlock self.old size) }
-        ensures crowded { IfErr result (MeansCrowded self.old) }
+        ensures refused { IfErr result (RefusesHere self.old.room size) }
+        ensures room { IfOk result (λ _. (size ≤ greatest_block) × ¬ LacksBlock self.old.room size) }
+        ensures crowded { IfErr result (λ refusal. refusal ≡ GiveRefusal.NoSpan → IsTrimmed self.old.room → IsCrowded self.old) }
         ensures unchanged { IfErr result (λ _. self.new ≡ self.old) }
         ensures mine { IfOk result (λ piece. (piece.home ≡ self.old.home) × (piece.owner ≡ self.old.owner)) }
         ensures given { IfOk result (IsBlockOf self.new) }
         ensures zeros { IfOk result (λ piece. piece.bytes ≡ replicate size 0) }
         ensures blocks { IfOk result (λ piece. self.new.blocks ≡ extent_of piece ∷ self.old.blocks) }
-        ensures least { IfOk result (λ piece. SetsAside self.old self.new size piece.at) }
-        ensures pages_out { IfOk result (λ _. TakesPages self.old self.new size) }
-        ensures segments { self.new.segments ≡ self.old.segments }
-        ensures trimmed { IsTrimmed self.old → IsTrimmed self.new }
-        ensures same { (self.new.home ≡ self.old.home) × (self.new.owner ≡ self.old.owner) × (self.new.pages ≡ self.old.pages) }
+        ensures least { IfOk result (λ piece. SetsAside self.old.objects self.new.objects size piece.at) }
+        ensures pages_out { IfOk result (λ _. TakesPages self.old.pages_out self.new.pages_out size) }
+        ensures trimmed { IsTrimmed self.old.room → IsTrimmed self.new.room }
+        ensures same { self.new ≡ record self.old { blocks = self.new.blocks; objects = self.new.objects; pages_out = self.new.pages_out; room = self.new.room } }
     {
-        let class = class_for(size)?;
-        let Some(place) = self.pools.take(&mut self.spans, class) else {
-            self.spans.facts();
-            return Err(GiveRefusal::NoSpan);
-        };
-        Ok(cleared(self.range.take(place, size)))
+        self.own.give_block(size)
     }
 
     /// Takes a block of `give_here` back.
@@ -163,46 +242,40 @@ impl ShardMemory {
         ensures blocks { self.new.blocks ≡ remove_extent (extent_of piece) self.old.blocks }
         ensures one_less { length self.new.blocks + 1 ≡ length self.old.blocks }
         ensures objects { self.new.objects ≡ map.remove self.old.objects piece.at }
-        ensures segments { self.new.segments ≡ self.old.segments }
-        ensures spans { (self.new.pages_out ≡ self.old.pages_out) × (self.new.room.segment ≡ self.old.room.segment) }
-        ensures kept { KeepsRoom self.old self.new }
-        ensures room { ¬ LacksBlock self.new (length piece.bytes) }
-        ensures same { (self.new.home ≡ self.old.home) × (self.new.owner ≡ self.old.owner) × (self.new.pages ≡ self.old.pages) }
+        ensures segment { self.new.room.segment ≡ self.old.room.segment }
+        ensures kept { KeepsRoom self.old.room self.new.room }
+        ensures room { ¬ LacksBlock self.new.room (length piece.bytes) }
+        ensures same { self.new ≡ record self.old { blocks = self.new.blocks; objects = self.new.objects; room = self.new.room } }
     {
-        put_object(&mut self.pools, &piece);
-        self.range.put(piece);
+        self.own.put_block(piece);
     }
 
     /// Gives each span of the pools back to the pages that has no allocated object.
     pub fn trim(&mut self)
-        ensures trimmed { IsTrimmed self.new }
-        ensures unchanged { IsTrimmed self.old → self.new ≡ self.old }
+        ensures trimmed { IsTrimmed self.new.room }
+        ensures unchanged { IsTrimmed self.old.room → self.new ≡ self.old }
         ensures pages_out { self.new.pages_out ≤ self.old.pages_out }
-        ensures kept { KeepsRoom self.old self.new }
+        ensures kept { KeepsRoom self.old.room self.new.room }
         ensures same { self.new ≡ record self.old { pages_out = self.new.pages_out; room = self.new.room } }
     {
-        self.pools.trim(&mut self.spans);
+        self.own.trim();
     }
 
     /// Gives a segment of 131,072 bytes, at a multiple of that.
     pub fn give_segment(&mut self) -> Option<Piece>
-        ensures none { IsNone result ↔ LacksSegment self.old }
+        ensures none { IsNone result ↔ LacksSegment self.old.room }
         ensures unchanged { IfNone result (self.new ≡ self.old) }
-        ensures crowded { IfNone result (IsTrimmed self.old → IsCrowded self.old) }
+        ensures crowded { IfNone result (IsTrimmed self.old.room → IsCrowded self.old) }
         ensures mine { IfSome result (λ piece. (piece.home ≡ self.old.home) × (piece.owner ≡ self.old.owner)) }
         ensures given { IfSome result (IsSegmentOf self.new) }
         ensures whole { IfSome result (λ piece. (length piece.bytes ≡ segment) × (piece.at % segment ≡ 0)) }
         ensures segments { IfSome result (λ piece. self.new.segments ≡ extent_of piece ∷ self.old.segments) }
         ensures one_more { IfSome result (λ _. length self.new.segments ≡ length self.old.segments + 1) }
-        ensures blocks { (self.new.blocks ≡ self.old.blocks) × (self.new.objects ≡ self.old.objects) }
         ensures pages_out { IfSome result (λ _. self.new.pages_out ≡ self.old.pages_out + segment_pages) }
         ensures trimmed { self.new.room.trimmed ≡ self.old.room.trimmed }
-        ensures same { (self.new.home ≡ self.old.home) × (self.new.owner ≡ self.old.owner) × (self.new.pages ≡ self.old.pages) }
+        ensures same { self.new ≡ record self.old { segments = self.new.segments; pages_out = self.new.pages_out; room = self.new.room } }
     {
-        let Some(first) = self.spans.take(SEGMENT_ORDER) else {
-            return None;
-        };
-        Some(segment_at(&mut self.range, first))
+        self.own.give_segment()
     }
 
     /// Takes a segment of `give_segment` back.
@@ -210,14 +283,12 @@ impl ShardMemory {
         requires { IsSegmentOf self.old piece }
         ensures segments { self.new.segments ≡ remove_extent (extent_of piece) self.old.segments }
         ensures one_less { length self.new.segments + 1 ≡ length self.old.segments }
-        ensures blocks { (self.new.blocks ≡ self.old.blocks) × (self.new.objects ≡ self.old.objects) }
         ensures pages_out { self.new.pages_out + segment_pages ≡ self.old.pages_out }
-        ensures room { HasAllRoom self.new }
+        ensures room { HasAllRoom self.new.room }
         ensures trimmed { self.new.room.trimmed ≡ self.old.room.trimmed }
-        ensures same { (self.new.home ≡ self.old.home) × (self.new.owner ≡ self.old.owner) × (self.new.pages ≡ self.old.pages) }
+        ensures same { self.new ≡ record self.old { segments = self.new.segments; pages_out = self.new.pages_out; room = self.new.room } }
     {
-        put_span(&mut self.spans, &piece);
-        self.range.put(piece);
+        self.own.put_segment(piece);
     }
 
     /// The number of pages that are in no free span.
@@ -225,70 +296,79 @@ impl ShardMemory {
         ensures value { result ≡ self.now.pages_out }
         ensures most { result ≤ self.now.pages }
     {
-        self.pages - self.spans.free_pages()
+        self.own.pages_out()
     }
 
-    /// Gives the memory back, once no block and no segment is allocated.
-    pub fn finish(self)
-        requires { (self.blocks ≡ []) × (self.segments ≡ []) }
+    /// Gives the memory back, once no block and no segment is out, and hands back the owner's seat, with which the list may be
+    /// closed.
+    pub fn finish(self) -> OwnerSeat
+        requires blocks { (self.blocks ≡ []) × (self.segments ≡ []) }
+        requires idle { tickets_out self.lent ≡ 0 }
+        ensures seat { IsAtRest self.entry.list result }
+        ensures take_wholes { result.take_wholes ≡ self.entry.take_wholes }
     {
-        self.range.finish();
+        self.own.finish();
+        self.seat
     }
 }
 
-/// The class from which a block of so many bytes comes.
-fn class_for(size: u32) -> Result<u8, GiveRefusal>
-    requires { 1 ≤ size }
-    ensures refused { IfErr result (λ refusal. (refusal ≡ GiveRefusal.TooLarge) × (greatest_block < size)) }
-    ensures least { IfOk result (IsLeastClass size) }
-    ensures bounds { IfOk result IsClass }
+/// The first ticket of a share, and the first behind it.
+fn tickets_of(share: Share) -> (u32, u32)
+    ensures { (result.0 ≡ first_ticket share) × (result.1 ≡ end_ticket share) }
 {
-    class_of(size).ok_or(GiveRefusal::TooLarge)
+    match share {
+        Share::Request => (0, REQUEST_TICKETS),
+        Share::Reply => (REQUEST_TICKETS, TICKETS),
+    }
 }
 
-/// Gives the object of a block back to its pool.
-fn put_object(pools: &mut Pools, block: &Piece)
-    requires { IsSome (map.get pools.old.allocated block.now.at) }
-    ensures allocated { pools.new.allocated ≡ map.remove pools.old.allocated block.now.at }
-    ensures held { pools.new.held ≡ pools.old.held }
-    ensures pages { pools.new.pages ≡ pools.old.pages }
-    ensures objects { AreObjects pools.new }
+/// The least idle ticket of the share. None exactly where none is idle.
+fn first_idle(seat: &OwnerSeat, share: Share) -> Option<u32>
+    ensures none { IfNone result (¬ HasIdle seat.now.lent share) }
+    ensures some { IfSome result (IsLeastIdle seat.now.lent share) }
 {
-    pools.put(block.at());
+    let (first, end) = tickets_of(share);
+    for ticket in first..end {
+        if seat.is_idle(ticket) {
+            return Some(ticket);
+        }
+    }
+    None
 }
 
-/// The segment that begins at a page.
-fn segment_at(range: &mut Range, first: u32) -> Piece
-    requires inside { page * first + segment ≤ page * range.old.pages }
-    requires pages { range.old.pages ≤ most_pages }
-    requires disjoint { All (Disjoint (extent (page * first) segment)) range.old.allocated }
-    requires few { length range.old.allocated < most_pieces }
-    ensures home { result.home ≡ range.old.home }
-    ensures owner { result.owner ≡ range.old.owner }
-    ensures extent { extent_of result ≡ extent (page * first) segment }
-    ensures allocated { range.new ≡ with_allocated range.old (extent (page * first) segment ∷ range.old.allocated) range.old.bytes }
-    ensures blocks { AreDisjoint (page * range.new.pages) range.new.allocated }
+/// Takes the list, and puts each block of it back.
+fn take_all(home: &Foreign, seat: &mut OwnerSeat, own: &mut PieceAllocator) -> u32
+    requires seat { IsSeatOf home.now seat.old }
+    requires walk { seat.old.walk ≡ [] }
+    requires lent { AreLent seat.old.lent own.old.home own.old.owner own.old.blocks }
+    ensures seat { IsSeatOf home.now seat.new }
+    ensures walk { seat.new.walk ≡ [] }
+    ensures lent { AreLent seat.new.lent own.new.home own.new.owner own.new.blocks }
+    ensures put_back { ArePutBack seat.old.lent seat.new.lent own.old own.new result }
+    ensures take_wholes { seat.new.take_wholes ≡ suc seat.old.take_wholes }
 {
-    range.take(PAGE * first, SEGMENT)
+    home.take_whole(seat);
+    let mut count = 0;
+    while put_next(home, seat, own) {
+        count += 1;
+    }
+    count
 }
 
-/// Gives the span of a segment back to the pages.
-fn put_span(spans: &mut Spans, given: &Piece)
-    requires { IsAllocated spans.old (given.now.at / page) segment_order }
-    ensures allocated { spans.new.allocated ≡ map.remove spans.old.allocated (given.now.at / page) }
-    ensures orders { (order : ℕ) → HasNone spans.new order → segment_order < order }
-    ensures pages { spans.new.pages ≡ spans.old.pages }
-    ensures divided { Divides spans.new }
-    ensures coalesced { IsCoalesced spans.new }
+/// Puts the next block of the walk back. False where the walk is empty.
+fn put_next(home: &Foreign, seat: &mut OwnerSeat, own: &mut PieceAllocator) -> bool
+    requires seat { IsSeatOf home.now seat.old }
+    requires lent { AreLent seat.old.lent own.old.home own.old.owner own.old.blocks }
+    ensures seat { IsSeatOf home.now seat.new }
+    ensures walk { length seat.new.walk + cond result 1 0 ≡ length seat.old.walk }
+    ensures last { result ≡ false → seat.new.walk ≡ [] }
+    ensures lent { AreLent seat.new.lent own.new.home own.new.owner own.new.blocks }
+    ensures put_back { ArePutBack seat.old.lent seat.new.lent own.old own.new (cond result 1 0) }
+    ensures take_wholes { seat.new.take_wholes ≡ seat.old.take_wholes }
 {
-    spans.put(given.at() / PAGE, SEGMENT_ORDER);
-}
-
-/// The piece with all its bytes 0.
-fn cleared(piece: Piece) -> Piece
-    ensures { result ≡ record piece { bytes = replicate (length piece.bytes) 0 } }
-{
-    let mut piece = piece;
-    piece.bytes_mut().fill(0);
-    piece
+    let Some(back) = home.next_back(seat) else {
+        return false;
+    };
+    own.put_block(back.piece);
+    true
 }

@@ -1,90 +1,163 @@
-ghost use Rattle.std.specs.Prelude.{◌≡◌, ◌+◌, ◌<◌, ◌≤◌, List, length, IfOk};
-ghost use Rattle.raw_range.specs.Memory.{Lent};
-ghost use Rattle.shard_memory.specs.Shards.{most_blocks, AreSegmentsOf};
+// What no clause says: that memory is found, what fixed numbers give, and that blocks come home in any order.
+ghost use Rattle.std.specs.Prelude.{◌≡◌};
 
-use crate::{GiveRefusal, ShardMemory};
-use raw_range::Piece;
+use crate::{GiveRefusal, ShardMemory, Share};
+use foreign_list::{Foreign, ForeignBlock};
 use std::alloc::AllocError;
 use std::test::Fail;
 
-// Takes segments until there are so many, or none is left.
-fn take_segments(
-    memory: &mut ShardMemory,
-    most: u32,
-    taken: &mut Vec<Piece>,
-) -> Result<u32, AllocError>
-    requires { AreSegmentsOf memory.old taken.old.items }
-    ensures segments { IfOk result (λ _. AreSegmentsOf memory.new taken.new.items) }
-    ensures blocks { length memory.new.blocks ≡ length memory.old.blocks }
-{
-    for count in 0..most {
-        let Some(piece) = memory.give_segment() else {
-            return Ok(count);
-        };
-        taken.push(piece)?;
-    }
-    Ok(most)
-}
+const OWNER: u32 = 3;
 
-// Asks for a block, and answers why there is none.
-fn refusal_of(memory: &mut ShardMemory, size: u32) -> Option<GiveRefusal>
-    requires some { 1 ≤ size }
-    requires few { length memory.old.blocks < most_blocks }
-    ensures blocks { length memory.new.blocks ≤ length memory.old.blocks + 1 }
-    ensures segments { (pieces : List Lent) → AreSegmentsOf memory.old pieces → AreSegmentsOf memory.new pieces }
-{
-    match memory.give_here(size) {
-        Ok(_block) => None,
-        Err(refusal) => Some(refusal),
-    }
-}
+const PAGES: u32 = 1280;
 
 #[test]
-fn where_segments_fill_the_pages_no_block_is_given(rt: HostRuntime) -> Result<(), Fail> {
-    let mut memory = ShardMemory::open(rt.alloc(), 0, 1280)?;
-    let mut taken = Vec::new(rt.alloc());
-    assert_eq!(rt; refusal_of(&mut memory, 16385), Some(GiveRefusal::TooLarge));
-    assert_eq!(rt; memory.pages_out(), 0);
-    assert_eq!(rt; take_segments(&mut memory, 64, &mut taken)?, 40);
-    assert_eq!(rt; refusal_of(&mut memory, 16), Some(GiveRefusal::NoSpan));
-    assert_eq!(rt; memory.pages_out(), 1280);
-    if let Some(segment) = taken.pop() {
-        memory.segment_back(segment);
+fn each_share_has_tickets_of_its_own(rt: HostRuntime) -> Result<(), Fail> {
+    let (home, seat) = Foreign::new(rt.alloc(), OWNER)?;
+    let Ok(mut memory) = ShardMemory::open(rt.alloc(), OWNER, PAGES, &home, seat) else {
+        assert!(rt; false);
+        return Ok(());
+    };
+    assert_eq!(rt;
+        memory.give(16_385, Share::Request).err(),
+        Some(GiveRefusal::TooLarge)
+    );
+    for ticket in 0..8 {
+        assert_eq!(rt;
+            memory
+                .give(16, Share::Request)
+                .map(|block| block.ticket())
+                .ok(),
+            Some(ticket)
+        );
     }
-    assert_eq!(rt; memory.pages_out(), 1248);
-    assert_eq!(rt; refusal_of(&mut memory, 16), None);
-    assert_eq!(rt; memory.pages_out(), 1249);
+    assert_eq!(rt;
+        memory.give(16, Share::Request).err(),
+        Some(GiveRefusal::NoTicket)
+    );
+    assert!(rt; !memory.is_idle(Share::Request) && memory.is_idle(Share::Reply));
+    assert_eq!(rt;
+        memory
+            .give(16, Share::Reply)
+            .map(|block| block.ticket())
+            .ok(),
+        Some(8)
+    );
+    assert_eq!(rt;
+        (memory.lent(), memory.back(), memory.pages_out()),
+        (9, 0, 1)
+    );
     Ok(())
 }
 
 #[test]
-fn a_block_that_is_back_leaves_its_page_to_trim(rt: HostRuntime) -> Result<(), Fail> {
-    let mut memory = ShardMemory::open(rt.alloc(), 3, 1280)?;
+fn where_segments_fill_the_pages_no_block_is_lent(rt: HostRuntime) -> Result<(), Fail> {
+    let (home, seat) = Foreign::new(rt.alloc(), OWNER)?;
+    let Ok(mut memory) = ShardMemory::open(rt.alloc(), OWNER, PAGES, &home, seat) else {
+        assert!(rt; false);
+        return Ok(());
+    };
+    for _ in 0..40 {
+        assert!(rt; memory.give_segment().is_some());
+    }
+    assert!(rt; memory.give_segment().is_none());
+    assert_eq!(rt;
+        memory.give(16, Share::Reply).err(),
+        Some(GiveRefusal::NoSpan)
+    );
+    assert_eq!(rt; memory.pages_out(), PAGES);
+    Ok(())
+}
+
+// Lends a block with each idle ticket of the share.
+fn lend_all<'f>(
+    memory: &mut ShardMemory<'f>,
+    share: Share,
+    blocks: &mut Vec<ForeignBlock<'f>>,
+) -> Result<(), AllocError>
+    ensures kept { (memory.new.blocks ≡ memory.old.blocks) × (memory.new.segments ≡ memory.old.segments) × (memory.new.list ≡ memory.old.list) }
+{
+    for n in 1..33 {
+        let Ok(block) = memory.give(500 * n, share) else {
+            return Ok(());
+        };
+        blocks.push(block)?;
+    }
+    Ok(())
+}
+
+// Releases 16 blocks, those in the middle first.
+fn release_half(blocks: &mut Vec<ForeignBlock<'_>>) {
+    for _ in 0..16 {
+        if blocks.is_empty() {
+            return;
+        }
+        let middle = blocks.len() / 2;
+        let _ = blocks.swap_remove(middle).release();
+    }
+}
+
+#[test]
+fn all_blocks_come_home_in_any_order(rt: HostRuntime) -> Result<(), Fail> {
+    let (home, seat) = Foreign::new(rt.alloc(), OWNER)?;
+    let Ok(mut memory) = ShardMemory::open(rt.alloc(), OWNER, PAGES, &home, seat) else {
+        assert!(rt; false);
+        return Ok(());
+    };
+    let mut blocks = Vec::new(rt.alloc());
+    lend_all(&mut memory, Share::Request, &mut blocks)?;
+    lend_all(&mut memory, Share::Reply, &mut blocks)?;
+    assert_eq!(rt; (blocks.len(), memory.tickets_out()), (32, 32));
+    release_half(&mut blocks);
+    assert_eq!(rt;
+        (memory.lent(), memory.back(), memory.take_back()),
+        (32, 0, 16)
+    );
+    assert_eq!(rt;
+        (memory.back(), memory.tickets_out(), memory.take_back()),
+        (16, 16, 0)
+    );
+    release_half(&mut blocks);
+    drop(blocks);
+    assert_eq!(rt;
+        (memory.take_back(), memory.lent(), memory.back()),
+        (16, 32, 32)
+    );
+    memory.trim();
+    assert_eq!(rt; memory.pages_out(), 0);
+    assert_eq!(rt; memory.tickets_out(), 0);
+    let seat = memory.finish();
+    home.close(seat);
+    Ok(())
+}
+
+#[test]
+fn what_stays_leaves_its_pages_to_trim(rt: HostRuntime) -> Result<(), Fail> {
+    let (home, seat) = Foreign::new(rt.alloc(), OWNER)?;
+    let mut memory = match ShardMemory::open(rt.alloc(), OWNER, PAGES, &home, seat) {
+        Ok(memory) => memory,
+        Err(seat) => {
+            home.close(seat);
+            assert!(rt; false);
+            return Ok(());
+        }
+    };
     let Ok(block) = memory.give_here(100) else {
         assert!(rt; false);
         return Ok(());
     };
-    assert_eq!(rt; (block.len(), block.owner()), (100, 3));
-    assert_eq!(rt; block.bytes(), [0u8; 100].as_slice());
+    assert_eq!(rt; (block.len(), block.owner()), (100, OWNER));
     memory.back_here(block);
     assert_eq!(rt; memory.pages_out(), 1);
     memory.trim();
     assert_eq!(rt; memory.pages_out(), 0);
-    memory.finish();
-    Ok(())
-}
-
-#[test]
-fn a_segment_comes_back_as_a_segment(rt: HostRuntime) -> Result<(), Fail> {
-    let mut memory = ShardMemory::open(rt.alloc(), 1, 1280)?;
-    let Some(whole) = memory.give_segment() else {
+    let Some(segment) = memory.give_segment() else {
         assert!(rt; false);
         return Ok(());
     };
-    assert_eq!(rt; (whole.len(), whole.owner()), (131_072, 1));
-    assert_eq!(rt; memory.pages_out(), 32);
-    memory.segment_back(whole);
+    assert_eq!(rt; (segment.len(), memory.pages_out()), (131_072, 32));
+    memory.segment_back(segment);
     assert_eq!(rt; memory.pages_out(), 0);
-    memory.finish();
+    let seat = memory.finish();
+    home.close(seat);
     Ok(())
 }

@@ -7,7 +7,7 @@ use Rattle.layout.specs.Extents.{Extent, extent, AreDisjoint}
 use Rattle.span_lists.specs.Layout.{Layout, IsAllocated, Divides, IsCoalesced}
 use Rattle.small_pools.specs.Classes.{size_of, order_of, IsLeastClass}
 use Rattle.small_pools.specs.Objects.{Objects, IsHeld, AreHeldIn, AreObjects}
-use Rattle.shard_memory.specs.Shards.{most_blocks}
+use Rattle.shard_memory.specs.inside.Pieces.{most_out}
 
 -- of the allocated pieces those of the bytes of a segment are segments, and the others blocks
 abbrev pub is_segment : Extent → Bool
@@ -36,7 +36,7 @@ pub record IsConsistent (pages : ℕ) (allocated : List Extent) (spans : Layout)
   pub whole : pages % segment_pages ≡ 0
   pub same : spans.pages ≡ pages
   pub blocks : AreDisjoint (page * pages) allocated
-  pub few : length (blocks_of allocated) ≤ most_blocks
+  pub few : length (blocks_of allocated) ≤ most_out
   pub pieces : (p : Extent) → Contains allocated p → IsSegmentAt spans p ⊎ IsBlockAt pools p
   pub spans_allocated : (first order : ℕ) → IsAllocated spans first order → ((order ≡ segment_order) × Contains allocated (extent (page * first) segment)) ⊎ ((class : ℕ) × IsHeld pools first class × (order ≡ order_of class))
   pub objects_allocated : (at size : ℕ) → map.get pools.allocated at ≡ Some size → (len : ℕ) × (len ≤ size) × Contains allocated (extent at len)

@@ -5,7 +5,7 @@ use Rattle.layout.specs.Sizes.{segment_order}
 use Rattle.span_lists.specs.Layout.{Layout, free_at}
 use Rattle.small_pools.specs.Classes.{size_of, order_of, capacity_of}
 use Rattle.small_pools.specs.Objects.{Objects, slot_place}
-use Rattle.shard_memory.specs.Shards.{Room}
+use Rattle.shard_memory.specs.Room.{Room}
 
 -- the test holds of each number below one
 unfoldable pub each_below : ℕ → (ℕ → Bool) → Bool

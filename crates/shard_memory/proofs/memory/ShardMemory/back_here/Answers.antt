@@ -1,73 +1,37 @@
+use Rattle.std.proofs.Common.{◌+◌, ◌*◌, List, length, sym, ap, subst, ◌∙◌}
 use Rattle.layout.specs.Sizes.{page}
-use Rattle.std.proofs.Common.{◌≡◌, ◌+◌, ◌*◌, length, is_some, refl, sym, ap, subst, ◌∙◌}
-use Rattle.layout.specs.Extents.{AreDisjoint}
-use Rattle.raw_range.specs.Memory.{Memory, extent_of, remove_extent}
+use Rattle.layout.specs.Extents.{Extent}
+use Rattle.raw_range.specs.Memory.{extent_of, remove_extent}
 use Rattle.shard_memory.specs.Shards.{Shard, IsBlockOf}
-use Rattle.shard_memory.specs.inside.Parts.{IsConsistent, is_block, blocks_of, segments_of}
-use Rattle.shard_memory.proofs.Lists.{removed_block, same_segments, remove_one, disjoint_still}
-use Rattle.shard_memory.proofs.Changes.{shard_of, room_kept, kept_by_put, room_of_block}
-use Rattle.shard_memory.proofs.Steps.{block_facts, block_object, block_returned}
+use Rattle.shard_memory.specs.inside.Lending.{staying}
+use Rattle.shard_memory.proofs.Lending.{less_staying, staying_block, one_less, back_one, same_lent}
 use Rattle.shard_memory.proofs.memory.ShardMemory.back_here.Goals as goal
 
-pub put_object-requires : goal.put_object-requires
-put_object-requires c =
-    (let r = subst (λ (s : Shard). IsBlockOf s c.args.piece) (sym c.self.view_is) c.requires in
-    let f = block_facts c.self.inside.range.pages c.self.inside.range.allocated c.self.inside.spans c.self.inside.pools (extent_of c.args.piece) c.self.invariant.1 r.1 in
-    let b = block_object c.self.inside.range.pages c.self.inside.range.allocated c.self.inside.spans c.self.inside.pools (extent_of c.args.piece) c.self.invariant.1 f.0 f.1 in
-    ap is_some b.2)
-
-pub put-requires-clause-piece : goal.put-requires-clause-piece
-put-requires-clause-piece c =
-    (let r = subst (λ (s : Shard). IsBlockOf s c.args.piece) (sym c.self.view_is) c.requires in
-    (block_facts c.self.inside.range.pages c.self.inside.range.allocated c.self.inside.spans c.self.inside.pools (extent_of c.args.piece) c.self.invariant.1 r.1).0)
+pub put_block-requires : goal.put_block-requires
+put_block-requires c =
+    let r = subst (λ (s : Shard). IsBlockOf s c.args.piece) (sym c.self.view_is) c.requires in
+    (r.0, staying_block c.self.inside.seat.lent (extent_of c.args.piece) c.self.inside.own.blocks r.1)
 
 pub invariant_of-self : goal.invariant_of-self
 invariant_of-self c =
-    (let r = subst (λ (s : Shard). IsBlockOf s c.args.piece) (sym c.self.view_is) c.requires in
-    let f = block_facts c.self.inside.range.pages c.self.inside.range.allocated c.self.inside.spans c.self.inside.pools (extent_of c.args.piece) c.self.invariant.1 r.1 in (
-      c.self.invariant.0 ∙ sym (ap (λ (m : Memory). m.pages) c.put.ensures.back),
-      subst (λ (m : Memory). IsConsistent m.pages m.allocated c.self.inside.spans c.put_object.new.pools) (sym c.put.ensures.back)
-          (block_returned c.self.inside.range.pages c.self.inside.range.allocated c.self.inside.spans c.self.inside.pools c.put_object.new.pools (extent_of c.args.piece) c.self.invariant.1 f.0 f.1
-          c.put_object.ensures.allocated
-          c.put_object.ensures.held c.put_object.ensures.pages c.put_object.ensures.objects
-          (subst (λ (m : Memory). AreDisjoint (4096 * m.pages) m.allocated) c.put.ensures.back c.put.ensures.blocks)),
-    ))
+    let r = subst (λ (s : Shard). IsBlockOf s c.args.piece) (sym c.self.view_is) c.requires in
+    let was = c.self.invariant in
+    let same = c.put_block.ensures.same in record {
+      seat_of = was.seat_of;
+      walk = was.walk;
+      owner = same.1 ∙ was.owner;
+      lent = same_lent c.self.inside.seat.lent _ _ _ _ _ _ (sym same.0) (sym same.1) (sym c.put_block.ensures.blocks)
+          (back_one c.self.inside.seat.lent c.self.inside.own.home c.self.inside.own.owner (page * c.self.inside.own.pages) (extent_of c.args.piece) c.self.inside.own.blocks was.lent c.put_block.ensures.disjoint r.1);
+      out_is = was.out_is;
+    }
 
 pub returns-clause-blocks : goal.returns-clause-blocks
 returns-clause-blocks c =
-    ap (λ (m : Memory). blocks_of m.allocated) c.put.ensures.back ∙ removed_block (extent_of c.args.piece) c.self.inside.range.allocated
+    ap (staying c.self.inside.seat.lent) c.put_block.ensures.blocks ∙ less_staying c.self.inside.seat.lent (extent_of c.args.piece) c.self.inside.own.blocks
     ∙ ap (λ (s : Shard). remove_extent (extent_of c.args.piece) s.blocks) c.self.view_is
 
 pub returns-clause-one_less : goal.returns-clause-one_less
 returns-clause-one_less c =
-    (let r = subst (λ (s : Shard). IsBlockOf s c.args.piece) (sym c.self.view_is) c.requires in
-    subst (λ (s : Shard). length (blocks_of c.put.new.self.allocated) + 1 ≡ length s.blocks) c.self.view_is
-    (ap (λ (m : Memory). length (blocks_of m.allocated) + 1) c.put.ensures.back ∙ ap (λ xs. length xs + 1) (removed_block (extent_of c.args.piece) c.self.inside.range.allocated)
-    ∙ remove_one (page * c.self.inside.range.pages) (extent_of c.args.piece) (blocks_of c.self.inside.range.allocated) (disjoint_still is_block (page * c.self.inside.range.pages) c.self.inside.range.allocated c.self.invariant.1.blocks) r.1))
-
-pub returns-clause-segments : goal.returns-clause-segments
-returns-clause-segments c =
-    (let r = subst (λ (s : Shard). IsBlockOf s c.args.piece) (sym c.self.view_is) c.requires in
-    let f = block_facts c.self.inside.range.pages c.self.inside.range.allocated c.self.inside.spans c.self.inside.pools (extent_of c.args.piece) c.self.invariant.1 r.1 in
-    ap (λ (m : Memory). segments_of m.allocated) c.put.ensures.back ∙ same_segments (page * c.self.inside.range.pages) c.self.inside.range.allocated (extent_of c.args.piece) c.self.invariant.1.blocks f.0 f.1
-    ∙ ap (λ (s : Shard). s.segments) c.self.view_is)
-
-pub returns-clause-spans : goal.returns-clause-spans
-returns-clause-spans c = (
-  ap (λ (s : Shard). s.pages_out) c.self.view_is,
-  ap (λ (s : Shard). s.room.segment) c.self.view_is,
-)
-
-pub returns-clause-kept : goal.returns-clause-kept
-returns-clause-kept c =
-    room_kept c.self.inside.spans c.self.inside.spans c.self.inside.pools c.put_object.new.pools c.args.self.now _ c.put_object.ensures.objects
-    (kept_by_put c.self.inside.spans c.self.inside.pools c.put_object.new.pools c.args.piece.at c.put_object.ensures.allocated c.put_object.ensures.held)
-    (ap (λ (s : Shard). s.room) c.self.view_is) refl
-
-pub returns-clause-room : goal.returns-clause-room
-returns-clause-room c =
-    (let r = subst (λ (s : Shard). IsBlockOf s c.args.piece) (sym c.self.view_is) c.requires in
-    let f = block_facts c.self.inside.range.pages c.self.inside.range.allocated c.self.inside.spans c.self.inside.pools (extent_of c.args.piece) c.self.invariant.1 r.1 in
-    room_of_block c.self.inside.spans c.self.inside.pools c.put_object.new.pools (extent_of c.args.piece) (shard_of c.put.new.self c.self.inside.spans c.put_object.new.pools) c.self.invariant.1.objects
-    (block_object c.self.inside.range.pages c.self.inside.range.allocated c.self.inside.spans c.self.inside.pools (extent_of c.args.piece) c.self.invariant.1 f.0 f.1)
-    c.put_object.ensures.objects c.put_object.ensures.allocated c.put_object.ensures.held refl)
+    let r = subst (λ (s : Shard). IsBlockOf s c.args.piece) (sym c.self.view_is) c.requires in
+    ap (λ (xs : List Extent). length (staying c.self.inside.seat.lent xs) + 1) c.put_block.ensures.blocks
+    ∙ one_less c.self.inside.seat.lent (page * c.self.inside.own.pages) (extent_of c.args.piece) c.self.inside.own.blocks c.put_block.ensures.disjoint r.1 ∙ ap (λ (s : Shard). length s.blocks) c.self.view_is

@@ -1,58 +1,46 @@
-use Rattle.std.proofs.Common.{◌+◌, ◌*◌, ◌/◌, ◌≤◌, length, subst, sym, ◌∙◌, arith}
-use Rattle.std.specs.FinMap as map
+use Rattle.std.proofs.Common.{◌*◌, inl, inr, subst}
+use Rattle.std.specs.Prelude.{Contains}
+use Rattle.std.proofs.lemmas.List.Elements.{All-contains}
 use Rattle.layout.specs.Sizes.{page}
-use Rattle.layout.specs.Extents.{Blocks}
+use Rattle.layout.specs.Extents.{extent, IsWithin}
 use Rattle.raw_range.specs.Memory.{Lent, extent_of}
-use Rattle.shard_memory.specs.Shards.{Shard, AreApart, IsBlockOf, IsSegmentOf, LacksSegment, IsTrimmed, IsCrowded}
-use Rattle.shard_memory.specs.inside.Parts.{is_block, is_segment}
-use Rattle.shard_memory.proofs.Counts.{pieces_enough}
-use Rattle.shard_memory.proofs.Lists.{few_segments, disjoint_still, block_segment_apart, not_both}
-use Rattle.shard_memory.proofs.PagesOut.{segments_pages, pages_at_most}
-use Rattle.shard_memory.proofs.Rooms.{trimmed_tells, segment_lacks_tells}
+use Rattle.shard_memory.specs.Shards.{Shard, AreApart, HaveObjects, IsBlockOf, IsSegmentOf, lent_extent}
+use Rattle.shard_memory.proofs.Lists.{disjoint_still}
+use Rattle.shard_memory.proofs.Lending.{stays, staying_block, apart_from_lent, lent_apart, block_of_either}
 use Rattle.shard_memory.proofs.memory.ShardMemory.facts.Goals as goal
 
 pub returns-clause-apart : goal.returns-clause-apart
 returns-clause-apart c =
+    let lent = c.self.inside.seat.lent in
+    let own = c.self.inside.own in
+    let was = c.self.invariant.lent in
+    let all = c.facts.ensures in
     subst AreApart c.self.view_is
     record {
-      blocks = disjoint_still is_block (page * c.self.inside.range.pages) c.self.inside.range.allocated c.self.invariant.1.blocks;
-      segments = disjoint_still is_segment (page * c.self.inside.range.pages) c.self.inside.range.allocated c.self.invariant.1.blocks;
-      each = λ p q hp hq. block_segment_apart (page * c.self.inside.range.pages) c.self.inside.range.allocated p q c.self.invariant.1.blocks hp hq;
+      blocks = disjoint_still (stays lent) (page * own.pages) own.blocks all.blocks;
+      segments = all.segments;
+      each = λ p q hp hq. all.apart p q (staying_block lent p own.blocks hp) hq;
+      lent = λ t a is. All-contains (IsWithin (page * own.pages)) own.blocks (lent_extent a) all.blocks.0 (was.pieces t a is).2;
+      lent_blocks = λ t a b is has. apart_from_lent lent own.home own.owner (page * own.pages) own.blocks t a b was all.blocks is has;
+      lent_segments = λ t a q is has. all.apart (lent_extent a) q (was.pieces t a is).2 has;
+      lent_each = λ t u a b is at other. lent_apart lent own.home own.owner (page * own.pages) own.blocks t u a b was all.blocks is at other;
     }
 
 pub returns-clause-kinds : goal.returns-clause-kinds
 returns-clause-kinds c =
     subst (λ (s : Shard). (piece : Lent) → IsSegmentOf s piece → ¬ IsBlockOf s piece) c.self.view_is
-    (λ piece segment block. not_both (page * c.self.inside.range.pages) c.self.inside.range.allocated (extent_of piece) c.self.invariant.1.blocks block.1 segment.1)
+    (λ piece segment block. c.facts.ensures.kinds piece segment (block.0, staying_block c.self.inside.seat.lent (extent_of piece) c.self.inside.own.blocks block.1))
 
-pub returns-clause-objects : goal.returns-clause-objects
-returns-clause-objects c =
-    subst (λ (s : Shard). Blocks (page * s.pages) (map.get s.objects)) c.self.view_is
-    (subst (λ n. Blocks (page * n) (map.get c.self.inside.pools.allocated)) (sym c.self.invariant.1.held.pages ∙ c.self.invariant.1.same) c.self.invariant.1.objects.blocks)
-
-pub returns-clause-segments : goal.returns-clause-segments
-returns-clause-segments c =
-    subst (λ (s : Shard). 32 * length s.segments ≤ s.pages) c.self.view_is
-    (let whole = c.self.invariant.1.whole in
-    let few = few_segments (c.self.inside.range.pages / 32) (4096 * c.self.inside.range.pages) c.self.inside.range.allocated c.self.invariant.1.blocks (omega (arith, whole)) in
-    omega (arith, few, whole))
-
-pub returns-clause-few : goal.returns-clause-few
-returns-clause-few c = subst (λ (s : Shard). length s.blocks ≤ 1024) c.self.view_is c.self.invariant.1.few
-
-pub returns-clause-crowded : goal.returns-clause-crowded
-returns-clause-crowded c =
-    subst (λ (s : Shard). IsTrimmed s → LacksSegment s → IsCrowded s) c.self.view_is
-    (λ trimmed lacks. pieces_enough c.self.inside.range.pages c.self.inside.range.allocated c.self.inside.spans c.self.inside.pools c.self.invariant.1
-    (c.facts.ensures.blocked 5 (omega arith) (segment_lacks_tells c.self.inside.spans lacks)) (trimmed_tells c.self.inside.pools c.self.invariant.1.objects trimmed))
-
-pub returns-clause-pages_out : goal.returns-clause-pages_out
-returns-clause-pages_out c =
-    subst (λ (s : Shard). (32 * length s.segments ≤ s.pages_out) × (s.pages_out ≤ s.pages)) c.self.view_is
-    (let all = c.facts.ensures.pages in let same = c.self.invariant.1.same in
-    (segments_pages c.self.inside.range.pages c.self.inside.range.allocated c.self.inside.spans c.self.inside.pools c.self.invariant.1, omega (arith, all, same)))
-
-pub returns-clause-trimmed : goal.returns-clause-trimmed
-returns-clause-trimmed c =
-    subst (λ (s : Shard). IsTrimmed s → s.pages_out ≤ 32 * length s.segments + 16 * length s.blocks) c.self.view_is
-    (λ trimmed. pages_at_most c.self.inside.range.pages c.self.inside.range.allocated c.self.inside.spans c.self.inside.pools c.self.invariant.1 (trimmed_tells c.self.inside.pools c.self.invariant.1.objects trimmed))
+pub returns-clause-of_blocks : goal.returns-clause-of_blocks
+returns-clause-of_blocks c =
+    let lent = c.self.inside.seat.lent in
+    let own = c.self.inside.own in
+    let was = c.self.invariant.lent in
+    subst HaveObjects c.self.view_is
+    record {
+      blocks = λ b has. c.facts.ensures.of_blocks b (elim has [
+        | inl stay ↦ staying_block lent b own.blocks stay
+        | inr out ↦ subst (Contains own.blocks) out.3 (was.pieces out.0 out.1 out.2).2
+      ]);
+      objects = λ at size is. (let found = c.facts.ensures.of_objects at size is in (found.0, block_of_either lent own.home own.owner (page * own.pages) own.blocks (extent at found.0) was c.facts.ensures.blocks found.1));
+    }

@@ -1,113 +1,53 @@
-use Rattle.std.proofs.Common.{◌≡◌, ℕ, ◌+◌, ◌*◌, ◌^◌, inl, inr, ◌<◌, ◌≤◌, ◌∷◌, length, get_or, false, refl, sym, ap, subst, ◌∙◌, arith}
+use Rattle.std.proofs.Common.{◌≡◌, ◌*◌, ◌<◌, List, ◌∷◌, length, Result, Ok, Err, IfOk, IfErr, sym, ap, subst, ◌∙◌}
 use Rattle.std.specs.Prelude.{Contains}
-use Rattle.std.specs.FinMap as map
-use Rattle.small_pools.specs.Classes.{size_of, order_of}
-use Rattle.small_pools.specs.Objects.{LacksObject}
-use Rattle.span_lists.specs.Layout.{HasNone, IsBlocked}
-use Rattle.std.proofs.lemmas.List.{length-replicate}
-use Rattle.layout.specs.Extents.{Extent, extent, Disjoint, AreDisjoint}
-use Rattle.raw_range.specs.Memory.{Memory, Lent, extent_of}
-use Rattle.shard_memory.specs.Shards.{Shard, LacksBlock, IsTrimmed, IsCrowded}
-use Rattle.shard_memory.specs.inside.Parts.{IsConsistent, is_block, blocks_of, segments_of}
-use Rattle.shard_memory.proofs.Lists.{all_of, few_pieces, has_first, kept_by, block_is, block_added, block_leaves_segments}
-use Rattle.shard_memory.proofs.Counts.{crowded}
-use Rattle.shard_memory.proofs.Changes.{used_still}
-use Rattle.shard_memory.proofs.PagesOut.{pages_taken}
-use Rattle.shard_memory.proofs.Rooms.{class_lacks_of, class_lacks_tells, trimmed_of, trimmed_tells}
-use Rattle.shard_memory.proofs.Steps.{block_inside, block_apart, gave_block, least_one}
+use Rattle.layout.specs.Sizes.{page}
+use Rattle.layout.specs.Extents.{Extent, AreDisjoint}
+use Rattle.raw_range.specs.Memory.{Lent, extent_of}
+use Rattle.shard_memory.specs.declared.give_refusal.GiveRefusal.{GiveRefusal}
+use Rattle.shard_memory.specs.Tickets.{Tickets}
+use Rattle.shard_memory.specs.Shards.{Shard, IsOneOf}
+use Rattle.shard_memory.specs.inside.Pieces.{Pieces}
+use Rattle.shard_memory.specs.inside.Lending.{AreLent, staying}
+use Rattle.shard_memory.proofs.Lists.{has_first}
+use Rattle.shard_memory.proofs.Lending.{one_staying, given_one, same_lent}
 use Rattle.shard_memory.proofs.memory.ShardMemory.give_here.Goals as goal
 
-pub take-requires-2-clause-inside : goal.take-requires-2-clause-inside
-take-requires-2-clause-inside c = block_inside c.self.inside.range.pages c.self.inside.range.allocated c.self.inside.spans c.self.inside.pools c.take.new.self c.in-Some.place
-    c.in_ok-class.class c.args.size c.self.invariant.1 c.in-Some.ensures.allocated c.in-Some.ensures.pages c.in-Some.ensures.objects c.in_ok-class.ensures.least.holds
+pub invariant_of-self : goal.invariant_of-self
+invariant_of-self c =
+    let was = c.self.invariant in
+    let same = c.give_block.ensures.same in
+    let few = subst (λ (s : Shard). length s.blocks < 1024) (sym c.self.view_is) c.requires.few in record {
+      seat_of = was.seat_of;
+      walk = was.walk;
+      owner = same.1 ∙ was.owner;
+      lent = by c.give_block.result c.self.inside.seat.lent c.self.inside.own c.give_block.new.self was.lent few same c.give_block.ensures.unchanged c.give_block.ensures.blocks c.give_block.ensures.disjoint;
+      out_is = was.out_is;
+    }
+  where
+    by : (r : Result Lent GiveRefusal) (lent : Tickets) (old new : Pieces) → AreLent lent old.home old.owner old.blocks → length (staying lent old.blocks) < 1024 → (new.home ≡ old.home) × (new.owner ≡ old.owner) × (new.pages ≡ old.pages)
+        → IfErr r (λ _. new ≡ old) → IfOk r (λ piece. new.blocks ≡ extent_of piece ∷ old.blocks) → IfOk r (λ _. AreDisjoint (page * new.pages) new.blocks) → AreLent lent new.home new.owner new.blocks
+    by (Ok piece) lent old new was few same unchanged blocks disjoint =
+        same_lent lent _ _ _ _ _ _ (sym same.0) (sym same.1) (sym blocks)
+        (given_one lent old.home old.owner (page * new.pages) (extent_of piece) old.blocks was (subst (λ (bs : List Extent). AreDisjoint (page * new.pages) bs) blocks disjoint) few)
+    by (Err e) lent old new was few same unchanged blocks disjoint = subst (λ (p : Pieces). AreLent lent p.home p.owner p.blocks) (sym unchanged) was
 
-pub take-requires-2-clause-disjoint : goal.take-requires-2-clause-disjoint
-take-requires-2-clause-disjoint c =
-    all_of (Disjoint (extent c.in-Some.place c.args.size)) c.self.inside.range.allocated
-    (block_apart c.self.inside.range.pages c.self.inside.range.allocated c.self.inside.spans c.take.new.spans c.self.inside.pools c.take.new.self c.in-Some.place c.in_ok-class.class c.args.size c.self.invariant.1
-    c.in-Some.ensures.was_free c.in-Some.ensures.allocated c.in-Some.ensures.spans c.in-Some.ensures.held c.in-Some.ensures.objects c.in-Some.ensures.divided c.in_ok-class.ensures.least.holds)
-
-pub take-requires-2-clause-few : goal.take-requires-2-clause-few
-take-requires-2-clause-few c = few_pieces c.self.inside.range.pages c.self.inside.range.allocated c.self.invariant.1.most c.self.invariant.1.blocks c.self.invariant.1.few
-
-pub invariant_of-self-2 : goal.invariant_of-self-2
-invariant_of-self-2 c = (
-  c.self.invariant.0 ∙ sym (ap (λ (m : Memory). m.pages) c.take-2.ensures.allocated),
-  subst (λ (m : Memory). IsConsistent m.pages m.allocated c.take.new.spans c.take.new.self) (sym c.take-2.ensures.allocated)
-      (gave_block c.self.inside.range.pages c.self.inside.range.allocated c.self.inside.spans c.take.new.spans c.self.inside.pools c.take.new.self c.in-Some.place c.in_ok-class.class c.args.size c.self.invariant.1 c.in-Some.ensures.was_free
-      c.in-Some.ensures.allocated c.in-Some.ensures.pages c.in-Some.ensures.spans c.in-Some.ensures.held c.in-Some.ensures.objects c.in-Some.ensures.divided c.in-Some.ensures.coalesced c.in_ok-class.ensures.least
-      (subst (λ (s : Shard). length s.blocks < 1024) (sym c.self.view_is) c.requires.few)
-      (subst (λ (m : Memory). AreDisjoint (4096 * m.pages) m.allocated) c.take-2.ensures.allocated c.take-2.ensures.blocks)),
-)
-
-pub returns-in_default-clause-refused : goal.returns-in_default-clause-refused
-returns-in_default-clause-refused c =
-    (let fits = c.in_ok-class.ensures.least.holds in let most = c.in_ok-class.ensures.bounds.size_most in
-    let none = c.in_default.ensures.none.0 refl in (
-      omega (arith, fits, most),
-      λ k least. subst (λ (s : Shard). get_or s.room.classes k false ≡ false) c.self.view_is (class_lacks_of c.self.inside.spans c.self.inside.pools k least.within
-          (subst (LacksObject c.self.inside.pools c.self.inside.spans) (least_one c.args.size c.in_ok-class.class k c.in_ok-class.ensures.least least) none)),
-    ))
-
-pub returns-clause-room : goal.returns-clause-room
-returns-clause-room c =
-    (let fits = c.in_ok-class.ensures.least.holds in let most = c.in_ok-class.ensures.bounds.size_most in (
-      omega (arith, fits, most),
-      λ h.
-          (let lacks = subst (λ (s : Shard). LacksBlock s c.args.size) (sym c.self.view_is) h in
-          let none = class_lacks_tells c.self.inside.spans c.self.inside.pools c.in_ok-class.class c.in_ok-class.ensures.least.within c.self.invariant.1.objects (lacks c.in_ok-class.class c.in_ok-class.ensures.least) in
-          let clash = c.in-Some.ensures.none.1 none in cc),
-    ))
-
-pub returns-clause-given : goal.returns-clause-given
-returns-clause-given c =
-    (let p = extent c.in-Some.place c.args.size in
-    let at : extent_of c.cleared.result ≡ p = ap (λ (l : Lent). extent_of l) c.cleared.ensures ∙ ap (λ n. extent c.take-2.result.at n) (length-replicate (length c.take-2.result.bytes) 0) ∙ c.take-2.ensures.extent in
-    let small = (returns-clause-room c).0 in
-    let has = kept_by is_block p (p ∷ c.self.inside.range.allocated) (has_first p c.self.inside.range.allocated) (block_is p small) in (
-      ap (λ (l : Lent). l.home) c.cleared.ensures ∙ ap (λ (l : Lent). l.home) c.take-2.ensures.piece ∙ sym (ap (λ (m : Memory). m.home) c.take-2.ensures.allocated),
-      subst (λ (m : Memory). Contains (blocks_of m.allocated) (extent_of c.cleared.result)) (sym c.take-2.ensures.allocated) (subst (λ q. Contains (blocks_of (p ∷ c.self.inside.range.allocated)) q) (sym at) has),
-    ))
+shows : (r : Result Lent GiveRefusal) (lent : Tickets) (old new : Pieces) → AreLent lent old.home old.owner old.blocks → IfOk r (λ piece. new.blocks ≡ extent_of piece ∷ old.blocks) → IfOk r (λ _. AreDisjoint (page * new.pages) new.blocks)
+    → IfOk r (λ piece. staying lent new.blocks ≡ extent_of piece ∷ staying lent old.blocks)
+shows (Ok piece) lent old new was blocks disjoint =
+    ap (staying lent) blocks ∙ one_staying lent old.home old.owner (page * new.pages) (extent_of piece) old.blocks was (subst (λ (bs : List Extent). AreDisjoint (page * new.pages) bs) blocks disjoint)
+shows (Err e) lent old new was blocks disjoint = tt
 
 pub returns-clause-blocks : goal.returns-clause-blocks
 returns-clause-blocks c =
-    (let p = extent c.in-Some.place c.args.size in
-    let at : extent_of c.cleared.result ≡ p = ap (λ (l : Lent). extent_of l) c.cleared.ensures ∙ ap (λ n. extent c.take-2.result.at n) (length-replicate (length c.take-2.result.bytes) 0) ∙ c.take-2.ensures.extent in
-    ap (λ (m : Memory). blocks_of m.allocated) c.take-2.ensures.allocated ∙ block_added c.self.inside.range.allocated p (returns-clause-room c).0
-    ∙ ap (λ q. q ∷ blocks_of c.self.inside.range.allocated) (sym at) ∙ ap (λ (s : Shard). extent_of c.cleared.result ∷ s.blocks) c.self.view_is)
+    subst (λ (s : Shard). IfOk c.give_block.result (λ piece. staying c.self.inside.seat.lent c.give_block.new.self.blocks ≡ extent_of piece ∷ s.blocks)) c.self.view_is
+    (shows c.give_block.result c.self.inside.seat.lent c.self.inside.own c.give_block.new.self c.self.invariant.lent c.give_block.ensures.blocks c.give_block.ensures.disjoint)
 
-pub returns-clause-segments : goal.returns-clause-segments
-returns-clause-segments c =
-    ap (λ (m : Memory). segments_of m.allocated) c.take-2.ensures.allocated
-    ∙ block_leaves_segments c.self.inside.range.allocated (extent c.in-Some.place c.args.size) (returns-clause-room c).0 ∙ ap (λ (s : Shard). s.segments) c.self.view_is
-
-pub returns-clause-least : goal.returns-clause-least
-returns-clause-least c = (
-  c.in_ok-class.class,
-  c.in_ok-class.ensures.least,
-  subst (λ (s : Shard). c.take.new.self.allocated ≡ map.insert s.objects c.cleared.result.at (size_of c.in_ok-class.class)) c.self.view_is
-      (c.in-Some.ensures.allocated ∙ ap (λ (at : ℕ). map.insert c.self.inside.pools.allocated at (size_of c.in_ok-class.class)) (sym (ap (λ (l : Lent). l.at) c.cleared.ensures ∙ ap (λ (q : Extent). q.start) c.take-2.ensures.extent))),
-)
-
-pub returns-in_default-clause-crowded : goal.returns-in_default-clause-crowded
-returns-in_default-clause-crowded c =
-    subst (λ (s : Shard). IsTrimmed s → IsCrowded s) c.self.view_is
-    (λ trimmed.
-    (let none = (c.in_default.ensures.none.0 refl).1 in
-    let same = c.in_default.ensures.unchanged.1 in
-    crowded c.self.inside.range.pages (order_of c.in_ok-class.class) c.self.inside.range.allocated c.self.inside.spans c.self.inside.pools c.self.invariant.1 c.in_ok-class.ensures.bounds.order_most none
-    (subst (λ s. (o : ℕ) → o ≤ 16 → HasNone s o → IsBlocked s o) same c.facts.ensures.blocked) (trimmed_tells c.self.inside.pools c.self.invariant.1.objects trimmed)))
-
-pub returns-clause-pages_out : goal.returns-clause-pages_out
-returns-clause-pages_out c =
-    let before = ap (λ (s : Shard). s.pages_out) c.self.view_is in
-    elim (pages_taken c.self.inside.pools c.take.new.self c.self.inside.spans c.take.new.spans c.in_ok-class.class c.in-Some.ensures.spans) [
-      | inl same ↦ inl (same ∙ before)
-      | inr more ↦ inr (c.in_ok-class.class, c.in_ok-class.ensures.least, more ∙ ap (λ n. n + 2 ^ order_of c.in_ok-class.class) before)
-    ]
-
-pub returns-clause-trimmed : goal.returns-clause-trimmed
-returns-clause-trimmed c = λ trimmed.
-    trimmed_of c.take.new.self
-    (used_still c.self.inside.pools c.take.new.self c.self.inside.spans c.take.new.spans c.in-Some.place c.in_ok-class.class c.in-Some.ensures.objects c.in-Some.ensures.was_free c.in-Some.ensures.allocated c.in-Some.ensures.spans
-    (trimmed_tells c.self.inside.pools c.self.invariant.1.objects (subst IsTrimmed (sym c.self.view_is) trimmed)))
+pub returns-clause-given : goal.returns-clause-given
+returns-clause-given c =
+    by c.give_block.result c.self.inside.seat.lent c.give_block.new.self (staying c.self.inside.seat.lent c.self.inside.own.blocks) c.give_block.ensures.given
+    (shows c.give_block.result c.self.inside.seat.lent c.self.inside.own c.give_block.new.self c.self.invariant.lent c.give_block.ensures.blocks c.give_block.ensures.disjoint)
+  where
+    by : (r : Result Lent GiveRefusal) (lent : Tickets) (new : Pieces) (rest : List Extent) → IfOk r (IsOneOf new.home new.blocks) → IfOk r (λ piece. staying lent new.blocks ≡ extent_of piece ∷ rest)
+        → IfOk r (IsOneOf new.home (staying lent new.blocks))
+    by (Ok piece) lent new rest given is = (given.0, subst (λ (bs : List Extent). Contains bs (extent_of piece)) (sym is) (has_first (extent_of piece) rest))
+    by (Err e) lent new rest given is = tt

@@ -4,14 +4,16 @@ use Rattle.std.specs.FinMap as map
 use Rattle.common_lemmas.proofs.Maps.{get_inserted}
 use Rattle.layout.specs.Extents.{Extent, extent, Disjoint, AreDisjoint}
 use Rattle.raw_range.specs.Memory.{Memory, extent_of}
-use Rattle.shard_memory.specs.Shards.{Shard, LacksSegment, IsTrimmed, IsCrowded}
+use Rattle.shard_memory.specs.Shards.{FillPages}
+use Rattle.shard_memory.specs.Room.{LacksSegment, IsTrimmed}
+use Rattle.shard_memory.specs.inside.Pieces.{Pieces}
 use Rattle.shard_memory.specs.inside.Parts.{IsConsistent, is_segment, blocks_of, segments_of}
 use Rattle.shard_memory.proofs.Counts.{pieces_enough}
 use Rattle.shard_memory.proofs.Lists.{all_of, few_pieces, has_first, kept_by, segment_is, segment_added, segment_leaves_blocks, whole_start}
 use Rattle.shard_memory.proofs.PagesOut.{pages_more}
 use Rattle.shard_memory.proofs.Rooms.{segment_lacks_of, segment_lacks_tells, trimmed_tells}
 use Rattle.shard_memory.proofs.Steps.{inside_pages, apart_from_span, gave_segment}
-use Rattle.shard_memory.proofs.memory.ShardMemory.give_segment.Goals as goal
+use Rattle.shard_memory.proofs.piece_allocator.PieceAllocator.give_segment.Goals as goal
 
 pub segment_at-requires-clause-inside : goal.segment_at-requires-clause-inside
 segment_at-requires-clause-inside c =
@@ -36,17 +38,17 @@ invariant_of-self-2 c = (
 )
 
 pub returns-in_default-clause-none : goal.returns-in_default-clause-none
-returns-in_default-clause-none c = (λ _. subst LacksSegment c.self.view_is (segment_lacks_of c.self.inside.spans (c.in_default.ensures.none.0 refl)), λ _. refl)
+returns-in_default-clause-none c = (λ _. subst (λ (s : Pieces). LacksSegment s.room) c.self.view_is (segment_lacks_of c.self.inside.spans (c.in_default.ensures.none.0 refl)), λ _. refl)
 
 pub returns-in_default-clause-crowded : goal.returns-in_default-clause-crowded
 returns-in_default-clause-crowded c =
-    subst (λ (s : Shard). IsTrimmed s → IsCrowded s) c.self.view_is
+    subst (λ (s : Pieces). IsTrimmed s.room → FillPages s.pages (length s.segments) (length s.blocks)) c.self.view_is
     (λ trimmed. pieces_enough c.self.inside.range.pages c.self.inside.range.allocated c.self.inside.spans c.self.inside.pools c.self.invariant.1 c.in_default.ensures.blocked (trimmed_tells c.self.inside.pools c.self.invariant.1.objects trimmed))
 
 pub returns-clause-none : goal.returns-clause-none
 returns-clause-none c = (
   λ e. absurd (let clash : true ≡ false = e in cc),
-  λ h. (let clash = c.in-Some.ensures.none.1 (segment_lacks_tells c.self.inside.spans (subst LacksSegment (sym c.self.view_is) h)) in cc),
+  λ h. (let clash = c.in-Some.ensures.none.1 (segment_lacks_tells c.self.inside.spans (subst (λ (s : Pieces). LacksSegment s.room) (sym c.self.view_is) h)) in cc),
 )
 
 pub returns-clause-whole : goal.returns-clause-whole
@@ -66,17 +68,17 @@ returns-clause-given c =
 pub returns-clause-segments : goal.returns-clause-segments
 returns-clause-segments c =
     ap (λ (m : Memory). segments_of m.allocated) c.segment_at.ensures.allocated ∙ segment_added c.self.inside.range.allocated (extent (4096 * c.in-Some.first) 131072) refl
-    ∙ ap (λ q. q ∷ segments_of c.self.inside.range.allocated) (sym c.segment_at.ensures.extent) ∙ ap (λ (s : Shard). extent_of c.segment_at.result ∷ s.segments) c.self.view_is
+    ∙ ap (λ q. q ∷ segments_of c.self.inside.range.allocated) (sym c.segment_at.ensures.extent) ∙ ap (λ (s : Pieces). extent_of c.segment_at.result ∷ s.segments) c.self.view_is
 
 pub returns-clause-one_more : goal.returns-clause-one_more
 returns-clause-one_more c = ap length (returns-clause-segments c) ∙ omega arith
 
 pub returns-clause-blocks : goal.returns-clause-blocks
 returns-clause-blocks c = (
-  ap (λ (m : Memory). blocks_of m.allocated) c.segment_at.ensures.allocated ∙ segment_leaves_blocks c.self.inside.range.allocated (extent (4096 * c.in-Some.first) 131072) refl ∙ ap (λ (s : Shard). s.blocks) c.self.view_is,
-  ap (λ (s : Shard). s.objects) c.self.view_is,
+  ap (λ (m : Memory). blocks_of m.allocated) c.segment_at.ensures.allocated ∙ segment_leaves_blocks c.self.inside.range.allocated (extent (4096 * c.in-Some.first) 131072) refl ∙ ap (λ (s : Pieces). s.blocks) c.self.view_is,
+  ap (λ (s : Pieces). s.objects) c.self.view_is,
 )
 
 pub returns-clause-pages_out : goal.returns-clause-pages_out
 returns-clause-pages_out c =
-    pages_more c.self.inside.spans c.take.new.self c.in-Some.first 5 c.in-Some.ensures.was_free c.in-Some.ensures.allocated ∙ ap (λ (s : Shard). s.pages_out + 32) c.self.view_is
+    pages_more c.self.inside.spans c.take.new.self c.in-Some.first 5 c.in-Some.ensures.was_free c.in-Some.ensures.allocated ∙ ap (λ (s : Pieces). s.pages_out + 32) c.self.view_is
