@@ -8,8 +8,8 @@ use Rattle.cache_model.specs.Row.{Row}
 use Rattle.cache_model.specs.Apply.{Reply}
 use Rattle.cache_model.specs.Evictions.{Evicts}
 use Rattle.run_log.specs.JournalState.{JournalState}
-use Rattle.reclaim.specs.Spaces.{SpaceState, with_rows}
-use Rattle.reclaim.specs.Works.{Records, StoresUnderPressure, pressure}
+use Rattle.reclaim.specs.Spaces.{SpaceState, IsSameSpace}
+use Rattle.reclaim.specs.Works.{Records, DoesAbove}
 use Rattle.reclaim.specs.inside.Evicted.{HasEvicted, HasStored}
 
 -- entries that were written in two goes
@@ -27,19 +27,15 @@ evicted-more bound put rows rest next before now after h evicts more = record {
   recorded = subst (Records before after) (sym (map-append (λ q. Evicted q) h.puts (put ∷ []))) (records-both before now after (map (λ q. Evicted q) h.puts) (Evicted put ∷ []) h.recorded more);
 }
 
--- what was stored so on the rows of a space was stored under pressure
-pub stored : (operation : Operation) (answer : Reply) (old new : SpaceState) (before after : JournalState) → HasStored (pressure old.pages) operation answer old.rows new.rows before after
-    → new ≡ with_rows old new.rows → StoresUnderPressure operation answer old new before after
-stored operation answer old new before after h same = record {
+-- what was stored so on the rows of a space
+pub stored : (bound : ℕ) (operation : Operation) (answer : Reply) (old new : SpaceState) (before after : JournalState) → HasStored bound operation answer old.rows new.rows before after
+    → IsSameSpace old new → DoesAbove bound operation answer old new before after
+stored bound operation answer old new before after h same = record {
   evicted = h.evicted.puts;
   rest = h.rest;
   evicts = h.evicted.evicts;
   recorded = records-both before h.now after (map (λ q. Evicted q) h.evicted.puts) (Done operation.number ∷ []) h.evicted.recorded h.done;
-  rows = same ∙ ap (λ rows. with_rows old rows) h.stored;
+  rows = h.stored;
   reply = h.reply;
+  same = same;
 }
-
--- a space whose rows alone changed
-pub other-rows : (old : SpaceState) (shard pages room : ℕ) (rows : List Row) → shard ≡ old.shard → pages ≡ old.pages → room ≡ old.room
-    → record { shard = shard; pages = pages; room = room; rows = rows } ≡ with_rows old rows
-other-rows old shard pages room rows a b c = rw (a, b, c) refl

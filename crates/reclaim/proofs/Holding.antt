@@ -1,18 +1,24 @@
 -- The region is made of the segments of the memory, also after one more was given.
-use Rattle.std.proofs.Common.{◌≡◌, ◌≢◌, ◌⊎◌, inl, inr, ℕ, zero, suc, ◌+◌, ◌*◌, ◌<◌, Bool, true, false, not, ◌==◌, cond, List, [], ◌∷◌, length, replicate, refl, sym, ap, ◌∙◌, subst, arith}
+use Rattle.std.proofs.Common.{◌≡◌, ◌≢◌, ◌⊎◌, inl, inr, ℕ, zero, suc, ◌+◌, ◌*◌, ◌/◌, ◌<◌, ◌≤◌, Bool, true, false, not, ◌==◌, cond, List, [], ◌∷◌, length, replicate, refl, sym, ap, ◌∙◌, subst, arith}
 use Rattle.std.specs.Prelude.{Option, None, Some, slice_get, slice_set, slice_index_or, filter, Contains, option_map, map}
 use Rattle.std.specs.List.{count_by}
 use Rattle.std.proofs.lemmas.Bool.{ne_eqb}
 use Rattle.std.proofs.lemmas.List.{map-set}
 use Rattle.std.proofs.lemmas.List.Sums.{sum_by-cons}
 use Rattle.std.proofs.lemmas.List.Elements.{All-contains}
-use Rattle.layout.specs.Sizes.{page}
+use Rattle.layout.specs.Sizes.{page, segment_pages, ArePages}
 use Rattle.layout.specs.Extents.{Extent, extent, Disjoint, IsWithin, AreDisjoint}
 use Rattle.raw_range.specs.Memory.{Lent, extent_of, remove_extent}
-use Rattle.shard_memory.specs.Shards.{Shard, AreApart}
-use Rattle.regions.specs.Segments.{RegionState, with_segment, fresh}
-use Rattle.regions.specs.Shapes.{Identity, Slot, identity, slot_of, slots_of, shape, is_held, pieces, pieces_in, guards_of, held_count}
-use Rattle.reclaim.specs.inside.Consistent.{IsOf, HoldsAll, IsMadeOf}
+use Rattle.shard_memory.specs.Shards.{Shard, AreApart, ComeBack}
+use Rattle.regions.specs.Segments.{SegmentState, RegionState, segment_at, with_segment, fresh}
+use Rattle.regions.specs.Shapes.{Identity, Slot, identity, slot_of, slots_of, shape, is_held, pieces, pieces_in, guards_of, held_count, free_count}
+use Rattle.cache_model.specs.Row.{Row}
+use Rattle.row_bytes.specs.Rows.{IsRow, row_in}
+use Rattle.regions.specs.Contents.{Item, Standing, standing_at}
+use Rattle.regions.specs.declared.place.Place.{Place}
+use Rattle.row_cache.specs.Rows.{Stay, StandsAt, item_at}
+use Rattle.compaction.specs.Emptied.{HoldsTheSame}
+use Rattle.reclaim.specs.inside.Consistent.{IsOf, HoldsAll, IsMadeOf, IsConsistent}
 
 got-set : {X : Type 0} (xs : List X) (n m : ℕ) (x y : X) → slice_get (slice_set xs n x) m ≡ Some y → ((m ≡ n) × (x ≡ y)) ⊎ ((m ≢ n) × (slice_get xs m ≡ Some y))
 got-set [] n m x y e = absurd (let clash : None ≡ Some y = e in cc)
@@ -86,9 +92,9 @@ holds-kept memory old new same held h = record {
   count = held ∙ h.count;
 }
 
-pub made-kept : (shard pages : ℕ) (memory : Shard) (old new : RegionState) → pieces new ≡ pieces old → held_count new ≡ held_count old → (shape new).most ≡ (shape old).most → guards_of new ≡ guards_of old
-    → IsMadeOf shard pages memory old → IsMadeOf shard pages memory new
-made-kept shard pages memory old new same held most guards h = record {
+pub made-kept : (shard pages standing : ℕ) (memory : Shard) (old new : RegionState) → pieces new ≡ pieces old → held_count new ≡ held_count old → (shape new).most ≡ (shape old).most → guards_of new ≡ guards_of old
+    → IsMadeOf shard pages standing memory old → IsMadeOf shard pages standing memory new
+made-kept shard pages standing memory old new same held most guards h = record {
   owner = h.owner;
   size = h.size;
   are_pages = h.are_pages;
@@ -97,6 +103,86 @@ made-kept shard pages memory old new same held most guards h = record {
   holds = holds-kept memory old new same held h.holds;
   guards = guards ∙ h.guards;
 }
+
+-- the memory has the same pieces
+pub consistent-same : (shard pages standing : ℕ) (old new : Shard) (region : RegionState) → new.home ≡ old.home → new.owner ≡ old.owner → new.pages ≡ old.pages → new.blocks ≡ old.blocks → new.segments ≡ old.segments
+    → IsConsistent shard pages standing old region → IsConsistent shard pages standing new region
+consistent-same shard pages standing old new region home owner size blocks segments h =
+    let m = h.made in
+    record {
+      made = record {
+        owner = owner ∙ m.owner;
+        size = size ∙ m.size;
+        are_pages = m.are_pages;
+        blocks = blocks ∙ m.blocks;
+        most = m.most;
+        holds = record {
+          of = λ n piece e. let of = m.holds.of n piece e in record { home = of.home ∙ sym home; segment = subst (λ xs. Contains xs (extent piece.at piece.length)) (sym segments) of.segment };
+          apart = m.holds.apart;
+          count = m.holds.count ∙ ap length (sym segments);
+        };
+        guards = m.guards;
+      };
+      active = h.active;
+      free = h.free;
+    }
+
+pub consistent-came : (shard pages standing : ℕ) (old new : Shard) (count : ℕ) (region : RegionState) → ComeBack old new count → IsConsistent shard pages standing old region → IsConsistent shard pages standing new region
+consistent-came shard pages standing old new count region c h =
+    consistent-same shard pages standing old new region (ap (λ (s : Shard). s.home) c.same) (ap (λ (s : Shard). s.owner) c.same) (ap (λ (s : Shard). s.pages) c.same) (ap (λ (s : Shard). s.blocks) c.same) (ap (λ (s : Shard). s.segments) c.same) h
+
+pub consistent-trimmed : (shard pages standing : ℕ) (old new : Shard) (region : RegionState) → new ≡ record old { pages_out = new.pages_out; room = new.room } → IsConsistent shard pages standing old region → IsConsistent shard pages standing new region
+consistent-trimmed shard pages standing old new region same h =
+    consistent-same shard pages standing old new region (ap (λ (s : Shard). s.home) same) (ap (λ (s : Shard). s.owner) same) (ap (λ (s : Shard). s.pages) same) (ap (λ (s : Shard). s.blocks) same) (ap (λ (s : Shard). s.segments) same) h
+
+-- another region holds the same
+pub consistent-held : (shard pages standing : ℕ) (memory : Shard) (old new : RegionState) → HoldsTheSame old new → 1 ≤ free_count new → IsConsistent shard pages standing memory old → IsConsistent shard pages standing memory new
+consistent-held shard pages standing memory old new holds free h = record {
+  made = made-kept shard pages standing memory old new holds.pieces holds.held holds.most holds.guards h.made;
+  active = holds.active h.active;
+  free = free;
+}
+
+-- what holds for some owner, pages and guards holds for those that there are
+pub consistent-own : (shard pages standing : ℕ) (memory : Shard) (region : RegionState) → IsConsistent shard pages standing memory region → IsConsistent memory.owner memory.pages (guards_of region) memory region
+consistent-own shard pages standing memory region h =
+    let m = h.made in
+    record {
+      made = record { owner = refl; size = refl; are_pages = subst ArePages (sym m.size) m.are_pages; blocks = m.blocks; most = m.most ∙ ap (λ k. k / segment_pages) (sym m.size); holds = m.holds; guards = refl };
+      active = h.active;
+      free = h.free;
+    }
+
+-- rows that stand at places where each object stays
+item-of : (o : Option Standing) (item : Item) → option_map (λ (s : Standing). s.item) o ≡ Some item → (s : Standing) × (o ≡ Some s) × (s.item ≡ item)
+item-of None item e = absurd (let clash : None ≡ Some item = e in cc)
+item-of (Some s) item e = (s, refl, (let some : Some s.item ≡ Some item = e in cc))
+
+pub rows-stay : (old new : RegionState) → Stay old new → (p : Place) (row : Row) → StandsAt old p row → StandsAt new p row
+rows-stay old new stay p row h =
+    let there : item_at new p ≡ Some h.0.item = stay p h.0.item (ap (option_map (λ (s : Standing). s.item)) h.1) in
+    let found = item-of (standing_at new p) h.0.item there in
+    (found.0, found.1, subst (λ (i : Item). IsRow i.content) (sym found.2) h.2, ap (λ (i : Item). row_in i.content) found.2 ∙ h.3)
+
+-- a free segment that is taken out
+piece-in : (segments : List (Option SegmentState)) (n : ℕ) (piece : Lent) → slice_index_or segments n None ≡ Some (fresh piece) → slice_get (pieces_in (slots_of segments)) n ≡ Some (Some (identity piece))
+piece-in [] zero piece e = absurd (let clash : None ≡ Some (fresh piece) = e in cc)
+piece-in [] (suc n) piece e = absurd (let clash : None ≡ Some (fresh piece) = e in cc)
+piece-in (x ∷ xs) zero piece e = ap (λ (o : Option SegmentState). Some (option_map (λ (b : Slot). b.piece) (option_map slot_of o))) e
+piece-in (x ∷ xs) (suc n) piece e = piece-in xs n piece e
+
+pub piece-at : (r : RegionState) (n : ℕ) (piece : Lent) → segment_at r n ≡ Some (fresh piece) → slice_get (pieces r) n ≡ Some (Some (identity piece))
+piece-at r n piece e = piece-in r.segments n piece e
+
+pub pieces-without : (r : RegionState) (n : ℕ) → pieces (with_segment r n None) ≡ slice_set (pieces r) n None
+pieces-without r n =
+    ap (map (λ s. option_map (λ (b : Slot). b.piece) s)) (map-set (λ s. option_map slot_of s) r.segments n None)
+    ∙ map-set (λ s. option_map (λ (b : Slot). b.piece) s) (slots_of r.segments) n None
+
+pub at-least-two : (n : ℕ) → (n ≤ 1 → ⊥) → 2 ≤ n
+at-least-two zero more = absurd (more (omega arith))
+at-least-two (suc zero) more = absurd (more (omega arith))
+at-least-two (suc (suc n)) more = omega arith
 
 -- a region that holds no segment
 abbrev nothing : ℕ → List (Option Slot)

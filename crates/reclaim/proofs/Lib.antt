@@ -1,2 +1,4 @@
 pub mod Holding
 pub mod Evictions
+pub mod Homecoming
+pub mod Pressure

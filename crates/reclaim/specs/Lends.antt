@@ -1,5 +1,7 @@
 -- What a space is once a `&` that came of a `&mut` to it has ended.
 use mathlib.Core.Option.{none}
+use mathlib.Core.List.{[]}
+use mir.Syntax.{named}
 use Rattle.std.specs.Prelude.{⊤}
 use Rattle.std.specs.Borrow.{Fml, MutBor, follows_so}
 use Rattle.reclaim.specs.Spaces.{SpaceState}
@@ -7,4 +9,4 @@ use Rattle.reclaim.specs.contracts.space.Space.{the_row}
 
 -- the call left it so
 abbrev pub EndsAs : MutBor SpaceState → (SpaceState → Type 0) → Fml
-EndsAs s P = follows_so the_row the_row s.ghost_name none (λ _ _. ⊤) P
+EndsAs s P = follows_so (the_row (record { mir = named 1; lft = [] })) (the_row (record { mir = named 1; lft = [] })) s.ghost_name none (λ _ _. ⊤) P

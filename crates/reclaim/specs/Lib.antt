@@ -1,4 +1,5 @@
 pub mod Spaces
 pub mod Works
+pub mod Lending
 pub mod Lends
 pub mod inside

@@ -1,6 +1,14 @@
--- What a caller sees of a space: the rows of a shard's cache, and nothing of the memory in which they stand.
-use Rattle.std.specs.Prelude.{ℕ, List}
+-- What a caller sees of a space: the rows of a shard's cache, and the blocks that it lent. Of the memory in which they stand it sees
+-- what stands at a place, which a guard holds there, and what the pages can still give.
+use Rattle.std.specs.Prelude.{◌≡◌, ℕ, List}
 use Rattle.cache_model.specs.Row.{Row}
+use Rattle.foreign_list.specs.Lists.{OwnedList}
+use Rattle.regions.specs.Segments.{RegionState}
+use Rattle.regions.specs.Shapes.{guards_of}
+use Rattle.regions.specs.declared.place.Place.{Place}
+use Rattle.row_cache.specs.Rows.{StandsAt}
+use Rattle.shard_memory.specs.Room.{Room}
+use Rattle.shard_memory.specs.Tickets.{Tickets}
 
 pub record SpaceState : Type 0 where
   -- the number of the shard
@@ -11,7 +19,37 @@ pub record SpaceState : Type 0 where
   pub room : ℕ
   -- the row used last in front
   pub rows : List Row
+  -- the list over which lent blocks come home
+  pub list : OwnedList
+  -- the piece that is lent with each ticket, and none where the ticket is idle
+  pub lent : Tickets
+  -- how many blocks were lent and came home since the opening, the greatest u64 where there were more
+  pub lends : ℕ
+  pub backs : ℕ
+  -- the segments in which the rows stand, and how many guards stand
+  pub region : RegionState
+  -- what the pages can still give
+  pub free : Room
 
 -- the space with other rows
 abbrev pub with_rows : SpaceState → List Row → SpaceState
 with_rows s rows = record s { rows = rows }
+
+-- the space under so many guards
+abbrev pub with_guards : SpaceState → ℕ → SpaceState
+with_guards s guards = record s { region = record s.region { guards = guards } }
+
+abbrev pub IsUnguarded : SpaceState → Type 0
+IsUnguarded s = guards_of s.region ≡ 0
+
+-- whose space it is, its pages, the room of its tables, its list and the guards are as they were
+pub record IsSameSpace (old new : SpaceState) : Type 0 where
+  pub shard : new.shard ≡ old.shard
+  pub pages : new.pages ≡ old.pages
+  pub room : new.room ≡ old.room
+  pub list : new.list ≡ old.list
+  pub guards : guards_of new.region ≡ guards_of old.region
+
+-- each row that stood at a place, live or dead, stands there
+abbrev pub RowsStay : SpaceState → SpaceState → Type 0
+RowsStay old new = (p : Place) (row : Row) → StandsAt old.region p row → StandsAt new.region p row

@@ -1,3 +1,4 @@
 -- What only the private parts of a space cite.
 pub mod Consistent
 pub mod Evicted
+pub mod Homecoming

@@ -11,6 +11,7 @@ ghost use Rattle.row_cache.specs.Rows.{rows_of};
 ghost use Rattle.reclaim.specs.Works.{Records, pressure};
 ghost use Rattle.reclaim.specs.inside.Consistent.{IsConsistent};
 ghost use Rattle.reclaim.specs.inside.Evicted.{HasEvicted};
+ghost use Rattle.reclaim.specs.inside.Homecoming.{TakesHome};
 
 use crate::making_room::make_room;
 use cache_model::{Entry, evictions_are_counted};
@@ -21,22 +22,24 @@ use shard_memory::ShardMemory;
 // Makes room for an object of so many bytes in the active segment. Where there is none otherwise, the rows that were used
 // longest ago go, one by one.
 pub(crate) fn find_room(
-    memory: &mut ShardMemory,
+    memory: &mut ShardMemory<'_>,
     cache: &mut RowCache,
     size: u32,
     journal: &mut Journal,
 )
     requires size { size ≤ greatest_object }
-    requires consistent { IsConsistent memory.old.owner memory.old.pages memory.old cache.old.region }
+    requires consistent { IsConsistent memory.old.owner memory.old.pages 0 memory.old cache.old.region }
     requires spare { length (rows_of cache.old) ≤ journal.old.spare }
     ensures room { size ≤ left cache.new.region }
-    ensures evicted { HasEvicted (pressure memory.old.pages) (rows_of cache.old) (rows_of cache.new) journal.old journal.new }
+    ensures evicted { HasEvicted (pressure memory.old.pages memory.old.lent) (rows_of cache.old) (rows_of cache.new) journal.old journal.new }
     ensures spare { journal.new.spare + length (rows_of cache.old) ≡ journal.old.spare + length (rows_of cache.new) }
     ensures fewer { (rows_of cache.new ≡ rows_of cache.old) ⊎ (length (rows_of cache.new) < cache.new.room) }
-    ensures consistent { IsConsistent memory.old.owner memory.old.pages memory.new cache.new.region }
+    ensures consistent { IsConsistent memory.old.owner memory.old.pages 0 memory.new cache.new.region }
+    ensures taken { TakesHome memory.old memory.new }
     ensures tables { cache.new.room ≡ cache.old.room }
 {
     cache.facts();
+    memory.facts();
     evictions_are_counted();
     while !make_room(memory, cache, size) {
         evict(cache, journal);
@@ -44,13 +47,13 @@ pub(crate) fn find_room(
 }
 
 // The row that was used longest ago goes, which the journal has an entry for.
-fn evict(cache: &mut RowCache, journal: &mut Journal)
+pub(crate) fn evict(cache: &mut RowCache, journal: &mut Journal)
     requires some { 1 ≤ live (rows_of cache.old) }
     requires spare { 1 ≤ journal.old.spare }
     ensures evicted { (put : ℕ) × (is_of_put put (last_or None (rows_of cache.old)) ≡ true) × Records journal.old journal.new (Entries.Evicted put ∷ []) }
     ensures rows { rows_of cache.new ≡ take (length (rows_of cache.old) - 1) (rows_of cache.old) }
     ensures one_less { length (rows_of cache.new) + 1 ≡ length (rows_of cache.old) }
-    ensures consistent { (shard pages : ℕ) (memory : Shard) → IsConsistent shard pages memory cache.old.region → IsConsistent shard pages memory cache.new.region }
+    ensures consistent { (shard pages guards : ℕ) (memory : Shard) → IsConsistent shard pages guards memory cache.old.region → IsConsistent shard pages guards memory cache.new.region }
     ensures tables { cache.new.room ≡ cache.old.room }
 {
     let Some(put) = cache.evict_last() else {

@@ -8,12 +8,17 @@
 #![tactic(auto)]
 
 mod evicting;
+mod giving;
 mod making_room;
+mod no_ticket;
 mod segments;
 mod space;
 mod storing;
 #[cfg(test)]
 mod tests;
 
+pub use no_ticket::NoTicket;
+pub use regions::Place;
 pub use row_cache::{Put, Scanned};
+pub use shard_memory::{GiveRefusal, Share};
 pub use space::Space;

@@ -9,6 +9,7 @@ ghost use Rattle.compaction.specs.Sparse.{IsCompacted};
 ghost use Rattle.row_cache.specs.Rows.{rows_of};
 ghost use Rattle.reclaim.specs.Works.{pressure};
 ghost use Rattle.reclaim.specs.inside.Consistent.{IsConsistent};
+ghost use Rattle.reclaim.specs.inside.Homecoming.{TakesHome};
 
 use crate::segments::add_segment;
 use compaction::a_compacted_region_is_full;
@@ -17,15 +18,17 @@ use shard_memory::ShardMemory;
 
 // Makes room for an object of so many bytes in the active segment, without an eviction. False where nothing is left but to
 // evict.
-pub(crate) fn make_room(memory: &mut ShardMemory, cache: &mut RowCache, size: u32) -> bool
+pub(crate) fn make_room(memory: &mut ShardMemory<'_>, cache: &mut RowCache, size: u32) -> bool
     requires size { size ≤ greatest_object }
-    requires consistent { IsConsistent memory.old.owner memory.old.pages memory.old cache.old.region }
+    requires consistent { IsConsistent memory.old.owner memory.old.pages 0 memory.old cache.old.region }
     ensures room { result ≡ true → size ≤ left cache.new.region }
-    ensures pressed { result ≡ false → pressure memory.old.pages < live (rows_of cache.new) }
-    ensures consistent { IsConsistent memory.old.owner memory.old.pages memory.new cache.new.region }
+    ensures pressed { result ≡ false → pressure memory.old.pages memory.old.lent < live (rows_of cache.new) }
+    ensures consistent { IsConsistent memory.old.owner memory.old.pages 0 memory.new cache.new.region }
+    ensures taken { TakesHome memory.old memory.new }
     ensures rows { rows_of cache.new ≡ rows_of cache.old }
     ensures tables { cache.new.room ≡ cache.old.room }
 {
+    memory.facts();
     if size <= cache.left() {
         return true;
     }
@@ -38,20 +41,23 @@ pub(crate) fn make_room(memory: &mut ShardMemory, cache: &mut RowCache, size: u3
     true
 }
 
-// A second segment of the cache is free: it was before, it is one of the pages, or compaction frees it. False where none of
-// these can be had.
-fn free_second(memory: &mut ShardMemory, cache: &mut RowCache) -> bool
-    requires consistent { IsConsistent memory.old.owner memory.old.pages memory.old cache.old.region }
+// A second segment of the cache is free: it was before, it is one of the pages, once blocks that came home are back in them, or
+// compaction frees it. False where none of these can be had.
+fn free_second(memory: &mut ShardMemory<'_>, cache: &mut RowCache) -> bool
+    requires consistent { IsConsistent memory.old.owner memory.old.pages 0 memory.old cache.old.region }
     ensures freed { result ≡ true → 2 ≤ free_count cache.new.region }
     ensures crowded { result ≡ false → IsCrowded memory.new }
     ensures compacted { result ≡ false → IsCompacted cache.new.region }
-    ensures consistent { IsConsistent memory.old.owner memory.old.pages memory.new cache.new.region }
+    ensures consistent { IsConsistent memory.old.owner memory.old.pages 0 memory.new cache.new.region }
+    ensures taken { TakesHome memory.old memory.new }
     ensures rows { rows_of cache.new ≡ rows_of cache.old }
     ensures tables { cache.new.room ≡ cache.old.room }
 {
+    memory.facts();
     if cache.free_segments() >= 2 {
         return true;
     }
+    memory.take_back();
     memory.trim();
     add_segment(memory, cache) || cache.compact() == Compacted::Freed
 }
@@ -62,7 +68,7 @@ fn begin_next(cache: &mut RowCache, size: u32)
     requires active { IsSome (active_of cache.old.region) }
     requires free { 2 ≤ free_count cache.old.region }
     ensures room { size ≤ left cache.new.region }
-    ensures consistent { (shard pages : ℕ) (memory : Shard) → IsConsistent shard pages memory cache.old.region → IsConsistent shard pages memory cache.new.region }
+    ensures consistent { (shard pages guards : ℕ) (memory : Shard) → IsConsistent shard pages guards memory cache.old.region → IsConsistent shard pages guards memory cache.new.region }
     ensures rows { rows_of cache.new ≡ rows_of cache.old }
     ensures tables { cache.new.room ≡ cache.old.room }
 {

@@ -1,60 +1,83 @@
-ghost use Rattle.std.specs.Prelude.{◌≡◌, ◌⊎◌, ◌*◌, ◌+◌, ◌-◌, ◌^◌, ◌<◌, ◌≤◌, [], ◌∷◌, length, take, drop, true, IfOk};
+ghost use Rattle.std.specs.Prelude.{◌≡◌, ◌⊎◌, ◌*◌, ◌+◌, ◌-◌, ◌^◌, ◌<◌, ◌≤◌, [], ◌∷◌, length, take, drop, true, IfOk, IfErr};
 ghost use Rattle.layout.specs.Sizes as sizes;
 ghost use Rattle.trace_text.specs.declared.command.Kind.{Kind as Kinds};
 ghost use Rattle.cache_model.specs.declared.entry.Entry.{Entry as Entries};
 ghost use Rattle.cache_model.specs.Row.{live};
 ghost use Rattle.cache_model.specs.Apply as apply;
 ghost use Rattle.cache_model.specs.KeyBody.{AreKeys};
-ghost use Rattle.row_cache.specs.Rows.{rows_of, reply_of};
+ghost use Rattle.foreign_list.specs.OwnerSeats.{IsAtRest};
+ghost use Rattle.row_cache.specs.Rows.{reply_of};
+ghost use Rattle.shard_memory.specs.Tickets.{tickets_out};
 ghost use Rattle.shard_rings.specs.Ask.{asked, IsAskable};
-ghost use Rattle.reclaim.specs.Spaces.{SpaceState, with_rows};
+ghost use Rattle.reclaim.specs.Spaces.{SpaceState, IsSameSpace, IsUnguarded};
+ghost use Rattle.reclaim.specs.Lending.{TakesBack};
 ghost use Rattle.reclaim.specs.Works.{Records, StoresUnderPressure};
 
 mod getting;
+mod lending;
+mod messages;
 
 use crate::segments::{begin, give_back};
 use crate::storing::put_row;
 use cache_model::Entry;
+use foreign_list::{Foreign, OwnerSeat};
 use layout::SEGMENT_PAGES;
 use row_cache::{Put, RowCache, Scanned};
 use run_log::Journal;
 use shard_memory::ShardMemory;
 use shard_rings::Ask;
-use std::alloc::{AllocError, Global};
+use std::alloc::Global;
 use std::marker::Model;
 
 /// The memory and the cache of one shard.
 #[derive(Drop)]
-pub struct Space {
-    memory: ShardMemory,
+pub struct Space<'f> {
+    memory: ShardMemory<'f>,
     cache: RowCache,
 }
 
-impl Model for Space {
-    ghost use Rattle.row_cache.specs.Rows.{rows_of};
+impl<'f> Model for Space<'f> {
+    ghost use Rattle.regions.specs.Shapes.{guards_of};
     ghost use Rattle.reclaim.specs.Spaces.{SpaceState};
-    ghost use Rattle.reclaim.specs.inside.Consistent.{IsConsistent};
+    ghost use Rattle.reclaim.specs.inside.Consistent.{IsConsistent, space_of};
 
     ghost Value = { SpaceState };
 
-    ghost view = { λ s. record { shard = s.memory.owner; pages = s.memory.pages; room = s.cache.room; rows = rows_of s.cache } };
+    ghost view = { λ s. space_of s.memory s.cache };
 
-    ghost invariant = { λ s. IsConsistent s.memory.owner s.memory.pages s.memory s.cache.region };
+    ghost invariant = { λ s. IsConsistent s.memory.owner s.memory.pages (guards_of s.cache.region) s.memory s.cache.region };
 }
 
-impl Space {
-    /// The space of a shard of so many pages of 4,096 bytes, with room for so many rows and none in it. Two segments
-    /// go to the cache, one of them active.
+impl<'f> Space<'f> {
+    /// The space of a shard of so many pages of 4,096 bytes, with room for so many rows and none in it, whose lent blocks come home
+    /// over this list. Two segments go to the cache, one of them active.
     ///
     /// # Errors
-    /// Want of memory. No other call takes memory.
-    pub fn open(alloc: Global, shard: u32, pages: u32, rows: u32) -> Result<Space, AllocError>
+    /// Want of memory; then the seat is handed back. No other call takes memory.
+    pub fn open(
+        alloc: Global,
+        shard: u32,
+        pages: u32,
+        rows: u32,
+        home: &'f Foreign,
+        seat: OwnerSeat,
+    ) -> Result<Space<'f>, OwnerSeat>
         requires pages { sizes.ArePages pages }
         requires rows { rows < 2 ^ 32 - 1 }
-        ensures { IfOk result (λ space. space ≡ record { shard = shard; pages = pages; room = rows; rows = [] }) }
+        requires owner { home.now.owner ≡ shard }
+        requires seat { IsAtRest home.now seat }
+        ensures refused { IfErr result (λ back. back ≡ seat) }
+        ensures numbers { IfOk result (λ space. (space.shard ≡ shard) × (space.pages ≡ pages) × (space.room ≡ rows)) }
+        ensures rows { IfOk result (λ space. space.rows ≡ []) }
+        ensures list { IfOk result (λ space. space.list ≡ home.now) }
+        ensures lent { IfOk result (λ space. (space.lent ≡ seat.lent) × (space.lends ≡ 0) × (space.backs ≡ 0)) }
+        ensures idle { IfOk result (λ space. tickets_out space.lent ≡ 0) }
+        ensures unguarded { IfOk result IsUnguarded }
     {
-        let mut cache = RowCache::new(alloc, rows, pages / SEGMENT_PAGES)?;
-        let mut memory = ShardMemory::open(alloc, shard, pages)?;
+        let Ok(mut cache) = RowCache::new(alloc, rows, pages / SEGMENT_PAGES) else {
+            return Err(seat);
+        };
+        let mut memory = ShardMemory::open(alloc, shard, pages, home, seat)?;
         begin(&mut memory, &mut cache);
         Ok(Space { memory, cache })
     }
@@ -65,9 +88,11 @@ impl Space {
     pub fn put(&mut self, ask: &Ask<'_>, journal: &mut Journal) -> Put
         requires kind { ask.now.kind ≡ Kinds.Put }
         requires askable { IsAskable (asked ask.now) }
+        requires unguarded { IsUnguarded self.old }
         requires room { (apply.has ask.now.key.now self.old.rows ≡ true) ⊎ (length self.old.rows < self.old.room) }
         requires spare { length self.old.rows + 1 ≤ journal.old.spare }
-        ensures { StoresUnderPressure (asked ask.now) (reply_of result) self.old self.new journal.old journal.new }
+        ensures stored { StoresUnderPressure (asked ask.now) (reply_of result) self.old self.new journal.old journal.new }
+        ensures taken { TakesBack self.old self.new }
     {
         put_row(&mut self.memory, &mut self.cache, ask, journal)
     }
@@ -75,9 +100,12 @@ impl Space {
     /// Removes the row of a key. False where no row has the key.
     pub fn erase_here(&mut self, ask: &Ask<'_>, journal: &mut Journal) -> bool
         requires kind { ask.now.kind ≡ Kinds.Erase }
+        requires unguarded { IsUnguarded self.old }
         requires spare { 1 ≤ journal.old.spare }
         ensures found { result ≡ apply.has ask.now.key.now self.old.rows }
-        ensures rows { self.new ≡ with_rows self.old (apply.without ask.now.key.now self.old.rows) }
+        ensures rows { self.new.rows ≡ apply.without ask.now.key.now self.old.rows }
+        ensures same { IsSameSpace self.old self.new }
+        ensures tickets { (self.new.lent ≡ self.old.lent) × (self.new.lends ≡ self.old.lends) × (self.new.backs ≡ self.old.backs) }
         ensures recorded { Records journal.old journal.new (Entries.Done ask.now.number ∷ []) }
     {
         journal.add(Entry::Done(ask.number));
@@ -90,6 +118,7 @@ impl Space {
     pub fn scan_here(&mut self, ask: &Ask<'_>, into: &mut [u8], journal: &mut Journal) -> Scanned
         requires kind { ask.now.kind ≡ Kinds.Scan }
         requires askable { IsAskable (asked ask.now) }
+        requires unguarded { IsUnguarded self.old }
         requires room { sizes.key_room * ask.now.count ≤ length into.old }
         requires spare { 1 ≤ journal.old.spare }
         ensures count { result.keys ≡ length (apply.scanned ask.now.key.now ask.now.count self.old.rows) }
@@ -117,10 +146,14 @@ impl Space {
         self.cache.live()
     }
 
-    /// Gives the memory back.
-    pub fn finish(self) {
+    /// Gives the memory back, once every lent block is home, and hands back the owner's seat, with which the list may be closed.
+    pub fn finish(self) -> OwnerSeat
+        requires idle { tickets_out self.lent ≡ 0 }
+        requires unguarded { IsUnguarded self }
+        ensures seat { IsAtRest self.entry.list result }
+    {
         let (mut memory, mut cache) = (self.memory, self.cache);
         give_back(&mut memory, &mut cache);
-        memory.finish();
+        memory.finish()
     }
 }

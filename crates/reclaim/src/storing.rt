@@ -11,6 +11,7 @@ ghost use Rattle.shard_rings.specs.Ask.{asked, IsAskable};
 ghost use Rattle.reclaim.specs.Works.{pressure};
 ghost use Rattle.reclaim.specs.inside.Consistent.{IsConsistent};
 ghost use Rattle.reclaim.specs.inside.Evicted.{HasStored};
+ghost use Rattle.reclaim.specs.inside.Homecoming.{TakesHome};
 
 use crate::evicting::find_room;
 use cache_model::Entry;
@@ -23,18 +24,19 @@ use shard_rings::Ask;
 // Makes room for the row of a put and stores it. The journal has an entry for each row that went, and then one that the
 // command is done.
 pub(crate) fn put_row(
-    memory: &mut ShardMemory,
+    memory: &mut ShardMemory<'_>,
     cache: &mut RowCache,
     ask: &Ask<'_>,
     journal: &mut Journal,
 ) -> Put
     requires kind { ask.now.kind ≡ Kinds.Put }
     requires askable { IsAskable (asked ask.now) }
-    requires consistent { IsConsistent memory.old.owner memory.old.pages memory.old cache.old.region }
+    requires consistent { IsConsistent memory.old.owner memory.old.pages 0 memory.old cache.old.region }
     requires room { (apply.has ask.now.key.now (rows_of cache.old) ≡ true) ⊎ (length (rows_of cache.old) < cache.old.room) }
     requires spare { length (rows_of cache.old) + 1 ≤ journal.old.spare }
-    ensures stored { HasStored (pressure memory.old.pages) (asked ask.now) (reply_of result) (rows_of cache.old) (rows_of cache.new) journal.old journal.new }
-    ensures consistent { IsConsistent memory.old.owner memory.old.pages memory.new cache.new.region }
+    ensures stored { HasStored (pressure memory.old.pages memory.old.lent) (asked ask.now) (reply_of result) (rows_of cache.old) (rows_of cache.new) journal.old journal.new }
+    ensures consistent { IsConsistent memory.old.owner memory.old.pages 0 memory.new cache.new.region }
+    ensures taken { TakesHome memory.old memory.new }
     ensures tables { cache.new.room ≡ cache.old.room }
 {
     find_room(memory, cache, row_size(ask.key, ask.value), journal);
@@ -52,7 +54,7 @@ fn store(cache: &mut RowCache, ask: &Ask<'_>) -> Put
     requires room { (apply.has ask.now.key.now (rows_of cache.old) ≡ true) ⊎ (length (rows_of cache.old) < cache.old.room) }
     ensures rows { rows_of cache.new ≡ (apply.apply (asked ask.now) (rows_of cache.old)).0 }
     ensures reply { reply_of result ≡ (apply.apply (asked ask.now) (rows_of cache.old)).1 }
-    ensures consistent { (shard pages : ℕ) (memory : Shard) → IsConsistent shard pages memory cache.old.region → IsConsistent shard pages memory cache.new.region }
+    ensures consistent { (shard pages guards : ℕ) (memory : Shard) → IsConsistent shard pages guards memory cache.old.region → IsConsistent shard pages guards memory cache.new.region }
     ensures tables { cache.new.room ≡ cache.old.room }
 {
     let Ok(did) = cache.put(ask.key, ask.value, ask.number) else {

@@ -1,8 +1,12 @@
 // Puts, look-ups and scans on one shard, and the rows that go where there is no room for a put.
 ghost use Rattle.std.specs.Prelude.{◌≡◌, []};
+ghost use Rattle.foreign_list.specs.OwnerSeats.{IsAtRest};
+ghost use Rattle.regions.specs.Shapes.{guards_of};
+ghost use Rattle.shard_memory.specs.Tickets.{tickets_out};
 
 use crate::{Put, Space};
 use cache_model::Entry;
+use foreign_list::{Foreign, OwnerSeat};
 use layout::{GREATEST_KEY, GREATEST_VALUE};
 use run_log::Journal;
 use shard_rings::Ask;
@@ -17,10 +21,12 @@ const ENTRIES: u32 = 1200;
 
 // A space of 1,280 pages, and its journal. A call for which there is no room changes nothing.
 #[derive(Drop)]
-struct Trial {
-    space: Space,
+struct Trial<'f> {
+    space: Space<'f>,
     journal: Journal,
     ghost room: { space.room ≡ 512 },
+    ghost unguarded: { guards_of space.region ≡ 0 },
+    ghost idle: { tickets_out space.lent ≡ 0 },
 }
 
 // What is asked of a key, as command 9.
@@ -39,10 +45,16 @@ fn ask<'a>(kind: Kind, key: &'a [u8], count: u32) -> Ask<'a>
     }
 }
 
-impl Trial {
-    fn new(alloc: Global) -> Result<Trial, AllocError> {
+impl<'f> Trial<'f> {
+    // The seat is handed back where there is no memory.
+    fn new(alloc: Global, home: &'f Foreign, seat: OwnerSeat) -> Result<Trial<'f>, Fail>
+        requires owner { home.now.owner ≡ 0 }
+        requires seat { IsAtRest home.now seat }
+    {
         let journal = Journal::new(alloc, ENTRIES)?;
-        let space = Space::open(alloc, 0, 1280, ROWS)?;
+        let Ok(space) = Space::open(alloc, 0, 1280, ROWS, home, seat) else {
+            return Err(AllocError.into());
+        };
         Ok(Trial { space, journal })
     }
 
@@ -130,14 +142,15 @@ impl Trial {
         self.journal.entries().ends_with(entries)
     }
 
-    fn finish(self) {
-        self.space.finish();
+    fn finish(self) -> OwnerSeat {
+        self.space.finish()
     }
 }
 
 #[test]
 fn a_row_is_stored_replaced_and_erased(rt: HostRuntime) -> Result<(), Fail> {
-    let mut trial = Trial::new(rt.alloc())?;
+    let (home, seat) = Foreign::new(rt.alloc(), 0)?;
+    let mut trial = Trial::new(rt.alloc(), &home, seat)?;
     assert_eq!(rt; trial.put(b"a", b"1", 1), Some(Put::Stored));
     assert_eq!(rt; trial.put(b"a", b"abc", 2), Some(Put::Replaced));
     assert_eq!(rt; trial.size(), (1, 48));
@@ -147,26 +160,28 @@ fn a_row_is_stored_replaced_and_erased(rt: HostRuntime) -> Result<(), Fail> {
     assert_eq!(rt; trial.size(), (0, 0));
     let done = [1, 2, 9, 9, 9, 9].map(|number| Entry::Done(number));
     assert!(rt; trial.journal.entries() == done.as_slice());
-    trial.finish();
+    let _seat = trial.finish();
     Ok(())
 }
 
 #[test]
 fn a_scan_gives_the_keys_from_its_own_on(rt: HostRuntime) -> Result<(), Fail> {
-    let mut trial = Trial::new(rt.alloc())?;
+    let (home, seat) = Foreign::new(rt.alloc(), 0)?;
+    let mut trial = Trial::new(rt.alloc(), &home, seat)?;
     assert_eq!(rt; trial.put(b"a", b"1", 1), Some(Put::Stored));
     assert_eq!(rt; trial.put(b"c", b"3", 2), Some(Put::Stored));
     assert_eq!(rt; trial.put(b"b", b"2", 3), Some(Put::Stored));
     assert!(rt; trial.scans(b"b", 2, b"\x01\0b\x01\0c"));
     assert!(rt; trial.scans(b"d", 4, b""));
     assert_eq!(rt; trial.size(), (3, 144));
-    trial.finish();
+    let _seat = trial.finish();
     Ok(())
 }
 
 #[test]
 fn the_oldest_row_goes_where_nothing_else_makes_room(rt: HostRuntime) -> Result<(), Fail> {
-    let mut trial = Trial::new(rt.alloc())?;
+    let (home, seat) = Foreign::new(rt.alloc(), 0)?;
+    let mut trial = Trial::new(rt.alloc(), &home, seat)?;
     assert_eq!(rt; trial.put_large(rt.alloc(), 1, 391)?, 390);
     assert_eq!(rt; trial.journal.entries().len(), 390);
     assert_eq!(rt; trial.put_large(rt.alloc(), 391, 393)?, 2);
@@ -179,27 +194,29 @@ fn the_oldest_row_goes_where_nothing_else_makes_room(rt: HostRuntime) -> Result<
     ];
     assert!(rt; trial.ends_with(&last));
     assert!(rt; trial.has(&1u32.to_be_bytes(), None));
-    trial.finish();
+    let _seat = trial.finish();
     Ok(())
 }
 
 #[test]
 fn a_row_may_go_for_the_one_that_replaces_it(rt: HostRuntime) -> Result<(), Fail> {
-    let mut trial = Trial::new(rt.alloc())?;
+    let (home, seat) = Foreign::new(rt.alloc(), 0)?;
+    let mut trial = Trial::new(rt.alloc(), &home, seat)?;
     assert_eq!(rt; trial.put_large(rt.alloc(), 1, 391)?, 390);
     assert_eq!(rt; trial.put_large(rt.alloc(), 1, 2)?, 1);
     assert!(rt; trial.ends_with(&[Entry::Done(390), Entry::Evicted(1), Entry::Done(1)]));
     assert_eq!(rt; trial.size(), (390, 4_698_720));
-    trial.finish();
+    let _seat = trial.finish();
     Ok(())
 }
 
 #[test]
 fn nothing_goes_while_compaction_makes_room(rt: HostRuntime) -> Result<(), Fail> {
-    let mut trial = Trial::new(rt.alloc())?;
+    let (home, seat) = Foreign::new(rt.alloc(), 0)?;
+    let mut trial = Trial::new(rt.alloc(), &home, seat)?;
     assert_eq!(rt; trial.put_again(rt.alloc(), 1000)?, 999);
     assert_eq!(rt; trial.size(), (1, 12_048));
     assert_eq!(rt; trial.journal.entries().len(), 1000);
-    trial.finish();
+    let _seat = trial.finish();
     Ok(())
 }

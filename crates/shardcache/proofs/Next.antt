@@ -48,7 +48,9 @@ does-same asked operation old new before after log logged is same does =
         recorded = rw number at does.works.recorded;
         rows = rw here at does.works.rows;
         reply = rw here at does.works.reply;
+        same = does.works.same;
       };
+      out = does.out;
       logs = rw number at does.logs;
     }
 

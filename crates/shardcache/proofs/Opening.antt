@@ -1,5 +1,5 @@
 -- What one shard needs for a trace, and how it begins.
-use Rattle.std.proofs.Common.{◌≡◌, ℕ, ◌+◌, ◌-◌, ◌*◌, ◌%◌, ◌<◌, ◌≤◌, Bool, true, false, ◌&&◌, eqb, cond, List, [], ◌∷◌, ◌++◌, length, replicate, Option, None, arith, refl, ◌∙◌}
+use Rattle.std.proofs.Common.{◌≡◌, ℕ, ◌+◌, ◌-◌, ◌*◌, ◌%◌, ◌<◌, ◌≤◌, Bool, true, false, ◌&&◌, eqb, cond, List, [], ◌∷◌, ◌++◌, length, replicate, Option, None, arith, refl, sym, ◌∙◌, subst}
 use Rattle.std.specs.List.{All, count_by, sum_by}
 use native.Mathlib.Nat.{add-mul}
 use Rattle.std.proofs.lemmas.List.Elements.{All-head, All-tail}
@@ -16,6 +16,8 @@ use Rattle.cache_model.specs.declared.entry.Entry.TheVariants.{Evicted}
 use Rattle.cache_model.specs.Bodies.{most_of_body, most_of_kind}
 use Rattle.run_log.specs.Replies.{Replies}
 use Rattle.run_log.specs.JournalState.{JournalState}
+use Rattle.regions.specs.Shapes.{guards_of}
+use Rattle.shard_memory.specs.Tickets.{tickets_out}
 use Rattle.reclaim.specs.Spaces.{SpaceState}
 use Rattle.shardcache.specs.inside.Progress.{HasDone, most_of_bodies, puts_among}
 
@@ -104,17 +106,20 @@ no-entry (entry ∷ before) later q e = cc
 pub opened : (trace : List Operation) (pages own here puts bytes : ℕ) (space : SpaceState) (journal : JournalState) (log : Replies) → All IsWellFormed trace
     → own ≡ own_parts (trace_with trace) 1 0 → here ≡ here_parts (trace_with trace) 1 0 → puts ≡ here_puts (trace_with trace) 1 0
     → bytes ≡ reply_bytes (trace_with trace) 1 0
-    → space ≡ record { shard = 0; pages = pages; room = puts; rows = [] } → journal ≡ record { entries = []; spare = here + puts }
+    → space.pages ≡ pages → space.room ≡ puts → space.rows ≡ [] → tickets_out space.lent ≡ 0 → guards_of space.region ≡ 0 → journal ≡ record { entries = []; spare = here + puts }
     → log ≡ record { replies = replicate own None; room = bytes } → HasDone (trace_with trace) 0 space journal log
-opened trace pages own here puts bytes space journal log formed own_is here_is puts_is bytes_is space_is journal_is log_is =
+opened trace pages own here puts bytes space journal log formed own_is here_is puts_is bytes_is pages_is room_is rows_is idle unguarded journal_is log_is =
     let own_all : own ≡ length trace = own_is ∙ own_one trace in
     let here_all : here ≡ length trace = here_is ∙ here_one trace in
     let puts_all : puts ≡ puts_among trace = puts_is ∙ puts_one trace in
     let bound : most_of_bodies (trace_with trace) trace ≤ bytes = rw bytes_is (bodies-bound trace (longest_value (trace_with trace)) formed) in
     let tables : 0 + puts_among trace ≤ puts = omega arith in
     let spare : 0 + puts_among trace + (length trace - 0) ≤ here + puts = omega arith in
-    rw (space_is, journal_is, log_is) (record {
+    subst (λ r. HasDone (trace_with trace) 0 (record space { rows = r }) journal log) (sym rows_is)
+    (subst (λ m. HasDone (trace_with trace) 0 (record space { rows = []; room = m }) journal log) (sym room_is) (rw (journal_is, log_is) (record {
       within = omega arith;
+      idle = idle;
+      unguarded = unguarded;
       done = refl;
       leads = refl;
       evicts = λ before later q cache e leads. absurd (no-entry before later q e);
@@ -123,4 +128,4 @@ opened trace pages own here puts bytes space journal log formed own_is here_is p
       tables = tables;
       spare = spare;
       room = bound;
-    })
+    })))

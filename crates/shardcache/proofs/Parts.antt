@@ -1,16 +1,20 @@
 -- Commands that evict nothing.
-use Rattle.std.proofs.Common.{◌≡◌, ◌+◌, ◌-◌, Bool, cond, List, [], ◌∷◌, length, slice_set, Some, None, refl, sym, ap}
+use Rattle.std.proofs.Common.{◌≡◌, ℕ, ◌+◌, ◌-◌, Bool, cond, List, [], ◌∷◌, length, slice_set, Some, None, refl, sym, ap, subst, arith}
 use Rattle.trace_text.specs.declared.command.Kind.TheVariants as kinds
 use Rattle.trace_text.specs.Operation.{Operation}
 use Rattle.cache_model.specs.declared.entry.Entry.TheVariants.{Done}
-use Rattle.cache_model.specs.Row.{Row}
+use Rattle.cache_model.specs.Row.{Row, tight_floor}
 use Rattle.cache_model.specs.Apply.{Reply, Value, Missing, Erased, apply, apply_kind, erase, get, has, row_of, scan, without}
 use Rattle.cache_model.specs.Evictions.{Evicts}
 use Rattle.cache_model.specs.Spelled.{spelled}
 use Rattle.run_log.specs.JournalState.{JournalState}
 use Rattle.run_log.specs.Replies.{Replies}
-use Rattle.reclaim.specs.Spaces.{SpaceState, with_rows}
-use Rattle.reclaim.specs.Works.{Records}
+use Rattle.layout.specs.Sizes.{dense}
+use Rattle.regions.specs.Shapes.{guards_of}
+use Rattle.shard_memory.specs.Tickets.{tickets_out}
+use Rattle.reclaim.specs.Spaces.{SpaceState, IsSameSpace, with_rows}
+use Rattle.reclaim.specs.Works.{Records, DoesAbove, StoresUnderPressure}
+use Rattle.shardcache.specs.inside.Progress.{pressure}
 use Rattle.shardcache.specs.inside.Works.{DoesCommand}
 
 -- what is done with a command of one kind
@@ -37,15 +41,30 @@ erased operation cache found is has_it = rw (is_erase operation cache is, has_it
 
 -- a command that evicts nothing
 pub quiet_does : (operation : Operation) (reply : Reply) (rows : List Row) (old new : SpaceState) (before after : JournalState) (log logged : Replies)
-    → apply operation old.rows ≡ (rows, reply) → Records before after (Done operation.number ∷ []) → new ≡ with_rows old rows
+    → apply operation old.rows ≡ (rows, reply) → Records before after (Done operation.number ∷ []) → new.rows ≡ rows → IsSameSpace old new → new.lent ≡ old.lent
     → logged.replies ≡ slice_set log.replies (operation.number - 1) (Some (spelled reply)) → logged.room + length (spelled reply).1 ≡ log.room
     → DoesCommand operation old new before after log logged
 unfolding Evicts
-quiet_does operation reply rows old new before after log logged does recorded is replies room =
+quiet_does operation reply rows old new before after log logged does recorded is same lent replies room =
     let cache : (apply operation old.rows).0 ≡ rows = ap (λ part. part.0) does in
     let answer : (apply operation old.rows).1 ≡ reply = ap (λ part. part.1) does in
     record {
       reply = reply;
-      works = record { evicted = []; rest = old.rows; evicts = refl; recorded = recorded; rows = rw cache is; reply = sym answer };
+      works = record { evicted = []; rest = old.rows; evicts = refl; recorded = recorded; rows = rw cache is; reply = sym answer; same = same };
+      out = let out = ap tickets_out lent in omega (arith, out);
       logs = record { replies = replies; room = room };
     }
+
+-- the space is the one that it was but for its rows
+pub same_but_rows : (old new : SpaceState) (rows : List Row) → new ≡ with_rows old rows → (new.rows ≡ rows) × IsSameSpace old new × (new.lent ≡ old.lent)
+same_but_rows old new rows is =
+    (ap (λ (s : SpaceState). s.rows) is, record { shard = ap (λ (s : SpaceState). s.shard) is; pages = ap (λ (s : SpaceState). s.pages) is; room = ap (λ (s : SpaceState). s.room) is; list = ap (λ (s : SpaceState). s.list) is; guards = ap (λ (s : SpaceState). guards_of s.region) is }, ap (λ (s : SpaceState). s.lent) is)
+
+pub same_space : (old new : SpaceState) → new ≡ old → (new.rows ≡ old.rows) × IsSameSpace old new × (new.lent ≡ old.lent)
+same_space old new is = same_but_rows old new old.rows is
+
+-- a put of a shard that lends nothing
+pub put_does : (operation : Operation) (reply : Reply) (old new : SpaceState) (before after : JournalState) → tickets_out old.lent ≡ 0 → StoresUnderPressure operation reply old new before after
+    → DoesAbove (pressure old.pages) operation reply old new before after
+put_does operation reply old new before after idle stored =
+    subst (λ (t : ℕ). DoesAbove (tight_floor old.pages t + dense) operation reply old new before after) idle stored

@@ -26,8 +26,9 @@ use Rattle.cache_model.specs.Spelled.{spelled}
 use Rattle.run_log.specs.Replies.{Replies}
 use Rattle.run_log.specs.JournalState.{JournalState}
 use Rattle.reclaim.specs.Spaces.{SpaceState}
-use Rattle.reclaim.specs.Works.{pressure}
-use Rattle.shardcache.specs.inside.Progress.{HasDone, most_of_bodies, puts_among}
+use Rattle.regions.specs.Shapes.{guards_of}
+use Rattle.shard_memory.specs.Tickets.{tickets_out}
+use Rattle.shardcache.specs.inside.Progress.{HasDone, most_of_bodies, pressure, puts_among}
 use Rattle.shardcache.specs.inside.Works.{DoesCommand}
 use Rattle.shardcache.proofs.Numbered.{Numbered, command_at, not_before, number_at}
 
@@ -263,8 +264,13 @@ has-done-more laws trace k d old new before after log logged numbered formed lt 
     let spare_is : length rows + puts_among (drop (k + 1) trace) + (length trace - (k + 1)) ≤ after.spare = omega arith in
     let room_was : most_of_bodies T (drop k trace) ≤ log.room = has.room in
     let room_is : most_of_bodies T (drop (k + 1) trace) ≤ logged.room = omega (arith, does.logs.room) in
-    rw does.works.rows (record {
+    let same = does.works.same in
+    subst (λ r. HasDone T (k + 1) (record new { rows = r }) after logged) (sym does.works.rows)
+    (subst (λ p. HasDone T (k + 1) (record new { rows = rows; pages = p }) after logged) (sym same.pages)
+    (subst (λ m. HasDone T (k + 1) (record new { rows = rows; pages = old.pages; room = m }) after logged) (sym same.room) (record {
       within = omega arith;
+      idle = let none = has.idle in let out = does.out in omega (arith, none, out);
+      unguarded = same.guards ∙ has.unguarded;
       done = rw (entries, take_more trace k d lt)
           (filter_map-append done_number J (Done operation.number ∷ []) ∙ rw middle.done (sym (map-append (λ o. o.number) (take k trace) (operation ∷ []))));
       leads = rw entries (laws.leads T pages J (Done operation.number ∷ []) does.works.rest middle.leads ∙ rw command refl);
@@ -276,4 +282,4 @@ has-done-more laws trace k d old new before after log logged numbered formed lt 
       tables = tables_are;
       spare = spare_is;
       room = room_is;
-    })
+    })))

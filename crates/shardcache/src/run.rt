@@ -13,6 +13,7 @@ use cache_model::{
     a_report_has_its_lines, logs_hold_the_answers, one_shard_answers_alone,
     replies_hold_what_was_put,
 };
+use foreign_list::Foreign;
 use run_log::{Journal, ReplyLog};
 use shard::Shard;
 use std::alloc::{AllocError, Global};
@@ -36,7 +37,8 @@ pub fn do_all(alloc: Global, trace: &Trace, pages: u32) -> Result<Finished, Allo
         IsRunOf (trace_in trace.now) pages finished.journal.entries finished.log.replies finished.rows finished.live) }
 {
     let commands = trace.commands();
-    let mut shard = Shard::open(alloc, trace, pages)?;
+    let (home, seat) = Foreign::new(alloc, 0)?;
+    let mut shard = Shard::open(alloc, trace, pages, &home, seat)?;
     for command in commands {
         shard.do_command(trace, command);
     }
@@ -44,5 +46,7 @@ pub fn do_all(alloc: Global, trace: &Trace, pages: u32) -> Result<Finished, Allo
     a_report_has_its_lines();
     one_shard_answers_alone();
     logs_hold_the_answers();
-    Ok(shard.finish())
+    let (finished, seat) = shard.finish();
+    home.close(seat);
+    Ok(finished)
 }

@@ -4,6 +4,8 @@ use Rattle.layout.specs.Sizes.{segment_pages, ArePages}
 use Rattle.layout.specs.Extents.{extent}
 use Rattle.shard_memory.specs.Shards.{Shard}
 use Rattle.regions.specs.Segments.{RegionState}
+use Rattle.row_cache.specs.Rows.{CacheState, rows_of}
+use Rattle.reclaim.specs.Spaces.{SpaceState}
 use Rattle.regions.specs.Shapes.{Identity, shape, pieces, active_of, guards_of, held_count, free_count}
 
 -- the piece is a segment of the memory
@@ -17,18 +19,33 @@ pub record HoldsAll (memory : Shard) (region : RegionState) : Type 0 where
   pub apart : (m n : ℕ) (a b : Identity) → slice_get (pieces region) m ≡ Some (Some a) → slice_get (pieces region) n ≡ Some (Some b) → a.at ≡ b.at → m ≡ n
   pub count : held_count region ≡ length memory.segments
 
--- The region is made of the segments of the shard's memory, of which no block stays with the shard. No guard stands.
-pub record IsMadeOf (shard pages : ℕ) (memory : Shard) (region : RegionState) : Type 0 where
+-- The region is made of the segments of the shard's memory, of which no block stays with the shard. So many guards stand.
+pub record IsMadeOf (shard pages standing : ℕ) (memory : Shard) (region : RegionState) : Type 0 where
   pub owner : memory.owner ≡ shard
   pub size : memory.pages ≡ pages
   pub are_pages : ArePages pages
   pub blocks : memory.blocks ≡ []
   pub most : (shape region).most ≡ pages / segment_pages
   pub holds : HoldsAll memory region
-  pub guards : guards_of region ≡ 0
+  pub guards : guards_of region ≡ standing
 
 -- besides, a segment is active, and one is free
-pub record IsConsistent (shard pages : ℕ) (memory : Shard) (region : RegionState) : Type 0 where
-  pub made : IsMadeOf shard pages memory region
+pub record IsConsistent (shard pages standing : ℕ) (memory : Shard) (region : RegionState) : Type 0 where
+  pub made : IsMadeOf shard pages standing memory region
   pub active : IsSome (active_of region)
   pub free : 1 ≤ free_count region
+
+-- what callers see of both
+abbrev pub space_of : Shard → CacheState → SpaceState
+space_of memory cache = record {
+  shard = memory.owner;
+  pages = memory.pages;
+  room = cache.room;
+  rows = rows_of cache;
+  list = memory.list;
+  lent = memory.lent;
+  lends = memory.lends;
+  backs = memory.backs;
+  region = cache.region;
+  free = memory.room;
+}

@@ -4,7 +4,7 @@ ghost use Rattle.trace_text.specs.declared.command.Kind.{Kind as Kinds};
 ghost use Rattle.cache_model.specs.declared.entry.Entry.{Entry as Entries};
 ghost use Rattle.cache_model.specs.Row.{Row};
 ghost use Rattle.cache_model.specs.Apply as apply;
-ghost use Rattle.reclaim.specs.Spaces.{with_rows};
+ghost use Rattle.reclaim.specs.Spaces.{with_rows, IsUnguarded};
 ghost use Rattle.reclaim.specs.Works.{Records};
 
 use super::Space;
@@ -12,13 +12,14 @@ use cache_model::Entry;
 use run_log::Journal;
 use shard_rings::Ask;
 
-impl Space {
+impl<'f> Space<'f> {
     ghost use Rattle.std.specs.Borrow.{sem};
     ghost use Rattle.reclaim.specs.Lends.{EndsAs};
 
     /// The value of the key's row, which is the row used last from now on. None where no row has the key.
     pub fn get_here(&mut self, ask: &Ask<'_>, journal: &mut Journal) -> Option<&[u8]>
         requires kind { ask.now.kind ≡ Kinds.Get }
+        requires unguarded { IsUnguarded self.old }
         requires spare { 1 ≤ journal.old.spare }
         ensures value { MatchOption result (apply.row_of ask.now.key.now self.old.rows ≡ None) (λ value. (row : Row) × (apply.row_of ask.now.key.now self.old.rows ≡ Some row) × (value.now ≡ row.value)) }
         ensures* after { sem 𝓛 (EndsAs self.entry (λ s. s ≡ with_rows self.old (apply.get ask.now.key.now self.old.rows).0)) }

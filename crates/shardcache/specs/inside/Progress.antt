@@ -10,7 +10,14 @@ use Rattle.cache_model.specs.Spelled.{spelled}
 use Rattle.run_log.specs.JournalState.{JournalState}
 use Rattle.run_log.specs.Replies.{Replies}
 use Rattle.reclaim.specs.Spaces.{SpaceState}
-use Rattle.reclaim.specs.Works.{pressure}
+use Rattle.layout.specs.Sizes.{dense}
+use Rattle.regions.specs.Shapes.{guards_of}
+use Rattle.shard_memory.specs.Tickets.{tickets_out}
+use Rattle.cache_model.specs.Row.{tight_floor}
+
+-- the live bytes exceed this at each eviction of a shard that lends nothing
+abbrev pub pressure : ℕ → ℕ
+pressure pages = tight_floor pages 0 + dense
 
 abbrev pub puts_among : List Operation → ℕ
 puts_among operations = count_by (λ operation. is_put operation.kind) operations
@@ -22,6 +29,9 @@ most_of_bodies trace operations = sum_by (λ operation. most_of_body (longest_va
 -- The first k commands of the trace are done, on one shard.
 pub record HasDone (trace : Trace) (k : ℕ) (space : SpaceState) (journal : JournalState) (log : Replies) : Type 0 where
   pub within : k ≤ length trace.operations
+  -- no block is lent, and no guard stands
+  pub idle : tickets_out space.lent ≡ 0
+  pub unguarded : guards_of space.region ≡ 0
   -- the journal has them in order, leads to the rows, and evicts under pressure
   pub done : done journal.entries ≡ map (λ operation. operation.number) (take k trace.operations)
   pub leads : cache_after trace space.pages journal.entries ≡ Some space.rows

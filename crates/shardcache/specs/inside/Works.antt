@@ -1,12 +1,14 @@
 -- What a shard did with one command.
-use Rattle.std.specs.Prelude.{◌≡◌, ℕ, ◌+◌, ◌-◌, length, slice_set, Some}
+use Rattle.std.specs.Prelude.{◌≡◌, ℕ, ◌+◌, ◌-◌, ◌≤◌, length, slice_set, Some}
 use Rattle.trace_text.specs.Operation.{Operation}
 use Rattle.cache_model.specs.Apply.{Reply}
 use Rattle.cache_model.specs.Spelled.{spelled}
 use Rattle.run_log.specs.JournalState.{JournalState}
 use Rattle.run_log.specs.Replies.{Replies}
 use Rattle.reclaim.specs.Spaces.{SpaceState}
-use Rattle.reclaim.specs.Works.{StoresUnderPressure}
+use Rattle.shard_memory.specs.Tickets.{tickets_out}
+use Rattle.reclaim.specs.Works.{DoesAbove}
+use Rattle.shardcache.specs.inside.Progress.{pressure}
 
 -- the reply to a part was added to the log
 pub record Logs (part : ℕ) (reply : Reply) (old new : Replies) : Type 0 where
@@ -17,5 +19,6 @@ pub record Logs (part : ℕ) (reply : Reply) (old new : Replies) : Type 0 where
 -- the log has its reply.
 pub record DoesCommand (operation : Operation) (old new : SpaceState) (before after : JournalState) (log logged : Replies) : Type 0 where
   pub reply : Reply
-  pub works : StoresUnderPressure operation reply old new before after
+  pub works : DoesAbove (pressure old.pages) operation reply old new before after
+  pub out : tickets_out new.lent ≤ tickets_out old.lent
   pub logs : Logs (operation.number - 1) reply log logged

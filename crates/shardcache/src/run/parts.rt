@@ -6,6 +6,8 @@ ghost use Rattle.trace_text.specs.Parts.{is_put};
 ghost use Rattle.trace_text.specs.declared.command.Kind.TheVariants as kinds;
 ghost use Rattle.cache_model.specs.Apply.{apply};
 ghost use Rattle.cache_model.specs.Spelled.{spelled};
+ghost use Rattle.regions.specs.Shapes.{guards_of};
+ghost use Rattle.shard_memory.specs.Tickets.{tickets_out};
 ghost use Rattle.shard_rings.specs.Ask.{asked, IsAskable};
 ghost use Rattle.shardcache.specs.inside.Works.{DoesCommand};
 
@@ -18,7 +20,7 @@ use trace_text::Kind;
 /// Does what is asked: the command is recorded in the journal, behind the evictions that it took, and its reply in the log.
 /// `keys` has room for the keys of any scan. Nothing takes memory.
 pub fn do_part(
-    space: &mut Space,
+    space: &mut Space<'_>,
     ask: &Ask<'_>,
     keys: &mut [u8],
     journal: &mut Journal,
@@ -26,6 +28,8 @@ pub fn do_part(
 )
     requires askable { IsAskable (asked ask.now) }
     requires number { 1 ≤ ask.now.number }
+    requires unguarded { guards_of space.old.region ≡ 0 }
+    requires idle { tickets_out space.old.lent ≡ 0 }
     requires tables { is_put ask.now.kind ≡ true → length space.old.rows < space.old.room }
     requires spare { length space.old.rows + 1 ≤ journal.old.spare }
     requires buffer { length keys.old ≡ key_room * most_keys }
@@ -42,10 +46,13 @@ pub fn do_part(
 }
 
 /// Stores a row.
-fn do_put(space: &mut Space, ask: &Ask<'_>, journal: &mut Journal, log: &mut ReplyLog)
+#[tactic(auto, using(crate::proofs::Parts::put_does))]
+fn do_put(space: &mut Space<'_>, ask: &Ask<'_>, journal: &mut Journal, log: &mut ReplyLog)
     requires kind { ask.now.kind ≡ kinds.Put }
     requires askable { IsAskable (asked ask.now) }
     requires number { 1 ≤ ask.now.number }
+    requires unguarded { guards_of space.old.region ≡ 0 }
+    requires idle { tickets_out space.old.lent ≡ 0 }
     requires tables { length space.old.rows < space.old.room }
     requires spare { length space.old.rows + 1 ≤ journal.old.spare }
     requires unanswered { slice_get log.old.replies (ask.now.number - 1) ≡ Some None }
@@ -59,9 +66,10 @@ fn do_put(space: &mut Space, ask: &Ask<'_>, journal: &mut Journal, log: &mut Rep
 }
 
 /// Looks a row up. Its value is copied once, from its segment into the log.
-fn do_get(space: &mut Space, ask: &Ask<'_>, journal: &mut Journal, log: &mut ReplyLog)
+fn do_get(space: &mut Space<'_>, ask: &Ask<'_>, journal: &mut Journal, log: &mut ReplyLog)
     requires kind { ask.now.kind ≡ kinds.Get }
     requires number { 1 ≤ ask.now.number }
+    requires unguarded { guards_of space.old.region ≡ 0 }
     requires spare { 1 ≤ journal.old.spare }
     requires unanswered { slice_get log.old.replies (ask.now.number - 1) ≡ Some None }
     requires fits { length (spelled (apply (asked ask.now) space.old.rows).1).1 ≤ log.old.room }
@@ -74,9 +82,10 @@ fn do_get(space: &mut Space, ask: &Ask<'_>, journal: &mut Journal, log: &mut Rep
 }
 
 /// Removes a row.
-fn do_erase(space: &mut Space, ask: &Ask<'_>, journal: &mut Journal, log: &mut ReplyLog)
+fn do_erase(space: &mut Space<'_>, ask: &Ask<'_>, journal: &mut Journal, log: &mut ReplyLog)
     requires kind { ask.now.kind ≡ kinds.Erase }
     requires number { 1 ≤ ask.now.number }
+    requires unguarded { guards_of space.old.region ≡ 0 }
     requires spare { 1 ≤ journal.old.spare }
     requires unanswered { slice_get log.old.replies (ask.now.number - 1) ≡ Some None }
     ensures { DoesCommand (asked ask.now) space.old space.new journal.old journal.new log.old log.new }
@@ -91,7 +100,7 @@ fn do_erase(space: &mut Space, ask: &Ask<'_>, journal: &mut Journal, log: &mut R
 
 /// Looks keys up, and writes them into `keys` on their way into the log.
 fn do_scan(
-    space: &mut Space,
+    space: &mut Space<'_>,
     ask: &Ask<'_>,
     keys: &mut [u8],
     journal: &mut Journal,
@@ -100,6 +109,7 @@ fn do_scan(
     requires kind { ask.now.kind ≡ kinds.Scan }
     requires askable { IsAskable (asked ask.now) }
     requires number { 1 ≤ ask.now.number }
+    requires unguarded { guards_of space.old.region ≡ 0 }
     requires spare { 1 ≤ journal.old.spare }
     requires buffer { key_room * ask.now.count ≤ length keys.old }
     requires unanswered { slice_get log.old.replies (ask.now.number - 1) ≡ Some None }

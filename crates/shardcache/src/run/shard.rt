@@ -6,6 +6,9 @@ ghost use Rattle.trace_text.specs.Parsed.{AreNumbered, IsWellFormed, trace_in};
 ghost use Rattle.trace_text.specs.Reading.{most_commands};
 ghost use Rattle.cache_model.specs.Apply.{apply};
 ghost use Rattle.cache_model.specs.Row.{Row, live};
+ghost use Rattle.foreign_list.specs.OwnerSeats.{IsAtRest};
+ghost use Rattle.regions.specs.Shapes.{guards_of};
+ghost use Rattle.shard_memory.specs.Tickets.{tickets_out};
 ghost use Rattle.shard_rings.specs.Ask.{asked, on_no_line, IsAskable};
 ghost use Rattle.shardcache.specs.inside.Progress.{HasDone};
 
@@ -14,6 +17,7 @@ use super::parts::do_part;
 use cache_model::{
     a_journal_goes_on, bodies_have_room, evictions_are_counted, evictions_in_turn_are_legal,
 };
+use foreign_list::{Foreign, OwnerSeat};
 use layout::{KEY_ROOM, MOST_KEYS};
 use reclaim::Space;
 use run_log::{Journal, ReplyLog};
@@ -23,31 +27,42 @@ use trace_text::{Command, Trace};
 
 /// A shard's rows, what it wrote down so far, and the room for what it will write.
 #[derive(Drop)]
-pub struct Shard {
-    pub space: Space,
+pub struct Shard<'f> {
+    pub space: Space<'f>,
     pub journal: Journal,
     pub log: ReplyLog,
     /// Where the keys of a scan stand on their way into the log.
     pub keys: Vec<u8>,
 }
 
-impl Shard {
+impl<'f> Shard<'f> {
     /// The one shard of a trace, with so many pages. It takes all the memory that the trace will need, the space last, which only
     /// `finish` frees.
-    pub fn open(alloc: Global, trace: &Trace, pages: u32) -> Result<Shard, AllocError>
+    pub fn open(
+        alloc: Global,
+        trace: &Trace,
+        pages: u32,
+        home: &'f Foreign,
+        seat: OwnerSeat,
+    ) -> Result<Shard<'f>, AllocError>
         requires pages { ArePages pages }
+        requires owner { home.now.owner ≡ 0 }
+        requires seat { IsAtRest home.now seat }
         requires one_shard { trace.now.shards ≡ 1 }
         requires few { length trace.now.commands ≤ most_commands }
         requires well_formed { All IsWellFormed (trace_in trace.now).operations }
         ensures done { IfOk result (λ shard. HasDone (trace_in trace.now) 0 shard.space shard.journal shard.log) }
         ensures pages { IfOk result (λ shard. shard.space.pages ≡ pages) }
+        ensures list { IfOk result (λ shard. shard.space.list ≡ home.now) }
         ensures keys { IfOk result (λ shard. vec_len shard.keys ≡ key_room * most_keys) }
     {
         let needs = trace.needs(0, 1);
         let journal = Journal::new(alloc, needs.here_parts + needs.here_puts)?;
         let log = ReplyLog::new(alloc, needs.own_parts, needs.reply_bytes)?;
         let keys = vec![in alloc; 0; (KEY_ROOM * MOST_KEYS) as usize]?;
-        let space = Space::open(alloc, 0, pages, needs.here_puts)?;
+        let Ok(space) = Space::open(alloc, 0, pages, needs.here_puts, home, seat) else {
+            return Err(AllocError);
+        };
         Ok(Shard {
             space,
             journal,
@@ -65,6 +80,7 @@ impl Shard {
         requires keys { vec_len self.old.keys ≡ key_room * most_keys }
         ensures done { HasDone (trace_in trace.now) command.now.number self.new.space self.new.journal self.new.log }
         ensures pages { self.new.space.pages ≡ self.old.space.pages }
+        ensures list { self.new.space.list ≡ self.old.space.list }
         ensures keys { vec_len self.new.keys ≡ vec_len self.old.keys }
     {
         a_journal_goes_on();
@@ -76,12 +92,15 @@ impl Shard {
         do_part(space, &ask, self.keys.as_mut_slice(), journal, log);
     }
 
-    /// What the shard leaves. Its memory is given back.
-    pub fn finish(self) -> Finished
-        ensures journal { result.journal ≡ self.journal }
-        ensures log { result.log ≡ self.log }
-        ensures rows { result.rows ≡ length self.space.rows }
-        ensures live { result.live ≡ live self.space.rows }
+    /// What the shard leaves, and the seat at its list. Its memory is given back.
+    pub fn finish(self) -> (Finished, OwnerSeat)
+        requires idle { tickets_out self.space.lent ≡ 0 }
+        requires unguarded { guards_of self.space.region ≡ 0 }
+        ensures journal { result.0.journal ≡ self.journal }
+        ensures log { result.0.log ≡ self.log }
+        ensures rows { result.0.rows ≡ length self.space.rows }
+        ensures live { result.0.live ≡ live self.space.rows }
+        ensures seat { IsAtRest self.entry.space.list result.1 }
     {
         let Shard {
             space,
@@ -91,13 +110,14 @@ impl Shard {
         } = self;
         let rows = space.rows();
         let live = space.live();
-        space.finish();
-        Finished {
+        let seat = space.finish();
+        let finished = Finished {
             journal,
             log,
             rows,
             live,
-        }
+        };
+        (finished, seat)
     }
 }
 

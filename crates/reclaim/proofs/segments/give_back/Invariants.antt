@@ -1,9 +1,13 @@
 use Rattle.std.proofs.Common.{length}
 use Rattle.reclaim.specs.inside.Consistent.{IsMadeOf}
+use Rattle.reclaim.specs.inside.Homecoming.{SameTickets}
 use Rattle.reclaim.proofs.segments.give_back.Given as goal
 
 abbrev pub invariant-loop : goal.invariant-loop
-invariant-loop l = IsMadeOf l.memory.owner l.memory.pages l.memory l.cache.region
+invariant-loop l = record {
+  made : IsMadeOf l.memory.owner l.memory.pages 0 l.memory l.cache.region;
+  tickets : SameTickets l.fn.memory l.memory;
+}
 
 abbrev pub decreases-loop : goal.decreases-loop
 decreases-loop l = length l.memory.segments

@@ -27,6 +27,7 @@ pub loop-command-preserved : goal.loop-command-preserved
 loop-command-preserved c = record {
   done = rw (c.commands-commands.ensures.numbered c.loop-command.command-index _ c.loop-command-test.true) at c.do_command.ensures.done;
   pages = c.do_command.ensures.pages ∙ c.loop-command.invariant.pages;
+  list = c.do_command.ensures.list ∙ c.loop-command.invariant.list;
   keys = c.do_command.ensures.keys ∙ c.loop-command.invariant.keys;
 }
 

@@ -9,5 +9,6 @@ abbrev pub invariant-loop-command : goal.invariant-loop-command
 invariant-loop-command l = record {
   done : HasDone (trace_in l.trace) l.command-index l.shard.space l.shard.journal l.shard.log;
   pages : l.shard.space.pages ≡ l.pages;
+  list : l.shard.space.list ≡ l.home;
   keys : vec_len l.shard.keys ≡ key_room * most_keys;
 }

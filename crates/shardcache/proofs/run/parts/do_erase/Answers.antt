@@ -9,9 +9,9 @@ returns c =
     let did = c.erase_here.ensures in
     elim c.if-erase_here.branch [
       | then-erase_here w ↦
-          quiet_does _ _ _ _ _ _ _ _ _ (erased _ c.args.space.now.rows true c.requires.kind (sym did.found ∙ w.if-erase_here.true)) did.recorded did.rows
+          quiet_does _ _ _ _ _ _ _ _ _ (erased _ c.args.space.now.rows true c.requires.kind (sym did.found ∙ w.if-erase_here.true)) did.recorded did.rows did.same did.tickets.0
           (rw w.kind-is at c.record.ensures.replies) c.record.ensures.room
       | else-erase_here w ↦
-          quiet_does _ _ _ _ _ _ _ _ _ (erased _ c.args.space.now.rows false c.requires.kind (sym did.found ∙ w.if-erase_here.false)) did.recorded did.rows
+          quiet_does _ _ _ _ _ _ _ _ _ (erased _ c.args.space.now.rows false c.requires.kind (sym did.found ∙ w.if-erase_here.false)) did.recorded did.rows did.same did.tickets.0
           (rw w.kind-is at c.record.ensures.replies) c.record.ensures.room
     ]

@@ -47,3 +47,9 @@ do_part-requires-clause-fits c = fits (laws (goal.at.do_part-requires-clause-fit
 
 pub returns-clause-done : goal.returns-clause-done
 returns-clause-done c = more (laws (goal.at.returns-clause-done c).After-ask_of-ask) _ _ _ _ _ _ _ _ _ _ (next (goal.at.returns-clause-done c).After-ask_of-ask) c.do_part.ensures
+
+pub returns-clause-pages : goal.returns-clause-pages
+returns-clause-pages c = c.do_part.ensures.works.same.pages
+
+pub returns-clause-list : goal.returns-clause-list
+returns-clause-list c = c.do_part.ensures.works.same.list

@@ -1,0 +1,32 @@
+use Rattle.std.proofs.Common.{ap}
+use Rattle.shard_memory.specs.Shards.{Shard}
+use Rattle.reclaim.proofs.Holding.{consistent-same}
+use Rattle.reclaim.proofs.Homecoming.{takes-none}
+use Rattle.reclaim.proofs.giving.give_at_once.Goals as goal
+
+pub returns-clause-given : goal.returns-clause-given
+returns-clause-given c =
+    let e = c.in_ok-block.ensures in
+    record {
+      before = c.args.memory.now;
+      came = takes-none c.args.memory.now c.facts.ensures.backs;
+      gives = record {
+        owner = ap (λ (s : Shard). s.owner) e.same;
+        pages = ap (λ (s : Shard). s.pages) e.same;
+        list = ap (λ (s : Shard). s.list) e.same;
+        of_share = e.ticket.of_share;
+        idle = e.ticket.idle;
+        lent = e.lent;
+        lends = e.lends;
+        backs = ap (λ (s : Shard). s.backs) e.same;
+        of_list = e.fresh.list_is;
+        mine = e.mine.1;
+        fresh = e.fresh.none_seen;
+        zeros = e.zeros;
+      };
+    }
+
+pub returns-clause-consistent : goal.returns-clause-consistent
+returns-clause-consistent c shard pages standing region h =
+    let same = c.in_ok-block.ensures.same in
+    consistent-same shard pages standing c.args.memory.now c.give.new.self region (ap (λ (s : Shard). s.home) same) (ap (λ (s : Shard). s.owner) same) (ap (λ (s : Shard). s.pages) same) (ap (λ (s : Shard). s.blocks) same) (ap (λ (s : Shard). s.segments) same) h

@@ -1,0 +1,4 @@
+use Rattle.reclaim.proofs.giving.give_uncompacted.Goals as goal
+
+pub returns-in-Err-clause-consistent : goal.returns-in-Err-clause-consistent
+returns-in-Err-clause-consistent c shard pages standing h = c.give_squeezed.ensures.consistent shard pages standing (c.give_at_once.ensures.consistent shard pages standing c.args.cache.now.region h)

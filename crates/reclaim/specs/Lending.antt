@@ -1,0 +1,60 @@
+-- The blocks that a space lends and that come home to it.
+use Rattle.std.specs.Prelude.{◌≡◌, ℕ, ◌+◌, ◌*◌, ◌≤◌, ◌<◌, Option, Some, None, slice_set, length}
+use Rattle.layout.specs.Sizes.{greatest_block, key_room}
+use Rattle.trace_text.specs.declared.command.Kind.{Kind}
+use Rattle.trace_text.specs.declared.command.Kind.TheVariants as kinds
+use Rattle.trace_text.specs.Operation.{Operation}
+use Rattle.cache_model.specs.Row.{Row}
+use Rattle.foreign_list.specs.Blocks.{Block, piece_id_of}
+use Rattle.regions.specs.Shapes.{free_count}
+use Rattle.shard_memory.specs.Room.{LacksBlock}
+use Rattle.shard_memory.specs.Tickets.{Tickets, IsOfShare, IsIdle, HasIdle, BecomeIdle, tickets_out, raised}
+use Rattle.shard_memory.specs.declared.share.Share.{Share}
+use Rattle.shard_memory.specs.declared.give_refusal.GiveRefusal.{GiveRefusal}
+use Rattle.shard_memory.specs.declared.give_refusal.GiveRefusal.TheVariants.{TooLarge, NoTicket, NoSpan}
+use Rattle.reclaim.specs.Spaces.{SpaceState}
+
+-- some tickets became idle, and no other one changed; so many more blocks are home
+pub record ComeHome (lent now : Tickets) (counted counted_now : ℕ) : Type 0 where
+  pub count : ℕ
+  pub idle : BecomeIdle lent now
+  pub out : tickets_out now + count ≡ tickets_out lent
+  pub backs : counted_now ≡ raised counted count
+
+-- blocks may have come home, and none was lent
+pub record TakesBack (old new : SpaceState) : Type 0 where
+  pub home : ComeHome old.lent new.lent old.backs new.backs
+  pub lends : new.lends ≡ old.lends
+
+-- A block was lent with a ticket of the share, which was idle or had come home in the call. Others may have come home before it
+-- was lent, and behind it.
+pub record LendsBlock (share : Share) (old new : SpaceState) (block : Block) : Type 0 where
+  pub before : Tickets
+  pub backs : ℕ
+  pub came : ComeHome old.lent before old.backs backs
+  pub of_share : IsOfShare share block.ticket
+  pub idle : IsIdle before block.ticket
+  pub behind : ComeHome (slice_set before block.ticket (Some (piece_id_of block.piece))) new.lent backs new.backs
+  pub lends : new.lends ≡ raised old.lends 1
+  pub list : block.list ≡ old.list.id
+  pub owner : block.piece.owner ≡ old.shard
+  pub fresh : block.seen ≡ 0
+
+-- why no block is given: it is larger than the greatest class; no ticket of the share is idle; or there is no room for it, and no
+-- segment is free that could be given back
+abbrev pub RefusesNow : SpaceState → SpaceState → ℕ → Share → GiveRefusal → Type 0
+RefusesNow old new size share TooLarge = greatest_block < size
+RefusesNow old new size share NoTicket = (size ≤ greatest_block) × ¬ HasIdle old.lent share
+RefusesNow old new size share NoSpan = (size ≤ greatest_block) × HasIdle old.lent share × LacksBlock new.free size × (free_count new.region ≤ 1)
+
+-- the length of the value that is found
+abbrev pub value_length : Option Row → ℕ
+value_length None = 0
+value_length (Some row) = length row.value
+
+-- how many bytes of a reply's block its body has: for a get the length that is found first, for a scan room for each key
+abbrev pub body_size : Kind → Operation → Option Row → ℕ
+body_size kinds.Get operation found = value_length found
+body_size kinds.Scan operation found = key_room * operation.count
+body_size kinds.Put operation found = 0
+body_size kinds.Erase operation found = 0

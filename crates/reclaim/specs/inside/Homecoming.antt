@@ -1,0 +1,58 @@
+-- What a shard's memory lent, and what came home to it.
+use Rattle.std.specs.Prelude.{◌≡◌, ℕ, ◌<◌, ◌≤◌, Some, slice_set, replicate}
+use Rattle.layout.specs.Sizes.{greatest_block}
+use Rattle.foreign_list.specs.Blocks.{Block, piece_id_of}
+use Rattle.regions.specs.Segments.{RegionState}
+use Rattle.regions.specs.Shapes.{free_count}
+use Rattle.shard_memory.specs.Room.{LacksBlock}
+use Rattle.shard_memory.specs.Shards.{Shard, IsCrowded}
+use Rattle.shard_memory.specs.Tickets.{IsOfShare, IsIdle, HasIdle, raised}
+use Rattle.shard_memory.specs.declared.share.Share.{Share}
+use Rattle.shard_memory.specs.declared.give_refusal.GiveRefusal.{GiveRefusal}
+use Rattle.shard_memory.specs.declared.give_refusal.GiveRefusal.TheVariants.{TooLarge, NoTicket, NoSpan}
+use Rattle.reclaim.specs.Lending.{ComeHome}
+
+-- the memory is of the same shard, and over the same list; nothing was lent, and nothing came home
+pub record SameTickets (old new : Shard) : Type 0 where
+  pub owner : new.owner ≡ old.owner
+  pub pages : new.pages ≡ old.pages
+  pub list : new.list ≡ old.list
+  pub lent : new.lent ≡ old.lent
+  pub lends : new.lends ≡ old.lends
+  pub backs : new.backs ≡ old.backs
+
+-- nothing was lent
+pub record TakesHome (old new : Shard) : Type 0 where
+  pub owner : new.owner ≡ old.owner
+  pub pages : new.pages ≡ old.pages
+  pub list : new.list ≡ old.list
+  pub home : ComeHome old.lent new.lent old.backs new.backs
+  pub lends : new.lends ≡ old.lends
+
+-- the block of so many bytes, all 0, was lent, and nothing else
+pub record Gives (share : Share) (size : ℕ) (old new : Shard) (block : Block) : Type 0 where
+  pub owner : new.owner ≡ old.owner
+  pub pages : new.pages ≡ old.pages
+  pub list : new.list ≡ old.list
+  pub of_share : IsOfShare share block.ticket
+  pub idle : IsIdle old.lent block.ticket
+  pub lent : new.lent ≡ slice_set old.lent block.ticket (Some (piece_id_of block.piece))
+  pub lends : new.lends ≡ raised old.lends 1
+  pub backs : new.backs ≡ old.backs
+  pub of_list : block.list ≡ old.list.id
+  pub mine : block.piece.owner ≡ old.owner
+  pub fresh : block.seen ≡ 0
+  pub zeros : block.piece.bytes ≡ replicate size 0
+
+-- the same, once others had come home
+pub record GivesAfter (share : Share) (size : ℕ) (old new : Shard) (block : Block) : Type 0 where
+  pub before : Shard
+  pub came : TakesHome old before
+  pub gives : Gives share size before new block
+
+-- why no block is given of this memory, for a cache in these segments
+abbrev pub RefusesAfter : Shard → Shard → RegionState → ℕ → Share → GiveRefusal → Type 0
+RefusesAfter old new region size share TooLarge = greatest_block < size
+RefusesAfter old new region size share NoTicket = (size ≤ greatest_block) × ¬ HasIdle old.lent share
+RefusesAfter old new region size share NoSpan =
+    (size ≤ greatest_block) × HasIdle old.lent share × LacksBlock new.room size × (free_count region ≤ 1) × TakesHome old new × IsCrowded new

@@ -1,0 +1,265 @@
+//! How a block is given that goes to another shard.
+ghost use Rattle.std.specs.Prelude.{◌≡◌, ◌≢◌, ℕ, ◌+◌, ◌<◌, ◌≤◌, length, IfOk, IfErr, IfSome, IfNone};
+ghost use Rattle.layout.specs.Sizes.{greatest_block};
+ghost use Rattle.cache_model.specs.Row.{live};
+ghost use Rattle.shard_memory.specs.Room.{LacksBlock, HasAllRoom, IsTrimmed};
+ghost use Rattle.shard_memory.specs.Shards.{Shard, IsCrowded};
+ghost use Rattle.shard_memory.specs.Tickets.{HasIdle};
+ghost use Rattle.shard_memory.specs.Refusals.{RefusesFor};
+ghost use Rattle.regions.specs.Segments.{RegionState};
+ghost use Rattle.regions.specs.Shapes.{free_count};
+ghost use Rattle.compaction.specs.Sparse.{IsCompacted};
+ghost use Rattle.row_cache.specs.Rows.{rows_of, Stay};
+ghost use Rattle.reclaim.specs.Works.{floor_of};
+ghost use Rattle.reclaim.specs.inside.Consistent.{IsConsistent};
+ghost use Rattle.reclaim.specs.inside.Evicted.{HasEvicted};
+ghost use Rattle.reclaim.specs.inside.Homecoming.{TakesHome, GivesAfter, RefusesAfter};
+
+use crate::evicting::evict;
+use crate::segments::give_free_back;
+use cache_model::evictions_are_counted;
+use compaction::a_compacted_region_is_full;
+use foreign_list::ForeignBlock;
+use row_cache::{Compacted, RowCache};
+use run_log::Journal;
+use shard_memory::{GiveRefusal, Share, ShardMemory};
+
+// Gives a block of so many bytes, for which a ticket of the share is idle. Where there is no room for it otherwise, the rows that
+// were used longest ago go, one by one.
+pub(crate) fn find_block<'f>(
+    memory: &mut ShardMemory<'f>,
+    cache: &mut RowCache,
+    size: u32,
+    share: Share,
+    journal: &mut Journal,
+) -> ForeignBlock<'f>
+    requires some { 1 ≤ size }
+    requires most { size ≤ greatest_block }
+    requires idle { HasIdle memory.old.lent share }
+    requires consistent { IsConsistent memory.old.owner memory.old.pages 0 memory.old cache.old.region }
+    requires spare { length (rows_of cache.old) ≤ journal.old.spare }
+    ensures given { GivesAfter share size memory.old memory.new result }
+    ensures evicted { HasEvicted (floor_of memory.old.pages memory.old.lent) (rows_of cache.old) (rows_of cache.new) journal.old journal.new }
+    ensures spare { journal.new.spare + length (rows_of cache.old) ≡ journal.old.spare + length (rows_of cache.new) }
+    ensures consistent { IsConsistent memory.old.owner memory.old.pages 0 memory.new cache.new.region }
+    ensures tables { cache.new.room ≡ cache.old.room }
+{
+    evictions_are_counted();
+    let mut found = find_room_for(memory, cache, size, share);
+    while found.is_none() {
+        evict(cache, journal);
+        found = find_room_for(memory, cache, size, share);
+    }
+    found.unwrap()
+}
+
+// Gives a block without an eviction. None where nothing is left but to evict.
+fn find_room_for<'f>(
+    memory: &mut ShardMemory<'f>,
+    cache: &mut RowCache,
+    size: u32,
+    share: Share,
+) -> Option<ForeignBlock<'f>>
+    requires some { 1 ≤ size }
+    requires most { size ≤ greatest_block }
+    requires idle { HasIdle memory.old.lent share }
+    requires consistent { IsConsistent memory.old.owner memory.old.pages 0 memory.old cache.old.region }
+    ensures given { IfSome result (GivesAfter share size memory.old memory.new) }
+    ensures taken { IfNone result (TakesHome memory.old memory.new) }
+    ensures pressed { IfNone result (floor_of memory.old.pages memory.old.lent < live (rows_of cache.new)) }
+    ensures consistent { IsConsistent memory.old.owner memory.old.pages 0 memory.new cache.new.region }
+    ensures rows { rows_of cache.new ≡ rows_of cache.old }
+    ensures tables { cache.new.room ≡ cache.old.room }
+{
+    memory.facts();
+    a_compacted_region_is_full();
+    match give_uncompacted(memory, cache, size, share) {
+        Some(block) => Some(block),
+        None => {
+            let found = give_compacted(memory, cache, size, share);
+            cache.facts();
+            found
+        }
+    }
+}
+
+// Compaction frees a segment, which goes back to the pages, and the block is given. None where no closed segment is sparse.
+fn give_compacted<'f>(
+    memory: &mut ShardMemory<'f>,
+    cache: &mut RowCache,
+    size: u32,
+    share: Share,
+) -> Option<ForeignBlock<'f>>
+    requires some { 1 ≤ size }
+    requires most { size ≤ greatest_block }
+    requires idle { HasIdle memory.old.lent share }
+    requires consistent { IsConsistent memory.old.owner memory.old.pages 0 memory.old cache.old.region }
+    ensures given { IfSome result (GivesAfter share size memory.old memory.new) }
+    ensures unchanged { IfNone result (memory.new ≡ memory.old) }
+    ensures compacted { IfNone result (IsCompacted cache.new.region) }
+    ensures consistent { IsConsistent memory.old.owner memory.old.pages 0 memory.new cache.new.region }
+    ensures rows { rows_of cache.new ≡ rows_of cache.old }
+    ensures tables { cache.new.room ≡ cache.old.room }
+{
+    if cache.compact() != Compacted::Freed {
+        return None;
+    }
+    give_freed(memory, cache, size, share)
+}
+
+// Gives a block; where there is no room for it, once the blocks that came home and the spans without an object are back in the
+// pages; and then once a segment is back that is free besides the last one.
+pub(crate) fn give_now<'f>(
+    memory: &mut ShardMemory<'f>,
+    cache: &mut RowCache,
+    size: u32,
+    share: Share,
+) -> Result<ForeignBlock<'f>, GiveRefusal>
+    requires some { 1 ≤ size }
+    requires consistent { (guards : ℕ) × IsConsistent memory.old.owner memory.old.pages guards memory.old cache.old.region }
+    ensures given { IfOk result (GivesAfter share size memory.old memory.new) }
+    ensures refused { IfErr result (RefusesAfter memory.old memory.new cache.new.region size share) }
+    ensures unchanged { IfErr result (λ refusal. (refusal ≢ GiveRefusal.NoSpan → memory.new ≡ memory.old) × (cache.new ≡ cache.old)) }
+    ensures consistent { (shard pages guards : ℕ) → IsConsistent shard pages guards memory.old cache.old.region → IsConsistent shard pages guards memory.new cache.new.region }
+    ensures stay { Stay cache.old.region cache.new.region }
+    ensures rows { rows_of cache.new ≡ rows_of cache.old }
+    ensures tables { cache.new.room ≡ cache.old.room }
+{
+    match give_at_once(memory, size, share) {
+        Ok(block) => Ok(block),
+        Err(GiveRefusal::NoSpan) => {
+            give_squeezed(memory, cache, size, share).ok_or(GiveRefusal::NoSpan)
+        }
+        Err(refusal) => Err(refusal),
+    }
+}
+
+// The same, where a ticket is idle and the size is that of a block.
+fn give_uncompacted<'f>(
+    memory: &mut ShardMemory<'f>,
+    cache: &mut RowCache,
+    size: u32,
+    share: Share,
+) -> Option<ForeignBlock<'f>>
+    requires some { 1 ≤ size }
+    requires most { size ≤ greatest_block }
+    requires idle { HasIdle memory.old.lent share }
+    requires consistent { (guards : ℕ) × IsConsistent memory.old.owner memory.old.pages guards memory.old cache.old.region }
+    ensures given { IfSome result (GivesAfter share size memory.old memory.new) }
+    ensures none { IfNone result (TakesHome memory.old memory.new × IsCrowded memory.new) }
+    ensures consistent { (shard pages guards : ℕ) → IsConsistent shard pages guards memory.old cache.old.region → IsConsistent shard pages guards memory.new cache.new.region }
+    ensures rows { rows_of cache.new ≡ rows_of cache.old }
+    ensures tables { cache.new.room ≡ cache.old.room }
+{
+    match give_at_once(memory, size, share) {
+        Ok(block) => Some(block),
+        Err(_) => give_squeezed(memory, cache, size, share),
+    }
+}
+
+// The same, where there was no room at once.
+fn give_squeezed<'f>(
+    memory: &mut ShardMemory<'f>,
+    cache: &mut RowCache,
+    size: u32,
+    share: Share,
+) -> Option<ForeignBlock<'f>>
+    requires some { 1 ≤ size }
+    requires most { size ≤ greatest_block }
+    requires idle { HasIdle memory.old.lent share }
+    requires consistent { (guards : ℕ) × IsConsistent memory.old.owner memory.old.pages guards memory.old cache.old.region }
+    ensures given { IfSome result (GivesAfter share size memory.old memory.new) }
+    ensures none { IfNone result (RefusesAfter memory.old memory.new cache.new.region size share GiveRefusal.NoSpan) }
+    ensures unchanged { IfNone result (cache.new ≡ cache.old) }
+    ensures consistent { (shard pages guards : ℕ) → IsConsistent shard pages guards memory.old cache.old.region → IsConsistent shard pages guards memory.new cache.new.region }
+    ensures stay { Stay cache.old.region cache.new.region }
+    ensures rows { rows_of cache.new ≡ rows_of cache.old }
+    ensures tables { cache.new.room ≡ cache.old.room }
+{
+    match give_trimmed(memory, size, share) {
+        Some(block) => Some(block),
+        None => give_freed(memory, cache, size, share),
+    }
+}
+
+// Gives a block, once the blocks that came home and the spans without an object are back in the pages. None where there is no
+// room for it.
+fn give_trimmed<'f>(
+    memory: &mut ShardMemory<'f>,
+    size: u32,
+    share: Share,
+) -> Option<ForeignBlock<'f>>
+    requires some { 1 ≤ size }
+    requires most { size ≤ greatest_block }
+    requires idle { HasIdle memory.old.lent share }
+    ensures given { IfSome result (GivesAfter share size memory.old memory.new) }
+    ensures taken { IfNone result (TakesHome memory.old memory.new) }
+    ensures none { IfNone result (LacksBlock memory.new.room size × IsCrowded memory.new) }
+    ensures consistent { (shard pages guards : ℕ) (region : RegionState) → IsConsistent shard pages guards memory.old region → IsConsistent shard pages guards memory.new region }
+{
+    memory.take_back();
+    memory.trim();
+    match give_at_once(memory, size, share) {
+        Ok(block) => Some(block),
+        Err(_) => None,
+    }
+}
+
+// A segment that is free besides the last one goes back to the pages, and the block is given. None where only one is free; then
+// nothing changed.
+fn give_freed<'f>(
+    memory: &mut ShardMemory<'f>,
+    cache: &mut RowCache,
+    size: u32,
+    share: Share,
+) -> Option<ForeignBlock<'f>>
+    requires some { 1 ≤ size }
+    requires most { size ≤ greatest_block }
+    requires idle { HasIdle memory.old.lent share }
+    requires consistent { (guards : ℕ) × IsConsistent memory.old.owner memory.old.pages guards memory.old cache.old.region }
+    ensures given { IfSome result (GivesAfter share size memory.old memory.new) }
+    ensures none { IfNone result (free_count cache.new.region ≤ 1) }
+    ensures unchanged { IfNone result ((memory.new ≡ memory.old) × (cache.new ≡ cache.old)) }
+    ensures consistent { (shard pages guards : ℕ) → IsConsistent shard pages guards memory.old cache.old.region → IsConsistent shard pages guards memory.new cache.new.region }
+    ensures stay { Stay cache.old.region cache.new.region }
+    ensures rows { rows_of cache.new ≡ rows_of cache.old }
+    ensures tables { cache.new.room ≡ cache.old.room }
+{
+    if !give_free_back(memory, cache) {
+        return None;
+    }
+    Some(give_surely(memory, size, share))
+}
+
+// Gives a block where there is room for each.
+fn give_surely<'f>(memory: &mut ShardMemory<'f>, size: u32, share: Share) -> ForeignBlock<'f>
+    requires some { 1 ≤ size }
+    requires most { size ≤ greatest_block }
+    requires idle { HasIdle memory.old.lent share }
+    requires room { HasAllRoom memory.old.room }
+    ensures given { GivesAfter share size memory.old memory.new result }
+    ensures consistent { (shard pages guards : ℕ) (region : RegionState) → IsConsistent shard pages guards memory.old region → IsConsistent shard pages guards memory.new region }
+{
+    let Ok(block) = give_at_once(memory, size, share) else {
+        unreachable!()
+    };
+    block
+}
+
+// Gives a block of what is free now.
+fn give_at_once<'f>(
+    memory: &mut ShardMemory<'f>,
+    size: u32,
+    share: Share,
+) -> Result<ForeignBlock<'f>, GiveRefusal>
+    requires { 1 ≤ size }
+    ensures given { IfOk result (GivesAfter share size memory.old memory.new) }
+    ensures refused { IfErr result (RefusesFor memory.old share size) }
+    ensures crowded { IfErr result (λ refusal. refusal ≡ GiveRefusal.NoSpan → IsTrimmed memory.old.room → IsCrowded memory.old) }
+    ensures unchanged { IfErr result (λ _. memory.new ≡ memory.old) }
+    ensures consistent { (shard pages guards : ℕ) (region : RegionState) → IsConsistent shard pages guards memory.old region → IsConsistent shard pages guards memory.new region }
+{
+    memory.facts();
+    let block = memory.give(size, share)?;
+    Ok(block)
+}

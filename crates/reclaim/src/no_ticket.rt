@@ -1,0 +1,3 @@
+/// No ticket of the share is idle.
+#[derive(Clone, Copy, Debug, PartialEq, Eq)]
+pub struct NoTicket;

@@ -1,0 +1,112 @@
+//! The blocks that a space lends, and the guards under which places stay.
+ghost use Rattle.std.specs.Prelude.{◌≡◌, ◌≢◌, ◌⊎◌, ◌↔◌, ◌+◌, ◌-◌, ◌<◌, ◌≤◌, length, replicate, Some, None, IfOk, IfErr, IsSome, IsTrue, MatchOption};
+ghost use Rattle.layout.specs.Sizes.{tickets};
+ghost use Rattle.cache_model.specs.Row.{Row};
+ghost use Rattle.cache_model.specs.Apply as apply;
+ghost use Rattle.regions.specs.Contents.{live_at};
+ghost use Rattle.regions.specs.Shapes.{guards_of};
+ghost use Rattle.row_cache.specs.Rows.{StandsAt};
+ghost use Rattle.shard_memory.specs.Tickets.{HasIdle, tickets_out, raised};
+ghost use Rattle.reclaim.specs.Spaces.{IsSameSpace, RowsStay, with_guards};
+ghost use Rattle.reclaim.specs.Lending.{TakesBack, LendsBlock, RefusesNow};
+
+use super::Space;
+use crate::giving::give_now;
+use foreign_list::ForeignBlock;
+use regions::Place;
+use shard_memory::{GiveRefusal, Share};
+
+impl<'f> Space<'f> {
+    /// What holds of a space at each time.
+    pub fn facts(&self)
+        ensures owner { self.now.shard ≡ self.now.list.owner }
+        ensures tickets { length self.now.lent ≡ tickets }
+        ensures lends { self.now.lends ≡ raised self.now.backs (tickets_out self.now.lent) }
+    {
+        self.memory.facts();
+    }
+
+    /// Lends a block of so many bytes, all of them 0, with an idle ticket of the share. Where there is no room for it, lent blocks
+    /// that were released come home first, and then a segment goes back to the pages that is free besides the last one. Nothing is
+    /// moved and no row goes, so it may be called under a guard.
+    ///
+    /// # Errors
+    /// `TooLarge` above 16,384 bytes, and `NoTicket` where no ticket of the share is idle; then nothing changed. `NoSpan` where there
+    /// is no room after that.
+    pub fn give_now(&mut self, size: u32, share: Share) -> Result<ForeignBlock<'f>, GiveRefusal>
+        requires { 1 ≤ size }
+        ensures refused { IfErr result (RefusesNow self.old self.new size share) }
+        ensures unchanged { IfErr result (λ refusal. refusal ≢ GiveRefusal.NoSpan → self.new ≡ self.old) }
+        ensures taken { IfErr result (λ refusal. refusal ≡ GiveRefusal.NoSpan → TakesBack self.old self.new) }
+        ensures lends { IfOk result (LendsBlock share self.old self.new) }
+        ensures zeros { IfOk result (λ block. block.piece.bytes ≡ replicate size 0) }
+        ensures rows { self.new.rows ≡ self.old.rows }
+        ensures stay { RowsStay self.old self.new }
+        ensures same { IsSameSpace self.old self.new }
+    {
+        let (memory, cache) = (&mut self.memory, &mut self.cache);
+        give_now(memory, cache, size, share)
+    }
+
+    /// Takes back each lent block that was released, by one look at the list. Answers how many came home.
+    pub fn take_back(&mut self) -> u32
+        ensures taken { TakesBack self.old self.new }
+        ensures count { tickets_out self.new.lent + result ≡ tickets_out self.old.lent }
+        ensures same { self.new ≡ record self.old { lent = self.new.lent; backs = self.new.backs; free = self.new.free } }
+    {
+        self.memory.take_back()
+    }
+
+    /// Whether a ticket of the share is idle.
+    pub fn is_idle(&self, share: Share) -> bool
+        ensures { IsTrue result ↔ HasIdle self.now.lent share }
+    {
+        self.memory.is_idle(share)
+    }
+
+    /// How many blocks were lent. It stands at the greatest u64.
+    pub fn lent(&self) -> u64
+        ensures { result ≡ self.now.lends }
+    {
+        self.memory.lent()
+    }
+
+    /// How many blocks came home. It stands at the greatest u64.
+    pub fn back(&self) -> u64
+        ensures { result ≡ self.now.backs }
+    {
+        self.memory.back()
+    }
+
+    /// One guard more. While one stands, what stands at a place stays there. Guards nest.
+    pub fn guard(&mut self)
+        requires { guards_of self.old.region < 1000000 }
+        ensures { self.new ≡ with_guards self.old (guards_of self.old.region + 1) }
+    {
+        self.cache.guard();
+    }
+
+    /// One guard less.
+    pub fn unguard(&mut self)
+        requires { 1 ≤ guards_of self.old.region }
+        ensures { self.new ≡ with_guards self.old (guards_of self.old.region - 1) }
+    {
+        self.cache.unguard();
+    }
+
+    /// Where the row of a key stands. None where no row has the key.
+    pub fn place_of(&self, key: &[u8]) -> Option<Place>
+        ensures { MatchOption result (apply.row_of key.now self.now.rows ≡ None) (λ place. (row : Row) × (apply.row_of key.now self.now.rows ≡ Some row) × StandsAt self.now.region place row × IsSome (live_at self.now.region place)) }
+    {
+        self.cache.place_of(key)
+    }
+
+    /// The value of the row at a place, live, or dead under a guard.
+    pub fn value_at(&self, place: Place) -> &[u8]
+        requires row { (row : Row) × StandsAt self.now.region place row }
+        requires live { IsSome (live_at self.now.region place) ⊎ (1 ≤ guards_of self.now.region) }
+        ensures { (row : Row) × StandsAt self.now.region place row × (result.now ≡ row.value) }
+    {
+        self.cache.value_at(place)
+    }
+}
