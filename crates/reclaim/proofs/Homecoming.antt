@@ -1,11 +1,11 @@
 -- Blocks that come home, one call after another.
-use Rattle.std.proofs.Common.{◌≡◌, ◌⊎◌, inl, inr, ℕ, suc, ◌+◌, ◌<◌, ◌≤◌, ◌^◌, Bool, true, false, cond, List, [], ◌∷◌, length, refl, sym, ap, ◌∙◌, subst, arith}
-use Rattle.std.specs.Prelude.{Option, None, Some, slice_get, slice_set, is_some, count_by, min, All, IsNone, IfSome, IfNone, Result, Ok, Err, IfOk}
+use Rattle.std.proofs.Common.{◌≡◌, inl, inr, ℕ, suc, ◌+◌, ◌<◌, ◌≤◌, ◌^◌, true, false, cond, List, [], ◌∷◌, length, refl, sym, ap, ◌∙◌, subst, arith}
+use Rattle.std.specs.Prelude.{Option, None, Some, slice_get, slice_set, is_some, All, IsNone, IfSome, IfNone, Result, Ok, Err, IfOk}
 use Rattle.std.proofs.lemmas.List.Sums.{sum_by-cons}
 use Rattle.foreign_list.specs.declared.piece_id.PieceId.{PieceId}
 use Rattle.foreign_list.specs.Blocks.{Block}
 use Rattle.shard_memory.specs.Shards.{Shard, ComeBack}
-use Rattle.shard_memory.specs.Tickets.{Tickets, IsIdle, HasIdle, BecomeIdle, tickets_out, raised}
+use Rattle.shard_memory.specs.Tickets.{Tickets, HasIdle, BecomeIdle, tickets_out, raised}
 use Rattle.shard_memory.specs.declared.share.Share.{Share}
 use Rattle.foreign_list.specs.Lists.{OwnedList}
 use Rattle.row_cache.specs.Rows.{CacheState}

@@ -1,10 +1,10 @@
 -- What the live bytes exceed where nothing is left but to evict.
-use Rattle.std.proofs.Common.{◌≡◌, ℕ, ◌+◌, ◌-◌, ◌*◌, ◌/◌, ◌<◌, ◌≤◌, [], length, sym, ap, ◌∙◌, subst, arith}
+use Rattle.std.proofs.Common.{◌≡◌, ℕ, ◌+◌, ◌-◌, ◌*◌, ◌/◌, ◌<◌, ◌≤◌, length, sym, ap, ◌∙◌, subst, arith}
 use Rattle.layout.specs.Sizes.{dense, segment_pages, ArePages, tickets}
 use Rattle.regions.specs.Segments.{RegionState}
 use Rattle.regions.specs.Shapes.{held_count}
 use Rattle.shard_memory.specs.Shards.{Shard, IsCrowded}
-use Rattle.shard_memory.specs.Tickets.{Tickets, tickets_out}
+use Rattle.shard_memory.specs.Tickets.{tickets_out}
 use Rattle.reclaim.specs.Works.{floor_of, pressure}
 use Rattle.reclaim.specs.inside.Consistent.{IsMadeOf}
 use Rattle.reclaim.specs.inside.Homecoming.{TakesHome}

@@ -2,3 +2,4 @@
 pub mod Consistent
 pub mod Evicted
 pub mod Homecoming
+pub mod Replied

@@ -11,6 +11,7 @@ mod evicting;
 mod giving;
 mod making_room;
 mod no_ticket;
+mod replying;
 mod segments;
 mod space;
 mod storing;

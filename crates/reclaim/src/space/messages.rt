@@ -16,7 +16,8 @@ ghost use Rattle.reclaim.specs.Lending.{LendsBlock, body_size};
 use super::Space;
 use crate::giving::find_block;
 use crate::no_ticket::NoTicket;
-
+use crate::replying::{reply, reply_size};
+use cache_model::evictions_are_counted;
 use foreign_list::ForeignBlock;
 use run_log::Journal;
 use shard_memory::Share;
@@ -48,6 +49,44 @@ impl<'f> Space<'f> {
         let (memory, cache) = (&mut self.memory, &mut self.cache);
         let mut block = find_block(memory, cache, request_size(ask), Share::Request, journal);
         write_request(ask, block.bytes_mut());
+        Ok(block)
+    }
+
+    /// Does what another shard asks, and lends a block with the reply. The block is made first, and what is looked up is found again
+    /// behind that: making the block may move the row, or make it go. Where there is no room otherwise, the rows that were used
+    /// longest ago go, one by one, and the journal has an entry for each; then it has one that the command is done.
+    ///
+    /// The block has 16 bytes, and for a get the length that was found first behind them, for a scan room for so many keys of the
+    /// greatest length.
+    ///
+    /// # Errors
+    /// `NoTicket` where no ticket for replies is idle. Nothing changed.
+    pub fn reply_block(
+        &mut self,
+        ask: &Ask<'_>,
+        journal: &mut Journal,
+    ) -> Result<ForeignBlock<'f>, NoTicket>
+        requires askable { IsAskable (asked ask.now) }
+        requires unguarded { IsUnguarded self.old }
+        requires room { ask.now.kind ≡ Kinds.Put → (apply.has ask.now.key.now self.old.rows ≡ true) ⊎ (length self.old.rows < self.old.room) }
+        requires spare { length self.old.rows + 1 ≤ journal.old.spare }
+        ensures none { IsErr result ↔ ¬ HasIdle self.old.lent Shares.Reply }
+        ensures unchanged { IfErr result (λ _. (self.new ≡ self.old) × (journal.new ≡ journal.old)) }
+        ensures replied { IfOk result (λ block. (answer : Reply) × HoldsReply block.piece.bytes ask.now.number answer
+            × DoesAbove (floor_of self.old.pages self.old.lent) (asked ask.now) answer self.old self.new journal.old journal.new) }
+        ensures lends { IfOk result (LendsBlock Shares.Reply self.old self.new) }
+        ensures size { IfOk result (λ block. length block.piece.bytes ≡ message_header + body_size ask.now.kind (asked ask.now) (apply.row_of ask.now.key.now self.old.rows)) }
+    {
+        if !self.memory.is_idle(Share::Reply) {
+            return Err(NoTicket);
+        }
+        let (memory, cache) = (&mut self.memory, &mut self.cache);
+        memory.facts();
+        cache.facts();
+        evictions_are_counted();
+        let size = reply_size(cache, ask);
+        let mut block = find_block(memory, cache, size, Share::Reply, journal);
+        reply(memory, cache, ask, block.bytes_mut(), journal);
         Ok(block)
     }
 }

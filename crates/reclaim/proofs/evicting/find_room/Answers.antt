@@ -7,7 +7,7 @@ use Rattle.reclaim.specs.Works.{pressure}
 use Rattle.reclaim.specs.inside.Consistent.{IsConsistent}
 use Rattle.reclaim.specs.inside.Evicted.{HasEvicted}
 use Rattle.reclaim.proofs.Evictions.{evicted-more}
-use Rattle.reclaim.proofs.Homecoming.{takes-none, takes-both}
+use Rattle.reclaim.proofs.Homecoming.{takes-both}
 use Rattle.reclaim.proofs.Pressure.{pressure-kept}
 use Rattle.reclaim.proofs.evicting.find_room.Goals as goal
 

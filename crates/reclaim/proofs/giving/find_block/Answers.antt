@@ -1,4 +1,4 @@
-use Rattle.std.proofs.Common.{◌≡◌, ◌+◌, ◌<◌, ◌++◌, ◌∷◌, [], ℕ, length, List, sym, ap, ◌∙◌, not, subst, arith}
+use Rattle.std.proofs.Common.{◌<◌, ◌++◌, ◌∷◌, [], ℕ, length, List, sym, ap, ◌∙◌, not, subst, arith}
 use Rattle.foreign_list.specs.Blocks.{Block}
 use Rattle.cache_model.specs.Row.{Row, live}
 use Rattle.cache_model.specs.Evictions.{Evicts}

@@ -1,4 +1,4 @@
-use Rattle.std.proofs.Common.{refl, ◌<◌, ◌+◌, ◌-◌, ◌*◌, ◌≤◌, sym, subst, ℕ, ap, arith}
+use Rattle.std.proofs.Common.{refl, ◌<◌, ◌+◌, ◌-◌, ◌*◌, ◌≤◌, sym, subst, ℕ, arith}
 use Rattle.layout.specs.Sizes.{dense, greatest_object}
 use Rattle.cache_model.specs.Row.{live}
 use Rattle.regions.specs.Shapes.{held_count}

@@ -1,8 +1,7 @@
-use Rattle.std.proofs.Common.{◌≡◌, ◌+◌, ◌/◌, ap, sym, ◌∙◌, refl, subst, arith}
+use Rattle.std.proofs.Common.{ap, sym, ◌∙◌, refl, subst, arith}
 use Rattle.std.specs.Prelude.{IsSome, IsNone, Some}
-use Rattle.layout.specs.Sizes.{segment_pages, ArePages}
-use Rattle.regions.specs.Segments.{RegionState, with_segment}
-use Rattle.regions.specs.Shapes.{identity, pieces, shape, active_of, guards_of, held_count, free_count}
+use Rattle.regions.specs.Segments.{RegionState}
+use Rattle.regions.specs.Shapes.{identity, pieces, shape, active_of, guards_of, free_count}
 use Rattle.shard_memory.specs.Shards.{Shard}
 use Rattle.reclaim.proofs.Holding.{piece-at, pieces-without, holds-less, at-least-two}
 use Rattle.reclaim.proofs.segments.give_free_back.Goals as goal
