@@ -1,6 +1,6 @@
 -- One command more.
 use Rattle.std.proofs.Common.{◌≡◌, ℕ, ◌+◌, ◌-◌, ◌<◌, ◌≤◌, suc, zero, Bool, true, false, eqb, not, cond, List, [], ◌∷◌, ◌++◌, length, take, drop, map, filter, get_or, length-append, append_assoc, append-nil}
-use Rattle.std.proofs.Common.{replicate, slice_set, Option, Some, None, arith, refl, sym, ap, ◌∙◌}
+use Rattle.std.proofs.Common.{replicate, slice_set, Option, Some, None, arith, refl, sym, ap, ◌∙◌, subst}
 use Rattle.std.specs.List.{All, list_any, slice_get}
 use Rattle.std.specs.Option.{IsSome, is_some, option_map}
 use Rattle.std.proofs.lemmas.List.{take_more, map-append, length-take-le}

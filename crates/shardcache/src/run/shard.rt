@@ -96,10 +96,10 @@ impl<'f> Shard<'f> {
     pub fn finish(self) -> (Finished, OwnerSeat)
         requires idle { tickets_out self.space.lent ≡ 0 }
         requires unguarded { guards_of self.space.region ≡ 0 }
-        ensures journal { result.0.journal ≡ self.journal }
-        ensures log { result.0.log ≡ self.log }
-        ensures rows { result.0.rows ≡ length self.space.rows }
-        ensures live { result.0.live ≡ live self.space.rows }
+        ensures journal { result.0.journal ≡ self.entry.journal }
+        ensures log { result.0.log ≡ self.entry.log }
+        ensures rows { result.0.rows ≡ length self.entry.space.rows }
+        ensures live { result.0.live ≡ live self.entry.space.rows }
         ensures seat { IsAtRest self.entry.space.list result.1 }
     {
         let Shard {

@@ -7,4 +7,4 @@ pub returns-clause-done : goal.returns-clause-done
 returns-clause-done c =
     let needs = c.needs-needs.ensures in let e = c.in-Ok.ensures in
     opened (trace_in c.args.trace.now).operations c.args.pages _ _ _ _ _ _ _ c.requires.well_formed needs.own_parts needs.here_parts needs.here_puts needs.reply_bytes
-    e.numbers.1.0 e.numbers.1.1 e.rows e.idle e.unguarded c.in_ok-journal.ensures c.in_ok-log.ensures
+    e.numbers.1 e.numbers.2 e.rows e.idle e.unguarded c.in_ok-journal.ensures c.in_ok-log.ensures

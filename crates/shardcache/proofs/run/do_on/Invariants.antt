@@ -3,7 +3,7 @@ use Rattle.std.specs.Prelude.{◌≡◌, ◌*◌, vec_len}
 use Rattle.layout.specs.Sizes.{key_room, most_keys}
 use Rattle.trace_text.specs.Parsed.{trace_in}
 use Rattle.shardcache.specs.inside.Progress.{HasDone}
-use Rattle.shardcache.proofs.run.do_all.Given as goal
+use Rattle.shardcache.proofs.run.do_on.Given as goal
 
 abbrev pub invariant-loop-command : goal.invariant-loop-command
 invariant-loop-command l = record {

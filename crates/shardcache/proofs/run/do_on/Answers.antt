@@ -3,8 +3,8 @@ use Rattle.std.proofs.Common.{◌∙◌}
 use Rattle.trace_text.specs.Parsed.{trace_in}
 use Rattle.shardcache.proofs.Numbered.{ended_at, index_at, numbered}
 use Rattle.shardcache.proofs.OneReport.{ReportLaws, is_run}
-use Rattle.shardcache.proofs.run.do_all.Goals as goal
-use Rattle.shardcache.proofs.run.do_all.Goals.{After-logs_hold_the_answers}
+use Rattle.shardcache.proofs.run.do_on.Goals as goal
+use Rattle.shardcache.proofs.run.do_on.Goals.{After-logs_hold_the_answers}
 
 laws : After-logs_hold_the_answers → ReportLaws
 laws c = record {
@@ -31,11 +31,11 @@ loop-command-preserved c = record {
   keys = c.do_command.ensures.keys ∙ c.loop-command.invariant.keys;
 }
 
-pub returns : goal.returns
-returns c =
+pub returns-clause-run : goal.returns-clause-run
+returns-clause-run c =
     let left = c.finish.ensures in
     let listed = c.commands-commands.ensures in
     rw (left.journal, left.log, ← c.loop-command.invariant.pages)
-    (is_run (laws (goal.at.returns c).After-logs_hold_the_answers) (trace_in c.args.trace.now).operations c.loop-command.command-index _ _ _ _ _
+    (is_run (laws (goal.at.returns-clause-run c).After-logs_hold_the_answers) (trace_in c.args.trace.now).operations c.loop-command.command-index _ _ _ _ _
     (numbered _ _ (rw listed.value at listed.numbered)) listed.well_formed c.loop-command.invariant.done
     (ended_at _ _ _ (rw listed.value at c.loop-command-test.false)) left.rows left.live)
