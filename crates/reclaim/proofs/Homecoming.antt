@@ -16,7 +16,7 @@ use Rattle.reclaim.specs.inside.Homecoming.{SameTickets, TakesHome, GivesAfter}
 
 idle-both : (a b c : Tickets) → BecomeIdle a b → BecomeIdle b c → BecomeIdle a c
 idle-both a b c first second t = elim (second t) [
-  | inl same ↦ elim (first t) [ | inl before ↦ inl (same ∙ before) | inr idle ↦ inr (same ∙ idle) ]
+  | inl same ↦ elim (first t) [ inl before ↦ inl (same ∙ before) | inr idle ↦ inr (same ∙ idle) ]
   | inr idle ↦ inr idle
 ]
 
@@ -28,7 +28,7 @@ raised-both n a b = grind arith
 
 -- a ticket that is idle stays so
 pub idle-stays : (old new : Tickets) (share : Share) → BecomeIdle old new → HasIdle old share → HasIdle new share
-idle-stays old new share become has = (has.0, has.1, elim (become has.0) [ | inl same ↦ same ∙ has.2 | inr idle ↦ idle ])
+idle-stays old new share become has = (has.0, has.1, elim (become has.0) [ inl same ↦ same ∙ has.2 | inr idle ↦ idle ])
 
 pub takes-none : (m : Shard) → m.backs < 2 ^ 64 → TakesHome m m
 takes-none m small = record { owner = refl; pages = refl; list = refl; home = record { count = 0; idle = λ t. inl refl; out = omega arith; backs = raised-none m.backs small }; lends = refl }

@@ -133,9 +133,9 @@ out-set [] (suc t) p = omega arith
 out-set (x ∷ lent) zero p =
     let old = sum_by-cons (λ (o : Option PieceId). cond (is_some o) 1 0) x lent in let new = sum_by-cons (λ (o : Option PieceId). cond (is_some o) 1 0) p lent in
     let one = at-most-one (is_some p) in omega (arith, old, new, one) where
-  at-most-one : (b : Bool) → (let n : ℕ = cond b 1 0 in n) ≤ 1
-  at-most-one true = omega arith
-  at-most-one false = omega arith
+      at-most-one : (b : Bool) → (let n : ℕ = cond b 1 0 in n) ≤ 1
+      at-most-one true = omega arith
+      at-most-one false = omega arith
 out-set (x ∷ lent) (suc t) p =
     let old = sum_by-cons (λ (o : Option PieceId). cond (is_some o) 1 0) x lent in let new = sum_by-cons (λ (o : Option PieceId). cond (is_some o) 1 0) x (slice_set lent t p) in
     let rest = out-set lent t p in omega (arith, old, new, rest)
@@ -154,9 +154,9 @@ refill-whole : (old bytes : List ℕ) → length bytes ≡ length old → refill
 refill-whole old bytes same =
     let front : take (length bytes) (bytes ++ drop (length bytes) old) ≡ bytes = take-front bytes (drop (length bytes) old) in
     subst (λ k. take k (bytes ++ drop (length bytes) old) ≡ bytes) same front where
-  take-front : (xs ys : List ℕ) → take (length xs) (xs ++ ys) ≡ xs
-  take-front [] ys = refl
-  take-front (x ∷ xs) ys = ap (λ l. x ∷ l) (take-front xs ys)
+      take-front : (xs ys : List ℕ) → take (length xs) (xs ++ ys) ≡ xs
+      take-front [] ys = refl
+      take-front (x ∷ xs) ys = ap (λ l. x ∷ l) (take-front xs ys)
 
 pub holds-whole : (old bytes : List ℕ) (number : ℕ) (reply : Reply) → length bytes ≡ length old → HoldsReply bytes number reply → HoldsReply (refill (length old) old bytes) number reply
 holds-whole old bytes number reply same h = subst (λ (l : List ℕ). HoldsReply l number reply) (sym (refill-whole old bytes same)) h

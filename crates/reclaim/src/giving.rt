@@ -22,7 +22,7 @@ use compaction::a_compacted_region_is_full;
 use foreign_list::ForeignBlock;
 use row_cache::{Compacted, RowCache};
 use run_log::Journal;
-use shard_memory::{GiveRefusal, Share, ShardMemory};
+use shard_memory::{GiveRefusal, ShardMemory, Share};
 
 // Gives a block of so many bytes, for which a ticket of the share is idle. Where there is no room for it otherwise, the rows that
 // were used longest ago go, one by one.

@@ -171,7 +171,13 @@ fn reply_scan(cache: &mut RowCache, ask: &Ask<'_>, into: &mut [u8], journal: &mu
 {
     journal.add(Entry::Done(ask.number));
     let scanned = cache.scan(ask.key, ask.count, &mut into[MESSAGE_HEADER as usize..]);
-    write_reply_header(ReplyKind::Keys, ask.number, scanned.keys, scanned.bytes, into);
+    write_reply_header(
+        ReplyKind::Keys,
+        ask.number,
+        scanned.keys,
+        scanned.bytes,
+        into,
+    );
 }
 
 // Writes the reply with a value.

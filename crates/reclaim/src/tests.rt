@@ -2,11 +2,10 @@
 ghost use Rattle.std.specs.Prelude.{◌≡◌, []};
 ghost use Rattle.foreign_list.specs.OwnerSeats.{IsAtRest};
 ghost use Rattle.regions.specs.Shapes.{guards_of};
-ghost use Rattle.shard_memory.specs.Tickets.{tickets_out};
 
 use crate::{Put, Space};
 use cache_model::Entry;
-use foreign_list::{Foreign, OwnerSeat};
+use foreign_list::{Foreign, ForeignBlock, OwnerSeat};
 use layout::{GREATEST_KEY, GREATEST_VALUE};
 use run_log::Journal;
 use shard_rings::Ask;
@@ -26,7 +25,6 @@ struct Trial<'f> {
     journal: Journal,
     ghost room: { space.room ≡ 512 },
     ghost unguarded: { guards_of space.region ≡ 0 },
-    ghost idle: { tickets_out space.lent ≡ 0 },
 }
 
 // What is asked of a key, as command 9.
@@ -142,8 +140,32 @@ impl<'f> Trial<'f> {
         self.journal.entries().ends_with(entries)
     }
 
-    fn finish(self) -> OwnerSeat {
-        self.space.finish()
+    // The block of the reply to a get, as command 391. None where no ticket is idle, or where its evictions may have no room in
+    // the journal.
+    fn reply_block(&mut self, key: &[u8]) -> Option<ForeignBlock<'f>> {
+        if key.is_empty() || key.len() > GREATEST_KEY {
+            return None;
+        }
+        if self.space.rows() >= self.journal.spare() {
+            return None;
+        }
+        let ask = Ask {
+            kind: Kind::Get,
+            key,
+            value: &[],
+            count: 0,
+            number: 391,
+        };
+        self.space.reply_block(&ask, &mut self.journal).ok()
+    }
+
+    // False where a block is out.
+    fn finish(self) -> bool {
+        if self.space.tickets_out() != 0 {
+            return false;
+        }
+        let _seat = self.space.finish();
+        true
     }
 }
 
@@ -160,7 +182,7 @@ fn a_row_is_stored_replaced_and_erased(rt: HostRuntime) -> Result<(), Fail> {
     assert_eq!(rt; trial.size(), (0, 0));
     let done = [1, 2, 9, 9, 9, 9].map(|number| Entry::Done(number));
     assert!(rt; trial.journal.entries() == done.as_slice());
-    let _seat = trial.finish();
+    assert!(rt; trial.finish());
     Ok(())
 }
 
@@ -174,7 +196,7 @@ fn a_scan_gives_the_keys_from_its_own_on(rt: HostRuntime) -> Result<(), Fail> {
     assert!(rt; trial.scans(b"b", 2, b"\x01\0b\x01\0c"));
     assert!(rt; trial.scans(b"d", 4, b""));
     assert_eq!(rt; trial.size(), (3, 144));
-    let _seat = trial.finish();
+    assert!(rt; trial.finish());
     Ok(())
 }
 
@@ -194,7 +216,7 @@ fn the_oldest_row_goes_where_nothing_else_makes_room(rt: HostRuntime) -> Result<
     ];
     assert!(rt; trial.ends_with(&last));
     assert!(rt; trial.has(&1u32.to_be_bytes(), None));
-    let _seat = trial.finish();
+    assert!(rt; trial.finish());
     Ok(())
 }
 
@@ -206,7 +228,7 @@ fn a_row_may_go_for_the_one_that_replaces_it(rt: HostRuntime) -> Result<(), Fail
     assert_eq!(rt; trial.put_large(rt.alloc(), 1, 2)?, 1);
     assert!(rt; trial.ends_with(&[Entry::Done(390), Entry::Evicted(1), Entry::Done(1)]));
     assert_eq!(rt; trial.size(), (390, 4_698_720));
-    let _seat = trial.finish();
+    assert!(rt; trial.finish());
     Ok(())
 }
 
@@ -217,6 +239,32 @@ fn nothing_goes_while_compaction_makes_room(rt: HostRuntime) -> Result<(), Fail>
     assert_eq!(rt; trial.put_again(rt.alloc(), 1000)?, 999);
     assert_eq!(rt; trial.size(), (1, 12_048));
     assert_eq!(rt; trial.journal.entries().len(), 1000);
-    let _seat = trial.finish();
+    assert!(rt; trial.finish());
+    Ok(())
+}
+
+// The reply to a missing key, as command 391.
+const MISSING: [u8; 16] = [20, 0, 0, 0, 0x87, 1, 0, 0, 0, 0, 0, 0, 0, 0, 0, 0];
+
+#[test]
+fn a_row_may_go_for_the_block_of_its_own_reply(rt: HostRuntime) -> Result<(), Fail> {
+    let (home, seat) = Foreign::new(rt.alloc(), 0)?;
+    let mut trial = Trial::new(rt.alloc(), &home, seat)?;
+    assert_eq!(rt; trial.put_large(rt.alloc(), 1, 391)?, 390);
+    let Some(block) = trial.reply_block(&1u32.to_be_bytes()) else {
+        return Err(Fail::new("no block"));
+    };
+    assert!(rt; block.bytes().starts_with(&MISSING));
+    assert_eq!(rt; block.bytes().len(), 12_016);
+    let gone = [1, 2, 3, 4, 5, 6, 7, 8, 9, 10, 11].map(|put| Entry::Evicted(put));
+    assert!(rt;
+        trial.journal.entries().len() == 402
+            && trial.journal.entries()[390..].starts_with(gone.as_slice())
+    );
+    assert!(rt; trial.ends_with(&[Entry::Done(391)]));
+    assert_eq!(rt; trial.size(), (379, 4_566_192));
+    assert!(rt; block.release().is_ok());
+    assert_eq!(rt; trial.space.take_back(), 1);
+    assert!(rt; trial.finish());
     Ok(())
 }

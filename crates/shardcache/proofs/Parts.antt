@@ -57,8 +57,17 @@ quiet_does operation reply rows old new before after log logged does recorded is
 
 -- the space is the one that it was but for its rows
 pub same_but_rows : (old new : SpaceState) (rows : List Row) → new ≡ with_rows old rows → (new.rows ≡ rows) × IsSameSpace old new × (new.lent ≡ old.lent)
-same_but_rows old new rows is =
-    (ap (λ (s : SpaceState). s.rows) is, record { shard = ap (λ (s : SpaceState). s.shard) is; pages = ap (λ (s : SpaceState). s.pages) is; room = ap (λ (s : SpaceState). s.room) is; list = ap (λ (s : SpaceState). s.list) is; guards = ap (λ (s : SpaceState). guards_of s.region) is }, ap (λ (s : SpaceState). s.lent) is)
+same_but_rows old new rows is = (
+  ap (λ (s : SpaceState). s.rows) is,
+  record {
+    shard = ap (λ (s : SpaceState). s.shard) is;
+    pages = ap (λ (s : SpaceState). s.pages) is;
+    room = ap (λ (s : SpaceState). s.room) is;
+    list = ap (λ (s : SpaceState). s.list) is;
+    guards = ap (λ (s : SpaceState). guards_of s.region) is;
+  },
+  ap (λ (s : SpaceState). s.lent) is,
+)
 
 pub same_space : (old new : SpaceState) → new ≡ old → (new.rows ≡ old.rows) × IsSameSpace old new × (new.lent ≡ old.lent)
 same_space old new is = same_but_rows old new old.rows is

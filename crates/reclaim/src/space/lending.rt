@@ -64,6 +64,13 @@ impl<'f> Space<'f> {
         self.memory.is_idle(share)
     }
 
+    /// How many tickets are not idle.
+    pub fn tickets_out(&self) -> u32
+        ensures { result ≡ tickets_out self.now.lent }
+    {
+        self.memory.tickets_out()
+    }
+
     /// How many blocks were lent. It stands at the greatest u64.
     pub fn lent(&self) -> u64
         ensures { result ≡ self.now.lends }

@@ -39,13 +39,15 @@ returns-clause-replied c =
     let new = the_view (record { mir = named 1; lft = [] }) (record { memory = c.reply.new.memory; cache = c.reply.new.cache }) in
     let low = floor_of m.pages m.lent in let high = pressure mid.pages mid.lent in
     let less = floor-below Shares.Reply c.reply_size-size.result m mid block given c.self.invariant.made.are_pages c.facts.ensures.tickets in
-    let h = stored-behind low high operation r.replied.answer (rows_of c.self.inside.cache) (rows_of c.find_block-block.new.cache) (rows_of c.reply.new.cache) c.args.journal.now c.find_block-block.new.journal c.reply.new.journal less e r.replied.stored in
-    (r.replied.answer, holds-whole block.piece.bytes c.reply.new.into c.args.ask.now.number r.replied.answer (c.reply.auto.into ∙ ap length c.bytes_mut.ensures.value) r.replied.holds,
-    subst (λ (s : SpaceState). DoesAbove (floor_of s.pages s.lent) operation r.replied.answer s new c.args.journal.now c.reply.new.journal) c.self.view_is
-    (stored low operation r.replied.answer old new c.args.journal.now c.reply.new.journal h (record {
-      shard = r.taken.owner ∙ given.gives.owner ∙ given.came.owner;
-      pages = r.taken.pages ∙ given.gives.pages ∙ given.came.pages;
-      room = r.tables ∙ c.find_block-block.ensures.tables;
-      list = r.taken.list ∙ given.gives.list ∙ given.came.list;
-      guards = r.consistent.made.guards ∙ sym (ap (λ (v : SpaceState). guards_of v.region) c.self.view_is ∙ c.requires.unguarded);
-    })))
+    let h = stored-behind low high operation r.replied.answer (rows_of c.self.inside.cache) (rows_of c.find_block-block.new.cache) (rows_of c.reply.new.cache) c.args.journal.now c.find_block-block.new.journal c.reply.new.journal less e r.replied.stored in (
+      r.replied.answer,
+      holds-whole block.piece.bytes c.reply.new.into c.args.ask.now.number r.replied.answer (c.reply.auto.into ∙ ap length c.bytes_mut.ensures.value) r.replied.holds,
+      subst (λ (s : SpaceState). DoesAbove (floor_of s.pages s.lent) operation r.replied.answer s new c.args.journal.now c.reply.new.journal) c.self.view_is
+          (stored low operation r.replied.answer old new c.args.journal.now c.reply.new.journal h (record {
+            shard = r.taken.owner ∙ given.gives.owner ∙ given.came.owner;
+            pages = r.taken.pages ∙ given.gives.pages ∙ given.came.pages;
+            room = r.tables ∙ c.find_block-block.ensures.tables;
+            list = r.taken.list ∙ given.gives.list ∙ given.came.list;
+            guards = r.consistent.made.guards ∙ sym (ap (λ (v : SpaceState). guards_of v.region) c.self.view_is ∙ c.requires.unguarded);
+          })),
+    )
