@@ -7,3 +7,4 @@ pub mod Taken
 pub mod RisingKeys
 pub mod FitsByBody
 pub mod Asides
+pub mod LogPlaces
