@@ -8,3 +8,4 @@ pub mod RisingKeys
 pub mod FitsByBody
 pub mod Asides
 pub mod LogPlaces
+pub mod Growth
