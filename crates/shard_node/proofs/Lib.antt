@@ -9,3 +9,4 @@ pub mod FitsByBody
 pub mod Asides
 pub mod LogPlaces
 pub mod Growth
+pub mod WorkLeft

@@ -5,3 +5,4 @@ pub mod Sends
 pub mod Peers
 pub mod Rising
 pub mod Fitting
+pub mod Work
