@@ -164,7 +164,7 @@ same-above f g i numbers rises same = go i numbers (omega arith) rises
         let here : g k ≡ f k = same k (λ e. omega (arith, e, above, low)) in
         rw here (ap (λ list. f k ∷ list) (go k ks (omega (arith, above, low)) rise.1))
 
-risen-above : (m : ℕ) (numbers : List ℕ) (c i : ℕ) → Rises m numbers → slice_get numbers c ≡ Some i → m < i
+pub risen-above : (m : ℕ) (numbers : List ℕ) (c i : ℕ) → Rises m numbers → slice_get numbers c ≡ Some i → m < i
 risen-above m [] c i rises here = absurd (let e : None ≡ Some i = here in cc)
 risen-above m (k ∷ numbers) zero i rises here = let is : k ≡ i = cc in let above = rises.0 in omega (arith, is, above)
 risen-above m (k ∷ numbers) (suc c) i rises here = let above = rises.0 in let later = risen-above k numbers c i rises.1 here in omega (arith, above, later)
@@ -242,3 +242,10 @@ told-of {X} f g trace n o s same = each trace.operations
     each : (operations : List Operation) → map g (map (λ (x : Operation). x.number) (filter p operations)) ≡ map f (map (λ (x : Operation). x.number) (filter p operations))
     each [] = refl
     each (operation ∷ operations) = go operation operations (p operation) refl (each operations)
+
+-- So the log of the own parts of shard s stays what it is, where the replies to them do.
+pub own-stays : (trace : Trace) (n s : ℕ) (log : List (Option (ReplyKind × List ℕ))) (reply reply' : ℕ → Option Reply) → ((k : ℕ) → origin k n ≡ s → reply' k ≡ reply k)
+    → at_shard s (issued_parts trace n s) log ≡ map (λ k. option_map spelled (reply k)) (parts trace n s s)
+    → at_shard s (issued_parts trace n s) log ≡ map (λ k. option_map spelled (reply' k)) (parts trace n s s)
+own-stays trace n s log reply reply' same logged =
+    logged ∙ sym (told-of (λ k. option_map spelled (reply k)) (λ k. option_map spelled (reply' k)) trace n s s (λ k e. ap (option_map spelled) (same k e)))
