@@ -152,6 +152,14 @@ here-puts trace n s some =
     go kinds.Erase false = refl
     go kinds.Scan b = refl
 
+-- what all of them take together
+pub work-all : (trace : Trace) (n s : ℕ) → 1 ≤ n → sum_by (λ o. work (operations_for trace n o s)) (range_with_len 0 n) ≡ here_parts trace n s + here_puts trace n s
+work-all trace n s some =
+    let sum = sum-add (λ o. length (operations_for trace n o s)) (λ o. puts_among (operations_for trace n o s)) (range_with_len 0 n) in
+    let counts = here-parts trace n s some in
+    let puts = here-puts trace n s some in
+    omega (arith, sum, counts, puts)
+
 -- What all shards do for one.
 
 -- the shards that do a part of an operation
