@@ -10,3 +10,4 @@ pub mod Asides
 pub mod LogPlaces
 pub mod Growth
 pub mod WorkLeft
+pub mod NextPart
