@@ -1,3 +1,4 @@
+ghost use Rattle.std.specs.Bool.{OnFalse};
 ghost use Rattle.std.specs.Prelude.{◌^◌, ◌≡◌, ◌-◌, ◌↔◌, ◌⊎◌, ◌+◌, ◌<◌, ◌≤◌, [], true, length, take, replicate, None, IfOk, IfErr, IfSome, IsErr, IsNone, IsSome};
 ghost use Rattle.layout.specs.Sizes as sizes;
 ghost use Rattle.std.specs.List.{last_or};
@@ -92,6 +93,7 @@ impl RowCache {
     /// Removes the row of a key. False where no row has the key.
     pub fn erase(&mut self, key: &[u8]) -> bool
         ensures found { result ≡ apply.has key.now (rows_of self.old) }
+        ensures unchanged { OnFalse result (self.new ≡ self.old) }
         ensures rows { rows_of self.new ≡ apply.without key.now (rows_of self.old) }
         ensures room { self.new.room ≡ self.old.room }
         ensures shape { shape self.new.region ≡ shape self.old.region }
