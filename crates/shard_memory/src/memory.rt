@@ -74,7 +74,7 @@ impl<'f> Model for ShardMemory<'f> {
       take_wholes = m.seat.take_wholes;
     } };
 
-    ghost invariant = { λ m. IsLending m.home.now m.seat m.own m.out };
+    ghost invariant = { λ m. IsLending m.home.now m.seat m.own m.out m.back };
 }
 
 impl<'f> ShardMemory<'f> {
@@ -136,7 +136,6 @@ impl<'f> ShardMemory<'f> {
         ensures trimmed { IsTrimmed self.now.room → self.now.pages_out ≤ segment_pages * length self.now.segments + longest_span * (length self.now.blocks + tickets_out self.now.lent) }
         ensures crowded { IsTrimmed self.now.room → LacksSegment self.now.room → IsCrowded self.now }
     {
-        let _backs = self.back;
         self.own.facts();
     }
 

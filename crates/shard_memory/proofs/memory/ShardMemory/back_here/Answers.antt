@@ -23,6 +23,7 @@ invariant_of-self c =
       lent = same_lent c.self.inside.seat.lent _ _ _ _ _ _ (sym same.0) (sym same.1) (sym c.put_block.ensures.blocks)
           (back_one c.self.inside.seat.lent c.self.inside.own.home c.self.inside.own.owner (page * c.self.inside.own.pages) (extent_of c.args.piece) c.self.inside.own.blocks was.lent c.put_block.ensures.disjoint r.1);
       out_is = was.out_is;
+      back_fits = was.back_fits;
     }
 
 pub returns-clause-blocks : goal.returns-clause-blocks

@@ -34,6 +34,7 @@ invariant_of-self-2 c =
           (let more = out_set c.self.inside.seat.lent c.in-Some.ticket None (Some a) idle in
           let new = ap (λ (s : OwnerState). tickets_out s.lent) c.lend.ensures.lent in
           let out = was.out_is in omega (arith, more, new, out));
+      back_fits = was.back_fits;
     }
 
 pub returns-clause-out : goal.returns-clause-out

@@ -22,6 +22,7 @@ invariant_of-self c =
       owner = same.1 ∙ was.owner;
       lent = by c.give_block.result c.self.inside.seat.lent c.self.inside.own c.give_block.new.self was.lent few same c.give_block.ensures.unchanged c.give_block.ensures.blocks c.give_block.ensures.disjoint;
       out_is = was.out_is;
+      back_fits = was.back_fits;
     }
   where
     by : (r : Result Lent GiveRefusal) (lent : Tickets) (old new : Pieces) → AreLent lent old.home old.owner old.blocks → length (staying lent old.blocks) < 1024 → (new.home ≡ old.home) × (new.owner ≡ old.owner) × (new.pages ≡ old.pages)

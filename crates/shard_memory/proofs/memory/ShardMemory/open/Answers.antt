@@ -11,6 +11,7 @@ invariant_of-result c = record {
   owner = c.in-Ok.ensures.numbers.0 ∙ sym c.requires.owner;
   lent = subst (AreLent c.args.seat.lent c.in-Ok.own.home c.in-Ok.own.owner) (sym c.in-Ok.ensures.blocks.0) (lent_none c.args.seat.lent c.in-Ok.own.home c.in-Ok.own.owner c.facts.ensures.tickets c.requires.seat.idle);
   out_is = sym (none_out c.args.seat.lent c.requires.seat.idle);
+  back_fits = omega arith;
 }
 
 pub returns-in-Ok-clause-counts : goal.returns-in-Ok-clause-counts
