@@ -1,5 +1,6 @@
 pub mod Bodies
 pub mod FirstKeys
+pub mod Fronts
 pub mod Headers
 pub mod Meshes
 pub mod Messages

@@ -1,4 +1,11 @@
-use trace_text::Kind;
+ghost use Rattle.std.specs.Prelude.{◌≡◌, List, Contains};
+ghost use Rattle.trace_text.specs.Operation.{operation};
+ghost use Rattle.cache_model.specs.Apply.{apply};
+ghost use Rattle.cache_model.specs.Row.{Row};
+ghost use Rattle.shard_rings.specs.Ask.{asked, on_no_line, IsAskable};
+
+use crate::law::commands_can_be_asked;
+use trace_text::{Command, Kind, Trace};
 
 /// A command of another shard, or of this one, with its bytes.
 #[derive(Clone, Copy, Debug)]
@@ -12,4 +19,25 @@ pub struct Ask<'a> {
     pub count: u32,
     /// The command's number; commands are numbered from 1.
     pub number: u32,
+}
+
+impl<'a> Ask<'a> {
+    /// What a command of the trace asks. It does not matter on which line it stood.
+    pub fn of(trace: &'a Trace, command: &Command) -> Ask<'a>
+        requires { Contains trace.now.commands command.now }
+        ensures asked { asked result ≡ on_no_line (operation trace.now.bytes command.now) }
+        ensures askable { IsAskable (asked result) }
+        ensures same { (cache : List Row) → apply (asked result) cache ≡ apply (operation trace.now.bytes command.now) cache }
+    {
+        // Each command of a trace is well formed, and so it can be asked.
+        trace.commands();
+        commands_can_be_asked();
+        Ask {
+            kind: command.kind,
+            key: trace.key(command),
+            value: trace.value(command),
+            count: command.count,
+            number: command.number,
+        }
+    }
 }

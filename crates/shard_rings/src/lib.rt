@@ -28,7 +28,7 @@ pub use link::{Lane, Link, Packet};
 pub use memory_link::MemoryLink;
 pub use mesh::ring_links;
 pub use reply::{ReplyView, read_reply, write_reply, write_reply_header};
-pub use request::{request_size, write_request};
+pub use request::{is_request, request_size, write_request};
 pub use ring_link::{RingLink, close_pair};
 
 #[cfg(test)]

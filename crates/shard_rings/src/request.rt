@@ -1,4 +1,5 @@
-ghost use Rattle.std.specs.Prelude.{◌≡◌, ◌+◌, ◌≤◌, length};
+ghost use Rattle.std.specs.Prelude.{◌≡◌, ◌+◌, ◌≤◌, ◌++◌, length};
+ghost use Rattle.std.specs.Str.{bytes_eq};
 ghost use Rattle.layout.specs.Sizes.{greatest_request};
 ghost use Rattle.shard_rings.specs.Ask.{asked, IsAskable};
 ghost use Rattle.shard_rings.specs.Request.{kind_byte, request, request_header};
@@ -28,6 +29,29 @@ pub fn write_request(command: &Ask<'_>, into: &mut [u8])
     write_at(into, 0, &header_of(command));
     write_at(into, HEADER, command.key);
     write_at(into, value_at, command.value);
+}
+
+/// Whether the bytes are the request of a command, neither more nor fewer.
+pub fn is_request(command: &Ask<'_>, bytes: &[u8]) -> bool
+    requires { IsAskable (asked command.now) }
+    ensures { result ≡ bytes_eq bytes.now (request (asked command.now)) }
+{
+    let header = header_of(command);
+    let Some(behind) = bytes.strip_prefix(&header) else {
+        return false;
+    };
+    is_joined(behind, command.key, command.value)
+}
+
+/// Whether the bytes are the two texts, one behind the other.
+#[tactic(auto, using(crate::proofs::Fronts::same_front, crate::proofs::Fronts::other_front))]
+fn is_joined(bytes: &[u8], front: &[u8], behind: &[u8]) -> bool
+    ensures { result ≡ bytes_eq bytes.now (front.now ++ behind.now) }
+{
+    let Some(rest) = bytes.strip_prefix(front) else {
+        return false;
+    };
+    rest == behind
 }
 
 fn header_of(command: &Ask<'_>) -> [u8; 16]

@@ -38,6 +38,7 @@ fn a_request_and_its_reply_are_laid_byte_for_byte(rt: HostRuntime) -> Result<(),
         request.as_slice()
             == [1, 0, 1, 0, 1, 0, 0, 0, 1, 0, 0, 0, 0, 0, 0, 0, 0x62, 0x31].as_slice()
     );
+    assert!(rt; is_request(&ask, request.as_slice()));
     let mut reply = [255; 16];
     write_reply_header(ReplyKind::Stored, 1, 0, 0, &mut reply);
     assert!(rt; reply == [0x11, 0, 0, 0, 1, 0, 0, 0, 0, 0, 0, 0, 0, 0, 0, 0]);
