@@ -1,4 +1,7 @@
 pub mod Places
+pub mod PartsBefore
+pub mod IssuedParts
+pub mod Rests
 pub mod Releases
 pub mod Each
 pub mod Stands

@@ -11,6 +11,7 @@ mod fitting;
 mod gate;
 mod peer;
 mod peer_steps;
+mod place;
 mod ran;
 mod release;
 mod rest;

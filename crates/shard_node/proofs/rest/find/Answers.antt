@@ -1,22 +1,38 @@
-use Rattle.std.proofs.Common.{sym, ◌∙◌}
-use Rattle.shard_node.proofs.Places.{from-places, next-round, round}
+use Rattle.std.proofs.Common.{◌<◌, ◌%◌, length, sym, ap, ◌∙◌}
+use Rattle.std.proofs.lemmas.List.{get_or_default}
+use Rattle.trace_text.specs.Parsed.{trace_in}
+use Rattle.cache_model.specs.OwnParts.{parts_before}
+use Rattle.shard_node.specs.inside.Rest.{left_from}
+use Rattle.shard_node.proofs.PartsBefore.{parts-behind}
+use Rattle.shard_node.proofs.Places.{from-places, next-round, no_command, round}
 use Rattle.shard_node.proofs.rest.find.Goals as goal
 
-pub loop-at-preserved : goal.loop-at-preserved
-loop-at-preserved c =
+pub has_part-requires-clause-of_trace : goal.has_part-requires-clause-of_trace
+has_part-requires-clause-of_trace c =
+    let within = rw c.commands-commands.ensures.value at c.loop-next-test.true in
+    rw c.commands-commands.ensures.value (c.loop-next.next.at, within, get_or_default c.args.trace.now.commands c.loop-next.next.at _ no_command within)
+
+pub loop-next-preserved : goal.loop-next-preserved
+loop-next-preserved c =
     let value = c.commands-commands.ensures.value in
+    let within : c.loop-next.next.at < length c.args.trace.now.commands = rw value at c.loop-next-test.true in
+    let further = c.past-next.ensures.at in
     record {
-      left = next-round c.args.trace.now c.args.shards c.args.origin c.args.shard c.loop-at.at _ (rw value at c.commands-commands.ensures.numbered)
-          (rw c.requires.parsed_for c.commands-commands.ensures.some_shards) c.loop-at.invariant.origin (rw value at c.loop-at-test.true) (sym (rw value at c.has_part.ensures) ∙ c.if-not-has_part.true)
-          ∙ c.loop-at.invariant.left;
-      origin = round _ _ _ c.loop-at.invariant.origin;
+      left = ap (left_from c.args.trace.now c.args.shards c.args.origin c.args.shard) further
+          ∙ next-round c.args.trace.now c.args.shards c.args.origin c.args.shard c.loop-next.next.at _ (rw value at c.commands-commands.ensures.numbered)
+          (rw c.requires.parsed_for c.commands-commands.ensures.some_shards) c.loop-next.invariant.origin within (sym (rw value at c.has_part.ensures) ∙ c.if-not-has_part.true)
+          ∙ c.loop-next.invariant.left;
+      origin = ap (λ at. at % c.args.shards) further ∙ round _ _ _ c.loop-next.invariant.origin;
+      before = rw value at c.past-next.ensures.before
+          ∙ parts-behind c.args.trace.now c.args.shards c.args.origin c.loop-next.next.at c.loop-next.next.before _ c.shards_take_turns.ensures.next c.requires.parsed_for c.loop-next.invariant.origin within c.loop-next.invariant.before
+          ∙ ap (λ at. parts_before (trace_in c.args.trace.now) c.args.shards c.args.origin at) (sym further);
       shards = c.requires.parsed_for;
     }
 
 pub returns-else-not-has_part-clause-left : goal.returns-else-not-has_part-clause-left
-returns-else-not-has_part-clause-left c place below above = c.loop-at.invariant.left
-    ∙ from-places c.args.trace.now c.args.shards c.args.origin c.args.shard c.args.from (rw c.commands-commands.ensures.value at c.commands-commands.ensures.numbered) c.requires.origin place below above
+returns-else-not-has_part-clause-left c place below above = c.loop-next.invariant.left
+    ∙ from-places c.args.trace.now c.args.shards c.args.origin c.args.shard c.args.from.at (rw c.commands-commands.ensures.value at c.commands-commands.ensures.numbered) c.requires.origin place below above
 
-pub returns-after-loop-at-clause-left : goal.returns-after-loop-at-clause-left
-returns-after-loop-at-clause-left c place below above = c.loop-at.invariant.left
-    ∙ from-places c.args.trace.now c.args.shards c.args.origin c.args.shard c.args.from (rw c.commands-commands.ensures.value at c.commands-commands.ensures.numbered) c.requires.origin place below above
+pub returns-after-loop-next-clause-left : goal.returns-after-loop-next-clause-left
+returns-after-loop-next-clause-left c place below above = c.loop-next.invariant.left
+    ∙ from-places c.args.trace.now c.args.shards c.args.origin c.args.shard c.args.from.at (rw c.commands-commands.ensures.value at c.commands-commands.ensures.numbered) c.requires.origin place below above
