@@ -1,6 +1,7 @@
 -- Where the parts of a command stand among those that its shard issues, and how many of one peer stand before them.
-use Rattle.std.proofs.Common.{◌≡◌, ℕ, zero, suc, ◌+◌, ◌<◌, ◌≤◌, Bool, true, false, cond, eqb, List, [], ◌∷◌, ◌++◌, length, map, filter, take, drop, get_or, count_by, Some, arith, refl, sym, ap, ◌∙◌, inl, inr, length-append}
+use Rattle.std.proofs.Common.{◌≡◌, ℕ, zero, suc, ◌+◌, ◌*◌, ◌<◌, ◌≤◌, Bool, true, false, cond, eqb, List, [], ◌∷◌, ◌++◌, length, map, filter, take, drop, get_or, count_by, Some, arith, refl, sym, ap, ◌∙◌, inl, inr, length-append}
 use Rattle.std.specs.List.{flat_map, range_with_len, slice_get}
+use Rattle.std.proofs.Math.Nat.{mul-le-mul_left}
 use Rattle.std.proofs.Math.Seq.{take-append-add}
 use Rattle.std.proofs.lemmas.Bool.{and_parts, cases_lt, eqb-true}
 use Rattle.std.proofs.lemmas.Bool.Decides.{nat_tests}
@@ -16,8 +17,8 @@ use Rattle.trace_text.specs.Parts.{has_part, is_scan, origin, own_parts, owner, 
 use Rattle.trace_text.specs.Trace.{Trace, trace_with}
 use Rattle.cache_model.specs.OwnParts.{issued_parts, parts_before, parts_of}
 use Rattle.shard_node.specs.inside.Rest.{is_for, part_at, shards_before}
-use Rattle.shard_node.proofs.Places.{meets-first, no_operation}
-use Rattle.shard_node.proofs.PartsBefore.{parts-end}
+use Rattle.shard_node.proofs.Places.{length-operations, meets-first, no_operation}
+use Rattle.shard_node.proofs.PartsBefore.{AreFew, parts-end}
 
 -- laws of issued parts: how many there are, and those of one peer
 abbrev pub AreCounted : Type 0
@@ -81,6 +82,31 @@ place-end counted trace n o s at ended =
     ∙ nothing
     ∙ parts-end ops n o at ended
     ∙ sym (counted (trace_in trace) n o)
+
+pub lower : (scan : Bool) (s n : ℕ) → s < n → cond scan s 0 < n
+lower true s n below = below
+lower false s n below = omega (arith, below)
+
+pub few-parts : AreFew → (trace : Parsed) (n o s at : ℕ) → s < n → n ≤ 16 → length trace.commands ≤ 1048576
+    → part_at trace n o s at ≤ 16777216
+few-parts few trace n o s at below most short =
+    let ops = (trace_in trace).operations in
+    let many = length-operations trace.bytes trace.commands in
+    elim (cases_lt at (length ops)) [
+      | inl within ↦
+          let law = few (trace_in trace) n o at (omega (arith, below)) in
+          let product : at * n ≤ at * 16 = mul-le-mul_left at most in
+          let scans = scans-here ops s at no_operation within in
+          let less = lower (is_scan (get_or ops at no_operation).kind) s n below in
+          omega (arith, law, product, scans, less, many, within, short, most)
+      | inr ended ↦
+          let law = few (trace_in trace) n o (length ops) (omega (arith, below)) in
+          let product : length ops * n ≤ length ops * 16 = mul-le-mul_left (length ops) most in
+          let scans = scans-end ops s at ended in
+          let same : parts_before (trace_in trace) n o at ≡ parts_before (trace_in trace) n o (length ops) =
+          parts-end ops n o at ended ∙ sym (parts-end ops n o (length ops) (omega arith)) in
+          omega (arith, law, product, scans, same, many, short)
+    ]
 
 -- the part of a command that a shard does stands at its place
 pub part-stands : AreCounted → (trace : Parsed) (n o s at : ℕ) (d : Operation) → s < n → at < length (trace_in trace).operations

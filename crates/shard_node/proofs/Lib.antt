@@ -2,6 +2,7 @@ pub mod Places
 pub mod PartsBefore
 pub mod IssuedParts
 pub mod Rests
+pub mod OwnNext
 pub mod Releases
 pub mod Each
 pub mod Stands

@@ -1,20 +1,17 @@
 -- What holds of the commands that one shard issues to another and that are left.
-use Rattle.std.proofs.Common.{◌≡◌, ℕ, suc, ◌+◌, ◌-◌, ◌*◌, ◌<◌, ◌≤◌, Bool, true, false, cond, eqb, List, [], ◌∷◌, ◌++◌, length, filter, take, drop, get_or, count_by, Some, arith, sym, ap, subst, ◌∙◌, inl, inr, length-append}
+use Rattle.std.proofs.Common.{◌≡◌, ℕ, suc, ◌+◌, ◌-◌, ◌<◌, ◌≤◌, true, eqb, List, [], ◌∷◌, ◌++◌, length, filter, take, drop, get_or, count_by, Some, arith, sym, ap, subst, ◌∙◌, inl, inr, length-append}
 use Rattle.std.specs.List.{slice_get}
 use Rattle.std.proofs.lemmas.Bool.{cases_lt}
 use Rattle.std.proofs.lemmas.List.{drop_all, drop_at, length-drop, take-append-drop}
 use Rattle.std.proofs.lemmas.List.Elements.{filter-append}
 use Rattle.std.proofs.lemmas.List.Sums.{count_by-le-length, length-filter}
-use Rattle.std.proofs.Math.Nat.{mul-le-mul_left}
 use Rattle.trace_text.specs.Operation.{Operation}
 use Rattle.trace_text.specs.Parsed.{Parsed, trace_in}
-use Rattle.trace_text.specs.Parts.{is_scan}
-use Rattle.cache_model.specs.OwnParts.{issued_parts, parts_before}
+use Rattle.cache_model.specs.OwnParts.{issued_parts}
 use Rattle.shard_node.specs.Due.{operations_for}
 use Rattle.shard_node.specs.inside.Rest.{StandsAt, is_for, left_from, part_at}
 use Rattle.shard_node.proofs.Places.{length-operations, meets-first, no_operation}
-use Rattle.shard_node.proofs.PartsBefore.{AreFew, parts-end}
-use Rattle.shard_node.proofs.IssuedParts.{AreCounted, AreOfPeers, count-before, part-stands, scans-here, scans-end}
+use Rattle.shard_node.proofs.IssuedParts.{AreCounted, AreOfPeers, count-before, part-stands}
 
 here-of : (trace : Parsed) (n o s at before : ℕ) → StandsAt trace n o s at before → (d : Operation) → at < length (trace_in trace).operations
     → is_for n o s (get_or (trace_in trace).operations at d) ≡ true
@@ -73,29 +70,3 @@ few-left trace n o s at few =
     let those = length-filter (is_for n o s) (drop at ops) in
     let fewer = count_by-le-length (is_for n o s) (drop at ops) in
     omega (arith, many, shorter, those, fewer, few)
-
-lower : (scan : Bool) (s n : ℕ) → s < n → cond scan s 0 < n
-lower true s n below = below
-lower false s n below = omega (arith, below)
-
-pub few-parts : AreFew → (trace : Parsed) (n o s at before : ℕ) → StandsAt trace n o s at before → n ≤ 16 → length trace.commands ≤ 1048576
-    → part_at trace n o s at ≤ 16777216
-few-parts few trace n o s at before stands most short =
-    let ops = (trace_in trace).operations in
-    let many = length-operations trace.bytes trace.commands in
-    let below = stands.shard in
-    elim (cases_lt at (length ops)) [
-      | inl within ↦
-          let law = few (trace_in trace) n o at (omega (arith, below)) in
-          let product : at * n ≤ at * 16 = mul-le-mul_left at most in
-          let scans = scans-here ops s at no_operation within in
-          let less = lower (is_scan (get_or ops at no_operation).kind) s n below in
-          omega (arith, law, product, scans, less, many, within, short, most)
-      | inr ended ↦
-          let law = few (trace_in trace) n o (length ops) (omega (arith, below)) in
-          let product : length ops * n ≤ length ops * 16 = mul-le-mul_left (length ops) most in
-          let scans = scans-end ops s at ended in
-          let same : parts_before (trace_in trace) n o at ≡ parts_before (trace_in trace) n o (length ops) =
-          parts-end ops n o at ended ∙ sym (parts-end ops n o (length ops) (omega arith)) in
-          omega (arith, law, product, scans, same, many, short)
-    ]

@@ -9,6 +9,7 @@
 mod expected;
 mod fitting;
 mod gate;
+mod own;
 mod peer;
 mod peer_steps;
 mod place;

@@ -1,4 +1,5 @@
-use Rattle.shard_node.proofs.Rests.{count-left, few-left, few-parts, in-log, last-left}
+use Rattle.shard_node.proofs.IssuedParts.{few-parts}
+use Rattle.shard_node.proofs.Rests.{count-left, few-left, in-log, last-left}
 use Rattle.shard_node.proofs.rest.Rest.facts.Goals as goal
 
 pub returns-clause-in_log : goal.returns-clause-in_log
@@ -16,4 +17,6 @@ returns-clause-few c =
 
 pub returns-clause-parts : goal.returns-clause-parts
 returns-clause-parts c =
-    rw (← c.self.view_is) (few-parts c.parts_go_up_by_command.ensures.most _ _ _ _ _ _ c.self.invariant (rw c.self.invariant.shards c.commands.ensures.most_shards) (rw c.commands.ensures.value at c.commands.ensures.few))
+    let few = rw c.commands.ensures.value at c.commands.ensures.few in
+    rw (← c.self.view_is)
+    (few-parts c.parts_go_up_by_command.ensures.most c.self.inside.trace.now c.self.inside.shards c.self.inside.origin c.self.inside.shard c.self.inside.next.at c.self.invariant.shard (rw c.self.invariant.shards c.commands.ensures.most_shards) few)
