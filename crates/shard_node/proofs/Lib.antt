@@ -12,6 +12,7 @@ pub mod RisingKeys
 pub mod FitsByBody
 pub mod Asides
 pub mod LogPlaces
+pub mod BegunParts
 pub mod Growth
 pub mod WorkLeft
 pub mod NextPart

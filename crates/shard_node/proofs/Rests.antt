@@ -1,5 +1,5 @@
 -- What holds of the commands that one shard issues to another and that are left.
-use Rattle.std.proofs.Common.{◌≡◌, ℕ, suc, ◌+◌, ◌-◌, ◌<◌, ◌≤◌, true, eqb, List, [], ◌∷◌, ◌++◌, length, filter, take, drop, get_or, count_by, Some, arith, sym, ap, subst, ◌∙◌, inl, inr, length-append}
+use Rattle.std.proofs.Common.{◌≡◌, ℕ, zero, suc, ◌+◌, ◌-◌, ◌<◌, ◌≤◌, true, eqb, List, [], ◌∷◌, ◌++◌, length, filter, take, drop, get_or, count_by, Some, arith, sym, ap, subst, ◌∙◌, inl, inr, length-append}
 use Rattle.std.specs.List.{slice_get}
 use Rattle.std.proofs.lemmas.Bool.{cases_lt}
 use Rattle.std.proofs.lemmas.List.{drop_all, drop_at, length-drop, take-append-drop}
@@ -70,3 +70,23 @@ few-left trace n o s at few =
     let those = length-filter (is_for n o s) (drop at ops) in
     let fewer = count_by-le-length (is_for n o s) (drop at ops) in
     omega (arith, many, shorter, those, fewer, few)
+
+-- Their place among all.
+
+first-dropped : {X : Type 0} (xs : List X) (k : ℕ) (x : X) (others : List X) → drop k xs ≡ x ∷ others → slice_get xs k ≡ Some x
+first-dropped [] zero x others is = absurd (let e : [] ≡ x ∷ others = is in cc)
+first-dropped [] (suc k) x others is = absurd (let e : [] ≡ x ∷ others = is in cc)
+first-dropped {X} (first ∷ xs) zero x others is = let same : first ≡ x = cc in ap Some same
+first-dropped (first ∷ xs) (suc k) x others is = first-dropped xs k x others is
+
+-- the first of them stands behind as many as were passed
+pub first-of-left : (all left : List Operation) (op : Operation) (others : List Operation) → left ≡ drop (length all - length left) all → left ≡ op ∷ others
+    → slice_get all (length all - length left) ≡ Some op
+first-of-left all left op others last is = first-dropped all (length all - length left) op others (sym last ∙ is)
+
+-- and so many were passed
+pub count-passed : (all left : List Operation) (k : ℕ) → left ≡ drop k all → k ≤ length all → length all - length left ≡ k
+count-passed all left k last within =
+    let shorter = length-drop k all in
+    let same = ap length last in
+    omega (arith, shorter, same, within)
