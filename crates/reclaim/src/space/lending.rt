@@ -1,5 +1,5 @@
 //! The blocks that a space lends, and the guards under which places stay.
-ghost use Rattle.std.specs.Prelude.{◌≡◌, ◌≢◌, ◌⊎◌, ◌↔◌, ◌+◌, ◌-◌, ◌<◌, ◌≤◌, length, replicate, Some, None, IfOk, IfErr, IsSome, IsTrue, MatchOption};
+ghost use Rattle.std.specs.Prelude.{◌≡◌, ◌≢◌, ◌⊎◌, ◌↔◌, ◌+◌, ◌-◌, ◌^◌, ◌<◌, ◌≤◌, length, replicate, Some, None, IfOk, IfErr, IsSome, IsTrue, MatchOption};
 ghost use Rattle.layout.specs.Sizes.{tickets};
 ghost use Rattle.cache_model.specs.Row.{Row};
 ghost use Rattle.cache_model.specs.Apply as apply;
@@ -22,6 +22,7 @@ impl<'f> Space<'f> {
         ensures owner { self.now.shard ≡ self.now.list.owner }
         ensures tickets { length self.now.lent ≡ tickets }
         ensures lends { self.now.lends ≡ raised self.now.backs (tickets_out self.now.lent) }
+        ensures backs { self.now.backs < 2 ^ 64 }
     {
         self.memory.facts();
     }
