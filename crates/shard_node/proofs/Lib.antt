@@ -16,3 +16,6 @@ pub mod BegunParts
 pub mod Growth
 pub mod WorkLeft
 pub mod NextPart
+pub mod Numbers
+pub mod QuietParts
+pub mod Askable

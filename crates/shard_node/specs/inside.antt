@@ -7,3 +7,4 @@ pub mod Peers
 pub mod Rising
 pub mod Fitting
 pub mod Work
+pub mod Parts

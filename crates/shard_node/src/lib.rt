@@ -9,7 +9,9 @@
 mod expected;
 mod fitting;
 mod gate;
+mod number;
 mod own;
+mod parts;
 mod peer;
 mod peer_steps;
 mod place;

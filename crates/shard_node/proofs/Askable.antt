@@ -1,0 +1,48 @@
+-- What is asked for a command of a trace is the command but for its line, and on that nothing rests.
+use Rattle.std.proofs.Common.{◌≡◌, ℕ, List, sym, ap, subst}
+use Rattle.trace_text.specs.Operation.{Operation}
+use Rattle.cache_model.specs.Apply.{Reply, apply}
+use Rattle.cache_model.specs.Fits.{Fits}
+use Rattle.cache_model.specs.Row.{Row}
+use Rattle.run_log.specs.JournalState.{JournalState}
+use Rattle.run_log.specs.Replies.{Replies}
+use Rattle.shard_rings.specs.Ask.{on_no_line}
+use Rattle.shard_rings.specs.Request.{request}
+use Rattle.reclaim.specs.Spaces.{SpaceState}
+use Rattle.reclaim.specs.Works.{DoesAbove}
+use Rattle.shard_node.specs.inside.Parts.{DoesPart}
+
+module _ (asked operation : Operation) (line : asked ≡ on_no_line operation) where
+  pub same_number : asked.number ≡ operation.number
+  same_number = ap (λ (o : Operation). o.number) line
+
+  pub same_request : request asked ≡ request operation
+  same_request = ap request line
+
+  -- a reply fits the one where it fits the other
+  pub fits_operation : (longest : ℕ) (reply : Reply) → Fits longest asked reply → Fits longest operation reply
+  fits_operation longest reply fits = subst (λ (o : Operation). Fits longest o reply) line fits
+
+  pub fits_asked : (longest : ℕ) (reply : Reply) → Fits longest operation reply → Fits longest asked reply
+  fits_asked longest reply fits = subst (λ (o : Operation). Fits longest o reply) (sym line) fits
+
+  -- and what does the one does the other
+  module _ (same : (cache : List Row) → apply asked cache ≡ apply operation cache) where
+    pub does_operation : (bound : ℕ) (reply : Reply) (old new : SpaceState) (before after : JournalState)
+        → DoesAbove bound asked reply old new before after → DoesAbove bound operation reply old new before after
+    does_operation bound reply old new before after does =
+        let here = same does.rest in
+        record {
+          evicted = does.evicted;
+          rest = does.rest;
+          evicts = does.evicts;
+          recorded = rw same_number at does.recorded;
+          rows = rw here at does.rows;
+          reply = rw here at does.reply;
+          same = does.same;
+        }
+
+    pub part_of_operation : (part : ℕ) (old new : SpaceState) (before after : JournalState) (log logged : Replies)
+        → DoesPart part asked old new before after log logged → DoesPart part operation old new before after log logged
+    part_of_operation part old new before after log logged does =
+        record { reply = does.reply; works = does_operation _ does.reply old new before after does.works; came = does.came; logs = does.logs }
