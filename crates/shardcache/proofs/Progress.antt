@@ -26,8 +26,6 @@ use Rattle.cache_model.specs.Spelled.{spelled}
 use Rattle.run_log.specs.Replies.{Replies}
 use Rattle.run_log.specs.JournalState.{JournalState}
 use Rattle.reclaim.specs.Spaces.{SpaceState}
-use Rattle.regions.specs.Shapes.{guards_of}
-use Rattle.shard_memory.specs.Tickets.{tickets_out}
 use Rattle.shardcache.specs.inside.Progress.{HasDone, most_of_bodies, pressure, puts_among}
 use Rattle.shardcache.specs.inside.Works.{DoesCommand}
 use Rattle.shardcache.proofs.Numbered.{Numbered, command_at, not_before, number_at}

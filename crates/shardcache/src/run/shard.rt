@@ -1,15 +1,12 @@
 //! A shard at work on a trace.
-ghost use Rattle.std.specs.Prelude.{◌≡◌, ◌*◌, ◌-◌, ◌≤◌, List, length, vec_len, All, Contains, IfOk};
+ghost use Rattle.std.specs.Prelude.{◌≡◌, ◌*◌, ◌-◌, ◌≤◌, length, vec_len, All, Contains, IfOk};
 ghost use Rattle.layout.specs.Sizes.{ArePages, key_room, most_keys};
-ghost use Rattle.trace_text.specs.Operation.{operation};
 ghost use Rattle.trace_text.specs.Parsed.{AreNumbered, IsWellFormed, trace_in};
 ghost use Rattle.trace_text.specs.Reading.{most_commands};
-ghost use Rattle.cache_model.specs.Apply.{apply};
-ghost use Rattle.cache_model.specs.Row.{Row, live};
+ghost use Rattle.cache_model.specs.Row.{live};
 ghost use Rattle.foreign_list.specs.OwnerSeats.{IsAtRest};
 ghost use Rattle.regions.specs.Shapes.{guards_of};
 ghost use Rattle.shard_memory.specs.Tickets.{tickets_out};
-ghost use Rattle.shard_rings.specs.Ask.{asked, on_no_line, IsAskable};
 ghost use Rattle.shardcache.specs.inside.Progress.{HasDone};
 
 use super::Finished;
@@ -21,7 +18,7 @@ use foreign_list::{Foreign, OwnerSeat};
 use layout::{KEY_ROOM, MOST_KEYS};
 use reclaim::Space;
 use run_log::{Journal, ReplyLog};
-use shard_rings::{Ask, commands_can_be_asked};
+use shard_rings::Ask;
 use std::alloc::{AllocError, Global};
 use trace_text::{Command, Trace};
 
@@ -87,7 +84,7 @@ impl<'f> Shard<'f> {
         evictions_in_turn_are_legal();
         evictions_are_counted();
         bodies_have_room();
-        let ask = ask_of(trace, command);
+        let ask = Ask::of(trace, command);
         let (space, journal, log) = (&mut self.space, &mut self.journal, &mut self.log);
         do_part(space, &ask, self.keys.as_mut_slice(), journal, log);
     }
@@ -118,23 +115,5 @@ impl<'f> Shard<'f> {
             live,
         };
         (finished, seat)
-    }
-}
-
-/// What a command of the trace asks.
-fn ask_of<'a>(trace: &'a Trace, command: &Command) -> Ask<'a>
-    requires of_trace { Contains trace.now.commands command.now }
-    requires formed { IsWellFormed (operation trace.now.bytes command.now) }
-    ensures asked { asked result ≡ on_no_line (operation trace.now.bytes command.now) }
-    ensures askable { IsAskable (asked result) }
-    ensures same { (cache : List Row) → apply (asked result) cache ≡ apply (operation trace.now.bytes command.now) cache }
-{
-    commands_can_be_asked();
-    Ask {
-        kind: command.kind,
-        key: trace.key(command),
-        value: trace.value(command),
-        count: command.count,
-        number: command.number,
     }
 }

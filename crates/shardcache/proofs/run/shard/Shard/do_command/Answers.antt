@@ -1,12 +1,11 @@
 -- One command more is done.
-use Rattle.trace_text.specs.Operation.{operation}
 use Rattle.shard_rings.specs.Ask.{asked}
-use Rattle.shardcache.proofs.Next.{IsNext, at, fits, more, tables, unanswered}
+use Rattle.shardcache.proofs.Next.{IsNext, fits, more, tables, unanswered}
 use Rattle.shardcache.proofs.Progress.{Laws}
 use Rattle.shardcache.proofs.run.shard.Shard.do_command.Goals as goal
-use Rattle.shardcache.proofs.run.shard.Shard.do_command.Goals.{After-ask_of-ask}
+use Rattle.shardcache.proofs.run.shard.Shard.do_command.Goals.{After-of-ask}
 
-laws : After-ask_of-ask → Laws
+laws : After-of-ask → Laws
 laws c = record {
   leads = c.a_journal_goes_on.ensures.leads;
   kept = c.a_journal_goes_on.ensures.kept;
@@ -20,33 +19,28 @@ laws c = record {
   bodies = c.bodies_have_room.ensures;
 }
 
-next : (c : After-ask_of-ask)
-    → IsNext c.args.trace.now.bytes c.args.trace.now.commands c.args.command.now (asked c.ask_of-ask.result) c.args.self.now.space c.args.self.now.journal c.args.self.now.log
+next : (c : After-of-ask)
+    → IsNext c.args.trace.now.bytes c.args.trace.now.commands c.args.command.now (asked c.of-ask.result) c.args.self.now.space c.args.self.now.journal c.args.self.now.log
 next c = record {
   of_trace = c.requires.of_trace;
   numbered = c.requires.numbered;
   formed = c.requires.well_formed;
   so_far = c.requires.so_far;
-  line = c.ask_of-ask.ensures.asked;
-  same = c.ask_of-ask.ensures.same;
+  line = c.of-ask.ensures.asked;
+  same = c.of-ask.ensures.same;
 }
 
-pub ask_of-ask-requires-clause-formed : goal.ask_of-ask-requires-clause-formed
-ask_of-ask-requires-clause-formed c =
-    let place = at c.args.trace.now.bytes c.args.trace.now.commands c.args.command.now c.requires.of_trace c.requires.numbered in
-    rw place.is at (c.requires.well_formed c.requires.of_trace.0 (operation c.args.trace.now.bytes c.args.command.now) place.within)
-
 pub do_part-requires-clause-tables : goal.do_part-requires-clause-tables
-do_part-requires-clause-tables c is = tables _ _ _ _ _ _ _ (next (goal.at.do_part-requires-clause-tables c).After-ask_of-ask) is
+do_part-requires-clause-tables c is = tables _ _ _ _ _ _ _ (next (goal.at.do_part-requires-clause-tables c).After-of-ask) is
 
 pub do_part-requires-clause-unanswered : goal.do_part-requires-clause-unanswered
-do_part-requires-clause-unanswered c = unanswered _ _ _ _ _ _ _ (next (goal.at.do_part-requires-clause-unanswered c).After-ask_of-ask)
+do_part-requires-clause-unanswered c = unanswered _ _ _ _ _ _ _ (next (goal.at.do_part-requires-clause-unanswered c).After-of-ask)
 
 pub do_part-requires-clause-fits : goal.do_part-requires-clause-fits
-do_part-requires-clause-fits c = fits (laws (goal.at.do_part-requires-clause-fits c).After-ask_of-ask) _ _ _ _ _ _ _ (next (goal.at.do_part-requires-clause-fits c).After-ask_of-ask)
+do_part-requires-clause-fits c = fits (laws (goal.at.do_part-requires-clause-fits c).After-of-ask) _ _ _ _ _ _ _ (next (goal.at.do_part-requires-clause-fits c).After-of-ask)
 
 pub returns-clause-done : goal.returns-clause-done
-returns-clause-done c = more (laws (goal.at.returns-clause-done c).After-ask_of-ask) _ _ _ _ _ _ _ _ _ _ (next (goal.at.returns-clause-done c).After-ask_of-ask) c.do_part.ensures
+returns-clause-done c = more (laws (goal.at.returns-clause-done c).After-of-ask) _ _ _ _ _ _ _ _ _ _ (next (goal.at.returns-clause-done c).After-of-ask) c.do_part.ensures
 
 pub returns-clause-pages : goal.returns-clause-pages
 returns-clause-pages c = c.do_part.ensures.works.same.pages
