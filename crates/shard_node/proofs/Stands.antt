@@ -1,13 +1,15 @@
 -- A node stays in standing.
-use Rattle.std.proofs.Common.{◌≡◌, ℕ, suc, ◌+◌, ◌<◌, List, [], ◌∷◌, length, get_or, arith, refl, sym, ap, subst, ◌∙◌, sum_by}
+use Rattle.std.proofs.Common.{◌≡◌, ℕ, suc, ◌+◌, ◌<◌, List, [], ◌∷◌, length, get_or, arith, refl, sym, ap, subst, ◌∙◌, sum_by, Option, Some}
 use Rattle.std.specs.List.{All}
 use Rattle.std.proofs.lemmas.List.Sums.{sum_by-cons}
 use Rattle.foreign_list.specs.Blocks.{Block}
 use Rattle.shard_rings.specs.Lanes.{Lanes}
-use Rattle.std.proofs.Common.{Option}
-use Rattle.shard_node.specs.Nodes.{Lending, NodeState, PeerState, Traffic}
-use Rattle.shard_node.specs.Standing.{InStanding, AsksInOrder, ServesInOrder, RepliesInOrder, LogsWhatCame, SendsEachRequest, SendsEachReply, held_of, one_if, received_from}
+use Rattle.reclaim.specs.Spaces.{SpaceState}
+use Rattle.shard_memory.specs.Tickets.{raised, tickets_out}
+use Rattle.shard_node.specs.Nodes.{NodeState, PeerState, Traffic}
+use Rattle.shard_node.specs.Standing.{InStanding, held_of, received_from}
 use Rattle.shard_node.specs.inside.Releases.{Releases}
+use Rattle.shard_node.proofs.Peerwise.{StandsWith, all_stand, each_stands, stays}
 
 sum-of-two : {X : Type 0} (f : X → ℕ) (x y : X) (xs ys : List X) → f y ≡ f x → sum_by f ys ≡ sum_by f xs → sum_by f (y ∷ ys) ≡ sum_by f (x ∷ xs)
 sum-of-two f x y xs ys first others =
@@ -38,6 +40,18 @@ module _ {L : Type 0} where
       subst Q (sym (other k d inside)) (keeps (get_or old k d) (get_or new k d).held (all k d inside))
 
 module _ {L G : Type 0} (traffic : L → Traffic) where
+  holding : (node : NodeState L G) (peers : List (PeerState L)) (tally : ℕ) (p : PeerState L) (h : Lanes (Option Block)) → StandsWith traffic node p
+      → StandsWith traffic (record node { peers = peers; tally = tally }) (record p { held = h })
+  holding node peers tally p h x = record {
+    asked = x.asked;
+    served = x.served;
+    replied = x.replied;
+    logged = record { replies = x.logged.replies; taken = x.logged.taken; logged = x.logged.logged; answers = x.logged.answers; owed = x.logged.owed };
+    requests = record { count = x.requests.count; next = x.requests.next };
+    replies = record { count = x.replies.count; next = x.replies.next };
+    placed = record { asks = x.placed.asks; heard = x.placed.heard; told = x.placed.told };
+  }
+
   pub released : (node : NodeState L G) (peers : List (PeerState L)) (tally : ℕ) → length peers ≡ length node.peers → HoldOther node.peers peers
       → Releases (sum_by (held_of traffic node) node.peers) (sum_by (held_of traffic node) peers) node.tally tally
       → InStanding traffic node → InStanding traffic (record node { peers = peers; tally = tally })
@@ -48,53 +62,30 @@ module _ {L G : Type 0} (traffic : L → Traffic) where
       let before = stands.kept.received.all in
       let more = releases.all in
       let counted = stands.kept.received.counted in
-      record {
+      all_stand traffic now (record {
         journal = record { legal = stands.journal.legal; pressure = stands.journal.pressure };
-        asked = still (AsksInOrder traffic node) (AsksInOrder traffic now) node.peers peers (λ p h x. x) same other stands.asked;
-        served = still (ServesInOrder traffic node) (ServesInOrder traffic now) node.peers peers (λ p h x. x) same other stands.served;
         own = stands.own;
-        replied = still (RepliesInOrder traffic node) (RepliesInOrder traffic now) node.peers peers (λ p h x. x) same other stands.replied;
-        logged = record {
-          one_each = stands.logged.one_each;
-          own = stands.logged.own;
-          others = still (LogsWhatCame traffic node) (LogsWhatCame traffic now) node.peers peers
-              (λ p h x. record { replies = x.replies; taken = x.taken; logged = x.logged }) same other stands.logged.others;
-        };
+        one_each = stands.logged.one_each;
+        logged = stands.logged.own;
         lent = record { lends = stands.lent.lends; out = stands.lent.out };
-        kept = record {
-          received = record {
-            released = stands.kept.received.released + releases.released;
-            all = omega (arith, received, before, more);
-            counted = let e = releases.counts (omega (arith, counted)) in omega (arith, e, counted);
-          };
-          requests = still (SendsEachRequest traffic node) (SendsEachRequest traffic now) node.peers peers
-              (λ p h x. record { count = x.count; next = x.next }) same other stands.kept.requests;
-          replies = still (SendsEachReply traffic node) (SendsEachReply traffic now) node.peers peers
-              (λ p h x. record { count = x.count; next = x.next }) same other stands.kept.replies;
+        received = record {
+          released = stands.kept.received.released + releases.released;
+          all = omega (arith, received, before, more);
+          counted = let e = releases.counts (omega (arith, counted)) in omega (arith, e, counted);
         };
-      }
+      }) (still (StandsWith traffic node) (StandsWith traffic now) node.peers peers (holding node peers tally) same other (each_stands traffic node stands))
 
-  -- blocks come back: so many tickets fewer are out
-  pub came_back : (node : NodeState L G) (lending : Lending) → lending.lends ≡ node.lending.lends
-      → lending.backs + sum_by one_if lending.lent ≡ node.lending.backs + sum_by one_if node.lending.lent
-      → InStanding traffic node → InStanding traffic (record node { lending = lending })
-  came_back node lending lends out stands =
-      let now : NodeState L G = record node { lending = lending } in
-      record {
-        journal = record { legal = stands.journal.legal; pressure = stands.journal.pressure };
-        asked = stands.asked;
-        served = stands.served;
+  -- blocks come back, and no row changes
+  pub came_back : (node : NodeState L G) (space : SpaceState) → space.rows ≡ node.space.rows → space.lends ≡ node.space.lends
+      → space.lends ≡ raised space.backs (tickets_out space.lent) → InStanding traffic node → InStanding traffic (record node { space = space })
+  came_back node space rows lends out stands =
+      let now : NodeState L G = record node { space = space } in
+      all_stand traffic now (record {
+        journal = record { legal = stands.journal.legal ∙ ap Some (sym rows); pressure = stands.journal.pressure };
         own = stands.own;
-        replied = stands.replied;
-        logged = record {
-          one_each = stands.logged.one_each;
-          own = stands.logged.own;
-          others = λ k d below. let x = stands.logged.others k d below in record { replies = x.replies; taken = x.taken; logged = x.logged };
-        };
-        lent = record { lends = lends ∙ stands.lent.lends; out = out ∙ (stands.lent.out ∙ sym lends) };
-        kept = record {
-          received = record { released = stands.kept.received.released; all = stands.kept.received.all; counted = stands.kept.received.counted };
-          requests = λ k d below. let x = stands.kept.requests k d below in record { count = x.count; next = x.next };
-          replies = λ k d below. let x = stands.kept.replies k d below in record { count = x.count; next = x.next };
-        };
-      }
+        one_each = stands.logged.one_each;
+        logged = stands.logged.own;
+        lent = record { lends = lends ∙ stands.lent.lends; out = out };
+        received = record { released = stands.kept.received.released; all = stands.kept.received.all; counted = stands.kept.received.counted };
+      }) (λ k d below. stays traffic node space node.journal node.log node.peers node.begun node.request node.gate node.tally (get_or node.peers k d) (λ i reply e. e)
+      (record { done = refl; logged = refl; begun = refl; waiting = refl }) (each_stands traffic node stands k d below))

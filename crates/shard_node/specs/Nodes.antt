@@ -1,14 +1,14 @@
 -- What a caller sees of a node: one shard at work on its parts of a trace.
-use Rattle.std.specs.Prelude.{ℕ, List, Option}
+use Rattle.std.specs.Prelude.{ℕ, Bool, List, Option}
+use Rattle.trace_text.specs.Operation.{Operation}
 use Rattle.trace_text.specs.Trace.{Trace}
 use Rattle.run_log.specs.JournalState.{JournalState}
 use Rattle.run_log.specs.Replies.{Replies}
-use Rattle.foreign_list.specs.declared.piece_id.PieceId.{PieceId}
-use Rattle.foreign_list.specs.Lists.{OwnedList}
 use Rattle.foreign_list.specs.Blocks.{Block}
 use Rattle.shard_rings.specs.declared.link.Packet.{Packet}
 use Rattle.shard_rings.specs.Lanes.{Lanes}
-use Rattle.cache_model.specs.Row.{Row}
+use Rattle.reclaim.specs.Spaces.{SpaceState}
+use Rattle.shard_node.specs.declared.waiting.Waiting.{Waiting}
 
 -- what went over a link, and how often a lane of it was full or empty
 pub record Traffic : Type 0 where
@@ -21,6 +21,16 @@ pub record Traffic : Type 0 where
 abbrev pub traffic_by : {L : Type 0} → (L → Lanes (List Packet)) → (L → Lanes (List Packet)) → (L → Lanes ℕ) → (L → Lanes ℕ) → L → Traffic
 traffic_by sent received full empty link = record { sent = sent link; received = received link; full = full link; empty = empty link }
 
+-- What a node keeps of a peer in place of whole lists: it tells how far the two are with each other.
+pub record Keeping : Type 0 where
+  -- what the peer still will ask, and whether its Bye came
+  pub asks : List Operation
+  pub has_heard_bye : Bool
+  -- what it still will answer, how many of these it was asked, and whether Bye went to it
+  pub answers : List Operation
+  pub owed : ℕ
+  pub has_sent_bye : Bool
+
 -- another shard, as a node deals with it
 pub record PeerState (L : Type 0) : Type 0 where
   -- its number
@@ -30,21 +40,7 @@ pub record PeerState (L : Type 0) : Type 0 where
   pub held : Lanes (Option Block)
   -- the reply that waits to be sent
   pub reply : Option Block
-
--- the blocks that a shard lent
-pub record Lending : Type 0 where
-  -- the piece lent with each ticket, by its number, and none where the ticket is idle
-  pub lent : List (Option PieceId)
-  -- how many blocks were lent, and how many came back
-  pub lends : ℕ
-  pub backs : ℕ
-  -- how often the list of blocks that came home was taken whole
-  pub take_wholes : ℕ
-
--- a request that waits to be sent: to which shard, and its block
-pub record Waiting : Type 0 where
-  pub peer : ℕ
-  pub block : Block
+  pub keeps : Keeping
 
 -- L is the type of the links, G that of the gate
 pub record NodeState (L G : Type 0) : Type 0 where
@@ -53,10 +49,8 @@ pub record NodeState (L G : Type 0) : Type 0 where
   pub shards : ℕ
   pub pages : ℕ
   pub trace : Trace
-  pub home : OwnedList
-  -- the rows of its cache, the one used last in front
-  pub rows : List Row
-  pub lending : Lending
+  -- its cache, and the blocks that it lent
+  pub space : SpaceState
   -- what it did
   pub journal : JournalState
   -- the replies to its own parts

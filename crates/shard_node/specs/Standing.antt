@@ -1,5 +1,5 @@
 -- A node in good standing: what holds of it after each turn, whatever its links and its gate answer.
-use Rattle.std.specs.Prelude.{◌≡◌, ℕ, ◌+◌, ◌-◌, ◌==◌, Bool, true, false, not, List, [], ◌∷◌, ◌++◌, length, map, filter, take, replicate, count_by, sum_by, min, All, if◌then◌else◌, Option, Some, None}
+use Rattle.std.specs.Prelude.{◌≡◌, ℕ, ◌+◌, ◌-◌, ◌==◌, ◌↔◌, Bool, true, false, not, List, [], ◌∷◌, ◌++◌, length, map, filter, take, drop, replicate, count_by, sum_by, min, All, if◌then◌else◌, Option, Some, None}
 use Rattle.std.specs.List.{zip}
 use Rattle.std.specs.Option.{option_map}
 use mathlib.Core.List.{IsPrefix}
@@ -13,11 +13,13 @@ use Rattle.cache_model.specs.OwnParts.{issued_parts}
 use Rattle.cache_model.specs.Row.{tight_floor}
 use Rattle.cache_model.specs.Spelled.{spelled}
 use Rattle.foreign_list.specs.Blocks.{Block}
+use Rattle.shard_memory.specs.Tickets.{raised, tickets_out}
 use Rattle.shard_rings.specs.Lanes.{greatest_count}
 use Rattle.shard_rings.specs.Reply.{HoldsReply}
 use Rattle.shard_rings.specs.declared.link.Packet.{Packet}
 use Rattle.shard_rings.specs.declared.link.Packet.TheVariants.{Block as InBlock, Bye}
-use Rattle.shard_node.specs.Nodes.{NodeState, PeerState, Traffic, Waiting}
+use Rattle.shard_node.specs.Nodes.{NodeState, PeerState, Traffic}
+use Rattle.shard_node.specs.declared.waiting.Waiting.{Waiting}
 use Rattle.shard_node.specs.Due.{Takes, due, operations_for, requests_taken, said}
 
 -- the commands of one origin that a journal has done, in order
@@ -30,17 +32,6 @@ begun_parts node = take node.begun (issued_parts node.trace node.shards node.sha
 
 abbrev pub begun_at : {L G : Type 0} → NodeState L G → ℕ → List (ℕ × ℕ)
 begun_at node q = filter (λ part. part.1 == q) (begun_parts node)
-
--- what the log has of the parts that shard q does, in order
-abbrev pub logged_at : {L G : Type 0} → NodeState L G → ℕ → List (Option (ReplyKind × List ℕ))
-logged_at node q = map (λ entry. entry.1) (filter (λ entry. entry.0.1 == q) (zip (issued_parts node.trace node.shards node.shard) node.log.replies))
-
--- the packets are the replies to the first of these commands, each in its block
-abbrev pub AreReplies : (ℕ → Option Reply) → List Packet → List ℕ → Type 0
-AreReplies reply [] numbers = Unit {0}
-AreReplies reply (InBlock block ∷ packets) (i ∷ numbers) =
-    ((answer : Reply) × (reply i ≡ Some answer) × HoldsReply block.piece.bytes i answer) × AreReplies reply packets numbers
-AreReplies reply (packet ∷ packets) numbers = ⊥
 
 -- Blocks.
 
@@ -55,6 +46,17 @@ abbrev pub one_if : {A : Type 0} → Option A → ℕ
 one_if None = 0
 one_if (Some a) = 1
 
+-- what the log has of the parts that shard q does, in order
+abbrev pub logged_at : {L G : Type 0} → NodeState L G → ℕ → List (Option (ReplyKind × List ℕ))
+logged_at node q = map (λ entry. entry.1) (filter (λ entry. entry.0.1 == q) (zip (issued_parts node.trace node.shards node.shard) node.log.replies))
+
+-- the packets are the replies to the first of these commands, each in its block
+abbrev pub AreReplies : (ℕ → Option Reply) → List Packet → List ℕ → Type 0
+AreReplies reply [] numbers = Unit {0}
+AreReplies reply (InBlock block ∷ packets) (i ∷ numbers) =
+    ((answer : Reply) × (reply i ≡ Some answer) × HoldsReply block.piece.bytes i answer) × AreReplies reply packets numbers
+AreReplies reply (packet ∷ packets) numbers = ⊥
+
 -- the reply that waits to be sent to a peer, as a list of at most one packet
 abbrev pub waiting_reply : Option Block → List Packet
 waiting_reply None = []
@@ -68,7 +70,7 @@ waiting_request (Some waiting) q = if waiting.peer == q then Some waiting.block.
 module _ {L G : Type 0} (traffic : L → Traffic) (node : NodeState L G) where
   -- the journal is legal, and the cache has the rows that it leads to; with one shard nothing is evicted but under pressure
   pub record LeadsToItsRows : Type 0 where
-    pub legal : cache_after node.trace node.pages node.journal.entries ≡ Some node.rows
+    pub legal : cache_after node.trace node.pages node.journal.entries ≡ Some node.space.rows
     pub pressure : node.shards ≡ 1 → EvictsAbove node.trace node.pages (tight_floor node.pages 0 + dense) node.journal.entries
 
   -- what was sent to a peer on the lane of requests is the first of what is due to it
@@ -81,9 +83,10 @@ module _ {L G : Type 0} (traffic : L → Traffic) (node : NodeState L G) where
       ≡ take (requests_taken (due node.trace node.shards peer.shard node.shard) (traffic peer.link).received.requests)
       (parts node.trace node.shards peer.shard node.shard)
 
-  -- its own parts that it does itself are done in order
+  -- its own parts that it does itself are done as they are begun, in order
   abbrev pub DoesItsOwnInOrder : Type 0
-  DoesItsOwnInOrder = IsPrefix (done_for node.shards node.shard node.journal.entries) (parts node.trace node.shards node.shard node.shard)
+  DoesItsOwnInOrder = done_for node.shards node.shard node.journal.entries
+      ≡ take (length (begun_at node node.shard)) (parts node.trace node.shards node.shard node.shard)
 
   -- what was sent to a peer on the lane of replies are the journal's replies to what was done for it, in order
   abbrev pub RepliesInOrder : PeerState L → Type 0
@@ -95,13 +98,16 @@ module _ {L G : Type 0} (traffic : L → Traffic) (node : NodeState L G) where
   LogsItsOwn = logged_at node node.shard
       ≡ map (λ i. option_map spelled (reply_at node.trace node.pages node.journal.entries i)) (parts node.trace node.shards node.shard node.shard)
 
-  -- and to the parts that a peer does the replies that were taken of it, in order
+  -- and to the parts that a peer does the replies that were taken of it, in order; it still will answer the others, of which it
+  -- was asked some
   pub record LogsWhatCame (peer : PeerState L) : Type 0 where
     pub replies : List Reply
     pub taken : Takes node.trace (operations_for node.trace node.shards node.shard peer.shard) (traffic peer.link).received.replies replies
     pub logged : logged_at node peer.shard
         ≡ map (λ reply. Some (spelled reply)) replies
         ++ replicate (length (parts node.trace node.shards node.shard peer.shard) - length replies) None
+    pub answers : peer.keeps.answers ≡ drop (length replies) (operations_for node.trace node.shards node.shard peer.shard)
+    pub owed : peer.keeps.owed + length replies ≡ blocks (traffic peer.link).sent.requests
 
   pub record Logs : Type 0 where
     pub one_each : length node.log.replies ≡ length (issued_parts node.trace node.shards node.shard)
@@ -117,8 +123,8 @@ module _ {L G : Type 0} (traffic : L → Traffic) (node : NodeState L G) where
 
   -- a block was lent for each of them, and those that did not come back are the tickets that are out
   pub record LendsOneEach : Type 0 where
-    pub lends : node.lending.lends ≡ asked_of_others + done_for_others
-    pub out : node.lending.backs + sum_by one_if node.lending.lent ≡ node.lending.lends
+    pub lends : node.space.lends ≡ raised 0 (asked_of_others + done_for_others)
+    pub out : node.space.lends ≡ raised node.space.backs (tickets_out node.space.lent)
 
   -- how many blocks came over both lanes of a peer, and how many of them wait to be released
   abbrev pub received_from : PeerState L → ℕ
@@ -150,6 +156,14 @@ module _ {L G : Type 0} (traffic : L → Traffic) (node : NodeState L G) where
     pub requests : All SendsEachRequest node.peers
     pub replies : All SendsEachReply node.peers
 
+  -- it knows how far a peer is with its requests: what it still will ask stands behind what was taken of it
+  pub record KnowsItsPlace (peer : PeerState L) : Type 0 where
+    pub asks : peer.keeps.asks
+        ≡ drop (requests_taken (due node.trace node.shards peer.shard node.shard) (traffic peer.link).received.requests) (operations_for node.trace node.shards peer.shard node.shard)
+    pub heard : (peer.keeps.has_heard_bye ≡ true)
+        ↔ (requests_taken (due node.trace node.shards peer.shard node.shard) (traffic peer.link).received.requests ≡ length (due node.trace node.shards peer.shard node.shard))
+    pub told : (peer.keeps.has_sent_bye ≡ true) ↔ (map said (traffic peer.link).sent.requests ≡ due node.trace node.shards node.shard peer.shard)
+
   pub record InStanding : Type 0 where
     -- the journal is legal, and the cache is the one that it leads to
     pub journal : LeadsToItsRows
@@ -167,3 +181,5 @@ module _ {L G : Type 0} (traffic : L → Traffic) (node : NodeState L G) where
     pub lent : LendsOneEach
     -- each block that was received or made was passed on, or waits for it
     pub kept : LosesNone
+    -- it knows how far each peer is with its requests
+    pub placed : All KnowsItsPlace node.peers

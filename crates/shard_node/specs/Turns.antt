@@ -1,27 +1,23 @@
 -- What a turn answers, and exactly when.
-use Rattle.std.specs.Prelude.{◌≡◌, ◌≢◌, ℕ, suc, ◌-◌, ◌<◌, ◌⊎◌, false, List, [], ◌∷◌, ◌++◌, length, map, take, drop, All, Option, Some, None, IsSome}
+use Rattle.std.specs.Prelude.{◌≡◌, ◌≢◌, ℕ, ◌-◌, ◌<◌, ◌⊎◌, false, List, [], ◌∷◌, ◌++◌, length, map, All, Option, Some, None, IsSome}
 use Rattle.std.specs.List.{slice_get}
 use Rattle.trace_text.specs.Operation.{Operation}
 use Rattle.cache_model.specs.Apply.{Reply}
 use Rattle.cache_model.specs.Legal.{done}
 use Rattle.cache_model.specs.OwnParts.{issued_parts}
 use Rattle.foreign_list.specs.Blocks.{Block}
-use Rattle.foreign_list.specs.declared.piece_id.PieceId.{PieceId}
+use Rattle.shard_memory.specs.Tickets.{HasIdle, tickets_out}
+use Rattle.shard_memory.specs.declared.share.Share.TheVariants.{Request, Reply as ReplyShare}
 use Rattle.shard_rings.specs.Lanes.{Rose, on}
 use Rattle.shard_rings.specs.declared.link.Lane.{Lane}
 use Rattle.shard_rings.specs.declared.link.Lane.TheVariants.{Requests, Replies}
 use Rattle.shard_rings.specs.declared.link.Packet.{Packet}
+use Rattle.shard_node.specs.declared.aside.Aside.{Aside}
 use Rattle.shard_node.specs.declared.turn.Turn.{Turn}
 use Rattle.shard_node.specs.declared.turn.Turn.TheVariants.{Moved, Idle, Done, Stray}
-use Rattle.shard_node.specs.Nodes.{NodeState, PeerState, Traffic, Waiting}
+use Rattle.shard_node.specs.Nodes.{NodeState, PeerState, Traffic}
+use Rattle.shard_node.specs.declared.waiting.Waiting.{Waiting}
 use Rattle.shard_node.specs.Due.{AnswersNot, Takes, due, is_next, number_in, number_said, operations_for, requests_taken, said}
-
--- the tickets of requests are the first ones, and the others are those of replies
-abbrev pub request_tickets : ℕ
-request_tickets = 8
-
-abbrev pub NoneIdle : List (Option PieceId) → Type 0
-NoneIdle tickets = All (λ ticket. IsSome ticket) tickets
 
 abbrev pub IsEmpty : {A : Type 0} → Option A → Type 0
 IsEmpty option = option ≡ None
@@ -29,12 +25,6 @@ IsEmpty option = option ≡ None
 -- the place k of two lists
 abbrev pub AtPlace : {A : Type 0} → List A → List A → ℕ → (A → A → Type 0) → Type 0
 AtPlace {A} old new k R = (a b : A) → slice_get old k ≡ Some a → slice_get new k ≡ Some b → R a b
-
--- the answer for a packet that was not the one expected: who sent it, the number of the packet that was expected, and its own
-pub record Aside : Type 0 where
-  pub peer : ℕ
-  pub expected : ℕ
-  pub found : ℕ
 
 -- the number of the packet that was expected; Bye has 0, and so has what comes where nothing was
 abbrev pub expected_number : Option Operation → ℕ
@@ -64,7 +54,7 @@ module _ {L G : Type 0} (traffic : L → Traffic) (holds : G → ℕ) where
     pub answered : All (λ reply. IsSome reply) node.log.replies
     pub parted : All (HasParted node) node.peers
     pub asked : IsEmpty node.request
-    pub idle : All (λ ticket. IsEmpty ticket) node.lending.lent
+    pub idle : tickets_out node.space.lent ≡ 0
 
   -- Stray.
 
@@ -116,7 +106,7 @@ module _ {L G : Type 0} (traffic : L → Traffic) (holds : G → ℕ) where
   -- a block came back, a packet was sent or received, a part was done, or a block that waited was released
   abbrev pub HasCause : NodeState L G → NodeState L G → Type 0
   HasCause old new =
-      (old.lending.backs < new.lending.backs)
+      (old.space.backs < new.space.backs)
       ⊎ ForSome HasMoved old new
       ⊎ (length (done old.journal.entries) < length (done new.journal.entries))
       ⊎ (ForSome HasReleased old new × Rose old.tally new.tally)
@@ -161,7 +151,7 @@ module _ {L G : Type 0} (traffic : L → Traffic) (holds : G → ℕ) where
     pub bye : HasBegunAll node → (HasSentBye node old → ⊥) → IsFull Requests old new
     pub no_reply : Owes node old → IsEmpty old.held.replies → WasEmpty Replies old new
     pub no_request : (HasHeardBye node old → ⊥) → IsEmpty old.held.requests → IsEmpty old.reply
-        → WasEmpty Requests old new ⊎ NoneIdle (drop request_tickets later.lending.lent)
+        → WasEmpty Requests old new ⊎ ¬ HasIdle later.space.lent ReplyShare
 
   -- the own part k is the first of its command
   abbrev pub IsFirst : NodeState L G → ℕ → ℕ × ℕ → Type 0
@@ -171,11 +161,10 @@ module _ {L G : Type 0} (traffic : L → Traffic) (holds : G → ℕ) where
   abbrev pub IsHeldBack : NodeState L G → NodeState L G → Type 0
   IsHeldBack old new = (part : ℕ × ℕ) → slice_get (issued_parts old.trace old.shards old.shard) old.begun ≡ Some part
       → (IsFirst old old.begun part × (holds old.gate < holds new.gate))
-      ⊎ ((part.1 ≢ old.shard) × NoneIdle (take request_tickets new.lending.lent))
+      ⊎ ((part.1 ≢ old.shard) × ¬ HasIdle new.space.lent Request)
 
   pub record IsIdle (old new : NodeState L G) : Type 0 where
     pub nothing : HasCause old new → ⊥
-    pub took_whole : new.lending.take_wholes ≡ suc old.lending.take_wholes
     pub peers : (k : ℕ) → AtPlace old.peers new.peers k (IsHeldUp old new)
     pub request : (waiting : Waiting) (k : ℕ) → old.request ≡ Some waiting
         → AtPlace old.peers new.peers k (λ a b. a.shard ≡ waiting.peer → IsFull Requests a b)
@@ -194,5 +183,5 @@ pub record IsSameNode {L G E : Type 0} (end : L → E) (old new : NodeState L G)
   pub shards : new.shards ≡ old.shards
   pub pages : new.pages ≡ old.pages
   pub trace : new.trace ≡ old.trace
-  pub home : new.home ≡ old.home
+  pub home : new.space.list ≡ old.space.list
   pub ends : map (λ peer. end peer.link) new.peers ≡ map (λ peer. end peer.link) old.peers

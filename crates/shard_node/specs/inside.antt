@@ -7,4 +7,8 @@ pub mod Peers
 pub mod Rising
 pub mod Fitting
 pub mod Work
+pub mod Shards
+pub mod Steps
+pub mod Receives
+pub mod Serves
 pub mod Parts

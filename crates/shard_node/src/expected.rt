@@ -15,7 +15,6 @@ pub(crate) fn expected_reply<'a>(
     ask: &Ask<'_>,
     longest: u32,
 ) -> Option<ReplyView<'a>>
-    requires short { length bytes.now < 2 ^ 32 }
     ensures some { IfSome result (λ view. (reply : Reply) × IsViewOf view reply × HoldsReply bytes.now ask.now.number reply × Fits longest (asked ask.now) reply) }
     ensures none { IfNone result ((reply : Reply) → HoldsReply bytes.now ask.now.number reply → Fits longest (asked ask.now) reply → ⊥) }
 {

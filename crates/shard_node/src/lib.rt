@@ -2,10 +2,11 @@
 //!
 //! A node does the parts that other shards ask of it, and issues its own, turn by turn. A turn waits for nobody. Here stand
 //! what holds of a node between turns and what a turn may answer ([`specs/Standing.antt`], [`specs/Turns.antt`]), the gate
-//! that an own command waits for, the record of a run, and the steps of a turn that go over the other shards. The turn itself
-//! is not written yet.
+//! that an own command waits for, the record of a run, the cursors over the trace, and five of the seven steps of a turn. The
+//! steps that do what a peer asks and begin the own parts, and the turn itself, are not written yet.
 #![tactic(auto)]
 
+mod aside;
 mod expected;
 mod fitting;
 mod gate;
@@ -19,8 +20,11 @@ mod ran;
 mod release;
 mod rest;
 mod rising;
+mod seen;
 mod send;
+mod shard;
 mod turn;
+mod waiting;
 
 pub use gate::{Gate, Gates, OpenGate, OpenGates};
 pub use ran::Ran;

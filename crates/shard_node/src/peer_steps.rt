@@ -9,59 +9,68 @@ use crate::send::{send_bye, send_held};
 use foreign_list::Tally;
 use shard_rings::{Lane, Link};
 
-/// Tries each block that waits to be released once.
-pub(crate) fn release_all<'f, L: Drop>(peers: &mut [Peer<'f, L>], tally: &mut Tally)
+/// Tries each block that waits to be released once. True where one was.
+pub(crate) fn release_all<'f, L: Drop>(peers: &mut [Peer<'f, L>], tally: &mut Tally) -> bool
     ensures releases { Releases (held_by_all peers.old) (held_by_all peers.new) tally.old tally.new }
     ensures same { Each HoldsOther peers.old peers.new }
 {
+    let mut moved = false;
     for peer in peers.iter_mut() {
-        peer.release_held(tally);
+        moved |= peer.release_held(tally);
     }
+    moved
 }
 
 impl<'f, L: Drop> Peer<'f, L> {
-    /// Tries each block that waits to be released once.
-    pub(crate) fn release_held(&mut self, tally: &mut Tally)
+    /// Tries each block that waits to be released once. True where one was.
+    pub(crate) fn release_held(&mut self, tally: &mut Tally) -> bool
         ensures tries { TriesBoth (held self.old) (held self.new) tally.old tally.new }
         ensures same { HoldsOther self.old self.new }
     {
-        release_held(&mut self.held_request, tally);
-        release_held(&mut self.held_reply, tally);
+        let request = release_held(&mut self.held_request, tally);
+        let reply = release_held(&mut self.held_reply, tally);
+        request || reply
     }
 }
 
 impl<'f, L: Link<'f> + Drop> Peer<'f, L> {
-    /// Sends the reply that waits.
-    pub(crate) fn send_reply(&mut self)
+    /// Sends the reply that waits. True where it was sent.
+    pub(crate) fn send_reply(&mut self) -> bool
         ensures { SendsReply (traffic_by L.sent L.received L.full L.empty) L.end self.old self.new }
     {
-        send_held(&mut self.link, Lane::Replies, &mut self.reply);
+        send_held(&mut self.link, Lane::Replies, &mut self.reply)
     }
 
-    /// Says Bye, where it was not said.
-    pub(crate) fn say_bye(&mut self)
+    /// Says Bye, where it was not said. True where it was sent.
+    pub(crate) fn say_bye(&mut self) -> bool
         ensures { SaysBye (traffic_by L.sent L.received L.full L.empty) L.end self.old self.new }
     {
-        if !self.has_sent_bye {
-            self.has_sent_bye = send_bye(&mut self.link);
+        if self.has_sent_bye {
+            return false;
         }
+        self.has_sent_bye = send_bye(&mut self.link);
+        self.has_sent_bye
     }
 }
 
-/// Says Bye to each peer that was not told, on the lane of requests: no more of these come.
-pub(crate) fn say_byes<'f, L: Link<'f> + Drop>(peers: &mut [Peer<'f, L>])
+/// Says Bye to each peer that was not told, on the lane of requests: no more of these come. True where it was sent to one.
+pub(crate) fn say_byes<'f, L: Link<'f> + Drop>(peers: &mut [Peer<'f, L>]) -> bool
     ensures { Each (SaysBye (traffic_by L.sent L.received L.full L.empty) L.end) peers.old peers.new }
 {
+    let mut moved = false;
     for peer in peers.iter_mut() {
-        peer.say_bye();
+        moved |= peer.say_bye();
     }
+    moved
 }
 
-/// Sends each reply that waits.
-pub(crate) fn send_replies<'f, L: Link<'f> + Drop>(peers: &mut [Peer<'f, L>])
+/// Sends each reply that waits. True where one was sent.
+pub(crate) fn send_replies<'f, L: Link<'f> + Drop>(peers: &mut [Peer<'f, L>]) -> bool
     ensures { Each (SendsReply (traffic_by L.sent L.received L.full L.empty) L.end) peers.old peers.new }
 {
+    let mut moved = false;
     for peer in peers.iter_mut() {
-        peer.send_reply();
+        moved |= peer.send_reply();
     }
+    moved
 }

@@ -1,5 +1,5 @@
 //! How blocks of other shards go home.
-ghost use Rattle.std.specs.Prelude.{◌≡◌, Some, None};
+ghost use Rattle.std.specs.Prelude.{◌≡◌, ◌↔◌, Some, None, IsTrue, IsSome, IsNone};
 ghost use Rattle.shard_node.specs.inside.Releases.{Tries};
 
 use foreign_list::{ForeignBlock, Raced, Tally};
@@ -17,11 +17,14 @@ pub(crate) fn release<'f>(block: ForeignBlock<'f>, tally: &mut Tally) -> Option<
     }
 }
 
-/// Tries what waits once.
-pub(crate) fn release_held<'f>(held: &mut Option<ForeignBlock<'f>>, tally: &mut Tally)
-    ensures { Tries held.old held.new tally.old tally.new }
+/// Tries what waits once. True where it was released.
+pub(crate) fn release_held<'f>(held: &mut Option<ForeignBlock<'f>>, tally: &mut Tally) -> bool
+    ensures tries { Tries held.old held.new tally.old tally.new }
+    ensures released { IsTrue result ↔ IsSome held.old × IsNone held.new }
 {
-    if let Some(block) = held.take() {
-        *held = release(block, tally);
-    }
+    let Some(block) = held.take() else {
+        return false;
+    };
+    *held = release(block, tally);
+    held.is_none()
 }

@@ -1,5 +1,5 @@
 //! The commands that one shard issues to another, one after the other.
-ghost use Rattle.std.specs.Prelude.{◌≡◌, ℕ, List, ◌+◌, ◌-◌, ◌*◌, ◌<◌, ◌≤◌, ◌%◌, ◌==◌, [], ◌∷◌, length, take, drop, true, count_by, slice_index_or, Contains, IfSome, IfNone, Some};
+ghost use Rattle.std.specs.Prelude.{◌≡◌, ◌≢◌, ℕ, List, ◌+◌, ◌-◌, ◌*◌, ◌<◌, ◌≤◌, ◌%◌, ◌==◌, [], ◌∷◌, length, take, drop, true, count_by, slice_index_or, Contains, IfSome, IfNone, Some};
 ghost use Rattle.std.specs.List.{slice_get};
 ghost use Rattle.trace_text.specs.Operation.{Operation, operation};
 ghost use Rattle.trace_text.specs.Parsed.{trace_in};
@@ -113,6 +113,18 @@ impl<'f> Rest<'f> {
 
     /// Passes the first of them.
     pub(crate) fn pass(&mut self)
+        ensures trace { self.new.trace ≡ self.old.trace }
+        ensures origin { self.new.origin ≡ self.old.origin }
+        ensures shard { self.new.shard ≡ self.old.shard }
+        ensures left { self.new.left ≡ drop 1 self.old.left }
+        ensures rises { self.old.left ≢ [] → self.old.part < self.new.part }
+    {
+        self.facts();
+        self.pass_on();
+        self.facts();
+    }
+
+    fn pass_on(&mut self)
         ensures trace { self.new.trace ≡ self.old.trace }
         ensures origin { self.new.origin ≡ self.old.origin }
         ensures shard { self.new.shard ≡ self.old.shard }

@@ -1,5 +1,5 @@
 //! How blocks go to other shards.
-ghost use Rattle.std.specs.Prelude.{◌≡◌, Some, false};
+ghost use Rattle.std.specs.Prelude.{◌≡◌, ◌↔◌, Some, false, IsTrue, IsSome, IsNone};
 ghost use Rattle.shard_node.specs.Nodes.{traffic_by};
 ghost use Rattle.shard_node.specs.inside.Sends.{SendsHeld, TriesBye};
 
@@ -22,18 +22,21 @@ pub(crate) fn send<'f, L: Link<'f>>(
     }
 }
 
-/// Sends what waits.
+/// Sends what waits. True where it was sent.
 pub(crate) fn send_held<'f, L: Link<'f>>(
     link: &mut L,
     lane: Lane,
     held: &mut Option<ForeignBlock<'f>>,
-)
+) -> bool
     ensures sends { SendsHeld lane held.old held.new (traffic_by L.sent L.received L.full L.empty link.old) (traffic_by L.sent L.received L.full L.empty link.new) }
+    ensures sent { IsTrue result ↔ IsSome held.old × IsNone held.new }
     ensures same_end { L.end link.new ≡ L.end link.old }
 {
-    if let Some(block) = held.take() {
-        *held = send(link, lane, block);
-    }
+    let Some(block) = held.take() else {
+        return false;
+    };
+    *held = send(link, lane, block);
+    held.is_none()
 }
 
 /// Sends Bye on the lane of requests. False where it is refused.

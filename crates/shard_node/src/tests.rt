@@ -1,6 +1,6 @@
 //! The definitions on a worked run.
 ghost use Rattle.foreign_list.specs.Blocks.{Block};
-ghost use Rattle.foreign_list.specs.Lists.{OwnedList};
+ghost use Rattle.reclaim.specs.Spaces.{SpaceState};
 ghost use Rattle.shard_node.specs.Examples.{PacketsAreRight, StandingIsRight, StrayIsRight};
 
 /// Which packets a shard takes that was asked one put, and which it sets aside.
@@ -15,7 +15,7 @@ fn packets_are_taken_in_order() {
 
 /// The shard is in standing and done where the put was done once.
 fn standing()
-    ensures { (block : Block) (home : OwnedList) → StandingIsRight block home }
+    ensures { (block : Block) (space : SpaceState) → StandingIsRight block space }
 {}
 
 #[test]
@@ -25,7 +25,7 @@ fn a_put_is_done_once_for_another_shard() {
 
 /// A request of another number is answered by its number and the one that was expected.
 fn stray()
-    ensures { (block : Block) (home : OwnedList) → StrayIsRight block home }
+    ensures { (block : Block) (space : SpaceState) → StrayIsRight block space }
 {}
 
 #[test]

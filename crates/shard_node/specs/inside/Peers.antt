@@ -4,7 +4,7 @@ use Rattle.foreign_list.specs.Blocks.{Block}
 use Rattle.shard_rings.specs.Lanes.{Lanes, LinkEnd}
 use Rattle.shard_rings.specs.declared.link.Lane.TheVariants.{Replies}
 use Rattle.shard_node.specs.declared.peer.Peer.{Peer}
-use Rattle.shard_node.specs.Nodes.{PeerState, Traffic}
+use Rattle.shard_node.specs.Nodes.{Keeping, PeerState, Traffic}
 use Rattle.shard_node.specs.inside.Releases.{held_count}
 use Rattle.shard_node.specs.inside.Sends.{SendsHeld, TriesBye}
 
@@ -13,8 +13,17 @@ module _ {L : Type 0} where
   abbrev pub held : Peer L → Lanes (Option Block)
   held peer = record { requests = peer.held_request; replies = peer.held_reply }
 
+  abbrev pub keeps : Peer L → Keeping
+  keeps peer = record {
+    asks = peer.asks.left;
+    has_heard_bye = peer.has_heard_bye;
+    answers = peer.answers.left;
+    owed = peer.owed;
+    has_sent_bye = peer.has_sent_bye;
+  }
+
   abbrev pub peer_state : Peer L → PeerState L
-  peer_state peer = record { shard = peer.shard; link = peer.link; held = held peer; reply = peer.reply }
+  peer_state peer = record { shard = peer.shard; link = peer.link; held = held peer; reply = peer.reply; keeps = keeps peer }
 
   -- the blocks of all peers that wait to be released
   abbrev pub held_by_all : List (Peer L) → ℕ

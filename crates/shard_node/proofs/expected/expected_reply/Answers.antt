@@ -1,8 +1,14 @@
-use Rattle.std.proofs.Common.{◌≡◌, subst, sym, true≢false}
+use Rattle.std.proofs.Common.{◌≡◌, ◌<◌, ◌^◌, length, ap, subst, sym, true≢false}
 use Rattle.cache_model.specs.Apply.{Reply}
 use Rattle.cache_model.specs.Fits.{Fits}
 use Rattle.shard_rings.specs.Ask.{asked}
+use Rattle.shard_node.proofs.BodyLengths.{sendable_short}
 use Rattle.shard_node.proofs.expected.expected_reply.Goals as goal
+
+pub fits-requires-clause-short : goal.fits-requires-clause-short
+fits-requires-clause-short c =
+    let read = c.in_ok-view.ensures.read in
+    subst (λ b. length b < 2 ^ 32) (ap (λ s. s.1) read.1.spelled) (sendable_short read.0 read.2.sendable)
 
 pub returns-then-not-fits-clause-none : goal.returns-then-not-fits-clause-none
 returns-then-not-fits-clause-none c reply holds fit =

@@ -9,8 +9,8 @@ loop-peer-preserved g c =
     let same = c.loop-peer.auto.peers in
     let within : c.loop-peer.peer-index < length c.loop-peer.peers = omega (arith, test, same) in
     record {
-      releases = release_next c.args.peers.now c.loop-peer.peers c.loop-peer.peer-index c.args.tally.now c.loop-peer.tally c.release_held.new.tally c.peer-item.result c.release_held.new.self
-          within c.release_held.ensures.tries c.loop-peer.invariant.releases;
-      same = each_next HoldsOther c.args.peers.now c.loop-peer.peers c.loop-peer.peer-index c.peer-item.result c.release_held.new.self
-          holds_other_joins within c.release_held.ensures.same c.loop-peer.invariant.same;
+      releases = release_next c.args.peers.now c.loop-peer.peers c.loop-peer.peer-index c.args.tally.now c.loop-peer.tally c.release_held-moved.new.tally c.peer-item.result c.release_held-moved.new.self
+          within c.release_held-moved.ensures.tries c.loop-peer.invariant.releases;
+      same = each_next HoldsOther c.args.peers.now c.loop-peer.peers c.loop-peer.peer-index c.peer-item.result c.release_held-moved.new.self
+          holds_other_joins within c.release_held-moved.ensures.same c.loop-peer.invariant.same;
     }

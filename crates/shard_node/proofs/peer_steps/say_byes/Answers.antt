@@ -10,4 +10,4 @@ loop-peer-preserved g c =
     let test = c.loop-peer-test.true in
     let same = c.loop-peer.auto.peers in
     let within : c.loop-peer.peer-index < length c.loop-peer.peers = omega (arith, test, same) in
-    once_next _ _ _ _ _ _ within c.say_bye.ensures c.loop-peer.invariant
+    once_next _ _ _ _ _ _ within c.say_bye-moved.ensures c.loop-peer.invariant

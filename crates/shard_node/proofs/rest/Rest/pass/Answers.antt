@@ -1,27 +1,25 @@
-use Rattle.std.proofs.Common.{suc, arith, ap, sym, ◌∙◌, ◌<◌, ◌%◌, length}
+use Rattle.std.proofs.Common.{◌≡◌, ◌==◌, ℕ, count_by, take, length, ap, ◌∙◌, arith}
 use Rattle.trace_text.specs.Parsed.{trace_in}
-use Rattle.cache_model.specs.OwnParts.{parts_before}
-use Rattle.shard_node.proofs.PartsBefore.{parts-behind}
-use Rattle.shard_node.proofs.Places.{after-first, no_command, no_operation, round}
+use Rattle.cache_model.specs.OwnParts.{issued_parts}
+use Rattle.shard_node.specs.Due.{operations_for}
+use Rattle.shard_node.specs.inside.Rest.{RestState, all_of, log_of}
+use Rattle.shard_node.proofs.Counts.{longer_front, some_dropped}
 use Rattle.shard_node.proofs.rest.Rest.pass.Goals as goal
 
-pub find-self-inside-requires-clause-origin : goal.find-self-inside-requires-clause-origin
-find-self-inside-requires-clause-origin c = ap (λ at. at % c.self.inside.shards) c.past-from.ensures.at ∙ round _ _ _ c.self.invariant.origin
-
-pub find-self-inside-requires-clause-before : goal.find-self-inside-requires-clause-before
-find-self-inside-requires-clause-before c =
-    let value = c.commands-commands.ensures.value in
-    let within : c.self.inside.next.at < length c.self.inside.trace.now.commands = rw value at c.if-self-commands.true in
-    rw value at c.past-from.ensures.before
-    ∙ parts-behind c.self.inside.trace.now c.self.inside.shards c.self.inside.origin c.self.inside.next.at c.self.inside.next.before _ c.shards_take_turns.ensures.next c.self.invariant.shards
-    c.self.invariant.origin within c.self.invariant.parts
-    ∙ ap (λ at. parts_before (trace_in c.self.inside.trace.now) c.self.inside.shards c.self.inside.origin at) (sym c.past-from.ensures.at)
-
-pub returns-then-self-commands-clause-left : goal.returns-then-self-commands-clause-left
-returns-then-self-commands-clause-left c =
-    let within = rw c.commands-commands.ensures.value at c.if-self-commands.true in
-    let below = c.self.invariant.shard in
-    let further = c.past-from.ensures.at in
-    rw (← c.self.view_is)
-    (c.find-self-inside.ensures.left (suc c.self.inside.next.at) (omega (arith, further, below)) (omega (arith, further))
-    ∙ after-first c.self.inside.trace.now c.self.inside.shards c.self.inside.origin c.self.inside.shard c.self.inside.next.at no_command no_operation within (c.self.invariant.here no_operation within))
+pub returns-clause-rises : goal.returns-clause-rises
+returns-clause-rises c some =
+    let old : RestState = c.args.self.now in
+    let new : RestState = c.pass_on.new.self in
+    let log : log_of new ≡ log_of old =
+    ap (λ t. issued_parts (trace_in t) t.shards new.origin) c.pass_on.ensures.trace ∙ ap (λ o. issued_parts (trace_in old.trace) old.trace.shards o) c.pass_on.ensures.origin in
+    let all : all_of new ≡ all_of old =
+    ap (λ t. operations_for (trace_in t) t.shards new.origin new.shard) c.pass_on.ensures.trace
+    ∙ (ap (λ o. operations_for (trace_in old.trace) old.trace.shards o new.shard) c.pass_on.ensures.origin ∙ ap (operations_for (trace_in old.trace) old.trace.shards old.origin) c.pass_on.ensures.shard) in
+    let count : count_by (λ (part : ℕ × ℕ). part.1 == new.shard) (take new.part (log_of new)) ≡ count_by (λ (part : ℕ × ℕ). part.1 == old.shard) (take new.part (log_of old)) =
+    ap (λ s. count_by (λ (part : ℕ × ℕ). part.1 == s) (take new.part (log_of new))) c.pass_on.ensures.shard ∙ ap (λ l. count_by (λ (part : ℕ × ℕ). part.1 == old.shard) (take new.part l)) log in
+    let before = c.facts.ensures.before in
+    let after = c.facts-2.ensures.before in
+    let fewer = ap length c.pass_on.ensures.left in
+    let one = some_dropped old.left some in
+    let so_many = ap length all in
+    longer_front (λ (part : ℕ × ℕ). part.1 == old.shard) (log_of old) old.part new.part (omega (arith, count, before, after, fewer, one, so_many))

@@ -1,0 +1,76 @@
+-- Where the number of a shard stands among those of the shards other than s, in rising order.
+use Rattle.std.proofs.Common.{◌≡◌, ◌≢◌, ℕ, zero, suc, ◌+◌, ◌-◌, ◌<◌, ◌≤◌, ◌==◌, true, false, not, slice_get, Some, inl, inr, arith, sym, ap, ◌∙◌}
+use Rattle.std.specs.List.{Contains, filter, range_with_len}
+use Rattle.std.proofs.lemmas.Bool.{cases_eq, true≢false}
+use Rattle.std.proofs.lemmas.Bool.Decides.{nat_tests}
+use Rattle.std.proofs.lemmas.List.Elements.{All-contains, All-filter, filter_passes}
+use Rattle.std.proofs.lemmas.List.FromFn.{get_or-range_with_len, length-range_with_len}
+use Rattle.shard_node.specs.inside.Work.{others}
+
+eqb-same : (n : ℕ) → (n == n) ≡ true
+eqb-same n = grind (arith, nat_tests)
+
+-- another shard is one of the shards, and not s
+pub other-below : (n s q : ℕ) → Contains (others n s) q → q < n
+other-below n s q there =
+    All-contains (λ (p : ℕ). p < n) (others n s) q
+    (All-filter (λ p. not (p == s)) (λ p. p < n) (range_with_len 0 n)
+    (λ k d below.
+    let many = length-range_with_len 0 n in
+    let is = get_or-range_with_len 0 n k d (omega (arith, many, below)) in
+    omega (arith, many, is, below))) there
+
+pub other-is : (n s q : ℕ) → Contains (others n s) q → q ≢ s
+other-is n s q there same =
+    let passes : not (q == s) ≡ true = All-contains (λ p. not (p == s) ≡ true) (others n s) q (filter_passes (λ p. not (p == s)) (range_with_len 0 n)) there in
+    let is : (q == s) ≡ true = ap (λ p. p == s) same ∙ eqb-same s in
+    true≢false (sym passes ∙ ap not is)
+
+kept : (q s : ℕ) → q ≢ s → not (q == s) ≡ true
+kept q s other = grind (arith, nat_tests)
+
+-- above s each shard is another
+above-all : (a k s j : ℕ) → s < a → j < k → slice_get (filter (λ q. not (q == s)) (range_with_len a k)) j ≡ Some (a + j)
+above-all a zero s j above below = absurd (omega (arith, below))
+above-all a (suc k) s zero above below =
+    let stays = kept a s (λ same. omega (arith, same, above)) in
+    rw stays (ap Some (let e : a ≡ a + 0 = omega arith in e))
+above-all a (suc k) s (suc j) above below =
+    let stays = kept a s (λ same. omega (arith, same, above)) in
+    rw stays (above-all (a + 1) k s j (omega (arith, above)) (omega (arith, below)) ∙ ap Some (let e : a + 1 + j ≡ a + suc j = omega arith in e))
+
+-- below s each stands at its number, and above it one place before
+below-place : (a k s j : ℕ) → a + j < s → j < k → slice_get (filter (λ q. not (q == s)) (range_with_len a k)) j ≡ Some (a + j)
+below-place a zero s j less below = absurd (omega (arith, below))
+below-place a (suc k) s zero less below =
+    let stays = kept a s (λ same. omega (arith, same, less)) in
+    rw stays (ap Some (let e : a ≡ a + 0 = omega arith in e))
+below-place a (suc k) s (suc j) less below =
+    let stays = kept a s (λ same. omega (arith, same, less)) in
+    rw stays (below-place (a + 1) k s j (omega (arith, less)) (omega (arith, below)) ∙ ap Some (let e : a + 1 + j ≡ a + suc j = omega arith in e))
+
+above-place : (a k s j : ℕ) → a ≤ s → s ≤ a + j → suc j < k → slice_get (filter (λ q. not (q == s)) (range_with_len a k)) j ≡ Some (a + j + 1)
+above-place a zero s j from less below = absurd (omega (arith, below))
+above-place a (suc k) s zero from less below =
+    let same : a ≡ s = omega (arith, from, less) in
+    let goes : not (a == s) ≡ false = ap (λ n. not (n == s)) same ∙ ap not (eqb-same s) in
+    rw goes (above-all (a + 1) k s 0 (omega (arith, same)) (omega (arith, below)) ∙ ap Some (let e : a + 1 + 0 ≡ a + 0 + 1 = omega arith in e))
+above-place a (suc k) s (suc j) from less below = elim (cases_eq a s) [
+  | inl same ↦
+      let goes : not (a == s) ≡ false = ap (λ n. not (n == s)) same ∙ ap not (eqb-same s) in
+      rw goes (above-all (a + 1) k s (suc j) (omega (arith, same)) (omega (arith, below)) ∙ ap Some (let e : a + 1 + suc j ≡ a + suc j + 1 = omega arith in e))
+  | inr apart ↦
+      let stays = kept a s apart in
+      rw stays
+      (above-place (a + 1) k s j (omega (arith, apart, from)) (omega (arith, less)) (omega (arith, below)) ∙ ap Some (let e : a + 1 + j + 1 ≡ a + suc j + 1 = omega arith in e))
+]
+
+pub place-below : (n s q : ℕ) → q < s → Contains (others n s) q → slice_get (others n s) q ≡ Some q
+place-below n s q less there = below-place 0 n s q (omega (arith, less)) (other-below n s q there) ∙ ap Some (let e : 0 + q ≡ q = omega arith in e)
+
+pub place-above : (n s q : ℕ) → s ≤ q → Contains (others n s) q → slice_get (others n s) (q - 1) ≡ Some q
+place-above n s q from there =
+    let other = other-is n s q there in
+    let below = other-below n s q there in
+    above-place 0 n s (q - 1) (omega arith) (omega (arith, other, from)) (omega (arith, below, other, from))
+    ∙ ap Some (let e : 0 + (q - 1) + 1 ≡ q = omega (arith, other, from) in e)

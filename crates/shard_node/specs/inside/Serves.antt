@@ -1,0 +1,92 @@
+-- What a peer asks, and what becomes of it.
+use Rattle.std.specs.Prelude.{◌≡◌, ℕ, ◌⊎◌, true, false, List, drop, Option, Some, None}
+use Rattle.std.specs.Option.{option_map}
+use Rattle.trace_text.specs.Operation.{Operation}
+use Rattle.cache_model.specs.Apply.{Reply}
+use Rattle.foreign_list.specs.Blocks.{Block}
+use Rattle.run_log.specs.JournalState.{JournalState}
+use Rattle.shard_memory.specs.declared.share.Share.TheVariants as shares
+use Rattle.shard_rings.specs.Lanes.{LinkEnd}
+use Rattle.shard_rings.specs.Reply.{HoldsReply}
+use Rattle.shard_rings.specs.Request.{request}
+use Rattle.shard_rings.specs.declared.link.Lane.TheVariants as lanes
+use Rattle.shard_rings.specs.declared.link.Packet.{Packet}
+use Rattle.reclaim.specs.Spaces.{SpaceState}
+use Rattle.reclaim.specs.Lending.{LendsBlock}
+use Rattle.reclaim.specs.Works.{DoesAbove, floor_of}
+use Rattle.shard_node.specs.declared.aside.Aside.{Aside}
+use Rattle.shard_node.specs.declared.aside.Tried.{Tried}
+use Rattle.shard_node.specs.declared.aside.Tried.TheVariants.{Nothing, Expected, Other}
+use Rattle.shard_node.specs.declared.peer.Peer.{Peer}
+use Rattle.shard_node.specs.Nodes.{Traffic}
+use Rattle.shard_node.specs.Due.{is_same, number_in, number_said, said}
+use Rattle.shard_node.specs.Turns.{IsEmpty}
+use Rattle.shard_node.specs.inside.Receives.{Came, TakesNone, block_of, next_ask}
+use Rattle.shard_node.specs.inside.Releases.{Tries}
+
+module _ {L : Type 0} where
+  -- what the next packet of the peer should say: the request of the next command, or Bye where none is left
+  abbrev pub due_next : Peer L → Option (List ℕ)
+  due_next peer = option_map request (next_ask peer)
+
+  -- The next request came and was done: its reply waits to be sent.
+  pub record IsDoneFor (operation : Operation) (old new : Peer L) (space space' : SpaceState) (journal journal' : JournalState) : Type 0 where
+    pub reply : Block
+    pub answer : Reply
+    pub waits : new.reply ≡ Some reply
+    pub holds : HoldsReply reply.piece.bytes operation.number answer
+    pub does : DoesAbove (floor_of space.pages space.lent) operation answer space space' journal journal'
+    pub lends : LendsBlock shares.Reply space space' reply
+    pub left : new.asks.left ≡ drop 1 old.asks.left
+    pub trace : new.asks.trace ≡ old.asks.trace
+    pub origin : new.asks.origin ≡ old.asks.origin
+    pub shard : new.asks.shard ≡ old.asks.shard
+    pub heard : new.has_heard_bye ≡ old.has_heard_bye
+
+  -- Bye came behind the last request
+  pub record HearsBye (old new : Peer L) (space space' : SpaceState) (journal journal' : JournalState) : Type 0 where
+    pub heard : new.has_heard_bye ≡ true
+    pub asks : new.asks ≡ old.asks
+    pub reply : new.reply ≡ old.reply
+    pub same_space : space' ≡ space
+    pub same_journal : journal' ≡ journal
+
+  abbrev pub EndsExpected : Option Operation → Peer L → Peer L → SpaceState → SpaceState → JournalState → JournalState → Type 0
+  EndsExpected (Some operation) old new space space' journal journal' = IsDoneFor operation old new space space' journal journal'
+  EndsExpected None old new space space' journal journal' = HearsBye old new space space' journal journal'
+
+  -- another packet is set aside
+  pub record IsNoRequest (packet : Packet) (old new : Peer L) (space space' : SpaceState) (journal journal' : JournalState) (set_aside : Aside) : Type 0 where
+    pub other : is_same (due_next old) (said packet) ≡ false
+    pub asks : new.asks ≡ old.asks
+    pub heard : new.has_heard_bye ≡ old.has_heard_bye
+    pub reply : new.reply ≡ old.reply
+    pub same_space : space' ≡ space
+    pub same_journal : journal' ≡ journal
+    pub aside : set_aside ≡ record { peer = old.shard; expected = number_said (due_next old); found = number_in packet }
+
+  abbrev pub EndsRequest : Packet → Peer L → Peer L → SpaceState → SpaceState → JournalState → JournalState → Tried → Type 0
+  EndsRequest packet old new space space' journal journal' Nothing = ⊥
+  EndsRequest packet old new space space' journal journal' Expected =
+      (is_same (due_next old) (said packet) ≡ true) × EndsExpected (next_ask old) old new space space' journal journal'
+  EndsRequest packet old new space space' journal journal' (Other aside) = IsNoRequest packet old new space space' journal journal' aside
+
+  -- more requests may come, no block of theirs waits to be released, and no reply waits to be sent
+  pub record MayAsk (peer : Peer L) : Type 0 where
+    pub unheard : peer.has_heard_bye ≡ false
+    pub released : IsEmpty peer.held_request
+    pub replied : IsEmpty peer.reply
+
+module _ {L : Type 0} (traffic : L → Traffic) (end : L → LinkEnd) where
+  -- a packet came on the lane of requests, and its block was tried once
+  pub record Serves (old new : Peer L) (space space' : SpaceState) (journal journal' : JournalState) (tally tally' : ℕ) (result : Tried) : Type 0 where
+    pub packet : Packet
+    pub came : Came traffic end lanes.Requests packet old.link new.link
+    pub tries : Tries (block_of packet) new.held_request tally tally'
+    pub ends : EndsRequest packet old new space space' journal journal' result
+    pub same : new ≡ record old { link = new.link; held_request = new.held_request; reply = new.reply; asks = new.asks; has_heard_bye = new.has_heard_bye }
+
+  abbrev pub TriesRequest : Peer L → Peer L → SpaceState → SpaceState → JournalState → JournalState → ℕ → ℕ → Tried → Type 0
+  TriesRequest old new space space' journal journal' tally tally' result =
+      (TakesNone traffic end lanes.Requests old new × (space' ≡ space) × (journal' ≡ journal) × (tally' ≡ tally) × (result ≡ Nothing))
+      ⊎ Serves old new space space' journal journal' tally tally' result

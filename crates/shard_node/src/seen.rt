@@ -1,0 +1,49 @@
+//! What a turn comes to, step by step.
+use crate::aside::{Aside, Tried};
+use crate::turn::Turn;
+
+/// Whether something moved in a turn so far, and the first packet that was not expected.
+#[derive(Clone, Copy, Debug, PartialEq, Eq)]
+pub struct Seen {
+    pub(crate) moved: bool,
+    pub(crate) aside: Option<Aside>,
+}
+
+impl Seen {
+    pub(crate) fn nothing() -> Seen {
+        Seen {
+            moved: false,
+            aside: None,
+        }
+    }
+
+    /// Something moved, or nothing did.
+    pub(crate) fn note(&mut self, moved: bool) {
+        self.moved = self.moved || moved;
+    }
+
+    /// A lane was tried.
+    pub(crate) fn note_try(&mut self, tried: Tried) {
+        match tried {
+            Tried::Nothing => {}
+            Tried::Expected => self.moved = true,
+            Tried::Other(aside) => {
+                self.moved = true;
+                self.aside = self.aside.or(Some(aside));
+            }
+        }
+    }
+
+    /// The answer of a turn after which the node is not done.
+    pub(crate) fn turn(self) -> Turn {
+        match self.aside {
+            Some(aside) => Turn::Stray {
+                peer: aside.peer,
+                expected: aside.expected,
+                found: aside.found,
+            },
+            None if self.moved => Turn::Moved,
+            None => Turn::Idle,
+        }
+    }
+}

@@ -1,0 +1,87 @@
+//! A shard at work: what a node holds, and the steps of its turn.
+ghost use Rattle.std.specs.Prelude.{◌≡◌, ◌+◌, ◌<◌, length};
+ghost use Rattle.shard_node.specs.Nodes.{traffic_by};
+ghost use Rattle.shard_node.specs.inside.Shards.{node_state, IsConsistent};
+ghost use Rattle.shard_node.specs.inside.Steps.{IsStep};
+
+mod replies;
+
+use crate::gate::Gate;
+use crate::own::Own;
+use crate::peer::Peer;
+use crate::peer_steps::{release_all, say_byes, send_replies};
+use crate::rest::Rest;
+use crate::waiting::Waiting;
+use cache_model::issued_parts_are_counted;
+use foreign_list::Tally;
+use reclaim::Space;
+use run_log::{Journal, ReplyLog};
+use shard_rings::Link;
+use trace_text::Trace;
+
+/// What a node holds.
+#[derive(Drop)]
+pub struct Shard<'f, L: Drop, G: Drop> {
+    pub(crate) shard: u32,
+    pub(crate) shards: u32,
+    pub(crate) pages: u32,
+    pub(crate) trace: &'f Trace,
+    // The length of the longest value of the trace.
+    pub(crate) longest: u32,
+    pub(crate) space: Space<'f>,
+    pub(crate) journal: Journal,
+    pub(crate) log: ReplyLog,
+    // Where the keys of a scan stand on their way into the log.
+    pub(crate) keys: Vec<u8>,
+    // The other shards, in rising order.
+    pub(crate) peers: Vec<Peer<'f, L>>,
+    // The parts that the shard issues and that were not begun, and those among them that it does itself.
+    pub(crate) own: Own<'f>,
+    pub(crate) here: Rest<'f>,
+    pub(crate) request: Option<Waiting<'f>>,
+    pub(crate) gate: G,
+    // The blocks of others that were released.
+    pub(crate) tally: Tally,
+    pub(crate) turns: u64,
+}
+
+impl<'f, L: Link<'f> + Drop, G: Gate + Drop> Shard<'f, L, G> {
+    /// Takes back the blocks that came home. True where one did.
+    pub(crate) fn take_back(&mut self) -> bool
+        requires consistent { IsConsistent self.old }
+        ensures step { IsStep (traffic_by L.sent L.received L.full L.empty) L.end self.old self.new }
+    {
+        let count = self.space.take_back();
+        self.space.facts();
+        count > 0
+    }
+
+    /// Tries each block that waits to be released once. True where one was.
+    pub(crate) fn release_held(&mut self) -> bool
+        requires consistent { IsConsistent self.old }
+        ensures step { IsStep (traffic_by L.sent L.received L.full L.empty) L.end self.old self.new }
+    {
+        release_all(self.peers.as_mut_slice(), &mut self.tally)
+    }
+
+    /// Sends each reply that waits. True where one was sent.
+    pub(crate) fn send_replies(&mut self) -> bool
+        requires consistent { IsConsistent self.old }
+        ensures step { IsStep (traffic_by L.sent L.received L.full L.empty) L.end self.old self.new }
+    {
+        send_replies(self.peers.as_mut_slice())
+    }
+
+    /// Says Bye to each peer that was not told, where all own parts were begun and none waits. True where it was sent to one.
+    pub(crate) fn say_byes(&mut self) -> bool
+        requires consistent { IsConsistent self.old }
+        ensures step { IsStep (traffic_by L.sent L.received L.full L.empty) L.end self.old self.new }
+    {
+        issued_parts_are_counted();
+        if self.request.is_none() && self.own.next().is_none() {
+            say_byes(self.peers.as_mut_slice())
+        } else {
+            false
+        }
+    }
+}
