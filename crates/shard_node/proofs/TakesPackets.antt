@@ -106,6 +106,27 @@ module _ {L G : Type 0} (traffic : L → Traffic) (end : L → LinkEnd) (shard :
       (get_or-map peer_state items k old d m.below ∙ ap peer_state m.here) (ap (map peer_state) m.now ∙ map-set peer_state items k new) more
       (omega (arith, held, held_request, reply)) freed
 
+  -- nothing is taken of a peer, and nothing logged
+  moves_aside : (vec : Vec (Peer L) Global) (log : Replies) (k : ℕ) (old new : Peer L)
+      → k < length shard.peers.items → get_or shard.peers.items k old ≡ old → vec.items ≡ slice_set shard.peers.items k new → log ≡ shard.log
+      → new.shard ≡ old.shard → new.asks ≡ old.asks → new.answers ≡ old.answers → new.owed ≡ old.owed → MovesOn shard vec log k old new
+  moves_aside vec log k old new below here now log_is number asks answers owed = record {
+    below = below;
+    here = here;
+    now = now;
+    number = number;
+    asks = asks;
+    trace = ap (λ a. a.trace) answers;
+    origin = ap (λ a. a.origin) answers;
+    doer = ap (λ a. a.shard) answers;
+    on = let e = ap (λ a. a.part) answers in omega (arith, e);
+    owed = let e = ap (λ a. length a.left) answers in omega (arith, e, owed);
+    bodies = let e = ap (λ a. bodies (trace_in shard.trace.now) a.left) answers in let r = ap (λ (l : Replies). l.room) log_is in omega (arith, e, r);
+    so_many = ap (λ (l : Replies). length l.replies) log_is;
+    others = λ j i doer at apart. ap (λ (l : Replies). slice_get l.replies j) log_is;
+    behind = λ j from. ap (λ (l : Replies). slice_get l.replies j) log_is;
+  }
+
   -- a packet came on the lane of replies of a peer that owes one, or none came
   pub takes_reply : (vec : Vec (Peer L) Global) (log : Replies) (tally k : ℕ) (old new : Peer L) (tried : Tried)
       → k < length shard.peers.items → get_or shard.peers.items k old ≡ old → vec.items ≡ slice_set shard.peers.items k new → IsPlaced old.answers
@@ -115,22 +136,7 @@ module _ {L G : Type 0} (traffic : L → Traffic) (end : L → LinkEnd) (shard :
       let is = none.0.same in
       let came = none.0.came in
       let log_is : log ≡ shard.log = none.1 in
-      let m : MovesOn shard vec log k old new = record {
-        below = below;
-        here = here;
-        now = now;
-        number = ap (λ (p : Peer L). p.shard) is;
-        asks = ap (λ (p : Peer L). p.asks) is;
-        trace = ap (λ (p : Peer L). p.answers.trace) is;
-        origin = ap (λ (p : Peer L). p.answers.origin) is;
-        doer = ap (λ (p : Peer L). p.answers.shard) is;
-        on = let e = ap (λ (p : Peer L). p.answers.part) is in omega (arith, e);
-        owed = let e = ap (λ (p : Peer L). length p.answers.left) is in let f = ap (λ (p : Peer L). p.owed) is in omega (arith, e, f);
-        bodies = let e = ap (λ (p : Peer L). bodies (trace_in shard.trace.now) p.answers.left) is in let r = ap (λ (l : Replies). l.room) log_is in omega (arith, e, r);
-        so_many = ap (λ (l : Replies). length l.replies) log_is;
-        others = λ j i doer at apart. ap (λ (l : Replies). slice_get l.replies j) log_is;
-        behind = λ j from. ap (λ (l : Replies). slice_get l.replies j) log_is;
-      } in
+      let m = moves_aside vec log k old new below here now log_is (ap (λ (p : Peer L). p.shard) is) (ap (λ (p : Peer L). p.asks) is) (ap (λ (p : Peer L). p.answers) is) (ap (λ (p : Peer L). p.owed) is) in
       let held : new.held_reply ≡ old.held_reply = ap (λ (p : Peer L). p.held_reply) is in
       peer_moved traffic end shard x vec log tally k old new m came.same_end
       (λ q apart. ap (λ (l : Replies). logged_at (node_state (record shard { log = l })) q) log_is)
@@ -154,22 +160,7 @@ module _ {L G : Type 0} (traffic : L → Traffic) (end : L → LinkEnd) (shard :
       let log_is = e.not_logged in
       let trace_is : old.answers.trace ≡ shard.trace.now = (subst (HasCursors shard) here (x.cursors k old below)).answers_trace in
       let trace = trace_in shard.trace.now in
-      let m : MovesOn shard vec log k old new = record {
-        below = below;
-        here = here;
-        now = now;
-        number = ap (λ (p : Peer L). p.shard) is;
-        asks = ap (λ (p : Peer L). p.asks) is;
-        trace = ap (λ (p : Peer L). p.answers.trace) is;
-        origin = ap (λ (p : Peer L). p.answers.origin) is;
-        doer = ap (λ (p : Peer L). p.answers.shard) is;
-        on = let f = ap (λ (p : Peer L). p.answers.part) is in omega (arith, f);
-        owed = let g = ap (λ (p : Peer L). length p.answers.left) is in let f = ap (λ (p : Peer L). p.owed) is in omega (arith, g, f);
-        bodies = let f = ap (λ (p : Peer L). bodies (trace_in shard.trace.now) p.answers.left) is in let r = ap (λ (l : Replies). l.room) log_is in omega (arith, f, r);
-        so_many = ap (λ (l : Replies). length l.replies) log_is;
-        others = λ j i doer at apart. ap (λ (l : Replies). slice_get l.replies j) log_is;
-        behind = λ j from. ap (λ (l : Replies). slice_get l.replies j) log_is;
-      } in
+      let m = moves_aside vec log k old new below here now log_is (ap (λ (p : Peer L). p.shard) is) (ap (λ (p : Peer L). p.asks) is) (ap (λ (p : Peer L). p.answers) is) (ap (λ (p : Peer L). p.owed) is) in
       peer_moved traffic end shard x vec log tally k old new m came.same_end
       (λ q apart. ap (λ (l : Replies). logged_at (node_state (record shard { log = l })) q) log_is)
       (keeps_aside vec log tally old new log_is is
