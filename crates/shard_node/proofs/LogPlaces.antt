@@ -34,7 +34,7 @@ none-more n = omega arith
 eqb-same : (n : ℕ) → (n == n) ≡ true
 eqb-same n = grind (arith, nat_tests)
 
-at-cons : {A : Type 0} (q : ℕ) (part : ℕ × ℕ) (parts : List (ℕ × ℕ)) (first : A) (log : List A)
+pub at-cons : {A : Type 0} (q : ℕ) (part : ℕ × ℕ) (parts : List (ℕ × ℕ)) (first : A) (log : List A)
     → at_shard q (part ∷ parts) (first ∷ log) ≡ cond (part.1 == q) (first ∷ at_shard q parts log) (at_shard q parts log)
 at-cons {A} q part parts first log = go (part.1 == q) (filter (λ entry. entry.0.1 == q) (zip parts log))
   where

@@ -1,10 +1,12 @@
 -- Where the number of a shard stands among those of the shards other than s, in rising order.
-use Rattle.std.proofs.Common.{◌≡◌, ◌≢◌, ℕ, zero, suc, ◌+◌, ◌-◌, ◌<◌, ◌≤◌, ◌==◌, true, false, not, slice_get, Some, inl, inr, arith, sym, ap, ◌∙◌}
-use Rattle.std.specs.List.{Contains, filter, range_with_len}
-use Rattle.std.proofs.lemmas.Bool.{cases_eq, true≢false}
+use Rattle.std.proofs.Common.{◌≡◌, ◌≢◌, ℕ, zero, suc, ◌+◌, ◌-◌, ◌<◌, ◌≤◌, ◌==◌, true, false, not, List, length, map, get_or, slice_get, Some, inl, inr, arith, sym, ap, subst, ◌∙◌}
+use Rattle.std.specs.List.{All, Contains, filter, range_with_len}
+use Rattle.std.proofs.lemmas.Bool.{cases_eq, cases_lt, true≢false}
 use Rattle.std.proofs.lemmas.Bool.Decides.{nat_tests}
-use Rattle.std.proofs.lemmas.List.Elements.{All-contains, All-filter, filter_passes}
+use Rattle.std.proofs.lemmas.List.{get_or-map, length-map}
+use Rattle.std.proofs.lemmas.List.Elements.{All-contains, All-filter, Contains-get_or, filter_passes}
 use Rattle.std.proofs.lemmas.List.FromFn.{get_or-range_with_len, length-range_with_len}
+use Rattle.std.proofs.lemmas.Option.{get_or_from_slice_get, slice_get_within}
 use Rattle.shard_node.specs.inside.Work.{others}
 
 eqb-same : (n : ℕ) → (n == n) ≡ true
@@ -74,3 +76,23 @@ place-above n s q from there =
     let below = other-below n s q there in
     above-place 0 n s (q - 1) (omega arith) (omega (arith, other, from)) (omega (arith, below, other, from))
     ∙ ap Some (let e : 0 + (q - 1) + 1 ≡ q = omega (arith, other, from) in e)
+
+-- so are the numbers of all peers
+pub all-other : {P : Type 0} (number : P → ℕ) (peers : List P) (n s : ℕ) → map number peers ≡ others n s → All (λ p. number p ≢ s) peers
+all-other number peers n s are k d below =
+    let many : length (others n s) ≡ length peers = ap length (sym are) ∙ length-map peers number in
+    let is : get_or (others n s) k 0 ≡ number (get_or peers k d) = ap (λ qs. get_or qs k 0) (sym are) ∙ get_or-map number peers k d 0 below in
+    subst (λ q. q ≢ s) is (other-is n s (get_or (others n s) k 0) (Contains-get_or (others n s) k 0 (omega (arith, many, below))))
+
+-- each of the shards but s is among them
+there-at : (n s q k : ℕ) → slice_get (others n s) k ≡ Some q → Contains (others n s) q
+there-at n s q k here = (k, slice_get_within (others n s) k q here, get_or_from_slice_get (others n s) k q q here)
+
+pub other-there : (n s q : ℕ) → q < n → q ≢ s → Contains (others n s) q
+other-there n s q below other = elim (cases_lt q s) [
+  | inl less ↦ there-at n s q q (below-place 0 n s q (omega (arith, less)) below ∙ ap Some (let e : 0 + q ≡ q = omega arith in e))
+  | inr from ↦
+      there-at n s q (q - 1)
+      (above-place 0 n s (q - 1) (omega arith) (omega (arith, other, from)) (omega (arith, below, other, from))
+      ∙ ap Some (let e : 0 + (q - 1) + 1 ≡ q = omega (arith, other, from) in e))
+]

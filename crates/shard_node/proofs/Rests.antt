@@ -73,7 +73,7 @@ few-left trace n o s at few =
 
 -- Their place among all.
 
-first-dropped : {X : Type 0} (xs : List X) (k : ℕ) (x : X) (others : List X) → drop k xs ≡ x ∷ others → slice_get xs k ≡ Some x
+pub first-dropped : {X : Type 0} (xs : List X) (k : ℕ) (x : X) (others : List X) → drop k xs ≡ x ∷ others → slice_get xs k ≡ Some x
 first-dropped [] zero x others is = absurd (let e : [] ≡ x ∷ others = is in cc)
 first-dropped [] (suc k) x others is = absurd (let e : [] ≡ x ∷ others = is in cc)
 first-dropped {X} (first ∷ xs) zero x others is = let same : first ≡ x = cc in ap Some same

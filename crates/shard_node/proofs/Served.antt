@@ -30,7 +30,7 @@ take_one_more (y ∷ ys) zero x is = let e : Some y ≡ Some x = is in let f : y
 take_one_more (y ∷ ys) (suc n) x is =
     let e : suc n + 1 ≡ suc (n + 1) = omega arith in ap (λ m. take m (y ∷ ys)) e ∙ ap (λ zs. y ∷ zs) (take_one_more ys n x is)
 
-get_within : {X : Type 0} (xs : List X) (n : ℕ) (x : X) → slice_get xs n ≡ Some x → n < length xs
+pub get_within : {X : Type 0} (xs : List X) (n : ℕ) (x : X) → slice_get xs n ≡ Some x → n < length xs
 get_within [] zero x is = absurd (let e : None ≡ Some x = is in cc)
 get_within [] (suc n) x is = absurd (let e : None ≡ Some x = is in cc)
 get_within (y ∷ ys) zero x is = omega arith
@@ -42,7 +42,7 @@ get_map f [] (suc n) x is = absurd (let e : None ≡ Some x = is in cc)
 get_map f (y ∷ ys) zero x is = let e : Some y ≡ Some x = is in let g : y ≡ x = cc in ap (λ z. Some (f z)) g
 get_map f (y ∷ ys) (suc n) x is = get_map f ys n x is
 
-get_dropped : {X : Type 0} (xs : List X) (n : ℕ) → slice_get (drop n xs) 0 ≡ slice_get xs n
+pub get_dropped : {X : Type 0} (xs : List X) (n : ℕ) → slice_get (drop n xs) 0 ≡ slice_get xs n
 get_dropped [] zero = refl
 get_dropped [] (suc n) = refl
 get_dropped (x ∷ xs) zero = refl

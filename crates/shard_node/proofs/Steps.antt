@@ -12,6 +12,7 @@ use Rattle.shard_node.specs.declared.peer.Peer.{Peer}
 use Rattle.shard_node.specs.declared.shard.Shard.{Shard}
 use Rattle.shard_node.specs.Nodes.{PeerState, Traffic}
 use Rattle.shard_node.specs.Standing.{InStanding, held_of}
+use Rattle.shard_node.specs.Turns.{IsDone}
 use Rattle.shard_node.specs.inside.Peers.{Each, HoldsOther, SendsReply, held_by_all, peer_state}
 use Rattle.shard_node.specs.inside.Shards.{node_state, IsConsistent}
 use Rattle.shard_node.specs.inside.Steps.{IsStep}
@@ -185,3 +186,12 @@ module _ {L G : Type 0} (traffic : L → Traffic) (end : L → LinkEnd) where
         replies = record { count = x.replies.count; next = x.replies.next };
         placed = record { asks = x.placed.asks; heard = x.placed.heard; told = x.placed.told };
       })
+
+  -- it is as done as it was
+  pub counted_done : {H : G → ℕ} (shard : Shard L G) (turns : ℕ) → IsDone traffic H (node_state shard) → IsDone traffic H (node_state (record shard { turns = turns }))
+  counted_done shard turns done = record {
+    answered = done.answered;
+    parted = λ k d below. let p = done.parted k d below in record { heard = p.heard; told = p.told; released_requests = p.released_requests; released_replies = p.released_replies; replied = p.replied };
+    asked = done.asked;
+    idle = done.idle;
+  }

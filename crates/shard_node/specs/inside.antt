@@ -9,6 +9,7 @@ pub mod Fitting
 pub mod Work
 pub mod Shards
 pub mod Steps
+pub mod Endings
 pub mod Receives
 pub mod Serves
 pub mod Parts

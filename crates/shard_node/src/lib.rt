@@ -2,8 +2,8 @@
 //!
 //! A node does the parts that other shards ask of it, and issues its own, turn by turn. A turn waits for nobody. Here stand
 //! what holds of a node between turns and what a turn may answer ([`specs/Standing.antt`], [`specs/Turns.antt`]), the gate
-//! that an own command waits for, the record of a run, the cursors over the trace, and five of the seven steps of a turn. The
-//! steps that do what a peer asks and begin the own parts, and the turn itself, are not written yet.
+//! that an own command waits for, the record of a run, the cursors over the trace, and the turn (`src/shard/turning.rt`). The type
+//! that opens and finishes a node is not written yet.
 #![tactic(auto)]
 
 mod aside;

@@ -97,6 +97,13 @@ impl<'f> Own<'f> {
         }
     }
 
+    /// Whether all were begun.
+    pub(crate) fn are_all_begun(&self) -> bool
+        ensures { IsTrue result ↔ (self.now.begun ≡ length (own_log self.now)) }
+    {
+        self.next().is_none()
+    }
+
     /// Whether the next one is the first part of its command.
     pub(crate) fn is_first(&self) -> bool
         ensures { (part : ℕ × ℕ) → slice_get (own_log self.now) self.now.begun ≡ Some part

@@ -7,6 +7,7 @@ ghost use Rattle.trace_text.specs.Parts.{most_shards};
 ghost use Rattle.trace_text.specs.Reading.{most_commands};
 ghost use Rattle.cache_model.specs.OwnParts.{parts_before};
 ghost use Rattle.shard_node.specs.Due.{operations_for};
+ghost use Rattle.shard_node.specs.Turns.{expected_number};
 ghost use Rattle.shard_node.specs.inside.Rest.{all_of, is_for, left_from, log_of};
 
 use crate::place::{Place, has_part, is_scan, past, shards_take_turns};
@@ -95,6 +96,16 @@ impl<'f> Rest<'f> {
             Some(&commands[self.next.at])
         } else {
             None
+        }
+    }
+
+    /// The number of the first of them; 0 where all were passed.
+    pub(crate) fn number(&self) -> u32
+        ensures { result ≡ expected_number (slice_get self.now.left 0) }
+    {
+        match self.first() {
+            Some(command) => command.number,
+            None => 0,
         }
     }
 

@@ -1,4 +1,7 @@
 //! What a turn comes to, step by step.
+ghost use Rattle.std.specs.Prelude.{◌≢◌};
+ghost use Rattle.shard_node.specs.declared.turn.Turn.{Turn as Turns};
+
 use crate::aside::{Aside, Tried};
 use crate::turn::Turn;
 
@@ -35,7 +38,9 @@ impl Seen {
     }
 
     /// The answer of a turn after which the node is not done.
-    pub(crate) fn turn(self) -> Turn {
+    pub(crate) fn turn(self) -> Turn
+        ensures { result ≢ Turns.Done }
+    {
         match self.aside {
             Some(aside) => Turn::Stray {
                 peer: aside.peer,

@@ -4,7 +4,11 @@ ghost use Rattle.shard_node.specs.Nodes.{traffic_by};
 ghost use Rattle.shard_node.specs.inside.Shards.{node_state, IsConsistent};
 ghost use Rattle.shard_node.specs.inside.Steps.{IsStep};
 
+mod beginning;
+mod ending;
 mod replies;
+mod requests;
+mod turning;
 
 use crate::gate::Gate;
 use crate::own::Own;

@@ -1,7 +1,8 @@
 -- What a peer asks, and what becomes of it.
-use Rattle.std.specs.Prelude.{◌≡◌, ℕ, ◌⊎◌, true, false, List, drop, Option, Some, None}
+use Rattle.std.specs.Prelude.{◌≡◌, ℕ, ◌⊎◌, true, false, List, drop, Contains, Option, Some, None}
 use Rattle.std.specs.Option.{option_map}
 use Rattle.trace_text.specs.Operation.{Operation}
+use Rattle.trace_text.specs.Parsed.{trace_in}
 use Rattle.cache_model.specs.Apply.{Reply}
 use Rattle.foreign_list.specs.Blocks.{Block}
 use Rattle.run_log.specs.JournalState.{JournalState}
@@ -31,6 +32,7 @@ module _ {L : Type 0} where
 
   -- The next request came and was done: its reply waits to be sent.
   pub record IsDoneFor (operation : Operation) (old new : Peer L) (space space' : SpaceState) (journal journal' : JournalState) : Type 0 where
+    pub of_trace : Contains (trace_in old.asks.trace).operations operation
     pub reply : Block
     pub answer : Reply
     pub waits : new.reply ≡ Some reply

@@ -1,0 +1,135 @@
+-- What a peer asks next, and what becomes of a block that came.
+use Rattle.std.proofs.Common.{◌≡◌, ℕ, true, false, List, ◌∷◌, drop, slice_get, refl, sym, ap, subst, ◌∙◌, Option, Some, None, Result, Ok, Err, IsErr, IfOk, Decides}
+use Rattle.std.specs.List.{Contains}
+use Rattle.std.specs.Result.{result_ok}
+use Rattle.std.specs.Option.{option_map}
+use Rattle.std.specs.Str.{bytes_eq}
+use Rattle.std.proofs.lemmas.Bool.Decides.{same_from_decides}
+use Rattle.std.proofs.lemmas.Slice.Eq.{bytes_eq-Decides}
+use Rattle.trace_text.specs.Operation.{Operation}
+use Rattle.trace_text.specs.Parsed.{trace_in}
+use Rattle.cache_model.specs.Apply.{Reply, apply}
+use Rattle.cache_model.specs.Row.{Row}
+use Rattle.foreign_list.specs.Blocks.{Block}
+use Rattle.run_log.specs.JournalState.{JournalState}
+use Rattle.shard_memory.specs.Tickets.{HasIdle}
+use Rattle.shard_memory.specs.declared.share.Share.TheVariants as shares
+use Rattle.shard_rings.specs.Ask.{on_no_line}
+use Rattle.shard_rings.specs.Reply.{HoldsReply}
+use Rattle.shard_rings.specs.Request.{request}
+use Rattle.shard_rings.specs.declared.link.Packet.{Packet}
+use Rattle.shard_rings.specs.declared.link.Packet.TheVariants.{Block as InBlock}
+use Rattle.reclaim.specs.Lending.{LendsBlock}
+use Rattle.reclaim.specs.Spaces.{SpaceState}
+use Rattle.reclaim.specs.Works.{DoesAbove, floor_of}
+use Rattle.shard_node.specs.declared.aside.Tried.{Tried}
+use Rattle.shard_node.specs.declared.aside.Tried.TheVariants.{Nothing, Expected, Other}
+use Rattle.shard_node.specs.declared.peer.Peer.{Peer}
+use Rattle.shard_node.specs.Due.{is_same, number_in, number_said, said}
+use Rattle.shard_node.specs.inside.Receives.{next_ask}
+use Rattle.shard_node.specs.inside.Serves.{EndsExpected, EndsRequest, IsDoneFor, due_next}
+use Rattle.shard_node.proofs.Askable.{does_operation, same_number}
+
+-- bytes are compared either way
+bytes-same : (a b : List ℕ) → bytes_eq a b ≡ bytes_eq b a
+bytes-same a b =
+    let ab : Decides (bytes_eq a b) (a ≡ b) = bytes_eq-Decides a b in
+    let ba : Decides (bytes_eq b a) (b ≡ a) = bytes_eq-Decides b a in
+    same_from_decides (bytes_eq a b) (bytes_eq b a) ab (λ e. sym (ba.0 e), λ e. ba.1 (sym e))
+
+module _ {L : Type 0} where
+  pub next-is : (old : Peer L) (operation : Operation) → old.asks.left ≡ operation ∷ drop 1 old.asks.left → next_ask old ≡ Some operation
+  next-is old operation is = ap (λ os. slice_get os 0) is
+
+  -- whether bytes are the request that is due
+  pub same-due : (old : Peer L) (operation asked : Operation) (bytes : List ℕ) → old.asks.left ≡ operation ∷ drop 1 old.asks.left → asked ≡ on_no_line operation
+      → is_same (due_next old) (Some bytes) ≡ bytes_eq bytes (request asked)
+  same-due old operation asked bytes is line =
+      ap (λ o. is_same (option_map request o) (Some bytes)) (next-is old operation is) ∙ bytes-same (request operation) bytes ∙ ap (λ o. bytes_eq bytes (request o)) (sym line)
+
+  -- another packet
+  pub set-aside : (packet : Packet) (old : Peer L) (space : SpaceState) (journal : JournalState) (result : Tried) (found : ℕ)
+      → result ≡ Other (record { peer = old.shard; expected = number_said (due_next old); found = found }) → found ≡ number_in packet
+      → is_same (due_next old) (said packet) ≡ false → EndsRequest packet old old space space journal journal result
+  set-aside packet old space journal result found is number other =
+      subst (EndsRequest packet old old space space journal journal) (sym is) (record {
+        other = other;
+        asks = refl;
+        heard = refl;
+        reply = refl;
+        same_space = refl;
+        same_journal = refl;
+        aside = ap (λ n. record { peer = old.shard; expected = number_said (due_next old); found = n }) number;
+      })
+
+  is-done-for : {E : Type 0} (old new : Peer L) (operation asked : Operation) (result : Result Block E) (space space' : SpaceState) (journal journal' : JournalState)
+      → Contains (trace_in old.asks.trace).operations operation → asked ≡ on_no_line operation → ((cache : List Row) → apply asked cache ≡ apply operation cache)
+      → HasIdle space.lent shares.Reply → (IsErr result → ¬ HasIdle space.lent shares.Reply)
+      → IfOk result (λ block. (answer : Reply) × HoldsReply block.piece.bytes asked.number answer × DoesAbove (floor_of space.pages space.lent) asked answer space space' journal journal')
+      → IfOk result (LendsBlock shares.Reply space space')
+      → new.reply ≡ result_ok result → new.asks.left ≡ drop 1 old.asks.left → new.asks.trace ≡ old.asks.trace → new.asks.origin ≡ old.asks.origin → new.asks.shard ≡ old.asks.shard
+      → new.has_heard_bye ≡ old.has_heard_bye
+      → IsDoneFor operation old new space space' journal journal'
+  is-done-for old new operation asked (Ok block) space space' journal journal' there line same idle none replied lends reply left trace origin shard heard = record {
+    of_trace = there;
+    reply = block;
+    answer = replied.0;
+    waits = reply;
+    holds = subst (λ n. HoldsReply block.piece.bytes n replied.0) (same_number asked operation line) replied.1;
+    does = does_operation asked operation line same (floor_of space.pages space.lent) replied.0 space space' journal journal' replied.2;
+    lends = lends;
+    left = left;
+    trace = trace;
+    origin = origin;
+    shard = shard;
+    heard = heard;
+  }
+  is-done-for old new operation asked (Err e) space space' journal journal' there line same idle none replied lends reply left trace origin shard heard = absurd (none refl idle)
+
+  -- the request came that was due
+  pub answered : {E : Type 0} (old new : Peer L) (block : Block) (operation asked : Operation) (result : Result Block E) (space space' : SpaceState) (journal journal' : JournalState)
+      → old.asks.left ≡ operation ∷ drop 1 old.asks.left → bytes_eq block.piece.bytes (request asked) ≡ true
+      → Contains (trace_in old.asks.trace).operations operation → asked ≡ on_no_line operation → ((cache : List Row) → apply asked cache ≡ apply operation cache)
+      → HasIdle space.lent shares.Reply → (IsErr result → ¬ HasIdle space.lent shares.Reply)
+      → IfOk result (λ block. (answer : Reply) × HoldsReply block.piece.bytes asked.number answer × DoesAbove (floor_of space.pages space.lent) asked answer space space' journal journal')
+      → IfOk result (LendsBlock shares.Reply space space')
+      → new.reply ≡ result_ok result → new.asks.left ≡ drop 1 old.asks.left → new.asks.trace ≡ old.asks.trace → new.asks.origin ≡ old.asks.origin → new.asks.shard ≡ old.asks.shard
+      → new.has_heard_bye ≡ old.has_heard_bye
+      → EndsRequest (InBlock block) old new space space' journal journal' Expected
+  answered old new block operation asked result space space' journal journal' is bytes there line same idle none replied lends reply left trace origin shard heard = (
+    same-due old operation asked block.piece.bytes is line ∙ bytes,
+    subst (λ o. EndsExpected o old new space space' journal journal') (sym (next-is old operation is))
+        (is-done-for old new operation asked result space space' journal journal' there line same idle none replied lends reply left trace origin shard heard),
+  )
+
+  -- what becomes of the packet does not rest on the link
+  pub relinked : (packet : Packet) (old new : Peer L) (link : L) (space space' : SpaceState) (journal journal' : JournalState) (result : Tried)
+      → EndsRequest packet (record old { link = link }) new space space' journal journal' result → EndsRequest packet old new space space' journal journal' result
+  relinked packet old new link space space' journal journal' Nothing ends = ends
+  relinked packet old new link space space' journal journal' Expected ends = (ends.0, go (next_ask old) ends.1)
+    where
+      go : (next : Option Operation) → EndsExpected next (record old { link = link }) new space space' journal journal' → EndsExpected next old new space space' journal journal'
+      go (Some operation) done = record {
+        of_trace = done.of_trace;
+        reply = done.reply;
+        answer = done.answer;
+        waits = done.waits;
+        holds = done.holds;
+        does = done.does;
+        lends = done.lends;
+        left = done.left;
+        trace = done.trace;
+        origin = done.origin;
+        shard = done.shard;
+        heard = done.heard;
+      }
+      go None hears = record { heard = hears.heard; asks = hears.asks; reply = hears.reply; same_space = hears.same_space; same_journal = hears.same_journal }
+  relinked packet old new link space space' journal journal' (Other aside) none = record {
+    other = none.other;
+    asks = none.asks;
+    heard = none.heard;
+    reply = none.reply;
+    same_space = none.same_space;
+    same_journal = none.same_journal;
+    aside = none.aside;
+  }

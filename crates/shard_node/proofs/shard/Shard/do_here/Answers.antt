@@ -1,0 +1,79 @@
+use Rattle.std.proofs.Common.{◌≡◌, ◌≤◌, ◌∷◌, length, drop, arith, refl, ap, subst, is_some}
+use Rattle.std.specs.List.{Contains}
+use Rattle.std.specs.Vec.{with_items}
+use Rattle.std.proofs.lemmas.List.Sums.{count_by-le-length}
+use Rattle.layout.specs.Sizes.{tickets}
+use Rattle.trace_text.specs.Operation.{operation}
+use Rattle.trace_text.specs.Parsed.{AreNumbered, Parsed}
+use Rattle.cache_model.specs.Spelled.{spelled}
+use Rattle.shard_memory.specs.Tickets.{tickets_out}
+use Rattle.shard_rings.specs.Ask.{asked}
+use Rattle.shard_node.specs.Nodes.{traffic_by}
+use Rattle.shard_node.specs.inside.Parts.{DoesPart}
+use Rattle.shard_node.proofs.Askable.{part_of_operation}
+use Rattle.shard_node.proofs.OwnDone.{own_done, own_fits}
+use Rattle.shard_node.proofs.OwnLog.{next-is-left, operation-there}
+use Rattle.shard_node.proofs.shard.Shard.do_here.Goals as goal
+
+pub do_part-requires-clause-fits : goal.do_part-requires-clause-fits
+do_part-requires-clause-fits g c =
+    let self = c.args.self.now in
+    let x = c.requires.consistent in
+    let trace = self.trace.now in
+    let command = c.in-Some.command.now in
+    let first : self.here.left ≡ operation trace.bytes command ∷ drop 1 self.here.left =
+    subst (λ (t : Parsed). self.here.left ≡ operation t.bytes command ∷ drop 1 self.here.left) x.own.here_trace c.in-Some.ensures.some in
+    let there : Contains trace.commands command = subst (λ (t : Parsed). Contains t.commands command) x.own.here_trace c.in-Some.ensures.of_trace in
+    let room = own_fits c.replies_hold_what_was_put.ensures.part self (operation trace.bytes command) x c.commands.ensures.well_formed (operation-there trace command there) first in
+    let same = ap (λ part. length (spelled part.1).1) (c.of-ask.ensures.same self.space.rows) in
+    omega (arith, room, same)
+
+pub pass-requires-2 : goal.pass-requires-2
+pass-requires-2 g c = next-is-left c.args.self.now (c.requires.next.0, c.args.self.now.shard) c.requires.consistent c.requires.next.1
+
+pub returns : goal.returns
+returns g c =
+    let self = c.args.self.now in
+    let x = c.requires.consistent in
+    let trace = self.trace.now in
+    let command = c.in-Some.command.now in
+    let op = operation trace.bytes command in
+    let first : self.here.left ≡ op ∷ drop 1 self.here.left =
+    subst (λ (t : Parsed). self.here.left ≡ operation t.bytes command ∷ drop 1 self.here.left) x.own.here_trace c.in-Some.ensures.some in
+    let there : Contains trace.commands command = subst (λ (t : Parsed). Contains t.commands command) x.own.here_trace c.in-Some.ensures.of_trace in
+    let does : DoesPart self.own.begun op self.space c.do_part.new.space self.journal c.do_part.new.journal self.log c.do_part.new.log =
+    subst (λ part. DoesPart part op self.space c.do_part.new.space self.journal c.do_part.new.journal self.log c.do_part.new.log) c.begun-part.ensures
+    (part_of_operation (asked c.of-ask.result) op c.of-ask.ensures.asked c.of-ask.ensures.same c.begun-part.result self.space c.do_part.new.space self.journal c.do_part.new.journal self.log c.do_part.new.log c.do_part.ensures) in
+    let out : tickets_out self.space.lent ≤ tickets =
+    (let all = count_by-le-length is_some self.space.lent in let many = c.facts.ensures.tickets in omega (arith, all, many)) in
+    record {
+      step = own_done (traffic_by g.L.Link.sent g.L.Link.received g.L.Link.full g.L.Link.empty) g.L.Link.end
+          (record {
+            leads = c.a_journal_goes_on.ensures.leads;
+            replied = c.a_journal_goes_on.ensures.replied;
+            evicts = c.a_journal_goes_on.ensures.evicts;
+            legal = c.evictions_in_turn_are_legal.ensures.legal;
+            above = c.evictions_in_turn_are_legal.ensures.above;
+          })
+          c.a_journal_goes_on.ensures.kept c.a_journal_goes_on.ensures.number c.issued_parts_are_counted.ensures.peer
+          c.replies_hold_what_was_put.ensures.part c.evictions_are_counted.ensures.count
+          self c.do_part.new.space c.do_part.new.journal c.do_part.new.log (with_items self.keys c.do_part.new.keys) c.pass-2.new.self c.pass.new.self c.requires.next.0 op x
+          (record {
+            are_formed = c.commands.ensures.well_formed;
+            are_numbered = subst (λ commands. AreNumbered commands) c.commands.ensures.value c.commands.ensures.numbered;
+            of_trace = operation-there trace command there;
+            next = c.requires.next.1;
+            first = first;
+            few = out;
+            does = does;
+            out = c.facts-2.ensures.lends;
+            buffer = refl;
+            own_trace = c.pass-2.ensures.trace;
+            own_shard = c.pass-2.ensures.shard;
+            own_begun = c.pass-2.ensures.begun;
+            here_trace = c.pass.ensures.trace;
+            here_origin = c.pass.ensures.origin;
+            here_shard = c.pass.ensures.shard;
+            here_left = c.pass.ensures.left;
+          });
+    }

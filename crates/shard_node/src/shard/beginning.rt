@@ -1,0 +1,155 @@
+//! The step that goes on with the shard's own parts.
+ghost use Rattle.std.specs.Prelude.{◌≡◌, ◌≢◌, ℕ, ◌<◌, length, true, false, Contains, Some, None};
+ghost use Rattle.std.specs.List.{slice_get};
+ghost use Rattle.trace_text.specs.Operation.{operation};
+ghost use Rattle.shard_memory.specs.Tickets.{HasIdle};
+ghost use Rattle.shard_memory.specs.declared.share.Share.{Share as Shares};
+ghost use Rattle.shard_node.specs.Nodes.{traffic_by};
+ghost use Rattle.shard_node.specs.inside.Own.{IsFirstPart, own_log};
+ghost use Rattle.shard_node.specs.inside.Work.{others};
+ghost use Rattle.shard_node.specs.inside.Shards.{IsConsistent, issued_by};
+ghost use Rattle.shard_node.specs.inside.Steps.{IsStep};
+
+use super::Shard;
+use crate::gate::Gate;
+use crate::parts::do_part;
+use crate::send::send;
+use crate::waiting::Waiting;
+use cache_model::{
+    a_journal_goes_on, evictions_are_counted, evictions_in_turn_are_legal,
+    issued_parts_are_counted, replies_hold_what_was_put,
+};
+use foreign_list::ForeignBlock;
+use shard_memory::Share;
+use shard_rings::{Ask, Lane, Link};
+use trace_text::Command;
+
+impl<'f, L: Link<'f> + Drop, G: Gate + Drop> Shard<'f, L, G> {
+    /// Sends the request that waits. Where none waits, the next own part is begun: done here, or asked of another shard. True
+    /// where the request was sent or the part done.
+    pub(crate) fn go_on(&mut self) -> bool
+        requires consistent { IsConsistent self.old }
+        ensures step { IsStep (traffic_by L.sent L.received L.full L.empty) L.end self.old self.new }
+    {
+        let (begun, waited) = (self.own.begun(), self.request.is_some());
+        if self.request.is_some() {
+            self.send_request();
+        } else {
+            self.begin();
+        }
+        self.request.is_none() && (waited || self.own.begun() != begun)
+    }
+
+    /// Sends the request that waits, if one does.
+    fn send_request(&mut self)
+        requires consistent { IsConsistent self.old }
+        ensures step { IsStep (traffic_by L.sent L.received L.full L.empty) L.end self.old self.new }
+    {
+        let Some(Waiting { peer, block }) = self.request.take() else {
+            return;
+        };
+        self.own.facts();
+        let at = self.place_of(peer);
+        let asked = &mut self.peers[at];
+        asked.answers.facts();
+        match send(&mut asked.link, Lane::Requests, block) {
+            Some(block) => self.request = Some(Waiting { peer, block }),
+            None => asked.owed += 1,
+        }
+    }
+
+    /// Begins the next own part. Another shard's waits for a ticket, and a command's first part for the gate.
+    fn begin(&mut self)
+        requires consistent { IsConsistent self.old }
+        requires idle { self.old.request ≡ None }
+        ensures step { IsStep (traffic_by L.sent L.received L.full L.empty) L.end self.old self.new }
+    {
+        let Some((command, doer)) = self.own.next() else {
+            return;
+        };
+        if doer != self.shard && !self.space.is_idle(Share::Request) {
+            return;
+        }
+        if !self.passes_gate(command.number) {
+            return;
+        }
+        if doer == self.shard {
+            self.do_here();
+        } else {
+            self.ask(command, doer);
+            self.send_request();
+        }
+    }
+
+    /// Whether the next own part, of the command of this number, may be begun: where it is the first of its command, the gate
+    /// is asked.
+    fn passes_gate(&mut self, number: u32) -> bool
+        ensures same { self.new ≡ record self.old { gate = self.new.gate } }
+        ensures first { result ≡ false → (part : ℕ × ℕ) → slice_get (own_log self.old.own) self.old.own.begun ≡ Some part
+            → IsFirstPart (own_log self.old.own) self.old.own.begun part }
+        ensures held { result ≡ false → G.holds self.old.gate < G.holds self.new.gate }
+    {
+        !self.own.is_first() || self.gate.open(self.shard, number)
+    }
+
+    /// Does the next own part.
+    fn do_here(&mut self)
+        requires consistent { IsConsistent self.old }
+        requires next { (i : ℕ) × (slice_get (issued_by self.old) self.old.own.begun ≡ Some (i, self.old.shard)) }
+        ensures step { IsStep (traffic_by L.sent L.received L.full L.empty) L.end self.old self.new }
+    {
+        a_journal_goes_on();
+        evictions_in_turn_are_legal();
+        evictions_are_counted();
+        replies_hold_what_was_put();
+        issued_parts_are_counted();
+        self.trace.commands();
+        self.space.facts();
+        let Some(command) = self.here.first() else {
+            return;
+        };
+        let ask = Ask::of(self.trace, command);
+        let part = self.own.begun();
+        let (space, journal, log) = (&mut self.space, &mut self.journal, &mut self.log);
+        do_part(space, &ask, part, self.keys.as_mut_slice(), journal, log);
+        self.space.facts();
+        self.here.pass();
+        self.own.pass();
+    }
+
+    /// Makes the request of the next own part, which waits to be sent.
+    fn ask(&mut self, command: &Command, doer: u32)
+        requires consistent { IsConsistent self.old }
+        requires idle { self.old.request ≡ None }
+        requires of_trace { Contains self.old.trace.now.commands command.now }
+        requires next { slice_get (issued_by self.old) self.old.own.begun ≡ Some (command.now.number, doer) }
+        requires other { doer ≢ self.old.shard }
+        requires below { doer < self.old.shards }
+        ensures step { IsStep (traffic_by L.sent L.received L.full L.empty) L.end self.old self.new }
+    {
+        a_journal_goes_on();
+        evictions_in_turn_are_legal();
+        evictions_are_counted();
+        issued_parts_are_counted();
+        self.trace.commands();
+        self.space.facts();
+        let ask = Ask::of(self.trace, command);
+        if let Ok(block) = self.space.request_block(&ask, &mut self.journal) {
+            self.space.facts();
+            self.own.pass();
+            self.request = Some(Waiting { peer: doer, block });
+        }
+    }
+
+    /// The place of another shard among the peers.
+    fn place_of(&self, peer: u32) -> usize
+        requires { Contains (others self.now.shards self.now.shard) peer }
+        ensures { slice_get (others self.now.shards self.now.shard) result ≡ Some peer }
+    {
+        if peer < self.shard {
+            peer as usize
+        } else {
+            peer as usize - 1
+        }
+    }
+}

@@ -1,0 +1,65 @@
+//! When a shard is done.
+ghost use Rattle.std.specs.Prelude.{◌↔◌, All, IsTrue};
+ghost use Rattle.shard_node.specs.Nodes.{traffic_by};
+ghost use Rattle.shard_node.specs.Standing.{InStanding};
+ghost use Rattle.shard_node.specs.Turns.{IsDone};
+ghost use Rattle.shard_node.specs.inside.Endings.{HasEnded, IsAtEnd};
+ghost use Rattle.shard_node.specs.inside.Shards.{node_state, IsConsistent};
+
+use super::Shard;
+use crate::gate::Gate;
+use crate::peer::Peer;
+use cache_model::{a_journal_goes_on, issued_parts_are_counted};
+use shard_rings::Link;
+
+impl<'f, L: Link<'f> + Drop, G: Gate + Drop> Shard<'f, L, G> {
+    /// Whether all own parts are answered, each peer's Bye came and the own ones went, nothing waits, and all blocks are back.
+    pub(crate) fn is_done(&self) -> bool
+        requires consistent { IsConsistent self.now }
+        ensures { InStanding (traffic_by L.sent L.received L.full L.empty) (node_state self.now)
+            → (IsTrue result ↔ IsDone (traffic_by L.sent L.received L.full L.empty) G.holds (node_state self.now)) }
+    {
+        a_journal_goes_on();
+        issued_parts_are_counted();
+        self.trace.commands();
+        self.own.facts();
+        self.is_at_end()
+    }
+}
+
+impl<'f, L: Drop, G: Drop> Shard<'f, L, G> {
+    /// Whether no request waits, no own part is left to begin, all blocks are back, and each peer has ended.
+    fn is_at_end(&self) -> bool
+        ensures { IsTrue result ↔ IsAtEnd self.now }
+    {
+        self.request.is_none()
+            && self.own.are_all_begun()
+            && self.space.tickets_out() == 0
+            && all_ended(self.peers.as_slice())
+    }
+}
+
+fn all_ended<'f, L: Drop>(peers: &[Peer<'f, L>]) -> bool
+    ensures { IsTrue result ↔ All HasEnded peers.now }
+{
+    for peer in peers {
+        if !peer.has_ended() {
+            return false;
+        }
+    }
+    true
+}
+
+impl<'f, L: Drop> Peer<'f, L> {
+    /// Whether no more comes of the peer, it has answered all, and nothing is left to send to it.
+    fn has_ended(&self) -> bool
+        ensures { IsTrue result ↔ HasEnded self.now }
+    {
+        self.has_heard_bye
+            && self.has_sent_bye
+            && self.held_request.is_none()
+            && self.held_reply.is_none()
+            && self.reply.is_none()
+            && self.answers.first().is_none()
+    }
+}
