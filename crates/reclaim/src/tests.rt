@@ -1,4 +1,7 @@
 // Puts, look-ups and scans on one shard, and the rows that go where there is no room for a put.
+mod lent;
+mod threads;
+
 ghost use Rattle.std.specs.Prelude.{◌≡◌, []};
 ghost use Rattle.foreign_list.specs.OwnerSeats.{IsAtRest};
 ghost use Rattle.regions.specs.Shapes.{guards_of};
@@ -16,7 +19,12 @@ use trace_text::Kind;
 // The rows and the entries for which there is room.
 const ROWS: u32 = 512;
 
-const ENTRIES: u32 = 1200;
+const ENTRIES: u32 = 2400;
+
+// The value of the row whose key is this number.
+fn large_value(alloc: Global, number: u32) -> Result<Vec<u8>, AllocError> {
+    Vec::from_elem(alloc, (number % 251) as u8, 12_000)
+}
 
 // A space of 1,280 pages, and its journal. A call for which there is no room changes nothing.
 #[derive(Drop)]
@@ -109,9 +117,9 @@ impl<'f> Trial<'f> {
 
     // Puts rows of 12,048 bytes, ten of which fill a segment, and answers how many had new keys. The keys are the numbers.
     fn put_large(&mut self, alloc: Global, from: u32, to: u32) -> Result<u32, AllocError> {
-        let value = Vec::from_elem(alloc, b'x', 12_000)?;
         let mut stored = 0u32;
         for number in from..to {
+            let value = large_value(alloc, number)?;
             if self.put(&number.to_be_bytes(), &value, number) == Some(Put::Stored) {
                 stored = stored.saturating_add(1);
             }

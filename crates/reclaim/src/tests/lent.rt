@@ -1,0 +1,196 @@
+// Blocks that are lent while rows fill the space, and a row that stays at its place under a guard.
+ghost use Rattle.std.specs.Prelude.{◌≤◌};
+ghost use Rattle.regions.specs.Shapes.{guards_of};
+ghost use Rattle.reclaim.specs.Spaces.{IsSameSpace, RowsStay};
+
+use super::{Trial, large_value};
+use crate::{GiveRefusal, Put, Share, Space};
+use foreign_list::{Foreign, ForeignBlock};
+use layout::{GREATEST_VALUE, TICKETS};
+use shard_rings::Ask;
+use std::alloc::{AllocError, Global};
+use std::test::Fail;
+use trace_text::Kind;
+
+// Lends a block and takes it back.
+fn lend_once(space: &mut Space<'_>) -> bool
+    ensures stay { RowsStay space.old space.new }
+    ensures same { IsSameSpace space.old space.new }
+{
+    let Ok(block) = space.give_now(16, Share::Reply) else {
+        return false;
+    };
+    block.release().is_ok() && space.take_back() == 1
+}
+
+// The same so many times.
+fn lend_often(space: &mut Space<'_>, times: u32) -> bool
+    ensures stay { RowsStay space.old space.new }
+    ensures same { IsSameSpace space.old space.new }
+{
+    for _ in 0..times {
+        if !lend_once(space) {
+            return false;
+        }
+    }
+    true
+}
+
+// Whether the row of a key has this value at its place when so many blocks were lent and taken back.
+fn keeps(space: &mut Space<'_>, key: &[u8], value: &[u8], blocks: u32) -> bool
+    requires guarded { 1 ≤ guards_of space.old.region }
+    ensures same { IsSameSpace space.old space.new }
+{
+    let Some(place) = space.place_of(key) else {
+        return false;
+    };
+    lend_often(space, blocks) && space.value_at(place) == value
+}
+
+impl<'f> Trial<'f> {
+    // The same under a guard.
+    fn keeps(&mut self, key: &[u8], value: &[u8], blocks: u32) -> bool {
+        self.space.guard();
+        let kept = keeps(&mut self.space, key, value, blocks);
+        self.space.unguard();
+        kept
+    }
+
+    // The block of a request to put this value. None where no ticket is idle, or where its evictions may have no room in the
+    // journal.
+    fn request_block(&mut self, value: &[u8]) -> Option<ForeignBlock<'f>> {
+        if value.len() > GREATEST_VALUE || self.space.rows() > self.journal.spare() {
+            return None;
+        }
+        let ask = Ask {
+            kind: Kind::Put,
+            key: b"a",
+            value,
+            count: 0,
+            number: 9,
+        };
+        self.space.request_block(&ask, &mut self.journal).ok()
+    }
+
+    // Lends a block for a request to put this value, and one for the reply to a get of this key, where tickets are idle.
+    fn lend_two(
+        &mut self,
+        value: &[u8],
+        key: &[u8],
+        blocks: &mut Vec<ForeignBlock<'f>>,
+    ) -> Result<(), AllocError> {
+        if let Some(block) = self.request_block(value) {
+            blocks.push(block)?;
+        }
+        if let Some(block) = self.reply_block(key) {
+            blocks.push(block)?;
+        }
+        Ok(())
+    }
+
+    // Lends blocks until no ticket is idle: requests to put a large row, and replies to gets of the one of this number.
+    fn lend_all(
+        &mut self,
+        alloc: Global,
+        number: u32,
+    ) -> Result<Vec<ForeignBlock<'f>>, AllocError> {
+        let value = large_value(alloc, number)?;
+        let mut blocks = Vec::new(alloc);
+        for _ in 0..TICKETS {
+            self.lend_two(&value, &number.to_be_bytes(), &mut blocks)?;
+        }
+        Ok(blocks)
+    }
+
+    // Whether ten rows more are put.
+    fn goes_on(&mut self, alloc: Global, from: u32) -> bool {
+        matches!(self.put_large(alloc, from, from.saturating_add(10)), Ok(10))
+    }
+
+    fn refuses(&mut self, share: Share) -> bool {
+        self.space.give_now(16, share).err() == Some(GiveRefusal::NoTicket)
+    }
+
+    // Whether no block is lent, also not to ask or to answer another shard, and nothing changed.
+    fn refuses_all(&mut self) -> bool {
+        let (rows, entries) = (self.space.rows(), self.journal.entries().len());
+        let gives = !self.refuses(Share::Request) || !self.refuses(Share::Reply);
+        let asks = self.request_block(b"").is_some();
+        let answers = self.reply_block(b"a").is_some();
+        let same = rows == self.space.rows() && entries == self.journal.entries().len();
+        same && !gives && !asks && !answers
+    }
+
+    // Takes back all blocks. Answers how many came home.
+    fn take_back(&mut self, blocks: Vec<ForeignBlock<'f>>) -> u32 {
+        if release_all(blocks) != TICKETS {
+            return 0;
+        }
+        self.space.take_back()
+    }
+
+    // Lends all blocks, puts ten rows more while they are out, and takes the blocks back. Answers how many came home.
+    fn fill_and_lend(&mut self, alloc: Global) -> Result<u32, AllocError> {
+        let blocks = self.lend_all(alloc, 390)?;
+        let goes_on = self.goes_on(alloc, 391);
+        let refuses = self.refuses_all();
+        let home = self.take_back(blocks);
+        Ok(if goes_on && refuses { home } else { 0 })
+    }
+
+    // Whether the large rows put first are gone, and as many others as there are rows read as they were put.
+    fn has_latest(&mut self, alloc: Global, end: u32) -> Result<bool, AllocError> {
+        let mut right = self.space.rows() < end;
+        let first = end.saturating_sub(self.space.rows());
+        for number in 1..end {
+            let value = large_value(alloc, number)?;
+            let wanted = if number < first {
+                None
+            } else {
+                Some(value.as_slice())
+            };
+            right = self.has(&number.to_be_bytes(), wanted) && right;
+        }
+        Ok(right)
+    }
+}
+
+#[test]
+fn a_row_stays_at_its_place_under_a_guard(rt: HostRuntime) -> Result<(), Fail> {
+    let (home, seat) = Foreign::new(rt.alloc(), 0)?;
+    let mut trial = Trial::new(rt.alloc(), &home, seat)?;
+    assert_eq!(rt; trial.put(b"a", b"abc", 1), Some(Put::Stored));
+    assert!(rt; trial.keeps(b"a", b"abc", 100));
+    assert_eq!(rt; (trial.space.lent(), trial.space.back()), (100, 100));
+    assert!(rt; trial.finish());
+    Ok(())
+}
+
+// Releases the blocks, those in the middle first. Answers how many were released.
+fn release_all(blocks: Vec<ForeignBlock<'_>>) -> u32 {
+    let mut blocks = blocks;
+    let mut released = 0u32;
+    for _ in 0..TICKETS {
+        if blocks.is_empty() {
+            return released;
+        }
+        let middle = blocks.len() / 2;
+        if blocks.swap_remove(middle).release().is_ok() {
+            released = released.saturating_add(1);
+        }
+    }
+    released
+}
+
+#[test]
+fn all_tickets_are_out_while_rows_fill_the_space(rt: HostRuntime) -> Result<(), Fail> {
+    let (home, seat) = Foreign::new(rt.alloc(), 0)?;
+    let mut trial = Trial::new(rt.alloc(), &home, seat)?;
+    assert_eq!(rt; trial.put_large(rt.alloc(), 1, 391)?, 390);
+    assert_eq!(rt; trial.fill_and_lend(rt.alloc())?, 32);
+    assert!(rt; trial.space.rows() <= 360);
+    assert!(rt; trial.has_latest(rt.alloc(), 401)?);
+    assert_eq!(rt; (trial.space.lent(), trial.space.back()), (32, 32));
+    assert!(rt; trial.finish());
+    Ok(())
+}

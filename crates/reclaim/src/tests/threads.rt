@@ -1,0 +1,170 @@
+// Blocks that a space lends, which other threads release while it lends more and takes them back.
+ghost use Rattle.std.specs.Prelude.{◌<◌, length};
+
+use super::Trial;
+use crate::{Put, Share};
+use foreign_list::{Foreign, ForeignBlock};
+use layout::TICKETS;
+use rtrb::{Consumer, Producer, RingBuffer};
+use std::alloc::{AllocError, Global};
+use std::sync::Wait;
+use std::test::Fail;
+use std::thread::{self, Threads};
+
+// How many bytes a block has.
+const LEN: u32 = 64;
+
+// What the owner writes into each byte of a block.
+fn byte_of(ticket: u32) -> u8 {
+    (ticket % 251) as u8 + 1
+}
+
+fn release<'f, R: Wait>(rt: &R, block: ForeignBlock<'f>) {
+    let mut block = block;
+    for _ in rt.forever() {
+        match block.release() {
+            Ok(_) => return,
+            Err(raced) => block = raced.block,
+        }
+    }
+    unreachable!()
+}
+
+// Releases so many blocks as they come, and answers how many had the owner's byte in each place.
+fn give_back<'f, R: Wait>(rt: &R, ring: &mut Consumer<ForeignBlock<'f>>, blocks: u32) -> u32 {
+    let mut left = blocks;
+    let mut right = 0u32;
+    for _ in rt.forever() {
+        if left == 0 {
+            return right;
+        }
+        match ring.pop() {
+            Ok(block) => {
+                let byte = byte_of(block.ticket());
+                if block.bytes().iter().all(|b| *b == byte) {
+                    right = right.wrapping_add(1);
+                }
+                release(rt, block);
+                left -= 1;
+            }
+            Err(_) => thread::yield_now(),
+        }
+    }
+    unreachable!()
+}
+
+impl<'f> Trial<'f> {
+    // Sends a block whose bytes were all 0. False where no ticket of the share is idle.
+    fn send(&mut self, share: Share, ring: &mut Producer<ForeignBlock<'f>>) -> bool {
+        let Ok(mut block) = self.space.give_now(LEN, share) else {
+            return false;
+        };
+        if !block.bytes().iter().all(|b| *b == 0) {
+            return false;
+        }
+        let byte = byte_of(block.ticket());
+        block.bytes_mut().fill(byte);
+        ring.push(block).is_ok()
+    }
+}
+
+// Sends so many blocks over the rings in turn, a fourth of them with tickets for requests, and takes them all back. Answers how
+// many came home.
+fn lend_out<'f, R: Wait>(
+    rt: &R,
+    trial: &mut Trial<'f>,
+    rings: &mut [Producer<ForeignBlock<'f>>],
+    blocks: u32,
+) -> u32
+    requires { 0 < length rings.old }
+{
+    let mut left = blocks;
+    let mut home = 0u32;
+    for _ in rt.forever() {
+        if left == 0 && trial.space.tickets_out() == 0 {
+            return home;
+        }
+        let share = if left % 4 == 0 {
+            Share::Request
+        } else {
+            Share::Reply
+        };
+        let turn = left as usize % rings.len();
+        if left > 0 && trial.send(share, &mut rings[turn]) {
+            left -= 1;
+        } else {
+            let came = trial.space.take_back();
+            home = home.wrapping_add(came);
+            if came == 0 {
+                thread::yield_now();
+            }
+        }
+    }
+    unreachable!()
+}
+
+// Passes so many blocks to another thread. Answers how many came home, and how many had the right bytes there.
+fn pass_to_one<'f, R: Threads + Wait + Sync>(
+    rt: &R,
+    alloc: Global,
+    trial: &mut Trial<'f>,
+    blocks: u32,
+) -> Result<(u32, u32), AllocError> {
+    let (to, mut from) = RingBuffer::new(alloc, TICKETS as usize)?;
+    let mut rings = [to];
+    Ok(thread::join(
+        rt,
+        || lend_out(rt, trial, &mut rings, blocks),
+        || give_back(rt, &mut from, blocks),
+    ))
+}
+
+// Passes three times so many blocks to three threads in turn.
+fn pass_to_three<'f, R: Threads + Wait + Sync>(
+    rt: &R,
+    alloc: Global,
+    trial: &mut Trial<'f>,
+    each: u32,
+) -> Result<(u32, u32), AllocError> {
+    let (a, mut from_a) = RingBuffer::new(alloc, TICKETS as usize)?;
+    let (b, mut from_b) = RingBuffer::new(alloc, TICKETS as usize)?;
+    let (c, mut from_c) = RingBuffer::new(alloc, TICKETS as usize)?;
+    let mut rings = [a, b, c];
+    let (home, (first, (second, third))) = thread::join(
+        rt,
+        || lend_out(rt, trial, &mut rings, each.wrapping_mul(3)),
+        || {
+            thread::join(
+                rt,
+                || give_back(rt, &mut from_a, each),
+                || {
+                    thread::join(
+                        rt,
+                        || give_back(rt, &mut from_b, each),
+                        || give_back(rt, &mut from_c, each),
+                    )
+                },
+            )
+        },
+    );
+    Ok((home, first.wrapping_add(second).wrapping_add(third)))
+}
+
+#[test]
+fn a_space_lends_blocks_to_other_threads(rt: HostRuntime) -> Result<(), Fail> {
+    let (home, seat) = Foreign::new(rt.alloc(), 0)?;
+    let mut trial = Trial::new(rt.alloc(), &home, seat)?;
+    assert_eq!(rt; trial.put(b"a", b"abc", 1), Some(Put::Stored));
+    assert_eq!(rt;
+        pass_to_one(&rt, rt.alloc(), &mut trial, 10_000)?,
+        (10_000, 10_000)
+    );
+    assert_eq!(rt;
+        pass_to_three(&rt, rt.alloc(), &mut trial, 3_000)?,
+        (9_000, 9_000)
+    );
+    assert_eq!(rt; (trial.space.lent(), trial.space.back()), (19_000, 19_000));
+    assert!(rt; trial.has(b"a", Some(b"abc")));
+    assert!(rt; trial.finish());
+    Ok(())
+}
