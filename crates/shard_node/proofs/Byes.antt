@@ -57,7 +57,7 @@ pub is_none_so : {A : Type 0} (option : Option A) → is_some option ≡ false �
 is_none_so None is = refl
 is_none_so (Some a) is = absurd (true≢false is)
 
-bye_received : (before after : Bool) (old new : Traffic) → TriesBye before after old new → new.received ≡ old.received
+pub bye_received : (before after : Bool) (old new : Traffic) → TriesBye before after old new → new.received ≡ old.received
 bye_received true after old new tries = ap (λ (t : Traffic). t.received) tries.1
 bye_received false true old new tries = tries.received
 bye_received false false old new tries = tries.received

@@ -1,11 +1,14 @@
 -- A pass over all peers that changes one after the other.
-use Rattle.std.proofs.Common.{◌≡◌, ℕ, ◌+◌, ◌<◌, ◌≤◌, inl, inr, List, length, get_or, slice_set, arith, refl, sym, ap, subst, ◌∙◌, sum_by}
+use Rattle.std.proofs.Common.{◌≡◌, ℕ, ◌+◌, ◌<◌, ◌≤◌, ◌↔◌, Bool, IsTrue, ◌||◌, inl, inr, List, length, get_or, slice_set, arith, refl, sym, ap, subst, ◌∙◌, sum_by}
 use Rattle.std.proofs.lemmas.Bool.{cases_order}
 use Rattle.std.proofs.lemmas.List.{get_or-set_same, get_or-set_other, get_or_default}
 use Rattle.std.proofs.lemmas.List.Sums.{sum_by-set}
 use Rattle.shard_node.specs.declared.peer.Peer.{Peer}
+use Rattle.shard_node.specs.Nodes.{Traffic}
+use Rattle.shard_node.specs.inside.Moves.{packets, packets_by_all}
 use Rattle.shard_node.specs.inside.Peers.{Each, HoldsOther, held, held_by_all}
 use Rattle.shard_node.specs.inside.Releases.{Releases, TriesBoth, held_count}
+use Rattle.shard_node.proofs.Packets.{or_rises}
 use Rattle.shard_node.proofs.Releases.{counts_on, two_tries}
 
 -- A pass that changes each element once: those before the place were changed, and the others are as they were.
@@ -63,3 +66,31 @@ module _ {L : Type 0} where
         all = omega (arith, sums, all, before-all);
         counts = counts_on releases.released one.released x y z releases.counts one.counts;
       }
+
+  -- fewer wait where fewer of the one wait
+  pub fewer_by_all : (peers : List (Peer L)) (i : ℕ) (e new : Peer L) (y z : ℕ) → i < length peers → TriesBoth (held (get_or peers i e)) (held new) y z
+      → (held_by_all (slice_set peers i new) ≤ held_by_all peers)
+      × ((P : Type 0) → (P ↔ (held_count (held new) < held_count (held (get_or peers i e)))) → (P ↔ (held_by_all (slice_set peers i new) < held_by_all peers)))
+  fewer_by_all peers i e new y z within tries =
+      let one = two_tries (held (get_or peers i e)) (held new) y z tries in
+      let f : Peer L → ℕ = λ peer. held_count (held peer) in
+      let sums : sum_by f (slice_set peers i new) + f (get_or peers i e) ≡ sum_by f peers + f new = sum_by-set f peers i new e within in
+      let all = one.all in (
+        omega (arith, sums, all),
+        λ P so. (λ is. let less = so.0 is in omega (arith, sums, less), λ less. so.1 (omega (arith, sums, less))),
+      )
+
+module _ {L : Type 0} (traffic : L → Traffic) where
+  -- one more of a pass in which packets are sent
+  pub sent_next : (first peers : List (Peer L)) (i : ℕ) (e new : Peer L) (moved now : Bool) → i < length peers
+      → (IsTrue moved ↔ (packets_by_all traffic first < packets_by_all traffic peers)) → packets_by_all traffic first ≤ packets_by_all traffic peers
+      → (IsTrue now ↔ (packets (traffic (get_or peers i e).link) < packets (traffic new.link))) → packets (traffic (get_or peers i e).link) ≤ packets (traffic new.link)
+      → (IsTrue (moved || now) ↔ (packets_by_all traffic first < packets_by_all traffic (slice_set peers i new)))
+      × (packets_by_all traffic first ≤ packets_by_all traffic (slice_set peers i new))
+  sent_next first peers i e new moved now within so_far low one more =
+      let f : Peer L → ℕ = λ peer. packets (traffic peer.link) in
+      let sums : sum_by f (slice_set peers i new) + f (get_or peers i e) ≡ sum_by f peers + f new = sum_by-set f peers i new e within in (
+        or_rises moved now (sum_by f first) (sum_by f peers) (sum_by f (slice_set peers i new)) so_far
+            (λ is. let less = one.0 is in omega (arith, sums, less), λ less. one.1 (omega (arith, sums, less))) low (omega (arith, sums, more)),
+        omega (arith, sums, low, more),
+      )

@@ -96,3 +96,10 @@ other-there n s q below other = elim (cases_lt q s) [
       (above-place 0 n s (q - 1) (omega arith) (omega (arith, other, from)) (omega (arith, below, other, from))
       ∙ ap Some (let e : 0 + (q - 1) + 1 ≡ q = omega (arith, other, from) in e))
 ]
+
+-- which shard stands at a place
+pub at-below : (n s at : ℕ) → at < s → at < n → slice_get (others n s) at ≡ Some at
+at-below n s at less below = below-place 0 n s at (omega (arith, less)) below ∙ ap Some (let e : 0 + at ≡ at = omega arith in e)
+
+pub at-above : (n s at : ℕ) → s ≤ at → at + 1 < n → slice_get (others n s) at ≡ Some (at + 1)
+at-above n s at from below = above-place 0 n s at (omega arith) (omega (arith, from)) (omega (arith, below)) ∙ ap Some (let e : 0 + at + 1 ≡ at + 1 = omega arith in e)

@@ -1,6 +1,7 @@
 -- A shard sends the request that waits, or it waits on.
 use mathlib.Core.List.{IsPrefix}
-use Rattle.std.proofs.Common.{◌≡◌, ◌≢◌, ◌↔◌, ◌==◌, ℕ, ◌+◌, ◌<◌, ◌≤◌, List, [], ◌∷◌, ◌++◌, length, map, take, drop, get_or, slice_get, slice_set, sum_by, append-nil, arith, refl, true, sym, ap, subst, ◌∙◌, if◌then◌else◌, Option, Some, None, Vec}
+use Rattle.std.proofs.Common.{◌≡◌, ◌≢◌, ◌↔◌, ◌==◌, ℕ, ◌+◌, ◌<◌, ◌≤◌, List, [], ◌∷◌, ◌++◌, length, map, take, drop}
+use Rattle.std.proofs.Common.{get_or, slice_get, slice_set, sum_by, append-nil, arith, refl, true, sym, ap, subst, ◌∙◌, if◌then◌else◌, Option, Some, None, Vec}
 use Rattle.std.specs.List.{All}
 use Rattle.std.specs.declared.alloc.Global.{Global}
 use Rattle.std.proofs.lemmas.Bool.{eq-eqb, ne_eqb}
@@ -113,6 +114,14 @@ module _ {L G : Type 0} (shard : Shard L G) (x : IsConsistent shard) where
         sym (get_or-map (λ (peer : Peer L). peer.shard) shard.peers.items k d 0 inside)
             ∙ (ap (λ qs. get_or qs k 0) x.peers ∙ get_or_from_slice_get (others shard.shards shard.shard) k q 0 there),
       )
+
+  -- the request goes to no peer at another place
+  pub goes_elsewhere : (k at : ℕ) (d old : Peer L) (waiting other : Waiting) → k < length shard.peers.items → at < length shard.peers.items → k ≢ at → get_or shard.peers.items at old ≡ old
+      → shard.request ≡ Some waiting → shard.request ≡ Some other → waiting.peer ≡ old.shard → (get_or shard.peers.items k d).shard ≡ other.peer → ⊥
+  goes_elsewhere k at d old waiting other below within apart here is there same named =
+      let both : Some waiting ≡ Some other = sym is ∙ there in
+      let one : waiting ≡ other = cc in
+      peers_differ shard x k at d old below within apart (named ∙ (sym (ap (λ (w : Waiting). w.peer) one) ∙ (same ∙ sym (ap (λ (p : Peer L). p.shard) here))))
 
   -- the peer owes less than the most that there can be
   pub few_owed : (k : ℕ) (old : Peer L) (waiting : Waiting) → k < length shard.peers.items → get_or shard.peers.items k old ≡ old → shard.request ≡ Some waiting → waiting.peer ≡ old.shard

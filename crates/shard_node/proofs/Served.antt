@@ -36,7 +36,7 @@ get_within [] (suc n) x is = absurd (let e : None ≡ Some x = is in cc)
 get_within (y ∷ ys) zero x is = omega arith
 get_within (y ∷ ys) (suc n) x is = let e = get_within ys n x is in omega (arith, e)
 
-get_map : {X Y : Type 0} (f : X → Y) (xs : List X) (n : ℕ) (x : X) → slice_get xs n ≡ Some x → slice_get (map f xs) n ≡ Some (f x)
+pub get_map : {X Y : Type 0} (f : X → Y) (xs : List X) (n : ℕ) (x : X) → slice_get xs n ≡ Some x → slice_get (map f xs) n ≡ Some (f x)
 get_map f [] zero x is = absurd (let e : None ≡ Some x = is in cc)
 get_map f [] (suc n) x is = absurd (let e : None ≡ Some x = is in cc)
 get_map f (y ∷ ys) zero x is = let e : Some y ≡ Some x = is in let g : y ≡ x = cc in ap (λ z. Some (f z)) g

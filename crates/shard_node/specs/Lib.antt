@@ -1,7 +1,10 @@
 pub mod Nodes
+pub mod Links
 pub mod Due
 pub mod Standing
 pub mod Turns
 pub mod Rans
+pub mod Together
 pub mod Examples
+pub mod TogetherExamples
 pub mod inside

@@ -166,9 +166,10 @@ module _ {L G : Type 0} (traffic : L → Traffic) (holds : G → ℕ) where
   pub record IsIdle (old new : NodeState L G) : Type 0 where
     pub nothing : HasCause old new → ⊥
     pub peers : (k : ℕ) → AtPlace old.peers new.peers k (IsHeldUp old new)
-    pub request : (waiting : Waiting) (k : ℕ) → old.request ≡ Some waiting
+    -- a request that waits, one that was made in this turn too
+    pub request : (waiting : Waiting) (k : ℕ) → (old.request ≡ Some waiting) ⊎ (new.request ≡ Some waiting)
         → AtPlace old.peers new.peers k (λ a b. a.shard ≡ waiting.peer → IsFull Requests a b)
-    pub own : IsEmpty old.request → IsHeldBack old new
+    pub own : IsEmpty new.request → IsHeldBack old new
 
   -- The answer of a turn.
   abbrev pub IsAnswer : Turn → NodeState L G → NodeState L G → Type 0

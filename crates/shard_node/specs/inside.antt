@@ -13,3 +13,7 @@ pub mod Endings
 pub mod Receives
 pub mod Serves
 pub mod Parts
+pub mod Opening
+pub mod Nodes
+pub mod Moves
+pub mod Seen

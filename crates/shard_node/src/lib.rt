@@ -2,14 +2,19 @@
 //!
 //! A node does the parts that other shards ask of it, and issues its own, turn by turn. A turn waits for nobody. Here stand
 //! what holds of a node between turns and what a turn may answer ([`specs/Standing.antt`], [`specs/Turns.antt`]), the gate
-//! that an own command waits for, the record of a run, the cursors over the trace, and the turn (`src/shard/turning.rt`). The type
-//! that opens and finishes a node is not written yet.
+//! that an own command waits for, the record of a run, the cursors over the trace, the turn (`src/shard/turning.rt`), and the node
+//! itself ([`Node`], `src/node.rt`): it is opened with all the memory that it takes, turned until it is done, and finished into the
+//! record of the run.
+//!
+//! What the nodes of a run say together, once all of them are done, is a law: [`done_nodes_agree`].
 #![tactic(auto)]
 
 mod aside;
 mod expected;
 mod fitting;
 mod gate;
+mod law;
+mod node;
 mod number;
 mod own;
 mod parts;
@@ -17,6 +22,7 @@ mod peer;
 mod peer_steps;
 mod place;
 mod ran;
+mod refusal;
 mod release;
 mod rest;
 mod rising;
@@ -27,8 +33,13 @@ mod turn;
 mod waiting;
 
 pub use gate::{Gate, Gates, OpenGate, OpenGates};
+pub use law::done_nodes_agree;
+pub use node::{Finished, Node};
 pub use ran::Ran;
+pub use refusal::NodeRefusal;
 pub use turn::Turn;
 
+#[cfg(test)]
+mod law_tests;
 #[cfg(test)]
 mod tests;

@@ -1,7 +1,9 @@
 //! The steps of a turn that deal with one peer and nothing else.
+ghost use Rattle.std.specs.Prelude.{◌<◌, ◌↔◌, IsTrue};
 ghost use Rattle.shard_node.specs.Nodes.{traffic_by};
-ghost use Rattle.shard_node.specs.inside.Peers.{held, held_by_all, Each, HoldsOther, SaysBye, SendsReply};
-ghost use Rattle.shard_node.specs.inside.Releases.{Releases, TriesBoth};
+ghost use Rattle.shard_node.specs.inside.Moves.{packets, packets_by_all};
+ghost use Rattle.shard_node.specs.inside.Peers.{held, held_by_all, Each, HoldsOther, SaysBye, SendsReply, TriesHeld};
+ghost use Rattle.shard_node.specs.inside.Releases.{held_count, Releases, TriesBoth};
 
 use crate::peer::Peer;
 use crate::release::release_held;
@@ -12,7 +14,8 @@ use shard_rings::{Lane, Link};
 /// Tries each block that waits to be released once. True where one was.
 pub(crate) fn release_all<'f, L: Drop>(peers: &mut [Peer<'f, L>], tally: &mut Tally) -> bool
     ensures releases { Releases (held_by_all peers.old) (held_by_all peers.new) tally.old tally.new }
-    ensures same { Each HoldsOther peers.old peers.new }
+    ensures each { Each TriesHeld peers.old peers.new }
+    ensures released { IsTrue result ↔ (held_by_all peers.new < held_by_all peers.old) }
 {
     let mut moved = false;
     for peer in peers.iter_mut() {
@@ -26,6 +29,7 @@ impl<'f, L: Drop> Peer<'f, L> {
     pub(crate) fn release_held(&mut self, tally: &mut Tally) -> bool
         ensures tries { TriesBoth (held self.old) (held self.new) tally.old tally.new }
         ensures same { HoldsOther self.old self.new }
+        ensures released { IsTrue result ↔ (held_count (held self.new) < held_count (held self.old)) }
     {
         let request = release_held(&mut self.held_request, tally);
         let reply = release_held(&mut self.held_reply, tally);
@@ -36,14 +40,16 @@ impl<'f, L: Drop> Peer<'f, L> {
 impl<'f, L: Link<'f> + Drop> Peer<'f, L> {
     /// Sends the reply that waits. True where it was sent.
     pub(crate) fn send_reply(&mut self) -> bool
-        ensures { SendsReply (traffic_by L.sent L.received L.full L.empty) L.end self.old self.new }
+        ensures sends { SendsReply (traffic_by L.sent L.received L.full L.empty) L.end self.old self.new }
+        ensures sent { IsTrue result ↔ (packets (traffic_by L.sent L.received L.full L.empty self.old.link) < packets (traffic_by L.sent L.received L.full L.empty self.new.link)) }
     {
         send_held(&mut self.link, Lane::Replies, &mut self.reply)
     }
 
     /// Says Bye, where it was not said. True where it was sent.
     pub(crate) fn say_bye(&mut self) -> bool
-        ensures { SaysBye (traffic_by L.sent L.received L.full L.empty) L.end self.old self.new }
+        ensures says { SaysBye (traffic_by L.sent L.received L.full L.empty) L.end self.old self.new }
+        ensures sent { IsTrue result ↔ (packets (traffic_by L.sent L.received L.full L.empty self.old.link) < packets (traffic_by L.sent L.received L.full L.empty self.new.link)) }
     {
         if self.has_sent_bye {
             return false;
@@ -55,7 +61,8 @@ impl<'f, L: Link<'f> + Drop> Peer<'f, L> {
 
 /// Says Bye to each peer that was not told, on the lane of requests: no more of these come. True where it was sent to one.
 pub(crate) fn say_byes<'f, L: Link<'f> + Drop>(peers: &mut [Peer<'f, L>]) -> bool
-    ensures { Each (SaysBye (traffic_by L.sent L.received L.full L.empty) L.end) peers.old peers.new }
+    ensures each { Each (SaysBye (traffic_by L.sent L.received L.full L.empty) L.end) peers.old peers.new }
+    ensures sent { IsTrue result ↔ (packets_by_all (traffic_by L.sent L.received L.full L.empty) peers.old < packets_by_all (traffic_by L.sent L.received L.full L.empty) peers.new) }
 {
     let mut moved = false;
     for peer in peers.iter_mut() {
@@ -66,7 +73,8 @@ pub(crate) fn say_byes<'f, L: Link<'f> + Drop>(peers: &mut [Peer<'f, L>]) -> boo
 
 /// Sends each reply that waits. True where one was sent.
 pub(crate) fn send_replies<'f, L: Link<'f> + Drop>(peers: &mut [Peer<'f, L>]) -> bool
-    ensures { Each (SendsReply (traffic_by L.sent L.received L.full L.empty) L.end) peers.old peers.new }
+    ensures each { Each (SendsReply (traffic_by L.sent L.received L.full L.empty) L.end) peers.old peers.new }
+    ensures sent { IsTrue result ↔ (packets_by_all (traffic_by L.sent L.received L.full L.empty) peers.old < packets_by_all (traffic_by L.sent L.received L.full L.empty) peers.new) }
 {
     let mut moved = false;
     for peer in peers.iter_mut() {

@@ -1,6 +1,6 @@
 //! What a turn comes to, step by step.
-ghost use Rattle.std.specs.Prelude.{◌≢◌};
-ghost use Rattle.shard_node.specs.declared.turn.Turn.{Turn as Turns};
+ghost use Rattle.std.specs.Prelude.{◌≡◌, ◌||◌, false, None};
+ghost use Rattle.shard_node.specs.inside.Seen.{answer_of, first_aside, has_come};
 
 use crate::aside::{Aside, Tried};
 use crate::turn::Turn;
@@ -13,7 +13,10 @@ pub struct Seen {
 }
 
 impl Seen {
-    pub(crate) fn nothing() -> Seen {
+    pub(crate) fn nothing() -> Seen
+        ensures moved { result.moved ≡ false }
+        ensures aside { result.aside ≡ None }
+    {
         Seen {
             moved: false,
             aside: None,
@@ -21,12 +24,18 @@ impl Seen {
     }
 
     /// Something moved, or nothing did.
-    pub(crate) fn note(&mut self, moved: bool) {
+    pub(crate) fn note(&mut self, moved: bool)
+        ensures moved { self.new.moved ≡ (self.old.moved || moved) }
+        ensures aside { self.new.aside ≡ self.old.aside }
+    {
         self.moved = self.moved || moved;
     }
 
     /// A lane was tried.
-    pub(crate) fn note_try(&mut self, tried: Tried) {
+    pub(crate) fn note_try(&mut self, tried: Tried)
+        ensures moved { self.new.moved ≡ (self.old.moved || has_come tried) }
+        ensures aside { self.new.aside ≡ first_aside self.old.aside tried }
+    {
         match tried {
             Tried::Nothing => {}
             Tried::Expected => self.moved = true,
@@ -39,7 +48,7 @@ impl Seen {
 
     /// The answer of a turn after which the node is not done.
     pub(crate) fn turn(self) -> Turn
-        ensures { result ≢ Turns.Done }
+        ensures { result ≡ answer_of self.aside self.moved }
     {
         match self.aside {
             Some(aside) => Turn::Stray {

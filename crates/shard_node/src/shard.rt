@@ -1,11 +1,14 @@
 //! A shard at work: what a node holds, and the steps of its turn.
-ghost use Rattle.std.specs.Prelude.{◌≡◌, ◌+◌, ◌<◌, length};
+ghost use Rattle.std.specs.Prelude.{◌≡◌, ◌+◌, ◌<◌, ◌↔◌, length, true, false, IsTrue};
 ghost use Rattle.shard_node.specs.Nodes.{traffic_by};
+ghost use Rattle.shard_rings.specs.declared.link.Lane.{Lane as AnyLane};
+ghost use Rattle.shard_node.specs.inside.Moves.{packets_of, ByeWaits, Frees, Goes, HeldUp, NonePassed, RacesAll, ReceivesNone, ReplyWaits};
 ghost use Rattle.shard_node.specs.inside.Shards.{node_state, IsConsistent};
 ghost use Rattle.shard_node.specs.inside.Steps.{IsStep};
 
 mod beginning;
 mod ending;
+mod opening;
 mod replies;
 mod requests;
 mod turning;
@@ -50,20 +53,27 @@ pub struct Shard<'f, L: Drop, G: Drop> {
 }
 
 impl<'f, L: Link<'f> + Drop, G: Gate + Drop> Shard<'f, L, G> {
-    /// Takes back the blocks that came home. True where one did.
-    pub(crate) fn take_back(&mut self) -> bool
+    /// Takes back the blocks that came home.
+    pub(crate) fn take_back(&mut self)
         requires consistent { IsConsistent self.old }
         ensures step { IsStep (traffic_by L.sent L.received L.full L.empty) L.end self.old self.new }
+        ensures received { (lane : AnyLane) → ReceivesNone (traffic_by L.sent L.received L.full L.empty) lane (node_state self.old) (node_state self.new) }
+        ensures goes { Goes (traffic_by L.sent L.received L.full L.empty) (node_state self.old) (node_state self.new) }
+        ensures same { node_state self.new ≡ record (node_state self.old) { space = (node_state self.new).space } }
     {
-        let count = self.space.take_back();
         self.space.facts();
-        count > 0
+        self.space.take_back();
+        self.space.facts();
     }
 
     /// Tries each block that waits to be released once. True where one was.
     pub(crate) fn release_held(&mut self) -> bool
         requires consistent { IsConsistent self.old }
         ensures step { IsStep (traffic_by L.sent L.received L.full L.empty) L.end self.old self.new }
+        ensures received { (lane : AnyLane) → ReceivesNone (traffic_by L.sent L.received L.full L.empty) lane (node_state self.old) (node_state self.new) }
+        ensures goes { Goes (traffic_by L.sent L.received L.full L.empty) (node_state self.old) (node_state self.new) }
+        ensures released { result ≡ true → Frees (traffic_by L.sent L.received L.full L.empty) G.holds (node_state self.old) (node_state self.new) }
+        ensures raced { result ≡ false → RacesAll (traffic_by L.sent L.received L.full L.empty) G.holds (node_state self.old) (node_state self.new) }
     {
         release_all(self.peers.as_mut_slice(), &mut self.tally)
     }
@@ -72,6 +82,11 @@ impl<'f, L: Link<'f> + Drop, G: Gate + Drop> Shard<'f, L, G> {
     pub(crate) fn send_replies(&mut self) -> bool
         requires consistent { IsConsistent self.old }
         ensures step { IsStep (traffic_by L.sent L.received L.full L.empty) L.end self.old self.new }
+        ensures received { (lane : AnyLane) → ReceivesNone (traffic_by L.sent L.received L.full L.empty) lane (node_state self.old) (node_state self.new) }
+        ensures goes { Goes (traffic_by L.sent L.received L.full L.empty) (node_state self.old) (node_state self.new) }
+        ensures sent { IsTrue result ↔ (packets_of (traffic_by L.sent L.received L.full L.empty) (node_state self.old) < packets_of (traffic_by L.sent L.received L.full L.empty) (node_state self.new)) }
+        ensures held_up { NonePassed (traffic_by L.sent L.received L.full L.empty) (node_state self.old) (node_state self.new)
+            → HeldUp (traffic_by L.sent L.received L.full L.empty) (λ k. ReplyWaits (traffic_by L.sent L.received L.full L.empty)) (node_state self.old) (node_state self.new) }
     {
         send_replies(self.peers.as_mut_slice())
     }
@@ -80,6 +95,11 @@ impl<'f, L: Link<'f> + Drop, G: Gate + Drop> Shard<'f, L, G> {
     pub(crate) fn say_byes(&mut self) -> bool
         requires consistent { IsConsistent self.old }
         ensures step { IsStep (traffic_by L.sent L.received L.full L.empty) L.end self.old self.new }
+        ensures received { (lane : AnyLane) → ReceivesNone (traffic_by L.sent L.received L.full L.empty) lane (node_state self.old) (node_state self.new) }
+        ensures goes { Goes (traffic_by L.sent L.received L.full L.empty) (node_state self.old) (node_state self.new) }
+        ensures sent { IsTrue result ↔ (packets_of (traffic_by L.sent L.received L.full L.empty) (node_state self.old) < packets_of (traffic_by L.sent L.received L.full L.empty) (node_state self.new)) }
+        ensures held_up { NonePassed (traffic_by L.sent L.received L.full L.empty) (node_state self.old) (node_state self.new)
+            → HeldUp (traffic_by L.sent L.received L.full L.empty) (λ k. ByeWaits (traffic_by L.sent L.received L.full L.empty) G.holds (node_state self.old)) (node_state self.old) (node_state self.new) }
     {
         issued_parts_are_counted();
         if self.request.is_none() && self.own.next().is_none() {

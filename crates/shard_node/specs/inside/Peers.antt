@@ -5,7 +5,7 @@ use Rattle.shard_rings.specs.Lanes.{Lanes, LinkEnd}
 use Rattle.shard_rings.specs.declared.link.Lane.TheVariants.{Replies}
 use Rattle.shard_node.specs.declared.peer.Peer.{Peer}
 use Rattle.shard_node.specs.Nodes.{Keeping, PeerState, Traffic}
-use Rattle.shard_node.specs.inside.Releases.{held_count}
+use Rattle.shard_node.specs.inside.Releases.{TriesBoth, held_count}
 use Rattle.shard_node.specs.inside.Sends.{SendsHeld, TriesBye}
 
 module _ {L : Type 0} where
@@ -32,6 +32,13 @@ module _ {L : Type 0} where
   -- of a peer only that has changed
   abbrev pub HoldsOther : Peer L → Peer L → Type 0
   HoldsOther old new = new ≡ record old { held_request = new.held_request; held_reply = new.held_reply }
+
+  -- each block of a peer that waited was tried once, whatever the tally; nothing else of it has changed
+  pub record TriesHeld (old new : Peer L) : Type 0 where
+    pub before : ℕ
+    pub after : ℕ
+    pub tries : TriesBoth (held old) (held new) before after
+    pub same : HoldsOther old new
 
   -- a change of each peer
   abbrev pub Each : (Peer L → Peer L → Type 0) → List (Peer L) → List (Peer L) → Type 0

@@ -1,13 +1,17 @@
 //! The step that goes on with the shard's own parts.
-ghost use Rattle.std.specs.Prelude.{◌≡◌, ◌≢◌, ℕ, ◌<◌, length, true, false, Contains, Some, None};
+ghost use Rattle.std.specs.Prelude.{◌≡◌, ◌≢◌, ◌↔◌, ℕ, ◌<◌, false, Contains, Some, None, IsTrue};
 ghost use Rattle.std.specs.List.{slice_get};
-ghost use Rattle.trace_text.specs.Operation.{operation};
-ghost use Rattle.shard_memory.specs.Tickets.{HasIdle};
-ghost use Rattle.shard_memory.specs.declared.share.Share.{Share as Shares};
 ghost use Rattle.shard_node.specs.Nodes.{traffic_by};
 ghost use Rattle.shard_node.specs.inside.Own.{IsFirstPart, own_log};
 ghost use Rattle.shard_node.specs.inside.Work.{others};
-ghost use Rattle.shard_node.specs.inside.Shards.{IsConsistent, issued_by};
+ghost use Rattle.shard_memory.specs.Tickets.{HasIdle};
+ghost use Rattle.shard_memory.specs.declared.share.Share.{Share as Shares};
+ghost use Rattle.shard_rings.specs.Lanes.{Rose};
+ghost use Rattle.shard_rings.specs.declared.link.Lane.{Lane as AnyLane};
+ghost use Rattle.shard_node.specs.declared.waiting.Waiting.{Waiting as IsWaiting};
+ghost use Rattle.shard_node.specs.Standing.{InStanding};
+ghost use Rattle.shard_node.specs.inside.Moves.{done_in, Goes, HeldUp, HoldsBack, ReceivesNone, Rises};
+ghost use Rattle.shard_node.specs.inside.Shards.{IsConsistent, issued_by, node_state};
 ghost use Rattle.shard_node.specs.inside.Steps.{IsStep};
 
 use super::Shard;
@@ -19,65 +23,82 @@ use cache_model::{
     a_journal_goes_on, evictions_are_counted, evictions_in_turn_are_legal,
     issued_parts_are_counted, replies_hold_what_was_put,
 };
-use foreign_list::ForeignBlock;
 use shard_memory::Share;
 use shard_rings::{Ask, Lane, Link};
 use trace_text::Command;
 
 impl<'f, L: Link<'f> + Drop, G: Gate + Drop> Shard<'f, L, G> {
     /// Sends the request that waits. Where none waits, the next own part is begun: done here, or asked of another shard. True
-    /// where the request was sent or the part done.
+    /// where a request was sent or a part was done.
     pub(crate) fn go_on(&mut self) -> bool
         requires consistent { IsConsistent self.old }
         ensures step { IsStep (traffic_by L.sent L.received L.full L.empty) L.end self.old self.new }
+        ensures received { (lane : AnyLane) → ReceivesNone (traffic_by L.sent L.received L.full L.empty) lane (node_state self.old) (node_state self.new) }
+        ensures goes { Goes (traffic_by L.sent L.received L.full L.empty) (node_state self.old) (node_state self.new) }
+        ensures moved { IsTrue result ↔ Rises (traffic_by L.sent L.received L.full L.empty) (node_state self.old) (node_state self.new) }
+        ensures held_back { result ≡ false → HoldsBack (traffic_by L.sent L.received L.full L.empty) G.holds (node_state self.old) (node_state self.new) }
     {
-        let (begun, waited) = (self.own.begun(), self.request.is_some());
         if self.request.is_some() {
-            self.send_request();
+            self.send_request()
         } else {
-            self.begin();
+            self.begin()
         }
-        self.request.is_none() && (waited || self.own.begun() != begun)
     }
 
-    /// Sends the request that waits, if one does.
-    fn send_request(&mut self)
+    /// Sends the request that waits, if one does. True where it was sent.
+    fn send_request(&mut self) -> bool
         requires consistent { IsConsistent self.old }
         ensures step { IsStep (traffic_by L.sent L.received L.full L.empty) L.end self.old self.new }
+        ensures received { (lane : AnyLane) → ReceivesNone (traffic_by L.sent L.received L.full L.empty) lane (node_state self.old) (node_state self.new) }
+        ensures goes { Goes (traffic_by L.sent L.received L.full L.empty) (node_state self.old) (node_state self.new) }
+        ensures moved { IsTrue result ↔ Rises (traffic_by L.sent L.received L.full L.empty) (node_state self.old) (node_state self.new) }
+        ensures held_up { result ≡ false → HeldUp (traffic_by L.sent L.received L.full L.empty) (λ k a b. (waiting : IsWaiting) → self.old.request ≡ Some waiting → a.shard ≡ waiting.peer
+            → Rose (L.full a.link).requests (L.full b.link).requests) (node_state self.old) (node_state self.new) }
     {
         let Some(Waiting { peer, block }) = self.request.take() else {
-            return;
+            return false;
         };
         self.own.facts();
         let at = self.place_of(peer);
         let asked = &mut self.peers[at];
         asked.answers.facts();
         match send(&mut asked.link, Lane::Requests, block) {
-            Some(block) => self.request = Some(Waiting { peer, block }),
-            None => asked.owed += 1,
+            Some(block) => {
+                self.request = Some(Waiting { peer, block });
+                false
+            }
+            None => {
+                asked.owed += 1;
+                true
+            }
         }
     }
 
-    /// Begins the next own part. Another shard's waits for a ticket, and a command's first part for the gate.
-    fn begin(&mut self)
+    /// Begins the next own part. Another shard's waits for a ticket, and a command's first part for the gate. True where its
+    /// request was sent, or it was done.
+    fn begin(&mut self) -> bool
         requires consistent { IsConsistent self.old }
         requires idle { self.old.request ≡ None }
         ensures step { IsStep (traffic_by L.sent L.received L.full L.empty) L.end self.old self.new }
+        ensures received { (lane : AnyLane) → ReceivesNone (traffic_by L.sent L.received L.full L.empty) lane (node_state self.old) (node_state self.new) }
+        ensures goes { Goes (traffic_by L.sent L.received L.full L.empty) (node_state self.old) (node_state self.new) }
+        ensures moved { IsTrue result ↔ Rises (traffic_by L.sent L.received L.full L.empty) (node_state self.old) (node_state self.new) }
+        ensures held_back { result ≡ false → HoldsBack (traffic_by L.sent L.received L.full L.empty) G.holds (node_state self.old) (node_state self.new) }
     {
         let Some((command, doer)) = self.own.next() else {
-            return;
+            return false;
         };
         if doer != self.shard && !self.space.is_idle(Share::Request) {
-            return;
+            return false;
         }
         if !self.passes_gate(command.number) {
-            return;
+            return false;
         }
         if doer == self.shard {
-            self.do_here();
+            self.do_here()
         } else {
             self.ask(command, doer);
-            self.send_request();
+            self.send_request()
         }
     }
 
@@ -92,11 +113,15 @@ impl<'f, L: Link<'f> + Drop, G: Gate + Drop> Shard<'f, L, G> {
         !self.own.is_first() || self.gate.open(self.shard, number)
     }
 
-    /// Does the next own part.
-    fn do_here(&mut self)
+    /// Does the next own part. True where it was done.
+    fn do_here(&mut self) -> bool
         requires consistent { IsConsistent self.old }
         requires next { (i : ℕ) × (slice_get (issued_by self.old) self.old.own.begun ≡ Some (i, self.old.shard)) }
         ensures step { IsStep (traffic_by L.sent L.received L.full L.empty) L.end self.old self.new }
+        ensures received { (lane : AnyLane) → ReceivesNone (traffic_by L.sent L.received L.full L.empty) lane (node_state self.old) (node_state self.new) }
+        ensures goes { Goes (traffic_by L.sent L.received L.full L.empty) (node_state self.old) (node_state self.new) }
+        ensures moved { IsTrue result ↔ Rises (traffic_by L.sent L.received L.full L.empty) (node_state self.old) (node_state self.new) }
+        ensures done { IsTrue result }
     {
         a_journal_goes_on();
         evictions_in_turn_are_legal();
@@ -106,7 +131,7 @@ impl<'f, L: Link<'f> + Drop, G: Gate + Drop> Shard<'f, L, G> {
         self.trace.commands();
         self.space.facts();
         let Some(command) = self.here.first() else {
-            return;
+            return false;
         };
         let ask = Ask::of(self.trace, command);
         let part = self.own.begun();
@@ -115,6 +140,7 @@ impl<'f, L: Link<'f> + Drop, G: Gate + Drop> Shard<'f, L, G> {
         self.space.facts();
         self.here.pass();
         self.own.pass();
+        true
     }
 
     /// Makes the request of the next own part, which waits to be sent.
@@ -125,7 +151,15 @@ impl<'f, L: Link<'f> + Drop, G: Gate + Drop> Shard<'f, L, G> {
         requires next { slice_get (issued_by self.old) self.old.own.begun ≡ Some (command.now.number, doer) }
         requires other { doer ≢ self.old.shard }
         requires below { doer < self.old.shards }
+        requires ticket { HasIdle self.old.space.lent Shares.Request }
         ensures step { IsStep (traffic_by L.sent L.received L.full L.empty) L.end self.old self.new }
+        ensures received { (lane : AnyLane) → ReceivesNone (traffic_by L.sent L.received L.full L.empty) lane (node_state self.old) (node_state self.new) }
+        ensures goes { Goes (traffic_by L.sent L.received L.full L.empty) (node_state self.old) (node_state self.new) }
+        ensures peers { (node_state self.new).peers ≡ (node_state self.old).peers }
+        ensures done { done_in (traffic_by L.sent L.received L.full L.empty) (node_state self.new) ≡ done_in (traffic_by L.sent L.received L.full L.empty) (node_state self.old) }
+        ensures waits { (waiting : IsWaiting) × (self.new.request ≡ Some waiting) }
+        ensures idle { InStanding (traffic_by L.sent L.received L.full L.empty) (node_state self.old) → self.new.space.backs ≡ self.old.space.backs
+            → HasIdle self.new.space.lent Shares.Reply → HasIdle self.old.space.lent Shares.Reply }
     {
         a_journal_goes_on();
         evictions_in_turn_are_legal();
@@ -133,6 +167,8 @@ impl<'f, L: Link<'f> + Drop, G: Gate + Drop> Shard<'f, L, G> {
         issued_parts_are_counted();
         self.trace.commands();
         self.space.facts();
+        self.own.facts();
+        self.journal.entries();
         let ask = Ask::of(self.trace, command);
         if let Ok(block) = self.space.request_block(&ask, &mut self.journal) {
             self.space.facts();

@@ -1,5 +1,5 @@
 //! The step that takes the replies of other shards.
-ghost use Rattle.std.specs.Prelude.{◌≡◌, ◌<◌, ◌≤◌, length, true, None, Some};
+ghost use Rattle.std.specs.Prelude.{◌≡◌, ◌≢◌, ◌⊎◌, ◌↔◌, ℕ, ◌<◌, ◌≤◌, length, true, None, Some, IsTrue};
 ghost use Rattle.std.specs.List.{slice_get};
 ghost use Rattle.trace_text.specs.Operation.{Operation};
 ghost use Rattle.trace_text.specs.Parsed.{trace_in};
@@ -8,9 +8,13 @@ ghost use Rattle.cache_model.specs.Bodies.{most_of_body};
 ghost use Rattle.shard_rings.specs.declared.link.Packet.TheVariants.{Block as InBlock};
 ghost use Rattle.shard_node.specs.declared.aside.Tried.{Tried as Tries};
 ghost use Rattle.shard_node.specs.Nodes.{traffic_by};
-ghost use Rattle.shard_node.specs.Turns.{expected_number};
+ghost use Rattle.shard_rings.specs.declared.link.Lane.TheVariants.{Replies, Requests};
+ghost use Rattle.shard_node.specs.Standing.{InStanding};
+ghost use Rattle.shard_node.specs.Turns.{HasAside, expected_number};
+ghost use Rattle.shard_node.specs.inside.Moves.{packets_of, Goes, HeldUp, NonePassed, ReceivesNone, ReplyLacks, Tells, TriedSays};
+ghost use Rattle.shard_node.specs.inside.Seen.{has_come};
 ghost use Rattle.shard_node.specs.inside.Receives.{EndsReply, OwesReply, TriesReply, next_answer};
-ghost use Rattle.shard_node.specs.inside.Shards.{IsConsistent};
+ghost use Rattle.shard_node.specs.inside.Shards.{IsConsistent, node_state};
 ghost use Rattle.shard_node.specs.inside.Steps.{IsStep};
 
 use super::Shard;
@@ -31,6 +35,13 @@ impl<'f, L: Link<'f> + Drop, G: Gate + Drop> Shard<'f, L, G> {
     pub(crate) fn take_replies(&mut self, seen: &mut Seen)
         requires consistent { IsConsistent self.old }
         ensures step { IsStep (traffic_by L.sent L.received L.full L.empty) L.end self.old self.new }
+        ensures requests { ReceivesNone (traffic_by L.sent L.received L.full L.empty) Requests (node_state self.old) (node_state self.new) }
+        ensures goes { Goes (traffic_by L.sent L.received L.full L.empty) (node_state self.old) (node_state self.new) }
+        ensures moved { IsTrue seen.new.moved ↔ (IsTrue seen.old.moved ⊎ (packets_of (traffic_by L.sent L.received L.full L.empty) (node_state self.old) < packets_of (traffic_by L.sent L.received L.full L.empty) (node_state self.new))) }
+        ensures held_up { NonePassed (traffic_by L.sent L.received L.full L.empty) (node_state self.old) (node_state self.new)
+            → HeldUp (traffic_by L.sent L.received L.full L.empty) (λ k. ReplyLacks (traffic_by L.sent L.received L.full L.empty)) (node_state self.old) (node_state self.new) }
+        ensures tells { InStanding (traffic_by L.sent L.received L.full L.empty) (node_state self.old)
+            → Tells (HasAside (traffic_by L.sent L.received L.full L.empty) G.holds Replies (node_state self.old) (node_state self.new)) seen.old.aside seen.new.aside }
     {
         let mut at = 0;
         while at < self.peers.len() {
@@ -43,6 +54,14 @@ impl<'f, L: Link<'f> + Drop, G: Gate + Drop> Shard<'f, L, G> {
         requires consistent { IsConsistent self.old }
         requires peer { at < length self.old.peers.items }
         ensures step { IsStep (traffic_by L.sent L.received L.full L.empty) L.end self.old self.new }
+        ensures requests { ReceivesNone (traffic_by L.sent L.received L.full L.empty) Requests (node_state self.old) (node_state self.new) }
+        ensures goes { Goes (traffic_by L.sent L.received L.full L.empty) (node_state self.old) (node_state self.new) }
+        ensures moved { IsTrue (has_come result) ↔ (packets_of (traffic_by L.sent L.received L.full L.empty) (node_state self.old) < packets_of (traffic_by L.sent L.received L.full L.empty) (node_state self.new)) }
+        ensures held_up { NonePassed (traffic_by L.sent L.received L.full L.empty) (node_state self.old) (node_state self.new)
+            → HeldUp (traffic_by L.sent L.received L.full L.empty) (λ k a b. k ≡ at → ReplyLacks (traffic_by L.sent L.received L.full L.empty) a b) (node_state self.old) (node_state self.new) }
+        ensures others { (k : ℕ) → k ≢ at → slice_get (node_state self.new).peers k ≡ slice_get (node_state self.old).peers k }
+        ensures tells { InStanding (traffic_by L.sent L.received L.full L.empty) (node_state self.old)
+            → TriedSays (HasAside (traffic_by L.sent L.received L.full L.empty) G.holds Replies (node_state self.old) (node_state self.new) at) result }
         ensures peers { length self.new.peers.items ≡ length self.old.peers.items }
     {
         let (trace, longest) = (self.trace, self.longest);
@@ -58,7 +77,7 @@ impl<'f, L: Link<'f> + Drop, G: Gate + Drop> Shard<'f, L, G> {
 impl<'f, L: Link<'f> + Drop> Peer<'f, L> {
     /// Whether the peer owes a reply, and no block of its replies waits to be released.
     fn owes_reply(&self) -> bool
-        ensures { result ≡ true → OwesReply self.now }
+        ensures { IsTrue result ↔ OwesReply self.now }
     {
         self.owed > 0 && self.held_reply.is_none()
     }

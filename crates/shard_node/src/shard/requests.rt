@@ -1,5 +1,5 @@
 //! The step that does what other shards ask.
-ghost use Rattle.std.specs.Prelude.{◌≡◌, ◌⊎◌, ◌+◌, ◌<◌, ◌≤◌, length, true, Some};
+ghost use Rattle.std.specs.Prelude.{◌≡◌, ◌≢◌, ℕ, ◌⊎◌, ◌↔◌, ◌+◌, ◌<◌, ◌≤◌, length, true, Some, IsTrue};
 ghost use Rattle.trace_text.specs.Operation.{Operation};
 ghost use Rattle.trace_text.specs.Parts.{is_put};
 ghost use Rattle.shard_memory.specs.Tickets.{HasIdle};
@@ -9,10 +9,17 @@ ghost use Rattle.reclaim.specs.Spaces.{IsUnguarded, SpaceState};
 ghost use Rattle.run_log.specs.JournalState.{JournalState};
 ghost use Rattle.shard_node.specs.declared.aside.Tried.{Tried as Tries};
 ghost use Rattle.shard_node.specs.Nodes.{traffic_by};
+ghost use Rattle.std.specs.List.{slice_get};
+ghost use Rattle.shard_rings.specs.declared.link.Lane.{Lane as AnyLane};
+ghost use Rattle.shard_rings.specs.declared.link.Lane.TheVariants.{Replies, Requests};
 ghost use Rattle.shard_node.specs.Due.{number_said};
+ghost use Rattle.shard_node.specs.Standing.{InStanding};
+ghost use Rattle.shard_node.specs.Turns.{HasAside};
+ghost use Rattle.shard_node.specs.inside.Moves.{packets_of, Goes, HeldUp, NonePassed, ReceivesNone, RequestLacks, Tells, TriedSays};
+ghost use Rattle.shard_node.specs.inside.Seen.{has_come};
 ghost use Rattle.shard_node.specs.inside.Receives.{next_ask};
 ghost use Rattle.shard_node.specs.inside.Serves.{EndsRequest, MayAsk, TriesRequest, due_next};
-ghost use Rattle.shard_node.specs.inside.Shards.{IsConsistent};
+ghost use Rattle.shard_node.specs.inside.Shards.{IsConsistent, node_state};
 ghost use Rattle.shard_node.specs.inside.Steps.{IsStep};
 
 use super::Shard;
@@ -38,6 +45,13 @@ impl<'f, L: Link<'f> + Drop, G: Gate + Drop> Shard<'f, L, G> {
     pub(crate) fn serve(&mut self, seen: &mut Seen)
         requires consistent { IsConsistent self.old }
         ensures step { IsStep (traffic_by L.sent L.received L.full L.empty) L.end self.old self.new }
+        ensures replies { ReceivesNone (traffic_by L.sent L.received L.full L.empty) Replies (node_state self.old) (node_state self.new) }
+        ensures goes { Goes (traffic_by L.sent L.received L.full L.empty) (node_state self.old) (node_state self.new) }
+        ensures moved { IsTrue seen.new.moved ↔ (IsTrue seen.old.moved ⊎ (packets_of (traffic_by L.sent L.received L.full L.empty) (node_state self.old) < packets_of (traffic_by L.sent L.received L.full L.empty) (node_state self.new))) }
+        ensures held_up { NonePassed (traffic_by L.sent L.received L.full L.empty) (node_state self.old) (node_state self.new)
+            → HeldUp (traffic_by L.sent L.received L.full L.empty) (λ k. RequestLacks (traffic_by L.sent L.received L.full L.empty) (node_state self.old).space.lent) (node_state self.old) (node_state self.new) }
+        ensures tells { InStanding (traffic_by L.sent L.received L.full L.empty) (node_state self.old)
+            → Tells (HasAside (traffic_by L.sent L.received L.full L.empty) G.holds Requests (node_state self.old) (node_state self.new)) seen.old.aside seen.new.aside }
     {
         let mut at = 0;
         while at < self.peers.len() {
@@ -50,14 +64,23 @@ impl<'f, L: Link<'f> + Drop, G: Gate + Drop> Shard<'f, L, G> {
         requires consistent { IsConsistent self.old }
         requires peer { at < length self.old.peers.items }
         ensures step { IsStep (traffic_by L.sent L.received L.full L.empty) L.end self.old self.new }
+        ensures replies { ReceivesNone (traffic_by L.sent L.received L.full L.empty) Replies (node_state self.old) (node_state self.new) }
+        ensures goes { Goes (traffic_by L.sent L.received L.full L.empty) (node_state self.old) (node_state self.new) }
+        ensures moved { IsTrue (has_come result) ↔ (packets_of (traffic_by L.sent L.received L.full L.empty) (node_state self.old) < packets_of (traffic_by L.sent L.received L.full L.empty) (node_state self.new)) }
+        ensures held_up { NonePassed (traffic_by L.sent L.received L.full L.empty) (node_state self.old) (node_state self.new)
+            → HeldUp (traffic_by L.sent L.received L.full L.empty) (λ k a b. k ≡ at → RequestLacks (traffic_by L.sent L.received L.full L.empty) (node_state self.old).space.lent a b) (node_state self.old) (node_state self.new) }
+        ensures others { (k : ℕ) → k ≢ at → slice_get (node_state self.new).peers k ≡ slice_get (node_state self.old).peers k }
+        ensures tells { InStanding (traffic_by L.sent L.received L.full L.empty) (node_state self.old)
+            → TriedSays (HasAside (traffic_by L.sent L.received L.full L.empty) G.holds Requests (node_state self.old) (node_state self.new) at) result }
         ensures peers { length self.new.peers.items ≡ length self.old.peers.items }
     {
-        let tried = self.take_request(at);
-        if tried != Tried::Expected {
-            return tried;
+        match self.take_request(at) {
+            Tried::Expected => {
+                self.send_reply(at);
+                Tried::Expected
+            }
+            other => other,
         }
-        self.send_reply(at);
-        tried
     }
 
     /// Receives a packet of a peer, where it may ask and a ticket for its reply is idle, and does what it asks.
@@ -65,6 +88,14 @@ impl<'f, L: Link<'f> + Drop, G: Gate + Drop> Shard<'f, L, G> {
         requires consistent { IsConsistent self.old }
         requires peer { at < length self.old.peers.items }
         ensures step { IsStep (traffic_by L.sent L.received L.full L.empty) L.end self.old self.new }
+        ensures replies { ReceivesNone (traffic_by L.sent L.received L.full L.empty) Replies (node_state self.old) (node_state self.new) }
+        ensures goes { Goes (traffic_by L.sent L.received L.full L.empty) (node_state self.old) (node_state self.new) }
+        ensures moved { IsTrue (has_come result) ↔ (packets_of (traffic_by L.sent L.received L.full L.empty) (node_state self.old) < packets_of (traffic_by L.sent L.received L.full L.empty) (node_state self.new)) }
+        ensures held_up { NonePassed (traffic_by L.sent L.received L.full L.empty) (node_state self.old) (node_state self.new)
+            → HeldUp (traffic_by L.sent L.received L.full L.empty) (λ k a b. k ≡ at → RequestLacks (traffic_by L.sent L.received L.full L.empty) (node_state self.old).space.lent a b) (node_state self.old) (node_state self.new) }
+        ensures others { (k : ℕ) → k ≢ at → slice_get (node_state self.new).peers k ≡ slice_get (node_state self.old).peers k }
+        ensures tells { InStanding (traffic_by L.sent L.received L.full L.empty) (node_state self.old)
+            → TriedSays (HasAside (traffic_by L.sent L.received L.full L.empty) G.holds Requests (node_state self.old) (node_state self.new) at) result }
         ensures peers { length self.new.peers.items ≡ length self.old.peers.items }
     {
         if !self.space.is_idle(Share::Reply) || !self.peers[at].may_ask() {
@@ -88,6 +119,9 @@ impl<'f, L: Link<'f> + Drop, G: Gate + Drop> Shard<'f, L, G> {
         requires consistent { IsConsistent self.old }
         requires peer { at < length self.old.peers.items }
         ensures step { IsStep (traffic_by L.sent L.received L.full L.empty) L.end self.old self.new }
+        ensures received { (lane : AnyLane) → ReceivesNone (traffic_by L.sent L.received L.full L.empty) lane (node_state self.old) (node_state self.new) }
+        ensures goes { Goes (traffic_by L.sent L.received L.full L.empty) (node_state self.old) (node_state self.new) }
+        ensures others { (k : ℕ) → k ≢ at → slice_get (node_state self.new).peers k ≡ slice_get (node_state self.old).peers k }
         ensures peers { length self.new.peers.items ≡ length self.old.peers.items }
     {
         self.peers[at].send_reply();
@@ -97,7 +131,7 @@ impl<'f, L: Link<'f> + Drop, G: Gate + Drop> Shard<'f, L, G> {
 impl<'f, L: Link<'f> + Drop> Peer<'f, L> {
     /// Whether more requests may come, no block of theirs waits to be released, and no reply waits to be sent.
     fn may_ask(&self) -> bool
-        ensures { result ≡ true → MayAsk self.now }
+        ensures { IsTrue result ↔ MayAsk self.now }
     {
         !self.has_heard_bye && self.held_request.is_none() && self.reply.is_none()
     }

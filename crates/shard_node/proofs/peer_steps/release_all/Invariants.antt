@@ -1,9 +1,12 @@
-use Rattle.shard_node.specs.inside.Peers.{held_by_all, Each, HoldsOther}
+use Rattle.std.proofs.Common.{◌<◌, ◌↔◌, IsTrue}
+use Rattle.shard_node.specs.inside.Peers.{held_by_all, TriesHeld}
 use Rattle.shard_node.specs.inside.Releases.{Releases}
+use Rattle.shard_node.proofs.Each.{ChangesOnce}
 use Rattle.shard_node.proofs.peer_steps.release_all.Given as goal
 
 abbrev pub invariant-loop-peer : goal.invariant-loop-peer
 invariant-loop-peer g l = record {
   releases : Releases (held_by_all l.initial.peers) (held_by_all l.peers) l.initial.tally l.tally;
-  same : Each HoldsOther l.initial.peers l.peers;
+  each : ChangesOnce TriesHeld l.initial.peers l.peers l.peer-index;
+  released : IsTrue l.moved ↔ (held_by_all l.peers < held_by_all l.initial.peers);
 }

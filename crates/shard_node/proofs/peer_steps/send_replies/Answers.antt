@@ -1,13 +1,23 @@
-use Rattle.std.proofs.Common.{◌<◌, length, arith}
-use Rattle.shard_node.proofs.Each.{once_begins, once_next}
+use Rattle.std.proofs.Common.{◌<◌, length, arith, true≢false, sym}
+use Rattle.shard_node.specs.Nodes.{traffic_by}
+use Rattle.shard_node.proofs.Each.{once_begins, once_next, sent_next}
+use Rattle.shard_node.proofs.PeerGoes.{reply_goes}
 use Rattle.shard_node.proofs.peer_steps.send_replies.Goals as goal
 
 pub loop-peer-init : goal.loop-peer-init
-loop-peer-init g c = once_begins _ _
+loop-peer-init g c = record {
+  each = once_begins _ _;
+  sent = (λ is. absurd (true≢false (sym is)), λ less. absurd (omega (arith, less)));
+  low = omega arith;
+}
 
 pub loop-peer-preserved : goal.loop-peer-preserved
 loop-peer-preserved g c =
+    let traffic = traffic_by g.L.Link.sent g.L.Link.received g.L.Link.full g.L.Link.empty in
     let test = c.loop-peer-test.true in
     let same = c.loop-peer.auto.peers in
     let within : c.loop-peer.peer-index < length c.loop-peer.peers = omega (arith, test, same) in
-    once_next _ _ _ _ _ _ within c.send_reply-moved.ensures c.loop-peer.invariant
+    let so_far = c.loop-peer.invariant in
+    let next = sent_next traffic c.args.peers.now c.loop-peer.peers c.loop-peer.peer-index c.peer-item.result c.send_reply-moved.new.self c.loop-peer.moved c.send_reply-moved.result within
+    so_far.sent so_far.low c.send_reply-moved.ensures.sent (reply_goes traffic g.L.Link.end _ _ c.send_reply-moved.ensures.sends).more in
+    record { each = once_next _ _ _ _ _ _ within c.send_reply-moved.ensures.sends so_far.each; sent = next.0; low = next.1 }

@@ -1,36 +1,38 @@
-use Rattle.std.proofs.Common.{◌≡◌, ◌<◌, Some, refl, sym, ap, subst, ◌∙◌}
-use Rattle.std.specs.List.{Contains, slice_get}
-use Rattle.trace_text.specs.Parsed.{Parsed}
+use Rattle.std.proofs.Common.{subst, IsTrue, sym, true≢false, Some, refl, ap, ◌∙◌}
 use Rattle.shard_node.specs.Nodes.{traffic_by}
-use Rattle.shard_node.specs.inside.Shards.{IsConsistent, issued_by}
-use Rattle.shard_node.specs.inside.Steps.{IsStep}
-use Rattle.shard_node.proofs.AsksGate.{gate_asked, still_consistent}
+use Rattle.shard_node.proofs.AsksGate.{asked_back, gate_back, now_below, now_consistent, now_goes, now_idle, now_next, now_received, now_so, now_stepped, now_still, now_there}
+use Rattle.shard_node.specs.inside.Shards.{node_state}
 use Rattle.shard_node.proofs.Joins.{steps_join}
-use Rattle.shard_node.proofs.OwnLog.{own-log-is}
+use Rattle.shard_node.proofs.TellsAsides.{none_join}
+use Rattle.shard_node.proofs.StepGoes.{all_go, still_so}
+use Rattle.shard_memory.specs.Tickets.{HasIdle}
+use Rattle.shard_memory.specs.declared.share.Share.TheVariants.{Request}
+use Rattle.shard_node.proofs.shard.Shard.begin.Goals.{else-doer-self-via-then-doer-self+else-not-is_idle, else-doer-self-via-else-doer-self}
 use Rattle.shard_node.proofs.shard.Shard.begin.Goals as goal
 
 pub returns-then-not-passes_gate : goal.returns-then-not-passes_gate
 returns-then-not-passes_gate g c =
-    let self = c.args.self.now in
-    let now = c.passes_gate.new.self in
     let traffic = traffic_by g.L.Link.sent g.L.Link.received g.L.Link.full g.L.Link.empty in
-    record { step = subst (λ s. IsStep traffic g.L.Link.end self s) (sym c.passes_gate.ensures.same) (gate_asked traffic g.L.Link.end self now.gate c.requires.consistent) }
+    record {
+      step = now_stepped c.args.self.now c.passes_gate.new.self c.passes_gate.ensures.same c.requires.consistent traffic g.L.Link.end;
+      received = now_received c.args.self.now c.passes_gate.new.self c.passes_gate.ensures.same c.requires.consistent traffic;
+      goes = now_goes c.args.self.now c.passes_gate.new.self c.passes_gate.ensures.same c.requires.consistent traffic;
+      moved = (λ is. absurd (true≢false (sym is)), λ so. absurd (now_still c.args.self.now c.passes_gate.new.self c.passes_gate.ensures.same c.requires.consistent traffic so));
+      held_back = λ unmet. gate_back traffic g.G.Gate.holds c.args.self.now c.requires.consistent c.requires.idle c.passes_gate.new.self c.passes_gate.ensures.same
+          (c.passes_gate.ensures.held c.if-not-passes_gate.true) (c.passes_gate.ensures.first c.if-not-passes_gate.true);
+    }
 
 pub do_here-requires : goal.do_here-requires
 do_here-requires g c κs =
     let self = c.args.self.now in
     let now = c.passes_gate.new.self in
     let x = c.requires.consistent in
-    let same = sym c.passes_gate.ensures.same in
-    let next : slice_get (issued_by self) self.own.begun ≡ Some (c.in-Some.command.now.number, c.in-Some.doer) =
-    ap (λ log. slice_get log self.own.begun) (sym (own-log-is self x)) ∙ c.in-Some.ensures.some in (
+    let same = c.passes_gate.ensures.same in
+    let number = c.in-Some.command.now.number in (
       (refl, tt),
       (
-        subst (λ s. IsConsistent s) same (still_consistent self now.gate x),
-        (
-          c.in-Some.command.now.number,
-          subst (λ s. slice_get (issued_by s) s.own.begun ≡ Some (c.in-Some.command.now.number, c.in-Some.doer)) same next ∙ ap (λ q. Some (c.in-Some.command.now.number, q)) c.if-doer-self-2.true,
-        ),
+        now_consistent self now same x,
+        (number, now_next self now same x (number, c.in-Some.doer) c.in-Some.ensures.some ∙ ap (λ q. Some (number, q)) c.if-doer-self-2.true),
       ),
     )
 
@@ -39,25 +41,27 @@ ask-requires g c κs =
     let self = c.args.self.now in
     let now = c.passes_gate.new.self in
     let x = c.requires.consistent in
-    let same = sym c.passes_gate.ensures.same in
+    let same = c.passes_gate.ensures.same in
     let command = c.in-Some.command.now in
-    let doer = c.in-Some.doer in
-    let next : slice_get (issued_by self) self.own.begun ≡ Some (command.number, doer) =
-    ap (λ log. slice_get log self.own.begun) (sym (own-log-is self x)) ∙ c.in-Some.ensures.some in
-    let there : Contains self.trace.now.commands command = subst (λ (t : Parsed). Contains t.commands command) x.own.own_trace c.in-Some.ensures.of_trace in
-    let below : doer < self.shards = subst (λ n. doer < n) (ap (λ (t : Parsed). t.shards) x.own.own_trace ∙ sym x.parsed_for) c.in-Some.ensures.below in (
+    let doer = c.in-Some.doer in (
       (refl, tt),
       (
-        subst (λ s. IsConsistent s) same (still_consistent self now.gate x),
+        now_consistent self now same x,
         (
-          ap (λ s. s.request) c.passes_gate.ensures.same ∙ c.requires.idle,
+          now_idle self now same x c.requires.idle,
           (
-            subst (λ s. Contains s.trace.now.commands command) same there,
+            now_there self now same x command c.in-Some.ensures.of_trace,
             (
-              subst (λ s. slice_get (issued_by s) s.own.begun ≡ Some (command.number, doer)) same next,
+              now_next self now same x (command.number, doer) c.in-Some.ensures.some,
               (
                 c.if-doer-self-2.false,
-                subst (λ s. doer < s.shards) same below,
+                (
+                  now_below self now same x doer c.in-Some.ensures.below,
+                  elim c.else-doer-self.branch [
+                    | else-doer-self-via-then-doer-self+else-not-is_idle w ↦ subst (λ s. HasIdle s.space.lent Request) (sym same) (w.is_idle.ensures.0 w.if-not-is_idle.false)
+                    | else-doer-self-via-else-doer-self w ↦ absurd (c.if-doer-self-2.false (w.if-doer-self.false ∙ sym (ap (λ s. s.shard) same)))
+                  ],
+                ),
               ),
             ),
           ),
@@ -70,16 +74,35 @@ returns-then-doer-self-2 g c =
     let self = c.args.self.now in
     let now = c.passes_gate.new.self in
     let traffic = traffic_by g.L.Link.sent g.L.Link.received g.L.Link.full g.L.Link.empty in
-    let first = subst (λ s. IsStep traffic g.L.Link.end self s) (sym c.passes_gate.ensures.same) (gate_asked traffic g.L.Link.end self now.gate c.requires.consistent) in
-    record { step = steps_join traffic g.L.Link.end self now c.do_here.new.self first c.do_here.ensures.step }
+    let end = g.L.Link.end in
+    let first = now_stepped self now c.passes_gate.ensures.same c.requires.consistent traffic end in
+    record {
+      step = steps_join traffic end self now c.do_here.new.self first c.do_here.ensures.step;
+      received = λ lane. none_join traffic g.G.Gate.holds lane (node_state self) (node_state now) (node_state c.do_here.new.self)
+          (now_received self now c.passes_gate.ensures.same c.requires.consistent traffic lane) (c.do_here.ensures.received lane);
+      goes = all_go traffic (node_state self) (node_state now) (node_state c.do_here.new.self) (now_goes self now c.passes_gate.ensures.same c.requires.consistent traffic) c.do_here.ensures.goes;
+      moved = now_so self now c.passes_gate.ensures.same c.requires.consistent traffic (IsTrue c.do_here.result) (node_state c.do_here.new.self) c.do_here.ensures.moved;
+      held_back = λ unmet. absurd (true≢false (sym c.do_here.ensures.done ∙ unmet));
+    }
 
 pub returns-else-doer-self-2 : goal.returns-else-doer-self-2
 returns-else-doer-self-2 g c =
     let self = c.args.self.now in
     let now = c.passes_gate.new.self in
     let traffic = traffic_by g.L.Link.sent g.L.Link.received g.L.Link.full g.L.Link.empty in
-    let first = subst (λ s. IsStep traffic g.L.Link.end self s) (sym c.passes_gate.ensures.same) (gate_asked traffic g.L.Link.end self now.gate c.requires.consistent) in
+    let end = g.L.Link.end in
+    let first = now_stepped self now c.passes_gate.ensures.same c.requires.consistent traffic end in
+    let second = steps_join traffic end now c.ask.new.self c.send_request.new.self c.ask.ensures.step c.send_request.ensures.step in
     record {
-      step = steps_join traffic g.L.Link.end self now c.send_request.new.self first
-          (steps_join traffic g.L.Link.end now c.ask.new.self c.send_request.new.self c.ask.ensures.step c.send_request.ensures.step);
+      step = steps_join traffic end self now c.send_request.new.self first second;
+      received = λ lane. none_join traffic g.G.Gate.holds lane (node_state self) (node_state now) (node_state c.send_request.new.self)
+          (now_received self now c.passes_gate.ensures.same c.requires.consistent traffic lane)
+          (none_join traffic g.G.Gate.holds lane (node_state now) (node_state c.ask.new.self) (node_state c.send_request.new.self) (c.ask.ensures.received lane) (c.send_request.ensures.received lane));
+      goes = all_go traffic (node_state self) (node_state now) (node_state c.send_request.new.self) (now_goes self now c.passes_gate.ensures.same c.requires.consistent traffic)
+          (all_go traffic (node_state now) (node_state c.ask.new.self) (node_state c.send_request.new.self) c.ask.ensures.goes c.send_request.ensures.goes);
+      moved = now_so self now c.passes_gate.ensures.same c.requires.consistent traffic (IsTrue c.send_request.result) (node_state c.send_request.new.self)
+          (still_so traffic (IsTrue c.send_request.result) (node_state now) (node_state c.ask.new.self) (node_state c.send_request.new.self) c.ask.ensures.peers c.ask.ensures.done c.send_request.ensures.moved);
+      held_back = λ unmet.
+          asked_back traffic g.G.Gate.holds self c.requires.consistent c.requires.idle now c.ask.new.self c.send_request.new.self c.ask.ensures.waits.0 (c.in-Some.command.now.number, c.in-Some.doer)
+          c.passes_gate.ensures.same c.in-Some.ensures.some c.ask.ensures.peers c.ask.ensures.waits.1 c.ask.ensures.idle first.standing (c.send_request.ensures.held_up unmet);
     }

@@ -1,16 +1,138 @@
-use Rattle.shard_node.specs.Nodes.{traffic_by}
+use Rattle.std.specs.Prelude.{◌⊎◌, ◌==◌, not}
+use Rattle.std.proofs.Common.{inl, inr, true≢false, ◌≡◌, ◌<◌, ◌↔◌, ◌||◌, IsTrue, false, ap, arith, sym, subst, ◌∙◌, None}
+use Rattle.shard_rings.specs.declared.link.Lane.{Lane}
+use Rattle.shard_rings.specs.declared.link.Lane.TheVariants.{Replies, Requests}
+use Rattle.shard_node.specs.Nodes.{NodeState, traffic_by}
+use Rattle.shard_node.specs.Turns.{HasAside}
+use Rattle.shard_node.specs.inside.Moves.{Goes, ReceivesNone, Tells, packets_of}
+use Rattle.shard_node.specs.inside.Shards.{node_state}
 use Rattle.shard_node.proofs.Joins.{steps_join}
+use Rattle.shard_node.proofs.TellsAsides.{none_join, task_of, task_back, told_between, told_first, came_back}
+use Rattle.shard_node.proofs.StepGoes.{all_go}
+use Rattle.shard_node.proofs.TurnMoves.{caused, rose-other}
+use Rattle.shard_node.proofs.Frees.{not_less}
+use Rattle.shard_node.proofs.IdleTurn.{idle, not_rose, not_true, or_none, releases_none, same-other}
+use Rattle.shard_node.proofs.StepGoes.{packets_rise}
 use Rattle.shard_node.proofs.shard.Shard.make_steps.Goals as goal
 
 pub returns : goal.returns
 returns g c =
-    let join = steps_join (traffic_by g.L.Link.sent g.L.Link.received g.L.Link.full g.L.Link.empty) g.L.Link.end c.args.self.now in
+    let traffic = traffic_by g.L.Link.sent g.L.Link.received g.L.Link.full g.L.Link.empty in
+    let end = g.L.Link.end in
+    let holds = g.G.Gate.holds in
+    let a = c.args.self.now in
+    let d = c.send_replies.new.self in
+    let e = c.take_replies.new.self in
+    let f = c.serve.new.self in
+    let h = c.say_byes.new.self in
+    let join = steps_join traffic end a in
+    let to_d =
+    join c.release_held.new.self d
+    (join c.take_back.new.self c.release_held.new.self c.take_back.ensures.step c.release_held.ensures.step)
+    c.send_replies.ensures.step in
+    let to_e = join d e to_d c.take_replies.ensures.step in
+    let to_f = join e f to_e c.serve.ensures.step in
+    let none = none_join traffic holds in
+    let x = node_state c.take_back.new.self in
+    let y = node_state c.release_held.new.self in
+    let z = node_state c.go_on.new.self in
+    let before : (lane : Lane) → ReceivesNone traffic lane (node_state a) (node_state d) =
+    λ lane. none lane (node_state a) y (node_state d) (none lane (node_state a) x y (c.take_back.ensures.received lane) (c.release_held.ensures.received lane)) (c.send_replies.ensures.received lane) in
+    let behind : (lane : Lane) → ReceivesNone traffic lane (node_state f) (node_state h) =
+    λ lane. none lane (node_state f) z (node_state h) (c.go_on.ensures.received lane) (c.say_byes.ensures.received lane) in
+    let seen-2 : c.note-2.new.self.moved ≡ ((false || c.release_held.result) || c.send_replies.result) =
+    c.note-2.ensures.moved ∙ ap (λ m. m || c.send_replies.result) (c.note.ensures.moved ∙ ap (λ m. m || c.release_held.result) c.nothing-seen.ensures.moved) in
+    let back = not (c.back.result == c.back-back.result) in
+    let last : c.note-5.new.self.moved ≡ (((c.serve.new.seen.moved || c.go_on.result) || c.say_byes.result) || back) =
+    c.note-5.ensures.moved ∙ ap (λ m. m || back) (c.note-4.ensures.moved ∙ ap (λ m. m || c.say_byes.result) c.note-3.ensures.moved) in
+    let all : Goes traffic (node_state a) (node_state h) =
+    all_go traffic (node_state a) z (node_state h)
+    (all_go traffic (node_state a) (node_state f) z
+    (all_go traffic (node_state a) (node_state e) (node_state f)
+    (all_go traffic (node_state a) (node_state d) (node_state e)
+    (all_go traffic (node_state a) y (node_state d) (all_go traffic (node_state a) x y c.take_back.ensures.goes c.release_held.ensures.goes) c.send_replies.ensures.goes)
+    c.take_replies.ensures.goes) c.serve.ensures.goes) c.go_on.ensures.goes) c.say_byes.ensures.goes in
+    let rose = all.backs in
+    let was = c.back-back.ensures in
+    let now = c.back.ensures in
     record {
-      step = join c.go_on.new.self c.say_byes.new.self
-          (join c.serve.new.self c.go_on.new.self
-          (join c.take_replies.new.self c.serve.new.self
-          (join c.send_replies.new.self c.take_replies.new.self
-          (join c.release_held.new.self c.send_replies.new.self
-          (join c.take_back.new.self c.release_held.new.self c.take_back.ensures.step c.release_held.ensures.step)
-          c.send_replies.ensures.step) c.take_replies.ensures.step) c.serve.ensures.step) c.go_on.ensures.step) c.say_byes.ensures.step;
+      step = join c.go_on.new.self h (join f c.go_on.new.self to_f c.go_on.ensures.step) c.say_byes.ensures.step;
+      told = λ stands.
+          let replies : Tells (HasAside traffic holds Replies (node_state a) (node_state h)) None c.take_replies.new.seen.aside =
+          told_between traffic holds Replies (node_state d) (node_state e) (node_state a) (node_state h) None c.take_replies.new.seen.aside
+          (task_back traffic holds (node_state a) (node_state d) (task_of traffic holds end (node_state a) (node_state d) to_d.same))
+          (came_back traffic holds Replies (node_state a) (node_state d) (before Replies))
+          (none Replies (node_state e) (node_state f) (node_state h) c.serve.ensures.replies (behind Replies))
+          (subst (λ was. Tells (HasAside traffic holds Replies (node_state d) (node_state e)) was c.take_replies.new.seen.aside)
+          (c.note-2.ensures.aside ∙ (c.note.ensures.aside ∙ c.nothing-seen.ensures.aside))
+          (c.take_replies.ensures.tells (to_d.standing stands))) in
+          let requests : Tells (HasAside traffic holds Requests (node_state a) (node_state h)) c.take_replies.new.seen.aside c.serve.new.seen.aside =
+          told_between traffic holds Requests (node_state e) (node_state f) (node_state a) (node_state h) c.take_replies.new.seen.aside c.serve.new.seen.aside
+          (task_back traffic holds (node_state a) (node_state e) (task_of traffic holds end (node_state a) (node_state e) to_e.same))
+          (came_back traffic holds Requests (node_state a) (node_state e) (none Requests (node_state a) (node_state d) (node_state e) (before Requests) c.take_replies.ensures.requests))
+          (behind Requests)
+          (c.serve.ensures.tells (to_e.standing stands)) in
+          told_first traffic holds (node_state a) (node_state h) c.take_replies.new.seen.aside _ replies
+          (subst (Tells (HasAside traffic holds Requests (node_state a) (node_state h)) c.take_replies.new.seen.aside)
+          (sym (c.note-5.ensures.aside ∙ (c.note-4.ensures.aside ∙ c.note-3.ensures.aside))) requests);
+      caused = λ stands is.
+          caused traffic holds (node_state a) x y (node_state d) (node_state e) (node_state f) z (node_state h)
+          c.release_held.result c.send_replies.result c.take_replies.new.seen.moved c.serve.new.seen.moved c.go_on.result c.say_byes.result back
+          (record {
+            home = c.take_back.ensures.goes;
+            same = ap (λ (n : NodeState g.row.L.Denot g.row.G.Denot). n.peers) c.take_back.ensures.same;
+            released = c.release_held.ensures.goes;
+            frees = c.release_held.ensures.released;
+            replied = c.send_replies.ensures.goes;
+            sends = c.send_replies.ensures.sent;
+            taken = c.take_replies.ensures.goes;
+            takes = subst (λ m. IsTrue c.take_replies.new.seen.moved ↔ (IsTrue m ⊎ (packets_of traffic (node_state d) < packets_of traffic (node_state e)))) seen-2 c.take_replies.ensures.moved;
+            served = c.serve.ensures.goes;
+            serves = c.serve.ensures.moved;
+            gone = c.go_on.ensures.goes;
+            goes = c.go_on.ensures.moved;
+            byes = c.say_byes.ensures.goes;
+            tells = c.say_byes.ensures.sent;
+            backs = λ b. let less = rose-other c.back-back.result c.back.result (omega (arith, rose, was, now)) b in omega (arith, less, was, now);
+          }) (let counted = stands.kept.received.counted in omega (arith, counted)) (sym last ∙ is);
+      held_up = λ stands unmet.
+          let none = sym last ∙ unmet in
+          let one = or_none ((c.serve.new.seen.moved || c.go_on.result) || c.say_byes.result) back none in
+          let two = or_none (c.serve.new.seen.moved || c.go_on.result) c.say_byes.result one.0 in
+          let three = or_none c.serve.new.seen.moved c.go_on.result two.0 in
+          let four = or_none (false || c.release_held.result) c.send_replies.result (sym seen-2 ∙ not_true c.note-2.new.self.moved (λ is. true≢false (sym (c.serve.ensures.moved.1 (inl (c.take_replies.ensures.moved.1 (inl is)))) ∙ three.0))) in
+          let p0 = packets_rise traffic (node_state a) x c.take_back.ensures.goes in
+          let same_packets : packets_of traffic x ≡ packets_of traffic (node_state a) = ap (λ (n : NodeState g.row.L.Denot g.row.G.Denot). packets_of traffic n) c.take_back.ensures.same in
+          let released = releases_none traffic x y c.release_held.ensures.goes (λ k d below. ((c.release_held.ensures.raced four.0).peers.each k d below).0) in
+          let q2 = not_less c.send_replies.result _ _ c.send_replies.ensures.sent four.1 in
+          let q3 = not_rose c.take_replies.new.seen.moved _ _ (λ so. c.take_replies.ensures.moved.1 (inr so))
+          (not_true c.take_replies.new.seen.moved (λ is. true≢false (sym (c.serve.ensures.moved.1 (inl is)) ∙ three.0))) in
+          let q4 = not_rose c.serve.new.seen.moved _ _ (λ so. c.serve.ensures.moved.1 (inr so)) three.0 in
+          let q5 = not_rose c.go_on.result _ _ (λ so. c.go_on.ensures.moved.1 (inl so)) three.1 in
+          let d5 = not_rose c.go_on.result _ _ (λ so. c.go_on.ensures.moved.1 (inr so)) three.1 in
+          let q6 = not_less c.say_byes.result _ _ c.say_byes.ensures.sent two.1 in
+          let same_back = same-other c.back.result c.back-back.result one.1 in
+          idle traffic holds (node_state a) x y (node_state d) (node_state e) (node_state f) z (node_state h)
+          (record {
+            home = c.take_back.ensures.goes;
+            same = c.take_back.ensures.same;
+            released = c.release_held.ensures.goes;
+            raced = c.release_held.ensures.raced four.0;
+            replied = c.send_replies.ensures.goes;
+            replies = c.send_replies.ensures.held_up;
+            taken = c.take_replies.ensures.goes;
+            takes = c.take_replies.ensures.held_up;
+            served = c.serve.ensures.goes;
+            serves = c.serve.ensures.held_up;
+            gone = c.go_on.ensures.goes;
+            goes = c.go_on.ensures.held_back three.1;
+            done = d5;
+            byes = c.say_byes.ensures.goes;
+            tells = c.say_byes.ensures.held_up;
+            packets = omega (arith, same_packets, released, q2, q3, q4, q5, q6);
+            backs = omega (arith, same_back, was, now);
+            task = task_of traffic holds end (node_state a) (node_state f) to_f.same;
+            stands = stands;
+            stands_later = to_f.standing stands;
+          });
     }

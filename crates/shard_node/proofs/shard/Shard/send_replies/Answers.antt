@@ -1,21 +1,60 @@
-use Rattle.std.proofs.Common.{◌≡◌, length, subst, sym, ◌∙◌, ap}
+use Rattle.std.proofs.Common.{refl, ◌≡◌, ◌<◌, ◌↔◌, IsTrue, arith, length, subst, sym, ◌∙◌, ap}
+use Rattle.shard_rings.specs.Lanes.{on}
 use Rattle.std.specs.Vec.{with_items}
 use Rattle.std.proofs.lemmas.List.{with_items_is}
 use Rattle.shard_node.specs.inside.Peers.{Each, SendsReply}
 use Rattle.shard_node.specs.Nodes.{traffic_by}
+use Rattle.shard_node.specs.inside.Peers.{peer_state}
+use Rattle.shard_node.proofs.PeerPairs.{seen_pairs}
+use Rattle.shard_node.proofs.Sends.{keeps_replies}
 use Rattle.shard_node.proofs.Steps.{sends_replies}
+use Rattle.shard_node.specs.inside.Moves.{packets_by_all}
+use Rattle.shard_node.proofs.PeerGoes.{reply_goes}
+use Rattle.shard_node.proofs.HeldUps.{reply_waits}
+use Rattle.shard_node.proofs.StepGoes.{all_none, all_so, no_more}
 use Rattle.shard_node.proofs.shard.Shard.send_replies.Goals as goal
 
 pub returns : goal.returns
 returns g c =
+    let traffic = traffic_by g.L.Link.sent g.L.Link.received g.L.Link.full g.L.Link.empty in
     let peers = c.send_replies.new.peers in
     let items = (with_items c.args.self.now.peers peers).items in
     let is : items ≡ peers = with_items_is c.args.self.now.peers peers (c.send_replies.auto.peers ∙ c.as_mut_slice.ensures.len) in
     let old = c.as_mut_slice.ensures.value in
+    let sends : Each (SendsReply traffic g.L.Link.end) c.args.self.now.peers.items items =
+    subst (Each (SendsReply traffic g.L.Link.end) c.args.self.now.peers.items) (sym is) (subst (λ ps. Each (SendsReply traffic g.L.Link.end) ps peers) old c.send_replies.ensures.each) in
     record {
       step = sends_replies (traffic_by g.L.Link.sent g.L.Link.received g.L.Link.full g.L.Link.empty) g.L.Link.end c.args.self.now (with_items c.args.self.now.peers peers)
           (ap length is ∙ (c.send_replies.auto.peers ∙ ap length old))
           (subst (Each (SendsReply (traffic_by g.L.Link.sent g.L.Link.received g.L.Link.full g.L.Link.empty) g.L.Link.end) c.args.self.now.peers.items) (sym is)
-          (subst (λ ps. Each (SendsReply (traffic_by g.L.Link.sent g.L.Link.received g.L.Link.full g.L.Link.empty) g.L.Link.end) ps peers) old c.send_replies.ensures))
+          (subst (λ ps. Each (SendsReply (traffic_by g.L.Link.sent g.L.Link.received g.L.Link.full g.L.Link.empty) g.L.Link.end) ps peers) old c.send_replies.ensures.each))
           c.requires.consistent;
+      received = λ lane. seen_pairs peer_state _ c.args.self.now.peers.items items (ap length is ∙ (c.send_replies.auto.peers ∙ ap length old))
+          (λ k d below.
+          let e = subst (Each (SendsReply traffic g.L.Link.end) c.args.self.now.peers.items) (sym is)
+          (subst (λ ps. Each (SendsReply traffic g.L.Link.end) ps peers) old c.send_replies.ensures.each) k d below in
+          (ap (λ p. p.shard) e.same, ap (on lane) (keeps_replies _ _ _ _ e.sends).received));
+      goes = record {
+        peers = seen_pairs peer_state _ c.args.self.now.peers.items items (ap length is ∙ (c.send_replies.auto.peers ∙ ap length old))
+            (λ k d below.
+            reply_goes traffic g.L.Link.end _ _ (subst (Each (SendsReply traffic g.L.Link.end) c.args.self.now.peers.items) (sym is)
+            (subst (λ ps. Each (SendsReply traffic g.L.Link.end) ps peers) old c.send_replies.ensures.each) k d below));
+        done = omega arith;
+        backs = omega arith;
+        tally = no_more c.args.self.now.tally;
+      };
+      sent = all_so traffic _ c.args.self.now.peers.items items
+          (subst (λ ps. IsTrue c.send_replies.result ↔ (packets_by_all traffic c.args.self.now.peers.items < packets_by_all traffic ps)) (sym is)
+          (subst (λ ps. IsTrue c.send_replies.result ↔ (packets_by_all traffic ps < packets_by_all traffic peers)) old c.send_replies.ensures.sent));
+      held_up = λ quiet. record {
+        request = refl;
+        begun = refl;
+        gate = refl;
+        space = refl;
+        done = refl;
+        peers = seen_pairs peer_state _ c.args.self.now.peers.items items (ap length is ∙ (c.send_replies.auto.peers ∙ ap length old))
+            (λ k d below.
+            reply_waits traffic g.L.Link.end _ _ (sends k d below)
+            (all_none traffic c.args.self.now.peers.items items (ap length is ∙ (c.send_replies.auto.peers ∙ ap length old)) (λ k d below. (reply_goes traffic g.L.Link.end _ _ (sends k d below)).more) quiet k d below));
+      };
     }

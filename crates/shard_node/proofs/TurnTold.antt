@@ -1,0 +1,64 @@
+-- What a turn answers, from what its steps have seen.
+use Rattle.std.proofs.Common.{◌≡◌, ℕ, Bool, true, false, Option, Some, None, inl, inr, refl}
+use Rattle.shard_rings.specs.declared.link.Lane.{Lane}
+use Rattle.shard_rings.specs.declared.link.Lane.TheVariants.{Requests, Replies}
+use Rattle.shard_node.specs.declared.aside.Aside.{Aside}
+use Rattle.shard_node.specs.declared.turn.Turn.TheVariants.{Done}
+use Rattle.shard_node.specs.Nodes.{NodeState, Traffic}
+use Rattle.shard_node.specs.Turns.{HasAside, HasCause, IsAnswer, IsDone, IsIdle}
+use Rattle.shard_node.specs.inside.Moves.{TellsFirst}
+use Rattle.shard_node.specs.inside.Seen.{answer_of}
+
+pub never_done : (aside : Option Aside) (moved : Bool) → answer_of aside moved ≡ Done → ⊥
+never_done (Some aside) moved e = cc
+never_done None true e = cc
+never_done None false e = cc
+
+module _ {L G : Type 0} (traffic : L → Traffic) (holds : G → ℕ) where
+  -- the count of turns is not read
+  between : (lane : Lane) (old : NodeState L G) (turns : ℕ) (new : NodeState L G) (k : ℕ) (aside : Aside)
+      → HasAside traffic holds lane (record old { turns = turns }) new k aside → HasAside traffic holds lane old new k aside
+  between Replies old turns new k aside has = has
+  between Requests old turns new k aside has = has
+
+  between-back : (lane : Lane) (old : NodeState L G) (turns : ℕ) (new : NodeState L G) (k : ℕ) (aside : Aside)
+      → HasAside traffic holds lane old new k aside → HasAside traffic holds lane (record old { turns = turns }) new k aside
+  between-back Replies old turns new k aside has = has
+  between-back Requests old turns new k aside has = has
+
+  turns_aside : (aside : Option Aside) (old : NodeState L G) (turns : ℕ) (new : NodeState L G) → TellsFirst traffic holds aside (record old { turns = turns }) new → TellsFirst traffic holds aside old new
+  turns_aside None old turns new none = λ k. (
+    λ aside has. (none k).0 aside (between-back Replies old turns new k aside has),
+    λ aside has. (none k).1 aside (between-back Requests old turns new k aside has),
+  )
+  turns_aside (Some aside) old turns new (inl first) =
+      inl (first.0, between Replies old turns new first.0 aside first.1, λ j less other has. first.2 j less other (between-back Replies old turns new j other has))
+  turns_aside (Some aside) old turns new (inr first) = inr (
+    first.0,
+    between Requests old turns new first.0 aside first.1,
+    λ j less other has. first.2 j less other (between-back Requests old turns new j other has),
+    λ j other has. first.3 j other (between-back Replies old turns new j other has),
+  )
+
+  held_so : (old : NodeState L G) (turns : ℕ) (new : NodeState L G) → IsIdle traffic holds (record old { turns = turns }) new → IsIdle traffic holds old new
+  held_so old turns new idle = record {
+    nothing = idle.nothing;
+    peers = λ k a b here there. let h = idle.peers k a b here there in record {
+      requests_raced = h.requests_raced;
+      replies_raced = h.replies_raced;
+      reply = h.reply;
+      bye = h.bye;
+      no_reply = h.no_reply;
+      no_request = h.no_request;
+    };
+    request = idle.request;
+    own = idle.own;
+  }
+
+  -- the answer, where the node is not done
+  pub answers : (aside : Option Aside) (moved : Bool) (old : NodeState L G) (turns : ℕ) (new : NodeState L G) → (IsDone traffic holds new → ⊥)
+      → TellsFirst traffic holds aside (record old { turns = turns }) new → (moved ≡ true → HasCause traffic holds (record old { turns = turns }) new)
+      → (moved ≡ false → IsIdle traffic holds (record old { turns = turns }) new) → IsAnswer traffic holds (answer_of aside moved) old new
+  answers (Some aside) moved old turns new undone told caused held = (undone, turns_aside (Some aside) old turns new told)
+  answers None true old turns new undone told caused held = (undone, turns_aside None old turns new told, caused refl)
+  answers None false old turns new undone told caused held = (undone, turns_aside None old turns new told, held_so old turns new (held refl))

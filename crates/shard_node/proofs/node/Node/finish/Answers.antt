@@ -1,0 +1,6 @@
+use Rattle.std.proofs.Common.{sym, ◌∙◌}
+use Rattle.shard_node.proofs.SeenPeers.{of-peers}
+use Rattle.shard_node.proofs.node.Node.finish.Goals as goal
+
+pub returns-clause-links : goal.returns-clause-links
+returns-clause-links g c = rw (← c.self.view_is) (c.links_of.ensures ∙ sym (of-peers (λ peer. peer.link) c.self.inside.shard.peers.items))

@@ -1,0 +1,24 @@
+use Rattle.std.proofs.Common.{◌≡◌, length, rules, arith, ap, ◌∙◌}
+use Rattle.std.proofs.lemmas.List.{length-map}
+use Rattle.shard_node.proofs.SeenPeers.{of-peers}
+use Rattle.shard_node.proofs.node.Node.open.Goals as goal
+
+pub invariant_of-result : goal.invariant_of-result
+invariant_of-result g c =
+    let peers = c.in-Ok-open.shard.peers.items in
+    let many = length-map peers (λ peer. peer.link) in
+    let links = ap length c.in-Ok-open.ensures.links in
+    let room = c.in-Ok.ensures.capacity in
+    let asked : c.len.result ≡ length c.args.links.items = search rules in
+    record {
+      consistent = c.in-Ok-open.ensures.consistent;
+      idle = λ new. c.in-Ok-open.ensures.lent;
+      none = c.in-Ok.ensures.items;
+      room = omega (arith, many, links, room, asked);
+    }
+
+pub returns-in-Ok-open-clause-links : goal.returns-in-Ok-open-clause-links
+returns-in-Ok-open-clause-links g c = of-peers (λ peer. peer.link) c.in-Ok-open.shard.peers.items ∙ c.in-Ok-open.ensures.links
+
+pub returns-in-Ok-open-clause-peers : goal.returns-in-Ok-open-clause-peers
+returns-in-Ok-open-clause-peers g c = of-peers (λ peer. peer.shard) c.in-Ok-open.shard.peers.items ∙ c.in-Ok-open.ensures.peers

@@ -1,0 +1,67 @@
+use Rattle.std.proofs.Common.{◌∙◌, None, refl}
+use Rattle.shard_node.specs.declared.shard.Shard.{Shard}
+use Rattle.shard_node.specs.Nodes.{traffic_by}
+use Rattle.shard_node.specs.Links.{IsUnused}
+use Rattle.shard_node.proofs.Opened.{IsOpened, opens-consistent}
+use Rattle.shard_node.proofs.OpenedPeers.{all-of}
+use Rattle.shard_node.proofs.OpenedStands.{opens-standing}
+use Rattle.shard_node.proofs.shard.Shard.open.Given.{Over}
+use Rattle.shard_node.proofs.shard.Shard.open.Goals as goal
+
+abbrev made : (g : Over) → goal.After-new-2 g → Shard g.row.L.Denot g.row.G.Denot
+made g c = record {
+  shard = c.args.shard;
+  shards = c.args.shards;
+  pages = c.args.pages;
+  trace = c.args.trace;
+  longest = c.longest_value.result;
+  space = c.in-Ok-open.space;
+  journal = c.in-Ok.room.journal;
+  log = c.in-Ok.room.log;
+  keys = c.in-Ok.room.keys;
+  peers = c.peers_over.result;
+  own = c.of.result;
+  here = c.of-2.result;
+  request = None;
+  gate = c.args.gate;
+  tally = c.new-2.result;
+  turns = 0;
+}
+
+opened : (g : Over) (c : goal.After-new-2 g) → IsOpened (traffic_by g.L.Link.sent g.L.Link.received g.L.Link.full g.L.Link.empty) (made g c)
+opened g c = record {
+  parsed_for = c.requires.parsed_for;
+  within = c.requires.within;
+  of_shard = c.in-Ok-open.ensures.numbers.0;
+  pages = c.in-Ok-open.ensures.numbers.1;
+  unguarded = c.in-Ok-open.ensures.unguarded;
+  longest = c.longest_value.ensures;
+  rows = c.in-Ok-open.ensures.rows;
+  room = c.in-Ok-open.ensures.numbers.2 ∙ c.in-Ok.ensures.rows;
+  lends = c.in-Ok-open.ensures.lent.1;
+  backs = c.in-Ok-open.ensures.lent.2;
+  idle = c.in-Ok-open.ensures.idle;
+  journal = c.in-Ok.ensures.journal;
+  log = c.in-Ok.ensures.log;
+  keys = c.in-Ok.ensures.keys;
+  numbers = c.peers_over.ensures.numbers;
+  new = c.peers_over.ensures.new;
+  unused = all-of (IsUnused (traffic_by g.L.Link.sent g.L.Link.received g.L.Link.full g.L.Link.empty)) (λ peer. peer.link) c.peers_over.result.items c.args.links.items c.peers_over.ensures.links c.requires.unused;
+  own_trace = c.of.ensures.trace;
+  own_shard = c.of.ensures.shard;
+  begun = c.of.ensures.begun;
+  here_trace = c.of-2.ensures.trace;
+  here_origin = c.of-2.ensures.origin;
+  here_shard = c.of-2.ensures.shard;
+  here = c.of-2.ensures.left;
+  request = refl;
+  tally = c.new-2.ensures;
+}
+
+pub returns-clause-consistent : goal.returns-clause-consistent
+returns-clause-consistent g c =
+    opens-consistent (traffic_by g.L.Link.sent g.L.Link.received g.L.Link.full g.L.Link.empty) (made g c) (opened g c) c.issued_parts_are_counted.ensures.count c.issued_parts_are_counted.ensures.peer c.commands.ensures.well_formed
+
+pub returns-clause-standing : goal.returns-clause-standing
+returns-clause-standing g c =
+    opens-standing (traffic_by g.L.Link.sent g.L.Link.received g.L.Link.full g.L.Link.empty) (made g c) (opened g c) c.issued_parts_are_counted.ensures.count c.issued_parts_are_counted.ensures.peer c.commands.ensures.well_formed

@@ -1,0 +1,51 @@
+-- A reply that was sent takes nothing from what came.
+use Rattle.std.proofs.Common.{ap, arith, refl, subst}
+use Rattle.shard_node.specs.declared.aside.Tried.TheVariants.{Expected}
+use Rattle.shard_node.specs.inside.Moves.{TriedSays}
+use Rattle.shard_rings.specs.declared.link.Lane.TheVariants.{Replies, Requests}
+use Rattle.shard_node.specs.Nodes.{traffic_by}
+use Rattle.shard_node.specs.Turns.{HasAside}
+use Rattle.shard_node.specs.inside.Shards.{node_state}
+use Rattle.shard_node.proofs.TellsAsides.{aside_between, came_back, none_here, none_join, tried_so}
+use Rattle.shard_node.specs.inside.Seen.{has_come}
+use Rattle.shard_node.proofs.StepGoes.{all_go, packets_rise}
+use Rattle.shard_node.proofs.shard.Shard.serve_peer.Goals as goal
+
+pub returns-in-Expected-clause-replies : goal.returns-in-Expected-clause-replies
+returns-in-Expected-clause-replies g c =
+    none_join (traffic_by g.L.Link.sent g.L.Link.received g.L.Link.full g.L.Link.empty) g.G.Gate.holds Replies
+    (node_state c.args.self.now) (node_state c.take_request.new.self) (node_state c.send_reply.new.self) c.take_request.ensures.replies (c.send_reply.ensures.received Replies)
+
+pub returns-in-Expected-clause-tells : goal.returns-in-Expected-clause-tells
+returns-in-Expected-clause-tells g c stands =
+    let traffic = traffic_by g.L.Link.sent g.L.Link.received g.L.Link.full g.L.Link.empty in
+    let holds = g.G.Gate.holds in
+    let first = node_state c.args.self.now in
+    let taken = node_state c.take_request.new.self in
+    let sent = node_state c.send_reply.new.self in
+    let none = c.send_reply.ensures.received Requests in
+    tried_so (HasAside traffic holds Requests first taken c.args.at) (HasAside traffic holds Requests first sent c.args.at) Expected
+    (λ x. aside_between traffic holds Requests first taken first sent c.args.at x (record { trace = refl; shards = refl; shard = refl }) (none_here traffic holds Requests first) none)
+    (λ x. aside_between traffic holds Requests first sent first taken c.args.at x (record { trace = refl; shards = refl; shard = refl }) (none_here traffic holds Requests first) (came_back traffic holds Requests taken sent none))
+    (subst (TriedSays (HasAside traffic holds Requests first taken c.args.at)) c.in-Expected.is (c.take_request.ensures.tells stands))
+
+pub returns-in-Expected-clause-goes : goal.returns-in-Expected-clause-goes
+returns-in-Expected-clause-goes g c =
+    all_go (traffic_by g.L.Link.sent g.L.Link.received g.L.Link.full g.L.Link.empty) (node_state c.args.self.now) (node_state c.take_request.new.self) (node_state c.send_reply.new.self) c.take_request.ensures.goes c.send_reply.ensures.goes
+
+pub returns-in-Expected-clause-moved : goal.returns-in-Expected-clause-moved
+returns-in-Expected-clause-moved g c =
+    let traffic = traffic_by g.L.Link.sent g.L.Link.received g.L.Link.full g.L.Link.empty in
+    let first = node_state c.args.self.now in
+    let taken = node_state c.take_request.new.self in
+    let sent = node_state c.send_reply.new.self in
+    let more = packets_rise traffic taken sent c.send_reply.ensures.goes in
+    let less = c.take_request.ensures.moved.0 (ap has_come c.in-Expected.is) in
+    (λ so. omega (arith, less, more), λ so. refl)
+
+pub returns-in-Expected-clause-held_up : goal.returns-in-Expected-clause-held_up
+returns-in-Expected-clause-held_up g c quiet =
+    let traffic = traffic_by g.L.Link.sent g.L.Link.received g.L.Link.full g.L.Link.empty in
+    let more = packets_rise traffic (node_state c.take_request.new.self) (node_state c.send_reply.new.self) c.send_reply.ensures.goes in
+    let less = c.take_request.ensures.moved.0 (ap has_come c.in-Expected.is) in
+    absurd (omega (arith, less, more, quiet))

@@ -1,0 +1,150 @@
+-- What the steps of a turn do to the peers, place by place.
+use Rattle.std.specs.Prelude.{◌≡◌, ℕ, ◌+◌, ◌<◌, ◌≤◌, ◌⊎◌, false, List, length, sum_by, slice_index_or, Option, Some, None, IsSome}
+use Rattle.cache_model.specs.Legal.{done}
+use Rattle.shard_memory.specs.Tickets.{HasIdle, Tickets}
+use Rattle.shard_memory.specs.declared.share.Share.TheVariants.{Reply as ReplyShare}
+use Rattle.shard_rings.specs.Lanes.{NoneFell, Rose, on}
+use Rattle.shard_rings.specs.declared.link.Lane.{Lane}
+use Rattle.shard_node.specs.declared.aside.Aside.{Aside}
+use Rattle.shard_node.specs.declared.aside.Tried.{Tried}
+use Rattle.shard_node.specs.declared.peer.Peer.{Peer}
+use Rattle.shard_node.specs.declared.aside.Tried.TheVariants.{Nothing, Expected, Other}
+use Rattle.shard_node.specs.Nodes.{NodeState, PeerState, Traffic}
+use Rattle.shard_node.specs.declared.waiting.Waiting.{Waiting}
+use Rattle.shard_node.specs.Standing.{InStanding}
+use Rattle.shard_node.specs.Turns.{ForSome, HasBegunAll, HasReleased, IsEmpty, IsFirstAside, IsHeldBack, NoneAside, Raced}
+use Rattle.shard_node.specs.inside.Releases.{CountsOn}
+
+-- two lists are as long, and so with the two elements at each place
+pub record Pairs {X : Type 0} (R : ℕ → X → X → Type 0) (xs ys : List X) : Type 0 where
+  pub long : length ys ≡ length xs
+  pub each : (k : ℕ) (d : X) → k < length xs → R k (slice_index_or xs k d) (slice_index_or ys k d)
+
+-- how many packets went over a link, either way
+abbrev pub packets : Traffic → ℕ
+packets t = (length t.sent.requests + length t.sent.replies) + (length t.received.requests + length t.received.replies)
+
+abbrev pub packets_by_all : {L : Type 0} → (L → Traffic) → List (Peer L) → ℕ
+packets_by_all traffic peers = sum_by (λ peer. packets (traffic peer.link)) peers
+
+module _ {L : Type 0} (traffic : L → Traffic) where
+  abbrev pub packets_with : PeerState L → ℕ
+  packets_with peer = packets (traffic peer.link)
+
+  -- nothing went over the link, and what the node keeps of the peer is as it was
+  pub record SameWith (old new : PeerState L) : Type 0 where
+    pub sent : (traffic new.link).sent ≡ (traffic old.link).sent
+    pub received : (traffic new.link).received ≡ (traffic old.link).received
+    pub reply : new.reply ≡ old.reply
+    pub keeps : new.keeps ≡ old.keeps
+
+  -- A peer, later in a turn. Packets and counts are no fewer; where no packet went over the link, it is as it was; and where no
+  -- block waited on a lane, none waits, or a packet went over the link.
+  pub record GoesOn (old new : PeerState L) : Type 0 where
+    pub shard : new.shard ≡ old.shard
+    pub more : packets_with old ≤ packets_with new
+    pub full : NoneFell (traffic old.link).full (traffic new.link).full
+    pub empty : NoneFell (traffic old.link).empty (traffic new.link).empty
+    pub same : packets_with new ≤ packets_with old → SameWith old new
+    pub held : (lane : Lane) → IsEmpty (on lane old.held) → IsEmpty (on lane new.held) ⊎ (packets_with old < packets_with new)
+
+  -- What held the node up toward a peer.
+
+  -- the reply that waits met a full lane
+  abbrev pub ReplyWaits : PeerState L → PeerState L → Type 0
+  ReplyWaits old new = IsSome old.reply → Rose (traffic old.link).full.replies (traffic new.link).full.replies
+
+  -- no reply was there, where the peer owes one and none waits to be released
+  abbrev pub ReplyLacks : PeerState L → PeerState L → Type 0
+  ReplyLacks old new = 0 < old.keeps.owed → IsEmpty old.held.replies → Rose (traffic old.link).empty.replies (traffic new.link).empty.replies
+
+  -- no request was there, or no ticket of a reply was idle
+  abbrev pub RequestLacks : Tickets → PeerState L → PeerState L → Type 0
+  RequestLacks lent old new = old.keeps.has_heard_bye ≡ false → IsEmpty old.held.requests → IsEmpty old.reply
+      → Rose (traffic old.link).empty.requests (traffic new.link).empty.requests ⊎ ¬ HasIdle lent ReplyShare
+
+module _ {L G : Type 0} (traffic : L → Traffic) where
+  abbrev pub packets_of : NodeState L G → ℕ
+  packets_of node = sum_by (packets_with traffic) node.peers
+
+  abbrev pub done_in : NodeState L G → ℕ
+  done_in node = length (done node.journal.entries)
+
+  -- a packet was sent or received, or a part was done
+  abbrev pub Rises : NodeState L G → NodeState L G → Type 0
+  Rises old new = (packets_of old < packets_of new) ⊎ (done_in old < done_in new)
+
+  -- A node, later in a turn.
+  pub record Goes (old new : NodeState L G) : Type 0 where
+    pub peers : Pairs (λ k. GoesOn traffic) old.peers new.peers
+    pub done : done_in old ≤ done_in new
+    pub backs : old.space.backs ≤ new.space.backs
+    pub tally : (more : ℕ) × CountsOn more old.tally new.tally
+
+  -- Where no packet went over a link, nothing was done, the space and the own parts are as they were, no block that waits was
+  -- touched, and R says what held the node up toward a peer.
+  pub record HeldUp (R : ℕ → PeerState L → PeerState L → Type 0) (old new : NodeState L G) : Type 0 where
+    pub request : new.request ≡ old.request
+    pub begun : new.begun ≡ old.begun
+    pub gate : new.gate ≡ old.gate
+    pub space : new.space ≡ old.space
+    pub done : done_in new ≡ done_in old
+    pub peers : Pairs (λ k a b. (b.held ≡ a.held) × R k a b) old.peers new.peers
+
+  abbrev pub NonePassed : NodeState L G → NodeState L G → Type 0
+  NonePassed old new = packets_of new ≤ packets_of old
+
+module _ {L G : Type 0} (traffic : L → Traffic) (holds : G → ℕ) where
+  -- Bye met a full lane, where it is what is left to send
+  abbrev pub ByeWaits : NodeState L G → PeerState L → PeerState L → Type 0
+  ByeWaits node old new = HasBegunAll traffic holds node → old.keeps.has_sent_bye ≡ false → Rose (traffic old.link).full.requests (traffic new.link).full.requests
+
+  -- no block that waited was released: each was raced
+  pub record RacesAll (old new : NodeState L G) : Type 0 where
+    pub request : new.request ≡ old.request
+    pub begun : new.begun ≡ old.begun
+    pub gate : new.gate ≡ old.gate
+    pub space : new.space ≡ old.space
+    pub done : done_in traffic new ≡ done_in traffic old
+    pub peers : Pairs (λ k a b. SameWith traffic a b
+        × Raced traffic holds a.held.requests b.held.requests × Raced traffic holds a.held.replies b.held.replies) old.peers new.peers
+
+  -- what held the own parts back, where no request was sent and none was done
+  pub record HoldsBack (old new : NodeState L G) : Type 0 where
+    pub held : Pairs (λ k a b. b.held ≡ a.held) old.peers new.peers
+    pub request : (waiting : Waiting) → (old.request ≡ Some waiting) ⊎ (new.request ≡ Some waiting)
+        → Pairs (λ k a b. a.shard ≡ waiting.peer → Rose (traffic a.link).full.requests (traffic b.link).full.requests) old.peers new.peers
+    pub own : IsEmpty new.request → IsHeldBack traffic holds old new
+    pub all : HasBegunAll traffic holds old → HasBegunAll traffic holds new
+    pub idle : InStanding traffic old → new.space.backs ≡ old.space.backs → HasIdle new.space.lent ReplyShare → HasIdle old.space.lent ReplyShare
+
+  -- a block that waited was released, and counted
+  pub record Frees (old new : NodeState L G) : Type 0 where
+    pub some : ForSome traffic holds (HasReleased traffic holds) old new
+    pub more : ℕ
+    pub counts : CountsOn (1 + more) old.tally new.tally
+
+-- Says k aside: at place k this packet was set aside.
+
+-- what one try of a lane says of its place
+abbrev pub TriedSays : (Aside → Type 0) → Tried → Type 0
+TriedSays Says (Other aside) = Says aside
+TriedSays Says Nothing = (aside : Aside) → Says aside → ⊥
+TriedSays Says Expected = (aside : Aside) → Says aside → ⊥
+
+-- what was told before stays; where nothing was, the first that is said of the places is told
+abbrev pub Tells : (ℕ → Aside → Type 0) → Option Aside → Option Aside → Type 0
+Tells Says (Some before) now = now ≡ Some before
+Tells Says None None = (k : ℕ) (aside : Aside) → Says k aside → ⊥
+Tells Says None (Some aside) = (k : ℕ) × Says k aside × ((j : ℕ) → j < k → (other : Aside) → Says j other → ⊥)
+
+module _ {L G : Type 0} (traffic : L → Traffic) where
+  -- each peer is the one that it was, and nothing was received of it on the lane
+  abbrev pub ReceivesNone : Lane → NodeState L G → NodeState L G → Type 0
+  ReceivesNone lane old new = Pairs (λ k a b. (b.shard ≡ a.shard) × (on lane (traffic b.link).received ≡ on lane (traffic a.link).received)) old.peers new.peers
+
+module _ {L G : Type 0} (traffic : L → Traffic) (holds : G → ℕ) where
+  -- what a turn tells of the packets that were not expected
+  abbrev pub TellsFirst : Option Aside → NodeState L G → NodeState L G → Type 0
+  TellsFirst None old new = NoneAside traffic holds old new
+  TellsFirst (Some aside) old new = IsFirstAside traffic holds old new aside

@@ -1,0 +1,186 @@
+//! A node: one shard at work, from its opening to its end.
+ghost use Rattle.std.specs.Prelude.{◌≡◌, ◌↔◌, ◌+◌, ◌<◌, ◌≤◌, [], ◌∷◌, ◌++◌, length, map, vec_capacity, All, IfOk, IfErr};
+ghost use Rattle.layout.specs.Sizes.{ArePages};
+ghost use Rattle.trace_text.specs.Parsed.{trace_in};
+ghost use Rattle.foreign_list.specs.OwnerSeats.{IsAtRest};
+ghost use Rattle.shard_memory.specs.Tickets.{tickets_out};
+ghost use Rattle.shard_rings.specs.Lanes.{counted};
+ghost use Rattle.reclaim.specs.Spaces.{IsUnguarded};
+ghost use Rattle.shard_node.specs.Nodes.{traffic_by};
+ghost use Rattle.shard_node.specs.Standing.{InStanding};
+ghost use Rattle.shard_node.specs.Links.{IsUnused};
+ghost use Rattle.shard_node.specs.Turns.{IsAnswer, IsDone, IsSameNode};
+ghost use Rattle.shard_node.specs.declared.turn.Turn.{Turn as Turns};
+ghost use Rattle.shard_node.specs.inside.Work.{others};
+
+use crate::gate::Gate;
+use crate::peer::Peer;
+use crate::ran::Ran;
+use crate::refusal::NodeRefusal;
+use crate::shard::Shard;
+use crate::turn::Turn;
+use foreign_list::{Foreign, OwnerSeat};
+use reclaim::Space;
+use shard_rings::Link;
+use std::alloc::Global;
+use std::marker::Model;
+use trace_text::Trace;
+
+/// One shard at work on its parts of a trace. All its memory is taken as it is opened.
+#[derive(Drop)]
+pub struct Node<'f, L: Drop, G: Drop> {
+    pub(crate) shard: Shard<'f, L, G>,
+    // Empty until the links are handed back.
+    links: Vec<L>,
+}
+
+impl<'f, L: Drop, G: Drop> Model for Node<'f, L, G> {
+    ghost use Rattle.shard_node.specs.Nodes.{NodeState};
+
+    ghost Value = { NodeState L G };
+
+    ghost use Rattle.shard_node.specs.inside.Shards.{node_state};
+    ghost use Rattle.shard_node.specs.inside.Nodes.{IsConsistentNode};
+
+    ghost view = { λ n. node_state n.shard };
+
+    ghost invariant = { λ n. IsConsistentNode n.shard n.links };
+}
+
+/// What a node leaves that has finished, beside its journal and its log.
+#[derive(Drop)]
+pub struct Finished<'f, L: Drop> {
+    pub space: Space<'f>,
+    pub links: Vec<L>,
+}
+
+impl<'f, L: Link<'f> + Drop, G: Gate + Drop> Node<'f, L, G> {
+    /// The node of a shard, of a trace that was parsed for so many shards, with so many pages and a link to each other shard, in
+    /// the order of their numbers. The blocks that it lends come home over `home`. No other call takes memory.
+    ///
+    /// # Errors
+    /// Want of memory; then the seat and the links are handed back.
+    pub fn open(
+        alloc: Global,
+        shard: u32,
+        shards: u32,
+        pages: u32,
+        trace: &'f Trace,
+        home: &'f Foreign,
+        seat: OwnerSeat,
+        links: Vec<L>,
+        gate: G,
+    ) -> Result<Node<'f, L, G>, NodeRefusal<L>>
+        requires pages { ArePages pages }
+        requires owner { home.now.owner ≡ shard }
+        requires seat { IsAtRest home.now seat }
+        requires parsed_for { shards ≡ trace.now.shards }
+        requires within { shard < shards }
+        requires links { length links.items + 1 ≡ shards }
+        requires unused { All (IsUnused (traffic_by L.sent L.received L.full L.empty)) links.items }
+        ensures refused { IfErr result (λ refusal. (refusal.seat ≡ seat) × (refusal.links ≡ links)) }
+        ensures standing { IfOk result (λ node. InStanding (traffic_by L.sent L.received L.full L.empty) node) }
+        ensures numbers { IfOk result (λ node. (node.shard ≡ shard) × (node.shards ≡ shards) × (node.pages ≡ pages)) }
+        ensures trace { IfOk result (λ node. node.trace ≡ trace_in trace.now) }
+        ensures list { IfOk result (λ node. node.space.list ≡ home.now) }
+        ensures lent { IfOk result (λ node. tickets_out node.space.lent ≡ 0) }
+        ensures links { IfOk result (λ node. map (λ peer. peer.link) node.peers ≡ links.items) }
+        ensures peers { IfOk result (λ node. map (λ peer. peer.shard) node.peers ≡ others shards shard) }
+        ensures gate { IfOk result (λ node. node.gate ≡ gate) }
+        ensures turns { IfOk result (λ node. node.turns ≡ 0) }
+    {
+        let Ok(room) = Vec::with_capacity(alloc, links.len()) else {
+            return Err(NodeRefusal { seat, links });
+        };
+        match Shard::open(alloc, shard, shards, pages, trace, home, seat, links, gate) {
+            Ok(shard) => Ok(Node { shard, links: room }),
+            Err(refusal) => Err(refusal),
+        }
+    }
+
+    /// One turn. It waits for nobody, and takes no memory. A node that is done makes no step.
+    pub fn turn(&mut self) -> Turn
+        ensures standing { InStanding (traffic_by L.sent L.received L.full L.empty) self.old → InStanding (traffic_by L.sent L.received L.full L.empty) self.new }
+        ensures same { IsSameNode L.end self.old self.new }
+        ensures turns { self.new.turns ≡ counted self.old.turns }
+        ensures done { InStanding (traffic_by L.sent L.received L.full L.empty) self.old
+            → ((result ≡ Turns.Done) ↔ IsDone (traffic_by L.sent L.received L.full L.empty) G.holds self.new) }
+        ensures rests { InStanding (traffic_by L.sent L.received L.full L.empty) self.old
+            → IsDone (traffic_by L.sent L.received L.full L.empty) G.holds self.old → self.new ≡ record self.old { turns = self.new.turns } }
+        ensures answer { InStanding (traffic_by L.sent L.received L.full L.empty) self.old
+            → IsAnswer (traffic_by L.sent L.received L.full L.empty) G.holds result self.old self.new }
+    {
+        self.shard.turn()
+    }
+
+    /// How many turns it made, up to the greatest u64.
+    pub fn turns(&self) -> u64
+        ensures { result ≡ self.now.turns }
+    {
+        self.shard.turns
+    }
+
+    /// What holds of a node at each time.
+    pub fn facts(&self)
+        ensures within { self.now.shard < self.now.shards }
+        ensures peers { map (λ peer. peer.shard) self.now.peers ≡ others self.now.shards self.now.shard }
+        ensures pages { self.now.space.pages ≡ self.now.pages }
+        ensures owner { self.now.space.shard ≡ self.now.shard }
+    {
+        let _ = &self.shard;
+    }
+
+    /// Ends a node that is done: its journal and its log go to the record of the run, which has those of all shards below its own.
+    pub fn finish(self, into: &mut Ran) -> Finished<'f, L>
+        requires done { IsDone (traffic_by L.sent L.received L.full L.empty) G.holds self }
+        requires shards { into.old.shards ≡ self.shards }
+        requires place { length into.old.journals ≡ self.shard }
+        ensures journals { into.new.journals ≡ into.old.journals ++ self.entry.journal ∷ [] }
+        ensures logs { into.new.logs ≡ into.old.logs ++ self.entry.log ∷ [] }
+        ensures shards { into.new.shards ≡ into.old.shards }
+        ensures space { result.space ≡ self.entry.space }
+        ensures links { result.links.items ≡ map (λ peer. peer.link) self.entry.peers }
+        ensures idle { tickets_out result.space.lent ≡ 0 }
+        ensures unguarded { IsUnguarded result.space }
+    {
+        let Node { shard, links } = self;
+        let Shard {
+            space,
+            journal,
+            log,
+            peers,
+            ..
+        } = shard;
+        into.add(journal, log);
+        Finished {
+            space,
+            links: links_of(peers, links),
+        }
+    }
+
+    /// Ends a node that made no turn: its seat and its links are handed back.
+    pub fn abandon(self) -> NodeRefusal<L>
+        requires new { self.turns ≡ 0 }
+        ensures seat { IsAtRest self.entry.space.list result.seat }
+        ensures links { result.links.items ≡ map (λ peer. peer.link) self.entry.peers }
+    {
+        let Node { shard, links } = self;
+        let Shard { space, peers, .. } = shard;
+        NodeRefusal {
+            seat: space.finish(),
+            links: links_of(peers, links),
+        }
+    }
+}
+
+/// The links toward the peers, in their order. There is room for them.
+fn links_of<'f, L: Drop>(peers: Vec<Peer<'f, L>>, mut links: Vec<L>) -> Vec<L>
+    requires none { links.items ≡ [] }
+    requires room { length peers.items ≤ vec_capacity links }
+    ensures { result.items ≡ map (λ peer. peer.link) peers.entry.items }
+{
+    for peer in peers {
+        links.push(peer.link).unwrap();
+    }
+    links
+}
