@@ -1,0 +1,7 @@
+mod Places
+mod Given
+mod Turned
+mod Drawn
+mod Marks
+mod Same
+mod Trials

@@ -1,0 +1,18 @@
+use Rattle.std.proofs.Common.{◌≡◌, ◌+◌, length, vec_len}
+use Rattle.std.specs.List.{All}
+use Rattle.shard_node.specs.Standing.{InStanding}
+use Rattle.shard_drive.specs.Drives.{ring_traffic}
+use Rattle.shard_drive.specs.Trials.{AreReady, AreUnused}
+use Rattle.shard_drive.proofs.tests.opening.open_nodes.Given as goal
+
+abbrev pub invariant-loop-seat : goal.invariant-loop-seat
+invariant-loop-seat g l = record {
+  places : length l.seats.items + length l.nodes.items ≡ l.shards;
+  links : length l.links.items ≡ length l.seats.items;
+  unused : All (AreUnused l.shards) l.links.items;
+  ready : AreReady l.homes l.seats.items;
+  standing : All (InStanding ring_traffic) l.nodes.items;
+}
+
+abbrev pub decreases-loop-seat : goal.decreases-loop-seat
+decreases-loop-seat g l = vec_len l.seats

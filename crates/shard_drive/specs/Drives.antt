@@ -1,0 +1,27 @@
+-- What driving does to a row of nodes: each keeps its place and makes the turns that it is given.
+use Rattle.std.specs.Prelude.{◌≡◌, ℕ, zero, suc, ◌<◌, ◌==◌, List, length, count_by}
+use Rattle.std.specs.List.{slice_index_or}
+use Rattle.shard_rings.specs.Lanes.{counted}
+use Rattle.shard_rings.specs.Links.{LinkState}
+use Rattle.shard_node.specs.Nodes.{Traffic, traffic_by}
+
+-- what a link over rings tells of itself
+abbrev pub ring_traffic : LinkState → Traffic
+ring_traffic = traffic_by (λ link. link.out.sent) (λ link. link.into.received) (λ link. link.out.full) (λ link. link.into.empty)
+
+-- at each place k, so of what stood there and what stands there
+abbrev pub AtEach : {A : Type 0} → (ℕ → A → A → Type 0) → List A → List A → Type 0
+AtEach {A} R old new = (k : ℕ) (d : A) → k < length old → R k (slice_index_or old k d) (slice_index_or new k d)
+
+-- a count that was raised so often, each time by one, up to the greatest
+abbrev pub raised : ℕ → ℕ → ℕ
+raised count zero = count
+raised count (suc more) = counted (raised count more)
+
+-- how many turns a schedule gives to node k: so many of its entries are k
+abbrev pub turns_given : List ℕ → ℕ → ℕ
+turns_given schedule k = count_by (λ entry. entry == k) schedule
+
+-- each node made the turns that the schedule gives to it, as its count says
+abbrev pub Follows : {A : Type 0} → (A → ℕ) → List ℕ → List A → List A → Type 0
+Follows turns schedule old new = AtEach (λ k a b. turns b ≡ raised (turns a) (turns_given schedule k)) old new

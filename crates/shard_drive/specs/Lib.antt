@@ -1,0 +1,4 @@
+pub mod Drives
+pub mod Words
+pub mod Lasting
+pub mod Trials

@@ -1,0 +1,22 @@
+//! Drives the nodes of a run turn by turn: each on a thread of its own, or all on one thread in an order that is drawn from a
+//! number or given.
+//!
+//! What is promised: [`drive_threads`] and [`drive_numbered`] return only when all nodes are done. All three calls change the
+//! nodes by turns alone: each place of the row holds the node that stood there, a node in standing stays so, and what no turn
+//! changes stays. The counts of turns tell that [`drive_schedule`] and [`drive_numbered`] follow their schedules
+//! ([`specs/Drives.antt`], [`specs/Words.antt`]).
+//!
+//! What is not: that [`drive_threads`] and [`drive_numbered`] return, and that threads run side by side.
+#![tactic(auto)]
+
+mod by_words;
+mod driven;
+mod scheduled;
+mod threads;
+
+pub use by_words::drive_numbered;
+pub use scheduled::drive_schedule;
+pub use threads::drive_threads;
+
+#[cfg(test)]
+mod tests;

@@ -1,0 +1,9 @@
+pub mod Driven
+pub mod Finishings
+pub mod Getting
+pub mod LentBlocks
+pub mod Openings
+pub mod Others
+pub mod Partings
+pub mod Runs
+pub mod Seated

@@ -1,0 +1,5 @@
+pub mod Closing
+pub mod Opening
+pub mod Remaining
+pub mod Running
+pub mod inside

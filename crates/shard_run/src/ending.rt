@@ -1,0 +1,54 @@
+//! The end of a run.
+ghost use Rattle.std.specs.Prelude.{ℕ, List};
+ghost use Rattle.trace_text.specs.Parsed.{trace_in};
+ghost use Rattle.foreign_list.specs.Lists.{OwnedList};
+ghost use Rattle.shard_run.specs.Opening.{AreAtRest};
+ghost use Rattle.shard_run.specs.Remaining.{IsRoomFor};
+ghost use Rattle.shard_run.specs.Running.{IsRun, WereDriven};
+
+use crate::closing::close_links;
+use crate::finishing::finish_nodes;
+use crate::remains::{Occupancy, Remains};
+use crate::trace_facts::facts_of;
+use foreign_list::OwnerSeat;
+use shard_node::{Gate, Node, Ran, done_nodes_agree};
+use shard_rings::RingLink;
+use trace_text::Trace;
+
+/// What a run came to, in the order of its shards.
+#[derive(Drop)]
+pub struct Ended {
+    pub ran: Ran,
+    pub occupancies: Vec<Occupancy>,
+    pub seats: Vec<OwnerSeat>,
+}
+
+/// Ends a run of a trace, whose nodes were driven until all were done: they are finished, and the pairs of all shards are ended. The
+/// seats at the lists of the run are handed back, at rest.
+pub fn finish_run<'f, G: Gate + Drop>(
+    trace: &Trace,
+    nodes: Vec<Node<'f, RingLink<'f>, G>>,
+    into: Remains<'f>,
+) -> Ended
+    requires driven { (pages : ℕ) × (homes : List OwnedList) × WereDriven G.holds (trace_in trace.now) trace.now.shards pages homes nodes.items }
+    requires room { IsRoomFor trace.now.shards into }
+    ensures run { (pages : ℕ) (homes : List OwnedList) → WereDriven G.holds (trace_in trace.now) trace.now.shards pages homes nodes.entry.items
+        → IsRun (trace_in trace.now) trace.now.shards pages result.ran result.occupancies.items }
+    ensures seats { (pages : ℕ) (homes : List OwnedList) → WereDriven G.holds (trace_in trace.now) trace.now.shards pages homes nodes.entry.items
+        → AreAtRest trace.now.shards homes result.seats.items }
+{
+    facts_of(trace);
+    done_nodes_agree::<RingLink<'f>, G>();
+    let Remains {
+        ran,
+        occupancies,
+        links,
+        seats,
+    } = finish_nodes(nodes, into);
+    close_links(links);
+    Ended {
+        ran,
+        occupancies,
+        seats,
+    }
+}

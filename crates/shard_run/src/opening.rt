@@ -1,0 +1,158 @@
+//! The opening of the nodes of all shards.
+ghost use Rattle.std.specs.Prelude.{◌≡◌, ◌+◌, ◌<◌, ◌≤◌, [], ◌∷◌, ◌++◌, length, vec_capacity, IfOk, IfErr, OnOk, OnErr};
+ghost use Rattle.layout.specs.Sizes.{ArePages};
+ghost use Rattle.trace_text.specs.Parsed.{trace_in};
+ghost use Rattle.foreign_list.specs.OwnerSeats.{OwnerState, IsAtRest};
+ghost use Rattle.shard_rings.specs.Mesh.{IsMesh};
+ghost use Rattle.shard_run.specs.Opening.{AreAtRest, AreLists, AreOpened, AreSeatsOf};
+ghost use Rattle.shard_run.specs.inside.Opening.{AreLeft, AreUnturned, AreUnused, GivesBack, OpensLast};
+
+use crate::trace_facts::facts_of;
+use foreign_list::{Foreign, OwnerSeat};
+use shard_node::{Gate, Gates, Node};
+use shard_rings::{RingLink, ring_links};
+use std::alloc::{AllocError, Global};
+use trace_text::Trace;
+
+/// The nodes of all shards of a trace, in their order, with so many pages each. The blocks of shard s come home over list s. All of
+/// the memory that they use is taken here.
+///
+/// # Errors
+/// Want of memory: then each node that was opened is abandoned, and the seats are handed back in their order.
+pub fn open_nodes<'f, G: Gates>(
+    alloc: Global,
+    trace: &'f Trace,
+    pages: u32,
+    homes: &'f [Foreign],
+    mut seats: Vec<OwnerSeat>,
+    gates: &G,
+) -> Result<Vec<Node<'f, RingLink<'f>, G::Made>>, Vec<OwnerSeat>>
+    requires pages { ArePages pages }
+    requires seats { AreAtRest trace.now.shards homes.now seats.items }
+    ensures opened { IfOk result (λ nodes. AreOpened (trace_in trace.now) trace.now.shards pages homes.now nodes.items) }
+    ensures refused { IfErr result (λ back. AreAtRest trace.now.shards homes.now back.items) }
+{
+    let shards = shards_of(trace, homes);
+    let Ok(links) = ring_links(alloc, shards) else {
+        return Err(seats);
+    };
+    let Ok(mut nodes) = Vec::with_capacity(alloc, homes.len()) else {
+        return Err(seats);
+    };
+    match open_all(
+        alloc, trace, shards, pages, homes, links, gates, &mut seats, &mut nodes,
+    ) {
+        Ok(()) => Ok(nodes),
+        Err(_) => {
+            abandon_nodes(nodes, &mut seats);
+            Err(seats)
+        }
+    }
+}
+
+/// How many shards a trace was parsed for: as many as there are lists.
+fn shards_of(trace: &Trace, homes: &[Foreign]) -> u32
+    requires { length homes.now ≡ trace.now.shards }
+    ensures { result ≡ trace.now.shards }
+{
+    facts_of(trace);
+    homes.len() as u32
+}
+
+/// Opens the node of each shard, from the last one on. So the seats that are left are always those of the first shards, and those
+/// of nodes that are abandoned stand behind them.
+fn open_all<'f, G: Gates>(
+    alloc: Global,
+    trace: &'f Trace,
+    shards: u32,
+    pages: u32,
+    homes: &'f [Foreign],
+    mut links: Vec<Vec<RingLink<'f>>>,
+    gates: &G,
+    seats: &mut Vec<OwnerSeat>,
+    nodes: &mut Vec<Node<'f, RingLink<'f>, G::Made>>,
+) -> Result<(), AllocError>
+    requires pages { ArePages pages }
+    requires parsed_for { shards ≡ trace.now.shards }
+    requires lists { AreLists shards homes.now }
+    requires one_each { length seats.old.items ≡ shards }
+    requires seats { AreSeatsOf homes.now seats.old.items }
+    requires links { length links.items ≡ shards }
+    requires mesh { IsMesh links.items }
+    requires none { nodes.old.items ≡ [] }
+    requires room { shards ≤ vec_capacity nodes.old }
+    ensures opened { OnOk result (AreOpened (trace_in trace.now) trace.now.shards pages homes.now nodes.new.items) }
+    ensures refused { OnErr result (AreLeft trace.now.shards homes.now seats.new.items nodes.new.items) }
+    ensures room { shards ≤ vec_capacity seats.new }
+{
+    while let Some(own) = links.pop() {
+        open_last(alloc, trace, shards, pages, homes, own, gates, seats, nodes)?;
+    }
+    Ok(())
+}
+
+/// Opens the node of the last shard whose seat is left, and puts it before the others.
+fn open_last<'f, G: Gates>(
+    alloc: Global,
+    trace: &'f Trace,
+    shards: u32,
+    pages: u32,
+    homes: &'f [Foreign],
+    links: Vec<RingLink<'f>>,
+    gates: &G,
+    seats: &mut Vec<OwnerSeat>,
+    nodes: &mut Vec<Node<'f, RingLink<'f>, G::Made>>,
+) -> Result<(), AllocError>
+    requires pages { ArePages pages }
+    requires parsed_for { shards ≡ trace.now.shards }
+    requires lists { AreLists shards homes.now }
+    requires some { 0 < length seats.old.items }
+    requires within { length seats.old.items + length nodes.old.items ≡ shards }
+    requires seats { AreSeatsOf homes.now seats.old.items }
+    requires links { length links.items + 1 ≡ shards }
+    requires unused { AreUnused links.items }
+    requires room { shards ≤ vec_capacity nodes.old }
+    ensures opened { OnOk result (OpensLast (trace_in trace.now) shards pages homes.now links.entry.items seats.old.items seats.new.items nodes.old.items nodes.new.items) }
+    ensures refused { OnErr result ((seats.new.items ≡ seats.old.items) × (nodes.new.items ≡ nodes.old.items)) }
+    ensures seats_room { vec_capacity seats.old ≤ vec_capacity seats.new }
+    ensures nodes_room { vec_capacity nodes.old ≤ vec_capacity nodes.new }
+{
+    let seat = seats.pop().unwrap();
+    let shard = seats.len();
+    let (number, home) = (shard as u32, &homes[shard]);
+    let gate = gates.gate(number);
+    match Node::open(alloc, number, shards, pages, trace, home, seat, links, gate) {
+        Ok(node) => {
+            nodes.insert(0, node).unwrap();
+            Ok(())
+        }
+        Err(refusal) => {
+            seats.push(refusal.seat).unwrap();
+            Err(AllocError)
+        }
+    }
+}
+
+/// Abandons nodes that made no turn: their seats stand behind those that are there, for which there is room.
+fn abandon_nodes<'f, G: Gate + Drop>(
+    nodes: Vec<Node<'f, RingLink<'f>, G>>,
+    seats: &mut Vec<OwnerSeat>,
+)
+    requires unturned { AreUnturned nodes.items }
+    requires room { length seats.old.items + length nodes.items ≤ vec_capacity seats.old }
+    ensures { GivesBack nodes.entry.items seats.old.items seats.new.items }
+{
+    for node in nodes {
+        abandon_one(node, seats);
+    }
+}
+
+/// Abandons a node, whose seat stands behind the others.
+fn abandon_one<'f, G: Gate + Drop>(node: Node<'f, RingLink<'f>, G>, seats: &mut Vec<OwnerSeat>)
+    requires unturned { node.turns ≡ 0 }
+    requires room { length seats.old.items < vec_capacity seats.old }
+    ensures seat { (seat : OwnerState) × (seats.new.items ≡ seats.old.items ++ seat ∷ []) × IsAtRest node.entry.space.list seat }
+    ensures room { vec_capacity seats.old ≤ vec_capacity seats.new }
+{
+    seats.push(node.abandon().seat).unwrap();
+}
