@@ -43,10 +43,11 @@ module _ (homes : List OwnedList) (seats : List OwnerState) (home : OwnedList) (
       let count = all.one_each in
       let more_homes = length-append homes (home ∷ []) in
       let more_seats = length-append seats (seat ∷ []) in
-      let same : length seats ≡ length homes = omega (arith, lists, count, more_homes, more_seats) in
-      (all.at_rest (length homes) home seat (get_last homes home) (subst (λ k. slice_get (seats ++ seat ∷ []) k ≡ Some seat) same (get_last seats seat)),
+      let same : length seats ≡ length homes = omega (arith, lists, count, more_homes, more_seats) in (
+        all.at_rest (length homes) home seat (get_last homes home) (subst (λ k. slice_get (seats ++ seat ∷ []) k ≡ Some seat) same (get_last seats seat)),
         record {
           lists = record { count = refl; owners = λ s other at. all.lists.owners s other (get_in_front homes (home ∷ []) s other at) };
           one_each = same;
           at_rest = λ s other its at there. all.at_rest s other its (get_in_front homes (home ∷ []) s other at) (get_in_front seats (seat ∷ []) s its there);
-        })
+        },
+      )

@@ -9,10 +9,7 @@ use std::alloc::{AllocError, Global};
 ///
 /// # Errors
 /// Want of memory; then those that were made are closed.
-pub fn open_lists(
-    alloc: Global,
-    shards: u32,
-) -> Result<(Vec<Foreign>, Vec<OwnerSeat>), AllocError>
+pub fn open_lists(alloc: Global, shards: u32) -> Result<(Vec<Foreign>, Vec<OwnerSeat>), AllocError>
     ensures { IfOk result (λ made. AreAtRest shards made.0.items made.1.items) }
 {
     let mut homes = Vec::with_capacity(alloc, shards as usize)?;

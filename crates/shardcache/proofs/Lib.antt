@@ -1,9 +1,7 @@
-pub mod Next
+pub mod Causes
 pub mod Numbered
-pub mod OneReport
-pub mod Opening
-pub mod Parts
-pub mod Progress
+pub mod Reported
+pub mod Runs
 pub mod TableRows
 mod Numbers
 mod Words

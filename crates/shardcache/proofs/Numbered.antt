@@ -1,6 +1,5 @@
 -- Commands that are numbered in order.
-use Rattle.std.proofs.Common.{◌≡◌, ℕ, ◌+◌, ◌-◌, ◌<◌, ◌≤◌, suc, zero, true, false, eqb, List, [], ◌∷◌, length, take, map, get_or, Some, arith, refl, ap, ◌∙◌}
-use Rattle.std.specs.List.{list_any}
+use Rattle.std.proofs.Common.{◌≡◌, ℕ, ◌+◌, ◌<◌, suc, zero, true, false, eqb, List, [], ◌∷◌, length, get_or, Some, arith, refl, ◌∙◌}
 use Rattle.std.proofs.lemmas.Bool.Decides.{nat_tests}
 use Rattle.trace_text.specs.declared.command.Command.{Command}
 use Rattle.trace_text.specs.Operation.{Operation, operation, operations}
@@ -38,19 +37,6 @@ pub command_at : (trace : List Operation) (k : ℕ) (d : Operation) → Numbered
     → command_of (trace_with trace) (get_or trace k d).number ≡ Some (get_or trace k d)
 command_at trace k d numbered lt = find_number 1 trace k d numbered lt
 
--- and its number is not among those before it
-none-among : (n : ℕ) (trace : List Operation) (k number : ℕ) → Numbered n trace → k ≤ length trace → n + k ≤ number
-    → list_any (λ j. eqb j number) (map (λ operation. operation.number) (take k trace)) ≡ false
-none-among n trace zero number numbered lt above = refl
-none-among n [] (suc k) number numbered lt above = absurd (omega arith)
-none-among n (operation ∷ trace) (suc k) number numbered lt above =
-    rw (eqb-below operation.number number (omega (arith, numbered.0)), none-among (n + 1) trace k number numbered.1 (omega arith) (omega arith)) refl
-
-pub not_before : (trace : List Operation) (k : ℕ) (d : Operation) → Numbered 1 trace → k < length trace
-    → list_any (λ j. eqb j (get_or trace k d).number) (map (λ operation. operation.number) (take k trace)) ≡ false
-not_before trace k d numbered lt =
-    none-among 1 trace k (get_or trace k d).number numbered (omega arith) (omega (arith, number_at 1 trace k d numbered lt))
-
 -- ---- the commands of a trace that was read
 
 numbered-from : (bytes : List ℕ) (n : ℕ) (commands : List Command)
@@ -63,19 +49,3 @@ numbered-from bytes n (command ∷ commands) numbered = (
 
 pub numbered : (bytes : List ℕ) (commands : List Command) → AreNumbered commands → Numbered 1 (operations bytes commands)
 numbered bytes commands are = numbered-from bytes 1 commands (λ k d lt. are k d lt ∙ omega arith)
-
-pub operation_at : (bytes : List ℕ) (commands : List Command) (k : ℕ) (d : Command)
-    → get_or (operations bytes commands) k (operation bytes d) ≡ operation bytes (get_or commands k d)
-operation_at bytes [] k d = refl
-operation_at bytes (command ∷ commands) zero d = refl
-operation_at bytes (command ∷ commands) (suc k) d = operation_at bytes commands k d
-
-pub length-operations : (bytes : List ℕ) (commands : List Command) → length (operations bytes commands) ≡ length commands
-length-operations bytes [] = refl
-length-operations bytes (command ∷ commands) = ap suc (length-operations bytes commands)
-
-pub index_at : (commands : List Command) (k : ℕ) (d : Command) → k < length commands → AreNumbered commands → (get_or commands k d).number - 1 ≡ k
-index_at commands k d lt are = let is = are k d lt in omega (arith, is)
-
-pub ended_at : (bytes : List ℕ) (commands : List Command) (k : ℕ) → length commands ≤ k → length (operations bytes commands) ≤ k
-ended_at bytes commands k ended = rw (length-operations bytes commands) ended

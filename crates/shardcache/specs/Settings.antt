@@ -13,7 +13,7 @@ use Rattle.layout.specs.Sizes.{fewest_pages, most_pages, segment_pages}
 use Rattle.trace_text.specs.Parts.{most_shards}
 use Rattle.shardcache.specs.declared.settings.Settings.{Settings as Found}
 use Rattle.shardcache.specs.declared.settings.mode.Mode.{Mode}
-use Rattle.shardcache.specs.declared.settings.mode.Mode.TheVariants.{Run}
+use Rattle.shardcache.specs.declared.settings.mode.Mode.TheVariants.{Run, Sim, Gen}
 
 pub record Settings : Type 0 where
   pub mode : Mode
@@ -65,7 +65,10 @@ abbrev pub ◌>>=◌ : {A B : Type 0} → Option A → (A → Option B) → Opti
 found >>= read = option_and_then read found
 
 abbrev pub mode_of : List ℕ → Option Mode
-mode_of word = if bytes_eq word (codes "run") then Some Run else None
+mode_of word =
+    if bytes_eq word (codes "run") then Some Run
+    else (if bytes_eq word (codes "sim") then Some Sim
+    else (if bytes_eq word (codes "gen") then Some Gen else None))
 
 -- a number is 1 to 10 decimal digits and nothing else
 abbrev pub is_number : List ℕ → Bool

@@ -1,4 +1,2 @@
 pub mod Ending
 pub mod Finished
-pub mod Progress
-pub mod Works

@@ -1,24 +1,35 @@
 //! The top call.
-ghost use Rattle.std.specs.Prelude.{◌≡◌, ◌≢◌, ◌⊎◌, ◌+◌, ◌<◌, ◌≤◌, ◌∷◌, [], ℕ, List, length, map, string_bytes, IsOk, IsErr, IfOk, OnOk, Err, None, Some};
+ghost use Rattle.std.specs.Prelude.{◌≡◌, ◌≢◌, ◌⊎◌, ◌+◌, ◌<◌, ◌≤◌, ◌∷◌, [], ℕ, List, Option, length, map, string_bytes, IsOk, IsErr, IfOk, OnOk, Err, None, Some};
 ghost use Rattle.std.specs.Io.KnownBytes.{Consumes, IsAtEnd};
 ghost use Rattle.outside.specs.Moves.{ConsumesExactly, ConsumesUpTo};
 ghost use Rattle.outside.specs.Rose.{Rose};
 ghost use Rattle.cache_model.specs.Report.{report};
+ghost use Rattle.cache_model.specs.Summary.{summary};
 ghost use Rattle.layout.specs.Sizes.{ArePages};
+ghost use Rattle.report_text.specs.Views.{journals_in};
 ghost use Rattle.trace_text.specs.Parsed.{trace_in};
-ghost use Rattle.trace_text.specs.Reading.{AtLine, most_bytes};
-ghost use Rattle.shardcache.specs.Settings.{Settings as Wanted, settings as settings_of, view};
-ghost use Rattle.shardcache.specs.Table.{FollowsTable, trace_bytes};
-ghost use Rattle.shardcache.specs.TraceFor.{NoTrace, refusal_text, trace_for};
-ghost use Rattle.shardcache.specs.inside.Ending.{EndsRun, EndsWith};
+ghost use Rattle.trace_text.specs.Parts.{most_shards};
+ghost use Rattle.trace_text.specs.Reading.{AtLine, TooLong, most_bytes};
+ghost use Rattle.made_trace.specs.Made.{made};
+ghost use Rattle.shardcache.specs.Settings.{Settings as Wanted, most_made_commands, settings as settings_of, view};
+ghost use Rattle.shardcache.specs.Table.{FollowsTable, IsOutput, Reads, trace_bytes};
+ghost use Rattle.shardcache.specs.TraceFor.{refusal_text, trace_for};
+ghost use Rattle.shardcache.specs.inside.Ending.{EndsOutput, EndsRun, EndsWith};
+ghost use Rattle.shardcache.specs.declared.settings.mode.Mode.{Mode as Modes};
 ghost use Rattle.shardcache.specs.inside.Finished.{IsRunOf};
 
-use crate::run::{Finished, do_all};
-use crate::settings::{Settings, settings_of};
+use crate::outcome::Outcome;
+use crate::run::{Order, run_trace};
+use crate::settings::{Mode, Settings, settings_of};
 use crate::status::Status;
+use cache_model::{a_report_has_its_lines, answers_are_read_by_command, replies_hold_what_was_put};
+use made_trace::make_trace;
 use outside::{ReadStop, Sink, Source, read_all, write_all};
-use report_text::{ShardLine, write_report};
+use report_text::{ShardLine, write_report, write_summary};
+use shard_node::{Gates, Ran};
 use std::alloc::Global;
+use std::sync::Wait;
+use std::thread::Threads;
 use trace_text::{Cause, MOST_BYTES, ParseRefusal, Trace, parse};
 
 /// Writes a text to its end, and answers this status, or that the sink failed.
@@ -35,7 +46,8 @@ fn write_line<K: Sink>(sink: &mut K, text: &[u8], status: Status) -> Status
 
 /// Writes that a trace is refused: the line, and the cause.
 fn refuse<K: Sink>(alloc: Global, sink: &mut K, line: u32, cause: Cause) -> Status
-    ensures written { EndsWith result Status.Refused (K.written sink.old) (K.written sink.new) (refusal_text (NoTrace (AtLine line cause))) }
+    ensures written { EndsWith result Status.Refused (K.written sink.old) (K.written sink.new) (refusal_text (AtLine line cause)) }
+    ensures cases { (result ≡ Status.Refused) ⊎ ((result ≡ Status.WriteFault) ⊎ (result ≡ Status.Memory)) }
     ensures fault { result ≡ Status.WriteFault → Rose (K.faults sink.old) (K.faults sink.new) }
 {
     let name = cause.name();
@@ -45,46 +57,130 @@ fn refuse<K: Sink>(alloc: Global, sink: &mut K, line: u32, cause: Cause) -> Stat
     write_line(sink, text.as_bytes(), Status::Refused)
 }
 
-/// Writes the report of what one shard of so many pages did.
-fn report_finished<K: Sink>(sink: &mut K, trace: &Trace, pages: u32, finished: Finished) -> Status
-    requires one_shard { trace.now.shards ≡ 1 }
-    requires run { IsRunOf (trace_in trace.now) pages finished.journal.entries finished.log.replies finished.rows finished.live }
-    ensures written { EndsWith result Status.Done (K.written sink.old) (K.written sink.new) (report (trace_in trace.now) 1 pages (finished.journal.entries ∷ [])) }
+/// Writes the report of what the shards did.
+fn report_run<K: Sink>(
+    sink: &mut K,
+    settings: Settings,
+    trace: &Trace,
+    ran: &Ran,
+    lines: &[ShardLine],
+) -> Status
+    requires parsed_for { settings.shards ≡ trace.now.shards }
+    requires run { IsRunOf (trace_in trace.now) settings.shards settings.pages ran.now lines.now }
+    ensures written { EndsOutput result (K.written sink.old) (K.written sink.new) (report (trace_in trace.now) settings.shards settings.pages (journals_in ran.now.journals)) }
     ensures fault { result ≡ Status.WriteFault → Rose (K.faults sink.old) (K.faults sink.new) }
 {
-    let Finished {
-        journal,
-        log,
-        rows,
-        live,
-    } = finished;
-    let line = ShardLine {
-        rows,
-        live,
-        lent: 0,
-        back: 0,
-    };
-    match write_report(sink, trace, 1, &[log], &[journal], &[line]) {
+    match write_report(
+        sink,
+        trace,
+        settings.shards,
+        ran.logs(),
+        ran.journals(),
+        lines,
+    ) {
         Ok(()) => Status::Done,
         Err(_) => Status::WriteFault,
     }
 }
 
-/// Runs a trace of these bytes on one shard, and writes the report or the refusal.
-fn run_bytes<K: Sink>(alloc: Global, settings: Settings, bytes: Vec<u8>, sink: &mut K) -> Status
-    requires short { length bytes.items ≤ MOST_BYTES }
-    requires one_shard { settings.shards ≡ 1 }
-    requires pages { ArePages settings.pages }
-    ensures ending { EndsRun (view settings) result bytes.items (K.written sink.old) (K.written sink.new) }
+/// Writes the summary of what the shards did.
+fn summarize_run<K: Sink>(
+    sink: &mut K,
+    settings: Settings,
+    trace: &Trace,
+    ran: &Ran,
+    lines: &[ShardLine],
+) -> Status
+    requires parsed_for { settings.shards ≡ trace.now.shards }
+    requires run { IsRunOf (trace_in trace.now) settings.shards settings.pages ran.now lines.now }
+    ensures written { EndsOutput result (K.written sink.old) (K.written sink.new) (summary (trace_in trace.now) settings.shards settings.pages (journals_in ran.now.journals)) }
     ensures fault { result ≡ Status.WriteFault → Rose (K.faults sink.old) (K.faults sink.new) }
 {
+    match write_summary(
+        sink,
+        trace,
+        settings.shards,
+        ran.logs(),
+        ran.journals(),
+        lines,
+    ) {
+        Ok(()) => Status::Done,
+        Err(_) => Status::WriteFault,
+    }
+}
+
+/// Writes what the mode says of a run.
+fn write_output<K: Sink>(
+    sink: &mut K,
+    settings: Settings,
+    trace: &Trace,
+    ran: &Ran,
+    lines: &[ShardLine],
+) -> Status
+    requires parsed_for { settings.shards ≡ trace.now.shards }
+    requires run { IsRunOf (trace_in trace.now) settings.shards settings.pages ran.now lines.now }
+    ensures written { (text : List ℕ) × IsOutput settings.mode (view settings) (trace_in trace.now) ran.now text
+        × EndsOutput result (K.written sink.old) (K.written sink.new) text }
+    ensures fault { result ≡ Status.WriteFault → Rose (K.faults sink.old) (K.faults sink.new) }
+{
+    trace.commands();
+    replies_hold_what_was_put();
+    a_report_has_its_lines();
+    answers_are_read_by_command();
+    match settings.mode {
+        Mode::Run | Mode::Sim => report_run(sink, settings, trace, ran, lines),
+        Mode::Gen => summarize_run(sink, settings, trace, ran, lines),
+    }
+}
+
+/// The order of turns that the settings ask for.
+fn order_of(settings: Settings) -> Order {
+    match settings.mode {
+        Mode::Run => Order::Threads,
+        Mode::Sim | Mode::Gen => Order::Numbered(settings.number),
+    }
+}
+
+/// Runs a trace of these bytes, and writes what came of it, or the refusal.
+fn run_bytes<R, K, G>(
+    rt: &R,
+    alloc: Global,
+    settings: Settings,
+    bytes: Vec<u8>,
+    sink: &mut K,
+    gates: &G,
+) -> Outcome
+where
+    R: Threads + Wait + Sync,
+    K: Sink,
+    G: Gates,
+    requires short { length bytes.items ≤ MOST_BYTES }
+    requires some { 1 ≤ settings.shards }
+    requires most { settings.shards ≤ most_shards }
+    requires pages { ArePages settings.pages }
+    ensures ending { EndsRun (view settings) result.status result.ran bytes.items (K.written sink.old) (K.written sink.new) }
+    ensures fault { result.status ≡ Status.WriteFault → Rose (K.faults sink.old) (K.faults sink.new) }
+{
     match parse(alloc, bytes, settings.shards) {
-        Ok(trace) => match do_all(alloc, &trace, settings.pages) {
-            Ok(finished) => report_finished(sink, &trace, settings.pages, finished),
-            Err(_) => Status::Memory,
+        Ok(trace) => match run_trace(
+            rt,
+            alloc,
+            &trace,
+            settings.shards,
+            settings.pages,
+            order_of(settings),
+            gates,
+        ) {
+            Ok(run) => Outcome {
+                status: write_output(sink, settings, &trace, &run.ran, run.lines.as_slice()),
+                ran: Some(run.ran),
+            },
+            Err(_) => Outcome::without_run(Status::Memory),
         },
-        Err(ParseRefusal::Trace { line, cause }) => refuse(alloc, sink, line, cause),
-        Err(ParseRefusal::Memory) => Status::Memory,
+        Err(ParseRefusal::Trace { line, cause }) => {
+            Outcome::without_run(refuse(alloc, sink, line, cause))
+        }
+        Err(ParseRefusal::Memory) => Outcome::without_run(Status::Memory),
     }
 }
 
@@ -101,72 +197,134 @@ fn read_trace<S: Source>(alloc: Global, source: &mut S) -> Result<Vec<u8>, ReadS
 }
 
 /// Reads a trace from the source to its end and runs it.
-fn read_and_run<S: Source, K: Sink>(
+fn read_and_run<R, S, K, G>(
+    rt: &R,
     alloc: Global,
     settings: Settings,
     source: &mut S,
     sink: &mut K,
-) -> Status
-    requires one_shard { settings.shards ≡ 1 }
+    gates: &G,
+) -> Outcome
+where
+    R: Threads + Wait + Sync,
+    S: Source,
+    K: Sink,
+    G: Gates,
+    requires reads { Reads settings.mode }
+    requires some { 1 ≤ settings.shards }
+    requires most { settings.shards ≤ most_shards }
     requires pages { ArePages settings.pages }
-    ensures table { (words : List (List ℕ)) → settings_of words ≡ Some (view settings) → FollowsTable result words (S.left source.old) (S.left source.new) (K.written sink.old) (K.written sink.new) }
-    ensures read_fault { result ≡ Status.ReadFault → Rose (S.faults source.old) (S.faults source.new) }
-    ensures write_fault { result ≡ Status.WriteFault → Rose (K.faults sink.old) (K.faults sink.new) }
+    ensures table { (words : List (List ℕ)) → settings_of words ≡ Some (view settings)
+        → FollowsTable result.status result.ran words (S.left source.old) (S.left source.new) (K.written sink.old) (K.written sink.new) }
+    ensures read_fault { result.status ≡ Status.ReadFault → Rose (S.faults source.old) (S.faults source.new) }
+    ensures write_fault { result.status ≡ Status.WriteFault → Rose (K.faults sink.old) (K.faults sink.new) }
 {
     match read_trace(alloc, source) {
-        Ok(bytes) => run_bytes(alloc, settings, bytes, sink),
-        Err(ReadStop::Fault) => write_line(sink, b"read fault\n", Status::ReadFault),
-        Err(ReadStop::TooLong) => write_line(sink, b"refused line 0 TooLong\n", Status::Refused),
-        Err(ReadStop::Memory) => Status::Memory,
+        Ok(bytes) => run_bytes(rt, alloc, settings, bytes, sink, gates),
+        Err(ReadStop::Fault) => {
+            Outcome::without_run(write_line(sink, b"read fault\n", Status::ReadFault))
+        }
+        Err(ReadStop::TooLong) => Outcome::without_run(too_long(sink)),
+        Err(ReadStop::Memory) => Outcome::without_run(Status::Memory),
     }
 }
 
-/// The program: reads a trace from the source where the words ask for a run, runs it, and writes the report to
-/// the sink. Everything that the program prints goes there.
+/// Writes that a trace is too long.
+fn too_long<K: Sink>(sink: &mut K) -> Status
+    ensures written { EndsWith result Status.Refused (K.written sink.old) (K.written sink.new) (refusal_text TooLong) }
+    ensures cases { (result ≡ Status.Refused) ⊎ (result ≡ Status.WriteFault) }
+    ensures fault { result ≡ Status.WriteFault → Rose (K.faults sink.old) (K.faults sink.new) }
+{
+    write_line(sink, b"refused line 0 TooLong\n", Status::Refused)
+}
+
+/// Makes a trace of the number and runs it.
+fn make_and_run<R, K, G>(
+    rt: &R,
+    alloc: Global,
+    settings: Settings,
+    sink: &mut K,
+    gates: &G,
+) -> Outcome
+where
+    R: Threads + Wait + Sync,
+    K: Sink,
+    G: Gates,
+    requires mode { settings.mode ≡ Modes.Gen }
+    requires commands { settings.commands ≤ most_made_commands }
+    requires some { 1 ≤ settings.shards }
+    requires most { settings.shards ≤ most_shards }
+    requires pages { ArePages settings.pages }
+    ensures table { (words : List (List ℕ)) (source : Option (List ℕ)) → settings_of words ≡ Some (view settings)
+        → FollowsTable result.status result.ran words source source (K.written sink.old) (K.written sink.new) }
+    ensures no_read_fault { result.status ≢ Status.ReadFault }
+    ensures write_fault { result.status ≡ Status.WriteFault → Rose (K.faults sink.old) (K.faults sink.new) }
+{
+    let Ok(bytes) = make_trace(alloc, settings.number, settings.commands) else {
+        return Outcome::without_run(Status::Memory);
+    };
+    if bytes.len() > MOST_BYTES as usize {
+        return Outcome::without_run(too_long(sink));
+    }
+    run_bytes(rt, alloc, settings, bytes, sink, gates)
+}
+
+/// The program: takes a trace as the words ask, runs it on its shards, and writes what came of it to the sink. Everything that
+/// the program prints goes there.
+///
+/// | Mode | Work |
+/// |---|---|
+/// | `run` | reads the trace, runs it with each shard on a thread of its own, writes the report |
+/// | `sim` | reads the trace, runs it on one thread with the shards in an order that is drawn from `--number`, writes the report |
+/// | `gen` | makes a trace of `--commands` commands from `--number`, runs it as `sim` does, writes the summary; reads nothing |
 ///
 /// | Status | What is written |
 /// |---|---|
-/// | `Done` | the report: a legal report of the trace that was read |
+/// | `Done` | the report or the summary of legal and complete journals, which are those of `ran` |
 /// | `Usage` | `usage`, exactly where the words ask for nothing that the program does; nothing was read |
-/// | `Refused` | `refused line L CAUSE`, exactly where the bytes that were read are no trace; or `refused line 0 NotYetShards`, exactly where the words ask for more shards than one, and nothing was read |
+/// | `Refused` | `refused line L CAUSE`, exactly where the bytes that were read or made are no trace |
 /// | `ReadFault` | `read fault`, only where the source failed |
 /// | `WriteFault` | a front of what should have been written, only where the sink failed |
 /// | `Memory` | nothing, where memory ran out |
 ///
 /// The headline is the first row of the clause's table, `specs/Table.antt`.
-pub fn shardcache<R, S: Source, K: Sink>(
-    _rt: &R,
+pub fn shardcache<R, S, K, G>(
+    rt: &R,
     alloc: Global,
     words: &[String],
     source: &mut S,
     sink: &mut K,
-) -> Status
-    ensures headline { FollowsTable result (map (λ word. string_bytes word) words.now) (S.left source.old) (S.left source.new) (K.written sink.old) (K.written sink.new) }
-    ensures read_fault { result ≡ Status.ReadFault → Rose (S.faults source.old) (S.faults source.new) }
-    ensures write_fault { result ≡ Status.WriteFault → Rose (K.faults sink.old) (K.faults sink.new) }
+    gates: &G,
+) -> Outcome
+where
+    R: Threads + Wait + Sync,
+    S: Source,
+    K: Sink,
+    G: Gates,
+    ensures headline { FollowsTable result.status result.ran (map (λ word. string_bytes word) words.now) (S.left source.old) (S.left source.new) (K.written sink.old) (K.written sink.new) }
+    ensures read_fault { result.status ≡ Status.ReadFault → Rose (S.faults source.old) (S.faults source.new) }
+    ensures write_fault { result.status ≡ Status.WriteFault → Rose (K.faults sink.old) (K.faults sink.new) }
     ensures usage { settings_of (map (λ word. string_bytes word) words.now) ≡ None
-        → (result ≡ Status.Usage) ⊎ ((result ≡ Status.WriteFault) ⊎ (result ≡ Status.Memory)) }
-    ensures not_yet { (wanted : Wanted) → settings_of (map (λ word. string_bytes word) words.now) ≡ Some wanted → 1 < wanted.shards
-        → (result ≡ Status.Refused) ⊎ ((result ≡ Status.WriteFault) ⊎ (result ≡ Status.Memory)) }
+        → (result.status ≡ Status.Usage) ⊎ ((result.status ≡ Status.WriteFault) ⊎ (result.status ≡ Status.Memory)) }
 
     // Where no fault rose, a trace is run and what is no trace is refused, unless memory runs out.
     ensures accepted { (bytes : List ℕ) (wanted : Wanted) → S.left source.old ≡ Some bytes
-        → settings_of (map (λ word. string_bytes word) words.now) ≡ Some wanted → IsOk (trace_for wanted (trace_bytes wanted.mode bytes))
+        → settings_of (map (λ word. string_bytes word) words.now) ≡ Some wanted → IsOk (trace_for wanted (trace_bytes wanted.mode wanted bytes))
         → ¬ Rose (S.faults source.old) (S.faults source.new) → ¬ Rose (K.faults sink.old) (K.faults sink.new)
-        → (result ≡ Status.Done) ⊎ (result ≡ Status.Memory) }
+        → (result.status ≡ Status.Done) ⊎ (result.status ≡ Status.Memory) }
     ensures refused { (bytes : List ℕ) (wanted : Wanted) → S.left source.old ≡ Some bytes
-        → settings_of (map (λ word. string_bytes word) words.now) ≡ Some wanted → IsErr (trace_for wanted (trace_bytes wanted.mode bytes))
+        → settings_of (map (λ word. string_bytes word) words.now) ≡ Some wanted → IsErr (trace_for wanted (trace_bytes wanted.mode wanted bytes))
         → ¬ Rose (S.faults source.old) (S.faults source.new) → ¬ Rose (K.faults sink.old) (K.faults sink.new)
-        → (result ≡ Status.Refused) ⊎ (result ≡ Status.Memory) }
+        → (result.status ≡ Status.Refused) ⊎ (result.status ≡ Status.Memory) }
 {
     let Ok(found) = settings_of(alloc, words) else {
-        return Status::Memory;
+        return Outcome::without_run(Status::Memory);
     };
     let Some(settings) = found else {
-        return write_line(sink, b"usage\n", Status::Usage);
+        return Outcome::without_run(write_line(sink, b"usage\n", Status::Usage));
     };
-    if settings.shards > 1 {
-        return write_line(sink, b"refused line 0 NotYetShards\n", Status::Refused);
+    match settings.mode {
+        Mode::Run | Mode::Sim => read_and_run(rt, alloc, settings, source, sink, gates),
+        Mode::Gen => make_and_run(rt, alloc, settings, sink, gates),
     }
-    read_and_run(alloc, settings, source, sink)
 }

@@ -1,72 +1,175 @@
-//! One shard does every command of a trace.
-ghost use Rattle.std.specs.Prelude.{◌≡◌, IfOk};
-ghost use Rattle.foreign_list.specs.OwnerSeats.{IsAtRest};
+//! A run of a trace on all shards.
+ghost use Rattle.std.specs.Prelude.{◌≡◌, ◌+◌, ◌<◌, ◌≤◌, [], length, map, vec_capacity, All, IfOk, IfErr};
 ghost use Rattle.layout.specs.Sizes.{ArePages};
 ghost use Rattle.trace_text.specs.Parsed.{trace_in};
-ghost use Rattle.shardcache.specs.inside.Finished.{IsRunOf};
+ghost use Rattle.trace_text.specs.Parts.{most_shards};
+ghost use Rattle.shard_rings.specs.Links.{end_of};
+ghost use Rattle.shard_node.specs.Standing.{InStanding};
+ghost use Rattle.shard_node.specs.Turns.{IsDone, IsSameNode};
+ghost use Rattle.shard_drive.specs.Drives.{AtEach, ring_traffic};
+ghost use Rattle.shard_run.specs.Opening.{AreAtRest};
+ghost use Rattle.shardcache.specs.inside.Finished.{IsRunOf, line_of};
 
-mod parts;
-mod shard;
 #[cfg(test)]
 mod tests;
 
-use cache_model::{
-    a_report_has_its_lines, logs_hold_the_answers, one_shard_answers_alone,
-    replies_hold_what_was_put,
-};
+use cache_model::logs_hold_the_answers;
 use foreign_list::{Foreign, OwnerSeat};
-use run_log::{Journal, ReplyLog};
-use shard::Shard;
+use report_text::ShardLine;
+use shard_drive::{drive_numbered, drive_threads};
+use shard_node::{Gate, Gates, Node, Ran};
+use shard_rings::RingLink;
+use shard_run::{Ended, Occupancy, Remains, close_lists, finish_run, open_lists, open_nodes};
 use std::alloc::{AllocError, Global};
+use std::sync::Wait;
+use std::thread::Threads;
 use trace_text::Trace;
 
-/// What a shard leaves when every command is done.
+/// In which order the shards make their turns.
+#[derive(Clone, Copy, Debug, PartialEq, Eq)]
+pub enum Order {
+    /// Each on a thread of its own.
+    Threads,
+    /// One turn after the other on one thread, the next shard drawn from this number.
+    Numbered(u32),
+}
+
+/// What the shards leave when every command is done.
 #[derive(Drop)]
-pub struct Finished {
-    pub journal: Journal,
-    pub log: ReplyLog,
-    pub rows: u32,
-    pub live: u64,
+pub struct Run {
+    pub ran: Ran,
+    pub lines: Vec<ShardLine>,
 }
 
-/// Does every command of a trace in turn, on one shard of so many pages. Opening it takes all the memory: where that is not
-/// found, nothing was done.
-pub fn do_all(alloc: Global, trace: &Trace, pages: u32) -> Result<Finished, AllocError>
-    requires pages { ArePages pages }
-    requires one_shard { trace.now.shards ≡ 1 }
-    ensures { IfOk result (λ finished.
-        IsRunOf (trace_in trace.now) pages finished.journal.entries finished.log.replies finished.rows finished.live) }
+/// The lines of the report that say what the shards came to. There is room for them.
+fn lines_of(occupancies: Vec<Occupancy>, mut lines: Vec<ShardLine>) -> Vec<ShardLine>
+    requires none { lines.items ≡ [] }
+    requires room { length occupancies.items ≤ vec_capacity lines }
+    ensures { result.items ≡ map line_of occupancies.items }
 {
-    let (home, seat) = Foreign::new(alloc, 0)?;
-    let (finished, seat) = do_on(alloc, trace, pages, &home, seat)?;
-    home.close(seat);
-    Ok(finished)
+    for occupancy in occupancies {
+        lines.push(line_of(occupancy)).unwrap();
+    }
+    lines
 }
 
-/// The same, over this list, whose seat is handed back.
-fn do_on(
+fn line_of(occupancy: Occupancy) -> ShardLine
+    ensures { result ≡ line_of occupancy }
+{
+    ShardLine {
+        rows: occupancy.rows,
+        live: occupancy.live,
+        lent: occupancy.lent,
+        back: occupancy.back,
+    }
+}
+
+/// Drives the nodes of all shards until they are done.
+fn drive<'f, R, G>(rt: &R, nodes: &mut [Node<'f, RingLink<'f>, G>], order: Order)
+where
+    R: Threads + Wait + Sync,
+    G: Gate + Send + Drop,
+    requires some { 0 < length nodes.old }
+    requires most { length nodes.old ≤ most_shards }
+    requires standing { All (InStanding ring_traffic) nodes.old }
+    ensures standing { All (InStanding ring_traffic) nodes.new }
+    ensures done { All (IsDone ring_traffic G.holds) nodes.new }
+    ensures same { AtEach (λ _. IsSameNode end_of) nodes.old nodes.new }
+{
+    match order {
+        Order::Threads => drive_threads(rt, nodes),
+        Order::Numbered(number) => drive_numbered(rt, nodes, number),
+    }
+}
+
+/// The same over these lists, whose seats are handed back.
+///
+/// # Errors
+/// Want of memory; the seats are handed back.
+fn run_over<'f, R, G>(
+    rt: &R,
+    alloc: Global,
+    trace: &'f Trace,
+    shards: u32,
+    pages: u32,
+    order: Order,
+    gates: &G,
+    homes: &'f [Foreign],
+    seats: Vec<OwnerSeat>,
+) -> Result<(Run, Vec<OwnerSeat>), Vec<OwnerSeat>>
+where
+    R: Threads + Wait + Sync,
+    G: Gates,
+    requires parsed_for { shards ≡ trace.now.shards }
+    requires pages { ArePages pages }
+    requires seats { AreAtRest shards homes.now seats.items }
+    ensures run { IfOk result (λ did. IsRunOf (trace_in trace.now) shards pages did.0.ran did.0.lines.items) }
+    ensures rest { IfOk result (λ did. AreAtRest shards homes.now did.1.items) }
+    ensures refused { IfErr result (λ back. AreAtRest shards homes.now back.items) }
+{
+    trace.commands();
+    logs_hold_the_answers();
+    let Ok(remains) = Remains::new(alloc, shards) else {
+        return Err(seats);
+    };
+    let Ok(lines) = Vec::with_capacity(alloc, shards as usize) else {
+        return Err(seats);
+    };
+    let mut nodes = open_nodes(alloc, trace, pages, homes, seats, gates)?;
+    drive(rt, nodes.as_mut_slice(), order);
+    let Ended {
+        ran,
+        occupancies,
+        seats,
+    } = finish_run(trace, nodes, remains);
+    Ok((
+        Run {
+            ran,
+            lines: lines_of(occupancies, lines),
+        },
+        seats,
+    ))
+}
+
+/// Runs a trace on its shards, each of so many pages.
+///
+/// # Errors
+/// Want of memory, which is all taken before the first turn; then nothing was done.
+pub fn run_trace<R, G>(
+    rt: &R,
     alloc: Global,
     trace: &Trace,
+    shards: u32,
     pages: u32,
-    home: &Foreign,
-    seat: OwnerSeat,
-) -> Result<(Finished, OwnerSeat), AllocError>
+    order: Order,
+    gates: &G,
+) -> Result<Run, AllocError>
+where
+    R: Threads + Wait + Sync,
+    G: Gates,
+    requires parsed_for { shards ≡ trace.now.shards }
     requires pages { ArePages pages }
-    requires one_shard { trace.now.shards ≡ 1 }
-    requires owner { home.now.owner ≡ 0 }
-    requires seat { IsAtRest home.now seat }
-    ensures run { IfOk result (λ did.
-        IsRunOf (trace_in trace.now) pages did.0.journal.entries did.0.log.replies did.0.rows did.0.live) }
-    ensures seat { IfOk result (λ did. IsAtRest home.now did.1) }
+    ensures { IfOk result (λ run. IsRunOf (trace_in trace.now) shards pages run.ran run.lines.items) }
 {
-    let commands = trace.commands();
-    let mut shard = Shard::open(alloc, trace, pages, home, seat)?;
-    for command in commands {
-        shard.do_command(trace, command);
+    let (homes, seats) = open_lists(alloc, shards)?;
+    match run_over(
+        rt,
+        alloc,
+        trace,
+        shards,
+        pages,
+        order,
+        gates,
+        homes.as_slice(),
+        seats,
+    ) {
+        Ok((run, seats)) => {
+            close_lists(homes, seats);
+            Ok(run)
+        }
+        Err(seats) => {
+            close_lists(homes, seats);
+            Err(AllocError)
+        }
     }
-    replies_hold_what_was_put();
-    a_report_has_its_lines();
-    one_shard_answers_alone();
-    logs_hold_the_answers();
-    Ok(shard.finish())
 }

@@ -2,7 +2,8 @@
 ghost use Rattle.std.specs.Prelude.{◌≡◌, ◌≤◌, IfOk, IfSome, map, option_map, string_bytes};
 ghost use Rattle.layout.specs.Sizes.{ArePages};
 ghost use Rattle.clap.specs.Words.{first_of, found_of, rows_of};
-ghost use Rattle.shardcache.specs.Settings.{settings, settings_in, view};
+ghost use Rattle.trace_text.specs.Parts.{most_shards};
+ghost use Rattle.shardcache.specs.Settings.{most_made_commands, settings, settings_in, view};
 
 mod command;
 mod mode;
@@ -56,7 +57,8 @@ fn value_of<'a>(matches: &ArgMatches<'a>, name: &str) -> Option<&'a str>
 fn settings_in(matches: &ArgMatches<'_>) -> Option<Settings>
     ensures value { option_map view result ≡ settings_in (rows_of (found_of matches.now)) }
     ensures pages { IfSome result (λ found. ArePages found.pages) }
-    ensures shards { IfSome result (λ found. 1 ≤ found.shards) }
+    ensures shards { IfSome result (λ found. (1 ≤ found.shards) × (found.shards ≤ most_shards)) }
+    ensures commands { IfSome result (λ found. found.commands ≤ most_made_commands) }
 {
     let mode = mode_of(value_of(matches, "mode")?)?;
     let shards = number_within(value_of(matches, "shards"), 1, MOST_SHARDS, 1)?;
@@ -82,7 +84,7 @@ fn settings_in(matches: &ArgMatches<'_>) -> Option<Settings>
 ///
 /// | Word | Limits | Where it is absent |
 /// |---|---|---|
-/// | a mode | `run` | refused |
+/// | a mode | `run`, `sim` or `gen` | refused |
 /// | `--shards N` | 1 to 16 | 1 |
 /// | `--pages N` | 1,280 to 65,536, a multiple of 32, and at most 262,144 of all shards | 8,192 |
 /// | `--number N` | 0 to 4,294,967,295 | 0 |
@@ -97,7 +99,8 @@ fn settings_in(matches: &ArgMatches<'_>) -> Option<Settings>
 pub fn settings_of(alloc: Global, words: &[String]) -> Result<Option<Settings>, AllocError>
     ensures settings { IfOk result (λ found. option_map view found ≡ settings (map (λ word. string_bytes word) words.now)) }
     ensures pages { IfOk result (λ found. IfSome found (λ some. ArePages some.pages)) }
-    ensures shards { IfOk result (λ found. IfSome found (λ some. 1 ≤ some.shards)) }
+    ensures shards { IfOk result (λ found. IfSome found (λ some. (1 ≤ some.shards) × (some.shards ≤ most_shards))) }
+    ensures commands { IfOk result (λ found. IfSome found (λ some. some.commands ≤ most_made_commands)) }
 {
     match command(alloc)?.try_get_matches_from(words) {
         Ok(matches) => Ok(settings_in(&matches)),

@@ -1,12 +1,16 @@
 mod evictions;
+mod shards;
 
 use super::*;
 use outside::{MemorySink, MemorySource};
 use std::alloc::{AllocError, Global};
+use std::sync::Wait;
 use std::test::Fail;
+use std::thread::Threads;
 
 /// What the program answers and writes to a sink of so much room.
-fn answer(
+fn answer<R: Threads + Wait + Sync>(
+    rt: &R,
     alloc: Global,
     words: &[&str],
     input: &[u8],
@@ -20,8 +24,15 @@ fn answer(
     let bytes = Vec::from_slice(alloc, input)?;
     let mut source = MemorySource::new(bytes, 65_536, Vec::from_slice(alloc, failing)?);
     let mut sink = MemorySink::new(alloc, room)?;
-    let status = shardcache(&(), alloc, texts.as_slice(), &mut source, &mut sink);
-    Ok((status, Vec::from_slice(alloc, sink.bytes())?))
+    let outcome = shardcache(
+        rt,
+        alloc,
+        texts.as_slice(),
+        &mut source,
+        &mut sink,
+        &OpenGates,
+    );
+    Ok((outcome.status, Vec::from_slice(alloc, sink.bytes())?))
 }
 
 #[test]
@@ -62,7 +73,7 @@ fn a_trace_is_run_and_reported(rt: HostRuntime) -> Result<(), Fail> {
         ),
     ];
     for (input, report) in rows {
-        let (status, text) = answer(rt.alloc(), &["run"], input, &[], 4096)?;
+        let (status, text) = answer(&rt, rt.alloc(), &["run"], input, &[], 4096)?;
         assert!(rt; status == Status::Done);
         assert!(rt; text.as_slice() == report);
     }
@@ -103,7 +114,7 @@ fn a_line_that_is_no_command_is_refused(rt: HostRuntime) -> Result<(), Fail> {
         ("get a\r\nget b\r\nget", "refused line 3 MissingField\n"),
     ];
     for (input, refusal) in rows {
-        let (status, text) = answer(rt.alloc(), &["run"], input.as_bytes(), &[], 4096)?;
+        let (status, text) = answer(&rt, rt.alloc(), &["run"], input.as_bytes(), &[], 4096)?;
         assert!(rt; status == Status::Refused, "{input:?}");
         assert!(rt; text.as_slice() == refusal.as_bytes(), "{input:?}");
     }
@@ -149,7 +160,7 @@ fn a_key_and_a_value_have_limits(rt: HostRuntime) -> Result<(), Fail> {
         (255, b'k', 11_999, 1, "refused line 1 ValueByte\n"),
     ] {
         let line = put_line(rt.alloc(), key, key_end, value, value_end)?;
-        let (_, text) = answer(rt.alloc(), &["run"], line.as_slice(), &[], 4096)?;
+        let (_, text) = answer(&rt, rt.alloc(), &["run"], line.as_slice(), &[], 4096)?;
         assert!(rt; text.as_slice() == want.as_bytes(), "{want}");
     }
     Ok(())
@@ -159,7 +170,7 @@ fn a_key_and_a_value_have_limits(rt: HostRuntime) -> Result<(), Fail> {
 fn words_and_devices_have_their_answers(rt: HostRuntime) -> Result<(), Fail> {
     let input = b"put a abc\nget a\n";
     let report = "1 stored\n2 value abc\njournal 0 1 2\nshard 0 rows 1 live 48 lent 0 back 0\n";
-    let rows: [(&[&str], &[u64], usize, Status, &str); 13] = [
+    let rows: [(&[&str], &[u64], usize, Status, &str); 15] = [
         (&[], &[], 4096, Status::Usage, "usage\n"),
         (&["walk"], &[], 4096, Status::Usage, "usage\n"),
         (&["run", "run"], &[], 4096, Status::Usage, "usage\n"),
@@ -184,16 +195,18 @@ fn words_and_devices_have_their_answers(rt: HostRuntime) -> Result<(), Fail> {
         (&["run", "--pages=65536"], &[], 4096, Status::Done, report),
         (&["--number", "7", "run"], &[], 4096, Status::Done, report),
         (&["--commands=3", "run"], &[], 4096, Status::Done, report),
+        (&["sim", "--number", "7"], &[], 4096, Status::Done, report),
+        (&["sim"], &[2], 4096, Status::ReadFault, "read fault\n"),
         (
-            &["run", "--shards", "2"],
-            &[1],
+            &["gen", "--commands", "0"],
+            &[],
             4096,
-            Status::Refused,
-            "refused line 0 NotYetShards\n",
+            Status::Usage,
+            "usage\n",
         ),
     ];
     for (words, failing, room, wanted, written) in rows {
-        let (status, text) = answer(rt.alloc(), words, input, failing, room)?;
+        let (status, text) = answer(&rt, rt.alloc(), words, input, failing, room)?;
         assert!(rt; status == wanted, "{words:?}");
         assert!(rt; text.as_slice() == written.as_bytes(), "{words:?}");
     }
@@ -224,7 +237,7 @@ fn a_trace_has_a_number_of_commands(rt: HostRuntime) -> Result<(), Fail> {
         (1_048_577, b"refused line 1048577 TooManyCommands\n"),
     ] {
         let bytes = many(rt.alloc(), b"get a\n", times)?;
-        let (_, text) = answer(rt.alloc(), &["run"], bytes.as_slice(), &[], 30_000_000)?;
+        let (_, text) = answer(&rt, rt.alloc(), &["run"], bytes.as_slice(), &[], 30_000_000)?;
         assert!(rt; front(text.as_slice()) == want, "{times}");
     }
     Ok(())
@@ -240,7 +253,7 @@ fn replies_have_room(rt: HostRuntime) -> Result<(), Fail> {
         (64_903, b"refused line 0 RepliesTooLarge\n"),
     ] {
         let bytes = many(rt.alloc(), b"scan a 1\n", times)?;
-        let (_, text) = answer(rt.alloc(), &["run"], bytes.as_slice(), &[], 30_000_000)?;
+        let (_, text) = answer(&rt, rt.alloc(), &["run"], bytes.as_slice(), &[], 30_000_000)?;
         assert!(rt; front(text.as_slice()) == want, "{times}");
     }
     Ok(())
@@ -256,7 +269,7 @@ fn a_trace_has_a_length(rt: HostRuntime) -> Result<(), Fail> {
         (67_108_865, "refused line 0 TooLong\n"),
     ] {
         let comment = vec![in rt.alloc(); b'#'; length]?;
-        let (_, text) = answer(rt.alloc(), &["run"], comment.as_slice(), &[], 4096)?;
+        let (_, text) = answer(&rt, rt.alloc(), &["run"], comment.as_slice(), &[], 4096)?;
         assert!(rt; text.as_slice() == want.as_bytes(), "{length}");
     }
     Ok(())

@@ -1,21 +1,30 @@
--- What one shard did with a trace.
-use Rattle.std.specs.Prelude.{◌≡◌, ℕ, ◌+◌, List, [], ◌∷◌, length, Option, Some}
+-- What the shards did with a trace.
+use Rattle.std.specs.Prelude.{◌≡◌, ℕ, ◌+◌, ◌<◌, List, length, map}
+use Rattle.std.specs.List.{enumerate_from, slice_index_or}
+use Rattle.layout.specs.Sizes.{dense}
 use Rattle.trace_text.specs.Trace.{Trace}
 use Rattle.cache_model.specs.declared.entry.Entry.{Entry}
-use Rattle.cache_model.specs.declared.reply_kind.ReplyKind.{ReplyKind}
-use Rattle.layout.specs.Sizes.{dense}
-use Rattle.cache_model.specs.Row.{Row, live, tight_floor}
-use Rattle.cache_model.specs.Legal.{cache_after, EvictsAbove}
+use Rattle.cache_model.specs.Row.{tight_floor}
+use Rattle.cache_model.specs.Legal.{EvictsAbove, IsComplete, IsLegal}
 use Rattle.cache_model.specs.Logged.{AreLogged}
-use Rattle.cache_model.specs.Report.{IsReportOf, answers, report}
+use Rattle.cache_model.specs.Report.{answers, occupancy}
+use Rattle.report_text.specs.Views.{journals_in, occupancies_in, replies_in}
+use Rattle.report_text.specs.declared.shard_line.ShardLine.{ShardLine}
+use Rattle.shard_node.specs.Rans.{RanState}
+use Rattle.shard_run.specs.declared.remains.Occupancy.{Occupancy}
 
--- The journal of one shard of so many pages is legal and complete, the log has the answers, and these are the
--- rows and the live bytes of the last cache.
-pub record IsRunOf (trace : Trace) (pages : ℕ) (journal : List Entry) (log : List (Option (ReplyKind × List ℕ))) (row_count live_bytes : ℕ) : Type 0 where
-  pub cache : List Row
-  pub legal : cache_after trace pages journal ≡ Some cache
-  pub report : IsReportOf trace 1 pages (report trace 1 pages (journal ∷ [])) (journal ∷ [])
-  pub evicts : EvictsAbove trace pages (tight_floor pages 0 + dense) journal
-  pub logged : AreLogged trace 1 (log ∷ []) (answers trace 1 pages (journal ∷ []))
-  pub rows : row_count ≡ length cache
-  pub live : live_bytes ≡ live cache
+-- what the report says of what a shard came to
+abbrev pub line_of : Occupancy → ShardLine
+line_of occupancy = record { rows = occupancy.rows; live = occupancy.live; lent = occupancy.lent; back = occupancy.back }
+
+-- The journals of n shards of so many pages are legal and complete, the logs have the answers, and the lines say what is in the last
+-- caches, and the blocks that were lent and came back.
+pub record IsRunOf (trace : Trace) (n pages : ℕ) (ran : RanState) (lines : List ShardLine) : Type 0 where
+  pub journal_each : length ran.journals ≡ n
+  pub log_each : length ran.logs ≡ n
+  pub line_each : length lines ≡ n
+  pub legal : (s : ℕ) (d : List Entry) → s < n → IsLegal trace pages (slice_index_or (journals_in ran.journals) s d)
+  pub complete : (s : ℕ) (d : List Entry) → s < n → IsComplete trace n s (slice_index_or (journals_in ran.journals) s d)
+  pub logged : AreLogged trace n (replies_in ran.logs) (answers trace n pages (journals_in ran.journals))
+  pub occupied : occupancies_in lines ≡ map (occupancy trace n pages) (enumerate_from 0 (journals_in ran.journals))
+  pub evicts : n ≡ 1 → (d : List Entry) → EvictsAbove trace pages (tight_floor pages 0 + dense) (slice_index_or (journals_in ran.journals) 0 d)

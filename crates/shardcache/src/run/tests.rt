@@ -2,13 +2,14 @@
 //! that the log has.
 ghost use Rattle.std.specs.Prelude.{◌≡◌, IfOk, IfSome};
 
-use super::{Finished, do_all};
+use super::{Order, Run, run_trace};
 use plain_cache::{Entry, Plain, ReplyLog};
 use rand_core::utils::NextWord;
 use rand_pcg::Lcg64Xsh32;
+use shard_node::OpenGates;
 use std::alloc::{AllocError, Global};
 use std::test::Fail;
-use trace_text::{Trace, parse};
+use trace_text::{Kind, MOST_SHARDS, Trace, parse};
 
 const PAGES: u32 = 1280;
 
@@ -48,9 +49,14 @@ fn command_line(
     Vec::from_slice(alloc, text.as_bytes())
 }
 
-/// A trace of so many commands, which are drawn.
-fn drawn_trace(alloc: Global, lengths: Lengths, commands: u32) -> Result<Option<Trace>, AllocError>
-    ensures { IfOk result (λ drawn. IfSome drawn (λ trace. trace.shards ≡ 1)) }
+/// A trace of so many commands for so many shards, which are drawn.
+fn drawn_trace(
+    alloc: Global,
+    shards: u32,
+    lengths: Lengths,
+    commands: u32,
+) -> Result<Option<Trace>, AllocError>
+    ensures { IfOk result (λ drawn. IfSome drawn (λ trace. trace.shards ≡ shards)) }
 {
     let mut words = Lcg64Xsh32::new(7, 1);
     let mut bytes = Vec::new(alloc);
@@ -59,68 +65,160 @@ fn drawn_trace(alloc: Global, lengths: Lengths, commands: u32) -> Result<Option<
         bytes.extend_from_slice(line.as_slice())?;
         bytes.push(b'\n')?;
     }
-    if bytes.len() > 67_108_864 {
+    if bytes.len() > 67_108_864 || shards == 0 || shards > MOST_SHARDS {
         return Ok(None);
     }
-    Ok(parse(alloc, bytes, 1).ok())
+    Ok(parse(alloc, bytes, shards).ok())
 }
 
-/// Does a command on a plain cache, and tells whether the log has the same reply.
-fn replies_the_same(
+/// For each command the place of its first part in the log of its origin: behind the parts that were issued there before, one for
+/// each shard of a scan and one of another command.
+fn first_parts(alloc: Global, trace: &Trace, shards: u32) -> Result<Vec<u32>, AllocError> {
+    let mut places = [0u32; MOST_SHARDS as usize];
+    let mut firsts = Vec::new(alloc);
+    for (index, command) in trace.commands().iter().enumerate() {
+        let origin = index % shards.max(1) as usize;
+        let parts = if command.kind == Kind::Scan {
+            shards
+        } else {
+            1
+        };
+        if let Some(place) = places.get_mut(origin) {
+            firsts.push(*place)?;
+            *place = place.wrapping_add(parts);
+        }
+    }
+    Ok(firsts)
+}
+
+/// What a shard did is judged by a plain cache.
+#[derive(Drop)]
+struct Judge<'a> {
+    trace: &'a Trace,
+    shards: u32,
+    shard: u32,
+    firsts: &'a [u32],
+    logs: &'a [ReplyLog],
+    plain: Plain,
+}
+
+impl<'a> Judge<'a> {
+    /// Does a command on the plain cache, and tells whether the log of its origin has the same reply.
+    fn replies_the_same(&mut self, alloc: Global, number: u32) -> Result<bool, AllocError> {
+        let index = number.wrapping_sub(1) as usize;
+        let trace = self.trace;
+        let Some(command) = trace.commands().get(index) else {
+            return Ok(false);
+        };
+        if self.plain.rows() == u32::MAX {
+            return Ok(false);
+        }
+        let mut body = Vec::new(alloc);
+        let kind = self.plain.apply(alloc, trace, command, &mut body)?;
+        let behind = if command.kind == Kind::Scan {
+            self.shard
+        } else {
+            0
+        };
+        let Some(first) = self.firsts.get(index).copied() else {
+            return Ok(false);
+        };
+        let Some(log) = self.logs.get(index % self.shards.max(1) as usize) else {
+            return Ok(false);
+        };
+        match log.reply(first.wrapping_add(behind)) {
+            Some((logged, bytes)) => Ok(logged == kind && bytes == body.as_slice()),
+            None => Ok(false),
+        }
+    }
+
+    /// The same for each entry of a journal; an eviction is made where it is legal.
+    fn accepts(&mut self, alloc: Global, entries: &[Entry]) -> Result<bool, AllocError> {
+        for entry in entries {
+            let same = match entry {
+                Entry::Evicted(put) => self.plain.evict(*put),
+                Entry::Done(number) => self.replies_the_same(alloc, *number)?,
+            };
+            if !same {
+                return Ok(false);
+            }
+        }
+        Ok(true)
+    }
+}
+
+/// Whether a plain cache does the same as a shard, entry by entry.
+fn is_the_same(
     alloc: Global,
-    plain: &mut Plain,
     trace: &Trace,
-    number: u32,
-    log: &ReplyLog,
+    shards: u32,
+    shard: u32,
+    firsts: &[u32],
+    run: &Run,
 ) -> Result<bool, AllocError> {
-    let part = number.wrapping_sub(1);
-    let Some(command) = trace.commands().get(part as usize) else {
+    let (journals, logs) = (run.ran.journals(), run.ran.logs());
+    let mut judge = Judge {
+        trace,
+        shards,
+        shard,
+        firsts,
+        logs,
+        plain: Plain::new(alloc, PAGES)?,
+    };
+    let (Some(journal), Some(line)) = (journals.get(shard as usize), run.lines.get(shard as usize))
+    else {
         return Ok(false);
     };
-    if plain.rows() == u32::MAX {
-        return Ok(false);
-    }
-    let mut body = Vec::new(alloc);
-    let kind = plain.apply(alloc, trace, command, &mut body)?;
-    match log.reply(part) {
-        Some((logged, bytes)) => Ok(logged == kind && bytes == body.as_slice()),
-        None => Ok(false),
-    }
+    let accepted = judge.accepts(alloc, journal.entries())?;
+    Ok(accepted && judge.plain.rows() == line.rows && judge.plain.live() == line.live)
 }
 
-/// Whether a plain cache does the same, entry by entry.
-fn is_the_same(alloc: Global, trace: &Trace, finished: &Finished) -> Result<bool, AllocError> {
-    let mut plain = Plain::new(alloc, PAGES)?;
-    for entry in finished.journal.entries() {
-        let same = match entry {
-            Entry::Evicted(put) => plain.evict(*put),
-            Entry::Done(number) => {
-                replies_the_same(alloc, &mut plain, trace, *number, &finished.log)?
-            }
-        };
-        if !same {
+/// The same of every shard.
+fn are_the_same(alloc: Global, trace: &Trace, shards: u32, run: &Run) -> Result<bool, AllocError> {
+    let firsts = first_parts(alloc, trace, shards)?;
+    for shard in 0..shards {
+        if !is_the_same(alloc, trace, shards, shard, firsts.as_slice(), run)? {
             return Ok(false);
         }
     }
-    Ok(plain.rows() == finished.rows && plain.live() == finished.live)
+    Ok(true)
+}
+
+/// How many rows were evicted: the entries of all journals that are none of a part done.
+fn evictions(run: &Run) -> usize {
+    let mut evicted = 0usize;
+    for journal in run.ran.journals() {
+        for entry in journal.entries() {
+            if matches!(entry, Entry::Evicted(_)) {
+                evicted = evicted.wrapping_add(1);
+            }
+        }
+    }
+    evicted
 }
 
 #[test]
 fn a_plain_cache_evicts_and_replies_the_same(rt: HostRuntime) -> Result<(), Fail> {
-    for (lengths, commands) in [
-        (Lengths::One, 12_000),
-        (Lengths::Alternating, 4_000),
-        (Lengths::Random, 4_000),
+    for (shards, lengths, commands) in [
+        (1, Lengths::One, 12_000),
+        (1, Lengths::Alternating, 4_000),
+        (1, Lengths::Random, 4_000),
+        (2, Lengths::One, 20_000),
+        (3, Lengths::One, 20_000),
+        (4, Lengths::Random, 8_000),
+        (7, Lengths::One, 20_000),
+        (16, Lengths::One, 20_000),
     ] {
-        let trace = drawn_trace(rt.alloc(), lengths, commands)?.ok_or("no trace")?;
-        let finished = do_all(rt.alloc(), &trace, PAGES)?;
-        let evictions = finished
-            .journal
-            .entries()
-            .len()
-            .wrapping_sub(commands as usize);
-        assert!(rt; evictions > 500, "{lengths:?} {evictions}");
-        assert!(rt; is_the_same(rt.alloc(), &trace, &finished)?, "{lengths:?}");
+        let alloc = rt.alloc();
+        let trace = drawn_trace(alloc, shards, lengths, commands)?.ok_or("no trace")?;
+        for order in [Order::Threads, Order::Numbered(3)] {
+            let run = run_trace(&rt, alloc, &trace, shards, PAGES, order, &OpenGates)?;
+            assert!(rt; shards > 1 || evictions(&run) > 500, "{lengths:?}");
+            assert!(rt;
+                are_the_same(alloc, &trace, shards, &run)?,
+                "{shards} {lengths:?}"
+            );
+        }
     }
     Ok(())
 }

@@ -87,8 +87,8 @@ fn other_words_are_refused(rt: HostRuntime) -> Result<(), Fail> {
         "run --number 4294967296",
         "run --number 9999999999",
         "run -- --shards 2",
-        "sim",
-        "gen",
+        "simulate",
+        "generate",
         "help",
         "--shards 2",
     ];

@@ -3,7 +3,9 @@
 use super::answer;
 use crate::Status;
 use std::alloc::{AllocError, Global};
+use std::sync::Wait;
 use std::test::Fail;
+use std::thread::Threads;
 
 /// So many letters x.
 fn letters(alloc: Global) -> Result<Vec<u8>, AllocError> {
@@ -60,9 +62,13 @@ fn ending(
 }
 
 /// What a run of 1,280 pages writes.
-fn run(alloc: Global, lines: &Vec<u8>) -> Result<(Status, Vec<u8>), AllocError> {
+fn run<R: Threads + Wait + Sync>(
+    rt: &R,
+    alloc: Global,
+    lines: &Vec<u8>,
+) -> Result<(Status, Vec<u8>), AllocError> {
     let words = ["run", "--pages", "1280"];
-    answer(alloc, words.as_slice(), lines.as_slice(), &[], 65_536)
+    answer(rt, alloc, words.as_slice(), lines.as_slice(), &[], 65_536)
 }
 
 #[test]
@@ -71,13 +77,13 @@ fn the_row_used_longest_ago_goes_at_the_391st_put(rt: HostRuntime) -> Result<(),
     let mut text = Vec::new(alloc);
     answers(alloc, &mut text, 1, 391, "stored")?;
     ending(alloc, &mut text, 390, " !1 391", 390, 4_698_720)?;
-    let (status, written) = run(alloc, &puts(alloc, 391)?)?;
+    let (status, written) = run(&rt, alloc, &puts(alloc, 391)?)?;
     assert!(rt; status == Status::Done && written.as_slice() == text.as_slice());
 
     // The row that went is put again: it is stored, and replaces nothing.
     let mut lines = puts(alloc, 390)?;
     put_letters(alloc, &mut lines, "k001")?;
-    let (status, written) = run(alloc, &lines)?;
+    let (status, written) = run(&rt, alloc, &lines)?;
     assert!(rt; status == Status::Done && written.as_slice() == text.as_slice());
     Ok(())
 }
@@ -94,7 +100,7 @@ fn a_row_that_went_is_missing_and_the_next_is_there(rt: HostRuntime) -> Result<(
     text.push(b'\n')?;
     let more = " !1 391 !2 392 393 394";
     ending(alloc, &mut text, 390, more, 390, 4_698_720)?;
-    let (status, written) = run(alloc, &lines)?;
+    let (status, written) = run(&rt, alloc, &lines)?;
     assert!(rt; status == Status::Done && written.as_slice() == text.as_slice());
     Ok(())
 }
@@ -110,7 +116,7 @@ fn a_row_that_is_replaced_leaves_room(rt: HostRuntime) -> Result<(), Fail> {
     answers(alloc, &mut text, 1, 1, "stored")?;
     answers(alloc, &mut text, 2, 1000, "replaced")?;
     ending(alloc, &mut text, 1000, "", 1, 12_048)?;
-    let (status, written) = run(alloc, &lines)?;
+    let (status, written) = run(&rt, alloc, &lines)?;
     assert!(rt; status == Status::Done && written.as_slice() == text.as_slice());
     Ok(())
 }

@@ -12,7 +12,7 @@ last c =
     let n = length c.loop-home.homes.items in
     let fewer = c.pop-in-Some.new.self.items in
     let seats : c.loop-home.seats.items ≡ fewer ++ c.unwrap.result ∷ [] =
-        subst (λ r. c.loop-home.seats.items ≡ fewer ++ option_to_list r) c.unwrap.ensures c.pop-in-Some.ensures.items in
+    subst (λ r. c.loop-home.seats.items ≡ fewer ++ option_to_list r) c.unwrap.ensures c.pop-in-Some.ensures.items in
     one_less c.pop.new.self.items fewer c.in-Some.home c.unwrap.result n
     (subst (λ h. AreAtRest n h (fewer ++ c.unwrap.result ∷ [])) c.in-Some.ensures.items (subst (AreAtRest n c.loop-home.homes.items) seats c.loop-home.invariant))
 

@@ -10,7 +10,7 @@ loop-alloc-preserved c =
     let seats = c.loop-alloc.seats.items in
     let more_homes : c.push.new.self.items ≡ homes ++ c.in-Ok.home ∷ [] = pushed homes c.push.new.self.items c.in-Ok.home c.push.result c.unwrap.result c.push.ensures.items c.unwrap.ensures in
     let more_seats : c.push-in-loop-alloc.new.self.items ≡ seats ++ c.in-Ok.seat ∷ [] =
-        pushed seats c.push-in-loop-alloc.new.self.items c.in-Ok.seat c.push-in-loop-alloc.result c.unwrap-in-loop-alloc.result c.push-in-loop-alloc.ensures.items c.unwrap-in-loop-alloc.ensures in
+    pushed seats c.push-in-loop-alloc.new.self.items c.in-Ok.seat c.push-in-loop-alloc.result c.unwrap-in-loop-alloc.result c.push-in-loop-alloc.ensures.items c.unwrap-in-loop-alloc.ensures in
     let inv = c.loop-alloc.invariant in
     let place = c.len-in-loop-alloc.ensures in
     let size = c.loop-alloc.homes.ok.0 in
@@ -23,8 +23,9 @@ loop-alloc-preserved c =
     let room = inv.2 in
     let seat_room = inv.3 in
     let grown = c.push.ensures.capacity in
-    let seats_grown = c.push-in-loop-alloc.ensures.capacity in
-    (subst (λ h. AreAtRest (length h) h c.push-in-loop-alloc.new.self.items) (sym more_homes) (subst (AreAtRest (length (homes ++ c.in-Ok.home ∷ [])) (homes ++ c.in-Ok.home ∷ [])) (sym more_seats) all),
+    let seats_grown = c.push-in-loop-alloc.ensures.capacity in (
+      subst (λ h. AreAtRest (length h) h c.push-in-loop-alloc.new.self.items) (sym more_homes) (subst (AreAtRest (length (homes ++ c.in-Ok.home ∷ [])) (homes ++ c.in-Ok.home ∷ [])) (sym more_seats) all),
       omega (arith, long, one, test, looked, size),
       omega (arith, room, grown),
-      omega (arith, seat_room, seats_grown))
+      omega (arith, seat_room, seats_grown),
+    )

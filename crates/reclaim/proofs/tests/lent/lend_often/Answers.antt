@@ -7,12 +7,13 @@ returns-then-not-lend_once-clause-stay c p row stands = c.lend_once.ensures.stay
 pub loop-preserved : goal.loop-preserved
 loop-preserved c =
     let before = c.loop.invariant.1 in
-    let once = c.lend_once.ensures.same in
-    ((λ p row stands. c.lend_once.ensures.stay p row (c.loop.invariant.0 p row stands)),
+    let once = c.lend_once.ensures.same in (
+      (λ p row stands. c.lend_once.ensures.stay p row (c.loop.invariant.0 p row stands)),
       record {
         shard = once.shard ∙ before.shard;
         pages = once.pages ∙ before.pages;
         room = once.room ∙ before.room;
         list = once.list ∙ before.list;
         guards = once.guards ∙ before.guards;
-      })
+      },
+    )

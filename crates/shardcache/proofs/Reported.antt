@@ -1,0 +1,96 @@
+-- The report of what the shards did.
+use Rattle.std.proofs.Common.{◌≡◌, ℕ, ◌+◌, ◌<◌, List, [], ◌∷◌, length, map, get_or, Option, Some, None, arith, refl, sym, ap, subst, inl, inr, ◌⊎◌, ◌∙◌}
+use Rattle.std.specs.List.{All, AllByRecursion as ByRecursion, enumerate_from, filter_map, slice_get}
+use Rattle.std.specs.Option.{option_map}
+use Rattle.std.proofs.lemmas.List.{length-map}
+use Rattle.std.proofs.lemmas.List.Elements.{All-from_recursion, All-head, All-tail}
+use Rattle.std.specs.Prelude.{Bool}
+use Rattle.trace_text.specs.Operation.{Operation}
+use Rattle.trace_text.specs.Trace.{Trace}
+use Rattle.trace_text.specs.Parsed.{IsWellFormed}
+use Rattle.cache_model.specs.declared.entry.Entry.{Entry}
+use Rattle.cache_model.specs.declared.reply_kind.ReplyKind.{ReplyKind}
+use Rattle.cache_model.specs.Answer.{answer}
+use Rattle.cache_model.specs.Apply.{Reply}
+use Rattle.cache_model.specs.Holds.{PutsHold, ReplyHolds}
+use Rattle.cache_model.specs.Logged.{AreLogged}
+use Rattle.cache_model.specs.Summary.{summary}
+use Rattle.cache_model.specs.Report.{IsReportOf, Occupancy, answers, journal_text, occupancy, report, report_of, text_lines}
+use Rattle.cache_model.specs.Unbroken.{IsUnbroken, is_unbroken}
+use Rattle.report_text.specs.Views.{journals_in, replies_in}
+use Rattle.report_text.specs.declared.shard_line.ShardLine.{ShardLine}
+use Rattle.shard_node.specs.Rans.{RanState}
+use Rattle.shardcache.specs.declared.settings.Settings.{Settings as Found}
+use Rattle.shardcache.specs.declared.settings.mode.Mode.TheVariants.{Run, Sim, Gen}
+use Rattle.shardcache.specs.Settings.{view}
+use Rattle.shardcache.specs.Table.{IsOutput, Reports}
+use Rattle.shardcache.specs.inside.Finished.{IsRunOf}
+use Rattle.shardcache.proofs.Unbroken.{key-unbroken, value-unbroken}
+
+-- the laws of answers and of reports, as their functions promise them
+pub record ReportLaws : Type 0 where
+  pub holds : (on_key on_value : List ℕ → Bool) (trace : Trace) (n pages : ℕ) (journals : List (List Entry)) (operation : Operation) (reply : Reply)
+      → PutsHold on_key on_value trace → answer trace n pages journals operation ≡ Some reply → ReplyHolds on_key on_value reply
+  pub lines : (answers : List (ℕ × Reply)) (journals : List (List Entry)) (occupancies : List Occupancy) (s : ℕ) → All (λ answer. IsUnbroken answer.1) answers
+      → s < length journals
+      → slice_get (text_lines (report_of answers journals occupancies)) (length answers + s) ≡ option_map (λ journal. journal_text (s, journal)) (slice_get journals s)
+  pub count : (trace : Trace) (n : ℕ) (logs : List (List (Option (ReplyKind × List ℕ)))) (answers : List (ℕ × Reply))
+      → AreLogged trace n logs answers → length answers ≡ length trace.operations
+
+-- the answers that there are stay on their lines
+all-unbroken : (answer_of : Operation → Option Reply) (operations : List Operation) → ((operation : Operation) (reply : Reply) → answer_of operation ≡ Some reply → IsUnbroken reply)
+    → ByRecursion (λ (given : ℕ × Reply). IsUnbroken given.1) (filter_map (λ operation. option_map (λ reply. (operation.number, reply)) (answer_of operation)) operations)
+all-unbroken answer_of [] unbroken = tt
+all-unbroken answer_of (operation ∷ operations) unbroken = go (all-unbroken answer_of operations unbroken) (answer_of operation) refl
+  where
+    go : ByRecursion (λ (given : ℕ × Reply). IsUnbroken given.1) (filter_map (λ operation. option_map (λ reply. (operation.number, reply)) (answer_of operation)) operations)
+        → (o : Option Reply) → answer_of operation ≡ o
+        → ByRecursion (λ (given : ℕ × Reply). IsUnbroken given.1) (filter_map (λ operation. option_map (λ reply. (operation.number, reply)) (answer_of operation)) (operation ∷ operations))
+    go rest None is = rw is rest
+    go rest (Some reply) is = rw is (unbroken operation reply is, rest)
+
+puts-hold : (trace : Trace) → All IsWellFormed trace.operations → PutsHold is_unbroken is_unbroken trace
+puts-hold trace formed = λ i d within is.
+    (key-unbroken (get_or trace.operations i d).key (formed i d within).key, value-unbroken (get_or trace.operations i d).value (formed i d within).value)
+
+-- the report of the journals is legal
+pub reported : ReportLaws → (trace : Trace) (n pages : ℕ) (ran : RanState) (lines : List ShardLine) → All IsWellFormed trace.operations → IsRunOf trace n pages ran lines
+    → IsReportOf trace n pages (report trace n pages (journals_in ran.journals)) (journals_in ran.journals)
+reported laws trace n pages ran lines formed run =
+    let journals = journals_in ran.journals in
+    let list = answers trace n pages journals in
+    let occupancies = map (occupancy trace n pages) (enumerate_from 0 journals) in
+    let unbroken : All (λ (given : ℕ × Reply). IsUnbroken given.1) list =
+    All-from_recursion (λ (given : ℕ × Reply). IsUnbroken given.1) list
+    (all-unbroken (answer trace n pages journals) trace.operations (λ operation reply is. laws.holds is_unbroken is_unbroken trace n pages journals operation reply (puts-hold trace formed) is)) in
+    let count : length list ≡ length trace.operations = laws.count trace n (replies_in ran.logs) list run.logged in
+    let shards : length journals ≡ n = length-map ran.journals (λ journal. journal.entries) ∙ run.journal_each in
+    record {
+      printed = record { shards = shards; spelled = λ s below. rw (← count) (laws.lines list journals occupancies s unbroken (omega (arith, shards, below))) };
+      legal = run.legal;
+      complete = run.complete;
+      text = refl;
+    }
+
+-- ---- by the mode
+
+pub of_reading : ReportLaws → (found : Found) (trace : Trace) (ran : RanState) (lines : List ShardLine) → All IsWellFormed trace.operations
+    → IsRunOf trace found.shards found.pages ran lines → (found.mode ≡ Run) ⊎ (found.mode ≡ Sim)
+    → IsOutput found.mode (view found) trace ran (report trace found.shards found.pages (journals_in ran.journals))
+of_reading laws found trace ran lines formed run mode = go mode
+  where
+    text : List ℕ
+    text = report trace found.shards found.pages (journals_in ran.journals)
+
+    reports : Reports (view found) trace ran text
+    reports = record { report = reported laws trace found.shards found.pages ran lines formed run; evicts = run.evicts }
+
+    go : (found.mode ≡ Run) ⊎ (found.mode ≡ Sim) → IsOutput found.mode (view found) trace ran text
+    go (inl is) = subst (λ m. IsOutput m (view found) trace ran text) (sym is) reports
+    go (inr is) = subst (λ m. IsOutput m (view found) trace ran text) (sym is) reports
+
+pub of_making : (found : Found) (trace : Trace) (ran : RanState) (lines : List ShardLine) → IsRunOf trace found.shards found.pages ran lines → found.mode ≡ Gen
+    → IsOutput found.mode (view found) trace ran (summary trace found.shards found.pages (journals_in ran.journals))
+of_making found trace ran lines run is =
+    subst (λ m. IsOutput m (view found) trace ran (summary trace found.shards found.pages (journals_in ran.journals))) (sym is)
+    (record { shards = run.journal_each; legal = run.legal; complete = run.complete; summary = refl })

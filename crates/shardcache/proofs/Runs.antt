@@ -1,0 +1,116 @@
+-- What a run came to, as the report wants it.
+use Rattle.std.proofs.Common.{◌≡◌, ℕ, ◌+◌, ◌<◌, ◌≤◌, List, [], ◌∷◌, ◌++◌, length, map, take, drop, get_or, Option, Some, arith, refl, sym, ap, subst, ◌∙◌}
+use Rattle.std.specs.List.{All, enumerate_from, slice_get, slice_index_or}
+use Rattle.std.specs.Option.{IsSome}
+use Rattle.std.proofs.lemmas.List.{length-map}
+use Rattle.std.proofs.lemmas.List.FromFn.{length-enumerate_from}
+use Rattle.std.proofs.lemmas.Option.{get_or_from_slice_get, slice_get-get_or, slice_get_within}
+use Rattle.trace_text.specs.Trace.{Trace}
+use Rattle.trace_text.specs.Parsed.{AreNumbered, IsWellFormed, Parsed, trace_in}
+use Rattle.cache_model.specs.declared.entry.Entry.{Entry}
+use Rattle.cache_model.specs.declared.reply_kind.ReplyKind.{ReplyKind}
+use Rattle.cache_model.specs.Bodies.{HasKeys}
+use Rattle.cache_model.specs.Legal.{command_of}
+use Rattle.cache_model.specs.Logged.{AreLogged}
+use Rattle.cache_model.specs.OwnParts.{HoldsReplies, part_reply, parts_of}
+use Rattle.cache_model.specs.Report.{answers, occupancy}
+use Rattle.foreign_list.specs.Lists.{OwnedList}
+use Rattle.shard_rings.specs.Links.{LinkState, end_of}
+use Rattle.shard_node.specs.Nodes.{NodeState}
+use Rattle.shard_node.specs.Rans.{RanState}
+use Rattle.shard_node.specs.Standing.{InStanding}
+use Rattle.shard_node.specs.Turns.{IsDone, IsSameNode}
+use Rattle.shard_drive.specs.Drives.{AtEach}
+use Rattle.shard_run.specs.Opening.{AreOpened, ring_traffic}
+use Rattle.shard_run.specs.Running.{IsRun, WereDriven, journals_of, logs_of, told}
+use Rattle.shard_run.specs.declared.remains.Occupancy.{Occupancy}
+use Rattle.report_text.specs.Views.{occupancies_in, occupancy_in}
+use Rattle.report_text.specs.declared.shard_line.ShardLine.{ShardLine}
+use Rattle.shardcache.specs.inside.Finished.{IsRunOf, line_of}
+use Rattle.shardcache.proofs.Numbered.{command_at, numbered}
+
+-- the law of logs, as its function promises it
+abbrev pub LogLaw : Type 0
+LogLaw = (trace : Trace) (n pages : ℕ) (journals : List (List Entry)) (logs : List (List (Option (ReplyKind × List ℕ)))) → length journals ≡ n → HasKeys trace
+    → All (λ operation. command_of trace operation.number ≡ Some operation) trace.operations
+    → All (λ operation. All (λ part. IsSome (part_reply trace pages journals part)) (parts_of n operation)) trace.operations
+    → ((o : ℕ) (d : List (Option (ReplyKind × List ℕ))) → o < n → HoldsReplies trace n o (part_reply trace pages journals) (slice_index_or logs o d))
+    → AreLogged trace n logs (answers trace n pages journals)
+
+map-map : {A B C : Type 0} (g : B → C) (f : A → B) (xs : List A) → map g (map f xs) ≡ map (λ x. g (f x)) xs
+map-map g f [] = refl
+map-map g f (x ∷ xs) = ap (λ ys. g (f x) ∷ ys) (map-map g f xs)
+
+pub run_of : LogLaw → (parsed : Parsed) (n pages : ℕ) (ran : RanState) (occupancies : List Occupancy) (lines : List ShardLine) → All IsWellFormed (trace_in parsed).operations
+    → AreNumbered parsed.commands → lines ≡ map line_of occupancies → length occupancies ≡ n → IsRun (trace_in parsed) n pages ran occupancies
+    → IsRunOf (trace_in parsed) n pages ran lines
+run_of law parsed n pages ran occupancies lines formed numbers are many run =
+    let trace = trace_in parsed in
+    let journals = length-map ran.journals (λ journal. journal.entries) in
+    let count = run.one_journal_each in
+    record {
+      journal_each = run.one_journal_each;
+      log_each = run.one_log_each;
+      line_each = ap length are ∙ length-map occupancies line_of ∙ many;
+      legal = λ s d below. run.legal s d (omega (arith, journals, count, below));
+      complete = run.complete;
+      logged = law trace n pages (journals_of ran) (logs_of ran) (journals ∙ count)
+          (λ i d within put. record { some = (formed i d within).key_some; short = (formed i d within).key_most })
+          (λ i d within. command_at trace.operations i d (numbered parsed.bytes parsed.commands numbers) within)
+          run.replied run.logged;
+      occupied = ap occupancies_in are ∙ map-map occupancy_in line_of occupancies ∙ run.occupied;
+      evicts = λ one d. run.pressure one 0 d (omega (arith, journals, count, one));
+    }
+
+-- a run has an occupancy for each shard
+pub so-many : (trace : Trace) (n pages : ℕ) (ran : RanState) (occupancies : List Occupancy) → IsRun trace n pages ran occupancies → length occupancies ≡ n
+so-many trace n pages ran occupancies run =
+    let told_each = length-map occupancies told in
+    let same = ap length run.occupied in
+    let numbered_each = length-map (enumerate_from 0 (journals_of ran)) (occupancy trace n pages) in
+    let each = length-enumerate_from 0 (journals_of ran) in
+    let journals = length-map ran.journals (λ journal. journal.entries) in
+    let count = run.one_journal_each in
+    omega (arith, told_each, same, numbered_each, each, journals, count)
+
+-- The nodes of a run, before and after they were driven.
+
+something_at : {X : Type 0} (xs : List X) (i : ℕ) → i < length xs → (x : X) × (slice_get xs i ≡ Some x)
+something_at [] i within = absurd (omega (arith, within))
+something_at (x ∷ xs) i within = (get_or (x ∷ xs) i x, slice_get-get_or (x ∷ xs) i x within)
+
+module _ {G : Type 0} (trace : Trace) (n pages : ℕ) (homes : List OwnedList) (opened : List (NodeState LinkState G)) (are : AreOpened trace n pages homes opened) where
+  pub all-standing : All (InStanding ring_traffic) opened
+  all-standing i d within =
+      let count = are.count in
+      let lists = are.lists.count in
+      let home = something_at homes i (omega (arith, within, count, lists)) in
+      (are.each i home.0 (get_or opened i d) home.1 (slice_get-get_or opened i d within)).standing
+
+  were-driven : (holds : G → ℕ) (nodes : List (NodeState LinkState G)) → length nodes ≡ length opened → AtEach (λ k. IsSameNode end_of) opened nodes
+      → All (InStanding ring_traffic) nodes → All (IsDone ring_traffic holds) nodes → WereDriven holds trace n pages homes nodes
+  were-driven holds nodes count same standing done = record {
+    opened = opened;
+    are_opened = are;
+    count = count;
+    same = λ s old new at there.
+        let was = get_or_from_slice_get opened s old old at in
+        let is = get_or_from_slice_get nodes s new old there in
+        subst (λ x. IsSameNode end_of x new) was (subst (IsSameNode end_of (get_or opened s old)) is (same s old (slice_get_within opened s old at)));
+    standing = standing;
+    done = done;
+  }
+
+take-front : {X : Type 0} (xs ys : List X) → take (length xs) (xs ++ ys) ≡ xs
+take-front [] ys = refl
+take-front (x ∷ xs) ys = ap (λ front. x ∷ front) (take-front xs ys)
+
+-- a vector of nodes, after its slice was driven
+pub driven-after : {G : Type 0} (holds : G → ℕ) (trace : Trace) (n pages : ℕ) (homes : List OwnedList) (items now new : List (NodeState LinkState G)) (len : ℕ)
+    → AreOpened trace n pages homes items → now ≡ items → len ≡ length items → length new ≡ length now → AtEach (λ k. IsSameNode end_of) now new
+    → All (InStanding ring_traffic) new → All (IsDone ring_traffic holds) new → WereDriven holds trace n pages homes (take len (new ++ drop (length new) items))
+driven-after holds trace n pages homes items now new len opened is size count same standing done =
+    let as_many : length new ≡ length items = count ∙ ap length is in
+    let fits : take len (new ++ drop (length new) items) ≡ new = ap (λ k. take k (new ++ drop (length new) items)) (size ∙ sym as_many) ∙ take-front new (drop (length new) items) in
+    subst (WereDriven holds trace n pages homes) (sym fits)
+    (were-driven trace n pages homes items opened holds new as_many (subst (λ old. AtEach (λ k. IsSameNode end_of) old new) is same) standing done)
