@@ -70,3 +70,4 @@ pub mod TurnMoves
 pub mod HeldUps
 pub mod IdleTurn
 pub mod TicketsBefore
+pub mod OtherLink

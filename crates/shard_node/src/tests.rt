@@ -1,7 +1,12 @@
-//! The definitions on a worked run.
+//! The definitions on a worked run, and nodes at work.
 ghost use Rattle.foreign_list.specs.Blocks.{Block};
 ghost use Rattle.reclaim.specs.Spaces.{SpaceState};
 ghost use Rattle.shard_node.specs.Examples.{PacketsAreRight, StandingIsRight, StrayIsRight};
+
+mod alone;
+mod replies;
+mod strays;
+mod trial;
 
 /// Which packets a shard takes that was asked one put, and which it sets aside.
 fn packets()
