@@ -4,9 +4,11 @@ ghost use Rattle.reclaim.specs.Spaces.{SpaceState};
 ghost use Rattle.shard_node.specs.Examples.{PacketsAreRight, StandingIsRight, StrayIsRight};
 
 mod alone;
+mod judged;
 mod replies;
 mod strays;
 mod trial;
+mod two_nodes;
 
 /// Which packets a shard takes that was asked one put, and which it sets aside.
 fn packets()

@@ -1,0 +1,165 @@
+//! Two nodes that ask each other, in random orders of their turns and of what goes between them.
+ghost use Rattle.std.specs.Prelude.{◌≡◌};
+ghost use Rattle.foreign_list.specs.OwnerSeats.{IsAtRest};
+
+use super::judged::{Left, are_right};
+use super::trial::{offer, open_one, parsed, taken};
+use crate::gate::OpenGate;
+use crate::node::Node;
+use crate::turn::Turn;
+use cache_model::Entry;
+use foreign_list::{Foreign, OwnerSeat};
+use rand_core::utils::NextWord;
+use rand_pcg::Lcg64Xsh32;
+use shard_rings::{Lane, MemoryLink};
+use std::alloc::{AllocError, Global};
+use std::test::Fail;
+use trace_text::Trace;
+
+// a and c belong to shard 0, b and d to shard 1. Shard 0 issues the odd commands, and shard 1 the even ones.
+const LINES: &[u8] =
+    b"put a 1\nput b 2\nput b 3\nput c 4\nget b\nget a\nscan a 4\nerase b\nput d 5\nput a 6\nerase c\nscan b 9\nget b\nput b 7\n";
+
+/// Carries the next packet on the lane from one node to the other. False where it does not fit.
+fn carry<'f>(
+    from: &mut Node<'f, MemoryLink<'f>, OpenGate>,
+    to: &mut Node<'f, MemoryLink<'f>, OpenGate>,
+    word: u32,
+) -> bool {
+    let lane = if word % 2 == 0 {
+        Lane::Requests
+    } else {
+        Lane::Replies
+    };
+    match taken(from, lane) {
+        Some(packet) => offer(to, lane, packet),
+        None => true,
+    }
+}
+
+/// Turns two nodes and carries what they send, in an order that is drawn, until both are done. False where a packet does not fit, a
+/// packet is set aside, or they do not get done.
+fn play<'f>(
+    words: &mut Lcg64Xsh32,
+    first: &mut Node<'f, MemoryLink<'f>, OpenGate>,
+    second: &mut Node<'f, MemoryLink<'f>, OpenGate>,
+) -> bool {
+    let (mut of_first, mut of_second) = (Turn::Idle, Turn::Idle);
+    for _ in 0..10_000 {
+        let word = words.next_word();
+        let fits = match word % 4 {
+            0 => {
+                of_first = first.turn();
+                !matches!(of_first, Turn::Stray { .. })
+            }
+            1 => {
+                of_second = second.turn();
+                !matches!(of_second, Turn::Stray { .. })
+            }
+            2 => carry(first, second, word / 4),
+            _ => carry(second, first, word / 4),
+        };
+        if !fits || (of_first == Turn::Done && of_second == Turn::Done) {
+            return fits;
+        }
+    }
+    false
+}
+
+/// What a node left.
+fn left_of<'a, 'f>(node: &'a Node<'f, MemoryLink<'f>, OpenGate>) -> Left<'a> {
+    Left {
+        journal: node.shard.journal.entries(),
+        log: &node.shard.log,
+    }
+}
+
+/// Whether two nodes get done in an order that is drawn, with all blocks at home, and leave what is right.
+fn do_right<'f>(
+    words: &mut Lcg64Xsh32,
+    alloc: Global,
+    trace: &Trace,
+    first: &mut Node<'f, MemoryLink<'f>, OpenGate>,
+    second: &mut Node<'f, MemoryLink<'f>, OpenGate>,
+) -> Result<bool, AllocError> {
+    if !play(words, first, second) {
+        return Ok(false);
+    }
+    if first.shard.space.tickets_out() != 0 || second.shard.space.tickets_out() != 0 {
+        return Ok(false);
+    }
+    are_right(alloc, trace, left_of(first), left_of(second))
+}
+
+/// Plays two nodes in an order that is drawn. None where something is wrong; else whether the second did its own first.
+fn play_two<'f>(
+    words: &mut Lcg64Xsh32,
+    alloc: Global,
+    trace: &Trace,
+    first: &mut Node<'f, MemoryLink<'f>, OpenGate>,
+    second: &mut Node<'f, MemoryLink<'f>, OpenGate>,
+) -> Result<Option<bool>, AllocError> {
+    if !do_right(words, alloc, trace, first, second)? {
+        return Ok(None);
+    }
+    Ok(Some(did_first(second)))
+}
+
+/// Whether a node did command 2 first.
+fn did_first<'f>(node: &Node<'f, MemoryLink<'f>, OpenGate>) -> bool {
+    node.shard.journal.entries().first() == Some(&Entry::Done(2))
+}
+
+/// Opens the second node, and plays.
+fn play_with<'f>(
+    words: &mut Lcg64Xsh32,
+    alloc: Global,
+    trace: &'f Trace,
+    first: &mut Node<'f, MemoryLink<'f>, OpenGate>,
+    home: &'f Foreign,
+    seat: OwnerSeat,
+) -> Result<Option<bool>, Fail>
+    requires two { trace.now.shards ≡ 2 }
+    requires owner { home.now.owner ≡ 1 }
+    requires seat { IsAtRest home.now seat }
+{
+    let mut second = open_one(alloc, 1, trace, home, seat, MemoryLink::new(alloc)?)?;
+    Ok(play_two(words, alloc, trace, first, &mut second)?)
+}
+
+/// Opens both nodes, and plays.
+fn play_once<'f>(
+    words: &mut Lcg64Xsh32,
+    alloc: Global,
+    trace: &'f Trace,
+    homes: (&'f Foreign, &'f Foreign),
+    seats: (OwnerSeat, OwnerSeat),
+) -> Result<Option<bool>, Fail>
+    requires two { trace.now.shards ≡ 2 }
+    requires owners { (homes.0.now.owner ≡ 0) × (homes.1.now.owner ≡ 1) }
+    requires first { IsAtRest homes.0.now seats.0 }
+    requires second { IsAtRest homes.1.now seats.1 }
+{
+    let mut first = open_one(alloc, 0, trace, homes.0, seats.0, MemoryLink::new(alloc)?)?;
+    play_with(words, alloc, trace, &mut first, homes.1, seats.1)
+}
+
+#[test]
+fn two_nodes_do_what_is_right_in_any_order(rt: HostRuntime) -> Result<(), Fail> {
+    let trace = parsed(&rt, rt.alloc(), LINES, 2)?;
+    let mut words = Lcg64Xsh32::new(1, 3);
+    let mut own_first = 0u32;
+    for _ in 0..1000 {
+        let (first_home, first_seat) = Foreign::new(rt.alloc(), 0)?;
+        let (second_home, second_seat) = Foreign::new(rt.alloc(), 1)?;
+        let (homes, seats) = ((&first_home, &second_home), (first_seat, second_seat));
+        match play_once(&mut words, rt.alloc(), &trace, homes, seats)? {
+            Some(true) => own_first = own_first.saturating_add(1),
+            Some(false) => {}
+            None => return Err(Fail::new("an order gives what is not right")),
+        }
+    }
+    // Both happen.
+    assert!(rt; 0 < own_first && own_first < 1000);
+    Ok(())
+}
