@@ -104,7 +104,7 @@ impl<'f> Trial<'f> {
 
     // Whether ten rows more are put.
     fn goes_on(&mut self, alloc: Global, from: u32) -> bool {
-        matches!(self.put_large(alloc, from, from.saturating_add(10)), Ok(10))
+        self.put_large(alloc, from, from.saturating_add(10)) == 10
     }
 
     fn refuses(&mut self, share: Share) -> bool {
@@ -130,20 +130,24 @@ impl<'f> Trial<'f> {
     }
 
     // Lends all blocks, puts ten rows more while they are out, and takes the blocks back. Answers how many came home.
-    fn fill_and_lend(&mut self, alloc: Global) -> Result<u32, AllocError> {
-        let blocks = self.lend_all(alloc, 390)?;
+    fn fill_and_lend(&mut self, alloc: Global) -> u32 {
+        let Ok(blocks) = self.lend_all(alloc, 390) else {
+            return 0;
+        };
         let goes_on = self.goes_on(alloc, 391);
         let refuses = self.refuses_all();
         let home = self.take_back(blocks);
-        Ok(if goes_on && refuses { home } else { 0 })
+        if goes_on && refuses { home } else { 0 }
     }
 
     // Whether the large rows put first are gone, and as many others as there are rows read as they were put.
-    fn has_latest(&mut self, alloc: Global, end: u32) -> Result<bool, AllocError> {
+    fn has_latest(&mut self, alloc: Global, end: u32) -> bool {
         let mut right = self.space.rows() < end;
         let first = end.saturating_sub(self.space.rows());
         for number in 1..end {
-            let value = large_value(alloc, number)?;
+            let Ok(value) = large_value(alloc, number) else {
+                return false;
+            };
             let wanted = if number < first {
                 None
             } else {
@@ -151,7 +155,7 @@ impl<'f> Trial<'f> {
             };
             right = self.has(&number.to_be_bytes(), wanted) && right;
         }
-        Ok(right)
+        right
     }
 }
 
@@ -186,10 +190,10 @@ fn release_all(blocks: Vec<ForeignBlock<'_>>) -> u32 {
 fn all_tickets_are_out_while_rows_fill_the_space(rt: HostRuntime) -> Result<(), Fail> {
     let (home, seat) = Foreign::new(rt.alloc(), 0)?;
     let mut trial = Trial::new(rt.alloc(), &home, seat)?;
-    assert_eq!(rt; trial.put_large(rt.alloc(), 1, 391)?, 390);
-    assert_eq!(rt; trial.fill_and_lend(rt.alloc())?, 32);
+    assert_eq!(rt; trial.put_large(rt.alloc(), 1, 391), 390);
+    assert_eq!(rt; trial.fill_and_lend(rt.alloc()), 32);
     assert!(rt; trial.space.rows() <= 360);
-    assert!(rt; trial.has_latest(rt.alloc(), 401)?);
+    assert!(rt; trial.has_latest(rt.alloc(), 401));
     assert_eq!(rt; (trial.space.lent(), trial.space.back()), (32, 32));
     assert!(rt; trial.finish());
     Ok(())
