@@ -3,9 +3,12 @@
 
     bench/refused_memory.py [PAGES]
 
-The program runs a short trace on one shard of PAGES pages (default 1,280) again and again: first with all its memory, then with
-its first allocation refused, then with its second, until there is none to refuse. Each time no byte may be left that was not
-freed; where one was refused, the status is that of want of memory and nothing is written. g++ is needed.
+The program runs a short trace on 1, 2 and 4 shards of PAGES pages (default 1,280) again and again, on threads and on one thread:
+first with all its memory, then with its first allocation refused, then with its second, until there is none to refuse. Each time
+no byte may be left that was not freed; where one was refused, the status is that of want of memory and nothing is written.
+
+What is allocated to start a thread is not refused: the last allocation for each shard but one, and those of the system. Where a
+thread cannot be started, its shard is driven after the others, which may wait for it: such a run does not end. g++ is needed.
 """
 import os
 import subprocess
@@ -14,8 +17,17 @@ import tempfile
 
 BENCH = os.path.dirname(os.path.abspath(__file__))
 CRATE = os.path.join(BENCH, "..", "crates", "shardcache")
-TRACE = b"put a 1\nput b 2\nget a\nscan a 32\nerase b\n"
-MEMORY = 6
+TRACE = b"put a 1\nput b 2\nget a\nscan a 32\nerase b\nput b 3\nget b\nscan b 1\n"
+MODES = [["run"], *([mode, "--shards", shards] for mode in ("sim", "run") for shards in ("2", "4"))]
+DONE, MEMORY = 0, 6
+
+
+def is_report(output, shards):
+    """Whether the output has a line for each command, a journal for each shard, and a line for each whose blocks all came back."""
+    lines = output.decode().splitlines()
+    commands = TRACE.count(b"\n")
+    ends = [line.split() for line in lines[commands + shards:]]
+    return len(lines) == commands + 2 * shards and all(end[0] == "shard" and end[7] == end[9] for end in ends)
 
 
 def main():
@@ -26,22 +38,26 @@ def main():
         shim, counted = os.path.join(folder, "refused.so"), os.path.join(folder, "counted")
         subprocess.run(["g++", "-O2", "-shared", "-fPIC", "-o", shim, os.path.join(BENCH, "refused_memory.cpp")], check=True)
 
-        def run(refused):
+        def run(words, refused):
             """Status, output, allocations asked for, and bytes not freed."""
             given = {"LD_PRELOAD": shim, "COUNTED": counted, "REFUSED": str(refused)}
-            words = [os.path.join(CRATE, "out", "shardcache"), "run", "--pages", pages]
+            words = [os.path.join(CRATE, "out", "shardcache"), *words, "--pages", pages]
             ran = subprocess.run(words, input=TRACE, stdout=subprocess.PIPE, env=given, check=False)
             with open(counted, encoding="ascii") as file:
                 return ran.returncode, ran.stdout, *map(int, file.read().split())
 
-        status, report, asked, left = run(0)
-        if status != 0 or not report or left != 0:
-            sys.exit(f"with all its memory: status {status}, {left} bytes not freed")
-        for number in range(1, asked + 1):
-            status, output, _, left = run(number)
-            if (status, output, left) != (MEMORY, b"", 0):
-                sys.exit(f"allocation {number} refused: status {status}, {len(output)} bytes written, {left} bytes not freed")
-    print(f"each of {asked} allocations was refused in turn: want of memory, nothing written, nothing left")
+        for words in MODES:
+            shards = int(words[-1]) if len(words) > 1 else 1
+            said = " ".join(words)
+            status, report, asked, left = run(words, 0)
+            if status != DONE or not is_report(report, shards) or left != 0:
+                sys.exit(f"{said}: with all its memory: status {status}, {left} bytes not freed")
+            of_threads = shards - 1 if words[0] == "run" else 0
+            for number in range(1, asked - of_threads + 1):
+                status, output, _, left = run(words, number)
+                if (status, output, left) != (MEMORY, b"", 0):
+                    sys.exit(f"{said}: allocation {number} refused: status {status}, {len(output)} bytes written, {left} bytes not freed")
+            print(f"{said}: each of {asked - of_threads} allocations was refused in turn: want of memory, nothing written, nothing left")
 
 
 main()
