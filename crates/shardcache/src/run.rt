@@ -1,13 +1,16 @@
 //! A run of a trace on all shards.
-ghost use Rattle.std.specs.Prelude.{◌≡◌, ◌+◌, ◌<◌, ◌≤◌, [], length, map, vec_capacity, All, IfOk, IfErr};
+ghost use Rattle.std.specs.Prelude.{◌≡◌, ℕ, ◌+◌, ◌<◌, ◌≤◌, List, [], length, map, vec_capacity, All, IfOk, IfErr};
 ghost use Rattle.layout.specs.Sizes.{ArePages};
 ghost use Rattle.trace_text.specs.Parsed.{trace_in};
 ghost use Rattle.trace_text.specs.Parts.{most_shards};
+ghost use Rattle.foreign_list.specs.Lists.{OwnedList};
 ghost use Rattle.shard_rings.specs.Links.{end_of};
 ghost use Rattle.shard_node.specs.Standing.{InStanding};
 ghost use Rattle.shard_node.specs.Turns.{IsDone, IsSameNode};
 ghost use Rattle.shard_drive.specs.Drives.{AtEach, ring_traffic};
 ghost use Rattle.shard_run.specs.Opening.{AreAtRest};
+ghost use Rattle.shard_run.specs.Remaining.{IsRoomFor};
+ghost use Rattle.shard_run.specs.Running.{WereDriven};
 ghost use Rattle.shardcache.specs.inside.Finished.{IsRunOf, line_of};
 
 #[cfg(test)]
@@ -82,7 +85,34 @@ where
     }
 }
 
-/// The same over these lists, whose seats are handed back.
+/// Ends a run, whose nodes are all done. There is room for what they leave. The seats at the lists are handed back.
+fn end_run<'f, G: Gate + Drop>(
+    trace: &Trace,
+    nodes: Vec<Node<'f, RingLink<'f>, G>>,
+    into: Remains<'f>,
+    lines: Vec<ShardLine>,
+) -> (Run, Vec<OwnerSeat>)
+    requires driven { (pages : ℕ) × (homes : List OwnedList) × WereDriven G.holds (trace_in trace.now) trace.now.shards pages homes nodes.items }
+    requires room { IsRoomFor trace.now.shards into }
+    requires none { lines.items ≡ [] }
+    requires lines { trace.now.shards ≤ vec_capacity lines }
+    ensures run { (pages : ℕ) (homes : List OwnedList) → WereDriven G.holds (trace_in trace.now) trace.now.shards pages homes nodes.entry.items
+        → IsRunOf (trace_in trace.now) trace.now.shards pages result.0.ran result.0.lines.items }
+    ensures seats { (pages : ℕ) (homes : List OwnedList) → WereDriven G.holds (trace_in trace.now) trace.now.shards pages homes nodes.entry.items
+        → AreAtRest trace.now.shards homes result.1.items }
+{
+    trace.commands();
+    logs_hold_the_answers();
+    let Ended {
+        ran,
+        occupancies,
+        seats,
+    } = finish_run(trace, nodes, into);
+    let lines = lines_of(occupancies, lines);
+    (Run { ran, lines }, seats)
+}
+
+/// Runs a trace over these lists, whose seats are handed back.
 ///
 /// # Errors
 /// Want of memory; the seats are handed back.
@@ -108,7 +138,6 @@ where
     ensures refused { IfErr result (λ back. AreAtRest shards homes.now back.items) }
 {
     trace.commands();
-    logs_hold_the_answers();
     let Ok(remains) = Remains::new(alloc, shards) else {
         return Err(seats);
     };
@@ -117,18 +146,7 @@ where
     };
     let mut nodes = open_nodes(alloc, trace, pages, homes, seats, gates)?;
     drive(rt, nodes.as_mut_slice(), order);
-    let Ended {
-        ran,
-        occupancies,
-        seats,
-    } = finish_run(trace, nodes, remains);
-    Ok((
-        Run {
-            ran,
-            lines: lines_of(occupancies, lines),
-        },
-        seats,
-    ))
+    Ok(end_run(trace, nodes, remains, lines))
 }
 
 /// Runs a trace on its shards, each of so many pages.
