@@ -1,8 +1,15 @@
 mod evictions;
+mod examples;
+mod gates;
+mod judged;
+pub mod plain;
+mod printed;
 mod shards;
+mod summaries;
 
 use super::*;
 use outside::{MemorySink, MemorySource};
+use shard_node::Gates;
 use std::alloc::{AllocError, Global};
 use std::sync::Wait;
 use std::test::Fail;
@@ -17,6 +24,19 @@ fn answer<R: Threads + Wait + Sync>(
     failing: &[u64],
     room: usize,
 ) -> Result<(Status, Vec<u8>), AllocError> {
+    answer_through(rt, alloc, words, input, failing, room, &OpenGates)
+}
+
+/// The same with gates of one's own.
+fn answer_through<R: Threads + Wait + Sync, G: Gates>(
+    rt: &R,
+    alloc: Global,
+    words: &[&str],
+    input: &[u8],
+    failing: &[u64],
+    room: usize,
+    gates: &G,
+) -> Result<(Status, Vec<u8>), AllocError> {
     let mut texts = Vec::new(alloc);
     for word in words {
         texts.push(String::from_str(alloc, word)?)?;
@@ -24,14 +44,7 @@ fn answer<R: Threads + Wait + Sync>(
     let bytes = Vec::from_slice(alloc, input)?;
     let mut source = MemorySource::new(bytes, 65_536, Vec::from_slice(alloc, failing)?);
     let mut sink = MemorySink::new(alloc, room)?;
-    let outcome = shardcache(
-        rt,
-        alloc,
-        texts.as_slice(),
-        &mut source,
-        &mut sink,
-        &OpenGates,
-    );
+    let outcome = shardcache(rt, alloc, texts.as_slice(), &mut source, &mut sink, gates);
     Ok((outcome.status, Vec::from_slice(alloc, sink.bytes())?))
 }
 

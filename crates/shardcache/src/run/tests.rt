@@ -3,7 +3,8 @@
 ghost use Rattle.std.specs.Prelude.{◌≡◌, IfOk, IfSome};
 
 use super::{Order, Run, run_trace};
-use plain_cache::{Entry, Plain, ReplyLog};
+use crate::tests::plain::apply_to;
+use plain_cache::{Entry, Plain, ReplyKind, ReplyLog};
 use rand_core::utils::NextWord;
 use rand_pcg::Lcg64Xsh32;
 use shard_node::OpenGates;
@@ -106,16 +107,11 @@ impl<'a> Judge<'a> {
     /// Does a command on the plain cache, and tells whether the log of its origin has the same reply.
     fn replies_the_same(&mut self, alloc: Global, number: u32) -> Result<bool, AllocError> {
         let index = number.wrapping_sub(1) as usize;
-        let trace = self.trace;
-        let Some(command) = trace.commands().get(index) else {
+        let mut body = Vec::new(alloc);
+        let Some(kind) = apply_to(&mut self.plain, alloc, self.trace, number, &mut body)? else {
             return Ok(false);
         };
-        if self.plain.rows() == u32::MAX {
-            return Ok(false);
-        }
-        let mut body = Vec::new(alloc);
-        let kind = self.plain.apply(alloc, trace, command, &mut body)?;
-        let behind = if command.kind == Kind::Scan {
+        let behind = if kind == ReplyKind::Keys {
             self.shard
         } else {
             0

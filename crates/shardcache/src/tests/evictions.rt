@@ -1,6 +1,7 @@
 //! Whole runs of 1,280 pages, which hold 390 rows of a key of four letters and a value of 12,000: a row has 12,048 bytes, so ten
 //! stand in a segment, and of the 40 segments one stays free.
 use super::answer;
+use super::printed::answers;
 use crate::Status;
 use std::alloc::{AllocError, Global};
 use std::sync::Wait;
@@ -13,35 +14,27 @@ fn letters(alloc: Global) -> Result<Vec<u8>, AllocError> {
 }
 
 /// Appends a line: a put of the letters under a key.
-fn put_letters(alloc: Global, lines: &mut Vec<u8>, key: &str) -> Result<(), AllocError> {
+pub fn put_letters(alloc: Global, lines: &mut Vec<u8>, key: &str) -> Result<(), AllocError> {
     lines.extend_from_slice(format!(in alloc; "put {key} ")?.as_bytes())?;
     lines.extend_from_slice(letters(alloc)?.as_slice())?;
     lines.push(b'\n')?;
     Ok(())
 }
 
+/// Appends puts of the letters under a key `k001` or the like for each of these numbers.
+fn put_all(alloc: Global, lines: &mut Vec<u8>, first: u32, last: u32) -> Result<(), AllocError> {
+    for number in first..=last {
+        let key = format!(in alloc; "k{number:03}")?;
+        put_letters(alloc, lines, key.as_str())?;
+    }
+    Ok(())
+}
+
 /// Puts of the letters under `k001`, `k002` and so on.
 fn puts(alloc: Global, last: u32) -> Result<Vec<u8>, AllocError> {
     let mut lines = Vec::new(alloc);
-    for number in 1..=last {
-        let key = format!(in alloc; "k{number:03}")?;
-        put_letters(alloc, &mut lines, key.as_str())?;
-    }
+    put_all(alloc, &mut lines, 1, last)?;
     Ok(lines)
-}
-
-/// Appends what is printed of so many commands that all have one answer, from the number `first` on.
-fn answers(
-    alloc: Global,
-    text: &mut Vec<u8>,
-    first: u32,
-    last: u32,
-    answer: &str,
-) -> Result<(), AllocError> {
-    for number in first..=last {
-        text.extend_from_slice(format!(in alloc; "{number} {answer}\n")?.as_bytes())?;
-    }
-    Ok(())
 }
 
 /// Appends the journal that begins with so many commands, and the line of the shard.
@@ -116,6 +109,25 @@ fn a_row_that_is_replaced_leaves_room(rt: HostRuntime) -> Result<(), Fail> {
     answers(alloc, &mut text, 1, 1, "stored")?;
     answers(alloc, &mut text, 2, 1000, "replaced")?;
     ending(alloc, &mut text, 1000, "", 1, 12_048)?;
+    let (status, written) = run(&rt, alloc, &lines)?;
+    assert!(rt; status == Status::Done && written.as_slice() == text.as_slice());
+    Ok(())
+}
+
+/// The trace of the folder examples that evicts, and its report.
+#[test]
+fn a_row_that_was_read_stays(rt: HostRuntime) -> Result<(), Fail> {
+    let alloc = rt.alloc();
+    let mut lines = Vec::from_slice(alloc, b"put k001 1\n")?;
+    put_all(alloc, &mut lines, 2, 391)?;
+    lines.extend_from_slice(b"get k001\n")?;
+    put_all(alloc, &mut lines, 392, 392)?;
+    lines.extend_from_slice(b"get k002\nget k001\n")?;
+    let mut text = Vec::new(alloc);
+    answers(alloc, &mut text, 1, 391, "stored")?;
+    text.extend_from_slice(b"392 value 1\n393 stored\n394 missing\n395 value 1\n")?;
+    let more = " !2 393 394 395";
+    ending(alloc, &mut text, 392, more, 391, 4_698_768)?;
     let (status, written) = run(&rt, alloc, &lines)?;
     assert!(rt; status == Status::Done && written.as_slice() == text.as_slice());
     Ok(())

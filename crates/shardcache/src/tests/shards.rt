@@ -1,5 +1,6 @@
 //! Runs on several shards.
-use super::answer;
+use super::printed::{answers, numbers};
+use super::{answer, many};
 use crate::Status;
 use std::alloc::{AllocError, Global};
 use std::sync::Wait;
@@ -76,21 +77,61 @@ fn two_origins_meet_at_one_shard(rt: HostRuntime) -> Result<(), Fail> {
     Ok(())
 }
 
+/// Whether these are the numbers of all commands up to 1000, those of each of 16 origins in their order.
+fn are_in_order(numbers: &[u32]) -> bool {
+    let mut nexts = [1u32, 2, 3, 4, 5, 6, 7, 8, 9, 10, 11, 12, 13, 14, 15, 16];
+    for number in numbers {
+        let origin = number.wrapping_sub(1) % 16;
+        let Some(next) = nexts.get_mut(origin as usize) else {
+            return false;
+        };
+        if *number != *next || *number > 1000 {
+            return false;
+        }
+        *next = next.wrapping_add(16);
+    }
+    numbers.len() == 1000
+}
+
+/// What stands around the entries of shard 12 in the report of 1,000 gets of `a`, which nobody put, on 16 shards: the first eight
+/// issued 63 of them, the others 62, and shard 12 answered all but its own.
+fn around_the_entries(alloc: Global) -> Result<(Vec<u8>, Vec<u8>), AllocError> {
+    let mut before = Vec::new(alloc);
+    answers(alloc, &mut before, 1, 1000, "missing")?;
+    let mut behind = Vec::new(alloc);
+    for shard in 0..12 {
+        before.extend_from_slice(format!(in alloc; "journal {shard}\n")?.as_bytes())?;
+    }
+    before.extend_from_slice(b"journal 12 ")?;
+    behind.extend_from_slice(b"\njournal 13\njournal 14\njournal 15\n")?;
+    for shard in 0..16 {
+        let lent = match shard {
+            12 => 938,
+            0..=7 => 63,
+            _ => 62,
+        };
+        let line = format!(in alloc; "shard {shard} rows 0 live 0 lent {lent} back {lent}\n")?;
+        behind.extend_from_slice(line.as_bytes())?;
+    }
+    Ok((before, behind))
+}
+
 #[test]
-fn one_number_makes_one_summary(rt: HostRuntime) -> Result<(), Fail> {
-    let words = [
-        "gen",
-        "--number",
-        "7",
-        "--shards",
-        "4",
-        "--commands",
-        "2000",
-    ];
-    let (status, text) = run(&rt, rt.alloc(), words.as_slice(), b"not read")?;
-    assert!(rt; status == Status::Done);
-    assert!(rt; text.as_slice().starts_with(b"commands 2000\nstored "));
-    let (_, again) = run(&rt, rt.alloc(), words.as_slice(), b"")?;
-    assert!(rt; text.as_slice() == again.as_slice());
+fn sixteen_origins_ask_one_owner(rt: HostRuntime) -> Result<(), Fail> {
+    let alloc = rt.alloc();
+    let lines = many(alloc, b"get a\n", 1000)?;
+    let (before, behind) = around_the_entries(alloc)?;
+    for mode in ["run", "sim"] {
+        let words = [mode, "--shards", "16", "--pages", "1280"];
+        let (status, text) = run(&rt, alloc, words.as_slice(), lines.as_slice())?;
+        assert!(rt; status == Status::Done, "{mode}");
+        let rest = text
+            .as_slice()
+            .strip_prefix(before.as_slice())
+            .ok_or("front")?;
+        let entries = rest.strip_suffix(behind.as_slice()).ok_or("end")?;
+        let entries = std::str::from_utf8(entries).ok().ok_or("no text")?;
+        assert!(rt; are_in_order(numbers(alloc, entries)?.as_slice()), "{mode}");
+    }
     Ok(())
 }

@@ -1,0 +1,88 @@
+//! The traces of the folder examples, and their reports. A test reads no files: so the same bytes stand here.
+use super::answer;
+use crate::Status;
+use std::test::Fail;
+
+#[test]
+fn the_examples_have_their_reports(rt: HostRuntime) -> Result<(), Fail> {
+    let rows: [(&[&str], &[u8], &[u8]); 3] = [
+        (
+            &["run"],
+            b"# Three rows are put; one is replaced, one is erased.\n\
+put user:1 Ada\n\
+put user:2 Grace\n\
+put user:3 Edsger\n\
+put user:1 Ada Lovelace\n\
+get user:1\n\
+erase user:2\n\
+get user:2\n\
+erase user:2\n\
+scan user: 9\n",
+            b"1 stored\n\
+2 stored\n\
+3 stored\n\
+4 replaced\n\
+5 value Ada Lovelace\n\
+6 erased\n\
+7 missing\n\
+8 missing\n\
+9 keys user:1 user:3\n\
+journal 0 1 2 3 4 5 6 7 8 9\n\
+shard 0 rows 2 live 120 lent 0 back 0\n",
+        ),
+        (
+            &["sim", "--shards", "3", "--number", "7"],
+            b"# Fruits on three shards. A scan asks all three, and its line joins what they found.\n\
+put apple red\n\
+put banana yellow\n\
+put blueberry blue\n\
+put grape green\n\
+put peach orange\n\
+put quince yellow\n\
+scan a 32\n\
+scan b 2\n\
+scan x 5\n",
+            b"1 stored\n\
+2 stored\n\
+3 stored\n\
+4 stored\n\
+5 stored\n\
+6 stored\n\
+7 keys apple blueberry grape peach\n\
+8 keys banana blueberry\n\
+9 keys\n\
+journal 0 1 4 7 8 6 9\n\
+journal 1 3 5 7 8 9\n\
+journal 2 7 2 8 9\n\
+shard 0 rows 3 live 160 lent 5 back 5\n\
+shard 1 rows 2 live 112 lent 6 back 6\n\
+shard 2 rows 1 live 56 lent 7 back 7\n",
+        ),
+        (
+            &["sim", "--shards", "2", "--number", "7"],
+            b"# Commands 1, 3 and 5 are issued at shard 0, which owns the key, and 2, 4 and 6 at shard 1.\n\
+put a first\n\
+put a second\n\
+get a\n\
+get a\n\
+erase a\n\
+get a\n",
+            b"1 stored\n\
+2 stored\n\
+3 value first\n\
+4 value second\n\
+5 erased\n\
+6 value second\n\
+journal 0 1 3 5 2 4 6\n\
+journal 1\n\
+shard 0 rows 1 live 48 lent 3 back 3\n\
+shard 1 rows 0 live 0 lent 3 back 3\n",
+        ),
+    ];
+    for (words, trace, report) in rows {
+        let (status, text) = answer(&rt, rt.alloc(), words, trace, &[], 4096)?;
+        assert!(rt; status == Status::Done, "{words:?}");
+        assert!(rt; text.as_slice() == report, "{words:?}");
+    }
+    Ok(())
+}
