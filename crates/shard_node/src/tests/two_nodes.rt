@@ -16,9 +16,10 @@ use std::alloc::{AllocError, Global};
 use std::test::Fail;
 use trace_text::Trace;
 
-// a and c belong to shard 0, b and d to shard 1. Shard 0 issues the odd commands, and shard 1 the even ones.
+// a and c belong to shard 0, b and d to shard 1. Shard 0 issues the odd commands, and shard 1 the even ones. Each asks the other
+// three, so with Bye no more than a lane holds: what is carried fits.
 const LINES: &[u8] =
-    b"put a 1\nput b 2\nput b 3\nput c 4\nget b\nget a\nscan a 4\nerase b\nput d 5\nput a 6\nerase c\nscan b 9\nget b\nput b 7\n";
+    b"put a 1\nput b 2\nput b 3\nput c 4\nget b\nget a\nscan a 4\nscan b 9\nerase a\nget b\nput c 5\nput d 6\n";
 
 /// Carries the next packet on the lane from one node to the other. False where it does not fit.
 fn carry<'f>(
