@@ -2,14 +2,13 @@
 ghost use Rattle.std.specs.Prelude.{◌≡◌, ◌+◌, ◌<◌, ◌≤◌, [], ◌∷◌, ◌++◌, length, vec_capacity, IfOk, IfErr, OnOk, OnErr};
 ghost use Rattle.layout.specs.Sizes.{ArePages};
 ghost use Rattle.trace_text.specs.Parsed.{trace_in};
-ghost use Rattle.foreign_list.specs.OwnerSeats.{OwnerState, IsAtRest};
 ghost use Rattle.shard_rings.specs.Mesh.{IsMesh};
 ghost use Rattle.shard_run.specs.Opening.{AreAtRest, AreLists, AreOpened, AreSeatsOf};
 ghost use Rattle.shard_run.specs.inside.Opening.{AreLeft, AreUnturned, AreUnused, GivesBack, OpensLast};
 
 use crate::trace_facts::facts_of;
 use foreign_list::{Foreign, OwnerSeat};
-use shard_node::{Gate, Gates, Node};
+use shard_node::{Gate, Gates, Node, NodeRefusal};
 use shard_rings::{RingLink, ring_links};
 use std::alloc::{AllocError, Global};
 use trace_text::Trace;
@@ -127,7 +126,7 @@ fn open_last<'f, G: Gates>(
             Ok(())
         }
         Err(refusal) => {
-            seats.push(refusal.seat).unwrap();
+            hand_back(refusal, seats);
             Err(AllocError)
         }
     }
@@ -143,16 +142,15 @@ fn abandon_nodes<'f, G: Gate + Drop>(
     ensures { GivesBack nodes.entry.items seats.old.items seats.new.items }
 {
     for node in nodes {
-        abandon_one(node, seats);
+        hand_back(node.abandon(), seats);
     }
 }
 
-/// Abandons a node, whose seat stands behind the others.
-fn abandon_one<'f, G: Gate + Drop>(node: Node<'f, RingLink<'f>, G>, seats: &mut Vec<OwnerSeat>)
-    requires unturned { node.turns ≡ 0 }
-    requires room { length seats.old.items < vec_capacity seats.old }
-    ensures seat { (seat : OwnerState) × (seats.new.items ≡ seats.old.items ++ seat ∷ []) × IsAtRest node.entry.space.list seat }
+/// Puts the seat of a node that there is not behind the others, for which there is room.
+fn hand_back<'f>(refusal: NodeRefusal<RingLink<'f>>, seats: &mut Vec<OwnerSeat>)
+    requires { length seats.old.items < vec_capacity seats.old }
+    ensures seat { seats.new.items ≡ seats.old.items ++ refusal.entry.seat ∷ [] }
     ensures room { vec_capacity seats.old ≤ vec_capacity seats.new }
 {
-    seats.push(node.abandon().seat).unwrap();
+    seats.push(refusal.seat).unwrap();
 }

@@ -2,7 +2,7 @@ use Rattle.std.proofs.Common.{◌≡◌, ◌∷◌, [], ◌++◌, Some, slice_ge
 use Rattle.std.specs.Option.{option_to_list}
 use Rattle.std.proofs.lemmas.Option.{slice_get-get_or}
 use Rattle.shard_node.specs.inside.Work.{others}
-use Rattle.shard_run.proofs.Getting.{inserted, pushed, same_thing}
+use Rattle.shard_run.proofs.Getting.{inserted, same_thing}
 use Rattle.shard_run.proofs.Openings.{last_seat}
 use Rattle.shard_run.proofs.opening.open_last.Goals as goal
 
@@ -74,5 +74,4 @@ pub returns-in-Err-clause-refused : goal.returns-in-Err-clause-refused
 returns-in-Err-clause-refused g c =
     let fewer = c.pop.new.self in
     let pop : c.args.seats.now.items ≡ fewer.items ++ c.unwrap-seat.result ∷ [] = subst (λ r. c.args.seats.now.items ≡ fewer.items ++ option_to_list r) c.unwrap-seat.ensures c.pop.ensures.items in
-    let back = pushed fewer.items c.push.new.self.items c.in-Err.refusal.seat c.push.result c.unwrap-in-Err.result c.push.ensures.items c.unwrap-in-Err.ensures in
-    (back ∙ (ap (λ x. fewer.items ++ x ∷ []) c.in-Err.ensures.refused.0 ∙ sym pop), refl)
+    (c.hand_back.ensures.seat ∙ (ap (λ x. fewer.items ++ x ∷ []) c.in-Err.ensures.refused.0 ∙ sym pop), refl)
