@@ -3,12 +3,7 @@ use super::answer;
 use crate::Status;
 use std::test::Fail;
 
-#[test]
-fn the_examples_have_their_reports(rt: HostRuntime) -> Result<(), Fail> {
-    let rows: [(&[&str], &[u8], &[u8]); 3] = [
-        (
-            &["run"],
-            b"# Three rows are put; one is replaced, one is erased.\n\
+const REPLACED: &[u8] = b"# Three rows are put; one is replaced, one is erased.\n\
 put user:1 Ada\n\
 put user:2 Grace\n\
 put user:3 Edsger\n\
@@ -17,8 +12,9 @@ get user:1\n\
 erase user:2\n\
 get user:2\n\
 erase user:2\n\
-scan user: 9\n",
-            b"1 stored\n\
+scan user: 9\n";
+
+const REPLACED_REPORT: &[u8] = b"1 stored\n\
 2 stored\n\
 3 stored\n\
 4 replaced\n\
@@ -28,11 +24,10 @@ scan user: 9\n",
 8 missing\n\
 9 keys user:1 user:3\n\
 journal 0 1 2 3 4 5 6 7 8 9\n\
-shard 0 rows 2 live 120 lent 0 back 0\n",
-        ),
-        (
-            &["sim", "--shards", "3", "--number", "7"],
-            b"# Fruits on three shards. A scan asks all three, and its line joins what they found.\n\
+shard 0 rows 2 live 120 lent 0 back 0\n";
+
+const SCAN: &[u8] =
+    b"# Fruits on three shards. A scan asks all three, and its line joins what they found.\n\
 put apple red\n\
 put banana yellow\n\
 put blueberry blue\n\
@@ -41,8 +36,9 @@ put peach orange\n\
 put quince yellow\n\
 scan a 32\n\
 scan b 2\n\
-scan x 5\n",
-            b"1 stored\n\
+scan x 5\n";
+
+const SCAN_REPORT: &[u8] = b"1 stored\n\
 2 stored\n\
 3 stored\n\
 4 stored\n\
@@ -56,18 +52,18 @@ journal 1 3 5 7 8 9\n\
 journal 2 7 2 8 9\n\
 shard 0 rows 3 live 160 lent 5 back 5\n\
 shard 1 rows 2 live 112 lent 6 back 6\n\
-shard 2 rows 1 live 56 lent 7 back 7\n",
-        ),
-        (
-            &["sim", "--shards", "2", "--number", "7"],
-            b"# Commands 1, 3 and 5 are issued at shard 0, which owns the key, and 2, 4 and 6 at shard 1.\n\
+shard 2 rows 1 live 56 lent 7 back 7\n";
+
+const TWO_ORIGINS: &[u8] =
+    b"# Commands 1, 3 and 5 are issued at shard 0, which owns the key, and 2, 4 and 6 at shard 1.\n\
 put a first\n\
 put a second\n\
 get a\n\
 get a\n\
 erase a\n\
-get a\n",
-            b"1 stored\n\
+get a\n";
+
+const TWO_ORIGINS_REPORT: &[u8] = b"1 stored\n\
 2 stored\n\
 3 value first\n\
 4 value second\n\
@@ -76,7 +72,21 @@ get a\n",
 journal 0 1 3 5 2 4 6\n\
 journal 1\n\
 shard 0 rows 1 live 48 lent 3 back 3\n\
-shard 1 rows 0 live 0 lent 3 back 3\n",
+shard 1 rows 0 live 0 lent 3 back 3\n";
+
+#[test]
+fn the_examples_have_their_reports(rt: HostRuntime) -> Result<(), Fail> {
+    let rows: [(&[&str], &[u8], &[u8]); 3] = [
+        (&["run"], REPLACED, REPLACED_REPORT),
+        (
+            &["sim", "--shards", "3", "--number", "7"],
+            SCAN,
+            SCAN_REPORT,
+        ),
+        (
+            &["sim", "--shards", "2", "--number", "7"],
+            TWO_ORIGINS,
+            TWO_ORIGINS_REPORT,
         ),
     ];
     for (words, trace, report) in rows {
