@@ -1,5 +1,5 @@
 -- The blocks that a space lends and that come home to it.
-use Rattle.std.specs.Prelude.{◌≡◌, ℕ, ◌+◌, ◌*◌, ◌≤◌, ◌<◌, Option, Some, None, slice_set, length}
+use Rattle.std.specs.Prelude.{◌≡◌, ℕ, suc, ◌+◌, ◌*◌, ◌≤◌, ◌<◌, Option, Some, None, slice_set, length}
 use Rattle.layout.specs.Sizes.{greatest_block, key_room}
 use Rattle.trace_text.specs.declared.command.Kind.{Kind}
 use Rattle.trace_text.specs.declared.command.Kind.TheVariants as kinds
@@ -26,6 +26,10 @@ pub record TakesBack (old new : SpaceState) : Type 0 where
   pub home : ComeHome old.lent new.lent old.backs new.backs
   pub lends : new.lends ≡ old.lends
 
+-- where a block was out, the list was looked at once
+abbrev pub LooksOnce : SpaceState → SpaceState → Type 0
+LooksOnce old new = 0 < tickets_out old.lent → new.looks ≡ suc old.looks
+
 -- A block was lent with a ticket of the share, which was idle or had come home in the call. Others may have come home before it
 -- was lent, and behind it.
 pub record LendsBlock (share : Share) (old new : SpaceState) (block : Block) : Type 0 where
@@ -41,11 +45,11 @@ pub record LendsBlock (share : Share) (old new : SpaceState) (block : Block) : T
   pub fresh : block.seen ≡ 0
 
 -- why no block is given: it is larger than the greatest class; no ticket of the share is idle; or there is no room for it, and no
--- segment is free that could be given back
+-- segment is free that could be given back, though the list was looked at
 abbrev pub RefusesNow : SpaceState → SpaceState → ℕ → Share → GiveRefusal → Type 0
 RefusesNow old new size share TooLarge = greatest_block < size
 RefusesNow old new size share NoTicket = (size ≤ greatest_block) × ¬ HasIdle old.lent share
-RefusesNow old new size share NoSpan = (size ≤ greatest_block) × HasIdle old.lent share × LacksBlock new.free size × (free_count new.region ≤ 1)
+RefusesNow old new size share NoSpan = (size ≤ greatest_block) × HasIdle old.lent share × LacksBlock new.free size × (free_count new.region ≤ 1) × LooksOnce old new
 
 -- the length of the value that is found
 abbrev pub value_length : Option Row → ℕ

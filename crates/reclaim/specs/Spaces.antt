@@ -26,6 +26,8 @@ pub record SpaceState : Type 0 where
   -- how many blocks were lent and came home since the opening, the greatest u64 where there were more
   pub lends : ℕ
   pub backs : ℕ
+  -- how often the list was looked at for released blocks
+  pub looks : ℕ
   -- the segments in which the rows stand, and how many guards stand
   pub region : RegionState
   -- what the pages can still give

@@ -13,7 +13,7 @@ ghost use Rattle.row_cache.specs.Rows.{rows_of, Stay};
 ghost use Rattle.reclaim.specs.Works.{floor_of};
 ghost use Rattle.reclaim.specs.inside.Consistent.{IsConsistent};
 ghost use Rattle.reclaim.specs.inside.Evicted.{HasEvicted};
-ghost use Rattle.reclaim.specs.inside.Homecoming.{TakesHome, GivesAfter, RefusesAfter};
+ghost use Rattle.reclaim.specs.inside.Homecoming.{TakesHome, TakesOnce, GivesAfter, RefusesAfter};
 
 use crate::evicting::evict;
 use crate::segments::give_free_back;
@@ -194,6 +194,7 @@ fn give_trimmed<'f>(
     requires idle { HasIdle memory.old.lent share }
     ensures given { IfSome result (GivesAfter share size memory.old memory.new) }
     ensures taken { IfNone result (TakesHome memory.old memory.new) }
+    ensures once { IfNone result (TakesOnce memory.old memory.new) }
     ensures none { IfNone result (LacksBlock memory.new.room size × IsCrowded memory.new) }
     ensures consistent { (shard pages guards : ℕ) (region : RegionState) → IsConsistent shard pages guards memory.old region → IsConsistent shard pages guards memory.new region }
 {

@@ -1,5 +1,5 @@
 -- The memory of one shard, as its callers think of it: the blocks that stay, those that are lent, the segments, and what can still be given.
-use Rattle.std.specs.Prelude.{◌≡◌, ◌≢◌, ℕ, suc, ◌+◌, ◌*◌, ◌/◌, ◌≤◌, ◌^◌, ◌⊎◌, List, length, Contains, Some, refl}
+use Rattle.std.specs.Prelude.{◌≡◌, ◌≢◌, ℕ, suc, ◌+◌, ◌*◌, ◌/◌, ◌<◌, ◌≤◌, ◌^◌, ◌⊎◌, List, length, Contains, Some, refl}
 use Rattle.std.specs.Ordering.{nat_cmp}
 use Rattle.std.specs.FinMap as map
 use Rattle.std.specs.Coded.{Coded, code_by, coded×, coded_list, coded_option, coded_ℕ}
@@ -123,11 +123,11 @@ SetsAside old new size at = (class : ℕ) × IsLeastClass size class × (new ≡
 abbrev pub TakesPages : ℕ → ℕ → ℕ → Type 0
 TakesPages old new size = (new ≡ old) ⊎ ((class : ℕ) × IsLeastClass size class × (new ≡ old + 2 ^ order_of class))
 
--- so many lent blocks came home by one take-whole, and are free
+-- so many lent blocks came home, and are free; where one was out, the list was taken once
 pub record ComeBack (old new : Shard) (count : ℕ) : Type 0 where
   pub idle : BecomeIdle old.lent new.lent
   pub out : tickets_out new.lent + count ≡ tickets_out old.lent
   pub backs : new.backs ≡ raised old.backs count
-  pub take_wholes : new.take_wholes ≡ suc old.take_wholes
+  pub take_wholes : 0 < tickets_out old.lent → new.take_wholes ≡ suc old.take_wholes
   pub room : KeepsRoom old.room new.room
   pub same : new ≡ record old { lent = new.lent; backs = new.backs; take_wholes = new.take_wholes; objects = new.objects; room = new.room }

@@ -173,11 +173,14 @@ impl<'f> ShardMemory<'f> {
         Ok(self.home.lend(&mut self.seat, ticket, piece))
     }
 
-    /// Takes back each lent block that was released, by one look at the list. Their tickets are idle, and their bytes free.
-    /// Answers how many came.
+    /// Takes back each lent block that was released, by one look at the list, which is left alone where none is out. Their tickets
+    /// are idle, and their bytes free. Answers how many came.
     pub fn take_back(&mut self) -> u32
         ensures { ComeBack self.old self.new result }
     {
+        if self.out == 0 {
+            return 0;
+        }
         let count = take_all(self.home, &mut self.seat, &mut self.own);
         self.out -= count;
         self.back = self.back.saturating_add(u64::from(count));

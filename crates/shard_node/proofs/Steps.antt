@@ -25,7 +25,7 @@ use Rattle.shard_node.proofs.Stands.{came_back, released}
 module _ {L G : Type 0} (traffic : L → Traffic) (end : L → LinkEnd) where
   -- blocks came home
   pub takes_back : (shard : Shard L G) (space : SpaceState)
-      → space ≡ record shard.space { lent = space.lent; backs = space.backs; free = space.free }
+      → space ≡ record shard.space { lent = space.lent; backs = space.backs; looks = space.looks; free = space.free }
       → space.lends ≡ raised space.backs (tickets_out space.lent)
       → IsConsistent shard → IsStep traffic end shard (record shard { space = space })
   takes_back shard space same lends x =

@@ -46,6 +46,7 @@ space_of memory cache = record {
   lent = memory.lent;
   lends = memory.lends;
   backs = memory.backs;
+  looks = memory.take_wholes;
   region = cache.region;
   free = memory.room;
 }

@@ -1,12 +1,12 @@
 -- What a shard's memory lent, and what came home to it.
-use Rattle.std.specs.Prelude.{◌≡◌, ℕ, ◌<◌, ◌≤◌, Some, slice_set, replicate}
+use Rattle.std.specs.Prelude.{◌≡◌, ℕ, suc, ◌<◌, ◌≤◌, Some, slice_set, replicate}
 use Rattle.layout.specs.Sizes.{greatest_block}
 use Rattle.foreign_list.specs.Blocks.{Block, piece_id_of}
 use Rattle.regions.specs.Segments.{RegionState}
 use Rattle.regions.specs.Shapes.{free_count}
 use Rattle.shard_memory.specs.Room.{LacksBlock}
 use Rattle.shard_memory.specs.Shards.{Shard, IsCrowded}
-use Rattle.shard_memory.specs.Tickets.{IsOfShare, IsIdle, HasIdle, raised}
+use Rattle.shard_memory.specs.Tickets.{IsOfShare, IsIdle, HasIdle, raised, tickets_out}
 use Rattle.shard_memory.specs.declared.share.Share.{Share}
 use Rattle.shard_memory.specs.declared.give_refusal.GiveRefusal.{GiveRefusal}
 use Rattle.shard_memory.specs.declared.give_refusal.GiveRefusal.TheVariants.{TooLarge, NoTicket, NoSpan}
@@ -28,6 +28,10 @@ pub record TakesHome (old new : Shard) : Type 0 where
   pub list : new.list ≡ old.list
   pub home : ComeHome old.lent new.lent old.backs new.backs
   pub lends : new.lends ≡ old.lends
+
+-- where a block was out, the list was taken once
+abbrev pub TakesOnce : Shard → Shard → Type 0
+TakesOnce old new = 0 < tickets_out old.lent → new.take_wholes ≡ suc old.take_wholes
 
 -- the block of so many bytes, all 0, was lent, and nothing else
 pub record Gives (share : Share) (size : ℕ) (old new : Shard) (block : Block) : Type 0 where
@@ -55,4 +59,4 @@ abbrev pub RefusesAfter : Shard → Shard → RegionState → ℕ → Share → 
 RefusesAfter old new region size share TooLarge = greatest_block < size
 RefusesAfter old new region size share NoTicket = (size ≤ greatest_block) × ¬ HasIdle old.lent share
 RefusesAfter old new region size share NoSpan =
-    (size ≤ greatest_block) × HasIdle old.lent share × LacksBlock new.room size × (free_count region ≤ 1) × TakesHome old new × IsCrowded new
+    (size ≤ greatest_block) × HasIdle old.lent share × LacksBlock new.room size × (free_count region ≤ 1) × TakesHome old new × TakesOnce old new × IsCrowded new

@@ -8,7 +8,7 @@ ghost use Rattle.regions.specs.Shapes.{guards_of};
 ghost use Rattle.row_cache.specs.Rows.{StandsAt};
 ghost use Rattle.shard_memory.specs.Tickets.{HasIdle, tickets_out, raised};
 ghost use Rattle.reclaim.specs.Spaces.{IsSameSpace, RowsStay, with_guards};
-ghost use Rattle.reclaim.specs.Lending.{TakesBack, LendsBlock, RefusesNow};
+ghost use Rattle.reclaim.specs.Lending.{TakesBack, LooksOnce, LendsBlock, RefusesNow};
 
 use super::Space;
 use crate::giving::give_now;
@@ -49,11 +49,13 @@ impl<'f> Space<'f> {
         give_now(memory, cache, size, share)
     }
 
-    /// Takes back each lent block that was released, by one look at the list. Answers how many came home.
+    /// Takes back each lent block that was released, by one look at the list, which is left alone where none is out. Answers how
+    /// many came home.
     pub fn take_back(&mut self) -> u32
         ensures taken { TakesBack self.old self.new }
         ensures count { tickets_out self.new.lent + result ≡ tickets_out self.old.lent }
-        ensures same { self.new ≡ record self.old { lent = self.new.lent; backs = self.new.backs; free = self.new.free } }
+        ensures looked { LooksOnce self.old self.new }
+        ensures same { self.new ≡ record self.old { lent = self.new.lent; backs = self.new.backs; looks = self.new.looks; free = self.new.free } }
     {
         self.memory.take_back()
     }
