@@ -2,12 +2,6 @@
 use Rattle.std.specs.Prelude.{◌≡◌, ℕ, zero, suc, ◌<◌, ◌==◌, List, length, count_by}
 use Rattle.std.specs.List.{slice_index_or}
 use Rattle.shard_rings.specs.Lanes.{counted}
-use Rattle.shard_rings.specs.Links.{LinkState}
-use Rattle.shard_node.specs.Nodes.{Traffic, traffic_by}
-
--- what a link over rings tells of itself
-abbrev pub ring_traffic : LinkState → Traffic
-ring_traffic = traffic_by (λ link. link.out.sent) (λ link. link.into.received) (λ link. link.out.full) (λ link. link.into.empty)
 
 -- at each place k, so of what stood there and what stands there
 abbrev pub AtEach : {A : Type 0} → (ℕ → A → A → Type 0) → List A → List A → Type 0

@@ -5,8 +5,7 @@ use Rattle.std.specs.declared.alloc.Global.{Global}
 use Rattle.foreign_list.specs.Lists.{OwnedList}
 use Rattle.foreign_list.specs.OwnerSeats.{OwnerState, IsAtRest}
 use Rattle.shard_rings.specs.Links.{LinkState}
-use Rattle.shard_node.specs.Links.{IsUnused}
-use Rattle.shard_drive.specs.Drives.{ring_traffic}
+use Rattle.shard_node.specs.Links.{IsUnused, ring_traffic}
 
 -- list k is that of shard k, and seat k its owner's, at rest
 pub record IsReady (k : ℕ) (home : OwnedList) (seat : OwnerState) : Type 0 where

@@ -1,32 +1,29 @@
 //! Driving in an order that is drawn from a number.
-ghost use Rattle.std.specs.Prelude.{◌≡◌, ◌↔◌, ◌<◌, ◌≤◌, ◌%◌, length, true, All, IsTrue};
-ghost use Rattle.trace_text.specs.Parts.{most_shards};
+ghost use Rattle.std.specs.Prelude.{◌≡◌, ◌<◌, ◌%◌, length, All};
 ghost use Rattle.shard_node.specs.Nodes.{traffic_by};
 ghost use Rattle.shard_node.specs.Standing.{InStanding};
 ghost use Rattle.shard_node.specs.Turns.{IsDone, IsSameNode};
 ghost use Rattle.shard_drive.specs.Drives.{AtEach};
 ghost use Rattle.shard_drive.specs.Words.{FollowsWords, behind, first_state, word};
 
-use crate::driven::{Driven, turn_of};
+use crate::driven::{Driven, have_finished, turn_of};
 use rand_core::utils::NextWord;
 use rand_pcg::Lcg64Xsh32;
-use shard_node::{Gate, Node, Turn};
+use shard_node::{Gate, Node};
 use shard_rings::Link;
 use std::sync::Wait;
-use trace_text::MOST_SHARDS;
 
 /// The stream of words that name the nodes.
 const STREAM: u64 = 1;
 
-/// Drives the nodes on one thread until all are done: each turn goes to the node that the next word of the number names. After
-/// each turn it looks whether all are done. It returns only then, and that it returns is not promised.
+/// Drives the nodes on one thread until all are done: each turn goes to the node that the next word of the number names. Before
+/// each it looks whether all are done. It returns only then, and that it returns is not promised.
 pub fn drive_numbered<'f, R: Wait, L: Link<'f> + Drop, G: Gate + Drop>(
     rt: &R,
     nodes: &mut [Node<'f, L, G>],
     number: u32,
 )
     requires some { 0 < length nodes.old }
-    requires most { length nodes.old ≤ most_shards }
     requires standing { All (InStanding (traffic_by L.sent L.received L.full L.empty)) nodes.old }
     ensures standing { All (InStanding (traffic_by L.sent L.received L.full L.empty)) nodes.new }
     ensures done { All (IsDone (traffic_by L.sent L.received L.full L.empty) G.holds) nodes.new }
@@ -39,7 +36,6 @@ pub fn drive_numbered<'f, R: Wait, L: Link<'f> + Drop, G: Gate + Drop>(
 /// Drives all until they are done: each turn goes to the one that the next word names.
 pub(crate) fn finish_numbered<R: Wait, N: Driven>(rt: &R, nodes: &mut [N], number: u32)
     requires some { 0 < length nodes.old }
-    requires most { length nodes.old ≤ most_shards }
     requires stands { All N.stands nodes.old }
     ensures stands { All N.stands nodes.new }
     ensures done { All N.is_done nodes.new }
@@ -47,13 +43,12 @@ pub(crate) fn finish_numbered<R: Wait, N: Driven>(rt: &R, nodes: &mut [N], numbe
     ensures turns { FollowsWords N.turns number nodes.old nodes.new }
 {
     let mut words = words_of(number);
-    let mut done = [false; MOST_SHARDS as usize];
     'turns: for _ in rt.forever() {
-        if are_all(&done[..nodes.len()]) {
+        if have_finished(nodes) {
             return;
         }
         let k = next_of(&mut words, nodes.len());
-        done[k] = matches!(turn_of(nodes, k), Turn::Done);
+        turn_of(nodes, k);
     }
     unreachable!()
 }
@@ -72,11 +67,4 @@ fn next_of(words: &mut Lcg64Xsh32, nodes: usize) -> usize
     ensures words { words.new ≡ behind words.old }
 {
     words.next_word() as usize % nodes
-}
-
-/// Whether all are marked.
-fn are_all(marks: &[bool]) -> bool
-    ensures { IsTrue result ↔ All (λ mark. mark ≡ true) marks.now }
-{
-    marks.iter().all(|mark| *mark)
 }

@@ -1,5 +1,5 @@
 //! What can be driven.
-ghost use Rattle.std.specs.Prelude.{◌≡◌, ℕ, ◌<◌, length, slice_set};
+ghost use Rattle.std.specs.Prelude.{◌≡◌, ℕ, ◌<◌, length, slice_set, true, All};
 ghost use Rattle.std.specs.List.{slice_index_or};
 ghost use Rattle.shard_rings.specs.Lanes.{counted};
 ghost use Rattle.shard_node.specs.Nodes.{traffic_by};
@@ -29,6 +29,10 @@ pub(crate) trait Driven {
         ensures done { stands self.old → result ≡ Turn.Done → is_done self.new }
         ensures lasting { lasting self.new ≡ lasting self.old }
         ensures turns { turns self.new ≡ counted (turns self.old) };
+
+    /// Whether it is done.
+    fn has_finished(&self) -> bool
+        ensures { stands self.now → result ≡ true → is_done self.now };
 }
 
 impl<'f, L: Link<'f> + Drop, G: Gate + Drop> Driven for Node<'f, L, G> {
@@ -43,17 +47,33 @@ impl<'f, L: Link<'f> + Drop, G: Gate + Drop> Driven for Node<'f, L, G> {
     fn step(&mut self) -> Turn {
         self.turn()
     }
+
+    fn has_finished(&self) -> bool {
+        self.is_done()
+    }
 }
 
 /// One turn of the one at place k.
 #[tactic(auto, using(std::proofs::lemmas::List::get_or_default))]
-pub(crate) fn turn_of<N: Driven>(nodes: &mut [N], k: usize) -> Turn
+pub(crate) fn turn_of<N: Driven>(nodes: &mut [N], k: usize)
     requires { k < length nodes.old }
     ensures others { (d : N) → nodes.new ≡ slice_set nodes.old k (slice_index_or nodes.new k d) }
     ensures stands { (d : N) → N.stands (slice_index_or nodes.old k d) → N.stands (slice_index_or nodes.new k d) }
-    ensures done { (d : N) → N.stands (slice_index_or nodes.old k d) → result ≡ Turn.Done → N.is_done (slice_index_or nodes.new k d) }
     ensures lasting { (d : N) → N.lasting (slice_index_or nodes.new k d) ≡ N.lasting (slice_index_or nodes.old k d) }
     ensures turns { (d : N) → N.turns (slice_index_or nodes.new k d) ≡ counted (N.turns (slice_index_or nodes.old k d)) }
 {
-    nodes[k].step()
+    nodes[k].step();
+}
+
+/// Whether all are done.
+pub(crate) fn have_finished<N: Driven>(nodes: &[N]) -> bool
+    requires { All N.stands nodes.now }
+    ensures { result ≡ true → All N.is_done nodes.now }
+{
+    for node in nodes {
+        if !node.has_finished() {
+            return false;
+        }
+    }
+    true
 }

@@ -3,7 +3,8 @@ ghost use Rattle.std.specs.Prelude.{◌≡◌, All};
 ghost use Rattle.shard_rings.specs.Links.{end_of};
 ghost use Rattle.shard_node.specs.Standing.{InStanding};
 ghost use Rattle.shard_node.specs.Turns.{IsDone, IsSameNode};
-ghost use Rattle.shard_drive.specs.Drives.{AtEach, ring_traffic};
+ghost use Rattle.shard_node.specs.Links.{ring_traffic};
+ghost use Rattle.shard_drive.specs.Drives.{AtEach};
 
 use crate::driven::Driven;
 use crossbeam_utils::Backoff;

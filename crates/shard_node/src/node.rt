@@ -1,5 +1,5 @@
 //! A node: one shard at work, from its opening to its end.
-ghost use Rattle.std.specs.Prelude.{◌≡◌, ◌↔◌, ◌+◌, ◌<◌, ◌≤◌, [], ◌∷◌, ◌++◌, length, map, vec_capacity, All, IfOk, IfErr};
+ghost use Rattle.std.specs.Prelude.{◌≡◌, ◌↔◌, ◌+◌, ◌<◌, ◌≤◌, [], ◌∷◌, ◌++◌, length, map, vec_capacity, All, IfOk, IfErr, IsTrue};
 ghost use Rattle.layout.specs.Sizes.{ArePages};
 ghost use Rattle.trace_text.specs.Parsed.{trace_in};
 ghost use Rattle.foreign_list.specs.OwnerSeats.{IsAtRest};
@@ -111,6 +111,14 @@ impl<'f, L: Link<'f> + Drop, G: Gate + Drop> Node<'f, L, G> {
             → IsAnswer (traffic_by L.sent L.received L.full L.empty) G.holds result self.old self.new }
     {
         self.shard.turn()
+    }
+
+    /// Whether it is done, so that a turn would make no step.
+    pub fn is_done(&self) -> bool
+        ensures { InStanding (traffic_by L.sent L.received L.full L.empty) self.now
+            → (IsTrue result ↔ IsDone (traffic_by L.sent L.received L.full L.empty) G.holds self.now) }
+    {
+        self.shard.is_done()
     }
 
     /// How many turns it made, up to the greatest u64.

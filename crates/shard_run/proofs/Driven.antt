@@ -16,7 +16,8 @@ use Rattle.shard_node.specs.Together.{AreTogether, IsDoneNode, IsPeer}
 use Rattle.shard_node.specs.Turns.{IsDone, IsSameNode}
 use Rattle.shard_node.specs.inside.Work.{others}
 use Rattle.shard_run.specs.Closing.{ArePaired, WereExchanged}
-use Rattle.shard_run.specs.Opening.{AreAtRest, IsLinkOf, IsOpened, links_of, ring_traffic}
+use Rattle.shard_node.specs.Links.{ring_traffic}
+use Rattle.shard_run.specs.Opening.{AreAtRest, IsLinkOf, IsOpened, links_of}
 use Rattle.shard_run.specs.Remaining.{AllCanFinish, AllHaveFacts, AreLeftBy}
 use Rattle.shard_run.specs.Running.{WereDriven}
 use Rattle.shard_run.specs.declared.remains.Remains.{Remains}

@@ -7,7 +7,8 @@ use Rattle.foreign_list.specs.OwnerSeats.{OwnerState, IsAtRest}
 use Rattle.shard_rings.specs.Links.{LinkState}
 use Rattle.shard_node.specs.Nodes.{NodeState}
 use Rattle.shard_node.specs.Turns.{IsDone}
-use Rattle.shard_run.specs.Opening.{links_of, ring_traffic}
+use Rattle.shard_node.specs.Links.{ring_traffic}
+use Rattle.shard_run.specs.Opening.{links_of}
 use Rattle.shard_run.specs.Remaining.{AllCanFinish, AllHaveFacts, AreLeftBy, CanFinish, HasFacts, IsRoomFor, occupancy_in}
 use Rattle.shard_run.specs.inside.Finishing.{HasFinished, Leaves}
 use Rattle.shard_run.specs.declared.remains.Remains.{Remains}

@@ -18,7 +18,7 @@ use Rattle.shard_rings.specs.Links.{LinkState}
 use Rattle.shard_node.specs.Nodes.{NodeState}
 use Rattle.shard_node.specs.Standing.{InStanding}
 use Rattle.shard_node.specs.Together.{Agree, journals_of as journals_by, logs_of as logs_by}
-use Rattle.shard_run.specs.Opening.{ring_traffic}
+use Rattle.shard_node.specs.Links.{ring_traffic}
 use Rattle.shard_run.specs.Remaining.{AreLeftBy, occupancy_in}
 use Rattle.shard_run.specs.Running.{IsRun, WereDriven, journals_of, logs_of, told}
 use Rattle.shard_run.specs.declared.remains.Remains.{Remains}

@@ -5,7 +5,8 @@ use Rattle.foreign_list.specs.Lists.{OwnedList}
 use Rattle.foreign_list.specs.OwnerSeats.{OwnerState, IsAtRest}
 use Rattle.shard_rings.specs.Lanes.{ArePair}
 use Rattle.shard_rings.specs.Links.{LinkState, end_of}
-use Rattle.shard_node.specs.Nodes.{NodeState, Traffic, traffic_by}
+use Rattle.shard_node.specs.Nodes.{NodeState}
+use Rattle.shard_node.specs.Links.{ring_traffic}
 use Rattle.shard_node.specs.Standing.{InStanding}
 use Rattle.shard_node.specs.inside.Work.{others}
 
@@ -23,10 +24,6 @@ pub record AreAtRest (n : ℕ) (homes : List OwnedList) (seats : List OwnerState
   pub lists : AreLists n homes
   pub one_each : length seats ≡ n
   pub at_rest : AreSeatsOf homes seats
-
--- what went over a link between two threads
-abbrev pub ring_traffic : LinkState → Traffic
-ring_traffic = traffic_by (λ link. link.out.sent) (λ link. link.into.received) (λ link. link.out.full) (λ link. link.into.empty)
 
 module _ {G : Type 0} where
   -- the links of a node, in the order of its peers

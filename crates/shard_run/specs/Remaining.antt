@@ -7,7 +7,8 @@ use Rattle.reclaim.specs.Spaces.{SpaceState}
 use Rattle.shard_node.specs.Nodes.{NodeState}
 use Rattle.shard_node.specs.Turns.{IsDone}
 use Rattle.shard_node.specs.inside.Work.{others}
-use Rattle.shard_run.specs.Opening.{links_of, ring_traffic}
+use Rattle.shard_node.specs.Links.{ring_traffic}
+use Rattle.shard_run.specs.Opening.{links_of}
 use Rattle.shard_run.specs.declared.remains.Occupancy.{Occupancy}
 use Rattle.shard_run.specs.declared.remains.Remains.{Remains}
 

@@ -15,7 +15,8 @@ use Rattle.shard_node.specs.Nodes.{NodeState}
 use Rattle.shard_node.specs.Rans.{RanState}
 use Rattle.shard_node.specs.Standing.{InStanding}
 use Rattle.shard_node.specs.Turns.{IsDone, IsSameNode}
-use Rattle.shard_run.specs.Opening.{AreOpened, ring_traffic}
+use Rattle.shard_node.specs.Links.{ring_traffic}
+use Rattle.shard_run.specs.Opening.{AreOpened}
 use Rattle.shard_run.specs.declared.remains.Occupancy.{Occupancy}
 
 -- The nodes were opened for this run, and turns alone changed them since: each is the node that was opened in its place. Now they

@@ -1,7 +1,7 @@
 //! The end of the nodes of all shards.
 ghost use Rattle.std.specs.Prelude.{◌≡◌, ℕ, ◌+◌, ◌^◌, ◌<◌, ◌≤◌, List, length};
 ghost use Rattle.shard_node.specs.Turns.{IsDone};
-ghost use Rattle.shard_run.specs.Opening.{ring_traffic};
+ghost use Rattle.shard_node.specs.Links.{ring_traffic};
 ghost use Rattle.shard_run.specs.Remaining.{AllCanFinish, AllHaveFacts, AreLeftBy, HasFacts, IsRoomFor, occupancy_in};
 ghost use Rattle.shard_run.specs.inside.Finishing.{HasFinished, Leaves};
 

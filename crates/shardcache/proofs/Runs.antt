@@ -21,7 +21,8 @@ use Rattle.shard_node.specs.Rans.{RanState}
 use Rattle.shard_node.specs.Standing.{InStanding}
 use Rattle.shard_node.specs.Turns.{IsDone, IsSameNode}
 use Rattle.shard_drive.specs.Drives.{AtEach}
-use Rattle.shard_run.specs.Opening.{AreOpened, ring_traffic}
+use Rattle.shard_node.specs.Links.{ring_traffic}
+use Rattle.shard_run.specs.Opening.{AreOpened}
 use Rattle.shard_run.specs.Running.{IsRun, WereDriven, journals_of, logs_of, told}
 use Rattle.shard_run.specs.declared.remains.Occupancy.{Occupancy}
 use Rattle.report_text.specs.Views.{occupancies_in, occupancy_in}

@@ -2,12 +2,12 @@
 ghost use Rattle.std.specs.Prelude.{◌≡◌, ℕ, ◌+◌, ◌<◌, ◌≤◌, List, [], length, map, vec_capacity, All, IfOk, IfErr};
 ghost use Rattle.layout.specs.Sizes.{ArePages};
 ghost use Rattle.trace_text.specs.Parsed.{trace_in};
-ghost use Rattle.trace_text.specs.Parts.{most_shards};
 ghost use Rattle.foreign_list.specs.Lists.{OwnedList};
 ghost use Rattle.shard_rings.specs.Links.{end_of};
 ghost use Rattle.shard_node.specs.Standing.{InStanding};
 ghost use Rattle.shard_node.specs.Turns.{IsDone, IsSameNode};
-ghost use Rattle.shard_drive.specs.Drives.{AtEach, ring_traffic};
+ghost use Rattle.shard_node.specs.Links.{ring_traffic};
+ghost use Rattle.shard_drive.specs.Drives.{AtEach};
 ghost use Rattle.shard_run.specs.Opening.{AreAtRest};
 ghost use Rattle.shard_run.specs.Remaining.{IsRoomFor};
 ghost use Rattle.shard_run.specs.Running.{WereDriven};
@@ -73,7 +73,6 @@ where
     R: Threads + Wait + Sync,
     G: Gate + Send + Drop,
     requires some { 0 < length nodes.old }
-    requires most { length nodes.old ≤ most_shards }
     requires standing { All (InStanding ring_traffic) nodes.old }
     ensures standing { All (InStanding ring_traffic) nodes.new }
     ensures done { All (IsDone ring_traffic G.holds) nodes.new }

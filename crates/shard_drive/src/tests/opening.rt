@@ -3,9 +3,8 @@ ghost use Rattle.std.specs.Prelude.{◌≡◌, ◌+◌, ◌<◌, ◌≤◌, leng
 ghost use Rattle.foreign_list.specs.OwnerSeats.{IsAtRest};
 ghost use Rattle.trace_text.specs.Parts.{most_shards};
 ghost use Rattle.trace_text.specs.Reading.{most_bytes};
-ghost use Rattle.shard_node.specs.Links.{IsUnused};
+ghost use Rattle.shard_node.specs.Links.{IsUnused, ring_traffic};
 ghost use Rattle.shard_node.specs.Standing.{InStanding};
-ghost use Rattle.shard_drive.specs.Drives.{ring_traffic};
 ghost use Rattle.shard_drive.specs.Trials.{AreReady, AreUnused};
 
 use foreign_list::{Foreign, OwnerSeat};

@@ -3,7 +3,7 @@ use Rattle.std.proofs.lemmas.List.{length-map}
 use Rattle.trace_text.specs.Operation.{operation}
 use Rattle.trace_text.specs.Parsed.{trace_in}
 use Rattle.trace_text.specs.Reading.{most_commands}
-use Rattle.shard_run.specs.Opening.{ring_traffic}
+use Rattle.shard_node.specs.Links.{ring_traffic}
 use Rattle.shard_run.proofs.Driven.{can_finish, paired, seats_back, together}
 use Rattle.shard_run.proofs.Runs.{is_run}
 use Rattle.shard_run.proofs.ending.finish_run.Goals as goal

@@ -3,7 +3,8 @@ use Rattle.std.proofs.Common.{sym, subst}
 use Rattle.std.specs.List.{All}
 use Rattle.trace_text.specs.Parsed.{trace_in}
 use Rattle.shard_node.specs.Standing.{InStanding}
-use Rattle.shard_run.specs.Opening.{AreAtRest, ring_traffic}
+use Rattle.shard_node.specs.Links.{ring_traffic}
+use Rattle.shard_run.specs.Opening.{AreAtRest}
 use Rattle.shardcache.specs.inside.Finished.{IsRunOf}
 use Rattle.shardcache.proofs.Runs.{all-standing, driven-after}
 use Rattle.shardcache.proofs.run.run_over.Goals as goal

@@ -2,7 +2,7 @@ use Rattle.std.proofs.Common.{◌≡◌, ◌++◌, ◌∷◌, [], length, length
 use Rattle.std.specs.Option.{option_to_list}
 use Rattle.std.proofs.lemmas.List.Elements.{All-cons, All-pop}
 use Rattle.shard_node.specs.Standing.{InStanding}
-use Rattle.shard_drive.specs.Drives.{ring_traffic}
+use Rattle.shard_node.specs.Links.{ring_traffic}
 use Rattle.shard_drive.specs.Trials.{AreReady, AreUnused}
 use Rattle.shard_drive.proofs.Trials.{one-less, ready-less}
 use Rattle.shard_drive.proofs.tests.opening.open_nodes.Goals as goal

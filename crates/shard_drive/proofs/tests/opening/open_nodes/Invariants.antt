@@ -1,7 +1,7 @@
 use Rattle.std.proofs.Common.{◌≡◌, ◌+◌, length, vec_len}
 use Rattle.std.specs.List.{All}
 use Rattle.shard_node.specs.Standing.{InStanding}
-use Rattle.shard_drive.specs.Drives.{ring_traffic}
+use Rattle.shard_node.specs.Links.{ring_traffic}
 use Rattle.shard_drive.specs.Trials.{AreReady, AreUnused}
 use Rattle.shard_drive.proofs.tests.opening.open_nodes.Given as goal
 
