@@ -71,7 +71,16 @@ fn a_node_that_is_abandoned_hands_its_seat_back(rt: HostRuntime) -> Result<(), F
     let Some(handed) = abandon(rt.alloc(), &trace, &home, seat, links) else {
         return Err(Fail::new("it was not opened"));
     };
-    assert!(rt; play(rt.alloc(), &trace, &home, handed.seat, handed.links, &mut ran));
+    assert!(rt;
+        play(
+            rt.alloc(),
+            &trace,
+            &home,
+            handed.seat,
+            handed.links,
+            &mut ran
+        )
+    );
     Ok(())
 }
 
