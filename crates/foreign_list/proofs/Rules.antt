@@ -161,18 +161,19 @@ walks n id v c d i t left is next first free =
     )) first free))
 
 -- 9
-pub goes_home : (n id : ℕ) (v : View) (c : Slots) (d : Ledger) (t : ℕ) (more : Slots) → v ≡ Owner d → d.hand ≡ Some t → c ≡ (t, None) ∷ more
-    → IsAllowed n id v c 0 (λ x. x) (λ found m. of_owner (λ b. go_home b.hand b) v (v, c) found m)
-goes_home n id v c d t more is has holds =
+pub goes_home : (n id : ℕ) (v : View) (c : Slots) (d : Ledger) (i t : ℕ) (more : Slots) → v ≡ Owner d → i ≡ suc t → d.hand ≡ Some t → c ≡ (t, None) ∷ more
+    → IsAllowed n id v c i (λ x. x) (λ found m. of_owner (λ b. go_home b.hand b) v (v, c) found m)
+goes_home n id v c d i t more is next has holds =
     let mine : Slots = (t, None) ∷ more in
-    subst (λ v. IsAllowed n id v c 0 (λ x. x) (λ found m. of_owner (λ b. go_home b.hand b) v (v, c) found m)) (sym is)
-    (subst (λ c. IsAllowed n id (Owner d) c 0 (λ x. x) (λ found m. go_home d.hand d (Owner d, c) found m)) (sym holds)
+    subst (λ v. IsAllowed n id v c i (λ x. x) (λ found m. of_owner (λ b. go_home b.hand b) v (v, c) found m)) (sym is)
+    (subst (λ i. IsAllowed n id (Owner d) c i (λ x. x) (λ found m. go_home d.hand d (Owner d, c) found m)) (sym next)
+    (subst (λ c. IsAllowed n id (Owner d) c (suc t) (λ x. x) (λ found m. go_home d.hand d (Owner d, c) found m)) (sym holds)
     (λ s k deep at fits. at_ledger s k id d
-    (λ j (b : Ledger). b.hand ≡ Some t → Goes s 0 (head s) j mine (λ found m. go_home b.hand b (Owner b, mine) found m)) at
+    (λ j (b : Ledger). b.hand ≡ Some t → Goes s (suc t) (word_at s.words (suc t)) j mine (λ found m. go_home b.hand b (Owner b, mine) found m)) at
     (λ has'. (
       Owner (put_home t k.ledger),
       gives,
       tt,
       (came_home s k t has').0,
-      subst (λ h. go_home h k.ledger (Owner k.ledger, mine) (head s) (Owner (put_home t k.ledger), more)) (sym has') (refl, refl),
-    )) has))
+      subst (λ h. go_home h k.ledger (Owner k.ledger, mine) (word_at s.words (suc t)) (Owner (put_home t k.ledger), more)) (sym has') (refl, refl),
+    )) has)))

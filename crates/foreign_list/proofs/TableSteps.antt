@@ -170,9 +170,9 @@ module _ (s : Table) (k : IsConsistent s) where
   )
 
   pub came_home : (t : ℕ) → k.ledger.hand ≡ Some t
-      → LeadsTo s k event.Back (set s.words 0 (head s)) (set s.homes t (some None)) (owner_at (put_home t k.ledger))
+      → LeadsTo s k event.Back (set s.words (suc t) (word_at s.words (suc t))) (set s.homes t (some None)) (owner_at (put_home t k.ledger))
   came_home t has = let n = history.came_home k.ledger k.listed s.words s.homes s.views k.places k.history t has in (
-    read s.words 0 (set s.homes t (some None)) (owner_at (put_home t k.ledger)) record {
+    read s.words (suc t) (set s.homes t (some None)) (owner_at (put_home t k.ledger)) record {
       ledger = put_home t k.ledger;
       listed = k.listed;
       places = home_kept_idle k.ledger k.listed s.words s.homes s.views k.places t has;

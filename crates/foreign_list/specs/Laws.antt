@@ -94,4 +94,4 @@ pub record EachStepIsOneEvent : Type 0 where
       → d.walk ≡ t ∷ left → d.hand ≡ None
       → Stays s (stepped s (suc t) (word_at s.words (suc t)) 0 c (Owner (walked t left d)) (takes t (Some piece)))
   pub back : (s : Table) (more : Slots) (d : Ledger) (t : ℕ) → Has s 0 (Owner d) → d.hand ≡ Some t
-      → Leads s event.Back (stepped s 0 (head s) 0 ((t, None) ∷ more) (Owner (put_home t d)) gives)
+      → Leads s event.Back (stepped s (suc t) (word_at s.words (suc t)) 0 ((t, None) ∷ more) (Owner (put_home t d)) gives)

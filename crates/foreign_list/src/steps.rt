@@ -112,14 +112,14 @@ impl ListTable {
         self.table.shared.load::<Walk>(seat, ticket as usize + 1)
     }
 
-    // 9: the ticket in hand is idle.
+    // 9: the ticket in hand is idle. Its own word is read once more: no other thread writes that one now, as they do the head.
     pub(crate) fn put_home(&self, seat: &mut TableSeat, ticket: u32)
         requires seat { IsAt self.now seat.old × IsOwner seat.old.me.0 }
-        requires hand { (ledger_of seat.old.me.0).hand ≡ Some ticket }
+        requires hand { ((ledger_of seat.old.me.0).hand ≡ Some ticket) × (ticket < 32) }
         requires slot { seat.old.me.1 ≡ (ticket, None) ∷ [] }
         ensures seat { SameSeat seat.old seat.new }
         ensures idle { seat.new.me ≡ (Owner (put_home ticket (ledger_of seat.old.me.0)), []) }
     {
-        self.table.shared.load::<Home>(seat, 0);
+        self.table.shared.load::<Home>(seat, ticket as usize + 1);
     }
 }

@@ -54,7 +54,7 @@ each_step = record {
       → (k' : IsConsistent (stepped s (suc t) (word_at s.words (suc t)) 0 c (Owner (walked t left b)) (takes t (Some piece)))) × (k'.history.tickets ≡ k.history.tickets))
       (owner_ledger s k d at) (walked_on s k t left) first free;
   back = λ s more d t at has k. subst
-      (λ (b : Ledger). b.hand ≡ Some t → Led s k event.Back (stepped s 0 (laws.head s) 0 ((t, None) ∷ more) (Owner (put_home t b)) gives))
+      (λ (b : Ledger). b.hand ≡ Some t → Led s k event.Back (stepped s (suc t) (word_at s.words (suc t)) 0 ((t, None) ∷ more) (Owner (put_home t b)) gives))
       (owner_ledger s k d at) (came_home s k t) has;
 }
 

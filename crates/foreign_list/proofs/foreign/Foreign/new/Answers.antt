@@ -1,4 +1,4 @@
-use Rattle.std.proofs.Common.{◌≡◌, List, [], Option, None, refl, sym, ap, subst}
+use Rattle.std.proofs.Common.{List, Option, None, refl, sym, ap, subst}
 use Rattle.std.specs.Prelude.{All, IsNone}
 use Rattle.std.proofs.lemmas.List.Elements.{All-replicate}
 use Rattle.foreign_list.specs.declared.piece_id.PieceId.{PieceId}
