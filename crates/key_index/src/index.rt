@@ -5,6 +5,7 @@ ghost use Rattle.key_index.specs.Index.{IsIndexOf, IsOrdered, IsPlaceFor, IsRowA
 
 use crate::blocks::{HALF, begin, entry_at, make_room, put, sharpen, spare_blocks, take_out};
 use crate::entries::{Entry, entry_of, has_key};
+use crate::hints::Hints;
 use crate::keys::Keys;
 use crate::place::{Place, RowAt};
 use crate::rows::Rows;
@@ -22,6 +23,7 @@ pub struct KeyIndex {
     count: u32,
     blocks: Vec<Vec<Entry>>,
     spare: Vec<Vec<Entry>>,
+    hints: Hints,
 }
 
 impl Model for KeyIndex {
@@ -50,11 +52,13 @@ impl KeyIndex {
         let count = room as usize * 2 / (HALF + 1) + 3;
         let blocks = Vec::with_capacity(alloc, count)?;
         let spare = spare_blocks(alloc, count)?;
+        let hints = Hints::new(alloc, count)?;
         Ok(KeyIndex {
             room,
             count: 0,
             blocks,
             spare,
+            hints,
         })
     }
 
@@ -85,7 +89,7 @@ impl KeyIndex {
             (λ place. IsPlaceFor (K.key_of keys.now) key.now self.now place × All (λ row. K.key_of keys.now row ≢ key.now) self.now.rows) }
     {
         let blocks = self.blocks.as_slice();
-        let place = seek(keys, blocks, key);
+        let place = seek(keys, blocks, key, self.hints.guess(key));
         let Some(entry) = entry_at(blocks, place) else {
             return Err(place);
         };
@@ -183,7 +187,7 @@ impl KeyIndex {
         ensures { result ≡ rows_from (K.key_of keys.now) key.now self.now.rows }
     {
         let blocks = self.blocks.as_slice();
-        let place = seek(keys, blocks, key);
+        let place = seek(keys, blocks, key, self.hints.guess(key));
         Rows::new(blocks, place)
     }
 

@@ -7,6 +7,7 @@
 
 mod blocks;
 mod entries;
+mod hints;
 mod index;
 mod keys;
 mod place;

@@ -6,6 +6,7 @@ ghost use Rattle.key_index.specs.inside.Blocks.{entries_of, entries_at, AreAtLea
 ghost use Rattle.key_index.specs.inside.Shared.{Share};
 
 use crate::entries::{Entry, best_skip, compare, compare_keys, sought_as, sought_behind};
+use crate::hints::{guess_in, probe};
 use crate::keys::Keys;
 use crate::place::Place;
 
@@ -34,10 +35,11 @@ fn count_below<K: Keys>(keys: &K, entries: &[Entry], key: &[u8], shared: usize) 
     ensures at_least { AreAtLeast (K.key_of keys.now) key.now (drop result (rows_of entries.now)) }
 {
     let sought = sought_behind(key, entries[0].skip);
+    let guess = guess_in(entries, sought.lead);
     let mut low = 0;
     let mut high = entries.len();
     while low < high {
-        let middle = low + (high - low) / 2;
+        let middle = probe(low, high, guess);
         let compared = compare(keys, entries[middle], key, shared, sought);
         if compared.order.is_lt() {
             low = middle + 1;
@@ -92,7 +94,7 @@ fn count_in<K: Keys>(keys: &K, entries: &[Entry], key: &[u8], shared: usize) -> 
 
 /// How many blocks begin with an entry whose key is not above a key, and how many bytes the key shares with those of
 /// the last of these blocks.
-fn count_upto<K: Keys>(keys: &K, blocks: &[Vec<Entry>], key: &[u8]) -> Passed
+fn count_upto<K: Keys>(keys: &K, blocks: &[Vec<Entry>], key: &[u8], guess: usize) -> Passed
     requires entries { AreEntriesOf (K.has_row keys.now) (K.key_of keys.now) (entries_of blocks.now) }
     requires full { All (λ block. 0 < length block.items) blocks.now }
     ensures within { result.count ≤ length blocks.now }
@@ -107,7 +109,7 @@ fn count_upto<K: Keys>(keys: &K, blocks: &[Vec<Entry>], key: &[u8]) -> Passed
     let mut high_shared = 0;
     let mut sought = sought_behind(key, 0);
     while low < high {
-        let middle = low + (high - low) / 2;
+        let middle = probe(low, high, guess);
         let block = &blocks[middle];
         let first = block[0];
         let shared = fewer(low_shared, high_shared);
@@ -137,7 +139,7 @@ fn skip_among(entries: &[Entry], shared: usize) -> u32
 }
 
 /// Where a key stands or would stand.
-pub(crate) fn seek<K: Keys>(keys: &K, blocks: &[Vec<Entry>], key: &[u8]) -> Place
+pub(crate) fn seek<K: Keys>(keys: &K, blocks: &[Vec<Entry>], key: &[u8], guess: usize) -> Place
     requires entries { AreEntriesOf (K.has_row keys.now) (K.key_of keys.now) (entries_of blocks.now) }
     requires full { All (λ block. 0 < length block.items) blocks.now }
     ensures block { 0 < length blocks.now → result.block < length blocks.now }
@@ -145,7 +147,7 @@ pub(crate) fn seek<K: Keys>(keys: &K, blocks: &[Vec<Entry>], key: &[u8]) -> Plac
     ensures at { result.at ≤ length (entries_at blocks.now result.block) }
     ensures place { IsPlaceOf (K.key_of keys.now) key.now blocks.now result.block result.at }
 {
-    let upto = count_upto(keys, blocks, key);
+    let upto = count_upto(keys, blocks, key, guess);
     if upto.count == 0 {
         return Place {
             block: 0,
