@@ -273,8 +273,10 @@ fn drop_block(blocks: &mut Vec<Vec<Entry>>, spare: &mut Vec<Vec<Entry>>, at: usi
     spare.push(block).unwrap();
 }
 
-/// Mends the blocks after one has lost an entry: an empty block goes, and neighbours with few entries are joined.
-fn settle(blocks: &mut Vec<Vec<Entry>>, spare: &mut Vec<Vec<Entry>>, at: usize)
+/// Mends the blocks after one has lost an entry: an empty block goes, and neighbours with few entries are
+/// joined. Answers the block that is no longer
+/// in use.
+fn settle(blocks: &mut Vec<Vec<Entry>>, spare: &mut Vec<Vec<Entry>>, at: usize) -> Option<usize>
     requires block { at < vec_len blocks.old }
     requires fit { All IsFit blocks.old.items }
     requires are_spare { All IsSpare spare.old.items }
@@ -291,26 +293,31 @@ fn settle(blocks: &mut Vec<Vec<Entry>>, spare: &mut Vec<Vec<Entry>>, at: usize)
     let len = block.len();
     if len == 0 {
         drop_block(blocks, spare, at);
-        return;
+        return Some(at);
     }
     let joins = can_join(blocks.as_slice(), at);
     if joins {
         merge(blocks, spare, at);
-        return;
+        return Some(at + 1);
     }
     if at == 0 {
-        return;
+        return None;
     }
     let before = at - 1;
     let joined = can_join(blocks.as_slice(), before);
     if joined {
         merge(blocks, spare, before);
-        return;
+        return Some(at);
     }
+    None
 }
 
-/// Takes the entry at a place out.
-pub(crate) fn take_out(blocks: &mut Vec<Vec<Entry>>, spare: &mut Vec<Vec<Entry>>, place: Place)
+/// Takes the entry at a place out, and answers the block that is no longer in use then.
+pub(crate) fn take_out(
+    blocks: &mut Vec<Vec<Entry>>,
+    spare: &mut Vec<Vec<Entry>>,
+    place: Place,
+) -> Option<usize>
     requires block { place.block < vec_len blocks.old }
     requires at { place.at < length (entries_at blocks.old.items place.block) }
     requires are_blocks { All IsBlock blocks.old.items }
@@ -326,5 +333,5 @@ pub(crate) fn take_out(blocks: &mut Vec<Vec<Entry>>, spare: &mut Vec<Vec<Entry>>
     ensures spare_capacity { vec_capacity spare.old ≤ vec_capacity spare.new }
 {
     drop_entry(blocks, place);
-    settle(blocks, spare, place.block);
+    settle(blocks, spare, place.block)
 }

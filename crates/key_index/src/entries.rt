@@ -145,7 +145,7 @@ fn relead<K: Keys>(entries: &mut Vec<Entry>, keys: &K, skip: u32)
 }
 
 /// How many first bytes the keys of two entries share.
-fn shared_by<K: Keys>(keys: &K, first: Entry, last: Entry) -> usize
+pub(crate) fn shared_by<K: Keys>(keys: &K, first: Entry, last: Entry) -> usize
     requires first { K.has_row keys.now first.row }
     requires last { K.has_row keys.now last.row }
 {

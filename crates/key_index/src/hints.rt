@@ -1,13 +1,13 @@
 //! Guesses where a key stands.
 //!
 //! A guess may be any number: a search compares the keys where it points, and halves on where it was wrong.
-ghost use Rattle.std.specs.Prelude.{ℕ, ◌+◌, ◌*◌, ◌<◌, ◌≤◌, length};
+ghost use Rattle.std.specs.Prelude.{ℕ, ◌+◌, ◌*◌, ◌<◌, ◌≤◌, length, All};
+ghost use Rattle.key_index.specs.inside.Blocks.{entries_of};
 
-use crate::entries::{Entry, sought_behind};
+use crate::entries::{Entry, shared_by, sought_behind};
+use crate::keys::Keys;
+use crate::place::Place;
 use std::alloc::{AllocError, Global};
-
-/// How many entries are looked at apart from each other in one step.
-const FEWEST: usize = 64;
 
 /// Where a search that has come down to places from a lower to a higher one looks next: at a guess or just before it,
 /// and where neither is one of them in the middle.
@@ -66,18 +66,24 @@ pub(crate) fn guess_in(entries: &[Entry], lead: u64) -> usize {
         + passed(entries, near + 3, lead)
 }
 
-/// Eight bytes of the first key of each block, behind so many.
+/// Eight bytes of the first key of each block, behind bytes that all keys were seen to share.
 #[derive(Drop)]
 pub(crate) struct Hints {
     leads: Vec<u64>,
     skip: u32,
+    // after how many more blocks all are read anew
+    left: usize,
 }
 
 impl Hints {
     /// No hints, and room for so many.
     pub(crate) fn new(alloc: Global, room: usize) -> Result<Hints, AllocError> {
         let leads = Vec::with_capacity(alloc, room)?;
-        Ok(Hints { leads, skip: 0 })
+        Ok(Hints {
+            leads,
+            skip: 0,
+            left: 0,
+        })
     }
 
     /// How many blocks begin with keys at or below a key, by the hints.
@@ -85,6 +91,96 @@ impl Hints {
         let lead = sought_behind(key, self.skip).lead;
         count_upto(self.leads.as_slice(), lead)
     }
+
+    /// Notes that an entry was put in at a place, and where there are more blocks than before, that one has come into
+    /// use.
+    pub(crate) fn keep<K: Keys>(
+        &mut self,
+        keys: &K,
+        blocks: &[Vec<Entry>],
+        place: Place,
+        before: usize,
+        begun: usize,
+    )
+        requires place { place.block < length blocks.now }
+        requires begun { begun ≤ before }
+        requires readable { All (λ entry. K.has_row keys.now entry.row) (entries_of blocks.now) }
+        requires full { All (λ block. 0 < length block.items) blocks.now }
+    {
+        if place.at == 0 && place.block < self.leads.len() {
+            self.leads[place.block] = lead_of_first(keys, blocks, place.block, self.skip);
+        }
+        if blocks.len() > before {
+            self.begin(keys, blocks, begun);
+        }
+    }
+
+    /// Notes that a block has come into use.
+    pub(crate) fn begin<K: Keys>(&mut self, keys: &K, blocks: &[Vec<Entry>], block: usize)
+        requires block { block < length blocks.now }
+        requires readable { All (λ entry. K.has_row keys.now entry.row) (entries_of blocks.now) }
+        requires full { All (λ block. 0 < length block.items) blocks.now }
+    {
+        let first = first_of(keys, blocks, 0);
+        let last = first_of(keys, blocks, blocks.len() - 1);
+        let shared = shared_by(keys, first, last);
+        if self.left == 0 || shared < self.skip as usize {
+            self.read(keys, blocks, u32::try_from(shared).unwrap_or(0));
+            return;
+        }
+        self.left -= 1;
+        if block <= self.leads.len() && self.leads.len() < self.leads.capacity() {
+            let lead = lead_of_first(keys, blocks, block, self.skip);
+            self.leads.insert(block, lead).unwrap();
+        }
+    }
+
+    /// Reads all anew, behind so many bytes.
+    pub(crate) fn read<K: Keys>(&mut self, keys: &K, blocks: &[Vec<Entry>], skip: u32)
+        requires readable { All (λ entry. K.has_row keys.now entry.row) (entries_of blocks.now) }
+        requires full { All (λ block. 0 < length block.items) blocks.now }
+    {
+        self.skip = skip;
+        self.left = blocks.len();
+        self.leads.clear();
+        for at in 0..blocks.len() {
+            let lead = lead_of_first(keys, blocks, at, skip);
+            if self.leads.len() < self.leads.capacity() {
+                self.leads.push(lead).unwrap();
+            }
+        }
+    }
+
+    /// Notes that a block is no longer in use, if one is.
+    pub(crate) fn end(&mut self, block: Option<usize>) {
+        if let Some(block) = block {
+            if block < self.leads.len() {
+                self.leads.remove(block);
+            }
+        }
+    }
+}
+
+/// The first entry of a block.
+fn first_of<K: Keys>(keys: &K, blocks: &[Vec<Entry>], at: usize) -> Entry
+    requires block { at < length blocks.now }
+    requires readable { All (λ entry. K.has_row keys.now entry.row) (entries_of blocks.now) }
+    requires full { All (λ block. 0 < length block.items) blocks.now }
+    ensures { K.has_row keys.now result.row }
+{
+    let _ = keys;
+    let block = &blocks[at];
+    block[0]
+}
+
+/// Eight bytes of the first key of a block, behind so many.
+fn lead_of_first<K: Keys>(keys: &K, blocks: &[Vec<Entry>], at: usize, skip: u32) -> u64
+    requires block { at < length blocks.now }
+    requires readable { All (λ entry. K.has_row keys.now entry.row) (entries_of blocks.now) }
+    requires full { All (λ block. 0 < length block.items) blocks.now }
+{
+    let first = first_of(keys, blocks, at);
+    sought_behind(keys.key(first.row), skip).lead
 }
 
 /// How many of rising leads are at most one.

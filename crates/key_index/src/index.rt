@@ -130,11 +130,15 @@ impl KeyIndex {
         self.count += 1;
         if self.blocks.is_empty() {
             begin(&mut self.blocks, &mut self.spare, entry);
+            self.hints.begin(keys, self.blocks.as_slice(), 0);
             return;
         }
+        let before = self.blocks.len();
+        let behind = place.block + 1;
         sharpen(&mut self.blocks, keys, place.block);
         let place = make_room(&mut self.blocks, &mut self.spare, place);
         put(&mut self.blocks, place, entry);
+        self.hints.keep(keys, self.blocks.as_slice(), place, before, behind);
     }
 
     /// Puts a row in whose key no row has. No memory is taken.
@@ -161,8 +165,9 @@ impl KeyIndex {
         ensures room { self.new.room ≡ self.old.room }
         ensures rows { TakesOut found.row self.old.rows self.new.rows }
     {
-        take_out(&mut self.blocks, &mut self.spare, found.place);
+        let ended = take_out(&mut self.blocks, &mut self.spare, found.place);
         self.count -= 1;
+        self.hints.end(ended);
     }
 
     /// Takes the row of a key out, if one has it.

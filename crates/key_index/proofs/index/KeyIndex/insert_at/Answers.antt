@@ -190,3 +190,14 @@ returns-clause-rows g c =
       below = parts.0;
       above = parts.1;
     }
+
+pub keep-requires-clause-readable : goal.keep-requires-clause-readable
+keep-requires-clause-readable g c =
+    let has_row = g.K.Keys.has_row c.args.keys.now in
+    let told = entries_told has_row (g.K.Keys.key_of c.args.keys.now) c.self.inside.room c.self.inside.blocks.items c.args.self.now c.self.view_is c.requires.index in
+    let blocks = c.make_room-place.new.blocks.items in
+    let P : Entry → Type 0 = λ e. has_row e.row in
+    subst (All P) (sym (ap (λ (bs : List (Vec Entry Global)). entries_of bs) c.as_slice-2.ensures.value ∙ c.put.ensures.entries))
+    (all_put P blocks c.make_room-place.result.block c.make_room-place.result.at c.entry_of-entry.result (subst (All P) (sym c.make_room-place.ensures.entries)
+    (all_same_rows has_row (entries_of c.sharpen.new.blocks.items) (entries_of c.self.inside.blocks.items) c.sharpen.ensures.rows told.readable))
+    (subst has_row (sym c.entry_of-entry.ensures.row) c.requires.readable))

@@ -18,14 +18,14 @@ pub invariant_of-self : goal.invariant_of-self
 invariant_of-self c =
     let entry = entry_told c.self.inside.room c.self.inside.blocks.items c.args.self.now c.args.found.place c.args.found.row c.self.view_is c.requires in
     let kept = c.self.invariant in
-    let more = one_more c.take_out.new.blocks.items c.self.inside.blocks.items c.args.found.place.block c.args.found.place.at entry.0 entry.1 c.take_out.ensures.entries in
+    let more = one_more c.take_out-ended.new.blocks.items c.self.inside.blocks.items c.args.found.place.block c.args.found.place.at entry.0 entry.1 c.take_out-ended.ensures.entries in
     record {
-      are_blocks = c.take_out.ensures.are_blocks;
-      are_spare = c.take_out.ensures.are_spare;
-      dense = c.take_out.ensures.dense;
-      enough = omega (arith, kept.enough, c.take_out.ensures.total, c.take_out.new.spare.ok, c.take_out.new.blocks.ok, c.self.inside.blocks.ok, c.self.inside.spare.ok);
-      blocks_fit = omega (arith, kept.blocks_fit, c.take_out.ensures.total, c.take_out.ensures.capacity, c.take_out.new.spare.ok, c.take_out.new.blocks.ok, c.self.inside.blocks.ok, c.self.inside.spare.ok);
-      spare_fit = omega (arith, kept.spare_fit, c.take_out.ensures.total, c.take_out.ensures.spare_capacity, c.take_out.new.spare.ok, c.take_out.new.blocks.ok, c.self.inside.blocks.ok, c.self.inside.spare.ok);
+      are_blocks = c.take_out-ended.ensures.are_blocks;
+      are_spare = c.take_out-ended.ensures.are_spare;
+      dense = c.take_out-ended.ensures.dense;
+      enough = omega (arith, kept.enough, c.take_out-ended.ensures.total, c.take_out-ended.new.spare.ok, c.take_out-ended.new.blocks.ok, c.self.inside.blocks.ok, c.self.inside.spare.ok);
+      blocks_fit = omega (arith, kept.blocks_fit, c.take_out-ended.ensures.total, c.take_out-ended.ensures.capacity, c.take_out-ended.new.spare.ok, c.take_out-ended.new.blocks.ok, c.self.inside.blocks.ok, c.self.inside.spare.ok);
+      spare_fit = omega (arith, kept.spare_fit, c.take_out-ended.ensures.total, c.take_out-ended.ensures.spare_capacity, c.take_out-ended.new.spare.ok, c.take_out-ended.new.blocks.ok, c.self.inside.blocks.ok, c.self.inside.spare.ok);
       counted = omega (arith, more, kept.counted);
       within = omega (arith, kept.within);
     }
@@ -38,14 +38,14 @@ returns-clause-ordered c = λ key_of after is same.
     let k = c.args.found.place.block in
     let at = c.args.found.place.at in
     let Q : Entry → Type 0 = λ e. AreBytes (key_of e.row) in
-    let blocks_after = c.take_out.new.blocks.items in
+    let blocks_after = c.take_out-ended.new.blocks.items in
     moved_order key_of after (meant c.self.inside.room blocks_after) (all_each (λ row. after row ≡ key_of row) (rows_of (entries_of blocks_after)) same) (record {
       beside = refl;
-      rising = subst (AreRising key_of) (sym (ap rows_of c.take_out.ensures.entries ∙ rows_taken blocks k at))
+      rising = subst (AreRising key_of) (sym (ap rows_of c.take_out-ended.ensures.entries ∙ rows_taken blocks k at))
           (rising_remove key_of (front blocks k at) (rest blocks k at) entry.0.row (subst (AreRising key_of) (cut_taken blocks k at entry.0 entry.1) old.rising));
       bytes = each_from_all (λ row. AreBytes (key_of row)) _
-          (subst (All Q) (sym c.take_out.ensures.entries) (all_taken Q blocks k at (all_from_each (λ row. AreBytes (key_of row)) _ old.bytes)));
-      kept = subst (All (IsLed key_of)) (sym c.take_out.ensures.entries) (all_taken (IsLed key_of) blocks k at old.kept);
+          (subst (All Q) (sym c.take_out-ended.ensures.entries) (all_taken Q blocks k at (all_from_each (λ row. AreBytes (key_of row)) _ old.bytes)));
+      kept = subst (All (IsLed key_of)) (sym c.take_out-ended.ensures.entries) (all_taken (IsLed key_of) blocks k at old.kept);
     })
 
 pub returns-clause-rows : goal.returns-clause-rows
@@ -58,5 +58,5 @@ returns-clause-rows c =
       front = front blocks k at;
       back = rest blocks k at;
       were = sym (ap (λ (i : Index). i.rows) c.self.view_is) ∙ cut_taken blocks k at entry.0 entry.1 ∙ ap (λ (r : ℕ). front blocks k at ++ r ∷ rest blocks k at) entry.2;
-      are = ap rows_of c.take_out.ensures.entries ∙ rows_taken blocks k at;
+      are = ap rows_of c.take_out-ended.ensures.entries ∙ rows_taken blocks k at;
     }
