@@ -26,6 +26,23 @@ pub(crate) fn probe(low: usize, high: usize, guess: usize) -> usize
     low + (high - low) / 2
 }
 
+/// Where a search among so many places looks next: first at both ends, then where it probes.
+#[inline(always)]
+pub(crate) fn probe_of(low: usize, high: usize, len: usize, guess: usize) -> usize
+    requires some { low < high }
+    requires within { high ≤ len }
+    ensures from { low ≤ result }
+    ensures upto { result < high }
+{
+    if low == 0 {
+        return 0;
+    }
+    if high == len {
+        return len - 1;
+    }
+    probe(low, high, guess)
+}
+
 /// Whether the lead at a place is below one, as a number.
 #[inline(always)]
 fn passed(entries: &[Entry], at: usize, lead: u64) -> usize
@@ -183,18 +200,43 @@ fn lead_of_first<K: Keys>(keys: &K, blocks: &[Vec<Entry>], at: usize, skip: u32)
     sought_behind(keys.key(first.row), skip).lead
 }
 
-/// How many of rising leads are at most one.
+/// Whether the hint at a place is at most a lead, as a number.
+#[inline(always)]
+fn reached(leads: &[u64], at: usize, lead: u64) -> usize
+    requires { at < length leads.now }
+    ensures { result ≤ 1 }
+{
+    usize::from(leads[at] <= lead)
+}
+
+/// How many hints at seven places so far apart are at most a lead.
+#[inline(always)]
+fn reached_of_seven(leads: &[u64], from: usize, step: usize, lead: u64) -> usize
+    requires { from + 7 * step < length leads.now }
+    ensures { result ≤ 7 }
+{
+    reached(leads, from + step, lead)
+        + reached(leads, from + 2 * step, lead)
+        + reached(leads, from + 3 * step, lead)
+        + reached(leads, from + 4 * step, lead)
+        + reached(leads, from + 5 * step, lead)
+        + reached(leads, from + 6 * step, lead)
+        + reached(leads, from + 7 * step, lead)
+}
+
+/// How many of rising hints are at most a lead.
 fn count_upto(leads: &[u64], lead: u64) -> usize {
     let mut low = 0;
     let mut len = leads.len();
-    if len == 0 {
-        return 0;
+    while len >= 8 {
+        let step = len / 8;
+        let count = reached_of_seven(leads, low, step, lead);
+        low += step * count;
+        len -= 7 * step;
     }
-    while len > 1 {
-        let half = len / 2;
-        let middle = low + half;
-        low = if leads[middle] <= lead { middle } else { low };
-        len -= half;
+    let mut at = low;
+    for next in low..low + len {
+        at += reached(leads, next, lead);
     }
-    low + usize::from(leads[low] <= lead)
+    at
 }
