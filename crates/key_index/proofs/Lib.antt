@@ -1,6 +1,7 @@
 pub mod KeyOrder
 pub mod RowOrder
 pub mod InBlocks
+pub mod Inside
 pub mod Leads
 pub mod Shares
 pub mod Bounds

@@ -1,8 +1,8 @@
 //! Guesses where a key stands.
 //!
 //! A guess may be any number: a search compares the keys where it points, and halves on where it was wrong.
-ghost use Rattle.std.specs.Prelude.{ℕ, ◌+◌, ◌*◌, ◌<◌, ◌≤◌, length, All};
-ghost use Rattle.key_index.specs.inside.Blocks.{entries_of};
+ghost use Rattle.std.specs.Prelude.{◌≡◌, ℕ, ◌+◌, ◌*◌, ◌<◌, ◌≤◌, length, slice_index_or, All};
+ghost use Rattle.key_index.specs.inside.Blocks.{entries_of, entries_at};
 
 use crate::entries::{Entry, shared_by, sought_behind};
 use crate::keys::Keys;
@@ -179,11 +179,12 @@ impl Hints {
 }
 
 /// The first entry of a block.
-fn first_of<K: Keys>(keys: &K, blocks: &[Vec<Entry>], at: usize) -> Entry
+pub(crate) fn first_of<K: Keys>(keys: &K, blocks: &[Vec<Entry>], at: usize) -> Entry
     requires block { at < length blocks.now }
     requires readable { All (λ entry. K.has_row keys.now entry.row) (entries_of blocks.now) }
     requires full { All (λ block. 0 < length block.items) blocks.now }
-    ensures { K.has_row keys.now result.row }
+    ensures readable { K.has_row keys.now result.row }
+    ensures first { result ≡ slice_index_or (entries_at blocks.now at) 0 result }
 {
     let _ = keys;
     let block = &blocks[at];

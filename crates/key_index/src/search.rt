@@ -1,12 +1,12 @@
 //! Where a key stands or would stand.
-ghost use Rattle.std.specs.Prelude.{◌≡◌, ℕ, ◌+◌, ◌-◌, ◌<◌, ◌≤◌, List, length, take, drop, All};
+ghost use Rattle.std.specs.Prelude.{◌≡◌, ℕ, ◌+◌, ◌-◌, ◌<◌, ◌≤◌, List, length, take, drop, All, IfSome};
 ghost use Rattle.key_index.specs.Order.{key_cmp, AreAbove, AreBelow};
 ghost use Rattle.key_index.specs.Lead.{rows_of};
 ghost use Rattle.key_index.specs.inside.Blocks.{entries_of, entries_at, AreAtLeast, AreEntriesOf, IsPlaceOf};
 ghost use Rattle.key_index.specs.inside.Shared.{Share};
 
 use crate::entries::{Entry, best_skip, compare, compare_keys, sought_as, sought_behind};
-use crate::hints::{guess_in, probe, probe_of};
+use crate::hints::{first_of, guess_in, probe, probe_of};
 use crate::keys::Keys;
 use crate::place::Place;
 
@@ -138,8 +138,8 @@ fn skip_among(entries: &[Entry], shared: usize) -> u32
     best_skip(shared)
 }
 
-/// Where a key stands or would stand.
-pub(crate) fn seek<K: Keys>(keys: &K, blocks: &[Vec<Entry>], key: &[u8], guess: usize) -> Place
+/// Where a key stands or would stand, by halving.
+fn seek_all<K: Keys>(keys: &K, blocks: &[Vec<Entry>], key: &[u8], guess: usize) -> Place
     requires entries { AreEntriesOf (K.has_row keys.now) (K.key_of keys.now) (entries_of blocks.now) }
     requires full { All (λ block. 0 < length block.items) blocks.now }
     ensures block { 0 < length blocks.now → result.block < length blocks.now }
@@ -164,4 +164,53 @@ pub(crate) fn seek<K: Keys>(keys: &K, blocks: &[Vec<Entry>], key: &[u8], guess: 
         at: inside.count,
         skip,
     }
+}
+
+/// Where a key stands or would stand, if it is inside a block that is not the last one.
+fn seek_in<K: Keys>(keys: &K, blocks: &[Vec<Entry>], key: &[u8], block: usize) -> Option<Place>
+    requires entries { AreEntriesOf (K.has_row keys.now) (K.key_of keys.now) (entries_of blocks.now) }
+    requires full { All (λ block. 0 < length block.items) blocks.now }
+    requires block { block + 1 < length blocks.now }
+    ensures block { IfSome result (λ place. place.block ≡ block) }
+    ensures at { IfSome result (λ place. place.at ≤ length (entries_at blocks.now block)) }
+    ensures place { IfSome result (λ place. IsPlaceOf (K.key_of keys.now) key.now blocks.now block place.at) }
+{
+    let first = compare_keys(keys, first_of(keys, blocks, 0), key);
+    if first.order.is_gt() {
+        return None;
+    }
+    let last = compare_keys(keys, first_of(keys, blocks, blocks.len() - 1), key);
+    let before_last = last.order.is_gt();
+    if !before_last {
+        return None;
+    }
+    let shared = fewer(first.shared, last.shared);
+    let entries = blocks[block].as_slice();
+    let inside = count_in(keys, entries, key, shared);
+    if inside.count == 0 || inside.count >= entries.len() {
+        return None;
+    }
+    let skip = skip_among(entries, inside.shared);
+    Some(Place {
+        block,
+        at: inside.count,
+        skip,
+    })
+}
+
+/// Where a key stands or would stand: at first the block is looked into that a guess says, which may be any number.
+pub(crate) fn seek<K: Keys>(keys: &K, blocks: &[Vec<Entry>], key: &[u8], guess: usize) -> Place
+    requires entries { AreEntriesOf (K.has_row keys.now) (K.key_of keys.now) (entries_of blocks.now) }
+    requires full { All (λ block. 0 < length block.items) blocks.now }
+    ensures block { 0 < length blocks.now → result.block < length blocks.now }
+    ensures within { result.block ≤ length blocks.now }
+    ensures at { result.at ≤ length (entries_at blocks.now result.block) }
+    ensures place { IsPlaceOf (K.key_of keys.now) key.now blocks.now result.block result.at }
+{
+    if guess > 0 && guess < blocks.len() {
+        if let Some(place) = seek_in(keys, blocks, key, guess - 1) {
+            return place;
+        }
+    }
+    seek_all(keys, blocks, key, guess)
 }

@@ -8,7 +8,7 @@ use Rattle.key_index.specs.inside.Blocks.{entries_of, AreAtLeast}
 use Rattle.key_index.specs.inside.Shared.{Share}
 use Rattle.key_index.proofs.InBlocks.{at_read, above_after}
 use Rattle.key_index.proofs.Bounds.{keyed_at, place_first}
-use Rattle.key_index.proofs.search.seek.Goals as goal
+use Rattle.key_index.proofs.search.seek_all.Goals as goal
 
 pub returns-then-upto-eq0-clause-place : goal.returns-then-upto-eq0-clause-place
 returns-then-upto-eq0-clause-place g c = place_first (g.K.Keys.key_of c.args.keys.now) c.args.key.now c.args.blocks.now (subst (λ (k : ℕ). AreAbove (g.K.Keys.key_of c.args.keys.now) c.args.key.now (rows_of (entries_of
