@@ -26,23 +26,6 @@ pub(crate) fn probe(low: usize, high: usize, guess: usize) -> usize
     low + (high - low) / 2
 }
 
-/// Where a search among so many places looks next: first at both ends, then where it probes.
-#[inline(always)]
-pub(crate) fn probe_of(low: usize, high: usize, len: usize, guess: usize) -> usize
-    requires some { low < high }
-    requires within { high ≤ len }
-    ensures from { low ≤ result }
-    ensures upto { result < high }
-{
-    if low == 0 {
-        return 0;
-    }
-    if high == len {
-        return len - 1;
-    }
-    probe(low, high, guess)
-}
-
 /// Whether the lead at a place is below one, as a number.
 #[inline(always)]
 fn passed(entries: &[Entry], at: usize, lead: u64) -> usize
@@ -103,10 +86,15 @@ impl Hints {
         })
     }
 
-    /// How many blocks begin with keys at or below a key, by the hints.
+    /// How many blocks begin with keys at or below a key, by the hints; no number of blocks where the hints of several
+    /// are the bytes of the key.
     pub(crate) fn guess(&self, key: &[u8]) -> usize {
         let lead = sought_behind(key, self.skip).lead;
-        count_upto(self.leads.as_slice(), lead)
+        let count = count_upto(self.leads.as_slice(), lead);
+        if count >= 2 && count <= self.leads.len() && self.leads[count - 2] == lead {
+            return usize::MAX;
+        }
+        count
     }
 
     /// Notes that an entry was put in at a place, and where there are more blocks than before, that one has come into

@@ -6,7 +6,7 @@ ghost use Rattle.key_index.specs.inside.Blocks.{entries_of, entries_at, AreAtLea
 ghost use Rattle.key_index.specs.inside.Shared.{Share};
 
 use crate::entries::{Entry, best_skip, compare, compare_keys, sought_as, sought_behind};
-use crate::hints::{first_of, guess_in, probe, probe_of};
+use crate::hints::{first_of, guess_in, probe};
 use crate::keys::Keys;
 use crate::place::Place;
 
@@ -109,7 +109,7 @@ fn count_upto<K: Keys>(keys: &K, blocks: &[Vec<Entry>], key: &[u8], guess: usize
     let mut high_shared = 0;
     let mut sought = sought_behind(key, 0);
     while low < high {
-        let middle = probe_of(low, high, blocks.len(), guess);
+        let middle = probe(low, high, guess);
         let block = &blocks[middle];
         let first = block[0];
         let shared = fewer(low_shared, high_shared);

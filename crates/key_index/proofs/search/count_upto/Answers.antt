@@ -29,7 +29,7 @@ compare-compared-requires-clause-led g c =
 pub compare-compared-requires-clause-shared : goal.compare-compared-requires-clause-shared
 compare-compared-requires-clause-shared g c =
     let key_of = g.K.Keys.key_of c.args.keys.now in
-    let middle : ℕ = c.probe_of-middle.result in
+    let middle : ℕ = c.probe-middle.result in
     let read = first_read c.args.blocks.now middle c.index-blocks-middle.result c.index-first.result.now (omega arith) c.index-blocks-middle.is c.index-first.ensures in
     let all = share_in key_of c.args.key.now c.args.blocks.now (c.loop-low.low - 1) c.loop-low.high middle c.loop-low.low_shared c.loop-low.high_shared c.fewer-shared.result (omega arith)
     (omega arith) c.fewer-shared.ensures.first c.fewer-shared.ensures.second c.loop-low.invariant.low_bound c.loop-low.invariant.high_bound in
@@ -39,7 +39,7 @@ compare-compared-requires-clause-shared g c =
 pub loop-low-preserved-then-is_gt : goal.loop-low-preserved-then-is_gt
 loop-low-preserved-then-is_gt g c =
     let key_of = g.K.Keys.key_of c.args.keys.now in
-    let middle : ℕ = c.probe_of-middle.result in
+    let middle : ℕ = c.probe-middle.result in
     let first = c.index-first.result.now in
     let read = first_read c.args.blocks.now middle c.index-blocks-middle.result first (omega arith) c.index-blocks-middle.is c.index-first.ensures in
     let above : key_cmp c.args.key.now (key_of first.row) ≡ Less = less c.args.key.now (key_of first.row) (sym c.compare-compared.ensures.order ∙ is_greater c.compare-compared.result.order (sym c.is_gt.ensures ∙ c.if-is_gt.true)) in
@@ -63,7 +63,7 @@ loop-low-preserved-then-is_gt g c =
 pub loop-low-preserved : goal.loop-low-preserved
 loop-low-preserved g c =
     let key_of = g.K.Keys.key_of c.args.keys.now in
-    let middle : ℕ = c.probe_of-middle.result in
+    let middle : ℕ = c.probe-middle.result in
     let first = c.index-first.result.now in
     let read = first_read c.args.blocks.now middle c.index-blocks-middle.result first (omega arith) c.index-blocks-middle.is c.index-first.ensures in
     let same : middle + 1 - 1 ≡ middle = omega arith in
