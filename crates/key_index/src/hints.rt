@@ -1,9 +1,11 @@
 //! Guesses where a key stands.
 //!
-//! A guess may be any number: a search compares the keys where it points, and halves on where it was wrong.
+//! A guess may be any number: a search compares the keys where it points, and halves on where it was wrong. So nothing
+//! is proved of a guess but that it is made without a fault and takes no memory.
 ghost use Rattle.std.specs.Prelude.{◌≡◌, ℕ, ◌+◌, ◌*◌, ◌<◌, ◌≤◌, length, slice_index_or, All};
 ghost use Rattle.key_index.specs.inside.Blocks.{entries_of, entries_at};
 
+use crate::blocks::BLOCK;
 use crate::entries::{Entry, shared_by, sought_behind};
 use crate::keys::Keys;
 use crate::place::Place;
@@ -50,10 +52,11 @@ fn passed_of_seven(entries: &[Entry], from: usize, step: usize, lead: u64) -> us
         + passed(entries, from + 7 * step, lead)
 }
 
-/// How many entries have leads below one, if all leads are of the same bytes.
+/// How many entries have leads below one, if all leads are of the same bytes. Each step looks at places that do not
+/// depend on one another, so that their entries come from memory together.
 pub(crate) fn guess_in(entries: &[Entry], lead: u64) -> usize {
     let len = entries.len();
-    if len < 64 || len > 256 {
+    if len < 64 || len > BLOCK {
         return len / 2;
     }
     let step = (len + 7) / 8;
@@ -67,6 +70,11 @@ pub(crate) fn guess_in(entries: &[Entry], lead: u64) -> usize {
 }
 
 /// Eight bytes of the first key of each block, behind bytes that all keys were seen to share.
+///
+/// A hint is put in where a block comes into use, written anew where an entry is put before the others of a block, and
+/// goes with its block. It stays as it is where the first entry of a block is taken out, when no keys are at hand. All
+/// are read anew after as many blocks have come into use as there were, and where the first keys of the first and the
+/// last block share fewer bytes than the hints skip.
 #[derive(Drop)]
 pub(crate) struct Hints {
     leads: Vec<u64>,
@@ -86,8 +94,8 @@ impl Hints {
         })
     }
 
-    /// How many blocks begin with keys at or below a key, by the hints; no number of blocks where the hints of several
-    /// are the bytes of the key.
+    /// How many blocks begin with keys at or below a key, by the hints. Where several hints are the key's bytes they
+    /// tell nothing, and the answer is no number of blocks.
     pub(crate) fn guess(&self, key: &[u8]) -> usize {
         let lead = sought_behind(key, self.skip).lead;
         let count = count_upto(self.leads.as_slice(), lead);
@@ -174,7 +182,6 @@ pub(crate) fn first_of<K: Keys>(keys: &K, blocks: &[Vec<Entry>], at: usize) -> E
     ensures readable { K.has_row keys.now result.row }
     ensures first { result ≡ slice_index_or (entries_at blocks.now at) 0 result }
 {
-    let _ = keys;
     let block = &blocks[at];
     block[0]
 }

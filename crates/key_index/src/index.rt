@@ -138,7 +138,8 @@ impl KeyIndex {
         sharpen(&mut self.blocks, keys, place.block);
         let place = make_room(&mut self.blocks, &mut self.spare, place);
         put(&mut self.blocks, place, entry);
-        self.hints.keep(keys, self.blocks.as_slice(), place, before, behind);
+        self.hints
+            .keep(keys, self.blocks.as_slice(), place, before, behind);
     }
 
     /// Puts a row in whose key no row has. No memory is taken.

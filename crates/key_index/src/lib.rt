@@ -3,6 +3,11 @@
 //! The keys stand elsewhere, and a [`Keys`] reads them. The index keeps the numbers of the rows, in blocks, and
 //! beside each number eight bytes of the row's key. A search that has seen that its key shares the bytes before
 //! those eight with all keys that are left compares numbers; else it reads the row's key.
+//!
+//! Which block a search looks into first is a guess: beside the blocks stand hints, eight bytes of the first key of each.
+//! Hints only guess. The search compares the key with entries of that block, and where it is not among them it halves
+//! over all blocks, so that no answer depends on a hint. Inserts and removals keep the hints up, and they are read anew
+//! after as many blocks have come into use as there were (see `hints`).
 #![tactic(auto)]
 
 mod blocks;

@@ -166,7 +166,7 @@ fn seek_all<K: Keys>(keys: &K, blocks: &[Vec<Entry>], key: &[u8], guess: usize) 
     }
 }
 
-/// Where a key stands or would stand, if it is inside a block that is not the last one.
+/// Where a key stands or would stand, if that is between two entries of a block that is not the last one.
 fn seek_in<K: Keys>(keys: &K, blocks: &[Vec<Entry>], key: &[u8], block: usize) -> Option<Place>
     requires entries { AreEntriesOf (K.has_row keys.now) (K.key_of keys.now) (entries_of blocks.now) }
     requires full { All (λ block. 0 < length block.items) blocks.now }
@@ -198,7 +198,7 @@ fn seek_in<K: Keys>(keys: &K, blocks: &[Vec<Entry>], key: &[u8], block: usize) -
     })
 }
 
-/// Where a key stands or would stand: at first the block is looked into that a guess says, which may be any number.
+/// Where a key stands or would stand. A guess, which may be any number, says behind how many blocks to look first.
 pub(crate) fn seek<K: Keys>(keys: &K, blocks: &[Vec<Entry>], key: &[u8], guess: usize) -> Place
     requires entries { AreEntriesOf (K.has_row keys.now) (K.key_of keys.now) (entries_of blocks.now) }
     requires full { All (λ block. 0 < length block.items) blocks.now }
