@@ -1,34 +1,46 @@
--- A text written to its end, from an empty buffer to an empty buffer.
-use Rattle.std.proofs.Common.{◌≡◌, ℕ, ◌≤◌, List, [], ◌++◌, Result, Ok, Err, sym, ap, ◌∙◌, subst, append-nil}
+-- A text written to its end, from an empty block to an empty block.
+use Rattle.std.proofs.Common.{◌≡◌, ℕ, ◌≤◌, List, [], ◌++◌, Option, Result, Ok, Err, sym, ap, ◌∙◌, subst, append-nil}
 use Rattle.std.specs.Result.{OnOk, OnErr}
+use Rattle.std.specs.Borrow.{GName}
 use Rattle.std.specs.Io.KnownBytes.{Appends}
 use Rattle.outside.specs.Moves.{AppendsFront}
 use Rattle.outside.specs.Rose.{Rose}
-use Rattle.report_text.specs.inside.Output.{Output, Adds, Writes}
+use Rattle.report_text.specs.declared.writer.Writer.{Writer}
+use Rattle.report_text.specs.inside.Output.{Output, Adds, Writes, output}
 
--- the sink was given the text of each x in P, or a front of it
-pub record Sent {T E X : Type 0} (result : Result T E) (a b : Output) (P : X → Type 0) (text : X → List ℕ) : Type 0 where
-  pub written : OnOk result ((x : X) → P x → Appends a.written b.written (text x))
-  pub front : OnErr result ((x : X) → P x → AppendsFront a.written b.written (text x))
-  pub failed : OnErr result (Rose a.faults b.faults)
-  pub never_falls : a.faults ≤ b.faults
-
-Adds-sent : (a b : Output) (text : List ℕ) → a.buffer ≡ [] → b.buffer ≡ [] → Adds a b text → Appends a.written b.written text
+Adds-sent : (a b : Output) (text : List ℕ) → a.block ≡ [] → b.block ≡ [] → Adds a b text → Appends a.written b.written text
 Adds-sent a b text before after p =
     let same : p.sent ≡ text = sym (append-nil p.sent) ∙ ap (λ l. p.sent ++ l) (sym after) ∙ p.bytes ∙ ap (λ l. l ++ text) before in
     subst (Appends a.written b.written) same p.appended
 
-pub Sent-from : {T E X : Type 0} (r : Result T E) (a b : Output) (P : X → Type 0) (text : X → List ℕ) → (x : X) × P x → a.buffer ≡ [] → OnOk r (b.buffer ≡ [])
-    → ((x : X) → P x → Writes r a b (text x)) → Sent r a b P text
-Sent-from (Ok v) a b P text some before after wrote = record {
-  written = λ x h. Adds-sent a b (text x) before after (wrote x h).outcome;
-  front = tt;
-  failed = tt;
-  never_falls = (wrote some.0 some.1).never_falls;
-}
-Sent-from (Err e) a b P text some before after wrote = record {
-  written = tt;
-  front = λ x h. subst (λ l. AppendsFront a.written b.written (l ++ text x)) before (wrote x h).outcome.front;
-  failed = (wrote some.0 some.1).outcome.rose;
-  never_falls = (wrote some.0 some.1).never_falls;
-}
+module _ {K T E X : Type 0} (bytes : K → Option (List ℕ)) (count : K → ℕ) (P : X → Type 0) (text : X → List ℕ) where
+  -- the sink, as it was and as it is, was given the text of each x in P, or a front of it
+  abbrev pub Sent : K → K → Result T E → Type 0
+  Sent old new result = record {
+    written : OnOk result ((x : X) → P x → Appends (bytes old) (bytes new) (text x));
+    front : OnErr result ((x : X) → P x → AppendsFront (bytes old) (bytes new) (text x));
+    failed : OnErr result (Rose (count old) (count new));
+    never_falls : count old ≤ count new;
+  }
+
+  sent : (r : Result T E) (a b : Writer K) → (x : X) × P x → a.block.items ≡ [] → OnOk r (b.block.items ≡ [])
+      → ((x : X) → P x → Writes r (output bytes count a) (output bytes count b) (text x)) → Sent a.sink.now b.sink.now r
+  sent (Ok v) a b some before after wrote = record {
+    written = λ x h. Adds-sent (output bytes count a) (output bytes count b) (text x) before after (wrote x h).outcome;
+    front = tt;
+    failed = tt;
+    never_falls = (wrote some.0 some.1).never_falls;
+  }
+  sent (Err e) a b some before after wrote = record {
+    written = tt;
+    front = λ x h. subst (λ l. AppendsFront (bytes a.sink.now) (bytes b.sink.now) (l ++ text x)) before (wrote x h).outcome.front;
+    failed = (wrote some.0 some.1).outcome.rose;
+    never_falls = (wrote some.0 some.1).never_falls;
+  }
+
+  -- with a writer over this sink, which ends as the writer left it
+  pub Sent-from : (old new : K) (name : GName) (r : Result T E) (a b : Writer K) → a.sink.now ≡ old → a.sink.ghost_name ≡ name → (name ≡ b.sink.ghost_name → new ≡ b.sink.now)
+      → (x : X) × P x → a.block.items ≡ [] → OnOk r (b.block.items ≡ []) → ((x : X) → P x → Writes r (output bytes count a) (output bytes count b) (text x)) → Sent old new r
+  Sent-from old new name r a b begins named ends some before after wrote =
+      let last : new ≡ b.sink.now = ends (sym named ∙ sym (wrote some.0 some.1).same_sink) in
+      subst (λ k. Sent old k r) (sym last) (subst (λ k. Sent k b.sink.now r) begins (sent r a b some before after wrote))

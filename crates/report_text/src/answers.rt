@@ -13,9 +13,9 @@ ghost use Rattle.report_text.specs.inside.Found.{HasFound};
 ghost use Rattle.report_text.specs.inside.Output.{Writes, output};
 ghost use Rattle.report_text.specs.inside.Spells.{HasLegalKeys};
 
-use crate::buffer::{Buffer, end_line, put, put_number, put_word};
 use crate::found::{Found, add_found};
 use crate::lines::put_reply_line;
+use crate::writer::Writer;
 use cache_model::{one_shard_answers_alone, sort_keys};
 use outside::{Failed, Sink};
 use run_log::ReplyLog;
@@ -23,43 +23,41 @@ use trace_text::{Command, Kind};
 
 /// The line of an answer that is one reply of a log.
 fn put_one<K: Sink>(
-    sink: &mut K,
-    buffer: &mut Buffer,
+    writer: &mut Writer<'_, K>,
     number: u32,
     log: &ReplyLog,
     part: u32,
 ) -> Result<(), Failed>
     requires answered { (reply : Reply) × HasLegalKeys reply × (slice_get log.now.replies part ≡ Some (Some (spelled reply))) }
     ensures { (reply : Reply) → slice_get log.now.replies part ≡ Some (Some (spelled reply)) → HasLegalKeys reply →
-        Writes result (output (K.written sink.old) (K.faults sink.old) buffer.old.items) (output (K.written sink.new) (K.faults sink.new) buffer.new.items) (line (answer_text (number, reply))) }
+        Writes result (output K.written K.faults writer.old) (output K.written K.faults writer.new) (line (answer_text (number, reply))) }
 {
     let (kind, body) = log.reply(part).unwrap();
-    put_reply_line(sink, buffer, number, kind, body)
+    put_reply_line(writer, number, kind, body)
 }
 
 /// The words, each behind a space.
-fn put_words<K: Sink>(sink: &mut K, buffer: &mut Buffer, words: &[&[u8]]) -> Result<(), Failed>
-    ensures { Writes result (output (K.written sink.old) (K.faults sink.old) buffer.old.items) (output (K.written sink.new) (K.faults sink.new) buffer.new.items) (flat_map (λ word. 32 ∷ word) (map (λ word. word.now) words.now)) }
+fn put_words<K: Sink>(writer: &mut Writer<'_, K>, words: &[&[u8]]) -> Result<(), Failed>
+    ensures { Writes result (output K.written K.faults writer.old) (output K.written K.faults writer.new) (flat_map (λ word. 32 ∷ word) (map (λ word. word.now) words.now)) }
 {
     for word in words {
-        put_word(sink, buffer, word)?;
+        writer.put_word(word)?;
     }
     Ok(())
 }
 
 /// The line of an answer of these keys.
 fn put_keys_line<K: Sink>(
-    sink: &mut K,
-    buffer: &mut Buffer,
+    writer: &mut Writer<'_, K>,
     number: u32,
     keys: &[&[u8]],
 ) -> Result<(), Failed>
-    ensures { Writes result (output (K.written sink.old) (K.faults sink.old) buffer.old.items) (output (K.written sink.new) (K.faults sink.new) buffer.new.items) (line (answer_text (number, Keys (map (λ key. key.now) keys.now)))) }
+    ensures { Writes result (output K.written K.faults writer.old) (output K.written K.faults writer.new) (line (answer_text (number, Keys (map (λ key. key.now) keys.now)))) }
 {
-    put_number(sink, buffer, u64::from(number))?;
-    put(sink, buffer, b" keys")?;
-    put_words(sink, buffer, keys)?;
-    end_line(sink, buffer)
+    writer.put_number(u64::from(number))?;
+    writer.put(b" keys")?;
+    put_words(writer, keys)?;
+    writer.end_line()
 }
 
 fn sort_found(found: &mut Found)
@@ -77,8 +75,7 @@ fn first_keys<'s, 'l>(keys: &'s [&'l [u8]], count: u32) -> &'s [&'l [u8]]
 
 /// The line of the answer to a scan: the first keys in byte order of those that `shards` shards found.
 fn put_scan<K: Sink>(
-    sink: &mut K,
-    buffer: &mut Buffer,
+    writer: &mut Writer<'_, K>,
     command: &Command,
     shards: u32,
     log: &ReplyLog,
@@ -88,13 +85,13 @@ fn put_scan<K: Sink>(
     requires room { first + shards < 2 ^ 32 }
     requires replied { (lists : List (List (List ℕ))) × HasFound log.now.replies first shards lists }
     ensures { (lists : List (List (List ℕ))) → HasFound log.now.replies first shards lists →
-        Writes result (output (K.written sink.old) (K.faults sink.old) buffer.old.items) (output (K.written sink.new) (K.faults sink.new) buffer.new.items) (line (answer_text (command.now.number, Keys (join command.now.count lists)))) }
+        Writes result (output K.written K.faults writer.old) (output K.written K.faults writer.new) (line (answer_text (command.now.number, Keys (join command.now.count lists)))) }
 {
     let mut found = Found::new();
     add_found(&mut found, log, first, shards);
     sort_found(&mut found);
     let keys = first_keys(found.as_slice(), command.count);
-    put_keys_line(sink, buffer, command.number, keys)
+    put_keys_line(writer, command.number, keys)
 }
 
 /// Whether the answer is joined from the replies of several shards.
@@ -108,8 +105,7 @@ fn is_joined(kind: Kind, shards: u32) -> bool
 
 /// The line of the answer to a command whose replies stand in a log from part `first` on.
 pub(crate) fn put_answer<K: Sink>(
-    sink: &mut K,
-    buffer: &mut Buffer,
+    writer: &mut Writer<'_, K>,
     command: &Command,
     shards: u32,
     log: &ReplyLog,
@@ -121,12 +117,12 @@ pub(crate) fn put_answer<K: Sink>(
     requires room { first + shards < 2 ^ 32 }
     requires read { (bytes : List ℕ) × (longest : ℕ) × (answer : ℕ × Reply) × IsRead longest shards (operation bytes command.now) log.now.replies first answer }
     ensures { (bytes : List ℕ) (longest : ℕ) (answer : ℕ × Reply) → IsRead longest shards (operation bytes command.now) log.now.replies first answer →
-        Writes result (output (K.written sink.old) (K.faults sink.old) buffer.old.items) (output (K.written sink.new) (K.faults sink.new) buffer.new.items) (line (answer_text answer)) }
+        Writes result (output K.written K.faults writer.old) (output K.written K.faults writer.new) (line (answer_text answer)) }
 {
     one_shard_answers_alone();
     if is_joined(command.kind, shards) {
-        put_scan(sink, buffer, command, shards, log, first)
+        put_scan(writer, command, shards, log, first)
     } else {
-        put_one(sink, buffer, command.number, log, first)
+        put_one(writer, command.number, log, first)
     }
 }

@@ -4,7 +4,6 @@
 #![tactic(auto)]
 
 mod answers;
-mod buffer;
 mod found;
 mod lines;
 mod place;
@@ -14,6 +13,7 @@ mod summary;
 mod tally;
 #[cfg(test)]
 mod tests;
+mod writer;
 
 pub use report::write_report;
 pub use shard_line::ShardLine;

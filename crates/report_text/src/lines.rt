@@ -10,7 +10,7 @@ ghost use Rattle.report_text.specs.inside.Output.{Writes, output};
 ghost use Rattle.report_text.specs.inside.Words.{word};
 
 use crate::ShardLine;
-use crate::buffer::{Buffer, end_line, put, put_field, put_number, put_word};
+use crate::writer::Writer;
 use cache_model::{Entry, ReplyKind};
 use outside::{Failed, Sink};
 use run_log::{Journal, next_key};
@@ -29,15 +29,15 @@ fn word(kind: ReplyKind) -> &'static [u8]
 }
 
 /// The keys of a body, each behind a space.
-fn put_keys<K: Sink>(sink: &mut K, buffer: &mut Buffer, body: &[u8]) -> Result<(), Failed>
+fn put_keys<K: Sink>(writer: &mut Writer<'_, K>, body: &[u8]) -> Result<(), Failed>
     requires keys { (keys : List (List ℕ)) × AreKeys body.now keys }
     requires short { length body.now < 2 ^ 32 }
-    ensures { (keys : List (List ℕ)) → AreKeys body.now keys → Writes result (output (K.written sink.old) (K.faults sink.old) buffer.old.items) (output (K.written sink.new) (K.faults sink.new) buffer.new.items) (flat_map (λ key. 32 ∷ key) keys) }
+    ensures { (keys : List (List ℕ)) → AreKeys body.now keys → Writes result (output K.written K.faults writer.old) (output K.written K.faults writer.new) (flat_map (λ key. 32 ∷ key) keys) }
 {
     let mut at = 0;
     while let Some(span) = next_key(body, at) {
         let end = span.start + span.len;
-        put_word(sink, buffer, &body[span.start as usize..end as usize])?;
+        writer.put_word(&body[span.start as usize..end as usize])?;
         at = end;
     }
     Ok(())
@@ -45,110 +45,100 @@ fn put_keys<K: Sink>(sink: &mut K, buffer: &mut Buffer, body: &[u8]) -> Result<(
 
 /// A reply: a word, and the value or the keys behind it.
 fn put_reply<K: Sink>(
-    sink: &mut K,
-    buffer: &mut Buffer,
+    writer: &mut Writer<'_, K>,
     kind: ReplyKind,
     body: &[u8],
 ) -> Result<(), Failed>
     requires reply { (reply : Reply) × Spells kind body.now reply }
     requires short { length body.now < 2 ^ 32 }
-    ensures { (reply : Reply) → Spells kind body.now reply → Writes result (output (K.written sink.old) (K.faults sink.old) buffer.old.items) (output (K.written sink.new) (K.faults sink.new) buffer.new.items) (reply_text reply) }
+    ensures { (reply : Reply) → Spells kind body.now reply → Writes result (output K.written K.faults writer.old) (output K.written K.faults writer.new) (reply_text reply) }
 {
-    put(sink, buffer, word(kind))?;
+    writer.put(word(kind))?;
     match kind {
-        ReplyKind::Keys => put_keys(sink, buffer, body),
-        _ => put(sink, buffer, body),
+        ReplyKind::Keys => put_keys(writer, body),
+        _ => writer.put(body),
     }
 }
 
 /// The line of an answer.
 pub(crate) fn put_reply_line<K: Sink>(
-    sink: &mut K,
-    buffer: &mut Buffer,
+    writer: &mut Writer<'_, K>,
     number: u32,
     kind: ReplyKind,
     body: &[u8],
 ) -> Result<(), Failed>
     requires reply { (reply : Reply) × Spells kind body.now reply }
     requires short { length body.now < 2 ^ 32 }
-    ensures { (reply : Reply) → Spells kind body.now reply → Writes result (output (K.written sink.old) (K.faults sink.old) buffer.old.items) (output (K.written sink.new) (K.faults sink.new) buffer.new.items) (line (answer_text (number, reply))) }
+    ensures { (reply : Reply) → Spells kind body.now reply → Writes result (output K.written K.faults writer.old) (output K.written K.faults writer.new) (line (answer_text (number, reply))) }
 {
-    put_number(sink, buffer, u64::from(number))?;
-    put(sink, buffer, b" ")?;
-    put_reply(sink, buffer, kind, body)?;
-    end_line(sink, buffer)
+    writer.put_number(u64::from(number))?;
+    writer.put(b" ")?;
+    put_reply(writer, kind, body)?;
+    writer.end_line()
 }
 
-fn put_entry<K: Sink>(sink: &mut K, buffer: &mut Buffer, entry: Entry) -> Result<(), Failed>
-    ensures { Writes result (output (K.written sink.old) (K.faults sink.old) buffer.old.items) (output (K.written sink.new) (K.faults sink.new) buffer.new.items) (32 ∷ entry_text entry) }
+fn put_entry<K: Sink>(writer: &mut Writer<'_, K>, entry: Entry) -> Result<(), Failed>
+    ensures { Writes result (output K.written K.faults writer.old) (output K.written K.faults writer.new) (32 ∷ entry_text entry) }
 {
     match entry {
-        Entry::Done(number) => put_field(sink, buffer, b" ", u64::from(number)),
-        Entry::Evicted(number) => put_field(sink, buffer, b" !", u64::from(number)),
+        Entry::Done(number) => writer.put_field(b" ", u64::from(number)),
+        Entry::Evicted(number) => writer.put_field(b" !", u64::from(number)),
     }
 }
 
-fn put_entries<K: Sink>(sink: &mut K, buffer: &mut Buffer, entries: &[Entry]) -> Result<(), Failed>
-    ensures { Writes result (output (K.written sink.old) (K.faults sink.old) buffer.old.items) (output (K.written sink.new) (K.faults sink.new) buffer.new.items) (flat_map (λ entry. 32 ∷ entry_text entry) entries.now) }
+fn put_entries<K: Sink>(writer: &mut Writer<'_, K>, entries: &[Entry]) -> Result<(), Failed>
+    ensures { Writes result (output K.written K.faults writer.old) (output K.written K.faults writer.new) (flat_map (λ entry. 32 ∷ entry_text entry) entries.now) }
 {
     for entry in entries {
-        put_entry(sink, buffer, *entry)?;
+        put_entry(writer, *entry)?;
     }
     Ok(())
 }
 
 /// The line of a shard's journal.
 pub(crate) fn put_journal<K: Sink>(
-    sink: &mut K,
-    buffer: &mut Buffer,
+    writer: &mut Writer<'_, K>,
     shard: u64,
     journal: &Journal,
 ) -> Result<(), Failed>
-    ensures { Writes result (output (K.written sink.old) (K.faults sink.old) buffer.old.items) (output (K.written sink.new) (K.faults sink.new) buffer.new.items) (line (journal_text (shard, journal.now.entries))) }
+    ensures { Writes result (output K.written K.faults writer.old) (output K.written K.faults writer.new) (line (journal_text (shard, journal.now.entries))) }
 {
-    put_field(sink, buffer, b"journal ", shard)?;
-    put_entries(sink, buffer, journal.entries())?;
-    end_line(sink, buffer)
+    writer.put_field(b"journal ", shard)?;
+    put_entries(writer, journal.entries())?;
+    writer.end_line()
 }
 
 /// Fields, each a name and a number.
-fn put_fields<K: Sink>(
-    sink: &mut K,
-    buffer: &mut Buffer,
-    fields: &[(&[u8], u64)],
-) -> Result<(), Failed>
-    ensures { Writes result (output (K.written sink.old) (K.faults sink.old) buffer.old.items) (output (K.written sink.new) (K.faults sink.new) buffer.new.items) (flat_map (λ field. field.0.now ++ decimal field.1) fields.now) }
+fn put_fields<K: Sink>(writer: &mut Writer<'_, K>, fields: &[(&[u8], u64)]) -> Result<(), Failed>
+    ensures { Writes result (output K.written K.faults writer.old) (output K.written K.faults writer.new) (flat_map (λ field. field.0.now ++ decimal field.1) fields.now) }
 {
     for (name, number) in fields {
-        put_field(sink, buffer, name, *number)?;
+        writer.put_field(name, *number)?;
     }
     Ok(())
 }
 
 /// A line of fields.
 pub(crate) fn put_field_line<K: Sink>(
-    sink: &mut K,
-    buffer: &mut Buffer,
+    writer: &mut Writer<'_, K>,
     fields: &[(&[u8], u64)],
 ) -> Result<(), Failed>
-    ensures { Writes result (output (K.written sink.old) (K.faults sink.old) buffer.old.items) (output (K.written sink.new) (K.faults sink.new) buffer.new.items) (line (flat_map (λ field. field.0.now ++ decimal field.1) fields.now)) }
+    ensures { Writes result (output K.written K.faults writer.old) (output K.written K.faults writer.new) (line (flat_map (λ field. field.0.now ++ decimal field.1) fields.now)) }
 {
-    put_fields(sink, buffer, fields)?;
-    end_line(sink, buffer)
+    put_fields(writer, fields)?;
+    writer.end_line()
 }
 
 /// The line of what a shard holds.
 fn put_shard_line<K: Sink>(
-    sink: &mut K,
-    buffer: &mut Buffer,
+    writer: &mut Writer<'_, K>,
     shard: u64,
     occupancy: &ShardLine,
 ) -> Result<(), Failed>
-    ensures { Writes result (output (K.written sink.old) (K.faults sink.old) buffer.old.items) (output (K.written sink.new) (K.faults sink.new) buffer.new.items) (line (occupancy_text (shard, occupancy_in occupancy.now))) }
+    ensures { Writes result (output K.written K.faults writer.old) (output K.written K.faults writer.new) (line (occupancy_text (shard, occupancy_in occupancy.now))) }
 {
     put_field_line(
-        sink,
-        buffer,
+        writer,
         &[
             (b"shard ", shard),
             (b" rows ", u64::from(occupancy.rows)),
@@ -161,14 +151,13 @@ fn put_shard_line<K: Sink>(
 
 /// The lines of what the shards hold.
 pub(crate) fn put_shard_lines<K: Sink>(
-    sink: &mut K,
-    buffer: &mut Buffer,
+    writer: &mut Writer<'_, K>,
     lines: &[ShardLine],
 ) -> Result<(), Failed>
-    ensures { Writes result (output (K.written sink.old) (K.faults sink.old) buffer.old.items) (output (K.written sink.new) (K.faults sink.new) buffer.new.items) (flat_map (λ occupancy. line (occupancy_text occupancy)) (enumerate_from 0 (occupancies_in lines.now))) }
+    ensures { Writes result (output K.written K.faults writer.old) (output K.written K.faults writer.new) (flat_map (λ occupancy. line (occupancy_text occupancy)) (enumerate_from 0 (occupancies_in lines.now))) }
 {
     for (shard, line) in lines.iter().enumerate() {
-        put_shard_line(sink, buffer, shard as u64, line)?;
+        put_shard_line(writer, shard as u64, line)?;
     }
     Ok(())
 }

@@ -13,9 +13,9 @@ ghost use Rattle.report_text.specs.inside.Output.{Writes, output};
 
 use crate::ShardLine;
 use crate::answers::put_answer;
-use crate::buffer::{Buffer, flush};
 use crate::lines::{put_journal, put_shard_lines};
 use crate::place::next_replies;
+use crate::writer::Writer;
 use cache_model::answers_are_read_by_command;
 use outside::{Failed, Sink};
 use run_log::{Journal, ReplyLog};
@@ -55,16 +55,32 @@ pub fn write_report<K: Sink>(
     ensures failed { OnErr result (Rose (K.faults sink.old) (K.faults sink.new)) }
     ensures never_falls { K.faults sink.old ≤ K.faults sink.new }
 {
-    let mut buffer = Buffer::new();
-    put_answers(sink, &mut buffer, trace, shards, logs)?;
-    put_journals(sink, &mut buffer, journals)?;
-    put_shard_lines(sink, &mut buffer, lines)?;
-    flush(sink, &mut buffer)
+    let mut writer = Writer::new(sink);
+    put_report(&mut writer, trace, shards, logs, journals, lines)?;
+    writer.flush()
+}
+
+fn put_report<K: Sink>(
+    writer: &mut Writer<'_, K>,
+    trace: &Trace,
+    shards: u32,
+    logs: &[ReplyLog],
+    journals: &[Journal],
+    lines: &[ShardLine],
+) -> Result<(), Failed>
+    requires parsed_for { shards ≡ trace.now.shards }
+    requires one_log_each { length logs.now ≡ shards }
+    requires answered { (answers : List (ℕ × Reply)) × AreLogged (trace_in trace.now) shards (replies_in logs.now) answers }
+    ensures { (answers : List (ℕ × Reply)) → AreLogged (trace_in trace.now) shards (replies_in logs.now) answers →
+        Writes result (output K.written K.faults writer.old) (output K.written K.faults writer.new) (report_of answers (journals_in journals.now) (occupancies_in lines.now)) }
+{
+    put_answers(writer, trace, shards, logs)?;
+    put_journals(writer, journals)?;
+    put_shard_lines(writer, lines)
 }
 
 fn put_answers<K: Sink>(
-    sink: &mut K,
-    buffer: &mut Buffer,
+    writer: &mut Writer<'_, K>,
     trace: &Trace,
     shards: u32,
     logs: &[ReplyLog],
@@ -73,26 +89,22 @@ fn put_answers<K: Sink>(
     requires one_log_each { length logs.now ≡ shards }
     requires answered { (answers : List (ℕ × Reply)) × AreLogged (trace_in trace.now) shards (replies_in logs.now) answers }
     ensures { (answers : List (ℕ × Reply)) → AreLogged (trace_in trace.now) shards (replies_in logs.now) answers →
-        Writes result (output (K.written sink.old) (K.faults sink.old) buffer.old.items) (output (K.written sink.new) (K.faults sink.new) buffer.new.items) (flat_map (λ answer. line (answer_text answer)) answers) }
+        Writes result (output K.written K.faults writer.old) (output K.written K.faults writer.new) (flat_map (λ answer. line (answer_text answer)) answers) }
 {
     answers_are_read_by_command();
     let mut places = [0; MOST_SHARDS as usize];
     for (index, command) in trace.commands().iter().enumerate() {
         let (log, first) = next_replies(&mut places, trace, index, logs);
-        put_answer(sink, buffer, command, shards, log, first)?;
+        put_answer(writer, command, shards, log, first)?;
     }
     Ok(())
 }
 
-fn put_journals<K: Sink>(
-    sink: &mut K,
-    buffer: &mut Buffer,
-    journals: &[Journal],
-) -> Result<(), Failed>
-    ensures { Writes result (output (K.written sink.old) (K.faults sink.old) buffer.old.items) (output (K.written sink.new) (K.faults sink.new) buffer.new.items) (flat_map (λ journal. line (journal_text journal)) (enumerate_from 0 (journals_in journals.now))) }
+fn put_journals<K: Sink>(writer: &mut Writer<'_, K>, journals: &[Journal]) -> Result<(), Failed>
+    ensures { Writes result (output K.written K.faults writer.old) (output K.written K.faults writer.new) (flat_map (λ journal. line (journal_text journal)) (enumerate_from 0 (journals_in journals.now))) }
 {
     for (shard, journal) in journals.iter().enumerate() {
-        put_journal(sink, buffer, shard as u64, journal)?;
+        put_journal(writer, shard as u64, journal)?;
     }
     Ok(())
 }

@@ -13,9 +13,9 @@ ghost use Rattle.report_text.specs.inside.Output.{Writes, output};
 ghost use Rattle.report_text.specs.inside.Tallies.{tally_in};
 
 use crate::ShardLine;
-use crate::buffer::{Buffer, flush};
 use crate::lines::{put_field_line, put_shard_lines};
 use crate::tally::{Tally, tally_of};
+use crate::writer::Writer;
 use cache_model::{Entry, answers_are_read_by_command};
 use outside::{Failed, Sink};
 use run_log::{Journal, ReplyLog};
@@ -53,17 +53,34 @@ pub fn write_summary<K: Sink>(
     ensures failed { OnErr result (Rose (K.faults sink.old) (K.faults sink.new)) }
     ensures never_falls { K.faults sink.old ≤ K.faults sink.new }
 {
-    let mut buffer = Buffer::new();
-    put_counts(sink, &mut buffer, trace, shards, logs)?;
-    put_evictions(sink, &mut buffer, journals)?;
-    put_shard_lines(sink, &mut buffer, lines)?;
-    flush(sink, &mut buffer)
+    let mut writer = Writer::new(sink);
+    put_summary(&mut writer, trace, shards, logs, journals, lines)?;
+    writer.flush()
+}
+
+fn put_summary<K: Sink>(
+    writer: &mut Writer<'_, K>,
+    trace: &Trace,
+    shards: u32,
+    logs: &[ReplyLog],
+    journals: &[Journal],
+    lines: &[ShardLine],
+) -> Result<(), Failed>
+    requires parsed_for { shards ≡ trace.now.shards }
+    requires one_log_each { length logs.now ≡ shards }
+    requires few { length journals.now < 2 ^ 32 }
+    requires answered { (answers : List (ℕ × Reply)) × AreLogged (trace_in trace.now) shards (replies_in logs.now) answers }
+    ensures { (answers : List (ℕ × Reply)) → AreLogged (trace_in trace.now) shards (replies_in logs.now) answers →
+        Writes result (output K.written K.faults writer.old) (output K.written K.faults writer.new) (summary_of answers (journals_in journals.now) (occupancies_in lines.now)) }
+{
+    put_counts(writer, trace, shards, logs)?;
+    put_evictions(writer, journals)?;
+    put_shard_lines(writer, lines)
 }
 
 /// The lines of the commands and of their answers, counted.
 fn put_counts<K: Sink>(
-    sink: &mut K,
-    buffer: &mut Buffer,
+    writer: &mut Writer<'_, K>,
     trace: &Trace,
     shards: u32,
     logs: &[ReplyLog],
@@ -72,22 +89,21 @@ fn put_counts<K: Sink>(
     requires one_log_each { length logs.now ≡ shards }
     requires answered { (answers : List (ℕ × Reply)) × AreLogged (trace_in trace.now) shards (replies_in logs.now) answers }
     ensures { (answers : List (ℕ × Reply)) → AreLogged (trace_in trace.now) shards (replies_in logs.now) answers →
-        Writes result (output (K.written sink.old) (K.faults sink.old) buffer.old.items) (output (K.written sink.new) (K.faults sink.new) buffer.new.items) (line (codes "commands " ++ decimal (length answers)) ++ line (tally_text (tally answers))) }
+        Writes result (output K.written K.faults writer.old) (output K.written K.faults writer.new) (line (codes "commands " ++ decimal (length answers)) ++ line (tally_text (tally answers))) }
 {
     answers_are_read_by_command();
     let commands = trace.commands().len() as u64;
-    put_field_line(sink, buffer, &[(b"commands ", commands)])?;
+    put_field_line(writer, &[(b"commands ", commands)])?;
     let tally = tally_of(trace, shards, logs);
-    put_tally(sink, buffer, &tally)
+    put_tally(writer, &tally)
 }
 
 /// The line of the counted answers.
-fn put_tally<K: Sink>(sink: &mut K, buffer: &mut Buffer, tally: &Tally) -> Result<(), Failed>
-    ensures { Writes result (output (K.written sink.old) (K.faults sink.old) buffer.old.items) (output (K.written sink.new) (K.faults sink.new) buffer.new.items) (line (tally_text (tally_in tally.now))) }
+fn put_tally<K: Sink>(writer: &mut Writer<'_, K>, tally: &Tally) -> Result<(), Failed>
+    ensures { Writes result (output K.written K.faults writer.old) (output K.written K.faults writer.new) (line (tally_text (tally_in tally.now))) }
 {
     put_field_line(
-        sink,
-        buffer,
+        writer,
         &[
             (b"stored ", u64::from(tally.stored)),
             (b" replaced ", u64::from(tally.replaced)),
@@ -124,13 +140,9 @@ fn evictions_of(journals: &[Journal]) -> u64
 }
 
 /// The line of the evictions.
-fn put_evictions<K: Sink>(
-    sink: &mut K,
-    buffer: &mut Buffer,
-    journals: &[Journal],
-) -> Result<(), Failed>
+fn put_evictions<K: Sink>(writer: &mut Writer<'_, K>, journals: &[Journal]) -> Result<(), Failed>
     requires few { length journals.now < 2 ^ 32 }
-    ensures { Writes result (output (K.written sink.old) (K.faults sink.old) buffer.old.items) (output (K.written sink.new) (K.faults sink.new) buffer.new.items) (line (codes "evictions " ++ decimal (evictions (journals_in journals.now)))) }
+    ensures { Writes result (output K.written K.faults writer.old) (output K.written K.faults writer.new) (line (codes "evictions " ++ decimal (evictions (journals_in journals.now)))) }
 {
-    put_field_line(sink, buffer, &[(b"evictions ", evictions_of(journals))])
+    put_field_line(writer, &[(b"evictions ", evictions_of(journals))])
 }

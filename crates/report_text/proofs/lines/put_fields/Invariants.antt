@@ -8,5 +8,5 @@ use Rattle.report_text.proofs.lines.put_fields.Given as goal
 
 abbrev pub invariant-loop-name : goal.invariant-loop-name
 invariant-loop-name g l =
-    Added (output (g.K.Sink.written l.fn.sink) (g.K.Sink.faults l.fn.sink) l.fn.buffer.items) (output (g.K.Sink.written l.sink) (g.K.Sink.faults l.sink) l.buffer.items)
+    Added (output g.K.Sink.written g.K.Sink.faults l.fn.writer) (output g.K.Sink.written g.K.Sink.faults l.writer)
     (flat_map field_piece (take l.name-index l.fields))

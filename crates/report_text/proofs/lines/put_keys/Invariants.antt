@@ -9,7 +9,7 @@ abbrev pub invariant-loop-span : goal.invariant-loop-span
 invariant-loop-span g l = record {
   within : l.at ≤ length l.body;
   added : (keys : List (List ℕ)) → AreKeys l.body keys →
-      AreAdded (output (g.K.Sink.written l.fn.sink) (g.K.Sink.faults l.fn.sink) l.fn.buffer.items) (output (g.K.Sink.written l.sink) (g.K.Sink.faults l.sink) l.buffer.items) (drop l.at l.body) keys;
+      AreAdded (output g.K.Sink.written g.K.Sink.faults l.fn.writer) (output g.K.Sink.written g.K.Sink.faults l.writer) (drop l.at l.body) keys;
 }
 
 abbrev pub decreases-loop-span : goal.decreases-loop-span

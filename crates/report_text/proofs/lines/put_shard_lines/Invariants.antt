@@ -9,5 +9,5 @@ use Rattle.report_text.proofs.lines.put_shard_lines.Given as goal
 
 abbrev pub invariant-loop-shard : goal.invariant-loop-shard
 invariant-loop-shard g l =
-    Added (output (g.K.Sink.written l.fn.sink) (g.K.Sink.faults l.fn.sink) l.fn.buffer.items) (output (g.K.Sink.written l.sink) (g.K.Sink.faults l.sink) l.buffer.items)
+    Added (output g.K.Sink.written g.K.Sink.faults l.fn.writer) (output g.K.Sink.written g.K.Sink.faults l.writer)
     (flat_map (λ occupancy. line (occupancy_text occupancy)) (take l.shard (enumerate_from 0 (occupancies_in l.lines))))

@@ -9,5 +9,5 @@ use Rattle.report_text.proofs.report.put_journals.Given as goal
 
 abbrev pub invariant-loop-shard : goal.invariant-loop-shard
 invariant-loop-shard g l =
-    Added (output (g.K.Sink.written l.fn.sink) (g.K.Sink.faults l.fn.sink) l.fn.buffer.items) (output (g.K.Sink.written l.sink) (g.K.Sink.faults l.sink) l.buffer.items)
+    Added (output g.K.Sink.written g.K.Sink.faults l.fn.writer) (output g.K.Sink.written g.K.Sink.faults l.writer)
     (flat_map (λ journal. line (journal_text journal)) (take l.shard (enumerate_from 0 (journals_in l.journals))))

@@ -1,46 +1,20 @@
-use Rattle.std.proofs.Common.{subst, append-nil}
+use Rattle.std.proofs.Common.{rules, subst, append-nil}
 use Rattle.std.proofs.lemmas.Result.{IfOk-from_err}
-use Rattle.trace_text.specs.Parsed.{trace_in}
-use Rattle.cache_model.specs.Logged.{AreLogged}
 use Rattle.cache_model.specs.Report.{report_of}
-use Rattle.report_text.specs.Views.{journals_in, occupancies_in, replies_in}
-use Rattle.report_text.specs.inside.Output.{Writes, output}
-use Rattle.report_text.proofs.Outputs.{Writes-then, Writes-stop, Writes-exit}
+use Rattle.report_text.specs.Views.{journals_in, occupancies_in}
+use Rattle.report_text.specs.inside.Output.{Writes}
+use Rattle.report_text.proofs.Outputs.{Writes-then, Writes-exit}
 use Rattle.report_text.proofs.Sent.{Sent-from}
 use Rattle.report_text.proofs.report.write_report.Goals as goal
 
-pub returns-in_err-put_answers : goal.returns-in_err-put_answers
-returns-in_err-put_answers g c =
-    let sent = Sent-from c.from_residual.result (output (g.K.Sink.written c.args.sink.now) (g.K.Sink.faults c.args.sink.now) c.new-buffer.result.items) (output
-    (g.K.Sink.written c.put_answers.new.sink) (g.K.Sink.faults c.put_answers.new.sink) c.put_answers.new.buffer.items) (AreLogged (trace_in c.args.trace.now) c.args.shards
-    (replies_in c.args.logs.now)) (λ answers. report_of answers (journals_in c.args.journals.now) (occupancies_in c.args.lines.now)) c.requires.answered c.new-buffer.ensures
-    (IfOk-from_err _ _ c.from_residual.ensures.0) (λ answers logged. Writes-exit _ c.from_residual.ensures.1 (Writes-stop _ (Writes-stop _ (c.in_err-put_answers.ensures answers logged)))) in
-    record { written = sent.written; front = sent.front; failed = sent.failed; never_falls = sent.never_falls }
-
-pub returns-in_err-put_journals : goal.returns-in_err-put_journals
-returns-in_err-put_journals g c =
-    let sent = Sent-from c.from_residual-in_err-put_journals.result (output (g.K.Sink.written c.args.sink.now) (g.K.Sink.faults c.args.sink.now) c.new-buffer.result.items) (output
-    (g.K.Sink.written c.put_journals.new.sink) (g.K.Sink.faults c.put_journals.new.sink) c.put_journals.new.buffer.items) (AreLogged (trace_in c.args.trace.now) c.args.shards
-    (replies_in c.args.logs.now)) (λ answers. report_of answers (journals_in c.args.journals.now) (occupancies_in c.args.lines.now)) c.requires.answered c.new-buffer.ensures
-    (IfOk-from_err _ _ c.from_residual-in_err-put_journals.ensures.0) (λ answers logged. Writes-exit _ c.from_residual-in_err-put_journals.ensures.1 (Writes-stop _ (Writes-then
-    (c.in_ok-put_answers.ensures answers logged) c.in_err-put_journals.ensures))) in
-    record { written = sent.written; front = sent.front; failed = sent.failed; never_falls = sent.never_falls }
-
-pub returns-in_err-put_shard_lines : goal.returns-in_err-put_shard_lines
-returns-in_err-put_shard_lines g c =
-    let sent = Sent-from c.from_residual-in_err-put_shard_lines.result (output (g.K.Sink.written c.args.sink.now) (g.K.Sink.faults c.args.sink.now) c.new-buffer.result.items) (output
-    (g.K.Sink.written c.put_shard_lines.new.sink) (g.K.Sink.faults c.put_shard_lines.new.sink) c.put_shard_lines.new.buffer.items) (AreLogged (trace_in c.args.trace.now) c.args.shards
-    (replies_in c.args.logs.now)) (λ answers. report_of answers (journals_in c.args.journals.now) (occupancies_in c.args.lines.now)) c.requires.answered c.new-buffer.ensures
-    (IfOk-from_err _ _ c.from_residual-in_err-put_shard_lines.ensures.0) (λ answers logged. Writes-exit _ c.from_residual-in_err-put_shard_lines.ensures.1 (Writes-then (Writes-then
-    (c.in_ok-put_answers.ensures answers logged) c.in_ok-put_journals.ensures) c.in_err-put_shard_lines.ensures)) in
-    record { written = sent.written; front = sent.front; failed = sent.failed; never_falls = sent.never_falls }
+pub returns-in_err-put_report : goal.returns-in_err-put_report
+returns-in_err-put_report g c =
+    Sent-from g.K.Sink.written g.K.Sink.faults _ (λ answers. report_of answers (journals_in c.args.journals.now) (occupancies_in c.args.lines.now)) _ _ _ c.from_residual.result
+    c.new-writer.result c.put_report.new.writer c.new-writer.ensures.sink c.new-writer.ensures.same_sink (search rules) c.requires.answered c.new-writer.ensures.empty
+    (IfOk-from_err _ _ c.from_residual.ensures.0) (λ answers logged. Writes-exit _ c.from_residual.ensures.1 (c.in_err-put_report.ensures answers logged))
 
 pub returns : goal.returns
 returns g c =
-    let sent = Sent-from c.flush.result (output (g.K.Sink.written c.args.sink.now) (g.K.Sink.faults c.args.sink.now) c.new-buffer.result.items) (output (g.K.Sink.written c.flush.new.sink)
-    (g.K.Sink.faults c.flush.new.sink) c.flush.new.buffer.items) (AreLogged (trace_in c.args.trace.now) c.args.shards (replies_in c.args.logs.now)) (λ answers. report_of answers
-    (journals_in c.args.journals.now) (occupancies_in c.args.lines.now)) c.requires.answered c.new-buffer.ensures
-    c.flush.ensures.empty
-    (λ answers logged. subst (Writes _ _ _) (append-nil _) (Writes-then (Writes-then (Writes-then (c.in_ok-put_answers.ensures answers
-    logged) c.in_ok-put_journals.ensures) c.in_ok-put_shard_lines.ensures) c.flush.ensures.wrote)) in
-    record { written = sent.written; front = sent.front; failed = sent.failed; never_falls = sent.never_falls }
+    Sent-from g.K.Sink.written g.K.Sink.faults _ (λ answers. report_of answers (journals_in c.args.journals.now) (occupancies_in c.args.lines.now)) _ _ _ c.flush.result
+    c.new-writer.result c.flush.new.self c.new-writer.ensures.sink c.new-writer.ensures.same_sink (search rules) c.requires.answered c.new-writer.ensures.empty
+    c.flush.ensures.empty (λ answers logged. subst (Writes _ _ _) (append-nil _) (Writes-then (c.in_ok-put_report.ensures answers logged) c.flush.ensures.wrote))
