@@ -1,5 +1,5 @@
 //! The lines of a report.
-ghost use Rattle.std.specs.Prelude.{◌≡◌, ℕ, ◌^◌, ◌<◌, length, List, ◌∷◌, ◌++◌, codes, decimal, flat_map};
+ghost use Rattle.std.specs.Prelude.{◌≡◌, ℕ, ◌^◌, ◌<◌, length, List, [], ◌∷◌, ◌++◌, codes, decimal, flat_map, OnOk};
 ghost use Rattle.std.specs.List.{enumerate_from};
 ghost use Rattle.cache_model.specs.Apply.{Reply};
 ghost use Rattle.cache_model.specs.KeyBody.{AreKeys};
@@ -150,14 +150,20 @@ fn put_shard_line<K: Sink>(
 }
 
 /// The lines of what the shards hold.
-pub(crate) fn put_shard_lines<K: Sink>(
-    writer: &mut Writer<'_, K>,
-    lines: &[ShardLine],
-) -> Result<(), Failed>
+fn put_shard_lines<K: Sink>(writer: &mut Writer<'_, K>, lines: &[ShardLine]) -> Result<(), Failed>
     ensures { Writes result (output K.written K.faults writer.old) (output K.written K.faults writer.new) (flat_map (λ occupancy. line (occupancy_text occupancy)) (enumerate_from 0 (occupancies_in lines.now))) }
 {
     for (shard, line) in lines.iter().enumerate() {
         put_shard_line(writer, shard as u64, line)?;
     }
     Ok(())
+}
+
+/// The last lines, of what the shards hold. The sink has the whole text then.
+pub(crate) fn finish<K: Sink>(writer: &mut Writer<'_, K>, lines: &[ShardLine]) -> Result<(), Failed>
+    ensures wrote { Writes result (output K.written K.faults writer.old) (output K.written K.faults writer.new) (flat_map (λ occupancy. line (occupancy_text occupancy)) (enumerate_from 0 (occupancies_in lines.now))) }
+    ensures empty { OnOk result (writer.new.block.items ≡ []) }
+{
+    put_shard_lines(writer, lines)?;
+    writer.flush()
 }

@@ -13,7 +13,7 @@ ghost use Rattle.report_text.specs.inside.Output.{Writes, output};
 
 use crate::ShardLine;
 use crate::answers::put_answer;
-use crate::lines::{put_journal, put_shard_lines};
+use crate::lines::{finish, put_journal};
 use crate::place::next_replies;
 use crate::writer::Writer;
 use cache_model::answers_are_read_by_command;
@@ -56,27 +56,9 @@ pub fn write_report<K: Sink>(
     ensures never_falls { K.faults sink.old ≤ K.faults sink.new }
 {
     let mut writer = Writer::new(sink);
-    put_report(&mut writer, trace, shards, logs, journals, lines)?;
-    writer.flush()
-}
-
-fn put_report<K: Sink>(
-    writer: &mut Writer<'_, K>,
-    trace: &Trace,
-    shards: u32,
-    logs: &[ReplyLog],
-    journals: &[Journal],
-    lines: &[ShardLine],
-) -> Result<(), Failed>
-    requires parsed_for { shards ≡ trace.now.shards }
-    requires one_log_each { length logs.now ≡ shards }
-    requires answered { (answers : List (ℕ × Reply)) × AreLogged (trace_in trace.now) shards (replies_in logs.now) answers }
-    ensures { (answers : List (ℕ × Reply)) → AreLogged (trace_in trace.now) shards (replies_in logs.now) answers →
-        Writes result (output K.written K.faults writer.old) (output K.written K.faults writer.new) (report_of answers (journals_in journals.now) (occupancies_in lines.now)) }
-{
-    put_answers(writer, trace, shards, logs)?;
-    put_journals(writer, journals)?;
-    put_shard_lines(writer, lines)
+    put_answers(&mut writer, trace, shards, logs)?;
+    put_journals(&mut writer, journals)?;
+    finish(&mut writer, lines)
 }
 
 fn put_answers<K: Sink>(

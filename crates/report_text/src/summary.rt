@@ -13,7 +13,7 @@ ghost use Rattle.report_text.specs.inside.Output.{Writes, output};
 ghost use Rattle.report_text.specs.inside.Tallies.{tally_in};
 
 use crate::ShardLine;
-use crate::lines::{put_field_line, put_shard_lines};
+use crate::lines::{finish, put_field_line};
 use crate::tally::{Tally, tally_of};
 use crate::writer::Writer;
 use cache_model::{Entry, answers_are_read_by_command};
@@ -54,28 +54,9 @@ pub fn write_summary<K: Sink>(
     ensures never_falls { K.faults sink.old ≤ K.faults sink.new }
 {
     let mut writer = Writer::new(sink);
-    put_summary(&mut writer, trace, shards, logs, journals, lines)?;
-    writer.flush()
-}
-
-fn put_summary<K: Sink>(
-    writer: &mut Writer<'_, K>,
-    trace: &Trace,
-    shards: u32,
-    logs: &[ReplyLog],
-    journals: &[Journal],
-    lines: &[ShardLine],
-) -> Result<(), Failed>
-    requires parsed_for { shards ≡ trace.now.shards }
-    requires one_log_each { length logs.now ≡ shards }
-    requires few { length journals.now < 2 ^ 32 }
-    requires answered { (answers : List (ℕ × Reply)) × AreLogged (trace_in trace.now) shards (replies_in logs.now) answers }
-    ensures { (answers : List (ℕ × Reply)) → AreLogged (trace_in trace.now) shards (replies_in logs.now) answers →
-        Writes result (output K.written K.faults writer.old) (output K.written K.faults writer.new) (summary_of answers (journals_in journals.now) (occupancies_in lines.now)) }
-{
-    put_counts(writer, trace, shards, logs)?;
-    put_evictions(writer, journals)?;
-    put_shard_lines(writer, lines)
+    put_counts(&mut writer, trace, shards, logs)?;
+    put_evictions(&mut writer, journals)?;
+    finish(&mut writer, lines)
 }
 
 /// The lines of the commands and of their answers, counted.

@@ -5,6 +5,7 @@ ghost use Rattle.cache_model.specs.Fits.{AreFound, FitsKind};
 ghost use Rattle.trace_text.specs.Parsed.{trace_in};
 ghost use Rattle.cache_model.specs.Logged.{AreLogged};
 ghost use Rattle.cache_model.specs.Spelled.{spelled};
+ghost use Rattle.report_text.specs.Views.{replies_in};
 ghost use Rattle.trace_text.specs.declared.command.Kind.TheVariants as CommandKind;
 
 mod two_shards;
@@ -127,6 +128,95 @@ fn journal_of(alloc: Global, room: u32, entries: &[Entry]) -> Result<Journal, Al
     Ok(journal)
 }
 
+/// What is written of a run.
+#[derive(Clone, Copy)]
+enum Form {
+    Report,
+    Summary,
+}
+
+/// A run that ended, with one log, one journal and one line a shard.
+struct Run<'r> {
+    trace: &'r Trace,
+    shards: u32,
+    logs: &'r [ReplyLog],
+    journals: &'r [Journal],
+    lines: &'r [ShardLine],
+}
+
+/// Whether writing this of a run into a sink of so much room ends so, and the sink holds this text then.
+fn writes(
+    alloc: Global,
+    form: Form,
+    run: &Run,
+    room: usize,
+    want: Result<(), Failed>,
+    text: &[u8],
+) -> Result<bool, AllocError>
+    requires parsed_for { run.now.shards ≡ run.now.trace.now.shards }
+    requires one_log_each { length run.now.logs.now ≡ run.now.shards }
+    requires one_journal_each { length run.now.journals.now ≡ run.now.shards }
+    requires one_line_each { length run.now.lines.now ≡ run.now.shards }
+    requires answered { (answers : List (ℕ × Reply)) × AreLogged (trace_in run.now.trace.now) run.now.shards (replies_in run.now.logs.now) answers }
+{
+    let mut sink = MemorySink::new(alloc, room)?;
+    let met = match form {
+        Form::Report => write_report(
+            &mut sink,
+            run.trace,
+            run.shards,
+            run.logs,
+            run.journals,
+            run.lines,
+        ),
+        Form::Summary => write_summary(
+            &mut sink,
+            run.trace,
+            run.shards,
+            run.logs,
+            run.journals,
+            run.lines,
+        ),
+    };
+    Ok(met == want && sink.bytes() == text)
+}
+
+/// A trace of these commands, for one shard.
+fn trace_of(rt: &impl Abort, alloc: Global, input: &str) -> Result<Trace, Fail>
+    ensures { IfOk result (λ trace. trace.shards ≡ 1) }
+{
+    let bytes = input.as_bytes().to_vec(alloc)?;
+    assert!(rt; bytes.len() <= 1000);
+    Ok(parse(alloc, bytes, 1)?)
+}
+
+/// Whether writing this of a run on one shard, with these replies and entries and this line, ends so.
+fn writes_of_one(
+    rt: &impl Abort,
+    alloc: Global,
+    form: Form,
+    trace: &Trace,
+    replies: &[(ReplyKind, &[u8])],
+    entries: &[Entry],
+    line: ShardLine,
+    room: usize,
+    want: Result<(), Failed>,
+    text: &[u8],
+) -> Result<bool, Fail>
+    requires { trace.now.shards ≡ 1 }
+{
+    let logs = [log_of(rt, alloc, trace, replies)?];
+    let journals = [journal_of(alloc, entries.len() as u32, entries)?];
+    let run = Run {
+        trace,
+        shards: 1,
+        logs: &logs,
+        journals: &journals,
+        lines: &[line],
+    };
+    Ok(writes(alloc, form, &run, room, want, text)?)
+}
+
 /// Writes the report of these commands and replies into a sink of so much room, and looks at what it holds.
 fn check_report(
     rt: &impl Abort,
@@ -138,22 +228,28 @@ fn check_report(
     want: Result<(), Failed>,
     text: &str,
 ) -> Result<(), Fail> {
-    let bytes = input.as_bytes().to_vec(alloc)?;
-    assert!(rt; bytes.len() <= 1000);
-    let trace = parse(alloc, bytes, 1)?;
-    let log = log_of(rt, alloc, &trace, replies)?;
+    let trace = trace_of(rt, alloc, input)?;
     let entries = [1, 2, 3, 4, 5, 6].map(Entry::Done);
-    let journal = journal_of(alloc, 10, &entries[..replies.len().min(6)])?;
+    let entries = &entries[..replies.len().min(6)];
     let line = ShardLine {
         rows,
         live,
         lent: 0,
         back: 0,
     };
-    let mut sink = MemorySink::new(alloc, room)?;
-    let met = write_report(&mut sink, &trace, 1, &[log], &[journal], &[line]);
-    assert!(rt; met == want, "{input:?}");
-    assert_eq!(rt; sink.bytes(), text.as_bytes(), "{input:?}");
+    let is_written = writes_of_one(
+        rt,
+        alloc,
+        Form::Report,
+        &trace,
+        replies,
+        entries,
+        line,
+        room,
+        want,
+        text.as_bytes(),
+    )?;
+    assert!(rt; is_written, "{input:?}");
     Ok(())
 }
 
@@ -229,34 +325,48 @@ fn a_report_ends_where_its_sink_fails(rt: HostRuntime) -> Result<(), Fail> {
     )
 }
 
+/// The report of a run with no command, whose journal has this entry so many times.
+fn long_text(alloc: Global, entry: &[u8], count: u32) -> Result<Vec<u8>, AllocError> {
+    let mut text = Vec::from_slice(alloc, b"journal 0")?;
+    for _ in 0..count {
+        text.extend_from_slice(entry)?;
+    }
+    text.extend_from_slice(b"\nshard 0 rows 0 live 0 lent 3 back 2\n")?;
+    Ok(text)
+}
+
 #[test]
-fn a_report_longer_than_a_buffer_is_complete(rt: HostRuntime) -> Result<(), Fail> {
-    let trace = parse(rt.alloc(), Vec::new(rt.alloc()), 1)?;
-    let log = log_of(&rt, rt.alloc(), &trace, &[])?;
+fn a_report_longer_than_a_block_is_complete(rt: HostRuntime) -> Result<(), Fail> {
+    let trace = trace_of(&rt, rt.alloc(), "")?;
     let entries = vec![in rt.alloc(); Entry::Done(1_000_000); 20_000]?;
-    let journal = journal_of(rt.alloc(), 20_000, &entries)?;
     let line = ShardLine {
         rows: 0,
         live: 0,
         lent: 3,
         back: 2,
     };
-    let mut want = Vec::from_slice(rt.alloc(), b"journal 0")?;
-    for _ in 0..20_000 {
-        want.extend_from_slice(b" 1000000")?;
-    }
-    want.extend_from_slice(b"\nshard 0 rows 0 live 0 lent 3 back 2\n")?;
-    let mut sink = MemorySink::new(rt.alloc(), 200_000)?;
-    write_report(&mut sink, &trace, 1, &[log], &[journal], &[line])?;
-    assert!(rt; sink.bytes() == want.as_slice());
+    let text = long_text(rt.alloc(), b" 1000000", 20_000)?;
+    let is_written = writes_of_one(
+        &rt,
+        rt.alloc(),
+        Form::Report,
+        &trace,
+        &[],
+        &entries,
+        line,
+        200_000,
+        Ok(()),
+        &text,
+    )?;
+    assert!(rt; is_written);
     Ok(())
 }
 
 #[test]
 fn a_summary_counts_answers_and_evictions(rt: HostRuntime) -> Result<(), Fail> {
     use ReplyKind::{Erased, Keys, Missing, Replaced, Stored, Value};
-    let input = b"put a 1\nput a 2\nget a\nerase a\nerase a\nget a\nscan a 3\n";
-    let trace = parse(rt.alloc(), Vec::from_slice(rt.alloc(), input)?, 1)?;
+    let input = "put a 1\nput a 2\nget a\nerase a\nerase a\nget a\nscan a 3\n";
+    let trace = trace_of(&rt, rt.alloc(), input)?;
     let replies: [(ReplyKind, &[u8]); 7] = [
         (Stored, b""),
         (Replaced, b""),
@@ -266,22 +376,30 @@ fn a_summary_counts_answers_and_evictions(rt: HostRuntime) -> Result<(), Fail> {
         (Missing, b""),
         (Keys, b""),
     ];
-    let logs = [log_of(&rt, rt.alloc(), &trace, &replies)?];
     let entries = [Entry::Done(1), Entry::Evicted(1), Entry::Evicted(2)];
-    let journals = [journal_of(rt.alloc(), 3, &entries)?];
-    let lines = [ShardLine {
+    let line = ShardLine {
         rows: 5,
         live: 240,
         lent: 3,
         back: 2,
-    }];
+    };
     let text =
         b"commands 7\nstored 1 replaced 1 values 1 missing 2 erased 1 scans 1\nevictions 2\nshard 0 rows 5 live 240 lent 3 back 2\n".as_slice();
     for (room, want) in [(1000, Ok(())), (30, Err(Failed))] {
-        let mut sink = MemorySink::new(rt.alloc(), room)?;
-        let met = write_summary(&mut sink, &trace, 1, &logs, &journals, &lines);
-        assert!(rt; met == want);
-        assert_eq!(rt; sink.bytes(), &text[..room.min(text.len())]);
+        let text = &text[..room.min(text.len())];
+        let is_written = writes_of_one(
+            &rt,
+            rt.alloc(),
+            Form::Summary,
+            &trace,
+            &replies,
+            &entries,
+            line,
+            room,
+            want,
+            text,
+        )?;
+        assert!(rt; is_written);
     }
     Ok(())
 }

@@ -6,12 +6,11 @@ ghost use Rattle.cache_model.specs.Examples.{two_shards};
 ghost use Rattle.cache_model.specs.Logged.{AreLogged};
 ghost use Rattle.report_text.specs.Views.{replies_in};
 
-use super::journal_of;
-use crate::{ShardLine, write_report, write_summary};
+use super::{Form, Run, journal_of, writes};
+use crate::ShardLine;
 use cache_model::{Entry, ReplyKind};
-use outside::MemorySink;
-use run_log::ReplyLog;
-use std::alloc::Global;
+use run_log::{Journal, ReplyLog};
+use std::alloc::{AllocError, Global};
 use std::process::Abort;
 use std::test::Fail;
 use trace_text::{Trace, parse};
@@ -61,31 +60,45 @@ fn two_logs(rt: &impl Abort, alloc: Global) -> Result<[ReplyLog; 2], Fail>
     ])
 }
 
+/// What was done on each shard.
+fn two_journals(alloc: Global) -> Result<[Journal; 2], AllocError> {
+    Ok([
+        journal_of(alloc, 3, &[1, 5, 7].map(Entry::Done))?,
+        journal_of(alloc, 5, &[2, 4, 3, 6, 7].map(Entry::Done))?,
+    ])
+}
+
 /// What a report says of the two shards, and what a summary says.
 #[test]
 fn two_shards_are_reported_and_summed_up(rt: HostRuntime) -> Result<(), Fail> {
     let trace = two_shards(rt.alloc())?;
     let logs = two_logs(&rt, rt.alloc())?;
-    let journals = [
-        journal_of(rt.alloc(), 3, &[1, 5, 7].map(Entry::Done))?,
-        journal_of(rt.alloc(), 5, &[2, 4, 3, 6, 7].map(Entry::Done))?,
-    ];
+    let journals = two_journals(rt.alloc())?;
     let lines = [(2, 96), (1, 48)].map(|(rows, live)| ShardLine {
         rows,
         live,
         lent: 2,
         back: 2,
     });
-    let shards = "shard 0 rows 2 live 96 lent 2 back 2\nshard 1 rows 1 live 48 lent 2 back 2\n";
-    let mut sink = MemorySink::new(rt.alloc(), 1000)?;
-    write_report(&mut sink, &trace, 2, &logs, &journals, &lines)?;
-    let answers = "1 stored\n2 missing\n3 stored\n4 missing\n5 stored\n6 missing\n7 keys a b c\n";
-    let report = format!(in rt.alloc(); "{answers}journal 0 1 5 7\njournal 1 2 4 3 6 7\n{shards}")?;
-    assert_eq!(rt; sink.bytes(), report.as_bytes());
-    let mut sink = MemorySink::new(rt.alloc(), 1000)?;
-    write_summary(&mut sink, &trace, 2, &logs, &journals, &lines)?;
-    let counts = "stored 3 replaced 0 values 0 missing 3 erased 0 scans 1";
-    let summary = format!(in rt.alloc(); "commands 7\n{counts}\nevictions 0\n{shards}")?;
-    assert_eq!(rt; sink.bytes(), summary.as_bytes());
+    let run = Run {
+        trace: &trace,
+        shards: 2,
+        logs: &logs,
+        journals: &journals,
+        lines: &lines,
+    };
+    for (form, text) in [
+        (
+            Form::Report,
+            "1 stored\n2 missing\n3 stored\n4 missing\n5 stored\n6 missing\n7 keys a b c\njournal 0 1 5 7\njournal 1 2 4 3 6 7\nshard 0 rows 2 live 96 lent 2 back 2\nshard 1 rows 1 live 48 lent 2 back 2\n",
+        ),
+        (
+            Form::Summary,
+            "commands 7\nstored 3 replaced 0 values 0 missing 3 erased 0 scans 1\nevictions 0\nshard 0 rows 2 live 96 lent 2 back 2\nshard 1 rows 1 live 48 lent 2 back 2\n",
+        ),
+    ] {
+        let is_written = writes(rt.alloc(), form, &run, 1000, Ok(()), text.as_bytes())?;
+        assert!(rt; is_written);
+    }
     Ok(())
 }
