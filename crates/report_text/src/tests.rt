@@ -118,8 +118,10 @@ fn log_of(
     Ok(log)
 }
 
-fn journal_of(alloc: Global, room: u32, entries: &[Entry]) -> Result<Journal, AllocError> {
-    let mut journal = Journal::new(alloc, room)?;
+/// A journal of these entries, or of the first 20,000.
+fn journal_of(alloc: Global, entries: &[Entry]) -> Result<Journal, AllocError> {
+    let room = entries.len().min(20_000);
+    let mut journal = Journal::new(alloc, room as u32)?;
     for entry in entries {
         if journal.spare() > 0 {
             journal.add(*entry);
@@ -136,6 +138,7 @@ enum Form {
 }
 
 /// A run that ended, with one log, one journal and one line a shard.
+#[derive(Clone, Copy)]
 struct Run<'r> {
     trace: &'r Trace,
     shards: u32,
@@ -206,7 +209,7 @@ fn writes_of_one(
     requires { trace.now.shards ≡ 1 }
 {
     let logs = [log_of(rt, alloc, trace, replies)?];
-    let journals = [journal_of(alloc, entries.len() as u32, entries)?];
+    let journals = [journal_of(alloc, entries)?];
     let run = Run {
         trace,
         shards: 1,

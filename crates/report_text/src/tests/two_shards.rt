@@ -63,8 +63,8 @@ fn two_logs(rt: &impl Abort, alloc: Global) -> Result<[ReplyLog; 2], Fail>
 /// What was done on each shard.
 fn two_journals(alloc: Global) -> Result<[Journal; 2], AllocError> {
     Ok([
-        journal_of(alloc, 3, &[1, 5, 7].map(Entry::Done))?,
-        journal_of(alloc, 5, &[2, 4, 3, 6, 7].map(Entry::Done))?,
+        journal_of(alloc, &[1, 5, 7].map(Entry::Done))?,
+        journal_of(alloc, &[2, 4, 3, 6, 7].map(Entry::Done))?,
     ])
 }
 
