@@ -5,19 +5,20 @@ ghost use Rattle.cache_model.specs.Fits.{AreFound, FitsKind};
 ghost use Rattle.trace_text.specs.Parsed.{trace_in};
 ghost use Rattle.cache_model.specs.Logged.{AreLogged};
 ghost use Rattle.cache_model.specs.Spelled.{spelled};
-ghost use Rattle.report_text.specs.Views.{replies_in};
 ghost use Rattle.trace_text.specs.declared.command.Kind.TheVariants as CommandKind;
 
 mod two_shards;
+mod written;
 
-use crate::{ShardLine, write_report, write_summary};
+use crate::ShardLine;
 use cache_model::{Entry, ReplyKind, is_at_most, one_shard_answers_alone};
-use outside::{Failed, MemorySink};
+use outside::Failed;
 use run_log::{Journal, ReplyLog};
 use std::alloc::{AllocError, Global};
 use std::process::Abort;
 use std::test::Fail;
 use trace_text::{Kind, Trace, parse};
+use written::{Form, Run, writes};
 
 /// The keys b and c.
 const B_AND_C: &[u8] = b"\x01\0b\x01\0c";
@@ -130,60 +131,6 @@ fn journal_of(alloc: Global, entries: &[Entry]) -> Result<Journal, AllocError> {
     Ok(journal)
 }
 
-/// What is written of a run.
-#[derive(Clone, Copy)]
-enum Form {
-    Report,
-    Summary,
-}
-
-/// A run that ended, with one log, one journal and one line a shard.
-#[derive(Clone, Copy)]
-struct Run<'r> {
-    trace: &'r Trace,
-    shards: u32,
-    logs: &'r [ReplyLog],
-    journals: &'r [Journal],
-    lines: &'r [ShardLine],
-}
-
-/// Whether writing this of a run into a sink of so much room ends so, and the sink holds this text then.
-fn writes(
-    alloc: Global,
-    form: Form,
-    run: &Run,
-    room: usize,
-    want: Result<(), Failed>,
-    text: &[u8],
-) -> Result<bool, AllocError>
-    requires parsed_for { run.now.shards ≡ run.now.trace.now.shards }
-    requires one_log_each { length run.now.logs.now ≡ run.now.shards }
-    requires one_journal_each { length run.now.journals.now ≡ run.now.shards }
-    requires one_line_each { length run.now.lines.now ≡ run.now.shards }
-    requires answered { (answers : List (ℕ × Reply)) × AreLogged (trace_in run.now.trace.now) run.now.shards (replies_in run.now.logs.now) answers }
-{
-    let mut sink = MemorySink::new(alloc, room)?;
-    let met = match form {
-        Form::Report => write_report(
-            &mut sink,
-            run.trace,
-            run.shards,
-            run.logs,
-            run.journals,
-            run.lines,
-        ),
-        Form::Summary => write_summary(
-            &mut sink,
-            run.trace,
-            run.shards,
-            run.logs,
-            run.journals,
-            run.lines,
-        ),
-    };
-    Ok(met == want && sink.bytes() == text)
-}
-
 /// A trace of these commands, for one shard.
 fn trace_of(rt: &impl Abort, alloc: Global, input: &str) -> Result<Trace, Fail>
     ensures { IfOk result (λ trace. trace.shards ≡ 1) }
@@ -193,25 +140,24 @@ fn trace_of(rt: &impl Abort, alloc: Global, input: &str) -> Result<Trace, Fail>
     Ok(parse(alloc, bytes, 1)?)
 }
 
-/// Whether writing this of a run on one shard, with these replies and entries and this line, ends so.
+/// Whether writing this of a run of these commands on one shard, with these replies, entries and line, ends so.
 fn writes_of_one(
     rt: &impl Abort,
     alloc: Global,
     form: Form,
-    trace: &Trace,
+    input: &str,
     replies: &[(ReplyKind, &[u8])],
     entries: &[Entry],
     line: ShardLine,
     room: usize,
     want: Result<(), Failed>,
     text: &[u8],
-) -> Result<bool, Fail>
-    requires { trace.now.shards ≡ 1 }
-{
-    let logs = [log_of(rt, alloc, trace, replies)?];
+) -> Result<bool, Fail> {
+    let trace = trace_of(rt, alloc, input)?;
+    let logs = [log_of(rt, alloc, &trace, replies)?];
     let journals = [journal_of(alloc, entries)?];
     let run = Run {
-        trace,
+        trace: &trace,
         shards: 1,
         logs: &logs,
         journals: &journals,
@@ -231,7 +177,6 @@ fn check_report(
     want: Result<(), Failed>,
     text: &str,
 ) -> Result<(), Fail> {
-    let trace = trace_of(rt, alloc, input)?;
     let entries = [1, 2, 3, 4, 5, 6].map(Entry::Done);
     let entries = &entries[..replies.len().min(6)];
     let line = ShardLine {
@@ -244,7 +189,7 @@ fn check_report(
         rt,
         alloc,
         Form::Report,
-        &trace,
+        input,
         replies,
         entries,
         line,
@@ -328,19 +273,17 @@ fn a_report_ends_where_its_sink_fails(rt: HostRuntime) -> Result<(), Fail> {
     )
 }
 
-/// The report of a run with no command, whose journal has this entry so many times.
-fn long_text(alloc: Global, entry: &[u8], count: u32) -> Result<Vec<u8>, AllocError> {
+/// The report of a run with no command, whose journal has 20,000 entries.
+fn long_text(alloc: Global) -> Result<Vec<u8>, AllocError> {
     let mut text = Vec::from_slice(alloc, b"journal 0")?;
-    for _ in 0..count {
-        text.extend_from_slice(entry)?;
-    }
+    let entries = b" 1000000".repeat(alloc, 20_000)?;
+    text.extend_from_slice(&entries)?;
     text.extend_from_slice(b"\nshard 0 rows 0 live 0 lent 3 back 2\n")?;
     Ok(text)
 }
 
 #[test]
 fn a_report_longer_than_a_block_is_complete(rt: HostRuntime) -> Result<(), Fail> {
-    let trace = trace_of(&rt, rt.alloc(), "")?;
     let entries = vec![in rt.alloc(); Entry::Done(1_000_000); 20_000]?;
     let line = ShardLine {
         rows: 0,
@@ -348,12 +291,12 @@ fn a_report_longer_than_a_block_is_complete(rt: HostRuntime) -> Result<(), Fail>
         lent: 3,
         back: 2,
     };
-    let text = long_text(rt.alloc(), b" 1000000", 20_000)?;
+    let text = long_text(rt.alloc())?;
     let is_written = writes_of_one(
         &rt,
         rt.alloc(),
         Form::Report,
-        &trace,
+        "",
         &[],
         &entries,
         line,
@@ -369,7 +312,6 @@ fn a_report_longer_than_a_block_is_complete(rt: HostRuntime) -> Result<(), Fail>
 fn a_summary_counts_answers_and_evictions(rt: HostRuntime) -> Result<(), Fail> {
     use ReplyKind::{Erased, Keys, Missing, Replaced, Stored, Value};
     let input = "put a 1\nput a 2\nget a\nerase a\nerase a\nget a\nscan a 3\n";
-    let trace = trace_of(&rt, rt.alloc(), input)?;
     let replies: [(ReplyKind, &[u8]); 7] = [
         (Stored, b""),
         (Replaced, b""),
@@ -394,7 +336,7 @@ fn a_summary_counts_answers_and_evictions(rt: HostRuntime) -> Result<(), Fail> {
             &rt,
             rt.alloc(),
             Form::Summary,
-            &trace,
+            input,
             &replies,
             &entries,
             line,

@@ -6,7 +6,8 @@ ghost use Rattle.cache_model.specs.Examples.{two_shards};
 ghost use Rattle.cache_model.specs.Logged.{AreLogged};
 ghost use Rattle.report_text.specs.Views.{replies_in};
 
-use super::{Form, Run, journal_of, writes};
+use super::journal_of;
+use super::written::{Form, Run, writes};
 use crate::ShardLine;
 use cache_model::{Entry, ReplyKind};
 use run_log::{Journal, ReplyLog};
@@ -68,12 +69,11 @@ fn two_journals(alloc: Global) -> Result<[Journal; 2], AllocError> {
     ])
 }
 
-/// What a report says of the two shards, and what a summary says.
-#[test]
-fn two_shards_are_reported_and_summed_up(rt: HostRuntime) -> Result<(), Fail> {
-    let trace = two_shards(rt.alloc())?;
-    let logs = two_logs(&rt, rt.alloc())?;
-    let journals = two_journals(rt.alloc())?;
+/// Whether this is written of the run on the two shards.
+fn writes_of_two(rt: &impl Abort, alloc: Global, form: Form, text: &str) -> Result<bool, Fail> {
+    let trace = two_shards(alloc)?;
+    let logs = two_logs(rt, alloc)?;
+    let journals = two_journals(alloc)?;
     let lines = [(2, 96), (1, 48)].map(|(rows, live)| ShardLine {
         rows,
         live,
@@ -87,6 +87,12 @@ fn two_shards_are_reported_and_summed_up(rt: HostRuntime) -> Result<(), Fail> {
         journals: &journals,
         lines: &lines,
     };
+    Ok(writes(alloc, form, &run, 1000, Ok(()), text.as_bytes())?)
+}
+
+/// What a report says of the two shards, and what a summary says.
+#[test]
+fn two_shards_are_reported_and_summed_up(rt: HostRuntime) -> Result<(), Fail> {
     for (form, text) in [
         (
             Form::Report,
@@ -97,7 +103,7 @@ fn two_shards_are_reported_and_summed_up(rt: HostRuntime) -> Result<(), Fail> {
             "commands 7\nstored 3 replaced 0 values 0 missing 3 erased 0 scans 1\nevictions 0\nshard 0 rows 2 live 96 lent 2 back 2\nshard 1 rows 1 live 48 lent 2 back 2\n",
         ),
     ] {
-        let is_written = writes(rt.alloc(), form, &run, 1000, Ok(()), text.as_bytes())?;
+        let is_written = writes_of_two(&rt, rt.alloc(), form, text)?;
         assert!(rt; is_written);
     }
     Ok(())
