@@ -163,7 +163,7 @@ fn writes_of_one(
         journals: &journals,
         lines: &[line],
     };
-    Ok(writes(alloc, form, &run, room, want, text)?)
+    writes(alloc, form, &run, room, want, text)
 }
 
 /// Writes the report of these commands and replies into a sink of so much room, and looks at what it holds.

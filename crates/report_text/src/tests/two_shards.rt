@@ -69,17 +69,22 @@ fn two_journals(alloc: Global) -> Result<[Journal; 2], AllocError> {
     ])
 }
 
+/// What a shard of so many rows holds.
+fn line_of(rows: u32, live: u64) -> ShardLine {
+    ShardLine {
+        rows,
+        live,
+        lent: 2,
+        back: 2,
+    }
+}
+
 /// Whether this is written of the run on the two shards.
 fn writes_of_two(rt: &impl Abort, alloc: Global, form: Form, text: &str) -> Result<bool, Fail> {
     let trace = two_shards(alloc)?;
     let logs = two_logs(rt, alloc)?;
     let journals = two_journals(alloc)?;
-    let lines = [(2, 96), (1, 48)].map(|(rows, live)| ShardLine {
-        rows,
-        live,
-        lent: 2,
-        back: 2,
-    });
+    let lines = [line_of(2, 96), line_of(1, 48)];
     let run = Run {
         trace: &trace,
         shards: 2,
@@ -87,7 +92,7 @@ fn writes_of_two(rt: &impl Abort, alloc: Global, form: Form, text: &str) -> Resu
         journals: &journals,
         lines: &lines,
     };
-    Ok(writes(alloc, form, &run, 1000, Ok(()), text.as_bytes())?)
+    writes(alloc, form, &run, 1000, Ok(()), text.as_bytes())
 }
 
 /// What a report says of the two shards, and what a summary says.

@@ -8,7 +8,8 @@ ghost use Rattle.report_text.specs.Views.{replies_in};
 use crate::{ShardLine, write_report, write_summary};
 use outside::{Failed, MemorySink};
 use run_log::{Journal, ReplyLog};
-use std::alloc::{AllocError, Global};
+use std::alloc::Global;
+use std::test::Fail;
 use trace_text::Trace;
 
 /// What is written of a run.
@@ -36,7 +37,7 @@ pub(super) fn writes(
     room: usize,
     want: Result<(), Failed>,
     text: &[u8],
-) -> Result<bool, AllocError>
+) -> Result<bool, Fail>
     requires parsed_for { run.now.shards ≡ run.now.trace.now.shards }
     requires one_log_each { length run.now.logs.now ≡ run.now.shards }
     requires one_journal_each { length run.now.journals.now ≡ run.now.shards }
