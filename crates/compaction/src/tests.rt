@@ -7,21 +7,27 @@ ghost use Rattle.regions.specs.Contents.{live_at, Keeps};
 ghost use Rattle.compaction.specs.inside.Names.{AreNamed};
 
 mod names;
+mod steps;
 
 use crate::{Compacted, compact_one, pass};
-use names::{Names, content, kill, overwrite, place_of, put};
+use names::{Names, content, kill, overwrite, put};
 use rand_core::utils::NextWord;
 use rand_pcg::Lcg64Xsh32;
 use raw_range::{Piece, Range};
-use regions::{Place, Region};
+use regions::Region;
 use std::alloc::{AllocError, Global};
 use std::test::Fail;
+use steps::{Step, first_wrong};
 
 /// A region and the names of its objects.
 #[derive(Drop)]
 struct Shelf {
     region: Region,
     names: Names,
+    /// What each name should hold: its object's size and byte, or nothing.
+    held: Vec<Option<(u32, u8)>>,
+    /// The bytes of segments as they stood.
+    kept: Vec<u8>,
 }
 
 fn piece(alloc: Global, owner: u32) -> Result<Piece, AllocError>
@@ -43,6 +49,8 @@ fn new_shelf(alloc: Global) -> Result<Shelf, AllocError>
     Ok(Shelf {
         region,
         names: Names::new(alloc),
+        held: Vec::new(alloc),
+        kept: Vec::new(alloc),
     })
 }
 
@@ -138,64 +146,82 @@ fn unguard(shelf: &mut Shelf)
     }
 }
 
-/// A copy of the bytes of a closed segment.
-fn bytes_of(alloc: Global, shelf: &Shelf, segment: u32) -> Result<Vec<u8>, AllocError> {
+/// Keeps the bytes of a closed segment behind those that are kept.
+fn keep(shelf: &mut Shelf, segment: u32) -> bool
+    requires fits { AreNamed (get shelf.old.names.places) (live_at shelf.old.region) }
+    ensures fits { AreNamed (get shelf.new.names.places) (live_at shelf.new.region) }
+{
     if !shelf.region.is_closed(segment) {
-        return Ok(Vec::new(alloc));
+        return false;
     }
-    shelf.region.segment_bytes(segment).to_vec(alloc)
+    let bytes = shelf.region.segment_bytes(segment);
+    shelf.kept.extend_from_slice(bytes).is_ok()
+}
+
+/// Whether the bytes of a closed segment are those that were kept first, second and so on.
+fn is_kept(shelf: &Shelf, segment: u32, order: usize) -> bool {
+    if !shelf.region.is_closed(segment) || order > 9 {
+        return false;
+    }
+    let bytes = shelf.region.segment_bytes(segment);
+    shelf.kept.get(order * 131_072..(order + 1) * 131_072) == Some(bytes)
+}
+
+/// Which step is the first that a shelf of four free segments answers otherwise.
+fn wrong(alloc: Global, steps: &[Step<'_>]) -> Result<Option<usize>, AllocError> {
+    let mut shelf = new_shelf(alloc)?;
+    Ok(first_wrong(alloc, &mut shelf, steps))
 }
 
 #[test]
 fn the_sparsest_segment_is_emptied_and_the_other_stays(rt: HostRuntime) -> Result<(), Fail> {
-    let mut shelf = new_shelf(rt.alloc())?;
-    assert_eq!(rt; fill(rt.alloc(), &mut shelf, 7)?, Some(0));
-    assert_eq!(rt; fill(rt.alloc(), &mut shelf, 8)?, Some(1));
-    assert_eq!(rt; go_on(&mut shelf), Some(2));
-    assert_eq!(rt; compact(&mut shelf), Some(Compacted::NoneSparse));
-    kill_each(&mut shelf, &[0, 1, 2, 3, 4, 5, 6, 7]);
-    kill_each(&mut shelf, &[10, 11, 12, 13, 14, 15, 16, 17, 18]);
-    let first = bytes_of(rt.alloc(), &shelf, 0)?;
-    let second = bytes_of(rt.alloc(), &shelf, 1)?;
-    guard(&mut shelf);
-    assert_eq!(rt; compact(&mut shelf), Some(Compacted::Guarded));
-    assert_eq!(rt; compact_all(&mut shelf), Some(Compacted::Guarded));
-    assert!(rt; bytes_of(rt.alloc(), &shelf, 1)? == second);
-    let was = Place {
-        segment: 1,
-        at: 110_664,
-    };
-    assert_eq!(rt; place_of(&shelf.names, 19), Some(was));
-    unguard(&mut shelf);
-    assert_eq!(rt; shelf.region.free_segments(), 1);
-    assert_eq!(rt; compact(&mut shelf), Some(Compacted::Freed));
-    let is = Place { segment: 2, at: 0 };
-    assert_eq!(rt; place_of(&shelf.names, 19), Some(is));
-    assert_eq!(rt; shelf.region.free_segments(), 2);
-    assert!(rt; !shelf.region.is_closed(1));
-    assert!(rt; bytes_of(rt.alloc(), &shelf, 0)? == first);
+    let steps = [
+        Step::Fill(7, 0),
+        Step::Fill(8, 1),
+        Step::GoOn(2),
+        Step::Compact(Some(Compacted::NoneSparse)),
+        Step::Kill(&[0, 1, 2, 3, 4, 5, 6, 7]),
+        Step::Kill(&[10, 11, 12, 13, 14, 15, 16, 17, 18]),
+        Step::Keep(0),
+        Step::Keep(1),
+        Step::Guard,
+        Step::Compact(Some(Compacted::Guarded)),
+        Step::CompactAll(Some(Compacted::Guarded)),
+        Step::IsKept(1, 1),
+        Step::PlaceOf(19, Some((1, 110_664))),
+        Step::Unguard,
+        Step::Free(1),
+        Step::Compact(Some(Compacted::Freed)),
+        Step::PlaceOf(19, Some((2, 0))),
+        Step::Free(2),
+        Step::IsClosed(1, false),
+        Step::IsKept(0, 0),
+    ];
+    assert_eq!(rt; wrong(rt.alloc(), &steps)?, None);
     Ok(())
 }
 
 #[test]
 fn nothing_moves_until_the_last_of_three_guards_is_gone(rt: HostRuntime) -> Result<(), Fail> {
-    let mut shelf = new_shelf(rt.alloc())?;
-    assert_eq!(rt; fill(rt.alloc(), &mut shelf, 7)?, Some(0));
-    assert_eq!(rt; go_on(&mut shelf), Some(1));
-    kill_each(&mut shelf, &[0, 1, 2, 3, 4, 5, 6, 7, 8]);
-    let before = bytes_of(rt.alloc(), &shelf, 0)?;
-    guard(&mut shelf);
-    guard(&mut shelf);
-    guard(&mut shelf);
-    assert_eq!(rt; compact(&mut shelf), Some(Compacted::Guarded));
-    unguard(&mut shelf);
-    assert_eq!(rt; compact(&mut shelf), Some(Compacted::Guarded));
-    unguard(&mut shelf);
-    assert_eq!(rt; compact_all(&mut shelf), Some(Compacted::Guarded));
-    assert!(rt; bytes_of(rt.alloc(), &shelf, 0)? == before);
-    unguard(&mut shelf);
-    assert_eq!(rt; compact(&mut shelf), Some(Compacted::Freed));
-    assert!(rt; !shelf.region.is_closed(0));
+    let steps = [
+        Step::Fill(7, 0),
+        Step::GoOn(1),
+        Step::Kill(&[0, 1, 2, 3, 4, 5, 6, 7, 8]),
+        Step::Keep(0),
+        Step::Guard,
+        Step::Guard,
+        Step::Guard,
+        Step::Compact(Some(Compacted::Guarded)),
+        Step::Unguard,
+        Step::Compact(Some(Compacted::Guarded)),
+        Step::Unguard,
+        Step::CompactAll(Some(Compacted::Guarded)),
+        Step::IsKept(0, 0),
+        Step::Unguard,
+        Step::Compact(Some(Compacted::Freed)),
+        Step::IsClosed(0, false),
+    ];
+    assert_eq!(rt; wrong(rt.alloc(), &steps)?, None);
     Ok(())
 }
 
@@ -217,10 +243,11 @@ fn is_held(shelf: &Shelf, name: usize, held: Option<(u32, u8)>) -> bool
     }
 }
 
-fn are_held(shelf: &Shelf, held: &[Option<(u32, u8)>]) -> bool
+/// Whether each name is held as it should be.
+fn are_held(shelf: &Shelf) -> bool
     requires fits { AreNamed (get shelf.now.names.places) (live_at shelf.now.region) }
 {
-    for (name, object) in held.iter().enumerate() {
+    for (name, object) in shelf.held.iter().enumerate() {
         if !is_held(shelf, name, *object) {
             return false;
         }
@@ -230,35 +257,34 @@ fn are_held(shelf: &Shelf, held: &[Option<(u32, u8)>]) -> bool
 
 #[test]
 fn dead_objects_stay_behind_and_live_ones_keep_their_order(rt: HostRuntime) -> Result<(), Fail> {
-    let mut shelf = new_shelf(rt.alloc())?;
-    assert_eq!(rt; fill(rt.alloc(), &mut shelf, 7)?, Some(0));
-    assert_eq!(rt; fill(rt.alloc(), &mut shelf, 8)?, Some(1));
-    assert_eq!(rt; fill(rt.alloc(), &mut shelf, 9)?, Some(2));
-    assert_eq!(rt; go_on(&mut shelf), Some(3));
-    kill_each(&mut shelf, &[0, 1, 2, 3, 4, 5, 6, 7, 8, 9]);
-    kill_each(&mut shelf, &[10, 12, 14, 16, 18]);
-    assert_eq!(rt; compact(&mut shelf), Some(Compacted::Freed));
-    assert_eq!(rt;
-        (shelf.region.free_segments(), shelf.region.left()),
-        (1, 131_072)
-    );
-    assert_eq!(rt; compact_all(&mut shelf), Some(Compacted::Freed));
-    assert_eq!(rt;
-        (shelf.region.free_segments(), shelf.region.left()),
-        (2, 69_592)
-    );
-    for (order, name) in [11, 13, 15, 17, 19].into_iter().enumerate() {
-        let at = Place {
-            segment: 3,
-            at: order as u32 * 12_296,
-        };
-        assert_eq!(rt; place_of(&shelf.names, name), Some(at));
-        assert!(rt; is_held(&shelf, name, Some((12_296, 8))));
-    }
-    let at = Place { segment: 2, at: 0 };
-    assert!(rt; shelf.region.is_closed(2));
-    assert_eq!(rt; compact_all(&mut shelf), Some(Compacted::Freed));
-    assert_eq!(rt; compact(&mut shelf), Some(Compacted::NoneSparse));
+    let steps = [
+        Step::Fill(7, 0),
+        Step::Fill(8, 1),
+        Step::Fill(9, 2),
+        Step::GoOn(3),
+        Step::Kill(&[0, 1, 2, 3, 4, 5, 6, 7, 8, 9]),
+        Step::Kill(&[10, 12, 14, 16, 18]),
+        Step::Compact(Some(Compacted::Freed)),
+        Step::Free(1),
+        Step::Left(131_072),
+        Step::CompactAll(Some(Compacted::Freed)),
+        Step::Free(2),
+        Step::Left(69_592),
+        Step::PlaceOf(11, Some((3, 0))),
+        Step::PlaceOf(13, Some((3, 12_296))),
+        Step::PlaceOf(15, Some((3, 24_592))),
+        Step::PlaceOf(17, Some((3, 36_888))),
+        Step::PlaceOf(19, Some((3, 49_184))),
+        Step::Holds(11, 12_296, 8),
+        Step::Holds(13, 12_296, 8),
+        Step::Holds(15, 12_296, 8),
+        Step::Holds(17, 12_296, 8),
+        Step::Holds(19, 12_296, 8),
+        Step::IsClosed(2, true),
+        Step::CompactAll(Some(Compacted::Freed)),
+        Step::Compact(Some(Compacted::NoneSparse)),
+    ];
+    assert_eq!(rt; wrong(rt.alloc(), &steps)?, None);
     Ok(())
 }
 
@@ -270,42 +296,36 @@ fn size_of(draw: u32) -> u32
 }
 
 /// Objects of 16 bytes, of 616 more and so on, and one of the greatest size: they fill a segment.
-fn place_each(
-    alloc: Global,
-    shelf: &mut Shelf,
-    held: &mut Vec<Option<(u32, u8)>>,
-) -> Result<(), AllocError>
+fn place_each(alloc: Global, shelf: &mut Shelf) -> Result<(), AllocError>
     requires fits { AreNamed (get shelf.old.names.places) (live_at shelf.old.region) }
     ensures fits { AreNamed (get shelf.new.names.places) (live_at shelf.new.region) }
 {
     for byte in 0..20u8 {
         let size = size_of(u32::from(byte) * 77);
         if let Some(name) = place(alloc, shelf, size, byte)? {
-            note(held, name, Some((size, byte)))?;
+            note(&mut shelf.held, name, Some((size, byte)))?;
         }
     }
     if let Some(name) = place(alloc, shelf, 12_296, 20)? {
-        note(held, name, Some((12_296, 20)))?;
+        note(&mut shelf.held, name, Some((12_296, 20)))?;
     }
     Ok(())
 }
 
 #[test]
 fn objects_of_each_size_are_moved(rt: HostRuntime) -> Result<(), Fail> {
-    let mut shelf = new_shelf(rt.alloc())?;
-    assert_eq!(rt; go_on(&mut shelf), Some(0));
-    let mut held = Vec::new(rt.alloc());
-    place_each(rt.alloc(), &mut shelf, &mut held)?;
-    assert_eq!(rt; (held.len(), go_on(&mut shelf)), (21, Some(1)));
-    assert!(rt; are_held(&shelf, &held));
-    kill_each(&mut shelf, &[1, 2, 19]);
-    note(&mut held, 1, None)?;
-    note(&mut held, 2, None)?;
-    note(&mut held, 19, None)?;
-    assert!(rt; are_held(&shelf, &held));
-    assert_eq!(rt; compact(&mut shelf), Some(Compacted::Freed));
-    assert!(rt; !shelf.region.is_closed(0));
-    assert!(rt; are_held(&shelf, &held));
+    let steps = [
+        Step::GoOn(0),
+        Step::PlaceEach(21),
+        Step::GoOn(1),
+        Step::AreHeld,
+        Step::Kill(&[1, 2, 19]),
+        Step::AreHeld,
+        Step::Compact(Some(Compacted::Freed)),
+        Step::IsClosed(0, false),
+        Step::AreHeld,
+    ];
+    assert_eq!(rt; wrong(rt.alloc(), &steps)?, None);
     Ok(())
 }
 
@@ -323,12 +343,7 @@ fn note(
 }
 
 /// One call, drawn at random: an object is placed, killed or written.
-fn one_call(
-    alloc: Global,
-    shelf: &mut Shelf,
-    held: &mut Vec<Option<(u32, u8)>>,
-    random: &mut Lcg64Xsh32,
-) -> Result<(), AllocError>
+fn one_call(alloc: Global, shelf: &mut Shelf, random: &mut Lcg64Xsh32) -> Result<(), AllocError>
     requires fits { AreNamed (get shelf.old.names.places) (live_at shelf.old.region) }
     ensures fits { AreNamed (get shelf.new.names.places) (live_at shelf.new.region) }
 {
@@ -342,15 +357,15 @@ fn one_call(
                 go_on(shelf);
             }
             if let Some(name) = place(alloc, shelf, size, byte)? {
-                note(held, name, Some((size, byte)))?;
+                note(&mut shelf.held, name, Some((size, byte)))?;
             }
         }
         3..=5 => {
             kill(&mut shelf.region, &mut shelf.names, name);
-            note(held, name, None)?;
+            note(&mut shelf.held, name, None)?;
         }
         _ => {
-            if let Some(size) = size_held(held, name) {
+            if let Some(size) = size_held(&shelf.held, name) {
                 let mut content = Vec::from_elem(alloc, byte, size.saturating_sub(8) as usize)?;
                 overwrite(
                     &mut shelf.region,
@@ -358,7 +373,7 @@ fn one_call(
                     name,
                     content.as_mut_slice(),
                 );
-                note(held, name, Some((size, byte)))?;
+                note(&mut shelf.held, name, Some((size, byte)))?;
             }
         }
     }
@@ -370,24 +385,41 @@ fn size_held(held: &[Option<(u32, u8)>], name: usize) -> Option<u32> {
     Some(size)
 }
 
+/// How many segments are freed in a thousand calls. None where a name does not hold what it should, before a pass or
+/// behind it.
+fn freed_in_a_thousand_calls(
+    alloc: Global,
+    shelf: &mut Shelf,
+    random: &mut Lcg64Xsh32,
+) -> Result<Option<u32>, AllocError>
+    requires fits { AreNamed (get shelf.old.names.places) (live_at shelf.old.region) }
+    ensures fits { AreNamed (get shelf.new.names.places) (live_at shelf.new.region) }
+{
+    let mut freed = 0u32;
+    for _ in 0..1000 {
+        if random.next_word() % 32 > 0 {
+            one_call(alloc, shelf, random)?;
+            continue;
+        }
+        if !are_held(shelf) {
+            return Ok(None);
+        }
+        if compact_all(shelf) == Some(Compacted::Freed) {
+            freed = freed.saturating_add(1);
+        }
+        if !are_held(shelf) {
+            return Ok(None);
+        }
+    }
+    Ok(Some(freed))
+}
+
 #[test]
 fn each_name_keeps_its_content_through_a_thousand_calls(rt: HostRuntime) -> Result<(), Fail> {
     let mut shelf = new_shelf(rt.alloc())?;
-    let mut held = Vec::new(rt.alloc());
     let mut random = Lcg64Xsh32::new(7, 1);
-    let mut freed = 0u32;
     assert_eq!(rt; go_on(&mut shelf), Some(0));
-    for _ in 0..1000 {
-        if random.next_word() % 32 > 0 {
-            one_call(rt.alloc(), &mut shelf, &mut held, &mut random)?;
-            continue;
-        }
-        assert!(rt; are_held(&shelf, &held));
-        if compact_all(&mut shelf) == Some(Compacted::Freed) {
-            freed = freed.saturating_add(1);
-        }
-        assert!(rt; are_held(&shelf, &held));
-    }
-    assert!(rt; freed > 10);
+    let freed = freed_in_a_thousand_calls(rt.alloc(), &mut shelf, &mut random)?;
+    assert!(rt; freed > Some(10));
     Ok(())
 }

@@ -1,0 +1,206 @@
+//! Calls of a region: one that does not fit what stands changes nothing.
+ghost use Rattle.std.specs.Prelude.{◌≡◌, ◌≤◌, length, IfSome, IsSome, option_map};
+ghost use Rattle.object_log.specs.Objects.{IsSize};
+ghost use Rattle.regions.specs.Shapes.{active_of, IsClosed};
+ghost use Rattle.regions.specs.Contents.{standing_at, live_at, with_bytes, ChangesAt, IsLiveAt};
+
+use crate::{Place, Region};
+use raw_range::Piece;
+
+pub(super) fn go_on(region: &mut Region) -> Option<u32> {
+    if region.free_segments() > 0 && (region.active().is_none() || region.left() < 12_296) {
+        region.next_active();
+    }
+    region.active()
+}
+
+// The segment of the new object, and where it begins there.
+pub(super) fn put(region: &mut Region, kind: u8, size: u32) -> Option<(u32, u32)>
+    requires kind { 1 ≤ kind }
+    requires size { IsSize size }
+{
+    if region.active().is_none() {
+        return None;
+    }
+    let Ok(place) = region.place(kind, size) else {
+        return None;
+    };
+    Some((place.segment, place.at))
+}
+
+// Ten of the greatest objects.
+pub(super) fn put_ten(region: &mut Region) {
+    for _ in 0..10 {
+        let _placed = put(region, 1, 12_296);
+    }
+}
+
+// What a caller can say of a content that it writes.
+fn overwrite(region: &mut Region, place: Place, from: &[u8])
+    requires live { IsSome (live_at region.old place) }
+    requires fits { IfSome (standing_at region.old place) (λ s. length s.item.content ≡ length from.now) }
+    ensures { ChangesAt place (option_map (with_bytes from.now) (standing_at region.old place)) region.old region.new }
+{
+    region.bytes_mut(place).copy_from_slice(from);
+}
+
+// Whether two objects side by side, of which each is written through, have their contents then.
+pub(super) fn write_both(region: &mut Region) -> bool {
+    if region.active().is_none() {
+        return false;
+    }
+    let Ok(first) = region.place(1, 48) else {
+        return false;
+    };
+    let Ok(second) = region.place(2, 16) else {
+        return false;
+    };
+    region.bytes_mut(second).fill(9);
+    overwrite(region, first, &[7; 40]);
+    region.bytes(first) == [7u8; 40].as_slice() && region.bytes(second) == [9u8; 8].as_slice()
+}
+
+// An object that dies at once.
+fn spend(region: &mut Region, size: u32)
+    requires { IsSize size }
+{
+    if region.active().is_none() {
+        return;
+    }
+    if let Ok(place) = region.place(1, size) {
+        region.kill(place);
+    }
+}
+
+// Ten of the greatest objects, dead.
+pub(super) fn spend_ten(region: &mut Region) {
+    for _ in 0..10 {
+        spend(region, 12_296);
+    }
+}
+
+// Where the objects of a closed segment end, and its live bytes.
+pub(super) fn counts(region: &Region, segment: u32) -> Option<(u32, u32)> {
+    if !region.is_closed(segment) {
+        return None;
+    }
+    Some((region.used(segment), region.live_in(segment)))
+}
+
+pub(super) type Live = Option<(u32, u8, u32)>;
+
+// Where the objects of a closed segment end, its first live one, and the next one behind that.
+pub(super) fn two_live(region: &Region, segment: u32) -> Option<(u32, Live, Live)> {
+    if !region.is_closed(segment) {
+        return None;
+    }
+    let used = region.used(segment);
+    let Some((at, kind, size)) = region.next_live(segment, 0) else {
+        return Some((used, None, None));
+    };
+    let first = Some((at, kind, size));
+    let Some(behind) = at.checked_add(size) else {
+        return Some((used, first, None));
+    };
+    Some((used, first, region.next_live(segment, behind)))
+}
+
+pub(super) fn has(region: &Region, segment: u32, from: usize, bytes: &[u8]) -> bool {
+    if !region.is_closed(segment) {
+        return false;
+    }
+    let all = region.segment_bytes(segment);
+    from <= all.len() && all[from..].starts_with(bytes)
+}
+
+pub(super) fn free(region: &mut Region, segment: u32) -> bool {
+    if !region.is_closed(segment) || region.guards() > 0 {
+        return false;
+    }
+    if region.live_in(segment) > 0 {
+        return false;
+    }
+    region.free_closed(segment);
+    true
+}
+
+// Whether a dead object is served under three guards, under two and under one. None where a guard stands.
+pub(super) fn serves_dead(region: &mut Region) -> Option<bool> {
+    if region.active().is_none() || region.guards() > 0 {
+        return None;
+    }
+    let Ok(place) = region.place(1, 48) else {
+        return None;
+    };
+    region.bytes_mut(place).fill(7);
+    region.guard();
+    region.guard();
+    region.guard();
+    region.kill(place);
+    let three = region.bytes(place) == [7u8; 40].as_slice();
+    region.unguard();
+    let two = region.bytes(place) == [7u8; 40].as_slice();
+    region.unguard();
+    let one = region.bytes(place) == [7u8; 40].as_slice();
+    Some(three && two && one)
+}
+
+// A copy of the live object behind those of the active segment, and where it stands.
+fn append_copy(region: &mut Region, from: Place, kind: u8, size: u32) -> Option<Place>
+    requires active { IsSome (active_of region.old) }
+    requires closed { IsClosed region.old from.segment }
+    requires live { IsLiveAt (live_at region.old from) kind size }
+    requires kind { 1 ≤ kind }
+    requires size { IsSize size }
+{
+    let Ok(to) = region.place(kind, size) else {
+        return None;
+    };
+    region.copy(from, to);
+    Some(to)
+}
+
+// The first live object of a closed segment is copied: the segment of the copy, and where it begins there.
+pub(super) fn copy_first(region: &mut Region, segment: u32) -> Option<(u32, u32)> {
+    if !region.is_closed(segment) || region.active().is_none() {
+        return None;
+    }
+    let (at, kind, size) = region.next_live(segment, 0)?;
+    let copy = append_copy(region, Place { segment, at }, kind, size)?;
+    Some((copy.segment, copy.at))
+}
+
+// A content is copied over another in the same segment. Whether the two are alike then.
+pub(super) fn copy_beside(region: &mut Region) -> bool {
+    if region.active().is_none() {
+        return false;
+    }
+    let Ok(first) = region.place(1, 48) else {
+        return false;
+    };
+    let Ok(second) = region.place(2, 48) else {
+        return false;
+    };
+    overwrite(region, first, &[7; 40]);
+    region.copy(first, second);
+    region.bytes(first) == [7u8; 40].as_slice() && region.bytes(second) == [7u8; 40].as_slice()
+}
+
+// The owner of a piece.
+fn owner(piece: Option<Piece>) -> Option<u32> {
+    match piece {
+        Some(piece) => Some(piece.owner()),
+        None => None,
+    }
+}
+
+pub(super) fn take_free(region: &mut Region) -> Option<u32> {
+    owner(region.take_free())
+}
+
+pub(super) fn give_up(region: &mut Region) -> Option<u32> {
+    if region.guards() > 0 {
+        return None;
+    }
+    owner(region.give_up())
+}
