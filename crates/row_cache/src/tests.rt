@@ -9,12 +9,10 @@ pub(crate) mod trial;
 
 use crate::{Compacted, Put};
 use std::test::Fail;
-use steps::{Step, first_wrong};
-use trial::Trial;
+use steps::{Step, wrong_of_two};
 
 #[test]
 fn the_least_recent_row_goes(rt: HostRuntime) -> Result<(), Fail> {
-    let mut trial = Trial::small(rt.alloc())?;
     let steps = [
         Step::Put(b"b", b"", 1, Some(Put::Stored)),
         Step::Put(b"a", b"", 2, Some(Put::Stored)),
@@ -27,13 +25,12 @@ fn the_least_recent_row_goes(rt: HostRuntime) -> Result<(), Fail> {
         Step::EvictLast(None),
         Step::Size(0, 0),
     ];
-    assert_eq!(rt; first_wrong(&mut trial, &steps), None);
+    assert_eq!(rt; wrong_of_two(rt.alloc(), &steps)?, None);
     Ok(())
 }
 
 #[test]
 fn a_put_replaces_and_an_erase_removes(rt: HostRuntime) -> Result<(), Fail> {
-    let mut trial = Trial::small(rt.alloc())?;
     let steps = [
         Step::Put(b"a", b"one", 1, Some(Put::Stored)),
         Step::Put(b"a", b"abc", 2, Some(Put::Replaced)),
@@ -45,13 +42,12 @@ fn a_put_replaces_and_an_erase_removes(rt: HostRuntime) -> Result<(), Fail> {
         Step::Erase(b"a", false),
         Step::Size(0, 0),
     ];
-    assert_eq!(rt; first_wrong(&mut trial, &steps), None);
+    assert_eq!(rt; wrong_of_two(rt.alloc(), &steps)?, None);
     Ok(())
 }
 
 #[test]
 fn a_full_cache_takes_another_key_once_a_row_went(rt: HostRuntime) -> Result<(), Fail> {
-    let mut trial = Trial::small(rt.alloc())?;
     let steps = [
         Step::Put(b"a", b"1", 1, Some(Put::Stored)),
         Step::Put(b"b", b"22", 2, Some(Put::Stored)),
@@ -62,22 +58,21 @@ fn a_full_cache_takes_another_key_once_a_row_went(rt: HostRuntime) -> Result<(),
         Step::EvictLast(Some(4)),
         Step::Size(1, 48),
     ];
-    assert_eq!(rt; first_wrong(&mut trial, &steps), None);
+    assert_eq!(rt; wrong_of_two(rt.alloc(), &steps)?, None);
     Ok(())
 }
 
 #[test]
 fn a_guard_keeps_the_value_of_a_row_that_went(rt: HostRuntime) -> Result<(), Fail> {
-    let mut trial = Trial::small(rt.alloc())?;
-    assert_eq!(rt; trial.put(b"a", b"abc", 1), Some(Put::Stored));
-    assert_eq!(rt; trial.keeps(b"a", b"abc", b"xyz"), Some(true));
     let steps = [
+        Step::Put(b"a", b"abc", 1, Some(Put::Stored)),
+        Step::Keeps(b"a", b"abc", b"xyz", Some(true)),
         Step::Size(1, 48),
         Step::Get(b"a", Some(b"xyz")),
         Step::Compact(Some(Compacted::Guarded)),
         Step::Unguard,
         Step::Compact(Some(Compacted::NoneSparse)),
     ];
-    assert_eq!(rt; first_wrong(&mut trial, &steps), None);
+    assert_eq!(rt; wrong_of_two(rt.alloc(), &steps)?, None);
     Ok(())
 }

@@ -24,9 +24,9 @@ struct Both {
 /// One of 200 keys, of which each begins many others.
 fn key_of(alloc: Global, draw: u32) -> Result<Vec<u8>, AllocError> {
     let mut key = Vec::from_elem(alloc, 0xfe, draw as usize % 20 + 1)?;
-    let tail = draw / 20 % 10;
+    let tail = (draw / 20 % 10) as u8;
     if tail > 0 {
-        key.push(tail as u8 * 25)?;
+        key.push(tail.wrapping_mul(25))?;
     }
     Ok(key)
 }
@@ -114,6 +114,29 @@ impl Both {
     }
 }
 
+/// One call of a key, drawn at random, and whether both reply alike.
+fn one_call_of(
+    alloc: Global,
+    both: &mut Both,
+    random: &mut Lcg64Xsh32,
+    number: u32,
+    call: u32,
+    key: &[u8],
+) -> Result<bool, AllocError> {
+    match call {
+        0..=6 => {
+            let value = Vec::from_elem(alloc, (number % 251) as u8, length_of(random.next_word()))?;
+            both.put(alloc, key, &value, number)
+        }
+        7..=9 => Ok(both.get(key)),
+        10 => Ok(both.find(key)),
+        11 | 12 => Ok(both.erase(key)),
+        13 => Ok(both.evict()),
+        14 => Ok(both.compact()),
+        _ => both.scan(alloc, key, number % 5 + 1),
+    }
+}
+
 /// One call, drawn at random, and whether both reply alike.
 fn one_call(
     alloc: Global,
@@ -123,37 +146,46 @@ fn one_call(
 ) -> Result<bool, AllocError> {
     let draw = random.next_word();
     let key = key_of(alloc, draw / 16)?;
-    match draw % 16 {
-        0..=6 => {
-            let value = Vec::from_elem(alloc, (number % 251) as u8, length_of(random.next_word()))?;
-            both.put(alloc, &key, &value, number)
+    one_call_of(alloc, both, random, number, draw % 16, &key)
+}
+
+/// Which of the calls is the first whose replies are not alike.
+fn first_unlike(
+    alloc: Global,
+    both: &mut Both,
+    random: &mut Lcg64Xsh32,
+) -> Result<Option<u32>, AllocError> {
+    for number in 0..100_000u32 {
+        if !one_call(alloc, both, random, number)? {
+            return Ok(Some(number));
         }
-        7..=9 => Ok(both.get(&key)),
-        10 => Ok(both.find(&key)),
-        11 | 12 => Ok(both.erase(&key)),
-        13 => Ok(both.evict()),
-        14 => Ok(both.compact()),
-        _ => both.scan(alloc, &key, number % 5 + 1),
+        if number % 64 == 0 && !both.are_alike() {
+            return Ok(Some(number));
+        }
     }
+    Ok(None)
+}
+
+/// Whether each row that is left goes from both alike, and leaves no bytes.
+fn all_go(both: &mut Both) -> bool {
+    for _ in 0..ROWS {
+        if !both.evict() {
+            return false;
+        }
+    }
+    both.trial.size() == (0, 0)
+}
+
+/// The first call whose replies are not alike, whether segments were begun often, and whether all rows go then.
+fn replies(alloc: Global) -> Result<(Option<u32>, bool, bool), AllocError> {
+    let mut both = Both::new(alloc)?;
+    let mut random = Lcg64Xsh32::new(11, 1);
+    let unlike = first_unlike(alloc, &mut both, &mut random)?;
+    Ok((unlike, both.begun > 100, all_go(&mut both)))
 }
 
 #[test]
 fn a_hundred_thousand_replies_are_those_of_a_list(rt: HostRuntime) -> Result<(), Fail> {
-    let mut both = Both::new(rt.alloc())?;
-    let mut random = Lcg64Xsh32::new(11, 1);
-    for number in 0..100_000u32 {
-        assert!(rt;
-            one_call(rt.alloc(), &mut both, &mut random, number)?,
-            "at {number}"
-        );
-        if number % 64 == 0 {
-            assert!(rt; both.are_alike(), "at {number}");
-        }
-    }
-    assert!(rt; both.begun > 100);
-    for _ in 0..ROWS {
-        assert!(rt; both.evict());
-    }
-    assert_eq!(rt; both.trial.size(), (0, 0));
+    assert_eq!(rt; replies(rt.alloc())?, (None, true, true));
     Ok(())
 }

@@ -44,10 +44,14 @@ fn odd_rows_stand(alloc: Global, trial: &Trial) -> Result<bool, AllocError> {
     Ok(true)
 }
 
+fn erase_row(alloc: Global, trial: &mut Trial, byte: u8) -> Result<bool, AllocError> {
+    let key = Vec::from_elem(alloc, byte, 256)?;
+    Ok(trial.erase(&key))
+}
+
 fn erase_even(alloc: Global, trial: &mut Trial) -> Result<bool, AllocError> {
     for half in 0..10u8 {
-        let key = Vec::from_elem(alloc, half * 2, 256)?;
-        if !trial.erase(&key) {
+        if !erase_row(alloc, trial, half * 2)? {
             return Ok(false);
         }
     }
@@ -72,11 +76,19 @@ fn stand_moved(alloc: Global, trial: &mut Trial) -> Result<bool, AllocError> {
     Ok(stood && moved && odd_rows_stand(alloc, trial)?)
 }
 
+/// Whether rows are read as before where compaction moved them, and the least recent one goes.
+fn moves(alloc: Global) -> Result<bool, AllocError> {
+    let mut trial = Trial::new(alloc, 20)?;
+    let moved = move_rows(alloc, &mut trial)?;
+    Ok(moved && trial.evict_last() == Some(1))
+}
+
+fn move_rows(alloc: Global, trial: &mut Trial) -> Result<bool, AllocError> {
+    Ok(halve(alloc, trial)? && stand_moved(alloc, trial)?)
+}
+
 #[test]
 fn compaction_moves_rows_and_each_is_read_as_before(rt: HostRuntime) -> Result<(), Fail> {
-    let mut trial = Trial::new(rt.alloc(), 20)?;
-    assert!(rt; halve(rt.alloc(), &mut trial)?);
-    assert!(rt; stand_moved(rt.alloc(), &mut trial)?);
-    assert_eq!(rt; trial.evict_last(), Some(1));
+    assert!(rt; moves(rt.alloc())?);
     Ok(())
 }

@@ -2,6 +2,7 @@
 use super::steps::{Step, first_wrong};
 use super::trial::Trial;
 use crate::Put;
+use std::alloc::{AllocError, Global};
 use std::test::Fail;
 
 /// Whether rows of the least and of the greatest size are put, and no other. There are 12,001 bytes.
@@ -24,11 +25,15 @@ fn sizes_hold<'a>(trial: &mut Trial, bytes: &'a [u8]) -> Option<bool> {
     Some(first_wrong(trial, &steps).is_none())
 }
 
+fn sizes_hold_in_two(alloc: Global) -> Result<Option<bool>, AllocError> {
+    let bytes = Vec::from_elem(alloc, 200u8, 12_001)?;
+    let mut trial = Trial::small(alloc)?;
+    Ok(sizes_hold(&mut trial, &bytes))
+}
+
 #[test]
 fn rows_of_the_least_and_of_the_greatest_size(rt: HostRuntime) -> Result<(), Fail> {
-    let bytes = Vec::from_elem(rt.alloc(), 200u8, 12_001)?;
-    let mut trial = Trial::small(rt.alloc())?;
-    assert_eq!(rt; sizes_hold(&mut trial, &bytes), Some(true));
+    assert_eq!(rt; sizes_hold_in_two(rt.alloc())?, Some(true));
     Ok(())
 }
 
@@ -68,12 +73,17 @@ fn two_go(trial: &mut Trial, key: &[u8]) -> bool {
     first_wrong(trial, &steps).is_none() && count_fronts(trial, key) == 254
 }
 
+/// How many fronts of the longest key are stored, how many have their values, and whether two of them go.
+fn fronts(alloc: Global) -> Result<(u32, u32, bool), AllocError> {
+    let key = Vec::from_elem(alloc, 255u8, 256)?;
+    let mut trial = Trial::new(alloc, 256)?;
+    let stored = put_fronts(&mut trial, &key);
+    let found = count_fronts(&trial, &key);
+    Ok((stored, found, two_go(&mut trial, &key)))
+}
+
 #[test]
 fn keys_of_each_length_of_which_one_begins_the_next(rt: HostRuntime) -> Result<(), Fail> {
-    let key = Vec::from_elem(rt.alloc(), 255u8, 256)?;
-    let mut trial = Trial::new(rt.alloc(), 256)?;
-    assert_eq!(rt; put_fronts(&mut trial, &key), 256);
-    assert_eq!(rt; count_fronts(&trial, &key), 256);
-    assert!(rt; two_go(&mut trial, &key));
+    assert_eq!(rt; fronts(rt.alloc())?, (256, 256, true));
     Ok(())
 }
