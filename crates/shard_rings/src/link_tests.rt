@@ -1,50 +1,94 @@
 //! What no clause of the links says: that memory is found, and that a ring holds as many packets as its size.
 use crate::ring_link::link_pair;
 use crate::{Lane, Link, MemoryLink, Packet, close_pair, ring_links};
+use std::alloc::{AllocError, Global};
 use std::test::Fail;
+
+// Whether the node can send a packet.
+fn sends<'f>(link: &mut MemoryLink<'f>, lane: Lane) -> bool {
+    link.send(lane, Packet::Bye).is_ok()
+}
+
+// How many of so many packets the node can send.
+fn sent<'f>(link: &mut MemoryLink<'f>, lane: Lane, most: u32) -> u32 {
+    for count in 0..most {
+        if !sends(link, lane) {
+            return count;
+        }
+    }
+    most
+}
+
+// Whether the node can be offered a packet.
+fn offers<'f>(link: &mut MemoryLink<'f>, lane: Lane) -> bool {
+    link.offer(lane, Packet::Bye).is_ok()
+}
+
+// How many of so many packets the node can be offered.
+fn offered<'f>(link: &mut MemoryLink<'f>, lane: Lane, most: u32) -> u32 {
+    for count in 0..most {
+        if !offers(link, lane) {
+            return count;
+        }
+    }
+    most
+}
+
+// How many of five requests are sent, and how often the lane was full.
+fn send_requests(alloc: Global) -> Result<(u32, u64), AllocError> {
+    let mut link = MemoryLink::new(alloc)?;
+    let count = sent(&mut link, Lane::Requests, 5);
+    Ok((count, link.full_count(Lane::Requests)))
+}
 
 #[test]
 fn a_lane_of_requests_takes_four(rt: HostRuntime) -> Result<(), Fail> {
-    let mut link = MemoryLink::new(rt.alloc())?;
-    for _ in 0..4 {
-        assert!(rt; link.send(Lane::Requests, Packet::Bye).is_ok());
-    }
-    assert!(rt; link.send(Lane::Requests, Packet::Bye).is_err());
-    assert_eq!(rt; link.full_count(Lane::Requests), 1);
+    assert_eq!(rt; send_requests(rt.alloc())?, (4, 1));
     Ok(())
+}
+
+// Whether a request is there before and after five are offered, how often the lane was empty before, and how many of
+// the five are taken.
+fn offer_requests(alloc: Global) -> Result<(bool, u64, u32, bool), AllocError> {
+    let mut link = MemoryLink::new(alloc)?;
+    let before = link.receive(Lane::Requests).is_some();
+    let empty = link.empty_count(Lane::Requests);
+    let count = offered(&mut link, Lane::Requests, 5);
+    Ok((before, empty, count, link.receive(Lane::Requests).is_some()))
 }
 
 #[test]
 fn a_lane_of_requests_is_offered_four(rt: HostRuntime) -> Result<(), Fail> {
-    let mut link = MemoryLink::new(rt.alloc())?;
-    assert!(rt; link.receive(Lane::Requests).is_none());
-    assert_eq!(rt; link.empty_count(Lane::Requests), 1);
-    for _ in 0..4 {
-        assert!(rt; link.offer(Lane::Requests, Packet::Bye).is_ok());
-    }
-    assert!(rt; link.offer(Lane::Requests, Packet::Bye).is_err());
-    assert!(rt; link.receive(Lane::Requests).is_some());
+    assert_eq!(rt; offer_requests(rt.alloc())?, (false, 1, 4, true));
     Ok(())
+}
+
+// How many of nine replies are sent, and whether one can be taken then.
+fn send_replies(alloc: Global) -> Result<(u32, bool), AllocError> {
+    let mut link = MemoryLink::new(alloc)?;
+    let count = sent(&mut link, Lane::Replies, 9);
+    Ok((count, link.taken(Lane::Replies).is_some()))
 }
 
 #[test]
 fn a_lane_of_replies_takes_eight(rt: HostRuntime) -> Result<(), Fail> {
-    let mut link = MemoryLink::new(rt.alloc())?;
-    for _ in 0..8 {
-        assert!(rt; link.send(Lane::Replies, Packet::Bye).is_ok());
-    }
-    assert!(rt; link.send(Lane::Replies, Packet::Bye).is_err());
-    assert!(rt; link.taken(Lane::Replies).is_some());
+    assert_eq!(rt; send_replies(rt.alloc())?, (8, true));
     Ok(())
+}
+
+// How many shards a mesh of three has, and whether each has ends toward two others.
+fn mesh_of_three(alloc: Global) -> Result<(usize, bool), AllocError> {
+    let ends = ring_links(alloc, 3)?;
+    let mut two = true;
+    for toward in &ends {
+        two = two && toward.len() == 2;
+    }
+    Ok((ends.len(), two))
 }
 
 #[test]
 fn each_shard_has_an_end_toward_each_other(rt: HostRuntime) -> Result<(), Fail> {
-    let ends = ring_links(rt.alloc(), 3)?;
-    assert_eq!(rt; ends.len(), 3);
-    for toward in &ends {
-        assert_eq!(rt; toward.len(), 2);
-    }
+    assert_eq!(rt; mesh_of_three(rt.alloc())?, (3, true));
     Ok(())
 }
 

@@ -24,8 +24,16 @@ fn request_of(alloc: Global, command: &Ask<'_>) -> Result<Vec<u8>, AllocError>
     Ok(bytes)
 }
 
+/// Whether the request of a command is of these bytes, and is taken for it.
+fn is_laid(alloc: Global, command: &Ask<'_>, laid: &[u8]) -> Result<bool, AllocError>
+    requires { IsAskable (asked command.now) }
+{
+    let request = request_of(alloc, command)?;
+    Ok(request.as_slice() == laid && is_request(command, request.as_slice()))
+}
+
 #[test]
-fn a_request_and_its_reply_are_laid_byte_for_byte(rt: HostRuntime) -> Result<(), Fail> {
+fn a_request_is_laid_byte_for_byte(rt: HostRuntime) -> Result<(), Fail> {
     let ask = Ask {
         kind: Kind::Put,
         key: b"b",
@@ -33,12 +41,13 @@ fn a_request_and_its_reply_are_laid_byte_for_byte(rt: HostRuntime) -> Result<(),
         count: 0,
         number: 1,
     };
-    let request = request_of(rt.alloc(), &ask)?;
-    assert!(rt;
-        request.as_slice()
-            == [1, 0, 1, 0, 1, 0, 0, 0, 1, 0, 0, 0, 0, 0, 0, 0, 0x62, 0x31].as_slice()
-    );
-    assert!(rt; is_request(&ask, request.as_slice()));
+    let laid = [1, 0, 1, 0, 1, 0, 0, 0, 1, 0, 0, 0, 0, 0, 0, 0, 0x62, 0x31];
+    assert!(rt; is_laid(rt.alloc(), &ask, &laid)?);
+    Ok(())
+}
+
+#[test]
+fn a_reply_is_laid_byte_for_byte(rt: HostRuntime) -> Result<(), Fail> {
     let mut reply = [255; 16];
     write_reply_header(ReplyKind::Stored, 1, 0, 0, &mut reply);
     assert!(rt; reply == [0x11, 0, 0, 0, 1, 0, 0, 0, 0, 0, 0, 0, 0, 0, 0, 0]);
@@ -125,18 +134,37 @@ fn comes_back(alloc: Global, bytes: &[u8], view: &ReplyView<'_>) -> Result<bool,
     Ok(written.as_slice()[..end] == bytes[..end] && written[end..].iter().all(|b| *b == 5))
 }
 
+/// A kind of a reply, mostly, and up to 39 bytes behind it.
+fn random_bytes(alloc: Global, words: &mut Lcg64Xsh32) -> Result<Vec<u8>, AllocError> {
+    let mut bytes = Vec::new(alloc);
+    bytes.push(16 + (words.next_word() % 8) as u8)?;
+    for _ in 0..words.next_word() % 40 {
+        bytes.push(draw(words))?;
+    }
+    Ok(bytes)
+}
+
+/// Whether the bytes come back where they are a reply. None where they are none.
+fn read_back(alloc: Global, bytes: &[u8]) -> Result<Option<bool>, AllocError> {
+    let Some(view) = read_reply(bytes) else {
+        return Ok(None);
+    };
+    Ok(Some(comes_back(alloc, bytes, &view)?))
+}
+
+fn random_read_back(alloc: Global, words: &mut Lcg64Xsh32) -> Result<Option<bool>, AllocError> {
+    let bytes = random_bytes(alloc, words)?;
+    read_back(alloc, bytes.as_slice())
+}
+
 #[test]
 fn random_bytes_are_no_reply_or_come_back(rt: HostRuntime) -> Result<(), Fail> {
     let mut words = Lcg64Xsh32::new(1, 1);
     let mut read = 0u64;
     for _ in 0..10_000 {
-        let mut bytes = Vec::new(rt.alloc());
-        bytes.push(16 + (words.next_word() % 8) as u8)?;
-        for _ in 0..words.next_word() % 40 {
-            bytes.push(draw(&mut words))?;
-        }
-        if let Some(view) = read_reply(bytes.as_slice()) {
-            assert!(rt; comes_back(rt.alloc(), bytes.as_slice(), &view)?);
+        let back = random_read_back(rt.alloc(), &mut words)?;
+        assert!(rt; back != Some(false));
+        if back.is_some() {
             read = read.wrapping_add(1);
         }
     }
@@ -145,13 +173,15 @@ fn random_bytes_are_no_reply_or_come_back(rt: HostRuntime) -> Result<(), Fail> {
     Ok(())
 }
 
-/// The request with the longest key and this value, of the greatest number.
-fn longest_request(
+/// Whether the request with the longest key and this value, of the greatest number, has so many bytes and begins so.
+fn longest_is(
     alloc: Global,
     kind: Kind,
     value: &[u8],
     count: u32,
-) -> Result<Vec<u8>, AllocError>
+    len: usize,
+    front: &[u8],
+) -> Result<bool, AllocError>
     requires value { length value.now ≤ 12000 }
     requires fields { HasItsFields kind value.now count }
 {
@@ -162,28 +192,21 @@ fn longest_request(
         count,
         number: u32::MAX,
     };
-    request_of(alloc, &ask)
+    let request = request_of(alloc, &ask)?;
+    Ok(request.len() == len && request.as_slice().starts_with(front))
 }
 
 #[test]
 fn the_greatest_requests(rt: HostRuntime) -> Result<(), Fail> {
     let value = [b'v'; 12_000];
-    let put = longest_request(rt.alloc(), Kind::Put, &value, 0)?;
-    assert_eq!(rt; put.len(), 12_272);
-    assert!(rt;
-        put.as_slice().starts_with(&[1, 0, 0, 1, 255, 255, 255, 255, 0xe0, 0x2e, 0, 0, 0, 0, 0, 0])
-    );
-    let get = longest_request(rt.alloc(), Kind::Get, &[], 0)?;
-    assert_eq!(rt; get.len(), 272);
-    let erase = longest_request(rt.alloc(), Kind::Erase, &[], 0)?;
-    assert_eq!(rt; erase.len(), 272);
-    let scan = longest_request(rt.alloc(), Kind::Scan, &[], 32)?;
-    assert_eq!(rt; scan.len(), 272);
-    assert!(rt;
-        scan.as_slice().starts_with(&[
-            4, 0, 0, 1, 255, 255, 255, 255, 0, 0, 32, 0, 0, 0, 0, 0, b'k'
-        ])
-    );
+    let front = [1, 0, 0, 1, 255, 255, 255, 255, 0xe0, 0x2e, 0, 0, 0, 0, 0, 0];
+    assert!(rt; longest_is(rt.alloc(), Kind::Put, &value, 0, 12_272, &front)?);
+    assert!(rt; longest_is(rt.alloc(), Kind::Get, &[], 0, 272, &[])?);
+    assert!(rt; longest_is(rt.alloc(), Kind::Erase, &[], 0, 272, &[])?);
+    let front = [
+        4, 0, 0, 1, 255, 255, 255, 255, 0, 0, 32, 0, 0, 0, 0, 0, b'k',
+    ];
+    assert!(rt; longest_is(rt.alloc(), Kind::Scan, &[], 32, 272, &front)?);
     Ok(())
 }
 
@@ -207,10 +230,10 @@ fn write_lengths(block: &mut [u8])
     }
 }
 
-#[test]
-fn the_greatest_replies(rt: HostRuntime) -> Result<(), Fail> {
-    let mut block = Vec::from_elem(rt.alloc(), 0u8, 12_020)?;
-    let block = block.as_mut_slice();
+/// Which length of a body is the first that is read otherwise. There are 12,020 bytes.
+fn first_misread(block: &mut [u8]) -> Option<u32>
+    requires { 12020 ≤ length block.old }
+{
     for (kind, len, found) in [
         (ReplyKind::Value, 12_000, Some((0, 12_000))),
         (ReplyKind::Value, 12_001, None),
@@ -220,12 +243,28 @@ fn the_greatest_replies(rt: HostRuntime) -> Result<(), Fail> {
         (ReplyKind::Erased, 0, Some((0, 0))),
         (ReplyKind::Keys, 0, Some((0, 0))),
     ] {
-        assert!(rt; len <= 12_001);
-        assert!(rt; read_letters(block, kind, 0, len) == found, "{len}");
+        if len > 12_001 || read_letters(block, kind, 0, len) != found {
+            return Some(len);
+        }
     }
+    None
+}
+
+/// What is read of 32 keys of 256 bytes, and of one that is longer.
+fn read_keys(block: &mut [u8]) -> (Option<(u32, usize)>, Option<(u32, usize)>)
+    requires { 12020 ≤ length block.old }
+{
     write_lengths(block);
-    assert!(rt; read_letters(block, ReplyKind::Keys, 32, 8_256) == Some((32, 8_256)));
+    let greatest = read_letters(block, ReplyKind::Keys, 32, 8_256);
     block[17] = 2;
-    assert!(rt; read_letters(block, ReplyKind::Keys, 1, 514).is_none());
+    (greatest, read_letters(block, ReplyKind::Keys, 1, 514))
+}
+
+#[test]
+fn the_greatest_replies(rt: HostRuntime) -> Result<(), Fail> {
+    let mut block = Vec::from_elem(rt.alloc(), 0u8, 12_020)?;
+    let misread = first_misread(block.as_mut_slice());
+    let keys = read_keys(block.as_mut_slice());
+    assert_eq!(rt; (misread, keys), (None, (Some((32, 8_256)), None)));
     Ok(())
 }
