@@ -1,11 +1,13 @@
 // Puts, look-ups and scans on one shard, and the rows that go where there is no room for a put.
 mod lent;
+mod steps;
 mod threads;
 
 ghost use Rattle.std.specs.Prelude.{◌≡◌, []};
 ghost use Rattle.foreign_list.specs.OwnerSeats.{IsAtRest};
 ghost use Rattle.regions.specs.Shapes.{guards_of};
 
+use self::steps::{Step, done};
 use crate::{Put, Space};
 use cache_model::Entry;
 use foreign_list::{Foreign, ForeignBlock, OwnerSeat};
@@ -149,10 +151,6 @@ impl<'f> Trial<'f> {
         (self.space.rows(), self.space.live())
     }
 
-    fn ends_with(&self, entries: &[Entry]) -> bool {
-        self.journal.entries().ends_with(entries)
-    }
-
     // The block of the reply to a get, as command 391. None where no ticket is idle, or where its evictions may have no room in
     // the journal.
     fn reply_block(&mut self, key: &[u8]) -> Option<ForeignBlock<'f>> {
@@ -193,75 +191,76 @@ impl<'f> Trial<'f> {
 
 #[test]
 fn a_row_is_stored_replaced_and_erased(rt: HostRuntime) -> Result<(), Fail> {
-    let (home, seat) = Foreign::new(rt.alloc(), 0)?;
-    let mut trial = Trial::new(rt.alloc(), &home, seat)?;
-    assert_eq!(rt; trial.put(b"a", b"1", 1), Some(Put::Stored));
-    assert_eq!(rt; trial.put(b"a", b"abc", 2), Some(Put::Replaced));
-    assert_eq!(rt; trial.size(), (1, 48));
-    assert!(rt; trial.has(b"a", Some(b"abc")));
-    assert!(rt; trial.erase(b"a") && !trial.erase(b"a"));
-    assert!(rt; trial.has(b"a", None));
-    assert_eq!(rt; trial.size(), (0, 0));
-    let done = [1, 2, 9, 9, 9, 9].map(|number| Entry::Done(number));
-    assert!(rt; trial.journal.entries() == done.as_slice());
-    assert!(rt; trial.finish());
+    let journal = [1, 2, 9, 9, 9, 9].map(|number| Entry::Done(number));
+    let steps = [
+        Step::Puts(b"a", b"1", 1, Put::Stored),
+        Step::Puts(b"a", b"abc", 2, Put::Replaced),
+        Step::Size(1, 48),
+        Step::Has(b"a", Some(b"abc")),
+        Step::Erases(b"a", true),
+        Step::Erases(b"a", false),
+        Step::Has(b"a", None),
+        Step::Size(0, 0),
+        Step::Journal(&journal),
+    ];
+    assert_eq!(rt; done(rt.alloc(), &steps)?, steps.len());
     Ok(())
 }
 
 #[test]
 fn a_scan_gives_the_keys_from_its_own_on(rt: HostRuntime) -> Result<(), Fail> {
-    let (home, seat) = Foreign::new(rt.alloc(), 0)?;
-    let mut trial = Trial::new(rt.alloc(), &home, seat)?;
-    assert_eq!(rt; trial.put(b"a", b"1", 1), Some(Put::Stored));
-    assert_eq!(rt; trial.put(b"c", b"3", 2), Some(Put::Stored));
-    assert_eq!(rt; trial.put(b"b", b"2", 3), Some(Put::Stored));
-    assert!(rt; trial.scans(b"b", 2, b"\x01\0b\x01\0c"));
-    assert!(rt; trial.scans(b"d", 4, b""));
-    assert_eq!(rt; trial.size(), (3, 144));
-    assert!(rt; trial.finish());
+    let steps = [
+        Step::Puts(b"a", b"1", 1, Put::Stored),
+        Step::Puts(b"c", b"3", 2, Put::Stored),
+        Step::Puts(b"b", b"2", 3, Put::Stored),
+        Step::Scans(b"b", 2, b"\x01\0b\x01\0c"),
+        Step::Scans(b"d", 4, b""),
+        Step::Size(3, 144),
+    ];
+    assert_eq!(rt; done(rt.alloc(), &steps)?, steps.len());
     Ok(())
 }
 
 #[test]
 fn the_oldest_row_goes_where_nothing_else_makes_room(rt: HostRuntime) -> Result<(), Fail> {
-    let (home, seat) = Foreign::new(rt.alloc(), 0)?;
-    let mut trial = Trial::new(rt.alloc(), &home, seat)?;
-    assert_eq!(rt; trial.put_large(rt.alloc(), 1, 391), 390);
-    assert_eq!(rt; trial.journal.entries().len(), 390);
-    assert_eq!(rt; trial.put_large(rt.alloc(), 391, 393), 2);
-    assert_eq!(rt; trial.size(), (390, 4_698_720));
     let last = [
         Entry::Evicted(1),
         Entry::Done(391),
         Entry::Evicted(2),
         Entry::Done(392),
     ];
-    assert!(rt; trial.ends_with(&last));
-    assert!(rt; trial.has(&1u32.to_be_bytes(), None));
-    assert!(rt; trial.finish());
+    let steps = [
+        Step::PutsLarge(1, 391, 390),
+        Step::Entries(390),
+        Step::PutsLarge(391, 393, 2),
+        Step::Size(390, 4_698_720),
+        Step::Ends(&last),
+        Step::Has(b"\0\0\0\x01", None),
+    ];
+    assert_eq!(rt; done(rt.alloc(), &steps)?, steps.len());
     Ok(())
 }
 
 #[test]
 fn a_row_may_go_for_the_one_that_replaces_it(rt: HostRuntime) -> Result<(), Fail> {
-    let (home, seat) = Foreign::new(rt.alloc(), 0)?;
-    let mut trial = Trial::new(rt.alloc(), &home, seat)?;
-    assert_eq!(rt; trial.put_large(rt.alloc(), 1, 391), 390);
-    assert_eq!(rt; trial.put_large(rt.alloc(), 1, 2), 1);
-    assert!(rt; trial.ends_with(&[Entry::Done(390), Entry::Evicted(1), Entry::Done(1)]));
-    assert_eq!(rt; trial.size(), (390, 4_698_720));
-    assert!(rt; trial.finish());
+    let steps = [
+        Step::PutsLarge(1, 391, 390),
+        Step::PutsLarge(1, 2, 1),
+        Step::Ends(&[Entry::Done(390), Entry::Evicted(1), Entry::Done(1)]),
+        Step::Size(390, 4_698_720),
+    ];
+    assert_eq!(rt; done(rt.alloc(), &steps)?, steps.len());
     Ok(())
 }
 
 #[test]
 fn nothing_goes_while_compaction_makes_room(rt: HostRuntime) -> Result<(), Fail> {
-    let (home, seat) = Foreign::new(rt.alloc(), 0)?;
-    let mut trial = Trial::new(rt.alloc(), &home, seat)?;
-    assert_eq!(rt; trial.put_again(rt.alloc(), 1000), 999);
-    assert_eq!(rt; trial.size(), (1, 12_048));
-    assert_eq!(rt; trial.journal.entries().len(), 1000);
-    assert!(rt; trial.finish());
+    let steps = [
+        Step::PutsAgain(1000, 999),
+        Step::Size(1, 12_048),
+        Step::Entries(1000),
+    ];
+    assert_eq!(rt; done(rt.alloc(), &steps)?, steps.len());
     Ok(())
 }
 
@@ -270,14 +269,15 @@ const MISSING: [u8; 16] = [20, 0, 0, 0, 0x87, 1, 0, 0, 0, 0, 0, 0, 0, 0, 0, 0];
 
 #[test]
 fn a_row_may_go_for_the_block_of_its_own_reply(rt: HostRuntime) -> Result<(), Fail> {
-    let (home, seat) = Foreign::new(rt.alloc(), 0)?;
-    let mut trial = Trial::new(rt.alloc(), &home, seat)?;
-    assert_eq!(rt; trial.put_large(rt.alloc(), 1, 391), 390);
-    assert!(rt; trial.replies(&1u32.to_be_bytes(), &MISSING, 12_016));
     let gone = [1, 2, 3, 4, 5, 6, 7, 8, 9, 10, 11].map(|put| Entry::Evicted(put));
-    let entries = trial.journal.entries();
-    assert!(rt; entries.len() == 402 && entries[390..].starts_with(gone.as_slice()));
-    assert!(rt; trial.ends_with(&[Entry::Done(391)]) && trial.size() == (379, 4_566_192));
-    assert!(rt; trial.finish());
+    let steps = [
+        Step::PutsLarge(1, 391, 390),
+        Step::Replies(b"\0\0\0\x01", &MISSING, 12_016),
+        Step::Entries(402),
+        Step::Behind(390, &gone),
+        Step::Ends(&[Entry::Done(391)]),
+        Step::Size(379, 4_566_192),
+    ];
+    assert_eq!(rt; done(rt.alloc(), &steps)?, steps.len());
     Ok(())
 }

@@ -3,9 +3,10 @@ ghost use Rattle.std.specs.Prelude.{◌≤◌};
 ghost use Rattle.regions.specs.Shapes.{guards_of};
 ghost use Rattle.reclaim.specs.Spaces.{IsSameSpace, RowsStay};
 
+use super::steps::{Step, done};
 use super::{Trial, large_value};
 use crate::{GiveRefusal, Put, Share, Space};
-use foreign_list::{Foreign, ForeignBlock};
+use foreign_list::ForeignBlock;
 use layout::{GREATEST_VALUE, TICKETS};
 use shard_rings::Ask;
 use std::alloc::{AllocError, Global};
@@ -49,7 +50,7 @@ fn keeps(space: &mut Space<'_>, key: &[u8], value: &[u8], blocks: u32) -> bool
 
 impl<'f> Trial<'f> {
     // The same under a guard.
-    fn keeps(&mut self, key: &[u8], value: &[u8], blocks: u32) -> bool {
+    pub(super) fn keeps(&mut self, key: &[u8], value: &[u8], blocks: u32) -> bool {
         self.space.guard();
         let kept = keeps(&mut self.space, key, value, blocks);
         self.space.unguard();
@@ -130,7 +131,7 @@ impl<'f> Trial<'f> {
     }
 
     // Lends all blocks, puts ten rows more while they are out, and takes the blocks back. Answers how many came home.
-    fn fill_and_lend(&mut self, alloc: Global) -> u32 {
+    pub(super) fn fill_and_lend(&mut self, alloc: Global) -> u32 {
         let Ok(blocks) = self.lend_all(alloc, 390) else {
             return 0;
         };
@@ -141,7 +142,7 @@ impl<'f> Trial<'f> {
     }
 
     // Whether the large rows put first are gone, and as many others as there are rows read as they were put.
-    fn has_latest(&mut self, alloc: Global, end: u32) -> bool {
+    pub(super) fn has_latest(&mut self, alloc: Global, end: u32) -> bool {
         let mut right = self.space.rows() < end;
         let first = end.saturating_sub(self.space.rows());
         for number in 1..end {
@@ -161,12 +162,12 @@ impl<'f> Trial<'f> {
 
 #[test]
 fn a_row_stays_at_its_place_under_a_guard(rt: HostRuntime) -> Result<(), Fail> {
-    let (home, seat) = Foreign::new(rt.alloc(), 0)?;
-    let mut trial = Trial::new(rt.alloc(), &home, seat)?;
-    assert_eq!(rt; trial.put(b"a", b"abc", 1), Some(Put::Stored));
-    assert!(rt; trial.keeps(b"a", b"abc", 100));
-    assert_eq!(rt; (trial.space.lent(), trial.space.back()), (100, 100));
-    assert!(rt; trial.finish());
+    let steps = [
+        Step::Puts(b"a", b"abc", 1, Put::Stored),
+        Step::Keeps(b"a", b"abc", 100),
+        Step::Counts(100, 100),
+    ];
+    assert_eq!(rt; done(rt.alloc(), &steps)?, steps.len());
     Ok(())
 }
 
@@ -188,13 +189,13 @@ fn release_all(blocks: Vec<ForeignBlock<'_>>) -> u32 {
 
 #[test]
 fn all_tickets_are_out_while_rows_fill_the_space(rt: HostRuntime) -> Result<(), Fail> {
-    let (home, seat) = Foreign::new(rt.alloc(), 0)?;
-    let mut trial = Trial::new(rt.alloc(), &home, seat)?;
-    assert_eq!(rt; trial.put_large(rt.alloc(), 1, 391), 390);
-    assert_eq!(rt; trial.fill_and_lend(rt.alloc()), 32);
-    assert!(rt; trial.space.rows() <= 360);
-    assert!(rt; trial.has_latest(rt.alloc(), 401));
-    assert_eq!(rt; (trial.space.lent(), trial.space.back()), (32, 32));
-    assert!(rt; trial.finish());
+    let steps = [
+        Step::PutsLarge(1, 391, 390),
+        Step::Lends(32),
+        Step::AtMost(360),
+        Step::Latest(401),
+        Step::Counts(32, 32),
+    ];
+    assert_eq!(rt; done(rt.alloc(), &steps)?, steps.len());
     Ok(())
 }

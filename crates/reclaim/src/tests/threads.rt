@@ -53,10 +53,22 @@ fn give_back<'f, R: Wait>(rt: &R, ring: &mut Consumer<ForeignBlock<'f>>, blocks:
     unreachable!()
 }
 
+// The share that lends the next block where so many are left: every fourth is a request's.
+fn share_of(left: u32) -> Share {
+    if left % 4 == 0 {
+        Share::Request
+    } else {
+        Share::Reply
+    }
+}
+
 impl<'f> Trial<'f> {
-    // Sends a block whose bytes were all 0. False where no ticket of the share is idle.
-    fn send(&mut self, share: Share, ring: &mut Producer<ForeignBlock<'f>>) -> bool {
-        let Ok(mut block) = self.space.give_now(LEN, share) else {
+    // Sends a block whose bytes were all 0, where any is left. False where no ticket of its share is idle.
+    fn send(&mut self, left: u32, ring: &mut Producer<ForeignBlock<'f>>) -> bool {
+        if left == 0 {
+            return false;
+        }
+        let Ok(mut block) = self.space.give_now(LEN, share_of(left)) else {
             return false;
         };
         if !block.bytes().iter().all(|b| *b == 0) {
@@ -65,6 +77,20 @@ impl<'f> Trial<'f> {
         let byte = byte_of(block.ticket());
         block.bytes_mut().fill(byte);
         ring.push(block).is_ok()
+    }
+
+    // Takes back the blocks that came home. Lets other threads run where none did.
+    fn collect(&mut self) -> u32 {
+        let came = self.space.take_back();
+        if came == 0 {
+            thread::yield_now();
+        }
+        came
+    }
+
+    // Whether no block is left, and none is out.
+    fn is_through(&self, left: u32) -> bool {
+        left == 0 && self.space.tickets_out() == 0
     }
 }
 
@@ -81,23 +107,14 @@ fn lend_out<'f, R: Wait>(
     let mut left = blocks;
     let mut home = 0u32;
     for _ in rt.forever() {
-        if left == 0 && trial.space.tickets_out() == 0 {
+        if trial.is_through(left) {
             return home;
         }
-        let share = if left % 4 == 0 {
-            Share::Request
-        } else {
-            Share::Reply
-        };
         let turn = left as usize % rings.len();
-        if left > 0 && trial.send(share, &mut rings[turn]) {
-            left -= 1;
+        if trial.send(left, &mut rings[turn]) {
+            left = left.saturating_sub(1);
         } else {
-            let came = trial.space.take_back();
-            home = home.wrapping_add(came);
-            if came == 0 {
-                thread::yield_now();
-            }
+            home = home.wrapping_add(trial.collect());
         }
     }
     unreachable!()
@@ -150,21 +167,25 @@ fn pass_to_three<'f, R: Threads + Wait + Sync>(
     Ok((home, first.wrapping_add(second).wrapping_add(third)))
 }
 
+// Whether the blocks that go to other threads come home with the right bytes, and a row stays as it was put.
+fn lends<'f, R: Threads + Wait + Sync>(
+    rt: &R,
+    alloc: Global,
+    trial: &mut Trial<'f>,
+) -> Result<bool, AllocError> {
+    let stored = trial.put(b"a", b"abc", 1) == Some(Put::Stored);
+    let to_one = pass_to_one(rt, alloc, trial, 10_000)?;
+    let to_three = pass_to_three(rt, alloc, trial, 3_000)?;
+    let counts = (trial.space.lent(), trial.space.back());
+    let right = to_one == (10_000, 10_000) && to_three == (9_000, 9_000);
+    Ok(stored && right && counts == (19_000, 19_000) && trial.has(b"a", Some(b"abc")))
+}
+
 #[test]
 fn a_space_lends_blocks_to_other_threads(rt: HostRuntime) -> Result<(), Fail> {
     let (home, seat) = Foreign::new(rt.alloc(), 0)?;
     let mut trial = Trial::new(rt.alloc(), &home, seat)?;
-    assert_eq!(rt; trial.put(b"a", b"abc", 1), Some(Put::Stored));
-    assert_eq!(rt;
-        pass_to_one(&rt, rt.alloc(), &mut trial, 10_000)?,
-        (10_000, 10_000)
-    );
-    assert_eq!(rt;
-        pass_to_three(&rt, rt.alloc(), &mut trial, 3_000)?,
-        (9_000, 9_000)
-    );
-    assert_eq!(rt; (trial.space.lent(), trial.space.back()), (19_000, 19_000));
-    assert!(rt; trial.has(b"a", Some(b"abc")));
-    assert!(rt; trial.finish());
+    let right = lends(&rt, rt.alloc(), &mut trial)?;
+    assert!(rt; trial.finish() && right);
     Ok(())
 }

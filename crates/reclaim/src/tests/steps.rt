@@ -1,0 +1,98 @@
+// What a test does to a space and looks at, step by step.
+use super::Trial;
+use crate::Put;
+use cache_model::Entry;
+use foreign_list::Foreign;
+use std::alloc::Global;
+use std::test::Fail;
+
+// A call with what it answers, or what is so then.
+#[derive(Clone, Copy)]
+pub(super) enum Step<'a> {
+    // A row is put: key, value, number of the command.
+    Puts(&'a [u8], &'a [u8], u32, Put),
+    // So many of the large rows of these numbers, the last one left out, have new keys.
+    PutsLarge(u32, u32, u32),
+    // So many puts of one key, and how many of them replace a row.
+    PutsAgain(u32, u32),
+    Has(&'a [u8], Option<&'a [u8]>),
+    // Whether the key had a row.
+    Erases(&'a [u8], bool),
+    // The first keys from one on: at most so many, spelled like this.
+    Scans(&'a [u8], u32, &'a [u8]),
+    // The block of the reply to a get: its first bytes, and its length.
+    Replies(&'a [u8], &'a [u8], usize),
+    // The row of a key stays under a guard while so many blocks are lent.
+    Keeps(&'a [u8], &'a [u8], u32),
+    // All blocks are lent while rows fill the space, and so many come home.
+    Lends(u32),
+    // How many blocks were lent, and came home.
+    Counts(u64, u64),
+    // How many rows there are, and the live bytes.
+    Size(u32, u64),
+    // There are no more rows than this.
+    AtMost(u32),
+    // The large rows of the highest numbers below this are there, and no others.
+    Latest(u32),
+    // The whole journal.
+    Journal(&'a [Entry]),
+    // How many entries the journal has.
+    Entries(usize),
+    // What the journal has behind so many entries, to begin with.
+    Behind(usize, &'a [Entry]),
+    // The end of the journal.
+    Ends(&'a [Entry]),
+}
+
+impl<'f> Trial<'f> {
+    // Whether the journal goes on like this behind so many entries.
+    fn has_behind(&self, at: usize, entries: &[Entry]) -> bool {
+        let all = self.journal.entries();
+        at <= all.len() && all[at..].starts_with(entries)
+    }
+
+    fn does(&mut self, alloc: Global, step: Step<'_>) -> bool {
+        match step {
+            Step::Puts(key, value, number, answer) => self.put(key, value, number) == Some(answer),
+            Step::PutsLarge(from, to, stored) => self.put_large(alloc, from, to) == stored,
+            Step::PutsAgain(times, replaced) => self.put_again(alloc, times) == replaced,
+            Step::Has(key, value) => self.has(key, value),
+            Step::Erases(key, found) => self.erase(key) == found,
+            Step::Scans(key, count, body) => self.scans(key, count, body),
+            Step::Replies(key, front, len) => self.replies(key, front, len),
+            Step::Keeps(key, value, blocks) => self.keeps(key, value, blocks),
+            Step::Lends(home) => self.fill_and_lend(alloc) == home,
+            Step::Counts(lent, back) => (self.space.lent(), self.space.back()) == (lent, back),
+            Step::Size(rows, live) => self.size() == (rows, live),
+            Step::AtMost(rows) => self.space.rows() <= rows,
+            Step::Latest(end) => self.has_latest(alloc, end),
+            Step::Journal(entries) => self.journal.entries() == entries,
+            Step::Entries(count) => self.journal.entries().len() == count,
+            Step::Behind(at, entries) => self.has_behind(at, entries),
+            Step::Ends(entries) => self.journal.entries().ends_with(entries),
+        }
+    }
+
+    // How many steps go as they should, up to the first that does not.
+    fn play(&mut self, alloc: Global, steps: &[Step<'_>]) -> usize {
+        let mut done = 0usize;
+        for step in steps {
+            if !self.does(alloc, *step) {
+                return done;
+            }
+            done = done.saturating_add(1);
+        }
+        done
+    }
+}
+
+// How many steps go as they should on a space of 1,280 pages.
+pub(super) fn done(alloc: Global, steps: &[Step<'_>]) -> Result<usize, Fail> {
+    let (home, seat) = Foreign::new(alloc, 0)?;
+    let mut trial = Trial::new(alloc, &home, seat)?;
+    let done = trial.play(alloc, steps);
+    if !trial.finish() {
+        return Err(Fail::new("a block is out"));
+    }
+    Ok(done)
+}
