@@ -43,6 +43,10 @@ impl Driven for Counter {
             _ => Turn::Moved,
         }
     }
+
+    fn has_finished(&self) -> bool {
+        self.left == 0
+    }
 }
 
 /// Three that are done after 3 turns, 5 turns and one.

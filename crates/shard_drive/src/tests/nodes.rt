@@ -1,4 +1,10 @@
 //! Nodes are driven to their ends.
+ghost use Rattle.std.specs.Prelude.{◌≤◌, length, All};
+ghost use Rattle.trace_text.specs.Parts.{most_shards};
+ghost use Rattle.trace_text.specs.Reading.{most_bytes};
+ghost use Rattle.shard_node.specs.Links.{ring_traffic};
+ghost use Rattle.shard_node.specs.Standing.{InStanding};
+
 use super::opening::{lists, open_nodes, trace_for};
 use crate::{drive_numbered, drive_schedule, drive_threads};
 use shard_node::{Gate, Gates, Node, OpenGates, Turn};
@@ -7,7 +13,7 @@ use std::alloc::Global;
 use std::sync::Wait;
 use std::sync::atomic::{AtomicU64, Ordering};
 use std::test::Fail;
-use std::thread;
+use std::thread::{self, Threads};
 
 /// Commands of each of two or three origins, on keys of each of two or three owners.
 const WORK: &[u8] =
@@ -22,49 +28,85 @@ fn are_done<'f, G: Gate + Drop>(nodes: &mut [Node<'f, RingLink<'f>, G>]) -> bool
     done
 }
 
-#[test]
-fn a_schedule_takes_two_nodes_to_their_ends(rt: HostRuntime) -> Result<(), Fail> {
-    let alloc = rt.alloc();
-    let trace = trace_for(alloc, b"put b 1\n", 2)?;
-    let (homes, seats) = lists(alloc, 2)?;
-    let mut nodes = open_nodes(alloc, 2, &trace, homes.as_slice(), seats, &OpenGates)?;
-    let row = nodes.as_mut_slice();
-    for _ in 0..10 {
-        drive_schedule(row, &[0, 1, 0, 1]);
-    }
-    assert!(rt; nodes[0].turns() == 20 && nodes[1].turns() == 20);
-    assert!(rt; are_done(nodes.as_mut_slice()));
-    Ok(())
+/// How nodes are driven.
+#[derive(Clone, Copy)]
+enum Way {
+    /// Twenty turns of each of the first two, one after the other.
+    Schedule,
+    Number(u32),
+    Threads,
 }
 
-/// The turns that two nodes make by the words of a number, and whether they are done then.
-fn numbered<R: Wait>(rt: &R, alloc: Global, number: u32) -> Result<(u64, u64, bool), Fail> {
-    let trace = trace_for(alloc, WORK, 2)?;
-    let (homes, seats) = lists(alloc, 2)?;
-    let mut nodes = open_nodes(alloc, 2, &trace, homes.as_slice(), seats, &OpenGates)?;
-    drive_numbered(rt, nodes.as_mut_slice(), number);
-    let (first, second) = (nodes[0].turns(), nodes[1].turns());
-    Ok((first, second, are_done(nodes.as_mut_slice())))
+fn drive<'f, R: Threads + Wait + Sync, G: Gate + Send + Drop>(
+    rt: &R,
+    nodes: &mut [Node<'f, RingLink<'f>, G>],
+    way: Way,
+)
+    requires several { 2 ≤ length nodes.old }
+    requires standing { All (InStanding ring_traffic) nodes.old }
+{
+    match way {
+        Way::Schedule => {
+            for _ in 0..10 {
+                drive_schedule(nodes, &[0, 1, 0, 1]);
+            }
+        }
+        Way::Number(number) => drive_numbered(rt, nodes, number),
+        Way::Threads => drive_threads(rt, nodes),
+    }
+}
+
+/// The turns of the first two.
+fn turns_of<'f, G: Gate + Drop>(nodes: &[Node<'f, RingLink<'f>, G>]) -> (u64, u64) {
+    match nodes {
+        [first, second, ..] => (first.turns(), second.turns()),
+        _ => (0, 0),
+    }
+}
+
+/// The turns that the first two nodes make where all are driven so on these lines, and whether all are done then.
+fn driven<R: Threads + Wait + Sync, S: Gates>(
+    rt: &R,
+    alloc: Global,
+    lines: &[u8],
+    shards: u32,
+    way: Way,
+    gates: &S,
+) -> Result<((u64, u64), bool), Fail>
+    requires short { length lines.now ≤ most_bytes }
+    requires several { 2 ≤ shards }
+    requires most { shards ≤ most_shards }
+{
+    let trace = trace_for(alloc, lines, shards)?;
+    let (homes, seats) = lists(alloc, shards)?;
+    let mut nodes = open_nodes(alloc, shards, &trace, homes.as_slice(), seats, gates)?;
+    drive(rt, nodes.as_mut_slice(), way);
+    let turns = turns_of(nodes.as_slice());
+    Ok((turns, are_done(nodes.as_mut_slice())))
+}
+
+#[test]
+fn a_schedule_takes_two_nodes_to_their_ends(rt: HostRuntime) -> Result<(), Fail> {
+    let found = driven(&rt, rt.alloc(), b"put b 1\n", 2, Way::Schedule, &OpenGates)?;
+    assert_eq!(rt; found, ((20, 20), true));
+    Ok(())
 }
 
 #[test]
 fn a_number_makes_the_same_turns_again(rt: HostRuntime) -> Result<(), Fail> {
     for number in [0, 7, 4_000_000_000] {
-        let turns = numbered(&rt, rt.alloc(), number)?;
-        assert!(rt; turns.2, "at {number}");
-        assert!(rt; turns == numbered(&rt, rt.alloc(), number)?, "at {number}");
+        let way = Way::Number(number);
+        let (turns, done) = driven(&rt, rt.alloc(), WORK, 2, way, &OpenGates)?;
+        let again = driven(&rt, rt.alloc(), WORK, 2, way, &OpenGates)?;
+        assert!(rt; done && again == (turns, true), "at {number}");
     }
     Ok(())
 }
 
 #[test]
 fn threads_take_three_nodes_to_their_ends(rt: HostRuntime) -> Result<(), Fail> {
-    let alloc = rt.alloc();
-    let trace = trace_for(alloc, WORK, 3)?;
-    let (homes, seats) = lists(alloc, 3)?;
-    let mut nodes = open_nodes(alloc, 3, &trace, homes.as_slice(), seats, &OpenGates)?;
-    drive_threads(&rt, nodes.as_mut_slice());
-    assert!(rt; are_done(nodes.as_mut_slice()));
+    let (_, done) = driven(&rt, rt.alloc(), WORK, 3, Way::Threads, &OpenGates)?;
+    assert!(rt; done);
     Ok(())
 }
 
@@ -134,18 +176,14 @@ impl<'a> Gate for Door<'a> {
 
 #[test]
 fn two_threads_meet_at_their_gates(rt: HostRuntime) -> Result<(), Fail> {
-    let alloc = rt.alloc();
     let meeting = Meeting {
         first: AtomicU64::new(0),
         second: AtomicU64::new(0),
         vain: AtomicU64::new(0),
     };
-    let trace = trace_for(alloc, b"put a 1\nput b 2\n", 2)?;
-    let (homes, seats) = lists(alloc, 2)?;
     let doors = Doors { meeting: &meeting };
-    let mut nodes = open_nodes(alloc, 2, &trace, homes.as_slice(), seats, &doors)?;
-    drive_threads(&rt, nodes.as_mut_slice());
-    assert!(rt; meeting.vain.load(Ordering::SeqCst) == 0);
-    assert!(rt; are_done(nodes.as_mut_slice()));
+    let lines = b"put a 1\nput b 2\n";
+    let (_, done) = driven(&rt, rt.alloc(), lines, 2, Way::Threads, &doors)?;
+    assert!(rt; done && meeting.vain.load(Ordering::SeqCst) == 0);
     Ok(())
 }
