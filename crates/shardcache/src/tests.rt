@@ -37,15 +37,50 @@ fn answer_through<R: Threads + Wait + Sync, G: Gates>(
     room: usize,
     gates: &G,
 ) -> Result<(Status, Vec<u8>), AllocError> {
+    let texts = words_of(alloc, words)?;
+    let mut source = source_of(alloc, input, failing)?;
+    let mut sink = MemorySink::new(alloc, room)?;
+    let outcome = shardcache(rt, alloc, texts.as_slice(), &mut source, &mut sink, gates);
+    Ok((outcome.status, Vec::from_slice(alloc, sink.bytes())?))
+}
+
+fn words_of(alloc: Global, words: &[&str]) -> Result<Vec<String>, AllocError> {
     let mut texts = Vec::new(alloc);
     for word in words {
         texts.push(String::from_str(alloc, word)?)?;
     }
+    Ok(texts)
+}
+
+fn source_of(alloc: Global, input: &[u8], failing: &[u64]) -> Result<MemorySource, AllocError> {
+    let failing = Vec::from_slice(alloc, failing)?;
     let bytes = Vec::from_slice(alloc, input)?;
-    let mut source = MemorySource::new(bytes, 65_536, Vec::from_slice(alloc, failing)?);
-    let mut sink = MemorySink::new(alloc, room)?;
-    let outcome = shardcache(rt, alloc, texts.as_slice(), &mut source, &mut sink, gates);
-    Ok((outcome.status, Vec::from_slice(alloc, sink.bytes())?))
+    Ok(MemorySource::new(bytes, 65_536, failing))
+}
+
+/// What the program writes for these words, whatever it answers, to a sink of so much room.
+fn written<R: Threads + Wait + Sync>(
+    rt: &R,
+    alloc: Global,
+    words: &[&str],
+    input: &[u8],
+    room: usize,
+) -> Result<Vec<u8>, AllocError> {
+    let (_, text) = answer(rt, alloc, words, input, &[], room)?;
+    Ok(text)
+}
+
+/// Whether the program answers so, and writes this text, to a sink of 4,096 bytes.
+fn says<R: Threads + Wait + Sync>(
+    rt: &R,
+    alloc: Global,
+    words: &[&str],
+    input: &[u8],
+    wanted: Status,
+    text: &[u8],
+) -> Result<bool, AllocError> {
+    let (status, written) = answer(rt, alloc, words, input, &[], 4096)?;
+    Ok(status == wanted && written.as_slice() == text)
 }
 
 #[test]
@@ -86,9 +121,7 @@ fn a_trace_is_run_and_reported(rt: HostRuntime) -> Result<(), Fail> {
         ),
     ];
     for (input, report) in rows {
-        let (status, text) = answer(&rt, rt.alloc(), &["run"], input, &[], 4096)?;
-        assert!(rt; status == Status::Done);
-        assert!(rt; text.as_slice() == report);
+        assert!(rt; says(&rt, rt.alloc(), &["run"], input, Status::Done, report)?);
     }
     Ok(())
 }
@@ -127,9 +160,11 @@ fn a_line_that_is_no_command_is_refused(rt: HostRuntime) -> Result<(), Fail> {
         ("get a\r\nget b\r\nget", "refused line 3 MissingField\n"),
     ];
     for (input, refusal) in rows {
-        let (status, text) = answer(&rt, rt.alloc(), &["run"], input.as_bytes(), &[], 4096)?;
-        assert!(rt; status == Status::Refused, "{input:?}");
-        assert!(rt; text.as_slice() == refusal.as_bytes(), "{input:?}");
+        let (line, text) = (input.as_bytes(), refusal.as_bytes());
+        assert!(rt;
+            says(&rt, rt.alloc(), &["run"], line, Status::Refused, text)?,
+            "{input:?}"
+        );
     }
     Ok(())
 }
@@ -155,6 +190,19 @@ fn put_line(
     Ok(line)
 }
 
+/// Whether the program writes this for such a line.
+fn is_written_for<R: Threads + Wait + Sync>(
+    rt: &R,
+    alloc: Global,
+    key: (usize, u8),
+    value: (usize, u8),
+    want: &str,
+) -> Result<bool, AllocError> {
+    let line = put_line(alloc, key.0, key.1, value.0, value.1)?;
+    let text = written(rt, alloc, &["run"], line.as_slice(), 4096)?;
+    Ok(text.as_slice() == want.as_bytes())
+}
+
 #[test]
 fn a_key_and_a_value_have_limits(rt: HostRuntime) -> Result<(), Fail> {
     for (key, key_end, value, value_end, want) in [
@@ -172,11 +220,27 @@ fn a_key_and_a_value_have_limits(rt: HostRuntime) -> Result<(), Fail> {
         (255, b'k', 12_000, 1, "refused line 1 ValueLength\n"),
         (255, b'k', 11_999, 1, "refused line 1 ValueByte\n"),
     ] {
-        let line = put_line(rt.alloc(), key, key_end, value, value_end)?;
-        let (_, text) = answer(&rt, rt.alloc(), &["run"], line.as_slice(), &[], 4096)?;
-        assert!(rt; text.as_slice() == want.as_bytes(), "{want}");
+        let (key, value) = ((key, key_end), (value, value_end));
+        assert!(rt;
+            is_written_for(&rt, rt.alloc(), key, value, want)?,
+            "{want}"
+        );
     }
     Ok(())
+}
+
+/// What the program answers where it writes this text.
+fn answer_as<R: Threads + Wait + Sync>(
+    rt: &R,
+    alloc: Global,
+    words: &[&str],
+    input: &[u8],
+    failing: &[u64],
+    room: usize,
+    wanted: &str,
+) -> Result<Option<Status>, AllocError> {
+    let (status, text) = answer(rt, alloc, words, input, failing, room)?;
+    Ok((text.as_slice() == wanted.as_bytes()).then_some(status))
 }
 
 #[test]
@@ -219,9 +283,8 @@ fn words_and_devices_have_their_answers(rt: HostRuntime) -> Result<(), Fail> {
         ),
     ];
     for (words, failing, room, wanted, written) in rows {
-        let (status, text) = answer(&rt, rt.alloc(), words, input, failing, room)?;
-        assert!(rt; status == wanted, "{words:?}");
-        assert!(rt; text.as_slice() == written.as_bytes(), "{words:?}");
+        let found = answer_as(&rt, rt.alloc(), words, input, failing, room, written)?;
+        assert!(rt; found == Some(wanted), "{words:?}");
     }
     Ok(())
 }
@@ -240,6 +303,19 @@ fn front(text: &[u8]) -> &[u8] {
     if text.len() < 40 { text } else { &text[..40] }
 }
 
+/// Whether what is written for so many times a line begins so.
+fn begins<R: Threads + Wait + Sync>(
+    rt: &R,
+    alloc: Global,
+    line: &[u8],
+    times: usize,
+    want: &[u8],
+) -> Result<bool, AllocError> {
+    let bytes = many(alloc, line, times)?;
+    let text = written(rt, alloc, &["run"], bytes.as_slice(), 30_000_000)?;
+    Ok(front(text.as_slice()) == want)
+}
+
 #[test]
 fn a_trace_has_a_number_of_commands(rt: HostRuntime) -> Result<(), Fail> {
     for (times, want) in [
@@ -249,9 +325,10 @@ fn a_trace_has_a_number_of_commands(rt: HostRuntime) -> Result<(), Fail> {
         ),
         (1_048_577, b"refused line 1048577 TooManyCommands\n"),
     ] {
-        let bytes = many(rt.alloc(), b"get a\n", times)?;
-        let (_, text) = answer(&rt, rt.alloc(), &["run"], bytes.as_slice(), &[], 30_000_000)?;
-        assert!(rt; front(text.as_slice()) == want, "{times}");
+        assert!(rt;
+            begins(&rt, rt.alloc(), b"get a\n", times, want)?,
+            "{times}"
+        );
     }
     Ok(())
 }
@@ -265,11 +342,24 @@ fn replies_have_room(rt: HostRuntime) -> Result<(), Fail> {
         ),
         (64_903, b"refused line 0 RepliesTooLarge\n"),
     ] {
-        let bytes = many(rt.alloc(), b"scan a 1\n", times)?;
-        let (_, text) = answer(&rt, rt.alloc(), &["run"], bytes.as_slice(), &[], 30_000_000)?;
-        assert!(rt; front(text.as_slice()) == want, "{times}");
+        assert!(rt;
+            begins(&rt, rt.alloc(), b"scan a 1\n", times, want)?,
+            "{times}"
+        );
     }
     Ok(())
+}
+
+/// Whether the program writes this for a comment of such a length.
+fn is_written_at<R: Threads + Wait + Sync>(
+    rt: &R,
+    alloc: Global,
+    length: usize,
+    want: &str,
+) -> Result<bool, AllocError> {
+    let comment = vec![in alloc; b'#'; length]?;
+    let text = written(rt, alloc, &["run"], comment.as_slice(), 4096)?;
+    Ok(text.as_slice() == want.as_bytes())
 }
 
 #[test]
@@ -281,9 +371,7 @@ fn a_trace_has_a_length(rt: HostRuntime) -> Result<(), Fail> {
         ),
         (67_108_865, "refused line 0 TooLong\n"),
     ] {
-        let comment = vec![in rt.alloc(); b'#'; length]?;
-        let (_, text) = answer(&rt, rt.alloc(), &["run"], comment.as_slice(), &[], 4096)?;
-        assert!(rt; text.as_slice() == want.as_bytes(), "{length}");
+        assert!(rt; is_written_at(&rt, rt.alloc(), length, want)?, "{length}");
     }
     Ok(())
 }

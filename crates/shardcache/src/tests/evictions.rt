@@ -30,13 +30,6 @@ fn put_all(alloc: Global, lines: &mut Vec<u8>, first: u32, last: u32) -> Result<
     Ok(())
 }
 
-/// Puts of the letters under `k001`, `k002` and so on.
-fn puts(alloc: Global, last: u32) -> Result<Vec<u8>, AllocError> {
-    let mut lines = Vec::new(alloc);
-    put_all(alloc, &mut lines, 1, last)?;
-    Ok(lines)
-}
-
 /// Appends the journal that begins with so many commands, and the line of the shard.
 fn ending(
     alloc: Global,
@@ -54,81 +47,115 @@ fn ending(
     text.extend_from_slice(line.as_bytes())
 }
 
-/// What a run of 1,280 pages writes.
-fn run<R: Threads + Wait + Sync>(
+/// A part of a trace or of a report.
+#[derive(Clone, Copy)]
+enum Part<'a> {
+    Text(&'a [u8]),
+    Letters,
+    /// Puts of the letters under the keys of these numbers.
+    Puts(u32, u32),
+    /// So many puts of the letters under `a`.
+    Again(u32),
+    /// These commands all have this answer.
+    Answers(u32, u32, &'a str),
+    /// The journal of so many commands and more, and the rows and live bytes of the shard.
+    Ending(u32, &'a str, u32, u32),
+}
+
+fn put_again(alloc: Global, lines: &mut Vec<u8>, times: u32) -> Result<(), AllocError> {
+    for _ in 0..times {
+        put_letters(alloc, lines, "a")?;
+    }
+    Ok(())
+}
+
+/// Appends a part.
+fn lay(alloc: Global, text: &mut Vec<u8>, part: Part<'_>) -> Result<(), AllocError> {
+    match part {
+        Part::Text(bytes) => text.extend_from_slice(bytes),
+        Part::Letters => text.extend_from_slice(letters(alloc)?.as_slice()),
+        Part::Puts(first, last) => put_all(alloc, text, first, last),
+        Part::Again(times) => put_again(alloc, text, times),
+        Part::Answers(first, last, answer) => answers(alloc, text, first, last, answer),
+        Part::Ending(commands, more, rows, live) => ending(alloc, text, commands, more, rows, live),
+    }
+}
+
+fn text_of(alloc: Global, parts: &[Part<'_>]) -> Result<Vec<u8>, AllocError> {
+    let mut text = Vec::new(alloc);
+    for part in parts {
+        lay(alloc, &mut text, *part)?;
+    }
+    Ok(text)
+}
+
+/// Whether a run of 1,280 pages on these lines writes this report.
+fn reports<R: Threads + Wait + Sync>(
     rt: &R,
     alloc: Global,
-    lines: &Vec<u8>,
-) -> Result<(Status, Vec<u8>), AllocError> {
+    lines: &[Part<'_>],
+    report: &[Part<'_>],
+) -> Result<bool, AllocError> {
     let words = ["run", "--pages", "1280"];
-    answer(rt, alloc, words.as_slice(), lines.as_slice(), &[], 65_536)
+    let lines = text_of(alloc, lines)?;
+    let (status, written) = answer(rt, alloc, words.as_slice(), lines.as_slice(), &[], 65_536)?;
+    let report = text_of(alloc, report)?;
+    Ok(status == Status::Done && written.as_slice() == report.as_slice())
 }
 
 #[test]
 fn the_row_used_longest_ago_goes_at_the_391st_put(rt: HostRuntime) -> Result<(), Fail> {
-    let alloc = rt.alloc();
-    let mut text = Vec::new(alloc);
-    answers(alloc, &mut text, 1, 391, "stored")?;
-    ending(alloc, &mut text, 390, " !1 391", 390, 4_698_720)?;
-    let (status, written) = run(&rt, alloc, &puts(alloc, 391)?)?;
-    assert!(rt; status == Status::Done && written.as_slice() == text.as_slice());
-
+    let report = [
+        Part::Answers(1, 391, "stored"),
+        Part::Ending(390, " !1 391", 390, 4_698_720),
+    ];
+    assert!(rt; reports(&rt, rt.alloc(), &[Part::Puts(1, 391)], &report)?);
     // The row that went is put again: it is stored, and replaces nothing.
-    let mut lines = puts(alloc, 390)?;
-    put_letters(alloc, &mut lines, "k001")?;
-    let (status, written) = run(&rt, alloc, &lines)?;
-    assert!(rt; status == Status::Done && written.as_slice() == text.as_slice());
+    let lines = [Part::Puts(1, 390), Part::Puts(1, 1)];
+    assert!(rt; reports(&rt, rt.alloc(), &lines, &report)?);
     Ok(())
 }
 
 #[test]
 fn a_row_that_went_is_missing_and_the_next_is_there(rt: HostRuntime) -> Result<(), Fail> {
-    let alloc = rt.alloc();
-    let mut lines = puts(alloc, 392)?;
-    lines.extend_from_slice(b"get k001\nget k003\n")?;
-    let mut text = Vec::new(alloc);
-    answers(alloc, &mut text, 1, 392, "stored")?;
-    text.extend_from_slice(b"393 missing\n394 value ")?;
-    text.extend_from_slice(letters(alloc)?.as_slice())?;
-    text.push(b'\n')?;
-    let more = " !1 391 !2 392 393 394";
-    ending(alloc, &mut text, 390, more, 390, 4_698_720)?;
-    let (status, written) = run(&rt, alloc, &lines)?;
-    assert!(rt; status == Status::Done && written.as_slice() == text.as_slice());
+    let lines = [Part::Puts(1, 392), Part::Text(b"get k001\nget k003\n")];
+    let report = [
+        Part::Answers(1, 392, "stored"),
+        Part::Text(b"393 missing\n394 value "),
+        Part::Letters,
+        Part::Text(b"\n"),
+        Part::Ending(390, " !1 391 !2 392 393 394", 390, 4_698_720),
+    ];
+    assert!(rt; reports(&rt, rt.alloc(), &lines, &report)?);
     Ok(())
 }
 
 #[test]
 fn a_row_that_is_replaced_leaves_room(rt: HostRuntime) -> Result<(), Fail> {
-    let alloc = rt.alloc();
-    let mut lines = Vec::new(alloc);
-    for _ in 0..1000 {
-        put_letters(alloc, &mut lines, "a")?;
-    }
-    let mut text = Vec::new(alloc);
-    answers(alloc, &mut text, 1, 1, "stored")?;
-    answers(alloc, &mut text, 2, 1000, "replaced")?;
-    ending(alloc, &mut text, 1000, "", 1, 12_048)?;
-    let (status, written) = run(&rt, alloc, &lines)?;
-    assert!(rt; status == Status::Done && written.as_slice() == text.as_slice());
+    let report = [
+        Part::Answers(1, 1, "stored"),
+        Part::Answers(2, 1000, "replaced"),
+        Part::Ending(1000, "", 1, 12_048),
+    ];
+    assert!(rt; reports(&rt, rt.alloc(), &[Part::Again(1000)], &report)?);
     Ok(())
 }
 
 /// The trace of the folder examples that evicts, and its report.
 #[test]
 fn a_row_that_was_read_stays(rt: HostRuntime) -> Result<(), Fail> {
-    let alloc = rt.alloc();
-    let mut lines = Vec::from_slice(alloc, b"put k001 1\n")?;
-    put_all(alloc, &mut lines, 2, 391)?;
-    lines.extend_from_slice(b"get k001\n")?;
-    put_all(alloc, &mut lines, 392, 392)?;
-    lines.extend_from_slice(b"get k002\nget k001\n")?;
-    let mut text = Vec::new(alloc);
-    answers(alloc, &mut text, 1, 391, "stored")?;
-    text.extend_from_slice(b"392 value 1\n393 stored\n394 missing\n395 value 1\n")?;
-    let more = " !2 393 394 395";
-    ending(alloc, &mut text, 392, more, 391, 4_698_768)?;
-    let (status, written) = run(&rt, alloc, &lines)?;
-    assert!(rt; status == Status::Done && written.as_slice() == text.as_slice());
+    let lines = [
+        Part::Text(b"put k001 1\n"),
+        Part::Puts(2, 391),
+        Part::Text(b"get k001\n"),
+        Part::Puts(392, 392),
+        Part::Text(b"get k002\nget k001\n"),
+    ];
+    let report = [
+        Part::Answers(1, 391, "stored"),
+        Part::Text(b"392 value 1\n393 stored\n394 missing\n395 value 1\n"),
+        Part::Ending(392, " !2 393 394 395", 391, 4_698_768),
+    ];
+    assert!(rt; reports(&rt, rt.alloc(), &lines, &report)?);
     Ok(())
 }

@@ -1,5 +1,5 @@
 //! The traces of the folder examples, and their reports. A test reads no files: so the same bytes stand here.
-use super::answer;
+use super::says;
 use crate::Status;
 use std::test::Fail;
 
@@ -90,9 +90,10 @@ fn the_examples_have_their_reports(rt: HostRuntime) -> Result<(), Fail> {
         ),
     ];
     for (words, trace, report) in rows {
-        let (status, text) = answer(&rt, rt.alloc(), words, trace, &[], 4096)?;
-        assert!(rt; status == Status::Done, "{words:?}");
-        assert!(rt; text.as_slice() == report, "{words:?}");
+        assert!(rt;
+            says(&rt, rt.alloc(), words, trace, Status::Done, report)?,
+            "{words:?}"
+        );
     }
     Ok(())
 }

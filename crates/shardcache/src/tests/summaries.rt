@@ -1,9 +1,11 @@
 //! Summaries of made traces.
-use super::answer;
 use super::printed::{lines_of, numbers};
+use super::{answer, written};
 use crate::Status;
 use std::alloc::{AllocError, Global};
+use std::sync::Wait;
 use std::test::Fail;
+use std::thread::Threads;
 
 /// Whether these are the numbers of a shard's line that lent blocks and got each back.
 fn are_balanced(shard: u32, numbers: &[u32]) -> bool {
@@ -41,9 +43,31 @@ fn counts_them(alloc: Global, line: &str) -> Result<bool, AllocError> {
     Ok(again.as_str() == line && puts == 39_960 && looks == 59_044 && *scans == 996)
 }
 
+/// Whether a text is the summary of four shards whose third line begins so.
+fn are_summed(alloc: Global, text: &[u8], evictions: &str) -> Result<bool, Fail> {
+    let lines = lines_of(alloc, text)?;
+    let [commands, counts, evicted, shards @ ..] = lines.as_slice() else {
+        return Ok(false);
+    };
+    let right = *commands == "commands 100000" && evicted.starts_with(evictions);
+    Ok(right && counts_them(alloc, counts)? && each_block_came_back(alloc, shards, 4)?)
+}
+
+/// Whether these words make such a summary, and the same again.
+fn is_made<R: Threads + Wait + Sync>(
+    rt: &R,
+    alloc: Global,
+    words: &[&str],
+    evictions: &str,
+) -> Result<bool, Fail> {
+    let (status, text) = answer(rt, alloc, words, b"not read", &[], 4096)?;
+    let again = written(rt, alloc, words, b"", 4096)?;
+    let same = status == Status::Done && text.as_slice() == again.as_slice();
+    Ok(same && are_summed(alloc, text.as_slice(), evictions)?)
+}
+
 #[test]
 fn one_number_makes_one_summary(rt: HostRuntime) -> Result<(), Fail> {
-    let alloc = rt.alloc();
     // On 8,192 pages no row goes: no shard has so many keys that their rows fill them.
     let rows: [(&[&str], &str); 2] = [
         (&["gen", "--number", "7", "--shards", "4"], "evictions 0"),
@@ -53,15 +77,7 @@ fn one_number_makes_one_summary(rt: HostRuntime) -> Result<(), Fail> {
         ),
     ];
     for (words, evictions) in rows {
-        let (status, text) = answer(&rt, alloc, words, b"not read", &[], 4096)?;
-        assert!(rt; status == Status::Done);
-        let lines = lines_of(alloc, text.as_slice())?;
-        assert!(rt; lines.len() == 7 && lines[0] == "commands 100000");
-        assert!(rt; counts_them(alloc, lines[1])?);
-        assert!(rt; lines[2].starts_with(evictions));
-        assert!(rt; each_block_came_back(alloc, &lines[3..], 4)?);
-        let (_, again) = answer(&rt, alloc, words, b"", &[], 4096)?;
-        assert!(rt; text.as_slice() == again.as_slice());
+        assert!(rt; is_made(&rt, rt.alloc(), words, evictions)?);
     }
     Ok(())
 }
