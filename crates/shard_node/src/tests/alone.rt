@@ -12,6 +12,7 @@ use cache_model::{Entry, ReplyKind};
 use foreign_list::{Foreign, OwnerSeat};
 use shard_rings::{Link, MemoryLink};
 use std::alloc::Global;
+use std::process::Abort;
 use std::test::Fail;
 use trace_text::Trace;
 
@@ -62,41 +63,62 @@ fn abandon<'f, L: Link<'f> + Drop>(
     Some(node.abandon())
 }
 
+/// Plays the node of the only shard; where that is asked for, the one that is opened with what an abandoned one handed back.
+fn open_and_play(
+    alloc: Global,
+    trace: &Trace,
+    home: &Foreign,
+    seat: OwnerSeat,
+    again: bool,
+    ran: &mut Ran,
+) -> bool
+    requires owner { home.now.owner ≡ 0 }
+    requires seat { IsAtRest home.now seat }
+    requires one { trace.now.shards ≡ 1 }
+    requires ran { ran.old ≡ record { shards = 1; journals = []; logs = [] } }
+{
+    let links: Vec<MemoryLink<'_>> = Vec::new(alloc);
+    if !again {
+        return play(alloc, trace, home, seat, links, ran);
+    }
+    match abandon(alloc, trace, home, seat, links) {
+        Some(handed) => play(alloc, trace, home, handed.seat, handed.links, ran),
+        None => false,
+    }
+}
+
+/// What the node of the only shard left of these lines. None where it did not get done.
+fn left_of(rt: &impl Abort, alloc: Global, lines: &[u8], again: bool) -> Result<Option<Ran>, Fail> {
+    let mut ran = Ran::new(alloc, 1)?;
+    let trace = parsed(rt, alloc, lines, 1)?;
+    let (home, seat) = Foreign::new(alloc, 0)?;
+    if !open_and_play(alloc, &trace, &home, seat, again, &mut ran) {
+        return Ok(None);
+    }
+    Ok(Some(ran))
+}
+
 #[test]
 fn a_node_that_is_abandoned_hands_its_seat_back(rt: HostRuntime) -> Result<(), Fail> {
-    let trace = parsed(&rt, rt.alloc(), b"put a 1\n", 1)?;
-    let (home, seat) = Foreign::new(rt.alloc(), 0)?;
-    let links: Vec<MemoryLink<'_>> = Vec::new(rt.alloc());
-    let mut ran = Ran::new(rt.alloc(), 1)?;
-    let Some(handed) = abandon(rt.alloc(), &trace, &home, seat, links) else {
-        return Err(Fail::new("it was not opened"));
-    };
-    assert!(rt;
-        play(
-            rt.alloc(),
-            &trace,
-            &home,
-            handed.seat,
-            handed.links,
-            &mut ran
-        )
-    );
+    let ran = left_of(&rt, rt.alloc(), b"put a 1\n", true)?;
+    assert!(rt; ran.is_some());
     Ok(())
+}
+
+/// Whether a put of 1 and a get were done in this order, and no more was replied.
+fn are_of_two(ran: &Ran) -> bool {
+    let ([journal], [log]) = (ran.journals(), ran.logs()) else {
+        return false;
+    };
+    journal.entries() == [Entry::Done(1), Entry::Done(2)].as_slice()
+        && log.reply(0) == Some((ReplyKind::Stored, b"".as_slice()))
+        && log.reply(1) == Some((ReplyKind::Value, b"1".as_slice()))
+        && log.reply(2).is_none()
 }
 
 #[test]
 fn a_node_alone_does_its_commands_in_order(rt: HostRuntime) -> Result<(), Fail> {
-    let trace = parsed(&rt, rt.alloc(), b"put a 1\nget a\n", 1)?;
-    let (home, seat) = Foreign::new(rt.alloc(), 0)?;
-    let links: Vec<MemoryLink<'_>> = Vec::new(rt.alloc());
-    let mut ran = Ran::new(rt.alloc(), 1)?;
-    assert!(rt; play(rt.alloc(), &trace, &home, seat, links, &mut ran));
-    let ([journal], [log]) = (ran.journals(), ran.logs()) else {
-        return Err(Fail::new("it left nothing"));
-    };
-    assert!(rt; journal.entries() == [Entry::Done(1), Entry::Done(2)].as_slice());
-    assert!(rt; log.reply(0) == Some((ReplyKind::Stored, b"".as_slice())));
-    assert!(rt; log.reply(1) == Some((ReplyKind::Value, b"1".as_slice())));
-    assert!(rt; log.reply(2).is_none());
+    let ran = left_of(&rt, rt.alloc(), b"put a 1\nget a\n", false)?;
+    assert!(rt; ran.as_ref().is_some_and(|ran| are_of_two(ran)));
     Ok(())
 }

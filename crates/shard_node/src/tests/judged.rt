@@ -150,6 +150,22 @@ fn are_logged(trace: &Trace, left: Left<'_>, first: &[Told], second: &[Told], or
     true
 }
 
+/// Whether two shards did all parts in order and have the replies to their own, where this is told of what each did.
+fn are_told(
+    trace: &Trace,
+    first: Left<'_>,
+    second: Left<'_>,
+    at_first: &[Told],
+    at_second: &[Told],
+) -> bool {
+    is_complete(trace, at_first, 0, 0)
+        && is_complete(trace, at_first, 1, 0)
+        && is_complete(trace, at_second, 0, 1)
+        && is_complete(trace, at_second, 1, 1)
+        && are_logged(trace, first, at_first, at_second, 0)
+        && are_logged(trace, second, at_first, at_second, 1)
+}
+
 /// Whether the two shards of a trace left what the definitions allow.
 pub(super) fn are_right(
     alloc: Global,
@@ -157,19 +173,17 @@ pub(super) fn are_right(
     first: Left<'_>,
     second: Left<'_>,
 ) -> Result<bool, AllocError> {
-    let (Some(at_first), Some(at_second)) = (
-        told_of(alloc, trace, first.journal)?,
-        told_of(alloc, trace, second.journal)?,
-    ) else {
+    let Some(at_first) = told_of(alloc, trace, first.journal)? else {
         return Ok(false);
     };
-    let (at_first, at_second) = (at_first.as_slice(), at_second.as_slice());
-    Ok(
-        is_complete(trace, at_first, 0, 0)
-            && is_complete(trace, at_first, 1, 0)
-            && is_complete(trace, at_second, 0, 1)
-            && is_complete(trace, at_second, 1, 1)
-            && are_logged(trace, first, at_first, at_second, 0)
-            && are_logged(trace, second, at_first, at_second, 1),
-    )
+    let Some(at_second) = told_of(alloc, trace, second.journal)? else {
+        return Ok(false);
+    };
+    Ok(are_told(
+        trace,
+        first,
+        second,
+        at_first.as_slice(),
+        at_second.as_slice(),
+    ))
 }

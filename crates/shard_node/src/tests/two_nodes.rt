@@ -38,6 +38,28 @@ fn carry<'f>(
     }
 }
 
+/// Turns a node, and tells whether it is done. False where it sets a packet aside.
+fn turn<'f>(node: &mut Node<'f, MemoryLink<'f>, OpenGate>, done: &mut bool) -> bool {
+    let turn = node.turn();
+    *done = turn == Turn::Done;
+    !matches!(turn, Turn::Stray { .. })
+}
+
+/// Turns a node or carries a packet, as the word says. False where a packet is set aside or does not fit.
+fn step<'f>(
+    word: u32,
+    first: &mut Node<'f, MemoryLink<'f>, OpenGate>,
+    second: &mut Node<'f, MemoryLink<'f>, OpenGate>,
+    done: &mut (bool, bool),
+) -> bool {
+    match word % 4 {
+        0 => turn(first, &mut done.0),
+        1 => turn(second, &mut done.1),
+        2 => carry(first, second, word / 4),
+        _ => carry(second, first, word / 4),
+    }
+}
+
 /// Turns two nodes and carries what they send, in an order that is drawn, until both are done. False where a packet does not fit, a
 /// packet is set aside, or they do not get done.
 fn play<'f>(
@@ -45,23 +67,13 @@ fn play<'f>(
     first: &mut Node<'f, MemoryLink<'f>, OpenGate>,
     second: &mut Node<'f, MemoryLink<'f>, OpenGate>,
 ) -> bool {
-    let (mut of_first, mut of_second) = (Turn::Idle, Turn::Idle);
+    let mut done = (false, false);
     for _ in 0..10_000 {
-        let word = words.next_word();
-        let fits = match word % 4 {
-            0 => {
-                of_first = first.turn();
-                !matches!(of_first, Turn::Stray { .. })
-            }
-            1 => {
-                of_second = second.turn();
-                !matches!(of_second, Turn::Stray { .. })
-            }
-            2 => carry(first, second, word / 4),
-            _ => carry(second, first, word / 4),
-        };
-        if !fits || (of_first == Turn::Done && of_second == Turn::Done) {
-            return fits;
+        if !step(words.next_word(), first, second, &mut done) {
+            return false;
+        }
+        if done == (true, true) {
+            return true;
         }
     }
     false
@@ -145,22 +157,36 @@ fn play_once<'f>(
     play_with(words, alloc, trace, &mut first, homes.1, seats.1)
 }
 
-#[test]
-fn two_nodes_do_what_is_right_in_any_order(rt: HostRuntime) -> Result<(), Fail> {
-    let trace = parsed(&rt, rt.alloc(), LINES, 2)?;
+/// Makes the lists of both, and plays.
+fn play_anew(words: &mut Lcg64Xsh32, alloc: Global, trace: &Trace) -> Result<Option<bool>, Fail>
+    requires two { trace.now.shards ≡ 2 }
+{
+    let (first_home, first_seat) = Foreign::new(alloc, 0)?;
+    let (second_home, second_seat) = Foreign::new(alloc, 1)?;
+    let (homes, seats) = ((&first_home, &second_home), (first_seat, second_seat));
+    play_once(words, alloc, trace, homes, seats)
+}
+
+/// In how many of a thousand orders the second did its own first. None where one of them gives what is not right.
+fn count_own_first(alloc: Global, trace: &Trace) -> Result<Option<u32>, Fail>
+    requires two { trace.now.shards ≡ 2 }
+{
     let mut words = Lcg64Xsh32::new(1, 3);
     let mut own_first = 0u32;
     for _ in 0..1000 {
-        let (first_home, first_seat) = Foreign::new(rt.alloc(), 0)?;
-        let (second_home, second_seat) = Foreign::new(rt.alloc(), 1)?;
-        let (homes, seats) = ((&first_home, &second_home), (first_seat, second_seat));
-        match play_once(&mut words, rt.alloc(), &trace, homes, seats)? {
-            Some(true) => own_first = own_first.saturating_add(1),
-            Some(false) => {}
-            None => return Err(Fail::new("an order gives what is not right")),
-        }
+        let Some(own) = play_anew(&mut words, alloc, trace)? else {
+            return Ok(None);
+        };
+        own_first = own_first.saturating_add(own as u32);
     }
+    Ok(Some(own_first))
+}
+
+#[test]
+fn two_nodes_do_what_is_right_in_any_order(rt: HostRuntime) -> Result<(), Fail> {
+    let trace = parsed(&rt, rt.alloc(), LINES, 2)?;
+    let own_first = count_own_first(rt.alloc(), &trace)?;
     // Both happen.
-    assert!(rt; 0 < own_first && own_first < 1000);
+    assert!(rt; own_first.is_some_and(|own_first| 0 < own_first && own_first < 1000));
     Ok(())
 }
