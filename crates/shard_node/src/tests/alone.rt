@@ -59,8 +59,10 @@ fn abandon<'f, L: Link<'f> + Drop>(
     ensures seat { IfSome result (λ handed. IsAtRest home.now handed.seat) }
     ensures links { IfSome result (λ handed. handed.links.items ≡ []) }
 {
-    let node = Node::open(alloc, 0, 1, 1280, trace, home, seat, links, OpenGate).ok()?;
-    Some(node.abandon())
+    match Node::open(alloc, 0, 1, 1280, trace, home, seat, links, OpenGate) {
+        Ok(node) => Some(node.abandon()),
+        Err(_) => None,
+    }
 }
 
 /// Plays the node of the only shard; where that is asked for, the one that is opened with what an abandoned one handed back.
