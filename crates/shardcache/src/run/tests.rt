@@ -2,6 +2,8 @@
 //! that the log has.
 ghost use Rattle.std.specs.Prelude.{◌≡◌, IfOk, IfSome};
 
+mod scheduled;
+
 use super::{Order, Run, run_trace};
 use crate::tests::plain::apply_to;
 use plain_cache::{Entry, Plain, ReplyKind, ReplyLog};
