@@ -15,8 +15,6 @@ mod replying;
 mod segments;
 mod space;
 mod storing;
-#[cfg(test)]
-mod tests;
 
 pub use no_ticket::NoTicket;
 pub use regions::Place;

@@ -1,5 +1,5 @@
 use Rattle.std.proofs.Common.{◌∙◌}
-use Rattle.reclaim.proofs.tests.lent.lend_often.Goals as goal
+use Rattle.reclaim_tests.proofs.tests.lent.lend_often.Goals as goal
 
 pub returns-then-not-lend_once-clause-stay : goal.returns-then-not-lend_once-clause-stay
 returns-then-not-lend_once-clause-stay c p row stands = c.lend_once.ensures.stay p row (c.loop.invariant.0 p row stands)

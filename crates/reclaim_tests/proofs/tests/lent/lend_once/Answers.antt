@@ -1,6 +1,6 @@
 use Rattle.std.proofs.Common.{sym, subst}
 use Rattle.reclaim.specs.Spaces.{RowsStay}
-use Rattle.reclaim.proofs.tests.lent.lend_once.Goals as goal
+use Rattle.reclaim_tests.proofs.tests.lent.lend_once.Goals as goal
 
 pub returns-then-is_ok-clause-stay : goal.returns-then-is_ok-clause-stay
 returns-then-is_ok-clause-stay c = subst (RowsStay c.args.space.now) (sym c.take_back.ensures.same) c.give_now.ensures.stay

@@ -1,8 +1,8 @@
 // What a test does to a space and looks at, step by step.
 use super::Trial;
-use crate::Put;
 use cache_model::Entry;
 use foreign_list::Foreign;
+use reclaim::Put;
 use std::alloc::Global;
 use std::test::Fail;
 

@@ -5,9 +5,9 @@ ghost use Rattle.reclaim.specs.Spaces.{IsSameSpace, RowsStay};
 
 use super::steps::{Step, done};
 use super::{Trial, large_value};
-use crate::{GiveRefusal, Put, Share, Space};
 use foreign_list::ForeignBlock;
 use layout::{GREATEST_VALUE, TICKETS};
+use reclaim::{GiveRefusal, Put, Share, Space};
 use shard_rings::Ask;
 use std::alloc::{AllocError, Global};
 use std::test::Fail;

@@ -2,9 +2,9 @@
 ghost use Rattle.std.specs.Prelude.{◌<◌, length};
 
 use super::Trial;
-use crate::{Put, Share};
 use foreign_list::{Foreign, ForeignBlock};
 use layout::TICKETS;
+use reclaim::{Put, Share};
 use rtrb::{Consumer, Producer, RingBuffer};
 use std::alloc::{AllocError, Global};
 use std::sync::Wait;
@@ -94,6 +94,19 @@ impl<'f> Trial<'f> {
     }
 }
 
+// Sends one of the blocks that are left, or takes back what came home. Answers how many are left then, and how many came.
+fn send_or_collect<'f>(
+    trial: &mut Trial<'f>,
+    ring: &mut Producer<ForeignBlock<'f>>,
+    left: u32,
+) -> (u32, u32) {
+    if trial.send(left, ring) {
+        (left.saturating_sub(1), 0)
+    } else {
+        (left, trial.collect())
+    }
+}
+
 // Sends so many blocks over the rings in turn, a fourth of them with tickets for requests, and takes them all back. Answers how
 // many came home.
 fn lend_out<'f, R: Wait>(
@@ -111,11 +124,9 @@ fn lend_out<'f, R: Wait>(
             return home;
         }
         let turn = left as usize % rings.len();
-        if trial.send(left, &mut rings[turn]) {
-            left = left.saturating_sub(1);
-        } else {
-            home = home.wrapping_add(trial.collect());
-        }
+        let (now_left, came) = send_or_collect(trial, &mut rings[turn], left);
+        left = now_left;
+        home = home.wrapping_add(came);
     }
     unreachable!()
 }

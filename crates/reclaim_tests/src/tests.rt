@@ -8,10 +8,10 @@ ghost use Rattle.foreign_list.specs.OwnerSeats.{IsAtRest};
 ghost use Rattle.regions.specs.Shapes.{guards_of};
 
 use self::steps::{Step, done};
-use crate::{Put, Space};
 use cache_model::Entry;
 use foreign_list::{Foreign, ForeignBlock, OwnerSeat};
 use layout::{GREATEST_KEY, GREATEST_VALUE};
+use reclaim::{Put, Space};
 use run_log::Journal;
 use shard_rings::Ask;
 use std::alloc::{AllocError, Global};
