@@ -1,8 +1,10 @@
-use Rattle.std.proofs.Common.{◌≡◌, ℕ, ◌≤◌, cond, replicate, length, sym, ap, ◌∙◌, subst, arith, List}
+use Rattle.std.proofs.Common.{[], ◌∷◌, ◌++◌, ◌≡◌, ℕ, ◌≤◌, cond, replicate, length, sym, ap, ◌∙◌, subst, arith, List}
 use Rattle.std.specs.List.{count_by}
 use Rattle.std.proofs.lemmas.List.{length-replicate}
 use Rattle.std.proofs.lemmas.List.Folds.{sum_by-replicate}
 use Rattle.regions.specs.inside.Consistent.{not_closed, is_sparse}
+use Rattle.std.proofs.lemmas.Result.{IfOk-from_err}
+use Rattle.regions.proofs.Regions.{replicate-more}
 use Rattle.regions.proofs.live_table.LiveTable.new.Goals as goal
 
 none-sparse : (most : ℕ) → most ≤ 2048 → (length (replicate most not_closed) ≤ 2048) × (0 ≡ count_by is_sparse (replicate most not_closed))
@@ -19,3 +21,20 @@ invariant_of-result c =
     let ends = c.loop-number.auto._number-end in
     let full : c.loop-number._number ≡ c.args.most = omega (arith, c.loop-number-test.false, ends) in
     subst (λ l. (length l ≤ 2048) × (0 ≡ count_by is_sparse l)) (sym (all c.loop-number._number c.args.most _ c.loop-number.invariant full)) (none-sparse c.args.most c.requires)
+
+pub returns-in_err-bytes : goal.returns-in_err-bytes
+returns-in_err-bytes c = IfOk-from_err c.from_residual.result _ c.from_residual.ensures.0
+
+pub loop-number-init : goal.loop-number-init
+loop-number-init c = c.in_ok-bytes.ensures.items
+
+pub returns-in_err-push : goal.returns-in_err-push
+returns-in_err-push c = IfOk-from_err c.from_residual-in_err-push.result _ c.from_residual-in_err-push.ensures.0
+
+pub loop-number-preserved : goal.loop-number-preserved
+loop-number-preserved c = c.in_ok-push.ensures.items ∙ ap (λ l. l ++ not_closed ∷ []) c.loop-number.invariant ∙ replicate-more c.loop-number._number not_closed
+
+pub returns : goal.returns
+returns c =
+    let ends = c.loop-number.auto._number-end in
+    all c.loop-number._number c.args.most _ c.loop-number.invariant (omega (arith, c.loop-number-test.false, ends))

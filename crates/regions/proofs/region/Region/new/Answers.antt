@@ -1,8 +1,9 @@
-use Rattle.std.proofs.Common.{◌≡◌, ℕ, Bool, false, List, replicate, sym, ap, ◌∙◌, subst, arith}
+use Rattle.std.proofs.Common.{[], ◌∷◌, ◌++◌, ◌≡◌, ℕ, Bool, false, List, replicate, sym, ap, ◌∙◌, subst, arith}
 use Rattle.std.specs.Prelude.{Option, None}
-use Rattle.regions.specs.Segments.{SegmentState}
+use Rattle.std.proofs.lemmas.Result.{IfOk-from_err}
+use Rattle.regions.specs.Segments.{SegmentState, RegionState}
 use Rattle.regions.specs.inside.Consistent.{not_closed}
-use Rattle.regions.proofs.Regions.{Fields, new-fields}
+use Rattle.regions.proofs.Regions.{Fields, new-fields, replicate-more}
 use Rattle.regions.proofs.region.Region.new.Goals as goal
 
 all : (n most : ℕ) (items : List (Option SegmentState)) → items ≡ replicate n None → n ≡ most → items ≡ replicate most None
@@ -16,3 +17,33 @@ invariant_of-result c =
     (subst (λ f. Fields most None none f 0 c.in_ok-new-3.field-0 c.loop-number.slots.items) (sym c.in_ok-new-2.ensures)
     (subst (λ t. Fields most None none none 0 t c.loop-number.slots.items) (sym c.in_ok-new-3.ensures)
     (subst (λ l. Fields most None none none 0 (replicate most not_closed) l) (sym (all c.loop-number._number most c.loop-number.slots.items c.loop-number.invariant full)) (new-fields most c.requires))))
+
+pub returns-in_err-slots : goal.returns-in_err-slots
+returns-in_err-slots c = IfOk-from_err c.from_residual.result _ c.from_residual.ensures.0
+
+pub loop-number-init : goal.loop-number-init
+loop-number-init c = c.in_ok-slots.ensures.items
+
+pub returns-in_err-push : goal.returns-in_err-push
+returns-in_err-push c = IfOk-from_err c.from_residual-in_err-push.result _ c.from_residual-in_err-push.ensures.0
+
+pub loop-number-preserved : goal.loop-number-preserved
+loop-number-preserved c = c.in_ok-push.ensures.items ∙ ap (λ l. l ++ None ∷ []) c.loop-number.invariant ∙ replicate-more c.loop-number._number None
+
+pub returns-in_err-new : goal.returns-in_err-new
+returns-in_err-new c = IfOk-from_err c.from_residual-in_err-new.result _ c.from_residual-in_err-new.ensures.0
+
+pub returns-in_err-new-2 : goal.returns-in_err-new-2
+returns-in_err-new-2 c = IfOk-from_err c.from_residual-in_err-new-2.result _ c.from_residual-in_err-new-2.ensures.0
+
+pub returns-in_err-new-3 : goal.returns-in_err-new-3
+returns-in_err-new-3 c = IfOk-from_err c.from_residual-in_err-new-3.result _ c.from_residual-in_err-new-3.ensures.0
+
+pub new-requires-3 : goal.new-requires-3
+new-requires-3 c = c.requires
+
+pub returns : goal.returns
+returns c =
+    let ends = c.loop-number.auto._number-end in let most = c.args.most in
+    ap (λ (s : List (Option SegmentState)). let r : RegionState = record { most = most; guards = 0; active = None; segments = s } in r)
+    (all c.loop-number._number most c.loop-number.slots.items c.loop-number.invariant (omega (arith, c.loop-number-test.false, ends)))

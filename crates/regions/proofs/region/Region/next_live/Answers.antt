@@ -6,7 +6,7 @@ use Rattle.regions.specs.Contents.{standing_in, standing_at}
 use Rattle.regions.proofs.Tables as tables
 use Rattle.regions.proofs.Updates.{used-is, live-is}
 use Rattle.regions.proofs.Consistency.{closed-begun}
-use Rattle.regions.specs.Contents.{NoneLives, IsStart, starts_in, none_lives_in}
+use Rattle.regions.specs.Contents.{NoneLives, IsStart, starts_in, none_lives_in, IsLiveAt, live_at, item_if_live}
 use Rattle.regions.specs.declared.place.Place.{Place}
 use Rattle.regions.proofs.Regions.{begun-within}
 use Rattle.regions.proofs.region.Region.next_live.Goals as goal
@@ -58,3 +58,22 @@ returns-clause-dead c =
     subst (λ q. IsNone c.next_live.result → NoneLives q n 0 c.args.from → live_bytes_at q n ≡ 0) c.self.view_is
     (subst (λ u. IsNone c.next_live.result → none_lives_in (get_or slots n None) 0 c.args.from → u ≡ 0) (sym (live-is slots n))
     (subst (λ s. IsNone c.next_live.result → none_lives_in s 0 c.args.from → live_in s ≡ 0) (sym is) c.next_live.ensures.dead))
+
+pub returns-clause-none : goal.returns-clause-none
+returns-clause-none c =
+    let slots = c.self.inside.slots.items in let n = c.args.segment in let is = the-segment c in
+    subst (λ q. IsNone c.next_live.result → NoneLives q n c.args.from (used_at q n)) c.self.view_is
+    (subst (λ u. IsNone c.next_live.result → none_lives_in (get_or slots n None) c.args.from u) (sym (used-is slots n))
+    (subst (λ s. IsNone c.next_live.result → none_lives_in s c.args.from (used_in s)) (sym is) c.next_live.ensures.none))
+
+pub returns-clause-found : goal.returns-clause-found
+returns-clause-found c =
+    let n = c.args.segment in let is = the-segment c in
+    subst (λ q. IfSome c.next_live.result (λ f. IsLiveAt (live_at q (let p : Place = record { segment = n; at = f.0 } in p)) f.1 f.2)) c.self.view_is
+    (subst (λ s. IfSome c.next_live.result (λ f. IsLiveAt (item_if_live (standing_in s f.0)) f.1 f.2)) (sym is) c.next_live.ensures.found)
+
+pub returns-clause-size : goal.returns-clause-size
+returns-clause-size c = c.next_live.ensures.size
+
+pub returns-clause-inside : goal.returns-clause-inside
+returns-clause-inside c = c.next_live.ensures.inside
