@@ -1,10 +1,11 @@
 //! One line of a trace.
-ghost use Rattle.std.specs.Prelude.{◌≡◌, ◌⊎◌, ◌==◌, ◌<◌, ◌&&◌, nat_le, nat_lt, length, decimal, position, true, None, Some, IfSome, IfOk, IfErr, IsTrue};
+ghost use Rattle.std.specs.Prelude.{◌≡◌, ◌⊎◌, ℕ, List, [], Ok, Err, ◌==◌, ◌<◌, ◌&&◌, nat_le, nat_lt, length, decimal, position, true, None, Some, IfSome, IfOk, IfErr, IsTrue};
 ghost use Rattle.std.specs.List.{list_all};
 ghost use Rattle.std.specs.Option.{option_map};
 ghost use Rattle.std.specs.Str.{bytes_eq};
 ghost use Rattle.layout.specs.Sizes.{most_keys};
-ghost use Rattle.trace_text.specs.Line.{is_passed, cut_at, cut_where, is_key_byte, is_value_byte, key_fault, value_fault, kind_of, count_of, from_key, fields_of};
+ghost use Rattle.trace_text.specs.Line.{is_passed, cut_at, cut_where, is_key_byte, is_value_byte, key_fault, value_fault, kind_of, count_of, from_count, from_key, fields_of};
+ghost use Rattle.trace_text.specs.Parsed.{HasItsFields};
 ghost use Rattle.trace_text.specs.inside.Found.{digits_in, reading_of, IsRestOf, LieIn};
 ghost use Rattle.trace_text.specs.inside.Plain.{IsPlain};
 
@@ -219,6 +220,20 @@ fn bare_in(kind: Kind, fields: &[u8], sound: bool) -> Result<Found<'_>, Cause>
     })
 }
 
+/// The count of a scan, and nothing behind it.
+fn count_in(fields: &[u8]) -> Result<u32, Cause>
+    ensures count { IfOk result (λ count. (key : List ℕ) → from_count key (cut_at 32 fields.now) ≡ Ok (record { kind = Kind.Scan; key = key; value = []; count = count })) }
+    ensures fields { IfOk result (λ count. HasItsFields Kind.Scan [] count) }
+    ensures fault { IfErr result (λ cause. (key : List ℕ) → from_count key (cut_at 32 fields.now) ≡ Err cause) }
+{
+    let (field, extra) = cut(fields, b' ');
+    let count = count_of(field).ok_or(Cause::Count)?;
+    if extra.is_some() {
+        return Err(Cause::ExtraField);
+    }
+    Ok(count)
+}
+
 /// A key, a space, and a count.
 fn scan_in(fields: &[u8], sound: bool) -> Result<Found<'_>, Cause>
     requires { IsTrue sound → IsPlain fields.now }
@@ -227,11 +242,7 @@ fn scan_in(fields: &[u8], sound: bool) -> Result<Found<'_>, Cause>
 {
     let (key, behind) = key_in(fields, sound)?;
     let behind = behind.ok_or(Cause::MissingField)?;
-    let (field, extra) = cut(behind, b' ');
-    let count = count_of(field).ok_or(Cause::Count)?;
-    if extra.is_some() {
-        return Err(Cause::ExtraField);
-    }
+    let count = count_in(behind)?;
     Ok(Found {
         kind: Kind::Scan,
         key,
