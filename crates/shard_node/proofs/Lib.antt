@@ -70,4 +70,3 @@ pub mod TurnMoves
 pub mod HeldUps
 pub mod IdleTurn
 pub mod TicketsBefore
-pub mod OtherLink

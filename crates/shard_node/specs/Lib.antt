@@ -5,6 +5,4 @@ pub mod Standing
 pub mod Turns
 pub mod Rans
 pub mod Together
-pub mod Examples
-pub mod TogetherExamples
 pub mod inside

@@ -38,8 +38,3 @@ pub use node::{Finished, Node};
 pub use ran::Ran;
 pub use refusal::NodeRefusal;
 pub use turn::Turn;
-
-#[cfg(test)]
-mod law_tests;
-#[cfg(test)]
-mod tests;

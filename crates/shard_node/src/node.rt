@@ -29,7 +29,7 @@ use trace_text::Trace;
 /// One shard at work on its parts of a trace. All its memory is taken as it is opened.
 #[derive(Drop)]
 pub struct Node<'f, L: Drop, G: Drop> {
-    pub(crate) shard: Shard<'f, L, G>,
+    shard: Shard<'f, L, G>,
     // Empty until the links are handed back.
     links: Vec<L>,
 }

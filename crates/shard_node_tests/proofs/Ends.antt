@@ -1,0 +1,20 @@
+-- The last end of the last shard of a mesh.
+use Rattle.std.proofs.Common.{◌≡◌, ℕ, List, [], ◌∷◌, ◌++◌, length, Some, Vec, slice_get, refl, sym, ap, subst}
+use Rattle.std.specs.declared.alloc.Global.{Global}
+use Rattle.shard_rings.specs.Links.{LinkState}
+use Rattle.shard_rings.specs.Mesh.{Ends, IsMesh}
+use Rattle.shard_node.specs.Links.{IsUnused, ring_traffic}
+
+at_last : {X : Type 0} (xs : List X) (x : X) → slice_get (xs ++ x ∷ []) (length xs) ≡ Some x
+at_last [] x = refl
+at_last (y ∷ ys) x = at_last ys x
+
+pub last_unused : (shards fewer : Ends) (own : Vec LinkState Global) (rest : List LinkState) (end : LinkState) → shards ≡ fewer ++ own ∷ [] → own.items ≡ rest ++ end ∷ []
+    → IsMesh shards → IsUnused ring_traffic end
+last_unused shards fewer own rest end of_shards of_ends mesh =
+    let unused = mesh.unused (length fewer) (length rest) end (record {
+      own = own;
+      own_at = subst (λ l. slice_get l (length fewer) ≡ Some own) (sym of_shards) (at_last fewer own);
+      end_at = subst (λ l. slice_get l (length rest) ≡ Some end) (sym of_ends) (at_last rest end);
+    }) in
+    record { sent = ap (λ o. o.sent) unused.0; received = ap (λ i. i.received) unused.1 }

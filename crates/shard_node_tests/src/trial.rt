@@ -1,0 +1,178 @@
+//! What the tests of nodes share: traces, a node of two shards with the peer's end of its link, and another shard's memory.
+ghost use Rattle.std.specs.Prelude.{◌≡◌, ◌<◌, IfOk};
+ghost use Rattle.foreign_list.specs.OwnerSeats.{IsAtRest};
+ghost use Rattle.reclaim.specs.Spaces.{IsUnguarded};
+ghost use Rattle.shard_rings.specs.Mesh.{IsMesh};
+ghost use Rattle.shard_node.specs.Links.{IsUnused, ring_traffic};
+
+use foreign_list::{Foreign, ForeignBlock, OwnerSeat};
+use reclaim::Space;
+use run_log::Journal;
+use shard_node::{Node, OpenGate, Ran, Turn};
+use shard_rings::{Ask, Lane, Link, Packet, RingLink, ring_links};
+use std::alloc::Global;
+use std::marker::Model;
+use std::process::Abort;
+use std::test::Fail;
+use trace_text::{Kind, Trace, parse};
+
+/// The trace of these lines, for one shard or two.
+pub(super) fn parsed(
+    rt: &impl Abort,
+    alloc: Global,
+    lines: &[u8],
+    shards: u32,
+) -> Result<Trace, Fail>
+    ensures { IfOk result (λ trace. trace.shards ≡ shards) }
+{
+    assert!(rt; lines.len() <= 1000 && 1 <= shards && shards <= 2);
+    Ok(parse(alloc, Vec::from_slice(alloc, lines)?, shards)?)
+}
+
+/// The last end of the last shard that is left.
+fn last_end<'f>(shards: &mut Vec<Vec<RingLink<'f>>>) -> Result<RingLink<'f>, Fail>
+    ensures { IsMesh shards.old.items → IfOk result (λ end. IsUnused ring_traffic end) }
+{
+    let Some(mut ends) = shards.pop() else {
+        return Err(Fail::new("there is no shard"));
+    };
+    match ends.pop() {
+        Some(end) => Ok(end),
+        None => Err(Fail::new("a shard has no end")),
+    }
+}
+
+/// The two ends of a link, on which nothing was sent.
+fn both_ends<'f>(alloc: Global) -> Result<(RingLink<'f>, RingLink<'f>), Fail>
+    ensures { IfOk result (λ ends. IsUnused ring_traffic ends.0) }
+{
+    let mut shards = ring_links(alloc, 2)?;
+    let end = last_end(&mut shards)?;
+    Ok((end, last_end(&mut shards)?))
+}
+
+/// The node of one of two shards, with the peer's end of its link.
+#[derive(Drop)]
+pub(super) struct Trial<'f> {
+    node: Node<'f, RingLink<'f>, OpenGate>,
+    peer: RingLink<'f>,
+    shard: u32,
+}
+
+impl<'f> Model for Trial<'f> {
+    ghost use Rattle.std.specs.Prelude.{◌≡◌, ℕ};
+    ghost use Rattle.shard_node.specs.Links.{ring_traffic};
+    ghost use Rattle.shard_node.specs.Standing.{InStanding};
+
+    // the number of its shard
+    ghost Value = { ℕ };
+
+    ghost view = { λ t. t.shard };
+
+    ghost invariant = { λ t. InStanding ring_traffic t.node × (t.node.shard ≡ t.shard) × (t.node.shards ≡ 2) };
+}
+
+impl<'f> Trial<'f> {
+    pub(super) fn open(
+        alloc: Global,
+        shard: u32,
+        trace: &'f Trace,
+        home: &'f Foreign,
+        seat: OwnerSeat,
+    ) -> Result<Trial<'f>, Fail>
+        requires owner { home.now.owner ≡ shard }
+        requires seat { IsAtRest home.now seat }
+        requires two { trace.now.shards ≡ 2 }
+        requires within { shard < 2 }
+    {
+        let (link, peer) = both_ends(alloc)?;
+        let mut links = Vec::with_capacity(alloc, 1)?;
+        links.push(link).unwrap();
+        match Node::open(alloc, shard, 2, 1280, trace, home, seat, links, OpenGate) {
+            Ok(node) => Ok(Trial { node, peer, shard }),
+            Err(_) => Err(Fail::new("there is no memory")),
+        }
+    }
+
+    pub(super) fn turn(&mut self) -> Turn {
+        self.node.turn()
+    }
+
+    /// Sends a packet to the node. False where the lane is full.
+    pub(super) fn offer(&mut self, lane: Lane, packet: Packet<'f>) -> bool {
+        self.peer.send(lane, packet).is_ok()
+    }
+
+    /// The next packet that the node sent.
+    pub(super) fn taken(&mut self, lane: Lane) -> Option<Packet<'f>> {
+        self.peer.receive(lane)
+    }
+
+    /// Finishes the node into the record of a run. False where it is not done, a block is not at home, or the record has not those
+    /// of the shards below it.
+    pub(super) fn finish(self, ran: &mut Ran) -> bool
+        requires { ran.old.shards ≡ 2 }
+        ensures { ran.new.shards ≡ 2 }
+    {
+        if !self.node.is_done() || ran.journals().len() != self.shard as usize {
+            return false;
+        }
+        let space = self.node.finish(ran).space;
+        space.tickets_out() == 0 && space.lent() == space.back()
+    }
+}
+
+/// Another shard, as far as it lends blocks.
+#[derive(Drop)]
+pub(super) struct Lender<'f> {
+    space: Space<'f>,
+    journal: Journal,
+    ghost unguarded: { IsUnguarded space },
+}
+
+impl<'f> Lender<'f> {
+    pub(super) fn open(
+        alloc: Global,
+        shard: u32,
+        home: &'f Foreign,
+        seat: OwnerSeat,
+    ) -> Result<Lender<'f>, Fail>
+        requires owner { home.now.owner ≡ shard }
+        requires seat { IsAtRest home.now seat }
+    {
+        let journal = Journal::new(alloc, 0)?;
+        let Ok(space) = Space::open(alloc, shard, 1280, 0, home, seat) else {
+            return Err(Fail::new("there is no memory"));
+        };
+        Ok(Lender { space, journal })
+    }
+
+    /// The request of `put b 1`, as the command of this number.
+    pub(super) fn request(&mut self, number: u32) -> Option<ForeignBlock<'f>> {
+        if self.space.rows() > self.journal.spare() {
+            return None;
+        }
+        let ask = Ask {
+            kind: Kind::Put,
+            key: b"b",
+            value: b"1",
+            count: 0,
+            number,
+        };
+        self.space.request_block(&ask, &mut self.journal).ok()
+    }
+
+    /// A block that begins with these bytes, where they are not too many.
+    pub(super) fn block(&mut self, front: &[u8]) -> Option<ForeignBlock<'f>> {
+        let mut block = self.request(1)?;
+        if let Some(bytes) = block.bytes_mut().get_mut(..front.len()) {
+            bytes.copy_from_slice(front);
+        }
+        Some(block)
+    }
+
+    /// Whether one block came home.
+    pub(super) fn takes_one(&mut self) -> bool {
+        self.space.take_back() == 1
+    }
+}
