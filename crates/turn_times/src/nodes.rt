@@ -22,7 +22,9 @@ pub fn turn_alone(alloc: Global, trace: &Trace, most: u32) -> Option<u64>
             break;
         }
     }
-    Some(node.turns())
+    let turns = node.turns();
+    drop(node);
+    Some(turns)
 }
 
 /// Makes so many turns of the first of two nodes, while the other makes none, and answers how many of them were idle.
@@ -38,6 +40,7 @@ pub fn turn_idly(alloc: Global, trace: &Trace, turns: u32) -> Option<u64>
             idle = idle.saturating_add(1);
         }
     }
+    drop(node);
     Some(idle)
 }
 

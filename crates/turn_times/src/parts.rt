@@ -14,10 +14,12 @@ use trace_text::{Command, Kind, Trace};
 /// Does the commands of a trace on a space, at most so many reads, and answers how many rows were read.
 pub fn read_rows(alloc: Global, trace: &Trace, reads: u32) -> Option<u64> {
     let (home, seat) = Foreign::new(alloc, 0).ok()?;
-    let mut space = open_space(alloc, &home, seat)?;
     let mut journal = Journal::new(alloc, trace.commands().len() as u32).ok()?;
     let mut values = Vec::with_capacity(alloc, 8 * reads as usize).ok()?;
-    Some(do_parts(&mut space, trace, reads, &mut journal, &mut values))
+    let mut space = open_space(alloc, &home, seat)?;
+    let read = do_parts(&mut space, trace, reads, &mut journal, &mut values);
+    drop(space);
+    Some(read)
 }
 
 fn open_space<'f>(alloc: Global, home: &'f Foreign, seat: OwnerSeat) -> Option<Space<'f>>
