@@ -16,7 +16,7 @@ import sys
 import tempfile
 
 BENCH = os.path.dirname(os.path.abspath(__file__))
-CRATE = os.path.join(BENCH, "..", "crates", "shardcache")
+CRATE = os.path.join(BENCH, "..", "crates", "shardcache_main")
 TRACE = b"put a 1\nput b 2\nget a\nscan a 32\nerase b\nput b 3\nget b\nscan b 1\n"
 MODES = [["run"], *([mode, "--shards", shards] for mode in ("sim", "run") for shards in ("2", "4"))]
 DONE, MEMORY = 0, 6
@@ -41,7 +41,7 @@ def main():
         def run(words, refused):
             """Status, output, allocations asked for, and bytes not freed."""
             given = {"LD_PRELOAD": shim, "COUNTED": counted, "REFUSED": str(refused)}
-            words = [os.path.join(CRATE, "out", "shardcache"), *words, "--pages", pages]
+            words = [os.path.join(CRATE, "out", "shardcache_main"), *words, "--pages", pages]
             ran = subprocess.run(words, input=TRACE, stdout=subprocess.PIPE, env=given, check=False)
             with open(counted, encoding="ascii") as file:
                 return ran.returncode, ran.stdout, *map(int, file.read().split())
