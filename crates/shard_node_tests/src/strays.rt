@@ -65,7 +65,9 @@ fn ran_first(rt: &impl Abort, alloc: Global) -> Result<Ran, Fail>
     let (home, seat) = Foreign::new(alloc, 0)?;
     let mut ran = Ran::new(alloc, 2)?;
     let mut first = Trial::open(alloc, 0, &trace, &home, seat)?;
-    assert!(rt; turns_on_bye(&mut first, Turn::Done) && first.finish(&mut ran));
+    let is_done = turns_on_bye(&mut first, Turn::Done);
+    let is_finished = first.finish(&mut ran);
+    assert!(rt; is_done && is_finished);
     Ok(ran)
 }
 
