@@ -1,5 +1,5 @@
 -- The last end of the last shard of a mesh.
-use Rattle.std.proofs.Common.{◌≡◌, ℕ, List, [], ◌∷◌, ◌++◌, length, Some, Vec, slice_get, refl, sym, ap, subst}
+use Rattle.std.proofs.Common.{◌≡◌, List, [], ◌∷◌, ◌++◌, length, Some, Vec, slice_get, refl, sym, ap, subst}
 use Rattle.std.specs.declared.alloc.Global.{Global}
 use Rattle.shard_rings.specs.Links.{LinkState}
 use Rattle.shard_rings.specs.Mesh.{Ends, IsMesh}
