@@ -7,9 +7,9 @@ mod printed;
 mod shards;
 mod summaries;
 
-use super::*;
+use crate::{Outcome, Status, shardcache};
 use outside::{MemorySink, MemorySource};
-use shard_node::Gates;
+use shard_node::{Gates, OpenGates};
 use std::alloc::{AllocError, Global};
 use std::sync::Wait;
 use std::test::Fail;
