@@ -1,6 +1,7 @@
 -- The last end of the last shard of a mesh.
-use Rattle.std.proofs.Common.{◌≡◌, List, [], ◌∷◌, ◌++◌, length, Some, Vec, slice_get, refl, sym, ap, subst}
+use Rattle.std.proofs.Common.{◌≡◌, List, [], ◌∷◌, ◌++◌, length, Option, Some, None, Vec, slice_get, refl, sym, ap, subst}
 use Rattle.std.specs.declared.alloc.Global.{Global}
+use Rattle.std.specs.Option.{IfSome, option_to_list}
 use Rattle.shard_rings.specs.Links.{LinkState}
 use Rattle.shard_rings.specs.Mesh.{Ends, IsMesh}
 use Rattle.shard_node.specs.Links.{IsUnused, ring_traffic}
@@ -9,9 +10,10 @@ at_last : {X : Type 0} (xs : List X) (x : X) → slice_get (xs ++ x ∷ []) (len
 at_last [] x = refl
 at_last (y ∷ ys) x = at_last ys x
 
-pub last_unused : (shards fewer : Ends) (own : Vec LinkState Global) (rest : List LinkState) (end : LinkState) → shards ≡ fewer ++ own ∷ [] → own.items ≡ rest ++ end ∷ []
-    → IsMesh shards → IsUnused ring_traffic end
-last_unused shards fewer own rest end of_shards of_ends mesh =
+pub last_unused : (shards fewer : Ends) (own : Vec LinkState Global) (rest : List LinkState) (end : Option LinkState) → shards ≡ fewer ++ own ∷ []
+    → own.items ≡ rest ++ option_to_list end → IsMesh shards → IfSome end (λ x. IsUnused ring_traffic x)
+last_unused shards fewer own rest None of_shards of_ends mesh = tt
+last_unused shards fewer own rest (Some end) of_shards of_ends mesh =
     let unused = mesh.unused (length fewer) (length rest) end (record {
       own = own;
       own_at = subst (λ l. slice_get l (length fewer) ≡ Some own) (sym of_shards) (at_last fewer own);

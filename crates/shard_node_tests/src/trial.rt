@@ -1,5 +1,5 @@
 //! What the tests of nodes share: traces, a node of two shards with the peer's end of its link, and another shard's memory.
-ghost use Rattle.std.specs.Prelude.{◌≡◌, ◌<◌, IfOk};
+ghost use Rattle.std.specs.Prelude.{◌≡◌, ◌<◌, IfOk, IfSome};
 ghost use Rattle.foreign_list.specs.OwnerSeats.{IsAtRest};
 ghost use Rattle.reclaim.specs.Spaces.{IsUnguarded};
 ghost use Rattle.shard_rings.specs.Mesh.{IsMesh};
@@ -30,16 +30,15 @@ pub(super) fn parsed(
 }
 
 /// The last end of the last shard that is left.
-fn last_end<'f>(shards: &mut Vec<Vec<RingLink<'f>>>) -> Result<RingLink<'f>, Fail>
-    ensures { IsMesh shards.old.items → IfOk result (λ end. IsUnused ring_traffic end) }
+fn last_end<'f>(shards: &mut Vec<Vec<RingLink<'f>>>) -> Option<RingLink<'f>>
+    ensures { IsMesh shards.old.items → IfSome result (λ end. IsUnused ring_traffic end) }
 {
     let Some(mut ends) = shards.pop() else {
-        return Err(Fail::new("there is no shard"));
+        return None;
     };
-    match ends.pop() {
-        Some(end) => Ok(end),
-        None => Err(Fail::new("a shard has no end")),
-    }
+    let end = ends.pop();
+    drop(ends);
+    end
 }
 
 /// The two ends of a link, on which nothing was sent.
@@ -47,8 +46,10 @@ fn both_ends<'f>(alloc: Global) -> Result<(RingLink<'f>, RingLink<'f>), Fail>
     ensures { IfOk result (λ ends. IsUnused ring_traffic ends.0) }
 {
     let mut shards = ring_links(alloc, 2)?;
-    let end = last_end(&mut shards)?;
-    Ok((end, last_end(&mut shards)?))
+    match (last_end(&mut shards), last_end(&mut shards)) {
+        (Some(end), Some(other)) => Ok((end, other)),
+        _ => Err(Fail::new("a link has no end")),
+    }
 }
 
 /// The node of one of two shards, with the peer's end of its link.
@@ -115,10 +116,13 @@ impl<'f> Trial<'f> {
         ensures { ran.new.shards ≡ 2 }
     {
         if !self.node.is_done() || ran.journals().len() != self.shard as usize {
+            drop(self);
             return false;
         }
         let space = self.node.finish(ran).space;
-        space.tickets_out() == 0 && space.lent() == space.back()
+        let is_whole = space.tickets_out() == 0 && space.lent() == space.back();
+        drop(space);
+        is_whole
     }
 }
 
