@@ -101,8 +101,17 @@ fn open_and_play<'f>(
 {
     let mut ran = Ran::new(alloc, 2)?;
     let mut node = Trial::open(alloc, 0, trace, homes.0, seats.0)?;
-    let mut lender = Lender::open(alloc, 1, homes.1, seats.1)?;
-    Ok(play(&mut node, &mut lender) && node.finish(&mut ran) && is_stored(&ran))
+    let mut lender = match Lender::open(alloc, 1, homes.1, seats.1) {
+        Ok(lender) => lender,
+        Err(error) => {
+            drop(node);
+            return Err(error);
+        }
+    };
+    let is_right = play(&mut node, &mut lender);
+    drop(lender);
+    let is_finished = node.finish(&mut ran);
+    Ok(is_right && is_finished && is_stored(&ran))
 }
 
 #[test]

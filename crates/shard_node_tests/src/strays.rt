@@ -94,8 +94,17 @@ fn open_and_play<'f>(
     requires ran { ran.old.shards ≡ 2 }
 {
     let mut lender = Lender::open(alloc, 0, homes.0, seats.0)?;
-    let mut node = Trial::open(alloc, 1, trace, homes.1, seats.1)?;
-    Ok(play(&mut node, &mut lender) && node.finish(ran))
+    let mut node = match Trial::open(alloc, 1, trace, homes.1, seats.1) {
+        Ok(node) => node,
+        Err(error) => {
+            drop(lender);
+            return Err(error);
+        }
+    };
+    let is_right = play(&mut node, &mut lender);
+    drop(lender);
+    let is_finished = node.finish(ran);
+    Ok(is_right && is_finished)
 }
 
 #[test]

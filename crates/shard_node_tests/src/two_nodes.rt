@@ -97,7 +97,10 @@ fn play_two<'f>(
 ) -> bool
     requires { ran.old.shards ≡ 2 }
 {
-    play(words, &mut first, &mut second) && first.finish(ran) && second.finish(ran)
+    let are_done = play(words, &mut first, &mut second);
+    let is_first_finished = first.finish(ran);
+    let is_second_finished = second.finish(ran);
+    are_done && is_first_finished && is_second_finished
 }
 
 /// Opens both nodes, and plays. None where something is wrong; else whether the second did its own first.
@@ -115,7 +118,13 @@ fn play_once<'f>(
 {
     let mut ran = Ran::new(alloc, 2)?;
     let first = Trial::open(alloc, 0, trace, homes.0, seats.0)?;
-    let second = Trial::open(alloc, 1, trace, homes.1, seats.1)?;
+    let second = match Trial::open(alloc, 1, trace, homes.1, seats.1) {
+        Ok(second) => second,
+        Err(error) => {
+            drop(first);
+            return Err(error);
+        }
+    };
     if !play_two(words, first, second, &mut ran) {
         return Ok(None);
     }
