@@ -14,8 +14,6 @@ mod read_source;
 mod reading;
 mod sink;
 mod source;
-#[cfg(test)]
-mod tests;
 mod write_sink;
 mod writing;
 

@@ -1,6 +1,6 @@
 //! What no contract says: that memory is there, and that the devices of std are read and written.
 
-use crate::{
+use outside::{
     Failed, MemorySink, MemorySource, ReadSource, ReadStop, Source, WriteSink, read_all, write_all,
 };
 use std::io::{BufWriter, Error, ErrorKind, Read, Write};
