@@ -367,6 +367,3 @@ fn single_pages(alloc: Global, pages: u32) -> Result<Vec<PageState>, AllocError>
     }
     Ok(states)
 }
-
-#[cfg(test)]
-mod tests;
