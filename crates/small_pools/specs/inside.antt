@@ -1,4 +1,3 @@
--- Words that only the private functions and the tests cite.
+-- Words that only the private functions cite.
 pub mod Tables
-pub mod Given
 pub mod Marks

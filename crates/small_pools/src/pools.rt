@@ -131,6 +131,3 @@ fn trim_marked(held: &mut HeldSpans, marks: &mut NumberSet, spans: &mut Spans)
         marks.remove(first);
     }
 }
-
-#[cfg(test)]
-mod tests;

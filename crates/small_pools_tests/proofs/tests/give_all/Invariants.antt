@@ -1,7 +1,7 @@
 use Rattle.std.proofs.Common.{length}
 use Rattle.small_pools.specs.Objects.{AreHeldIn}
-use Rattle.small_pools.specs.inside.Given.{AreAllocated}
-use Rattle.small_pools.proofs.pools.tests.give_all.Given as goal
+use Rattle.small_pools_tests.specs.Given.{AreAllocated}
+use Rattle.small_pools_tests.proofs.tests.give_all.Given as goal
 
 abbrev pub invariant-loop-place : goal.invariant-loop-place
 invariant-loop-place l = AreHeldIn l.pools l.spans × AreAllocated l.pools.allocated l.taken.items

@@ -3,8 +3,8 @@ use Rattle.std.proofs.lemmas.Bool.{cases_eq}
 use Rattle.std.specs.Ordering.{nat_cmp}
 use Rattle.std.specs.FinMap as map
 use Rattle.common_lemmas.proofs.Maps.{maps_same, get_inserted, get_past_insert, get_removed, get_past_remove}
-use Rattle.small_pools.specs.inside.Given.{AreAllocated}
-use Rattle.small_pools.proofs.pools.tests.take_many.Goals as goal
+use Rattle.small_pools_tests.specs.Given.{AreAllocated}
+use Rattle.small_pools_tests.proofs.tests.take_many.Goals as goal
 
 allocated_more : (m m' : map.FinMap nat_cmp ℕ) (p n : ℕ) (xs ys : List ℕ) → map.get m p ≡ None → m' ≡ map.insert m p n → ys ≡ p ∷ xs → AreAllocated m xs → AreAllocated m' ys
 allocated_more m m' p n xs ys none e l h =

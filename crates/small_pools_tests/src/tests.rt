@@ -1,12 +1,16 @@
 ghost use Rattle.std.specs.Prelude.{◌≡◌, ◌<◌, OnOk, IfOk};
 ghost use Rattle.std.specs.FinMap as map;
 ghost use Rattle.small_pools.specs.Objects.{AreHeldIn};
-ghost use Rattle.small_pools.specs.inside.Given.{AreAllocated};
+ghost use Rattle.small_pools_tests.specs.Given.{AreAllocated};
 
-use super::*;
-use crate::classes::{CLASSES, class_of};
+use small_pools::{Pools, class_of};
+use span_lists::Spans;
+use std::alloc::{AllocError, Global};
 use std::collections::VecDeque;
 use std::test::Fail;
+
+// How many classes there are.
+const CLASSES: u8 = 37;
 
 // Takes objects until there are so many, or none is left.
 fn take_many(

@@ -1,6 +1,6 @@
 use Rattle.std.proofs.Common.{◌∙◌}
 use Rattle.common_lemmas.proofs.Maps.{none_in_empty}
-use Rattle.small_pools.proofs.pools.tests.take_beyond.Goals as goal
+use Rattle.small_pools_tests.proofs.tests.take_beyond.Goals as goal
 
 pub take-requires-clause-held : goal.take-requires-clause-held
 take-requires-clause-held c = record {

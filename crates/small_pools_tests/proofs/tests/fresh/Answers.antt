@@ -3,7 +3,7 @@ use Rattle.std.specs.Ordering.{nat_cmp}
 use Rattle.std.specs.FinMap as map
 use Rattle.span_lists.specs.Layout.{Layout}
 use Rattle.small_pools.specs.Objects.{Objects, AreHeldIn}
-use Rattle.small_pools.proofs.pools.tests.fresh.Goals as goal
+use Rattle.small_pools_tests.proofs.tests.fresh.Goals as goal
 
 held_none : (s : Objects) (l : Layout) → l.pages ≡ s.pages → s.held ≡ map.empty → AreHeldIn s l
 held_none s l same none = record { pages = same; allocated = λ f c h. (let clash : None ≡ Some c = sym (map.get-empty nat_cmp f) ∙ sym (ap (λ m. map.get m f) none) ∙ h in cc) }
