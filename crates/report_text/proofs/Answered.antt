@@ -8,25 +8,17 @@ use Rattle.trace_text.specs.declared.command.Kind.{Kind}
 use Rattle.trace_text.specs.declared.command.Kind.TheVariants as kinds
 use Rattle.trace_text.specs.Operation.{Operation}
 use Rattle.trace_text.specs.Parts.{is_scan}
-use Rattle.trace_text.specs.Trace.{Trace}
 use Rattle.cache_model.specs.declared.reply_kind.ReplyKind.{ReplyKind}
 use Rattle.cache_model.specs.Answer.{answer_from, answer_kind, join, keys_in}
 use Rattle.cache_model.specs.Apply.{Reply, Stored, Replaced, Value, Missing, Erased, Keys}
 use Rattle.cache_model.specs.Fits.{Fits, FitsKind}
 use Rattle.cache_model.specs.KeyBody.{IsKey}
 use Rattle.cache_model.specs.Logged.{AreJoined, HasReplies, IsRead}
-use Rattle.cache_model.specs.OwnParts.{issued_parts, parts_of}
 use Rattle.cache_model.specs.Spelled.{spelled}
 use Rattle.report_text.specs.inside.Found.{HasFound}
 use Rattle.report_text.specs.inside.Spells.{HasLegalKeys}
 
 -- ---- what holds with one shard
-
-abbrev pub OnePart : Type 0
-OnePart = (operation : Operation) → parts_of 1 operation ≡ (operation.number, 0) ∷ []
-
-abbrev pub OnePartEach : Type 0
-OnePartEach = (trace : Trace) → issued_parts trace 1 0 ≡ map (λ operation. (operation.number, 0)) trace.operations
 
 abbrev pub FittingStays : Type 0
 FittingStays = (longest : ℕ) (operation : Operation) (reply : Reply) → Fits longest operation reply → answer_from 1 operation (Some reply ∷ []) ≡ Some reply
@@ -170,7 +162,3 @@ read_kind longest n operation log first answer some p = go (is_scan operation.ki
 
 pub answer-pair : (answer : ℕ × Reply) (number : ℕ) (reply : Reply) → answer.0 ≡ number → answer.1 ≡ reply → (number, reply) ≡ answer
 answer-pair answer number reply p q = ap (λ k. (k, reply)) (sym p) ∙ ap (λ r. (answer.0, r)) (sym q)
-
-pub map-map' : {A B C : Type 0} (g : B → C) (f : A → B) (xs : List A) → map g (map f xs) ≡ map (λ x. g (f x)) xs
-map-map' g f [] = refl
-map-map' g f (x ∷ xs) = ap (λ ys. g (f x) ∷ ys) (map-map' g f xs)

@@ -3,10 +3,8 @@ pub mod Fronts
 pub mod Gathered
 pub mod Keys
 pub mod KeysOfReplies
-pub mod Logs
 pub mod Outputs
 pub mod Places
 pub mod Sent
 pub mod Tallied
 pub mod Texts
-pub mod TwoShards

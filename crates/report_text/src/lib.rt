@@ -11,8 +11,6 @@ mod report;
 mod shard_line;
 mod summary;
 mod tally;
-#[cfg(test)]
-mod tests;
 mod writer;
 
 pub use report::write_report;

@@ -1,5 +1,5 @@
-use Rattle.report_text.proofs.Logs.{replaced_fits, stored_fits}
-use Rattle.report_text.proofs.tests.put_reply.Goals as goal
+use Rattle.report_text_tests.proofs.Logs.{replaced_fits, stored_fits}
+use Rattle.report_text_tests.proofs.tests.put_reply.Goals as goal
 
 pub returns-in-Replaced : goal.returns-in-Replaced
 returns-in-Replaced c = replaced_fits

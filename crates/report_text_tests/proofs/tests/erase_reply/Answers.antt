@@ -1,5 +1,5 @@
-use Rattle.report_text.proofs.Logs.{erased_fits, missing_fits}
-use Rattle.report_text.proofs.tests.erase_reply.Goals as goal
+use Rattle.report_text_tests.proofs.Logs.{erased_fits, missing_fits}
+use Rattle.report_text_tests.proofs.tests.erase_reply.Goals as goal
 
 pub returns-in-Erased : goal.returns-in-Erased
 returns-in-Erased c = erased_fits

@@ -10,9 +10,9 @@ ghost use Rattle.trace_text.specs.declared.command.Kind.TheVariants as CommandKi
 mod two_shards;
 mod written;
 
-use crate::ShardLine;
 use cache_model::{Entry, ReplyKind, is_at_most, one_shard_answers_alone};
 use outside::Failed;
+use report_text::ShardLine;
 use run_log::{Journal, ReplyLog};
 use std::alloc::{AllocError, Global};
 use std::process::Abort;

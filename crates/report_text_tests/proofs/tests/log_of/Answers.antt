@@ -5,8 +5,8 @@ use Rattle.trace_text.specs.declared.command.Kind.TheVariants.{Put}
 use Rattle.trace_text.specs.Operation.{operation}
 use Rattle.trace_text.specs.Parsed.{trace_in}
 use Rattle.trace_text.specs.Parts.{longest_value}
-use Rattle.report_text.proofs.Logs.{IsFilled, fits_at, logged_when_filled, one_more_filled}
-use Rattle.report_text.proofs.tests.log_of.Goals as goal
+use Rattle.report_text_tests.proofs.Logs.{IsFilled, fits_at, logged_when_filled, one_more_filled}
+use Rattle.report_text_tests.proofs.tests.log_of.Goals as goal
 
 abbrev none : Command
 none = record { number = 0; line = 0; kind = Put; key = record { start = 0; len = 0 }; value = record { start = 0; len = 0 }; count = 0 }

@@ -2,7 +2,7 @@ use Rattle.std.proofs.Common.{subst, sym}
 use Rattle.trace_text.specs.declared.command.Kind.{Kind}
 use Rattle.cache_model.specs.Apply.{Keys}
 use Rattle.cache_model.specs.Fits.{FitsKind}
-use Rattle.report_text.proofs.tests.reply_to.Goals as goal
+use Rattle.report_text_tests.proofs.tests.reply_to.Goals as goal
 
 pub returns-in-Put-clause-fits : goal.returns-in-Put-clause-fits
 returns-in-Put-clause-fits c =

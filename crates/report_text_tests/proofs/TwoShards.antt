@@ -19,7 +19,7 @@ use Rattle.cache_model.specs.KeyBody.{IsKey}
 use Rattle.cache_model.specs.Fits.{AreFound, HasFitting}
 use Rattle.cache_model.specs.Logged.{AreLogged}
 use Rattle.cache_model.specs.OwnParts.{HoldsReplies, part_reply, parts_of}
-use Rattle.report_text.proofs.Logs.{next_is_none, next_is_set}
+use Rattle.report_text_tests.proofs.Logs.{next_is_none, next_is_set}
 
 -- ---- a log that is filled
 

@@ -1,6 +1,6 @@
 use Rattle.std.proofs.Common.{◌∙◌, arith}
-use Rattle.report_text.proofs.TwoShards.{filled_more}
-use Rattle.report_text.proofs.tests.two_shards.filled_log.Goals as goal
+use Rattle.report_text_tests.proofs.TwoShards.{filled_more}
+use Rattle.report_text_tests.proofs.tests.two_shards.filled_log.Goals as goal
 
 pub loop-part-preserved : goal.loop-part-preserved
 loop-part-preserved g c = record {

@@ -1,7 +1,7 @@
 -- So many replies were recorded, and there is room for the other bodies.
 use Rattle.std.proofs.Common.{◌≡◌, ◌+◌, ◌*◌, ◌≤◌}
-use Rattle.report_text.proofs.TwoShards.{filled}
-use Rattle.report_text.proofs.tests.two_shards.filled_log.Given as goal
+use Rattle.report_text_tests.proofs.TwoShards.{filled}
+use Rattle.report_text_tests.proofs.tests.two_shards.filled_log.Given as goal
 
 abbrev pub invariant-loop-part : goal.invariant-loop-part
 invariant-loop-part g l = record {

@@ -14,7 +14,7 @@ use Rattle.trace_text.specs.declared.command.Kind.TheVariants as asks
 use Rattle.trace_text.specs.Operation.{Operation, operation}
 use Rattle.trace_text.specs.Parsed.{Parsed, trace_in, AreNumbered}
 use Rattle.trace_text.specs.Parts.{longest_value}
-use Rattle.trace_text.specs.Trace.{trace_with}
+use Rattle.trace_text.specs.Trace.{Trace, trace_with}
 use Rattle.cache_model.specs.declared.reply_kind.ReplyKind.{ReplyKind}
 use Rattle.cache_model.specs.declared.reply_kind.ReplyKind.TheVariants as kinds
 use Rattle.cache_model.specs.Answer.{answer_from}
@@ -24,7 +24,6 @@ use Rattle.cache_model.specs.Fits.{AreFound, Fits, FitsKind, HasFitting}
 use Rattle.cache_model.specs.Logged.{AreLogged}
 use Rattle.cache_model.specs.OwnParts.{issued_parts, parts_of}
 use Rattle.cache_model.specs.Spelled.{spelled}
-use Rattle.report_text.proofs.Answered.{OnePart, OnePartEach, FittingStays, map-map'}
 
 -- ---- replies by the kind of their command
 
@@ -154,6 +153,20 @@ fits_at longest bytes commands n d e reply below fits =
     subst (λ (o : Operation). Fits longest o reply) (sym same) fits
 
 -- ---- the log
+
+-- what holds with one shard
+abbrev pub OnePart : Type 0
+OnePart = (operation : Operation) → parts_of 1 operation ≡ (operation.number, 0) ∷ []
+
+abbrev pub OnePartEach : Type 0
+OnePartEach = (trace : Trace) → issued_parts trace 1 0 ≡ map (λ operation. (operation.number, 0)) trace.operations
+
+abbrev pub FittingStays : Type 0
+FittingStays = (longest : ℕ) (operation : Operation) (reply : Reply) → Fits longest operation reply → answer_from 1 operation (Some reply ∷ []) ≡ Some reply
+
+map-map' : {A B C : Type 0} (g : B → C) (f : A → B) (xs : List A) → map g (map f xs) ≡ map (λ x. g (f x)) xs
+map-map' g f [] = refl
+map-map' g f (x ∷ xs) = ap (λ ys. g (f x) ∷ ys) (map-map' g f xs)
 
 abbrev NumberedFrom : ℕ → List Operation → Type 0
 NumberedFrom k [] = Unit {0}

@@ -1,8 +1,8 @@
 use Rattle.std.proofs.Common.{[], ◌∷◌, ap, ◌∙◌}
 use Rattle.std.specs.Cmp.Lexicographic.{same_text}
 use Rattle.cache_model.specs.declared.reply_kind.ReplyKind.TheVariants as kinds
-use Rattle.report_text.proofs.Logs.{no_keys, two_keys}
-use Rattle.report_text.proofs.tests.found_keys.Goals as goal
+use Rattle.report_text_tests.proofs.Logs.{no_keys, two_keys}
+use Rattle.report_text_tests.proofs.tests.found_keys.Goals as goal
 
 pub returns-then-eq-clause-keys : goal.returns-then-eq-clause-keys
 returns-then-eq-clause-keys c =

@@ -5,8 +5,8 @@ ghost use Rattle.cache_model.specs.Apply.{Reply};
 ghost use Rattle.cache_model.specs.Logged.{AreLogged};
 ghost use Rattle.report_text.specs.Views.{replies_in};
 
-use crate::{ShardLine, write_report, write_summary};
 use outside::{Failed, MemorySink};
+use report_text::{ShardLine, write_report, write_summary};
 use run_log::{Journal, ReplyLog};
 use std::alloc::Global;
 use std::test::Fail;

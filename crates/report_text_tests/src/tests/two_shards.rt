@@ -8,8 +8,8 @@ ghost use Rattle.report_text.specs.Views.{replies_in};
 
 use super::journal_of;
 use super::written::{Form, Run, writes};
-use crate::ShardLine;
 use cache_model::{Entry, ReplyKind};
+use report_text::ShardLine;
 use run_log::{Journal, ReplyLog};
 use std::alloc::{AllocError, Global};
 use std::process::Abort;

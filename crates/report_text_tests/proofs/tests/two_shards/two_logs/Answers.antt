@@ -2,8 +2,8 @@ use Rattle.std.proofs.Common.{ℕ, List, sym, subst, ◌∷◌, []}
 use Rattle.cache_model.specs.Apply.{Reply}
 use Rattle.cache_model.specs.Examples.{two_shards}
 use Rattle.cache_model.specs.Logged.{AreLogged}
-use Rattle.report_text.proofs.TwoShards.{Log, second_log, two_logged}
-use Rattle.report_text.proofs.tests.two_shards.two_logs.Goals as goal
+use Rattle.report_text_tests.proofs.TwoShards.{Log, second_log, two_logged}
+use Rattle.report_text_tests.proofs.tests.two_shards.two_logs.Goals as goal
 
 pub returns : goal.returns
 returns g c =

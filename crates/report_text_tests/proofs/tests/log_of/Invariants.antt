@@ -3,8 +3,8 @@ use Rattle.std.proofs.Common.{◌+◌, ◌-◌, ◌*◌, ◌≤◌, length, map}
 use Rattle.trace_text.specs.Operation.{operation}
 use Rattle.trace_text.specs.Parsed.{trace_in}
 use Rattle.trace_text.specs.Parts.{longest_value}
-use Rattle.report_text.proofs.Logs.{IsFilled}
-use Rattle.report_text.proofs.tests.log_of.Given as goal
+use Rattle.report_text_tests.proofs.Logs.{IsFilled}
+use Rattle.report_text_tests.proofs.tests.log_of.Given as goal
 
 abbrev pub invariant-loop-part : goal.invariant-loop-part
 invariant-loop-part g l = record {
