@@ -16,5 +16,3 @@ mod give_refusal;
 mod memory;
 mod piece_allocator;
 mod share;
-#[cfg(test)]
-mod tests;

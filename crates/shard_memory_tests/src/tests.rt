@@ -1,8 +1,8 @@
 // What no clause says: that memory is found, what fixed numbers give, and that blocks come home in any order.
 ghost use Rattle.std.specs.Prelude.{◌≡◌, ◌≤◌, []};
 
-use crate::{GiveRefusal, ShardMemory, Share};
 use foreign_list::{Foreign, ForeignBlock};
+use shard_memory::{GiveRefusal, ShardMemory, Share};
 use std::alloc::{AllocError, Global};
 use std::test::Fail;
 
