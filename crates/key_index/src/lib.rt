@@ -19,8 +19,6 @@ mod place;
 mod rows;
 mod search;
 mod shared;
-#[cfg(test)]
-mod tests;
 
 pub use index::KeyIndex;
 pub use keys::Keys;

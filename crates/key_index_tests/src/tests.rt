@@ -2,7 +2,7 @@
 ghost use Rattle.std.specs.Prelude.{◌≡◌, ℕ, ◌<◌, ◌≤◌, length};
 ghost use Rattle.key_index.specs.Index.{IsIndexOf};
 
-use super::*;
+use key_index::{KeyIndex, Keys};
 use std::alloc::{AllocError, Global};
 use std::test::Fail;
 
