@@ -22,6 +22,3 @@ pub use event::Event;
 pub use history::{law_of_histories, replay};
 pub use list_core::Core;
 pub use ticket_state::TicketState;
-
-#[cfg(test)]
-mod tests;

@@ -1,6 +1,6 @@
-use super::*;
-use Event::{Back, Lend, Link, Look, Swing, TakeWhole};
-use TicketState::{Carried, Idle, Linked, Listed, Looked, Walked};
+use foreign_core::Event::{self, Back, Lend, Link, Look, Swing, TakeWhole};
+use foreign_core::TicketState::{self, Carried, Idle, Linked, Listed, Looked, Walked};
+use foreign_core::{Core, law_of_histories, replay};
 use std::alloc::Global;
 use std::process::Abort;
 use std::test::Fail;
