@@ -37,8 +37,6 @@ mod released;
 mod slots;
 mod steps;
 mod tally;
-#[cfg(test)]
-mod tests;
 mod views;
 
 pub use block::ForeignBlock;

@@ -2,7 +2,9 @@
 ghost use Rattle.std.specs.Prelude.{◌≡◌, ◌≤◌, [], IfOk};
 ghost use Rattle.foreign_list.specs.OwnerSeats.{IsSeatOf, IsIdle};
 
-use crate::{Foreign, ForeignBlock, LinkedBlock, OwnerSeat, Released, Tally, law_of_the_list};
+use foreign_list::{
+    Foreign, ForeignBlock, LinkedBlock, OwnerSeat, Released, Tally, law_of_the_list,
+};
 use raw_range::{Piece, Range};
 use std::alloc::{AllocError, Global};
 use std::process::Abort;
