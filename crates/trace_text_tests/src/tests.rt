@@ -1,0 +1,50 @@
+//! Which shard owns a key, and the longest value of a trace.
+ghost use Rattle.std.specs.Prelude.{◌≡◌, [], ◌∷◌};
+ghost use Rattle.trace_text.specs.Parts.{hash};
+
+use std::test::Fail;
+use trace_text::{MOST_SHARDS, owner_of, parse};
+
+// The hash of each key, by the definition that `owner_of` is proved to follow.
+fn hashes_of_keys()
+    ensures of_no_bytes { hash [] ≡ 14695981039346656037 }
+    ensures of_a { hash (97 ∷ []) ≡ 12638187200555641996 }
+    ensures of_b { hash (98 ∷ []) ≡ 12638190499090526629 }
+    ensures of_c { hash (99 ∷ []) ≡ 12638189399578898418 }
+    ensures of_d { hash (100 ∷ []) ≡ 12638183902020757363 }
+{}
+
+#[test]
+fn a_key_has_its_hash(rt: HostRuntime) -> Result<(), Fail> {
+    for (key, hashed, of_2, of_16) in [
+        ("", 0xcbf2_9ce4_8422_2325, 1, 5),
+        ("a", 0xaf63_dc4c_8601_ec8c, 0, 12),
+        ("b", 0xaf63_df4c_8601_f1a5, 1, 5),
+        ("c", 0xaf63_de4c_8601_eff2, 0, 2),
+        ("d", 0xaf63_d94c_8601_e773, 1, 3),
+    ] {
+        for shards in 1..=MOST_SHARDS {
+            let owner = u64::from(owner_of(key.as_bytes(), shards));
+            assert_eq!(rt; owner, hashed % u64::from(shards));
+        }
+        assert_eq!(rt; owner_of(key.as_bytes(), 2), of_2);
+        assert_eq!(rt; owner_of(key.as_bytes(), 16), of_16);
+    }
+    hashes_of_keys();
+    Ok(())
+}
+
+#[test]
+fn the_longest_value_counts(rt: HostRuntime) -> Result<(), Fail> {
+    for (input, longest) in [
+        ("", 0),
+        ("get a\nput a \n", 0),
+        ("put a abc\nput b abcde\nput c ab\nscan abcdefgh 3\n", 5),
+    ] {
+        let bytes = input.as_bytes().to_vec(rt.alloc())?;
+        assert!(rt; bytes.len() <= 1000);
+        let trace = parse(rt.alloc(), bytes, 1)?;
+        assert_eq!(rt; trace.longest_value(), longest);
+    }
+    Ok(())
+}
