@@ -30,8 +30,3 @@ pub use mesh::ring_links;
 pub use reply::{ReplyView, read_reply, write_reply, write_reply_header};
 pub use request::{is_request, request_size, write_request};
 pub use ring_link::{RingLink, close_pair};
-
-#[cfg(test)]
-mod link_tests;
-#[cfg(test)]
-mod tests;

@@ -6,10 +6,13 @@ ghost use Rattle.cache_model.specs.Apply.{Reply};
 ghost use Rattle.shard_rings.specs.Reply.{HoldsReply, IsViewOf};
 ghost use Rattle.shard_rings.specs.Request.{request};
 
-use super::*;
 use cache_model::ReplyKind;
 use rand_core::utils::NextWord;
 use rand_pcg::Lcg64Xsh32;
+use shard_rings::{
+    Ask, ReplyView, is_request, read_reply, request_size, write_reply, write_reply_header,
+    write_request,
+};
 use std::alloc::{AllocError, Global};
 use std::test::Fail;
 use trace_text::Kind;

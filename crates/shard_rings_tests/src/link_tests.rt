@@ -1,6 +1,8 @@
 //! What no clause of the links says: that memory is found, and that a ring holds as many packets as its size.
-use crate::ring_link::link_pair;
-use crate::{Lane, Link, MemoryLink, Packet, close_pair, ring_links};
+ghost use Rattle.std.specs.Prelude.{◌≡◌, length};
+ghost use Rattle.shard_rings.specs.Mesh.{IsMesh};
+
+use shard_rings::{Lane, Link, MemoryLink, Packet, RingLink, close_pair, ring_links};
 use std::alloc::{AllocError, Global};
 use std::test::Fail;
 
@@ -92,9 +94,18 @@ fn each_shard_has_an_end_toward_each_other(rt: HostRuntime) -> Result<(), Fail> 
     Ok(())
 }
 
+// Ends the pair between two shards.
+fn close_two<'f>(mut shards: Vec<Vec<RingLink<'f>>>)
+    requires mesh { IsMesh shards.items }
+    requires two { length shards.items ≡ 2 }
+{
+    let mut second = shards.pop().unwrap();
+    let mut first = shards.pop().unwrap();
+    close_pair(first.pop().unwrap(), second.pop().unwrap());
+}
+
 #[test]
 fn a_pair_is_closed(rt: HostRuntime) -> Result<(), Fail> {
-    let (a, b) = link_pair(rt.alloc())?;
-    close_pair(a, b);
+    close_two(ring_links(rt.alloc(), 2)?);
     Ok(())
 }

@@ -1,0 +1,8 @@
+//! The tests of `shard_rings`, which use it from outside. They stand apart, since the check proves a crate's tests
+//! together with all of the crate.
+#![tactic(auto)]
+
+#[cfg(test)]
+mod link_tests;
+#[cfg(test)]
+mod tests;
