@@ -10,8 +10,6 @@ mod place;
 mod region;
 mod segment;
 mod slots;
-#[cfg(test)]
-mod tests;
 
 pub use movers::Movers;
 pub use place::{NeedSegment, Place};

@@ -3,7 +3,7 @@ ghost use Rattle.std.specs.Prelude.{◌≡◌, ◌≤◌, true};
 ghost use Rattle.object_log.specs.Objects.{IsSize};
 
 use super::calls::{self, Live};
-use crate::Region;
+use regions::Region;
 
 #[derive(Clone, Copy)]
 pub(super) enum Step<'a> {

@@ -5,8 +5,8 @@ ghost use Rattle.layout.specs.Sizes as sizes;
 mod calls;
 mod steps;
 
-use crate::Region;
 use raw_range::{Piece, Range};
+use regions::Region;
 use std::alloc::{AllocError, Global};
 use std::test::Fail;
 use steps::{NOT_CLOSED, Step, first_wrong};
@@ -20,17 +20,22 @@ fn piece(alloc: Global, owner: u32) -> Result<Piece, AllocError>
 
 // The pieces of the segments have the owners 0, 1, 2.
 fn three_segments(alloc: Global) -> Result<Region, AllocError> {
+    let first = piece(alloc, 0)?;
+    let second = piece(alloc, 1)?;
+    let third = piece(alloc, 2)?;
     let mut region = Region::new(alloc, 3)?;
-    region.add_segment(piece(alloc, 0)?);
-    region.add_segment(piece(alloc, 1)?);
-    region.add_segment(piece(alloc, 2)?);
+    region.add_segment(first);
+    region.add_segment(second);
+    region.add_segment(third);
     Ok(region)
 }
 
 // Which step is the first that three segments answer otherwise.
 fn wrong(alloc: Global, steps: &[Step<'_>]) -> Result<Option<usize>, AllocError> {
     let mut region = three_segments(alloc)?;
-    Ok(first_wrong(&mut region, steps))
+    let wrong = first_wrong(&mut region, steps);
+    drop(region);
+    Ok(wrong)
 }
 
 #[test]

@@ -4,8 +4,8 @@ ghost use Rattle.object_log.specs.Objects.{IsSize};
 ghost use Rattle.regions.specs.Shapes.{active_of, IsClosed};
 ghost use Rattle.regions.specs.Contents.{standing_at, live_at, with_bytes, ChangesAt, IsLiveAt};
 
-use crate::{Place, Region};
 use raw_range::Piece;
+use regions::{Place, Region};
 
 pub(super) fn go_on(region: &mut Region) -> Option<u32> {
     if region.free_segments() > 0 && (region.active().is_none() || region.left() < 12_296) {
