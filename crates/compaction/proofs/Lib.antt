@@ -1,5 +1,4 @@
 pub mod Moves
 pub mod Shut
 pub mod Drains
-pub mod Named
 pub mod Full

@@ -4,7 +4,7 @@ use Rattle.std.specs.Prelude.{Option, None, Some, IsSome, is_some, option_map}
 use Rattle.std.proofs.lemmas.Bool.{cases_eq, ne_eqb}
 use mathlib.Core.Path.{fun_ext}
 use Rattle.regions.specs.Segments.{RegionState}
-use Rattle.regions.specs.Contents.{Item, Standing, item_if_live, if_live, standing_at, live_at, dead, ChangesAt, Keeps}
+use Rattle.regions.specs.Contents.{Item, Standing, item_if_live, if_live, standing_at, live_at, dead, ChangesAt}
 use Rattle.regions.specs.Stores.{Live, Bare, StandsFor, found, store_of, less, renamed, is_place, without_references}
 use Rattle.regions.specs.declared.place.Place.{Place}
 use Rattle.compaction.specs.Emptied.{IsSameAt}
@@ -23,10 +23,6 @@ told-apart p q =
           ]
       | inr other ↦ inr (λ e. other (ap (λ (x : Place). x.segment) e), rw (ne_eqb p.segment q.segment other) refl)
     ]
-
--- where nothing that stands changed, the same objects are live
-pub kept-live : (old new : RegionState) → Keeps old new → live_at old ≡ live_at new
-kept-live old new same = fun_ext (λ p. ap item_if_live (sym (same p)))
 
 -- the copy is live besides
 pub copied-live : (old new : RegionState) (from to : Place) → ChangesAt to (standing_at old from) old new → standing_at old to ≡ None → live_at old ≡ less to (live_at new)

@@ -19,8 +19,6 @@ mod compact;
 mod draining;
 mod law;
 mod moving;
-#[cfg(test)]
-mod tests;
 mod whole;
 
 pub use compact::{Compacted, compact_one};
