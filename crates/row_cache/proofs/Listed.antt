@@ -155,14 +155,6 @@ pub times_append : (n : ℕ) (xs ys : List ℕ) → times n (xs ++ ys) ≡ times
 times_append n [] ys = omega arith
 times_append n (x ∷ xs) ys = let ih = times_append n xs ys in omega (arith, ih)
 
-pub found_has : (key : List ℕ) (rows : List Row) (row : Row) → row_of key rows ≡ Some row → has key rows ≡ true
-found_has key [] row e = absurd (let no : None ≡ Some row = e in cc)
-found_has key (r ∷ rows) row e =
-    elim (of_key key r) [
-      | inl t ↦ ap (λ b. b || has key rows) t.0
-      | inr f ↦ ap (λ b. b || has key rows) f.0 ∙ found_has key rows row (sym (ap (λ b. cond b (Some r) (row_of key rows)) f.0) ∙ e)
-    ]
-
 last_some : (n : ℕ) (ns : List ℕ) (P : Type 0) → last_or (Some n) ns ≡ None → P
 last_some n [] P e = absurd (let clash : Some n ≡ None = e in cc)
 last_some n (m ∷ ns) P e = last_some m ns P e

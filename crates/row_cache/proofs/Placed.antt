@@ -1,18 +1,16 @@
 -- A row is written into a new object.
-use Rattle.std.proofs.Common.{◌≡◌, ℕ, ◌+◌, ◌-◌, ◌≤◌, inl, inr, List, length, replicate, Option, Some, None, refl, sym, ap, subst, ◌∙◌, arith}
+use Rattle.std.proofs.Common.{◌≡◌, ℕ, ◌+◌, ◌-◌, ◌≤◌, inl, inr, List, length, replicate, Option, Some, None, sym, ap, ◌∙◌, arith}
 use Rattle.std.specs.Prelude.{option_map, slice_index}
 use Rattle.std.proofs.lemmas.Bool.Decides.{leb_tells}
 use Rattle.std.proofs.lemmas.List.{get_or-set_same, length-replicate, set_past}
 use Rattle.std.specs.List.{sum}
-use Rattle.cache_model.specs.Row.{Row}
 use Rattle.layout.specs.Sizes.{descriptor, segment}
 use Rattle.regions.specs.Segments.{RegionState}
 use Rattle.regions.specs.Shapes.{active_of}
 use Rattle.regions.specs.Counts.{left, left_of, plus, used_counts}
 use Rattle.regions.specs.Contents.{Item, Standing, ChangesAt, item_if_live, live_at, standing_at, with_bytes, zeros}
 use Rattle.regions.specs.declared.place.Place.{Place}
-use Rattle.row_bytes.specs.Rows.{IsRow, row_in}
-use Rattle.row_cache.specs.Rows.{item_at, Stay, StandsAt}
+use Rattle.row_cache.specs.Rows.{item_at, Stay}
 use Rattle.row_cache.specs.inside.Tables.{Adds}
 use Rattle.row_cache.proofs.States.{some_none, place_cases}
 
@@ -58,17 +56,5 @@ left_added r m s n size active same used kept total some room =
     let e = fewer_left (used_counts r) n size (sym (ap (λ u. sum u) used) ∙ total) some (omega (arith, was, room)) in
     omega (arith, was, now, e)
 
-pub stays_both : (r m s : RegionState) → Stay r m → Stay m s → Stay r s
-stays_both r m s first second = λ p i e. second p i (first p i e)
-
 pub stays_same : (r s : RegionState) → s ≡ r → Stay r s
 stays_same r s same = λ p i e. ap (λ (y : RegionState). item_at y p) same ∙ e
-
-standing_of : (o : Option Standing) (i : Item) → option_map (λ (x : Standing). x.item) o ≡ Some i → (t : Standing) × (o ≡ Some t) × (t.item ≡ i)
-standing_of None i e = absurd (let clash : None ≡ Some i = e in cc)
-standing_of (Some t) i e = (t, refl, (let same : Some t.item ≡ Some i = e in cc))
-
-pub row_stays_at : (r s : RegionState) (p : Place) (row : Row) → Stay r s → StandsAt r p row → StandsAt s p row
-row_stays_at r s p row stay here =
-    let t = standing_of (standing_at s p) here.0.item (stay p here.0.item (ap (option_map (λ (x : Standing). x.item)) here.1)) in
-    (t.0, t.1, subst (λ (i : Item). IsRow i.content) (sym t.2) here.2, ap (λ (i : Item). row_in i.content) t.2 ∙ here.3)

@@ -9,8 +9,6 @@ ghost use Rattle.regions.specs.Shapes.{shape, active_of};
 ghost use Rattle.regions.specs.Counts.{left};
 ghost use Rattle.row_cache.specs.Rows.{rows_of, reply_of, Stay};
 
-#[cfg(test)]
-mod first_row;
 mod getting;
 mod reading;
 mod scanning;

@@ -11,8 +11,6 @@ mod put;
 mod row_keys;
 mod scanned;
 mod tables;
-#[cfg(test)]
-mod tests;
 
 pub use cache::RowCache;
 pub use compaction::Compacted;

@@ -2,7 +2,7 @@
 ghost use Rattle.std.specs.Prelude.{◌<◌};
 
 use super::trial::Trial;
-use crate::{Compacted, Put};
+use row_cache::{Compacted, Put};
 use std::alloc::{AllocError, Global};
 
 #[derive(Clone, Copy)]
@@ -61,7 +61,9 @@ pub(crate) fn first_wrong(trial: &mut Trial, steps: &[Step<'_>]) -> Option<usize
 /// Which step is the first that a cache of two rows and two segments answers otherwise.
 pub(crate) fn wrong_of_two(alloc: Global, steps: &[Step<'_>]) -> Result<Option<usize>, AllocError> {
     let mut trial = Trial::small(alloc)?;
-    Ok(first_wrong(&mut trial, steps))
+    let wrong = first_wrong(&mut trial, steps);
+    drop(trial);
+    Ok(wrong)
 }
 
 /// Which step is the first that a cache with room for so many rows and four segments answers otherwise.
@@ -73,5 +75,7 @@ pub(crate) fn wrong(
     requires { rows < 1000 }
 {
     let mut trial = Trial::new(alloc, rows)?;
-    Ok(first_wrong(&mut trial, steps))
+    let wrong = first_wrong(&mut trial, steps);
+    drop(trial);
+    Ok(wrong)
 }

@@ -1,7 +1,7 @@
 //! What a row cache means: a list of rows, the one used last in front.
 ghost use Rattle.std.specs.Prelude.{◌<◌, length, IfSome};
 
-use crate::Put;
+use row_cache::Put;
 use std::alloc::{AllocError, Global};
 
 #[derive(Drop)]

@@ -5,9 +5,9 @@ ghost use Rattle.layout.specs.Sizes as sizes;
 ghost use Rattle.regions.specs.Shapes.{active_of, guards_of};
 ghost use Rattle.row_cache.specs.Rows.{rows_of};
 
-use crate::{Compacted, Put, RowCache, Scanned};
 use layout::{GREATEST_KEY, GREATEST_OBJECT, GREATEST_VALUE};
 use raw_range::{Piece, Range};
+use row_cache::{Compacted, Put, RowCache, Scanned};
 use std::alloc::{AllocError, Global};
 
 /// A cache, and for how many rows it has room.
@@ -37,7 +37,7 @@ fn is_active(cache: &RowCache) -> bool
     cache.left() > 0
 }
 
-#[tactic(auto, using(crate::proofs::Listed::found_has))]
+#[tactic(auto, using(crate::proofs::Found::found_has))]
 fn has_room(cache: &RowCache, rows: u32, key: &[u8]) -> bool
     ensures { result ≡ true → (has key.now (rows_of cache.now) ≡ true) ⊎ (length (rows_of cache.now) < rows) }
 {
@@ -50,9 +50,11 @@ fn has_room(cache: &RowCache, rows: u32, key: &[u8]) -> bool
 impl Trial {
     /// A cache of two rows, and two segments, of which one is active.
     pub(crate) fn small(alloc: Global) -> Result<Trial, AllocError> {
+        let first = piece(alloc, 0)?;
+        let second = piece(alloc, 1)?;
         let mut cache = RowCache::new(alloc, 2, 2)?;
-        cache.add_segment(piece(alloc, 0)?);
-        cache.add_segment(piece(alloc, 1)?);
+        cache.add_segment(first);
+        cache.add_segment(second);
         cache.next_active();
         Ok(Trial { cache, rows: 2 })
     }
@@ -61,17 +63,17 @@ impl Trial {
     pub(crate) fn new(alloc: Global, rows: u32) -> Result<Trial, AllocError>
         requires { rows < 1000 }
     {
+        let first = piece(alloc, 0)?;
+        let second = piece(alloc, 1)?;
+        let third = piece(alloc, 2)?;
+        let fourth = piece(alloc, 3)?;
         let mut cache = RowCache::new(alloc, rows, 4)?;
-        cache.add_segment(piece(alloc, 0)?);
-        cache.add_segment(piece(alloc, 1)?);
-        cache.add_segment(piece(alloc, 2)?);
-        cache.add_segment(piece(alloc, 3)?);
+        cache.add_segment(first);
+        cache.add_segment(second);
+        cache.add_segment(third);
+        cache.add_segment(fourth);
         cache.next_active();
         Ok(Trial { cache, rows })
-    }
-
-    pub(crate) fn cache(&self) -> &RowCache {
-        &self.cache
     }
 
     /// How many rows there are, and the live bytes.
@@ -127,6 +129,14 @@ impl Trial {
             return None;
         }
         Some(self.cache.compact())
+    }
+
+    /// The piece of the segment that has the greatest number. None where a guard stands, and where no segment is held.
+    pub(crate) fn give_up(&mut self) -> Option<Piece> {
+        if self.cache.guards() > 0 {
+            return None;
+        }
+        self.cache.give_up()
     }
 
     /// False where no guard stands.

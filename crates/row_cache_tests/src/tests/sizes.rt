@@ -1,7 +1,7 @@
 //! Rows of each size, and keys of each length.
 use super::steps::{Step, first_wrong};
 use super::trial::Trial;
-use crate::Put;
+use row_cache::Put;
 use std::alloc::{AllocError, Global};
 use std::test::Fail;
 
@@ -28,7 +28,9 @@ fn sizes_hold<'a>(trial: &mut Trial, bytes: &'a [u8]) -> Option<bool> {
 fn sizes_hold_in_two(alloc: Global) -> Result<Option<bool>, AllocError> {
     let bytes = Vec::from_elem(alloc, 200u8, 12_001)?;
     let mut trial = Trial::small(alloc)?;
-    Ok(sizes_hold(&mut trial, &bytes))
+    let hold = sizes_hold(&mut trial, &bytes);
+    drop(trial);
+    Ok(hold)
 }
 
 #[test]
@@ -79,7 +81,9 @@ fn fronts(alloc: Global) -> Result<(u32, u32, bool), AllocError> {
     let mut trial = Trial::new(alloc, 256)?;
     let stored = put_fronts(&mut trial, &key);
     let found = count_fronts(&trial, &key);
-    Ok((stored, found, two_go(&mut trial, &key)))
+    let two = two_go(&mut trial, &key);
+    drop(trial);
+    Ok((stored, found, two))
 }
 
 #[test]

@@ -1,5 +1,5 @@
 use Rattle.std.proofs.Common.{◌≡◌, [], length, ap, arith}
-use Rattle.row_cache.proofs.tests.trial.piece.Goals as goal
+use Rattle.row_cache_tests.proofs.tests.trial.piece.Goals as goal
 
 pub take-requires-clause-disjoint : goal.take-requires-clause-disjoint
 take-requires-clause-disjoint c k d w =

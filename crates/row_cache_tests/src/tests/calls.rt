@@ -1,9 +1,9 @@
 //! The replies of a row cache are those of a list of rows, through calls that are drawn at random.
 use super::list::List;
 use super::trial::Trial;
-use crate::Compacted;
 use rand_core::utils::NextWord;
 use rand_pcg::Lcg64Xsh32;
+use row_cache::Compacted;
 use std::alloc::{AllocError, Global};
 use std::test::Fail;
 
@@ -180,8 +180,11 @@ fn all_go(both: &mut Both) -> bool {
 fn replies(alloc: Global) -> Result<(Option<u32>, bool, bool), AllocError> {
     let mut both = Both::new(alloc)?;
     let mut random = Lcg64Xsh32::new(11, 1);
-    let unlike = first_unlike(alloc, &mut both, &mut random)?;
-    Ok((unlike, both.begun > 100, all_go(&mut both)))
+    let unlike = first_unlike(alloc, &mut both, &mut random);
+    let begun = both.begun > 100;
+    let all = all_go(&mut both);
+    drop(both);
+    Ok((unlike?, begun, all))
 }
 
 #[test]

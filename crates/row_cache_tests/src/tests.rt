@@ -1,13 +1,14 @@
 // Rows are stored, read, replaced and go in the order of their use.
 mod calls;
+mod first_row;
 mod list;
-pub(crate) mod moved;
+mod moved;
 mod scans;
 mod sizes;
 mod steps;
-pub(crate) mod trial;
+mod trial;
 
-use crate::{Compacted, Put};
+use row_cache::{Compacted, Put};
 use std::test::Fail;
 use steps::{Step, wrong_of_two};
 

@@ -1,7 +1,7 @@
 //! Rows are read as before where compaction moved them.
 use super::steps::{Step, first_wrong};
 use super::trial::Trial;
-use crate::{Compacted, Put};
+use row_cache::{Compacted, Put};
 use std::alloc::{AllocError, Global};
 use std::test::Fail;
 
@@ -77,14 +77,15 @@ fn stand_moved(alloc: Global, trial: &mut Trial) -> Result<bool, AllocError> {
 }
 
 /// Whether rows are read as before where compaction moved them, and the least recent one goes.
-fn moves(alloc: Global) -> Result<bool, AllocError> {
-    let mut trial = Trial::new(alloc, 20)?;
-    let moved = move_rows(alloc, &mut trial)?;
-    Ok(moved && trial.evict_last() == Some(1))
+fn move_rows(alloc: Global, trial: &mut Trial) -> Result<bool, AllocError> {
+    Ok(halve(alloc, trial)? && stand_moved(alloc, trial)? && trial.evict_last() == Some(1))
 }
 
-fn move_rows(alloc: Global, trial: &mut Trial) -> Result<bool, AllocError> {
-    Ok(halve(alloc, trial)? && stand_moved(alloc, trial)?)
+fn moves(alloc: Global) -> Result<bool, AllocError> {
+    let mut trial = Trial::new(alloc, 20)?;
+    let moved = move_rows(alloc, &mut trial);
+    drop(trial);
+    moved
 }
 
 #[test]

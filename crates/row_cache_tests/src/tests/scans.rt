@@ -1,6 +1,6 @@
 // Keys are scanned in the order of their bytes.
 use super::steps::{Step, wrong};
-use crate::Put;
+use row_cache::Put;
 use std::test::Fail;
 
 #[test]
