@@ -3,7 +3,5 @@
 
 mod bits;
 mod number_set;
-#[cfg(test)]
-mod tests;
 
 pub use number_set::NumberSet;

@@ -1,0 +1,183 @@
+//! What no clause says: that memory is found, what fixed numbers give, and that blocks come home in any order.
+ghost use Rattle.std.specs.Prelude.{◌≡◌, ◌≤◌, []};
+
+use foreign_list::{Foreign, ForeignBlock};
+use shard_memory::{GiveRefusal, ShardMemory, Share};
+use std::alloc::{AllocError, Global};
+use std::test::Fail;
+
+const OWNER: u32 = 3;
+
+const PAGES: u32 = 1280;
+
+// Whether no block of so many bytes is lent, for this reason.
+fn refuses(memory: &mut ShardMemory<'_>, size: u32, share: Share, refusal: GiveRefusal) -> bool
+    requires { 1 ≤ size }
+{
+    memory.give(size, share).err() == Some(refusal)
+}
+
+// Whether blocks are lent with these tickets, in this order. They are not released.
+fn lends(memory: &mut ShardMemory<'_>, share: Share, from: u32, to: u32) -> bool {
+    for ticket in from..to {
+        let given = memory.give(16, share).map(|block| block.ticket()).ok();
+        if given != Some(ticket) {
+            return false;
+        }
+    }
+    true
+}
+
+fn has_shares(memory: &mut ShardMemory<'_>) -> bool {
+    refuses(memory, 16_385, Share::Request, GiveRefusal::TooLarge)
+        && lends(memory, Share::Request, 0, 8)
+        && refuses(memory, 16, Share::Request, GiveRefusal::NoTicket)
+        && !memory.is_idle(Share::Request)
+        && memory.is_idle(Share::Reply)
+        && lends(memory, Share::Reply, 8, 9)
+        && (memory.lent(), memory.back(), memory.pages_out()) == (9, 0, 1)
+}
+
+#[test]
+fn each_share_has_tickets_of_its_own(rt: HostRuntime) -> Result<(), Fail> {
+    let (home, seat) = Foreign::new(rt.alloc(), OWNER)?;
+    let Ok(mut memory) = ShardMemory::open(rt.alloc(), OWNER, PAGES, &home, seat) else {
+        return Err(AllocError.into());
+    };
+    assert!(rt; has_shares(&mut memory));
+    Ok(())
+}
+
+// How many segments are given until none is left, up to a hundred.
+fn segments(memory: &mut ShardMemory<'_>) -> u32 {
+    for given in 0..100 {
+        if memory.give_segment().is_none() {
+            return given;
+        }
+    }
+    100
+}
+
+fn is_filled(memory: &mut ShardMemory<'_>) -> bool {
+    segments(memory) == 40
+        && refuses(memory, 16, Share::Reply, GiveRefusal::NoSpan)
+        && memory.pages_out() == PAGES
+}
+
+#[test]
+fn where_segments_fill_the_pages_no_block_is_lent(rt: HostRuntime) -> Result<(), Fail> {
+    let (home, seat) = Foreign::new(rt.alloc(), OWNER)?;
+    let Ok(mut memory) = ShardMemory::open(rt.alloc(), OWNER, PAGES, &home, seat) else {
+        return Err(AllocError.into());
+    };
+    assert!(rt; is_filled(&mut memory));
+    Ok(())
+}
+
+// Lends a block with each idle ticket of the share.
+fn lend_all<'f>(
+    memory: &mut ShardMemory<'f>,
+    share: Share,
+    blocks: &mut Vec<ForeignBlock<'f>>,
+) -> Result<(), AllocError>
+    ensures kept { (memory.new.blocks ≡ memory.old.blocks) × (memory.new.segments ≡ memory.old.segments) × (memory.new.list ≡ memory.old.list) }
+{
+    for n in 1..33 {
+        let Ok(block) = memory.give(500 * n, share) else {
+            return Ok(());
+        };
+        blocks.push(block)?;
+    }
+    Ok(())
+}
+
+// Releases 16 blocks, those in the middle first.
+fn release_half(blocks: &mut Vec<ForeignBlock<'_>>) {
+    for _ in 0..16 {
+        if blocks.is_empty() {
+            return;
+        }
+        let middle = blocks.len() / 2;
+        let _ = blocks.swap_remove(middle).release();
+    }
+}
+
+// Lends all blocks, and takes back one half and then the other. False where there is no memory, or a number is not right.
+fn come_home(memory: &mut ShardMemory<'_>, alloc: Global) -> bool
+    ensures kept { (memory.new.blocks ≡ memory.old.blocks) × (memory.new.segments ≡ memory.old.segments) × (memory.new.list ≡ memory.old.list) }
+{
+    let mut blocks = Vec::new(alloc);
+    if lend_all(memory, Share::Request, &mut blocks).is_err()
+        || lend_all(memory, Share::Reply, &mut blocks).is_err()
+    {
+        return false;
+    }
+    let lent = (blocks.len(), memory.tickets_out());
+    release_half(&mut blocks);
+    let half = (memory.lent(), memory.back(), memory.take_back());
+    let rest = (memory.back(), memory.tickets_out(), memory.take_back());
+    release_half(&mut blocks);
+    drop(blocks);
+    let all = (memory.take_back(), memory.lent(), memory.back());
+    memory.trim();
+    let right = lent == (32, 32) && half == (32, 0, 16) && rest == (16, 16, 0);
+    right && all == (16, 32, 32) && memory.pages_out() == 0
+}
+
+#[test]
+fn all_blocks_come_home_in_any_order(rt: HostRuntime) -> Result<(), Fail> {
+    let (home, seat) = Foreign::new(rt.alloc(), OWNER)?;
+    let Ok(mut memory) = ShardMemory::open(rt.alloc(), OWNER, PAGES, &home, seat) else {
+        return Err(AllocError.into());
+    };
+    let right = come_home(&mut memory, rt.alloc());
+    assert!(rt; right && memory.tickets_out() == 0);
+    let seat = memory.finish();
+    home.close(seat);
+    Ok(())
+}
+
+// Whether a block that was given and came back leaves its page to trim.
+fn leaves_a_page(memory: &mut ShardMemory<'_>) -> bool
+    requires none { memory.old.blocks ≡ [] }
+    ensures kept { (memory.new.blocks ≡ []) × (memory.new.segments ≡ memory.old.segments) × (memory.new.list ≡ memory.old.list) }
+{
+    let Ok(block) = memory.give_here(100) else {
+        return false;
+    };
+    let given = (block.len(), block.owner());
+    memory.back_here(block);
+    let held = memory.pages_out();
+    memory.trim();
+    given == (100, OWNER) && (held, memory.pages_out()) == (1, 0)
+}
+
+// Whether a segment that was given and came back leaves no page.
+fn leaves_no_page(memory: &mut ShardMemory<'_>) -> bool
+    requires none { memory.old.segments ≡ [] }
+    ensures kept { (memory.new.blocks ≡ memory.old.blocks) × (memory.new.segments ≡ []) × (memory.new.list ≡ memory.old.list) }
+{
+    let Some(segment) = memory.give_segment() else {
+        return false;
+    };
+    let given = (segment.len(), memory.pages_out());
+    memory.segment_back(segment);
+    given == (131_072, 32) && memory.pages_out() == 0
+}
+
+#[test]
+fn what_stays_leaves_its_pages_to_trim(rt: HostRuntime) -> Result<(), Fail> {
+    let (home, seat) = Foreign::new(rt.alloc(), OWNER)?;
+    let mut memory = match ShardMemory::open(rt.alloc(), OWNER, PAGES, &home, seat) {
+        Ok(memory) => memory,
+        Err(seat) => {
+            home.close(seat);
+            return Err(AllocError.into());
+        }
+    };
+    let right = leaves_a_page(&mut memory) && leaves_no_page(&mut memory);
+    assert!(rt; right && memory.tickets_out() == 0);
+    let seat = memory.finish();
+    home.close(seat);
+    Ok(())
+}
