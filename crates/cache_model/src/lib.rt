@@ -19,6 +19,3 @@ pub use law::{
     replies_hold_what_was_put, scanned_keys_are_in_order, sorted_keys_are_in_order,
 };
 pub use reply_kind::ReplyKind;
-
-#[cfg(test)]
-mod tests;

@@ -7,8 +7,6 @@ ghost use Rattle.std.specs.Prelude.{◌≡◌, ◌++◌, ◌≤◌, codes, decim
 ghost use Rattle.made_trace.specs.Made.{made, made_line, behind_line, kind_of, key_of, value_of, count_of, command_text, behind_command, word, behind, letter};
 
 mod line;
-#[cfg(test)]
-mod tests;
 
 use crate::line::push_line;
 use rand_pcg::Lcg64Xsh32;

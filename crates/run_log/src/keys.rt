@@ -1,12 +1,12 @@
 //! The keys of a body of keys.
 ghost use Rattle.std.specs.Int.{w16, from_le_bytes};
-ghost use Rattle.std.specs.Prelude.{◌≡◌, ℕ, ◌+◌, ◌^◌, ◌<◌, ◌≤◌, ◌↔◌, List, [], ◌∷◌, ◌++◌, length, map, take, flat_map, replicate, vec_len, All, IsNone, IfNone, IfSome, OnOk, OnErr};
+ghost use Rattle.std.specs.Prelude.{◌≡◌, ℕ, ◌+◌, ◌^◌, ◌<◌, ◌≤◌, ◌↔◌, List, [], ◌∷◌, ◌++◌, length, map, take, flat_map, vec_len, All, IsNone, IfNone, IfSome, OnOk, OnErr};
 ghost use Rattle.layout.specs.Sizes.{greatest_key};
 ghost use Rattle.trace_text.specs.Operation.{part};
 ghost use Rattle.cache_model.specs.KeyBody.{AreKeys, AreKeysAt};
 ghost use Rattle.cache_model.specs.Spelled.{key_field};
 
-use std::alloc::{AllocError, Global};
+use std::alloc::AllocError;
 use trace_text::Span;
 
 /// The first key of a body of keys, and the body of the other keys; None where there is no key.
@@ -81,57 +81,4 @@ pub fn append_keys(body: &mut Vec<u8>, keys: &[&[u8]]) -> Result<(), AllocError>
         append_key(body, key)?;
     }
     Ok(())
-}
-
-#[cfg(test)]
-mod tests {
-    use super::*;
-    use std::alloc::{AllocError, Global};
-    use std::test::Fail;
-
-    /// Where each key of a body stands.
-    fn spans_of(alloc: Global, body: &[u8]) -> Result<Vec<Span>, AllocError>
-        requires keys { (keys : List (List ℕ)) × AreKeysAt body.now 0 keys }
-        requires short { length body.now < 2 ^ 32 }
-    {
-        let mut spans = Vec::new(alloc);
-        let mut at = 0;
-        while let Some(span) = next_key(body, at) {
-            spans.push(span)?;
-            at = span.start + span.len;
-        }
-        Ok(spans)
-    }
-
-    /// The body of one key of 256 letters k.
-    fn long_key() -> [u8; 258]
-        ensures { result ≡ 0 ∷ 1 ∷ replicate 256 107 }
-    {
-        let mut body = [b'k'; 258];
-        body[0] = 0;
-        body[1] = 1;
-        body
-    }
-
-    #[test]
-    fn keys_stand_behind_their_lengths(rt: HostRuntime) -> Result<(), Fail> {
-        let spans = spans_of(rt.alloc(), b"\x02\0ab\x01\0c")?;
-        assert!(rt;
-            spans.as_slice() == [Span { start: 2, len: 2 }, Span { start: 6, len: 1 }].as_slice()
-        );
-        Ok(())
-    }
-
-    #[test]
-    fn an_empty_body_has_no_key(rt: HostRuntime) -> Result<(), Fail> {
-        assert!(rt; spans_of(rt.alloc(), b"")?.is_empty());
-        Ok(())
-    }
-
-    #[test]
-    fn a_length_has_a_high_byte(rt: HostRuntime) -> Result<(), Fail> {
-        let spans = spans_of(rt.alloc(), &long_key())?;
-        assert!(rt; spans.as_slice() == [Span { start: 2, len: 256 }].as_slice());
-        Ok(())
-    }
 }

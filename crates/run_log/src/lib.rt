@@ -9,6 +9,3 @@ mod reply_log;
 pub use journal::Journal;
 pub use keys::{append_keys, next_key};
 pub use reply_log::ReplyLog;
-
-#[cfg(test)]
-mod tests;
