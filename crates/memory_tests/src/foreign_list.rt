@@ -144,7 +144,7 @@ fn a_head_that_came_again_is_the_one_expected(rt: HostRuntime) -> Result<(), Fai
     drop(release(&rt, a));
     let b = b.begin();
     list.take_whole(&mut seat);
-    let back = list.next_back(&mut seat).ok_or("none came home")?;
+    let back = list.next_back(&mut seat).expect(&rt, "none came home");
     assert_eq!(rt; back.ticket, 0);
     assert!(rt; list.next_back(&mut seat).is_none());
     assert!(rt; seat.is_idle(0) && back.piece.owner() == OWNER);
@@ -230,17 +230,18 @@ fn give_back<'f, R: Wait>(rt: &R, block: ForeignBlock<'f>) -> Released<'f> {
 #[test]
 fn two_threads_give_back_at_once(rt: HostRuntime) -> Result<(), Fail> {
     let alloc = rt.alloc();
+    let pieces = (piece_of(alloc, OWNER)?, piece_of(alloc, OWNER)?);
     let (list, mut seat) = Foreign::new(alloc, OWNER)?;
-    let mut a = list.lend(&mut seat, 0, piece_of(alloc, OWNER)?);
-    let b = list.lend(&mut seat, 8, piece_of(alloc, OWNER)?);
+    let mut a = list.lend(&mut seat, 0, pieces.0);
+    let b = list.lend(&mut seat, 8, pieces.1);
     a.bytes_mut().fill(7);
     let (a, b) = thread::join(&rt, || give_back(&rt, a), || give_back(&rt, b));
     let mut tally = Tally::new();
     tally.add(a);
     tally.add(b);
     list.take_whole(&mut seat);
-    let first = list.next_back(&mut seat).ok_or("none came home")?;
-    let second = list.next_back(&mut seat).ok_or("one came home")?;
+    let first = list.next_back(&mut seat).expect(&rt, "none came home");
+    let second = list.next_back(&mut seat).expect(&rt, "one came home");
     assert!(rt; seat.is_idle(0) && seat.is_idle(8) && tally.count() == 2);
     let written = if first.ticket == 0 {
         first.piece
