@@ -8,8 +8,6 @@
 
 mod descriptor;
 mod log;
-#[cfg(test)]
-mod tests;
 mod walking;
 
 pub use descriptor::{Descriptor, content_extent, read_descriptor};

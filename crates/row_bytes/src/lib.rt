@@ -6,8 +6,6 @@
 
 mod law;
 mod reading;
-#[cfg(test)]
-mod tests;
 mod writing;
 
 pub use law::a_row_is_read_as_it_is_written;

@@ -1,2 +1,0 @@
-mod Live
-mod Named

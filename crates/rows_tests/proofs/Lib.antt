@@ -1,0 +1,4 @@
+pub mod Found
+mod Live
+mod Named
+pub mod Placed

@@ -1,0 +1,292 @@
+//! Tests of `key_index`: kinds of keys and orders of insertion, against a sorted vector.
+ghost use Rattle.std.specs.Prelude.{◌≡◌, ℕ, ◌<◌, ◌≤◌, length};
+ghost use Rattle.key_index.specs.Index.{IsIndexOf};
+
+use key_index::{KeyIndex, Keys};
+use std::alloc::{AllocError, Global};
+use std::test::Fail;
+
+/// Keys by row.
+#[derive(Drop)]
+struct Shelf {
+    keys: Vec<Vec<u8>>,
+}
+
+impl Keys for Shelf {
+    ghost use Rattle.std.specs.List.{flat_map};
+    ghost use Rattle.std.specs.Prelude.{ℕ, ◌<◌, length, take, drop};
+
+    ghost has_row = { λ shelf row. row < length shelf.keys.items };
+
+    ghost key_of = { λ shelf row. flat_map (λ key. key.items) (take 1 (drop row shelf.keys.items)) };
+
+    fn key(&self, row: u32) -> &[u8] {
+        self.keys[row as usize].as_slice()
+    }
+}
+
+/// Puts a row in, if its key is not there and there is room.
+fn insert_row<K: Keys>(index: &mut KeyIndex, keys: &K, row: u32)
+    requires index { IsIndexOf (K.has_row keys.now) (K.key_of keys.now) index.old }
+    requires readable { K.has_row keys.now row }
+    ensures { IsIndexOf (K.has_row keys.now) (K.key_of keys.now) index.new }
+{
+    if index.len() >= index.room() {
+        return;
+    }
+    let Err(place) = index.search(keys, keys.key(row)) else {
+        return;
+    };
+    index.insert_at(keys, place, row);
+}
+
+/// Puts rows in.
+fn fill<K: Keys>(index: &mut KeyIndex, keys: &K, rows: u32)
+    requires index { IsIndexOf (K.has_row keys.now) (K.key_of keys.now) index.old }
+    requires readable { (row : ℕ) → row < rows → K.has_row keys.now row }
+    ensures { IsIndexOf (K.has_row keys.now) (K.key_of keys.now) index.new }
+{
+    for row in 0..rows {
+        insert_row(index, keys, row);
+    }
+}
+
+/// Takes a row out, but each third.
+fn remove_row<K: Keys>(index: &mut KeyIndex, keys: &K, row: u32)
+    requires index { IsIndexOf (K.has_row keys.now) (K.key_of keys.now) index.old }
+    requires readable { K.has_row keys.now row }
+    ensures { IsIndexOf (K.has_row keys.now) (K.key_of keys.now) index.new }
+{
+    if row % 3 == 0 {
+        return;
+    }
+    index.remove(keys, keys.key(row));
+}
+
+/// Takes two of three rows out.
+fn thin<K: Keys>(index: &mut KeyIndex, keys: &K, rows: u32)
+    requires index { IsIndexOf (K.has_row keys.now) (K.key_of keys.now) index.old }
+    requires readable { (row : ℕ) → row < rows → K.has_row keys.now row }
+    ensures { IsIndexOf (K.has_row keys.now) (K.key_of keys.now) index.new }
+{
+    for row in 0..rows {
+        remove_row(index, keys, row);
+    }
+}
+
+/// Whether the rows from a key on are those of a list from its first such key on.
+fn lists<K: Keys>(index: &KeyIndex, keys: &K, wanted: &[(Vec<u8>, u32)], from: &[u8]) -> bool
+    requires { IsIndexOf (K.has_row keys.now) (K.key_of keys.now) index.now }
+{
+    let mut rows = index.rows_from(keys, from);
+    for (key, row) in wanted {
+        if key.as_slice() >= from && rows.next() != Some(*row) {
+            return false;
+        }
+    }
+    rows.next().is_none()
+}
+
+/// Whether each row of a list is found, and there are no more.
+fn finds<K: Keys>(index: &KeyIndex, keys: &K, wanted: &[(Vec<u8>, u32)]) -> bool
+    requires { IsIndexOf (K.has_row keys.now) (K.key_of keys.now) index.now }
+{
+    for (key, row) in wanted {
+        if index.find(keys, key.as_slice()) != Some(*row) {
+            return false;
+        }
+    }
+    index.len() as usize == wanted.len()
+}
+
+/// A key that ends with a number.
+fn numbered(alloc: Global, byte: u8, count: usize, number: u32) -> Result<Vec<u8>, AllocError> {
+    let mut key = Vec::new(alloc);
+    for _ in 0..count {
+        key.push(byte)?;
+    }
+    let high = (number / 100 % 100) as u8;
+    let low = (number % 100) as u8;
+    key.extend_from_slice([
+        b'0' + high / 10,
+        b'0' + high % 10,
+        b'0' + low / 10,
+        b'0' + low % 10,
+    ]
+    .as_slice())?;
+    Ok(key)
+}
+
+/// A key that repeats a byte.
+fn repeated(alloc: Global, first: u8, byte: u8, count: u32) -> Result<Vec<u8>, AllocError> {
+    let mut key = Vec::new(alloc);
+    key.push(first)?;
+    for _ in 0..count {
+        key.push(byte)?;
+    }
+    Ok(key)
+}
+
+/// The key of a kind with a number below 401.
+fn key_of(alloc: Global, kind: u32, number: u32) -> Result<Vec<u8>, AllocError> {
+    match kind {
+        // short, with 12 and with 200 bytes in common, of 256 bytes
+        0 => numbered(alloc, b'k', 1, number),
+        1 => numbered(alloc, b'k', 12, number),
+        2 => numbered(alloc, b'k', 200, number),
+        3 => numbered(alloc, 255, 252, number),
+        // with one of two prefixes
+        4 => numbered(alloc, if number % 2 == 0 { b'a' } else { b'b' }, 13, number),
+        // one the beginning of another, with bytes that stand for those that are lacking
+        5 => repeated(alloc, b'a', b'a', number),
+        6 => repeated(alloc, b'a', 0, number),
+        // bytes above 127
+        _ => {
+            let mut key = repeated(alloc, 200, 255, number % 3)?;
+            key.push((number % 256) as u8)?;
+            Ok(key)
+        }
+    }
+}
+
+const ROWS: u32 = 401;
+
+/// Keys of a kind, in an order.
+fn shelf_of(alloc: Global, kind: u32, order: u32) -> Result<Shelf, AllocError> {
+    let mut keys = Vec::new(alloc);
+    for row in 0..ROWS {
+        let number = match order {
+            0 => row,
+            1 => ROWS - 1 - row,
+            _ => row * 97 % ROWS,
+        };
+        keys.push(key_of(alloc, kind, number)?)?;
+    }
+    Ok(Shelf { keys })
+}
+
+/// The keys and rows of a shelf, or each third of them, in order.
+fn sorted(alloc: Global, shelf: &Shelf, step: usize) -> Result<Vec<(Vec<u8>, u32)>, AllocError> {
+    let mut sorted = Vec::new(alloc);
+    let mut number: u32 = 0;
+    for (row, key) in shelf.keys.iter().enumerate() {
+        if row % step.max(1) == 0 {
+            sorted.push((key.clone()?, number))?;
+        }
+        number = number.wrapping_add(1);
+    }
+    sorted.sort()?;
+    Ok(sorted)
+}
+
+const STARTS: [&[u8]; 7] = [
+    b"",
+    b"aaa",
+    b"a\0\0\0",
+    b"b",
+    b"kkkkkkkkkkkk03",
+    b"z",
+    b"\xc8\xff",
+];
+
+/// Whether the rows from each of some keys on are those of a list.
+fn agrees<K: Keys>(index: &KeyIndex, keys: &K, wanted: &[(Vec<u8>, u32)]) -> bool
+    requires { IsIndexOf (K.has_row keys.now) (K.key_of keys.now) index.now }
+{
+    for start in STARTS {
+        if !lists(index, keys, wanted, start) {
+            return false;
+        }
+    }
+    finds(index, keys, wanted)
+}
+
+/// Whether an index of keys of a kind agrees with a sorted vector: filled in an order, thinned and filled again.
+fn is_right(alloc: Global, kind: u32, order: u32) -> Result<bool, AllocError> {
+    let shelf = shelf_of(alloc, kind, order)?;
+    let all = sorted(alloc, &shelf, 1)?;
+    let thirds = sorted(alloc, &shelf, 3)?;
+    if shelf.keys.len() > 10_000 {
+        return Ok(false);
+    }
+    let rows = shelf.keys.len() as u32;
+    let mut index = KeyIndex::new(alloc, rows)?;
+    fill(&mut index, &shelf, rows);
+    if !agrees(&index, &shelf, &all) {
+        return Ok(false);
+    }
+    thin(&mut index, &shelf, rows);
+    if !agrees(&index, &shelf, &thirds) {
+        return Ok(false);
+    }
+    fill(&mut index, &shelf, rows);
+    Ok(agrees(&index, &shelf, &all))
+}
+
+#[test]
+fn rows_are_in_the_order_of_a_sorted_vector(rt: HostRuntime) -> Result<(), Fail> {
+    for kind in 0..8 {
+        for order in 0..3 {
+            assert!(rt;
+                is_right(rt.alloc(), kind, order)?,
+                "kind {kind} order {order}"
+            );
+        }
+    }
+    Ok(())
+}
+
+/// The keys and rows of the first rows of a shelf, in order.
+fn sorted_first(
+    alloc: Global,
+    shelf: &Shelf,
+    rows: u32,
+) -> Result<Vec<(Vec<u8>, u32)>, AllocError> {
+    let mut sorted = Vec::new(alloc);
+    let mut number: u32 = 0;
+    for key in &shelf.keys {
+        if number < rows {
+            sorted.push((key.clone()?, number))?;
+        }
+        number = number.wrapping_add(1);
+    }
+    sorted.sort()?;
+    Ok(sorted)
+}
+
+/// Whether an index takes as many rows as it has room for, and no more.
+fn is_filled(alloc: Global, room: u32, order: u32) -> Result<bool, AllocError> {
+    let shelf = shelf_of(alloc, 1, order)?;
+    let wanted = sorted_first(alloc, &shelf, room)?;
+    if shelf.keys.len() > 10_000 {
+        return Ok(false);
+    }
+    let rows = shelf.keys.len() as u32;
+    let mut index = KeyIndex::new(alloc, room)?;
+    fill(&mut index, &shelf, rows);
+    Ok(index.len() == room && index.room() == room && agrees(&index, &shelf, &wanted))
+}
+
+#[test]
+fn as_many_rows_as_there_is_room_for(rt: HostRuntime) -> Result<(), Fail> {
+    for room in [1, 2, 128, 129, 256, 257, 258, 400] {
+        for order in 0..3 {
+            assert!(rt;
+                is_filled(rt.alloc(), room, order)?,
+                "room {room} order {order}"
+            );
+        }
+    }
+    Ok(())
+}
+
+#[test]
+fn an_index_with_room_for_no_row(rt: HostRuntime) -> Result<(), Fail> {
+    let shelf = shelf_of(rt.alloc(), 0, 0)?;
+    let mut index = KeyIndex::new(rt.alloc(), 0)?;
+    assert!(rt; index.room() == 0 && index.len() == 0);
+    assert!(rt; index.find(&shelf, b"k0000").is_none());
+    assert!(rt; index.remove(&shelf, b"k0000").is_none());
+    assert!(rt; index.rows_from(&shelf, b"").next().is_none());
+    Ok(())
+}
