@@ -3,6 +3,6 @@
 #![tactic(auto)]
 
 #[cfg(test)]
-mod link_tests;
+mod links;
 #[cfg(test)]
-mod tests;
+mod messages;

@@ -1,5 +1,5 @@
 use Rattle.shard_rings_tests.proofs.TwoEnds.{are_pair, popped}
-use Rattle.shard_rings_tests.proofs.link_tests.close_two.Goals as goal
+use Rattle.shard_rings_tests.proofs.links.close_two.Goals as goal
 
 pub close_pair-requires : goal.close_pair-requires
 close_pair-requires c =
