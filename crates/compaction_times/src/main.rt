@@ -13,7 +13,7 @@ mod rows;
 mod segments;
 
 use layout::{GREATEST_VALUE, MOST_PAGES, SEGMENT, SEGMENT_PAGES};
-use places::{count_moved, places_of};
+use places::{count_moved, note_places};
 use row_bytes::row_size;
 use rows::{erase_some, fill, key_of};
 use segments::{compact_all, new_cache};
@@ -45,20 +45,22 @@ fn main(rt: HostRuntime) -> io::Result<()> {
         .saturating_mul(in_segment.unwrap_or(0))
         .min(MOST_ROWS);
 
+    let compared = number_of(words.get(5)).min(rows);
+    let mut before = Vec::with_capacity(rt.alloc(), compared as usize)?;
     let mut cache = new_cache(rt.alloc(), rows, segments)?;
     fill(&mut cache, value.as_slice(), rows);
     let put = cache.rows();
     erase_some(&mut cache, rows, number_of(words.get(3)));
-    let compared = number_of(words.get(5)).min(rows);
-    let before = places_of(rt.alloc(), &cache, compared)?;
+    note_places(&cache, compared, &mut before);
     let taken = if number_of(words.get(4)) == 1 {
         compact_all(&mut cache, segments)
     } else {
         0
     };
     let moved = count_moved(&cache, before.as_slice());
+    let stayed = cache.rows();
+    drop(cache);
     println!(rt;
-        "put {put} stayed {} taken {taken} compared {compared} moved {moved}",
-        cache.rows()
+        "put {put} stayed {stayed} taken {taken} compared {compared} moved {moved}"
     )
 }

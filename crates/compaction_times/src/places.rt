@@ -2,19 +2,12 @@
 use crate::rows::key_of;
 use regions::Place;
 use row_cache::RowCache;
-use std::alloc::{AllocError, Global};
 
-/// Where each of so many rows stands, by number. None where it was erased.
-pub fn places_of(
-    alloc: Global,
-    cache: &RowCache,
-    rows: u32,
-) -> Result<Vec<Option<Place>>, AllocError> {
-    let mut places = Vec::with_capacity(alloc, rows as usize)?;
+/// Notes where each of so many rows stands, by number; none where it was erased. There is room for them.
+pub fn note_places(cache: &RowCache, rows: u32, places: &mut Vec<Option<Place>>) {
     for row in 0..rows {
-        places.push(cache.place_of(key_of(u64::from(row)).as_slice()))?;
+        let _ = places.push(cache.place_of(key_of(u64::from(row)).as_slice()));
     }
-    Ok(places)
 }
 
 /// How many rows stand elsewhere than before.

@@ -5,13 +5,13 @@ ghost use Rattle.pool_pairs.specs.Live.{AreLive};
 use crate::rounds::{Drawn, draw};
 use small_pools::Pools;
 use span_lists::Spans;
-use std::alloc::AllocError;
+use std::alloc::{AllocError, Global};
 
 /// The classes of these objects, all of them of at most 1,024 bytes.
 const CLASSES: u32 = 21;
 
 /// Takes objects until there are so many.
-pub fn fill(
+fn fill(
     pools: &mut Pools,
     spans: &mut Spans,
     live: &mut Vec<u32>,
@@ -54,7 +54,7 @@ fn replace(pools: &mut Pools, spans: &mut Spans, live: &mut Vec<u32>, index: usi
 }
 
 /// Replaces objects at random so many times.
-pub fn replace_many(
+fn replace_many(
     pools: &mut Pools,
     spans: &mut Spans,
     live: &mut Vec<u32>,
@@ -76,4 +76,20 @@ pub fn replace_many(
         replace(pools, spans, live, index, class);
     }
     drawn
+}
+
+/// Takes so many objects, and then replaces some of them at random so many times.
+pub fn fill_and_replace(
+    alloc: Global,
+    pools: &mut Pools,
+    spans: &mut Spans,
+    objects: u32,
+    replacements: u32,
+    drawn: Drawn,
+) -> Result<Drawn, AllocError>
+    requires held { AreHeldIn pools.old spans.old }
+{
+    let mut live = Vec::with_capacity(alloc, objects as usize)?;
+    let drawn = fill(pools, spans, &mut live, objects, drawn)?;
+    Ok(replace_many(pools, spans, &mut live, replacements, drawn))
 }

@@ -10,7 +10,7 @@
 mod live;
 mod rounds;
 
-use live::{fill, replace_many};
+use live::fill_and_replace;
 use rounds::{Drawn, play};
 use small_pools::Pools;
 use span_lists::Spans;
@@ -36,13 +36,17 @@ fn main(rt: HostRuntime) -> io::Result<()> {
     let replacements = number_of(words.get(3));
     let mut spans = Spans::new(rt.alloc(), PAGES)?;
     let mut pools = Pools::new(rt.alloc(), PAGES)?;
-    let mut live = Vec::with_capacity(rt.alloc(), objects as usize)?;
     let drawn = play(&mut pools, &mut spans, rounds, Drawn::new());
-    let drawn = fill(&mut pools, &mut spans, &mut live, objects, drawn)?;
-    let drawn = replace_many(&mut pools, &mut spans, &mut live, replacements, drawn);
-    let pairs = u64::from(rounds) * 32;
-    println!(rt;
-        "pairs {pairs} replacements {replacements} classes {}",
-        drawn.sum()
-    )
+    let drawn = fill_and_replace(
+        rt.alloc(),
+        &mut pools,
+        &mut spans,
+        objects,
+        replacements,
+        drawn,
+    );
+    drop(pools);
+    drop(spans);
+    let (pairs, sum) = (u64::from(rounds) * 32, drawn?.sum());
+    println!(rt; "pairs {pairs} replacements {replacements} classes {sum}")
 }
