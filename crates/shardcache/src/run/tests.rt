@@ -157,20 +157,23 @@ fn is_the_same(
     run: &Run,
 ) -> Result<bool, AllocError> {
     let (journals, logs) = (run.ran.journals(), run.ran.logs());
+    let (Some(journal), Some(line)) = (journals.get(shard as usize), run.lines.get(shard as usize))
+    else {
+        return Ok(false);
+    };
+    let plain = Plain::new(alloc, PAGES)?;
     let mut judge = Judge {
         trace,
         shards,
         shard,
         firsts,
         logs,
-        plain: Plain::new(alloc, PAGES)?,
+        plain,
     };
-    let (Some(journal), Some(line)) = (journals.get(shard as usize), run.lines.get(shard as usize))
-    else {
-        return Ok(false);
-    };
-    let accepted = judge.accepts(alloc, journal.entries())?;
-    Ok(accepted && judge.plain.rows() == line.rows && judge.plain.live() == line.live)
+    let accepted = judge.accepts(alloc, journal.entries());
+    let held = (judge.plain.rows(), judge.plain.live());
+    drop(judge);
+    Ok(accepted? && held == (line.rows, line.live))
 }
 
 /// The same of every shard.
@@ -208,7 +211,9 @@ fn runs_the_same<R: Threads + Wait + Sync>(
     requires { shards ≡ trace.now.shards }
 {
     let run = run_trace(rt, alloc, trace, shards, PAGES, order, &OpenGates)?;
-    Ok((shards > 1 || evictions(&run) > 500) && are_the_same(alloc, trace, shards, &run)?)
+    let (evicted, same) = (evictions(&run), are_the_same(alloc, trace, shards, &run));
+    drop(run);
+    Ok((shards > 1 || evicted > 500) && same?)
 }
 
 #[test]

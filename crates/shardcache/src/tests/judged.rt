@@ -153,17 +153,21 @@ fn done_by(
         ([journal, _, line, _], 0) | ([_, journal, _, line], 1) => (journal, line),
         _ => return Ok(None),
     };
+    let plain = Plain::new(alloc, 1280)?;
     let mut judge = Judge {
         trace,
         shard,
         replies,
-        plain: Plain::new(alloc, 1280)?,
+        plain,
         last: [0, 0],
         commands: 0,
         evictions: 0,
     };
-    let legal = judge.accepts_all(alloc, journal)? && judge.is_at_its_end(alloc, line)?;
-    Ok((legal && judge.evictions > 0).then_some(judge.commands))
+    let accepted = judge.accepts_all(alloc, journal);
+    let ends = judge.is_at_its_end(alloc, line);
+    let (evictions, commands) = (judge.evictions, judge.commands);
+    drop(judge);
+    Ok((accepted? && ends? && evictions > 0).then_some(commands))
 }
 
 /// Whether a report is legal for both shards, which together did each command once.

@@ -71,6 +71,7 @@ fn run_by_schedule<'f>(
         return None;
     };
     if !follow(nodes.as_mut_slice()) {
+        drop(nodes);
         return None;
     }
     let (run, _) = end_run(trace, nodes, remains, lines);
@@ -96,7 +97,11 @@ fn report_by_schedule(alloc: Global, lines: &[u8]) -> Result<Vec<u8>, Fail>
     let trace = parse(alloc, bytes, 2).ok().ok_or("refused")?;
     let (homes, seats) = open_lists(alloc, 2)?;
     match run_by_schedule(alloc, &trace, homes.as_slice(), seats) {
-        Some(run) => Ok(report_of(alloc, &trace, &run)?),
+        Some(run) => {
+            let report = report_of(alloc, &trace, &run);
+            drop(run);
+            Ok(report?)
+        }
         None => Ok(Vec::new(alloc)),
     }
 }
