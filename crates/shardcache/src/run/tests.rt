@@ -28,11 +28,19 @@ enum Lengths {
     Random,
 }
 
+fn alternating(number: u32) -> u32 {
+    if number % 2 == 0 { 200 } else { 12_000 }
+}
+
+fn random_of(word: u32) -> u32 {
+    word % 12_001
+}
+
 fn length_of(lengths: Lengths, number: u32, word: u32) -> u32 {
     match lengths {
         Lengths::One => 1_000,
-        Lengths::Alternating => { if number % 2 == 0 { 200 } else { 12_000 } }
-        Lengths::Random => word % 12_001,
+        Lengths::Alternating => alternating(number),
+        Lengths::Random => random_of(word),
     }
 }
 
