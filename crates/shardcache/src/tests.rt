@@ -80,7 +80,8 @@ fn says<R: Threads + Wait + Sync>(
     text: &[u8],
 ) -> Result<bool, AllocError> {
     let (status, written) = answer(rt, alloc, words, input, &[], 4096)?;
-    Ok(status == wanted && written.as_slice() == text)
+    let same = written.as_slice() == text;
+    Ok(same && status == wanted)
 }
 
 #[test]

@@ -95,8 +95,17 @@ fn are_in_order(numbers: &[u32]) -> bool {
     numbers.len() == 1000
 }
 
-/// What stands around the entries of shard 12 in the report of 1,000 gets of `a`, which nobody put, on 16 shards: the first eight
-/// issued 63 of them, the others 62, and shard 12 answered all but its own.
+/// How many blocks a shard of 16 lent where shard 12 answers 1,000 gets: the first eight issued 63 of them, the others 62, and
+/// shard 12 answered all but its own.
+fn lent_by(shard: u32) -> u32 {
+    match shard {
+        12 => 938,
+        0..=7 => 63,
+        _ => 62,
+    }
+}
+
+/// What stands around the entries of shard 12 in the report of 1,000 gets of `a`, which nobody put, on 16 shards.
 fn around_the_entries(alloc: Global) -> Result<(Vec<u8>, Vec<u8>), AllocError> {
     let mut before = Vec::new(alloc);
     answers(alloc, &mut before, 1, 1000, "missing")?;
@@ -107,11 +116,7 @@ fn around_the_entries(alloc: Global) -> Result<(Vec<u8>, Vec<u8>), AllocError> {
     before.extend_from_slice(b"journal 12 ")?;
     behind.extend_from_slice(b"\njournal 13\njournal 14\njournal 15\n")?;
     for shard in 0..16 {
-        let lent = match shard {
-            12 => 938,
-            0..=7 => 63,
-            _ => 62,
-        };
+        let lent = lent_by(shard);
         let line = format!(in alloc; "shard {shard} rows 0 live 0 lent {lent} back {lent}\n")?;
         behind.extend_from_slice(line.as_bytes())?;
     }
