@@ -1,5 +1,5 @@
 //! Nodes over rings, as the tests drive them.
-ghost use Rattle.std.specs.Prelude.{◌≡◌, ◌+◌, ◌<◌, ◌≤◌, length, All, IfOk};
+ghost use Rattle.std.specs.Prelude.{◌≡◌, ◌+◌, ◌<◌, ◌≤◌, [], length, All, IfOk, OnOk};
 ghost use Rattle.foreign_list.specs.OwnerSeats.{IsAtRest};
 ghost use Rattle.trace_text.specs.Parts.{most_shards};
 ghost use Rattle.trace_text.specs.Reading.{most_bytes};
@@ -107,6 +107,41 @@ pub fn open_nodes<'f, S: Gates>(
 {
     let mut links = links_of(alloc, shards)?;
     let mut nodes = Vec::new(alloc);
+    let opened = open_all(
+        alloc, shards, trace, homes, gates, &mut seats, &mut links, &mut nodes,
+    );
+    drop(links);
+    drop(seats);
+    match opened {
+        Ok(()) => Ok(nodes),
+        Err(AllocError) => {
+            drop(nodes);
+            Err(AllocError)
+        }
+    }
+}
+
+/// Opens the node of each shard. What it opens and uses up stands with the caller, so that no early return ends it.
+fn open_all<'f, S: Gates>(
+    alloc: Global,
+    shards: u32,
+    trace: &'f Trace,
+    homes: &'f [Foreign],
+    gates: &S,
+    seats: &mut Vec<OwnerSeat>,
+    links: &mut Vec<Vec<RingLink<'f>>>,
+    nodes: &mut Vec<Node<'f, RingLink<'f>, S::Made>>,
+) -> Result<(), AllocError>
+    requires parsed_for { shards ≡ trace.now.shards }
+    requires homes { length homes.now ≡ shards }
+    requires seats { length seats.old.items ≡ shards }
+    requires ready { AreReady homes.now seats.old.items }
+    requires links { length links.old.items ≡ shards }
+    requires unused { All (AreUnused shards) links.old.items }
+    requires none { nodes.old.items ≡ [] }
+    ensures count { OnOk result (length nodes.new.items ≡ shards) }
+    ensures standing { OnOk result (All (InStanding ring_traffic) nodes.new.items) }
+{
     while let Some(seat) = seats.pop() {
         let shard = seats.len();
         let own = links.pop().unwrap();
@@ -123,5 +158,5 @@ pub fn open_nodes<'f, S: Gates>(
         )?;
         nodes.insert(0, node)?;
     }
-    Ok(nodes)
+    Ok(())
 }

@@ -3,7 +3,7 @@ use Rattle.std.specs.List.{All}
 use Rattle.shard_node.specs.Standing.{InStanding}
 use Rattle.shard_node.specs.Links.{ring_traffic}
 use Rattle.shard_drive.specs.Trials.{AreReady, AreUnused}
-use Rattle.shard_drive.proofs.tests.opening.open_nodes.Given as goal
+use Rattle.shard_drive.proofs.tests.opening.open_all.Given as goal
 
 abbrev pub invariant-loop-seat : goal.invariant-loop-seat
 invariant-loop-seat g l = record {

@@ -5,7 +5,7 @@ use Rattle.shard_node.specs.Standing.{InStanding}
 use Rattle.shard_node.specs.Links.{ring_traffic}
 use Rattle.shard_drive.specs.Trials.{AreReady, AreUnused}
 use Rattle.shard_drive.proofs.Trials.{one-less, ready-less}
-use Rattle.shard_drive.proofs.tests.opening.open_nodes.Goals as goal
+use Rattle.shard_drive.proofs.tests.opening.open_all.Goals as goal
 
 pub loop-seat-preserved : goal.loop-seat-preserved
 loop-seat-preserved g c =
