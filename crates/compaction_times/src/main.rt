@@ -60,7 +60,5 @@ fn main(rt: HostRuntime) -> io::Result<()> {
     let moved = count_moved(&cache, before.as_slice());
     let stayed = cache.rows();
     drop(cache);
-    println!(rt;
-        "put {put} stayed {stayed} taken {taken} compared {compared} moved {moved}"
-    )
+    println!(rt; "put {put} stayed {stayed} taken {taken} compared {compared} moved {moved}")
 }

@@ -1,7 +1,6 @@
 //! Tests of `compaction`: segments are emptied and freed, and each name keeps its content.
-ghost use Rattle.std.specs.Prelude.{◌≡◌, ◌+◌, ◌≤◌, length, IfOk, IfSome};
+ghost use Rattle.std.specs.Prelude.{IfOk};
 ghost use Rattle.slab.specs.Slab.{get};
-ghost use Rattle.layout.specs.Sizes as sizes;
 ghost use Rattle.object_log.specs.Objects.{IsSize};
 ghost use Rattle.regions.specs.Contents.{live_at, Keeps};
 ghost use Rattle.rows_tests.specs.Names.{AreNamed};
@@ -10,9 +9,9 @@ mod calls;
 mod names;
 mod steps;
 
+use crate::pieces::piece;
 use compaction::{Compacted, compact_one, pass};
 use names::{Names, content, kill, put};
-use raw_range::{Piece, Range};
 use regions::Region;
 use std::alloc::{AllocError, Global};
 use std::test::Fail;
@@ -27,13 +26,6 @@ struct Shelf {
     held: Vec<Option<(u32, u8)>>,
     /// The bytes of segments as they stood.
     kept: Vec<u8>,
-}
-
-fn piece(alloc: Global, owner: u32) -> Result<Piece, AllocError>
-    ensures { IfOk result (λ p. length p.bytes ≡ sizes.segment) }
-{
-    let mut range = Range::new(alloc, owner, 32)?;
-    Ok(range.take(0, 131_072))
 }
 
 /// A shelf of four free segments.

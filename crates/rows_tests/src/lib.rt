@@ -9,6 +9,8 @@ mod key_index;
 #[cfg(test)]
 mod object_log;
 #[cfg(test)]
+mod pieces;
+#[cfg(test)]
 mod regions;
 #[cfg(test)]
 mod row_bytes;

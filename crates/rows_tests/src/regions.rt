@@ -1,22 +1,12 @@
 //! Tests of `regions`: segments filled to the end, contents written and read, guards, and which segments are given.
-ghost use Rattle.std.specs.Prelude.{◌≡◌, length, IfOk};
-ghost use Rattle.layout.specs.Sizes as sizes;
-
 mod calls;
 mod steps;
 
-use raw_range::{Piece, Range};
+use crate::pieces::piece;
 use regions::Region;
 use std::alloc::{AllocError, Global};
 use std::test::Fail;
 use steps::{NOT_CLOSED, Step, first_wrong};
-
-fn piece(alloc: Global, owner: u32) -> Result<Piece, AllocError>
-    ensures { IfOk result (λ p. length p.bytes ≡ sizes.segment) }
-{
-    let mut range = Range::new(alloc, owner, 32)?;
-    Ok(range.take(0, 131_072))
-}
 
 // The pieces of the segments have the owners 0, 1, 2.
 fn three_segments(alloc: Global) -> Result<Region, AllocError> {

@@ -1,12 +1,13 @@
 //! A cache whose calls are made in any order: one that does not fit what stands changes nothing.
-ghost use Rattle.std.specs.Prelude.{◌≡◌, ◌+◌, ◌*◌, ◌<◌, ◌≤◌, ◌⊎◌, length, true, IfOk, IsSome};
+ghost use Rattle.std.specs.Prelude.{◌≡◌, ◌+◌, ◌*◌, ◌<◌, ◌≤◌, ◌⊎◌, length, true, IsSome};
 ghost use Rattle.cache_model.specs.Apply.{has};
 ghost use Rattle.layout.specs.Sizes as sizes;
 ghost use Rattle.regions.specs.Shapes.{active_of, guards_of};
 ghost use Rattle.row_cache.specs.Rows.{rows_of};
 
+use crate::pieces::piece;
 use layout::{GREATEST_KEY, GREATEST_OBJECT, GREATEST_VALUE};
-use raw_range::{Piece, Range};
+use raw_range::Piece;
 use row_cache::{Compacted, Put, RowCache, Scanned};
 use std::alloc::{AllocError, Global};
 
@@ -16,13 +17,6 @@ pub(crate) struct Trial {
     cache: RowCache,
     rows: u32,
     ghost room: { cache.room ≡ rows },
-}
-
-fn piece(alloc: Global, owner: u32) -> Result<Piece, AllocError>
-    ensures { IfOk result (λ p. length p.bytes ≡ sizes.segment) }
-{
-    let mut range = Range::new(alloc, owner, 32)?;
-    Ok(range.take(0, 131_072))
 }
 
 fn is_row(key: &[u8], value: &[u8]) -> bool

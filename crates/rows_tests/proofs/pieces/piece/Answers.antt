@@ -1,5 +1,5 @@
 use Rattle.std.proofs.Common.{◌≡◌, [], length, ap, arith}
-use Rattle.rows_tests.proofs.row_cache.trial.piece.Goals as goal
+use Rattle.rows_tests.proofs.pieces.piece.Goals as goal
 
 pub take-requires-clause-disjoint : goal.take-requires-clause-disjoint
 take-requires-clause-disjoint c k d w =
