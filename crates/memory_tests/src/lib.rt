@@ -1,18 +1,18 @@
-//! The tests of the crates that hold blocks of memory, which use them from outside, each in the file of its crate's
-//! name. They stand apart, since the check proves a crate's tests together with all of the crate.
+//! The tests of the crates that hold blocks of memory, which use them from outside, a file for each crate. They stand
+//! apart, since the check proves a crate's tests together with all of the crate.
 #![tactic(auto)]
 
 #[cfg(test)]
-mod foreign_core;
+mod foreign_core_tests;
 #[cfg(test)]
-mod foreign_list;
+mod foreign_list_tests;
 #[cfg(test)]
-mod index_lists;
+mod index_lists_tests;
 #[cfg(test)]
-mod number_set;
+mod number_set_tests;
 #[cfg(test)]
-mod shard_memory;
+mod shard_memory_tests;
 #[cfg(test)]
-mod small_pools;
+mod small_pools_tests;
 #[cfg(test)]
-mod span_lists;
+mod span_lists_tests;

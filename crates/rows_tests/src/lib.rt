@@ -1,18 +1,18 @@
-//! The tests of the crates that keep rows, which use them from outside, each in the file of its crate's name. They
-//! stand apart, since the check proves a crate's tests together with all of the crate.
+//! The tests of the crates that keep rows, which use them from outside, a file for each crate. They stand apart, since
+//! the check proves a crate's tests together with all of the crate.
 #![tactic(auto)]
 
 #[cfg(test)]
-mod compaction;
+mod compaction_tests;
 #[cfg(test)]
-mod key_index;
+mod key_index_tests;
 #[cfg(test)]
-mod object_log;
+mod object_log_tests;
 #[cfg(test)]
 mod pieces;
 #[cfg(test)]
-mod regions;
+mod regions_tests;
 #[cfg(test)]
-mod row_bytes;
+mod row_bytes_tests;
 #[cfg(test)]
-mod row_cache;
+mod row_cache_tests;

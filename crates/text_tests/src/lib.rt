@@ -1,16 +1,16 @@
-//! The tests of the crates that read, mean and write text, which use them from outside, each in the file of its crate's
-//! name. They stand apart, since the check proves a crate's tests together with all of the crate.
+//! The tests of the crates that read, mean and write text, which use them from outside, a file for each crate. They stand
+//! apart, since the check proves a crate's tests together with all of the crate.
 #![tactic(auto)]
 
 #[cfg(test)]
-mod cache_model;
+mod cache_model_tests;
 #[cfg(test)]
-mod made_trace;
+mod made_trace_tests;
 #[cfg(test)]
-mod outside;
+mod outside_tests;
 #[cfg(test)]
-mod report_text;
+mod report_text_tests;
 #[cfg(test)]
-mod run_log;
+mod run_log_tests;
 #[cfg(test)]
-mod trace_text;
+mod trace_text_tests;

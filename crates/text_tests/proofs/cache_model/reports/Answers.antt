@@ -1,8 +1,0 @@
--- The texts are computed.
-use Rattle.std.proofs.Common.{refl}
-use Rattle.std.specs.Fmt.{digits}
-use Rattle.text_tests.proofs.cache_model.reports.Goals as goal
-
-pub returns : goal.returns
-unfolding digits
-returns c = record { at_home = refl; away = refl; joined = refl }
