@@ -4,7 +4,7 @@ use Rattle.std.specs.Prelude.{slice_get, slice_set, option_map, IfSome}
 use Rattle.std.proofs.lemmas.List.Sums.{sum_by-cons}
 use Rattle.cache_model.specs.Row.{Row, size, live}
 use Rattle.common_lemmas.specs.Lists.{times, delete}
-use Rattle.key_index.specs.declared.place.Place.{Place as IndexPlace}
+use Rattle.key_table.specs.declared.entries.Spot.{Spot}
 use Rattle.regions.specs.Segments.{RegionState}
 use Rattle.regions.specs.Counts.{live_total}
 use Rattle.regions.specs.Contents.{Item, Standing, Keeps, item_if_live, live_at, standing_at, size_of}
@@ -65,7 +65,7 @@ counts_more t r bytes more row c is e =
 
 -- ---- a row comes
 
-pub rows_added : (t u : TableState) (there : IndexPlace) (place : Place) (row : Row) (old new : Live) (r : AddsRow t there place row old new)
+pub rows_added : (t u : TableState) (there : Spot) (place : Place) (row : Row) (old new : Live) (r : AddsRow t there place row old new)
     → u.recency ≡ next_number t ∷ t.recency → u.places ≡ placed (next_number t) place t.places
     → rows_at new u.places u.recency ≡ row ∷ rows_at old t.places t.recency
 rows_added t u there place row old new r recency places =

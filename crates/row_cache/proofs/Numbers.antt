@@ -3,13 +3,16 @@ use Rattle.std.proofs.Common.{◌≡◌, ℕ, suc, ◌+◌, ◌-◌, ◌<◌, �
 use Rattle.std.specs.Prelude.{nat_lt, slice_get, slice_set, All}
 use Rattle.std.proofs.lemmas.Bool.{cases_eq}
 use Rattle.std.proofs.lemmas.Bool.Decides.{leb_tells}
-use Rattle.std.proofs.lemmas.List.{length-set, get_or-set_same}
+use Rattle.std.proofs.lemmas.List.{length-set, length-map, get_or-set_same}
 use Rattle.index_lists.specs.Lists.{Lists, with_list, list_at}
 use Rattle.std.specs.List.{last_or, AllByRecursion}
+use Rattle.std.proofs.lemmas.List.Sorted.{length_permutation}
+use Rattle.key_table.specs.declared.entries.RowAt.{RowAt}
 use Rattle.std.proofs.lemmas.List.Elements.{All-from_recursion}
 use Rattle.common_lemmas.specs.Lists.{times, delete}
-use Rattle.common_lemmas.proofs.Counts.{times_here, times_there, times-delete_same, times-delete_other, length-delete}
-use Rattle.key_index.specs.Order.{PutsIn, TakesOut}
+use Rattle.common_lemmas.proofs.Counts.{times_here, times_there, times-delete_same, times-delete_other, length-delete, same-permutation}
+use Rattle.key_table.specs.Table.{AreSame}
+use Rattle.lazy_index.specs.Lazy.{Lazy, rows_in}
 use Rattle.regions.specs.declared.place.Place.{Place}
 use Rattle.row_cache.specs.inside.Tables.{TableState, AreNumbers, IsListed, next_number, number_or, placed}
 use Rattle.row_cache.proofs.Listed.{times_append, last_listed, delete_last, listed_here, listed_later}
@@ -28,7 +31,7 @@ length_front n ns h = let e = length-delete n ns h in omega (arith, e)
 pub numbers_kept : (t u : TableState) → AreNumbers t → u.room ≡ t.room → u.index ≡ t.index → u.freed ≡ t.freed → length u.places ≡ length t.places
     → ((m : ℕ) → times m u.recency ≡ times m t.recency) → length u.recency ≡ length t.recency → AreNumbers u
 numbers_kept t u a room index freed places recency len =
-    let rows : (m : ℕ) → times m u.index.rows ≡ times m t.index.rows = λ m. ap (λ i. times m i.rows) index in
+    let rows : (m : ℕ) → times m (rows_in u.index) ≡ times m (rows_in t.index) = λ m. ap (λ (i : Lazy). times m (rows_in i)) index in
     let frees : (m : ℕ) → times m u.freed ≡ times m t.freed = λ m. ap (λ ns. times m ns) freed in
     let count : length u.freed ≡ length t.freed = ap (λ ns. length ns) freed in
     let few = a.few in let all = a.count in let small = a.small in
@@ -40,41 +43,27 @@ numbers_kept t u a room index freed places recency len =
       count = omega (arith, all, len, count, places);
       room = ap (λ i. i.room) index ∙ (a.room ∙ sym room);
       indexed = λ m. rows m ∙ (a.indexed m ∙ sym (recency m));
-      index_count = ap (λ i. length i.rows) index ∙ (a.index_count ∙ sym len);
+      index_count = ap (λ (i : Lazy). length i.table.kept) index ∙ (a.index_count ∙ sym len);
     }
 
-taken_times : (n m : ℕ) (xs ys : List ℕ) → TakesOut n xs ys → times m (n ∷ ys) ≡ times m xs
-taken_times n m xs ys out =
-    let e : times m xs ≡ times m out.front + times m (n ∷ out.back) = ap (λ zs. times m zs) out.were ∙ times_append m out.front (n ∷ out.back) in
-    let f : times m ys ≡ times m out.front + times m out.back = ap (λ zs. times m zs) out.are ∙ times_append m out.front out.back in
-    elim (cases_eq n m) [
-      | inl q ↦ (let g : times m (n ∷ ys) ≡ 1 + times m ys = subst (λ x. times m (x ∷ ys) ≡ 1 + times m ys) (sym q) (times_here m ys) in
-          let h : times m (n ∷ out.back) ≡ 1 + times m out.back = subst (λ x. times m (x ∷ out.back) ≡ 1 + times m out.back) (sym q) (times_here m out.back) in omega (arith, e, f, g, h))
-      | inr far ↦ (let g = times_there m n ys far in let h = times_there m n out.back far in omega (arith, e, f, g, h))
-    ]
-
-taken_length : (n : ℕ) (xs ys : List ℕ) → TakesOut n xs ys → length xs ≡ suc (length ys)
-taken_length n xs ys out =
-    let e : length xs ≡ length out.front + length (n ∷ out.back) = ap (λ zs. length zs) out.were ∙ length-append out.front (n ∷ out.back) in
-    let f : length ys ≡ length out.front + length out.back = ap (λ zs. length zs) out.are ∙ length-append out.front out.back in
-    omega (arith, e, f)
-
-pub put_times : (key_of : ℕ → List ℕ) (n m : ℕ) (xs ys : List ℕ) → PutsIn key_of n xs ys → times m ys ≡ times m (n ∷ xs)
-put_times key_of n m xs ys put = let out : TakesOut n ys xs = record { front = put.front; back = put.back; were = put.are; are = put.were } in sym (taken_times n m ys xs out)
-
-put_length : (key_of : ℕ → List ℕ) (n : ℕ) (xs ys : List ℕ) → PutsIn key_of n xs ys → length ys ≡ suc (length xs)
-put_length key_of n xs ys put = let out : TakesOut n ys xs = record { front = put.front; back = put.back; were = put.are; are = put.were } in taken_length n ys xs out
+-- an index that has one row fewer
+one_fewer : (n : ℕ) (more less : Lazy) → AreSame (rows_in more) (n ∷ rows_in less) → length more.table.kept ≡ suc (length less.table.kept)
+one_fewer n more less same =
+    let sizes = length_permutation (rows_in more) (n ∷ rows_in less) (same-permutation (rows_in more) (n ∷ rows_in less) (λ m. sym (same m))) in
+    let first = length-map more.table.kept (λ (found : RowAt). found.row) in
+    let second = length-map less.table.kept (λ (found : RowAt). found.row) in
+    omega (arith, sizes, first, second)
 
 -- a number is given back
 pub numbers_dropped : (t u : TableState) (n : ℕ) → AreNumbers t → IsListed t n → u.room ≡ t.room → u.recency ≡ delete n t.recency → u.places ≡ t.places
-    → u.freed ≡ t.freed ++ n ∷ [] → u.index.room ≡ t.index.room → TakesOut n t.index.rows u.index.rows → AreNumbers u
+    → u.freed ≡ t.freed ++ n ∷ [] → u.index.room ≡ t.index.room → AreSame (rows_in t.index) (n ∷ rows_in u.index) → AreNumbers u
 numbers_dropped t u n a listed room recency places freed index_room out =
     let before : (m : ℕ) → times m (n ∷ u.recency) ≡ times m t.recency = λ m. ap (λ ns. times m (n ∷ ns)) recency ∙ times_front m n t.recency listed in
-    let rows = λ (m : ℕ). taken_times n m t.index.rows u.index.rows out in
+    let rows = λ (m : ℕ). sym (out m) in
     let behind : (m : ℕ) → times m u.freed ≡ times m t.freed + times m (n ∷ []) = λ m. ap (λ ns. times m ns) freed ∙ times_append m t.freed (n ∷ []) in
     let free_count : length u.freed ≡ length t.freed + 1 = ap (λ ns. length ns) freed ∙ length-append t.freed (n ∷ []) in
     let row_count : length u.recency + 1 ≡ length t.recency = (let e : length u.recency ≡ length (delete n t.recency) = ap (λ ns. length ns) recency in let d = length-delete n t.recency listed in omega (arith, e, d)) in
-    let index_rows = taken_length n t.index.rows u.index.rows out in
+    let index_rows = one_fewer n t.index u.index out in
     let place_count : length u.places ≡ length t.places = ap (λ ps. length ps) places in
     let few = a.few in let all = a.count in let small = a.small in let indexes = a.index_count in
     let both : (m : ℕ) → times m u.recency + times m u.freed ≡ times m t.recency + times m t.freed = λ m.
@@ -94,8 +83,8 @@ numbers_dropped t u n a listed room recency places freed index_room out =
       indexed = λ m. (let r = rows m in let b = before m in let i = a.indexed m in
           elim (cases_eq n m) [
             | inl q ↦ (let x : times m (n ∷ u.recency) ≡ 1 + times m u.recency = subst (λ y. times m (y ∷ u.recency) ≡ 1 + times m u.recency) (sym q) (times_here m u.recency) in
-                let z : times m (n ∷ u.index.rows) ≡ 1 + times m u.index.rows = subst (λ y. times m (y ∷ u.index.rows) ≡ 1 + times m u.index.rows) (sym q) (times_here m u.index.rows) in omega (arith, r, b, i, x, z))
-            | inr far ↦ (let x = times_there m n u.recency far in let z = times_there m n u.index.rows far in omega (arith, r, b, i, x, z))
+                let z : times m (n ∷ (rows_in u.index)) ≡ 1 + times m (rows_in u.index) = subst (λ y. times m (y ∷ (rows_in u.index)) ≡ 1 + times m (rows_in u.index)) (sym q) (times_here m (rows_in u.index)) in omega (arith, r, b, i, x, z))
+            | inr far ↦ (let x = times_there m n u.recency far in let z = times_there m n (rows_in u.index) far in omega (arith, r, b, i, x, z))
           ]);
       index_count = omega (arith, index_rows, row_count, indexes);
     }
@@ -208,17 +197,17 @@ given_number t p a room =
     ]
 
 -- a number is given
-pub numbers_added : (key_of : ℕ → List ℕ) (t u : TableState) (p : Place) → AreNumbers t → length t.recency < t.room → u.room ≡ t.room
+pub numbers_added : (t u : TableState) (p : Place) → AreNumbers t → length t.recency < t.room → u.room ≡ t.room
     → u.recency ≡ next_number t ∷ t.recency → u.places ≡ placed (next_number t) p t.places → u.freed ≡ take (length t.freed - 1) t.freed
-    → u.index.room ≡ t.index.room → PutsIn key_of (next_number t) t.index.rows u.index.rows → AreNumbers u
-numbers_added key_of t u p a room same_room recency places freed index_room put =
+    → u.index.room ≡ t.index.room → AreSame (next_number t ∷ rows_in t.index) (rows_in u.index) → AreNumbers u
+numbers_added t u p a room same_room recency places freed index_room put =
     let n = next_number t in
     let given : Given t n u.places u.freed = subst (λ ps. Given t n ps u.freed) (sym places) (subst (λ ns. Given t n (placed n p t.places) ns) (sym freed) (given_number t p a room)) in
     let small = a.small in let indexes = a.index_count in
     let least = given.least in let most = given.most in let count = given.count in
     let rows : (m : ℕ) → times m u.recency ≡ times m (n ∷ t.recency) = λ m. ap (λ ns. times m ns) recency in
     let row_count : length u.recency ≡ suc (length t.recency) = ap (λ ns. length ns) recency in
-    let index_rows = put_length key_of n t.index.rows u.index.rows put in
+    let index_rows = one_fewer n u.index t.index (λ m. sym (put m)) in
     let move : (m : ℕ) → times m u.recency + times m u.freed ≡ times m t.recency + times m (n ∷ u.freed) = λ m.
     (let r = rows m in elim (cases_eq n m) [
       | inl q ↦ (let x : times m (n ∷ t.recency) ≡ 1 + times m t.recency = subst (λ y. times m (y ∷ t.recency) ≡ 1 + times m t.recency) (sym q) (times_here m t.recency) in
@@ -235,12 +224,12 @@ numbers_added key_of t u p a room same_room recency places freed index_room put 
       others = λ m h. (let e = move m in let o = a.others m (omega (arith, h, least)) in let x = given.behind m h in omega (arith, e, o, x));
       count = omega (arith, row_count, count);
       room = index_room ∙ (a.room ∙ sym same_room);
-      indexed = λ m. put_times key_of n m t.index.rows u.index.rows put ∙ (
+      indexed = λ m. sym (put m) ∙ (
           elim (cases_eq n m) [
             | inl q ↦ (let x : times m (n ∷ t.recency) ≡ 1 + times m t.recency = subst (λ y. times m (y ∷ t.recency) ≡ 1 + times m t.recency) (sym q) (times_here m t.recency) in
-                let z : times m (n ∷ t.index.rows) ≡ 1 + times m t.index.rows = subst (λ y. times m (y ∷ t.index.rows) ≡ 1 + times m t.index.rows) (sym q) (times_here m t.index.rows) in
+                let z : times m (n ∷ (rows_in t.index)) ≡ 1 + times m (rows_in t.index) = subst (λ y. times m (y ∷ (rows_in t.index)) ≡ 1 + times m (rows_in t.index)) (sym q) (times_here m (rows_in t.index)) in
                 let i = a.indexed m in let r = rows m in omega (arith, x, z, i, r))
-            | inr far ↦ (let x = times_there m n t.recency far in let z = times_there m n t.index.rows far in let i = a.indexed m in let r = rows m in omega (arith, x, z, i, r))
+            | inr far ↦ (let x = times_there m n t.recency far in let z = times_there m n (rows_in t.index) far in let i = a.indexed m in let r = rows m in omega (arith, x, z, i, r))
           ]);
       index_count = omega (arith, index_rows, indexes, row_count);
     }

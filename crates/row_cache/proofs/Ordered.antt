@@ -12,11 +12,13 @@ use Rattle.cache_model.specs.Apply.{in_order, is_at_most}
 use Rattle.cache_model.specs.Row.{Row}
 use Rattle.common_lemmas.specs.Lists.{times}
 use Rattle.common_lemmas.proofs.Counts.{same-filter, same-permutation}
-use Rattle.key_index.specs.Index.{Index}
 use Rattle.key_index.specs.Order.{key_cmp, AreRising, rows_from}
+use Rattle.key_table.specs.Table.{AreSame}
+use Rattle.lazy_index.specs.Lazy.{Lazy, rows_in}
 use Rattle.regions.specs.Stores.{Live}
 use Rattle.row_cache.specs.Rows.{key_at, row_at, rows_at}
 use Rattle.row_cache.specs.inside.Tables.{TableState, AreTablesOf, HasRow}
+use Rattle.row_cache.proofs.States.{all_listed}
 
 filter-map : (p : List ℕ → Bool) (key : ℕ → List ℕ) (ns : List ℕ) → filter p (map key ns) ≡ map key (filter (λ n. p (key n)) ns)
 filter-map p key [] = refl
@@ -47,16 +49,19 @@ keys_in_order key lo others rows same rising order =
     sym (ap in_order (filter-map (is_at_most lo) key others) ∙ order (map key (filter p others)) (map key (filter p rows)) moved (rw (filter-map (is_at_most lo) key rows) at sorted))
 
 -- what the index of a cache's tables tells of the rows from a key on
-pub rows_told : (t : TableState) (live : Live) (lo : List ℕ) (key : ℕ → List ℕ) (i : Index) (result : List ℕ) → AreTablesOf t live → i ≡ t.index → key ≡ key_at live t.places
+pub rows_told : (t : TableState) (live : Live) (lo : List ℕ) (key : ℕ → List ℕ) (i : Lazy) (result : List ℕ) → AreTablesOf t live → i ≡ t.index → key ≡ key_at live t.places
     → ((keys sorted : List (List ℕ)) → IsPermutation keys sorted → IsSorted (slice_cmp nat_cmp) sorted → in_order keys ≡ sorted)
-    → result ≡ rows_from key lo i.rows
+    → result ≡ rows_from key lo i.order.rows → AreRising key i.order.rows → AreSame (rows_in i) i.order.rows
     → All (HasRow live t.places) result × (map (key_at live t.places) result ≡ in_order (filter (is_at_most lo) (map (λ row. row.key) (rows_at live t.places t.recency))))
 unfolding key_cmp
-rows_told t live lo key i result are index keys order told =
+rows_told t live lo key i result are index keys order told rising all =
     let k = key_at live t.places in
     let p : ℕ → Bool = λ n. is_at_most lo (k n) in
+    let rows = i.order.rows in
     let of_rows : map (λ (row : Row). row.key) (rows_at live t.places t.recency) ≡ map k t.recency = map-map (λ (row : Row). row.key) (row_at live t.places) t.recency in
-    let is : result ≡ filter p t.index.rows = told ∙ (ap (λ (f : ℕ → List ℕ). rows_from f lo i.rows) keys ∙ ap (λ (x : Index). rows_from k lo x.rows) index) in (
-      subst (All (HasRow live t.places)) (sym is) (All-filter p (HasRow live t.places) t.index.rows are.index.readable),
-      ap (map k) is ∙ (keys_in_order k lo t.recency t.index.rows are.numbers.indexed are.index.ordered.rising order ∙ sym (ap (λ ks. in_order (filter (is_at_most lo) ks)) of_rows)),
+    let is : result ≡ filter p rows = told ∙ ap (λ (f : ℕ → List ℕ). rows_from f lo rows) keys in
+    let same : (n : ℕ) → times n rows ≡ times n t.recency = λ n. sym (all n) ∙ (ap (λ (x : Lazy). times n (rows_in x)) index ∙ are.numbers.indexed n) in
+    let readable = all_listed (HasRow live t.places) rows (λ n l. are.rows n (let e = same n in omega (arith, e, l))) in (
+      subst (All (HasRow live t.places)) (sym is) (All-filter p (HasRow live t.places) rows readable),
+      ap (map k) is ∙ (keys_in_order k lo t.recency rows same (subst (λ (f : ℕ → List ℕ). AreRising f rows) keys rising) order ∙ sym (ap (λ ks. in_order (filter (is_at_most lo) ks)) of_rows)),
     )

@@ -12,8 +12,9 @@ use Rattle.cache_model.specs.Row.{Row}
 use Rattle.row_bytes.specs.Rows.{number_in, row_in, key_in}
 use Rattle.common_lemmas.specs.Lists.{times, delete}
 use Rattle.common_lemmas.proofs.Counts.{times-delete_other}
-use Rattle.key_index.specs.Index.{Index, IsIndexOf, IsOrdered, IsPlaceFor}
-use Rattle.key_index.specs.declared.place.Place.{Place as IndexPlace}
+use Rattle.key_table.specs.Table.{Has, IsSpotFor}
+use Rattle.key_table.specs.declared.entries.Spot.{Spot}
+use Rattle.lazy_index.specs.Lazy.{IsKeyed, IsLazyOf}
 use Rattle.std.specs.Prelude.{option_map}
 use Rattle.regions.specs.Segments.{RegionState}
 use Rattle.regions.specs.Contents.{Item, Standing, standing_at, live_at, item_if_live, if_live}
@@ -76,8 +77,9 @@ all_by P (x ∷ xs) h = (h x (listed_here x xs), all_by P xs (λ n l. h n (liste
 pub all_listed : (P : ℕ → Type 0) (xs : List ℕ) → ((n : ℕ) → 1 ≤ times n xs → P n) → All P xs
 all_listed P xs h = All-from_recursion P xs (all_by P xs h)
 
-pub index_all : (t : TableState) (P : ℕ → Type 0) → AreNumbers t → ((n : ℕ) → IsListed t n → P n) → All P t.index.rows
-index_all t P a h = all_listed P t.index.rows (λ n l. h n (let e = a.indexed n in omega (arith, e, l)))
+-- the index has the rows' numbers
+pub has_listed : (t : TableState) (n : ℕ) → AreNumbers t → Has t.index.table n → IsListed t n
+has_listed t n a h = let e = a.indexed n in omega (arith, e, h)
 
 pub contained_times : (xs : List ℕ) (n : ℕ) → Contains xs n → 1 ≤ times n xs
 contained_times [] n h = absurd (let l = h.1 in omega (arith, l))
@@ -119,8 +121,7 @@ tables_kept t u live are numbers same places index =
           (w.0, omega (arith, k, l), ap (λ (ps : List Place). slice_get ps w.0) places ∙ w.2));
       apart = subst (λ (ps : List Place). (x y : ℕ) → IsListed u x → IsListed u y → key_at live ps x ≡ key_at live ps y → x ≡ y) (sym places)
           (λ x y lx ly e. are.apart x y (was x lx) (was y ly) e);
-      index = subst (λ (ps : List Place). IsIndexOf (HasRow live ps) (key_at live ps) u.index) (sym places)
-          (subst (λ (i : Index). IsIndexOf (HasRow live t.places) (key_at live t.places) i) (sym index) are.index);
+      index = subst (λ (ps : List Place). IsKeyed (key_at live ps) u.index) (sym places) (subst (IsKeyed (key_at live t.places)) (sym index) are.index);
     }
 
 -- ---- a row goes
@@ -141,7 +142,7 @@ still_listed t n m a listed l =
 
 pub tables_dropped : (t u : TableState) (live after : Live) (n : ℕ) (p : Place) → AreTablesOf t live → AreNumbers u → IsListed t n → slice_get t.places n ≡ Some p → Drops p live after
     → u.recency ≡ delete n t.recency → u.places ≡ t.places
-    → ((a b : ℕ → List ℕ) → IsOrdered a t.index → All (λ row. b row ≡ a row) u.index.rows → IsOrdered b u.index)
+    → ((a b : ℕ → List ℕ) → IsKeyed a t.index → ((m : ℕ) → Has u.index.table m → b m ≡ a m) → IsKeyed b u.index)
     → AreTablesOf u after
 tables_dropped t u live after n p are numbers listed here drops recency places kept =
     let a = are.numbers in
@@ -161,10 +162,7 @@ tables_dropped t u live after n p are numbers listed here drops recency places k
           let far : m ≢ n = λ s. elsewhere (some_same old.2 (ap (λ x. slice_get t.places x) s ∙ here)) in
           (m, subst (λ ns. 1 ≤ times m ns) (sym recency) (let o = times-delete_other m n t.recency far in let l = old.1 in omega (arith, o, l)), ap (λ (ps : List Place). slice_get ps m) places ∙ old.2));
       apart = λ x y lx ly e. are.apart x y (was x lx).0 (was y ly).0 (sym (same x lx) ∙ (e ∙ same y ly));
-      index = record {
-        readable = index_all u (HasRow after u.places) numbers rows;
-        ordered = kept (key_at live t.places) (key_at after u.places) are.index.ordered (index_all u (λ m. key_at after u.places m ≡ key_at live t.places m) numbers same);
-      };
+      index = kept (key_at live t.places) (key_at after u.places) are.index (λ m h. same m (has_listed u m numbers h));
     }
 
 -- ---- a row stands elsewhere, as another of the same key
@@ -213,7 +211,7 @@ replaced_found t n to row old new r listed q i e =
 
 pub tables_replaced : (t u : TableState) (n : ℕ) (to : Place) (row : Row) (old new : Live) → ReplacesRow t n to row old new → IsListed t n → AreNumbers u
     → ((m : ℕ) → times m u.recency ≡ times m t.recency) → u.places ≡ slice_set t.places n to → u.index ≡ t.index
-    → ((a b : ℕ → List ℕ) → All (λ row. b row ≡ a row) t.index.rows → IsOrdered a t.index → IsOrdered b t.index)
+    → ((a b : ℕ → List ℕ) → ((m : ℕ) → Has t.index.table m → b m ≡ a m) → IsKeyed a t.index → IsKeyed b t.index)
     → AreTablesOf u new
 tables_replaced t u n to row old new r listed numbers recency places index moved =
     let are = r.tables in
@@ -236,10 +234,7 @@ tables_replaced t u n to row old new r listed numbers recency places index moved
           (let found = replaced_found t n to row old new r listed q i e in
           (found.0, (let k = recency found.0 in let l = found.1 in omega (arith, k, l)), ap (λ (ps : List Place). slice_get ps found.0) places ∙ found.2));
       apart = λ x y lx ly e. are.apart x y (was x lx) (was y ly) (sym (same x (was x lx)) ∙ (e ∙ same y (was y ly)));
-      index = subst (λ i. IsIndexOf (HasRow new u.places) (key_at new u.places) i) (sym index) (record {
-        readable = index_all t (HasRow new u.places) are.numbers rows;
-        ordered = moved (key_at old t.places) (key_at new u.places) (index_all t (λ m. key_at new u.places m ≡ key_at old t.places m) are.numbers same) are.index.ordered;
-      });
+      index = subst (IsKeyed (key_at new u.places)) (sym index) (moved (key_at old t.places) (key_at new u.places) (λ m h. same m (has_listed t m are.numbers h)) are.index);
     }
 
 -- ---- a new row
@@ -264,7 +259,7 @@ placed_here t p a = elim (leb_tells (suc (next_number t)) (length t.places)) [
       ∙ ap (λ x. Some x) (ap (λ j. get_or (t.places ++ p ∷ []) j p) is ∙ get_or-append_seam t.places p [] p)))
 ]
 
-pub added_here : (t : TableState) (there : IndexPlace) (place : Place) (row : Row) (old new : Live) (r : AddsRow t there place row old new)
+pub added_here : (t : TableState) (there : Spot) (place : Place) (row : Row) (old new : Live) (r : AddsRow t there place row old new)
     → (x : HasRow new (placed (next_number t) place t.places) (next_number t)) × (row_at new (placed (next_number t) place t.places) (next_number t) ≡ row)
 added_here t there place row old new r =
     let n = next_number t in
@@ -272,7 +267,7 @@ added_here t there place row old new r =
     record { place = place; placed = placed_here t place r.tables.numbers; item = r.item; is_live = r.adds.here; row = row; is_row = r.is_row } in
     (x, row_is new (placed n place t.places) n x)
 
-pub added_others : (t : TableState) (there : IndexPlace) (place : Place) (row : Row) (old new : Live) (r : AddsRow t there place row old new)
+pub added_others : (t : TableState) (there : Spot) (place : Place) (row : Row) (old new : Live) (r : AddsRow t there place row old new)
     → (m : ℕ) → IsListed t m → (x : HasRow new (placed (next_number t) place t.places) m) × (row_at new (placed (next_number t) place t.places) m ≡ row_at old t.places m)
 added_others t there place row old new r m l =
     let n = next_number t in let a = r.tables.numbers in
@@ -282,27 +277,20 @@ added_others t there place row old new r m l =
     row_elsewhere old new t.places (placed n place t.places) m hm hm.place (placed_others t.places n m place far (listed_below t a m l) ∙ hm.placed) (r.adds.others hm.place not_there ∙ hm.is_live)
 
 -- the index of the rows that there were is one of the new places too
-pub added_index : (t : TableState) (there : IndexPlace) (place : Place) (row : Row) (old new : Live) (r : AddsRow t there place row old new)
-    → ((a b : ℕ → List ℕ) → All (λ row. b row ≡ a row) t.index.rows → IsOrdered a t.index → IsOrdered b t.index)
-    → IsIndexOf (HasRow new (placed (next_number t) place t.places)) (key_at new (placed (next_number t) place t.places)) t.index
+pub added_index : (t : TableState) (there : Spot) (place : Place) (row : Row) (old new : Live) (r : AddsRow t there place row old new)
+    → ((a b : ℕ → List ℕ) → ((m : ℕ) → Has t.index.table m → b m ≡ a m) → IsKeyed a t.index → IsKeyed b t.index)
+    → IsKeyed (key_at new (placed (next_number t) place t.places)) t.index
 added_index t there place row old new r moved =
-    let a = r.tables.numbers in let others = added_others t there place row old new r in let places = placed (next_number t) place t.places in
-    record {
-      readable = index_all t (HasRow new places) a (λ m l. (others m l).0);
-      ordered = moved (key_at old t.places) (key_at new places) (index_all t (λ m. key_at new places m ≡ key_at old t.places m) a (λ m l. ap (λ (x : Row). x.key) (others m l).1)) r.tables.index.ordered;
-    }
+    let others = added_others t there place row old new r in
+    moved (key_at old t.places) (key_at new (placed (next_number t) place t.places)) (λ m h. ap (λ (x : Row). x.key) (others m (has_listed t m r.tables.numbers h)).1) r.tables.index
 
-pub added_place : (t : TableState) (there : IndexPlace) (place : Place) (row : Row) (old new : Live) (r : AddsRow t there place row old new)
-    → ((a b : ℕ → List ℕ) (key : List ℕ) (at : IndexPlace) → All (λ row. b row ≡ a row) t.index.rows → IsPlaceFor a key t.index at → IsPlaceFor b key t.index at)
-    → IsPlaceFor (key_at new (placed (next_number t) place t.places)) (key_at new (placed (next_number t) place t.places) (next_number t)) t.index there
-added_place t there place row old new r law =
-    let a = r.tables.numbers in let others = added_others t there place row old new r in let places = placed (next_number t) place t.places in
-    subst (λ key. IsPlaceFor (key_at new places) key t.index there) (sym (ap (λ (x : Row). x.key) (added_here t there place row old new r).1))
-    (law (key_at old t.places) (key_at new places) row.key there (index_all t (λ m. key_at new places m ≡ key_at old t.places m) a (λ m l. ap (λ (x : Row). x.key) (others m l).1)) r.at)
+pub added_spot : (t : TableState) (there : Spot) (place : Place) (row : Row) (old new : Live) (r : AddsRow t there place row old new)
+    → IsSpotFor (key_at new (placed (next_number t) place t.places) (next_number t)) there
+added_spot t there place row old new r = subst (λ key. IsSpotFor key there) (sym (ap (λ (x : Row). x.key) (added_here t there place row old new r).1)) r.at
 
-pub tables_added : (t u : TableState) (there : IndexPlace) (place : Place) (row : Row) (old new : Live) → AddsRow t there place row old new → AreNumbers u
+pub tables_added : (t u : TableState) (there : Spot) (place : Place) (row : Row) (old new : Live) → AddsRow t there place row old new → AreNumbers u
     → u.recency ≡ next_number t ∷ t.recency → u.places ≡ placed (next_number t) place t.places
-    → IsIndexOf (HasRow new (placed (next_number t) place t.places)) (key_at new (placed (next_number t) place t.places)) u.index → AreTablesOf u new
+    → IsKeyed (key_at new (placed (next_number t) place t.places)) u.index → AreTablesOf u new
 tables_added t u there place row old new r numbers recency places index =
     let n = next_number t in let all = placed n place t.places in let are = r.tables in
     let here = added_here t there place row old new r in
@@ -337,5 +325,15 @@ tables_added t u there place row old new r numbers recency places index =
             ))
       ];
       apart = subst (λ (ps : List Place). (x y : ℕ) → IsListed u x → IsListed u y → key_at new ps x ≡ key_at new ps y → x ≡ y) (sym places) apart;
-      index = subst (λ (ps : List Place). IsIndexOf (HasRow new ps) (key_at new ps) u.index) (sym places) index;
+      index = subst (λ (ps : List Place). IsKeyed (key_at new ps) u.index) (sym places) index;
     }
+
+-- ---- the index
+
+-- the index is one of the rows' keys
+pub lazy_of : (t : TableState) (live : Live) → AreTablesOf t live → IsLazyOf (HasRow live t.places) (key_at live t.places) t.index
+lazy_of t live are = record {
+  readable = λ n h. are.rows n (has_listed t n are.numbers h);
+  apart = λ m n h k e. are.apart m n (has_listed t m are.numbers h) (has_listed t n are.numbers k) e;
+  keyed = are.index;
+}

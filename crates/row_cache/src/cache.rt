@@ -118,7 +118,7 @@ impl RowCache {
     {
         let row = self.tables.last()?;
         let put = self.tables.put_of(&self.region, row);
-        let found = self.tables.find(&self.region, row);
+        let found = self.tables.row_at(&self.region, row);
         drop_row(&mut self.region, &mut self.tables, &mut self.live, found);
         Some(put)
     }

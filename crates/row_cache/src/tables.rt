@@ -1,12 +1,12 @@
-ghost use Rattle.std.specs.Prelude.{◌≡◌, ◌≢◌, ◌+◌, ◌<◌, ◌≤◌, ℕ, [], ◌∷◌, length, Some, None, slice_get, slice_set, IfOk, IfSome, MatchOption, MatchResult, All, vec_len, vec_capacity, List, ◌-◌, ◌^◌, take, map, filter};
+ghost use Rattle.std.specs.Prelude.{◌≡◌, ◌≢◌, ◌+◌, ◌<◌, ◌≤◌, ℕ, [], ◌∷◌, length, Some, None, slice_get, slice_set, IfOk, IfSome, MatchOption, MatchResult, All, Contains, vec_len, vec_capacity, List, ◌-◌, ◌^◌, take, map, filter};
 ghost use Rattle.std.specs.List.{last_or};
 ghost use Rattle.cache_model.specs.Row.{Row};
 ghost use Rattle.cache_model.specs.Apply.{in_order, is_at_most};
 ghost use Rattle.cache_model.specs.KeyBody.{IsKey};
 ghost use Rattle.common_lemmas.specs.Lists.{delete, times};
 ghost use Rattle.index_lists.specs.Lists.{list_at, with_list};
-ghost use Rattle.key_index.specs.Index.{IsOrdered, IsRowAt};
-ghost use Rattle.key_index.specs.Order.{TakesOut};
+ghost use Rattle.key_table.specs.Table.{AreSame, Has};
+ghost use Rattle.lazy_index.specs.Lazy.{IsKeyed, IsStanding, rows_in};
 ghost use Rattle.regions.specs.Contents.{Item, live_at};
 ghost use Rattle.regions.specs.Stores.{Live};
 ghost use Rattle.row_bytes.specs.Rows.{number_in};
@@ -17,7 +17,7 @@ ghost use Rattle.row_cache.specs.inside.Tables as tables;
 use crate::row_keys::{RowKeys, content_of};
 use cache_model::sorted_keys_are_in_order;
 use index_lists::IndexLists;
-use key_index::{KeyIndex, RowAt, Rows};
+use lazy_index::{LazyIndex, RowAt, Rows, Spot, Standing};
 use regions::{Movers, Place, Region};
 use row_bytes::{key_in, number_in, put_in};
 use std::alloc::{AllocError, Global};
@@ -32,7 +32,7 @@ pub(crate) struct Tables {
     recency: IndexLists,
     places: Vec<Place>,
     freed: Vec<u32>,
-    index: KeyIndex,
+    index: LazyIndex,
 }
 
 impl Model for Tables {
@@ -58,7 +58,7 @@ impl Tables {
             recency: IndexLists::new(alloc, room, 1)?,
             places: Vec::with_capacity(alloc, room as usize)?,
             freed: Vec::with_capacity(alloc, room as usize)?,
-            index: KeyIndex::new(alloc, room)?,
+            index: LazyIndex::new(alloc, room)?,
         })
     }
 
@@ -95,12 +95,12 @@ impl Tables {
         }
     }
 
-    // The row of a key, or where the index would have one.
-    pub(crate) fn search(&self, region: &Region, key: &[u8]) -> Result<RowAt, key_index::Place>
+    // The row of a key, or the spot for one.
+    pub(crate) fn search(&self, region: &Region, key: &[u8]) -> Result<RowAt, Spot>
         requires { tables.AreTablesOf self.now (live_at region.now) }
         ensures { MatchResult result (IsFound self.now (live_at region.now) key.now) (IsMissing self.now (live_at region.now) key.now) }
     {
-        self.index.search(&self.keys(region), key)
+        self.index.find(&self.keys(region), key)
     }
 
     // The row is the one used last.
@@ -134,40 +134,52 @@ impl Tables {
     }
 
     // A new row, with the next number, stands at the place.
-    pub(crate) fn insert(&mut self, region: &Region, at: key_index::Place, place: Place)
-        requires room { length self.old.recency < self.old.room }
-        requires tables { (row : Row) × (old : Live) × tables.AddsRow self.old at place row old (live_at region.now) }
+    pub(crate) fn insert(&mut self, at: Spot, place: Place)
+        requires { length self.old.recency < self.old.room }
         ensures room { self.new.room ≡ self.old.room }
         ensures recency { self.new.recency ≡ tables.next_number self.old ∷ self.old.recency }
         ensures places { self.new.places ≡ tables.placed (tables.next_number self.old) place self.old.places }
-        ensures tables { tables.AreTablesOf self.new (live_at region.now) }
+        ensures tables { (row : Row) (old new : Live) → tables.AddsRow self.old at place row old new → tables.AreTablesOf self.new new }
     {
         self.index.law();
         let number = give_number(&mut self.places, &mut self.freed, place);
-        let keys = RowKeys {
-            region,
-            places: self.places.as_slice(),
-        };
-        self.index.insert_at(&keys, at, number);
+        self.index.insert(at, number);
         self.recency.push_front(RECENCY, number);
     }
 
     // Takes a row out, and gives its number back. Its object is to be killed.
-    pub(crate) fn remove(&mut self, found: RowAt)
-        requires at { IsRowAt self.old.index found.place found.row }
-        requires listed { tables.IsListed self.old found.row }
-        ensures recency { self.new.recency ≡ delete found.row self.old.recency }
+    pub(crate) fn remove(&mut self, standing: Standing)
+        requires at { IsStanding self.old.index standing }
+        requires listed { tables.IsListed self.old standing.found.row }
+        ensures recency { self.new.recency ≡ delete standing.found.row self.old.recency }
         ensures places { self.new.places ≡ self.old.places }
         ensures room { self.new.room ≡ self.old.room }
-        ensures tables { (place : Place) (old new : Live) → tables.AreTablesOf self.old old → slice_get self.old.places found.row ≡ Some place → tables.Drops place old new → tables.AreTablesOf self.new new }
+        ensures tables { (place : Place) (old new : Live) → tables.AreTablesOf self.old old → slice_get self.old.places standing.found.row ≡ Some place → tables.Drops place old new → tables.AreTablesOf self.new new }
     {
-        unlist(&mut self.recency, &mut self.index, found);
-        self.freed.push(found.row).unwrap();
+        unlist(&mut self.recency, &mut self.index, standing);
+        self.freed.push(standing.found.row).unwrap();
+    }
+
+    // All rows get their places in the order of their keys.
+    pub(crate) fn settle(&mut self, region: &Region)
+        requires { tables.AreTablesOf self.old (live_at region.now) }
+        ensures tables { tables.AreTablesOf self.new (live_at region.now) }
+        ensures recency { self.new.recency ≡ self.old.recency }
+        ensures places { self.new.places ≡ self.old.places }
+        ensures room { self.new.room ≡ self.old.room }
+        ensures settled { self.new.index.late ≡ [] }
+    {
+        let keys = RowKeys {
+            region,
+            places: self.places.as_slice(),
+        };
+        self.index.settle(&keys);
     }
 
     // The rows whose keys are at or above one, in the order of their keys.
     pub(crate) fn rows_from<'a>(&'a self, region: &'a Region, key: &[u8]) -> Rows<'a>
-        requires { tables.AreTablesOf self.now (live_at region.now) }
+        requires tables { tables.AreTablesOf self.now (live_at region.now) }
+        requires settled { self.now.index.late ≡ [] }
         ensures rows { All (tables.HasRow (live_at region.now) self.now.places) result }
         ensures order { map (key_at (live_at region.now) self.now.places) result
             ≡ in_order (filter (is_at_most key.now) (map (λ row. row.key) (rows_at (live_at region.now) self.now.places self.now.recency))) }
@@ -194,16 +206,23 @@ impl Tables {
     }
 
     // Where the index has a row.
-    pub(crate) fn find(&self, region: &Region, number: u32) -> RowAt
+    pub(crate) fn row_at(&self, region: &Region, number: u32) -> RowAt
         requires tables { tables.AreTablesOf self.now (live_at region.now) }
         requires listed { tables.IsListed self.now number }
-        ensures at { IsRowAt self.now.index result.place result.row }
+        ensures at { Contains self.now.index.table.kept result }
         ensures row { result.row ≡ number }
     {
-        let Ok(found) = self.search(region, self.key(region, number)) else {
-            unreachable!()
-        };
-        found
+        self.index.row_at(&self.keys(region), number)
+    }
+
+    // Where a row stands in the order of the keys.
+    pub(crate) fn standing(&self, region: &Region, found: RowAt) -> Standing
+        requires tables { tables.AreTablesOf self.now (live_at region.now) }
+        requires at { Contains self.now.index.table.kept found }
+        ensures at { IsStanding self.now.index result }
+        ensures found { result.found ≡ found }
+    {
+        self.index.standing(&self.keys(region), found)
     }
 
     fn keys<'a>(&'a self, region: &'a Region) -> RowKeys<'a>
@@ -237,17 +256,18 @@ fn give_number(places: &mut Vec<Place>, freed: &mut Vec<u32>, place: Place) -> u
 }
 
 // Takes a row out of the index and the recency.
-fn unlist(recency: &mut IndexLists, index: &mut KeyIndex, found: RowAt)
+fn unlist(recency: &mut IndexLists, index: &mut LazyIndex, standing: Standing)
     requires list { length recency.old.lists ≡ 1 }
-    requires listed { 1 ≤ times found.row (list_at recency.old 0) }
-    requires at { IsRowAt index.old found.place found.row }
-    ensures recency { recency.new ≡ with_list recency.old 0 (delete found.row (list_at recency.old 0)) }
-    ensures rows { TakesOut found.row index.old.rows index.new.rows }
-    ensures ordered { (before after : ℕ → List ℕ) → IsOrdered before index.old → All (λ row. after row ≡ before row) index.new.rows → IsOrdered after index.new }
+    requires listed { 1 ≤ times standing.found.row (list_at recency.old 0) }
+    requires at { IsStanding index.old standing }
+    ensures recency { recency.new ≡ with_list recency.old 0 (delete standing.found.row (list_at recency.old 0)) }
+    ensures rows { AreSame (rows_in index.old) (standing.found.row ∷ rows_in index.new) }
+    ensures keyed { (before after : ℕ → List ℕ) → IsKeyed before index.old → ((n : ℕ) → Has index.new.table n → after n ≡ before n) → IsKeyed after index.new }
     ensures room { index.new.room ≡ index.old.room }
 {
-    index.remove_at(found);
-    recency.remove(RECENCY, found.row);
+    index.remove(standing);
+    index.law();
+    recency.remove(RECENCY, standing.found.row);
 }
 
 // The number of the row that stands at a place.

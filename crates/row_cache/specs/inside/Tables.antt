@@ -4,8 +4,9 @@ use Rattle.std.specs.Prelude.{◌≡◌, ◌≢◌, ℕ, ◌+◌, ◌^◌, ◌<�
 use Rattle.cache_model.specs.Row.{Row, size}
 use Rattle.row_bytes.specs.Rows.{HoldsRow, row_in, number_in}
 use Rattle.common_lemmas.specs.Lists.{times}
-use Rattle.key_index.specs.Index.{Index, IsIndexOf, IsPlaceFor}
-use Rattle.key_index.specs.declared.place.Place.{Place as IndexPlace}
+use Rattle.key_table.specs.Table.{IsSpotFor}
+use Rattle.key_table.specs.declared.entries.Spot.{Spot}
+use Rattle.lazy_index.specs.Lazy.{Lazy, IsKeyed, rows_in}
 use Rattle.regions.specs.Contents.{Item, size_of}
 use Rattle.regions.specs.Stores.{Live}
 use Rattle.regions.specs.declared.place.Place.{Place}
@@ -18,7 +19,7 @@ pub record TableState : Type 0 where
   pub recency : List ℕ
   pub places : List Place
   pub freed : List ℕ
-  pub index : Index
+  pub index : Lazy
 
 -- the kind of an object that holds a row
 abbrev pub row_kind : ℕ
@@ -73,8 +74,8 @@ pub record AreNumbers (t : TableState) : Type 0 where
   pub others : (n : ℕ) → length t.places ≤ n → times n t.recency + times n t.freed ≡ 0
   pub count : length t.recency + length t.freed ≡ length t.places
   pub room : t.index.room ≡ t.room
-  pub indexed : (n : ℕ) → times n t.index.rows ≡ times n t.recency
-  pub index_count : length t.index.rows ≡ length t.recency
+  pub indexed : (n : ℕ) → times n (rows_in t.index) ≡ times n t.recency
+  pub index_count : length t.index.table.kept ≡ length t.recency
 
 -- the tables are those of these live objects: each row stands at its place, each live object is a row, no two rows have
 -- one key, and the index is one of their keys
@@ -83,7 +84,7 @@ pub record AreTablesOf (t : TableState) (live : Live) : Type 0 where
   pub rows : (n : ℕ) → IsListed t n → HasRow live t.places n
   pub every : (p : Place) (i : Item) → live p ≡ Some i → (n : ℕ) × IsListed t n × (slice_get t.places n ≡ Some p)
   pub apart : (m n : ℕ) → IsListed t m → IsListed t n → key_at live t.places m ≡ key_at live t.places n → m ≡ n
-  pub index : IsIndexOf (HasRow live t.places) (key_at live t.places) t.index
+  pub index : IsKeyed (key_at live t.places) t.index
 
 -- one object more is live, or one less, or one instead of another
 pub record Adds (p : Place) (item : Item) (old new : Live) : Type 0 where
@@ -122,13 +123,13 @@ pub record SwapsRow (from to : Place) (n : ℕ) (row : Row) (old new : Live) : T
   pub replaces : Replaces from to item old new
 
 -- the live objects are those of the tables and a new row, whose key no other row has
-pub record AddsRow (t : TableState) (there : IndexPlace) (place : Place) (row : Row) (old new : Live) : Type 0 where
+pub record AddsRow (t : TableState) (there : Spot) (place : Place) (row : Row) (old new : Live) : Type 0 where
   pub tables : AreTablesOf t old
   pub item : Item
   pub is_row : IsRowOf item (next_number t) row
   pub adds : Adds place item old new
   pub absent : (n : ℕ) → IsListed t n → key_at old t.places n ≢ row.key
-  pub at : IsPlaceFor (key_at old t.places) row.key t.index there
+  pub at : IsSpotFor row.key there
 
 -- the live objects are those of the tables, but the row of a number stands elsewhere as another row of the same key
 pub record ReplacesRow (t : TableState) (n : ℕ) (to : Place) (row : Row) (old new : Live) : Type 0 where

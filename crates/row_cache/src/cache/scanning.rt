@@ -11,22 +11,24 @@ ghost use Rattle.row_cache.specs.inside.Tables.{HasRow};
 use super::RowCache;
 use crate::scanned::Scanned;
 use crate::tables::Tables;
-use key_index::Rows;
+use lazy_index::Rows;
 use regions::Region;
 
 impl RowCache {
     /// Writes the first `count` keys at or above `lo`, in the order of their bytes, to the front of `into`: each behind its
     /// length in two bytes, low byte first, as the reply to a scan has them. The bytes behind them stay. `count` is 1 to
     /// 32, and `into` has room for so many keys of the greatest length.
-    pub fn scan(&self, lo: &[u8], count: u32, into: &mut [u8]) -> Scanned
+    pub fn scan(&mut self, lo: &[u8], count: u32, into: &mut [u8]) -> Scanned
         requires some { 1 ≤ count }
         requires most { count ≤ sizes.most_keys }
         requires room { sizes.key_room * count ≤ length into.old }
-        ensures count { result.keys ≡ length (apply.scanned lo.now count (rows_of self.now)) }
-        ensures keys { AreKeys (take result.bytes into.new) (apply.scanned lo.now count (rows_of self.now)) }
+        ensures count { result.keys ≡ length (apply.scanned lo.now count (rows_of self.old)) }
+        ensures keys { AreKeys (take result.bytes into.new) (apply.scanned lo.now count (rows_of self.old)) }
         ensures within { result.bytes ≤ length into.old }
         ensures behind { drop result.bytes into.new ≡ drop result.bytes into.old }
+        ensures unchanged { self.new ≡ self.old }
     {
+        self.tables.settle(&self.region);
         let rows = self.tables.rows_from(&self.region, lo);
         write_keys(&self.tables, &self.region, rows, count, into)
     }

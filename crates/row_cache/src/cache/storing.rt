@@ -1,10 +1,10 @@
 //! How a row comes into the segments of a cache, and how it goes.
-ghost use Rattle.std.specs.Prelude.{◌≡◌, ◌≢◌, ℕ, ◌+◌, ◌<◌, ◌≤◌, ◌↔◌, ◌⊎◌, ◌∷◌, true, length, slice_get, Some, None, IfOk, IfErr, IfSome, IsErr, IsSome};
+ghost use Rattle.std.specs.Prelude.{◌≡◌, ◌≢◌, ℕ, ◌+◌, ◌<◌, ◌≤◌, ◌↔◌, ◌⊎◌, ◌∷◌, true, length, slice_get, Some, None, IfOk, IfErr, IfSome, IsErr, IsSome, Contains};
 ghost use Rattle.layout.specs.Sizes as sizes;
 ghost use Rattle.cache_model.specs.Row.{Row, size};
 ghost use Rattle.cache_model.specs.Apply as apply;
 ghost use Rattle.common_lemmas.specs.Lists.{delete};
-ghost use Rattle.key_index.specs.Index.{IsPlaceFor, IsRowAt};
+ghost use Rattle.key_table.specs.Table.{IsSpotFor};
 ghost use Rattle.regions.specs.Shapes.{shape, active_of};
 ghost use Rattle.regions.specs.Counts.{left, live_total};
 ghost use Rattle.regions.specs.Contents.{Item, live_at, size_of};
@@ -15,8 +15,8 @@ ghost use Rattle.row_cache.specs.inside.NewRows.{row_of, IsStored};
 
 use crate::put::Put;
 use crate::tables::Tables;
-use key_index::RowAt;
 use layout::DESCRIPTOR;
+use lazy_index::{RowAt, Spot};
 use regions::{NeedSegment, Place, Region};
 use row_bytes::{row_size, write_row};
 
@@ -69,13 +69,13 @@ fn store_row(
     region: &mut Region,
     tables: &mut Tables,
     live: &mut u64,
-    at: key_index::Place,
+    at: Spot,
     row: NewRow<'_>,
 ) -> Result<(), NeedSegment>
     requires consistent { IsConsistent tables.old region.old live.old }
     requires row { IsStored row }
     requires active { IsSome (active_of region.old) }
-    requires at { IsPlaceFor (key_at (live_at region.old) tables.old.places) row.key.now tables.old.index at }
+    requires at { IsSpotFor row.key.now at }
     requires absent { (n : ℕ) → IsListed tables.old n → key_at (live_at region.old) tables.old.places n ≢ row.key.now }
     requires room { length tables.old.recency < tables.old.room }
     ensures full { IsErr result ↔ left region.old < size row.entry.key.now row.entry.value.now }
@@ -88,7 +88,7 @@ fn store_row(
     ensures stay { Stay region.old region.new }
 {
     let place = place_row(region, tables.next_number(), row)?;
-    tables.insert(region, at, place);
+    tables.insert(at, place);
     *live += u64::from(row_size(row.key, row.value));
     Ok(())
 }
@@ -124,7 +124,7 @@ fn replace_row(
 // Takes the row out.
 pub(super) fn drop_row(region: &mut Region, tables: &mut Tables, live: &mut u64, found: RowAt)
     requires consistent { IsConsistent tables.old region.old live.old }
-    requires at { IsRowAt tables.old.index found.place found.row }
+    requires at { Contains tables.old.index.table.kept found }
     requires listed { IsListed tables.old found.row }
     ensures consistent { IsConsistent tables.new region.new live.new }
     ensures rows { rows_in tables.new region.new ≡ rows_with tables.old region.old (delete found.row tables.old.recency) }
@@ -133,8 +133,9 @@ pub(super) fn drop_row(region: &mut Region, tables: &mut Tables, live: &mut u64,
     ensures left { left region.new ≡ left region.old }
     ensures stay { Stay region.old region.new }
 {
+    let standing = tables.standing(region, found);
     let size = kill_row(region, tables.place(found.row));
-    tables.remove(found);
+    tables.remove(standing);
     *live -= u64::from(size);
 }
 

@@ -99,7 +99,7 @@ impl Both {
         self.trial.compact().is_some()
     }
 
-    fn scan(&self, alloc: Global, lo: &[u8], count: u32) -> Result<bool, AllocError> {
+    fn scan(&mut self, alloc: Global, lo: &[u8], count: u32) -> Result<bool, AllocError> {
         let mut into = [0u8; ROOM];
         let (keys, bytes) = self.list.scan(alloc, lo, count)?;
         let Some(scanned) = self.trial.scan(lo, count, &mut into) else {

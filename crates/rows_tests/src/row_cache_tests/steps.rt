@@ -28,7 +28,7 @@ pub(crate) enum Step<'a> {
 const ROOM: usize = 1290;
 
 /// Whether a scan gives so many keys, which are these bytes, and leaves the bytes behind them.
-fn scans(trial: &Trial, lo: &[u8], count: u32, keys: u32, bytes: &[u8]) -> bool {
+fn scans(trial: &mut Trial, lo: &[u8], count: u32, keys: u32, bytes: &[u8]) -> bool {
     let mut into = [7u8; ROOM];
     let Some(scanned) = trial.scan(lo, count, &mut into) else {
         return false;

@@ -164,7 +164,7 @@ impl Trial {
     }
 
     /// None where so many keys are not scanned, or not into so little.
-    pub(crate) fn scan(&self, lo: &[u8], count: u32, into: &mut [u8]) -> Option<Scanned> {
+    pub(crate) fn scan(&mut self, lo: &[u8], count: u32, into: &mut [u8]) -> Option<Scanned> {
         if count == 0 || count > 32 || into.len() < count as usize * 258 {
             return None;
         }

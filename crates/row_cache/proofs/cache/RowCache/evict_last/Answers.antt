@@ -12,13 +12,13 @@ use Rattle.row_cache.proofs.cache.RowCache.evict_last.Goals as goal
 pub put_of-put-requires : goal.put_of-put-requires
 put_of-put-requires c = let t = c.self.inside.tables in c.self.invariant.tables.rows c.in_ok-row.row (last_listed c.in_ok-row.row t.recency c.in_ok-row.ensures)
 
-pub find-found-requires-clause-listed : goal.find-found-requires-clause-listed
-find-found-requires-clause-listed c = last_listed c.in_ok-row.row c.self.inside.tables.recency c.in_ok-row.ensures
+pub row_at-found-requires-clause-listed : goal.row_at-found-requires-clause-listed
+row_at-found-requires-clause-listed c = last_listed c.in_ok-row.row c.self.inside.tables.recency c.in_ok-row.ensures
 
 pub drop_row-requires-clause-listed : goal.drop_row-requires-clause-listed
 drop_row-requires-clause-listed c =
     let t = c.self.inside.tables in
-    subst (λ n. IsListed t n) (sym c.find-found.ensures.row) (last_listed c.in_ok-row.row t.recency c.in_ok-row.ensures)
+    subst (λ n. IsListed t n) (sym c.row_at-found.ensures.row) (last_listed c.in_ok-row.row t.recency c.in_ok-row.ensures)
 
 pub returns-clause-last : goal.returns-clause-last
 returns-clause-last c =
@@ -30,5 +30,5 @@ pub returns-clause-rows : goal.returns-clause-rows
 returns-clause-rows c = λ _.
     let t = c.self.inside.tables in let r = c.self.inside.region in
     c.drop_row.ensures.rows
-    ∙ (ap (λ m. rows_with t r (delete m t.recency)) c.find-found.ensures.row
+    ∙ (ap (λ m. rows_with t r (delete m t.recency)) c.row_at-found.ensures.row
     ∙ (rows_before_last t r c.in_ok-row.row c.self.invariant.tables c.in_ok-row.ensures ∙ ap (λ (x : CacheState). take (length (rows_of x) - 1) (rows_of x)) c.self.view_is))

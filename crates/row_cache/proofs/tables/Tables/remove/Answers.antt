@@ -10,7 +10,7 @@ use Rattle.row_cache.proofs.tables.Tables.remove.Goals as goal
 
 pub invariant_of-self : goal.invariant_of-self
 invariant_of-self c =
-    let i = c.self.invariant in let n = c.args.found.row in let t : tables.TableState = the_view c.self.inside in
+    let i = c.self.invariant in let n = c.args.standing.found.row in let t : tables.TableState = the_view c.self.inside in
     let listed : tables.IsListed t n = subst (λ s. tables.IsListed s n) (sym c.self.view_is) c.requires.listed in
     let out = one_set c.self.inside.recency c.unlist.new.recency (delete n t.recency) i.1 c.unlist.ensures.recency in
     let freed : c.push.new.self.items ≡ c.self.inside.freed.items ++ n ∷ [] =
@@ -25,10 +25,10 @@ invariant_of-self c =
 
 pub returns-clause-tables : goal.returns-clause-tables
 returns-clause-tables c = λ place old new are here drops.
-    let n = c.args.found.row in let i = c.self.invariant in
+    let n = c.args.standing.found.row in let i = c.self.invariant in
     let t = c.args.self.now in
     let v : tables.TableState = the_view c.self.inside in
     let out = one_set c.self.inside.recency c.unlist.new.recency (delete n v.recency) i.1 c.unlist.ensures.recency in
     let u : tables.TableState = record { room = c.unlist.new.recency.indices; recency = list_at c.unlist.new.recency 0; places = c.self.inside.places.items; freed = c.push.new.self.items; index = c.unlist.new.index } in
     tables_dropped v u old new n place (subst (λ s. tables.AreTablesOf s old) (sym c.self.view_is) are) (invariant_of-self c).0
-    (subst (λ s. tables.IsListed s n) (sym c.self.view_is) c.requires.listed) (ap (λ (s : tables.TableState). slice_get s.places n) c.self.view_is ∙ here) drops out.1.1 refl c.unlist.ensures.ordered
+    (subst (λ s. tables.IsListed s n) (sym c.self.view_is) c.requires.listed) (ap (λ (s : tables.TableState). slice_get s.places n) c.self.view_is ∙ here) drops out.1.1 refl c.unlist.ensures.keyed

@@ -1,0 +1,31 @@
+#!/usr/bin/env bash
+# Nanoseconds per insertion, find and removal: the index of keys in blocks and the table of keys, over random keys of 11
+# to 20 bytes. The least of some runs, user and system time together, less that of a run of one step fewer.
+#   bench/table.sh [ROWS] [RUNS]
+set -euo pipefail
+top=$(cd "$(dirname "${BASH_SOURCE[0]}")/.." && pwd)
+rows=${1:-500000}
+runs=${2:-5}
+log=$(mktemp)
+trap 'rm -f "$log"' EXIT
+(cd "$top/crates/table_times" && rt run -- table 1000 remove >"$log" 2>&1) || { cat "$log" >&2; exit 1; }
+
+# the least time of some runs, in nanoseconds
+time_of() {
+    local least=
+    for _ in $(seq "$runs"); do
+        local spent
+        spent=$( { TIMEFORMAT='%U %S'; time "$@" >/dev/null; } 2>&1 | awk '{ printf "%.0f", ($1 + $2) * 1e9 }')
+        if [ -z "$least" ] || [ "$spent" -lt "$least" ]; then least=$spent; fi
+    done
+    echo "$least"
+}
+
+for kind in index table; do
+    before=$(time_of "$top/crates/table_times/out/table_times" "$kind" "$rows" keys)
+    for step in insert find remove; do
+        spent=$(time_of "$top/crates/table_times/out/table_times" "$kind" "$rows" "$step")
+        echo "$kind $step $(((spent - before) / rows))"
+        before=$spent
+    done
+done

@@ -1,0 +1,4 @@
+mod Held
+mod Probes
+mod Copied
+mod Told

@@ -1,0 +1,103 @@
+-- What holds of slots, and of the rows that they hold.
+use Rattle.std.proofs.Common.{get_or, ◌≡◌, ◌≢◌, ℕ, zero, suc, ◌≤◌, inl, inr, false, List, [], ◌∷◌, cond, refl, sym, ap, subst, arith}
+use Rattle.std.specs.Prelude.{All, Contains}
+use Rattle.std.proofs.lemmas.Bool.{cases_eq}
+use Rattle.std.proofs.lemmas.Bool.Decides.{nat_tests}
+use Rattle.std.proofs.lemmas.List.Elements.{All-nil, All-cons, All-head, All-tail, All-contains, All-contains_itself}
+use Rattle.common_lemmas.specs.Lists.{times}
+use Rattle.common_lemmas.proofs.Counts.{times_here, times_there, times_cons_le}
+use Rattle.key_table.specs.declared.entries.RowAt.{RowAt}
+use Rattle.key_table.specs.Hash.{tag_of}
+use Rattle.key_table.specs.Table.{rows_of}
+use Rattle.key_table.specs.inside.Slots.{slot_at, home_of, holds, held, IsHeld, IsAhead, AreProbed, AreTagged, Within}
+use Rattle.key_table.proofs.Held.{holds_some, held_inside}
+
+holds_none : (slot : RowAt) → slot.row ≡ 4294967295 → holds slot ≡ false
+holds_none slot h = grind (arith, nat_tests)
+
+held_some : (slot : RowAt) (slots : List RowAt) → slot.row ≢ 4294967295 → held (slot ∷ slots) ≡ slot ∷ held slots
+held_some slot slots h = ap (λ b. cond b (slot ∷ held slots) (held slots)) (holds_some slot h)
+
+held_none : (slot : RowAt) (slots : List RowAt) → slot.row ≡ 4294967295 → held (slot ∷ slots) ≡ held slots
+held_none slot slots h = ap (λ b. cond b (slot ∷ held slots) (held slots)) (holds_none slot h)
+
+pub all_held : (P : RowAt → Type 0) (slots : List RowAt) → ((k : ℕ) → IsHeld slots k → P (slot_at slots k)) → All P (held slots)
+all_held P [] is = All-nil P
+all_held P (slot ∷ slots) is =
+    let rest = all_held P slots (λ k. is (suc k)) in
+    elim (cases_eq slot.row 4294967295) [
+      | inl e ↦ subst (All P) (sym (held_none slot slots e)) rest
+      | inr n ↦ subst (All P) (sym (held_some slot slots n)) (All-cons P slot (held slots) (is zero n) rest)
+    ]
+
+pub held_all : (P : RowAt → Type 0) (slots : List RowAt) → All P (held slots) → (k : ℕ) → IsHeld slots k → P (slot_at slots k)
+held_all P [] all zero is = absurd (is refl)
+held_all P [] all (suc k) is = absurd (is refl)
+held_all P (slot ∷ slots) all zero is = All-head P slot (held slots) (subst (All P) (held_some slot slots is) all)
+held_all P (slot ∷ slots) all (suc k) is =
+    elim (cases_eq slot.row 4294967295) [
+      | inl e ↦ held_all P slots (subst (All P) (held_none slot slots e) all) k is
+      | inr n ↦ held_all P slots (All-tail P slot (held slots) (subst (All P) (held_some slot slots n) all)) k is
+    ]
+
+-- what holds of the rows' numbers
+pub all_rows : (P : ℕ → Type 0) (kept : List RowAt) → All P (rows_of kept) → All (λ (s : RowAt). P s.row) kept
+all_rows P [] all = All-nil (λ (s : RowAt). P s.row)
+all_rows P (slot ∷ kept) all = All-cons (λ (s : RowAt). P s.row) slot kept (All-head P slot.row (rows_of kept) all) (all_rows P kept (All-tail P slot.row (rows_of kept) all))
+
+pub contains_held : (slots : List RowAt) (k : ℕ) → IsHeld slots k → Contains (held slots) (slot_at slots k)
+contains_held slots = held_all (Contains (held slots)) slots (All-contains_itself (held slots))
+
+pub record IsSomewhere (slots : List RowAt) (found : RowAt) : Type 0 where
+  pub place : ℕ
+  pub here : IsHeld slots place
+  pub is : slot_at slots place ≡ found
+
+pub held_contains : (slots : List RowAt) (found : RowAt) → Contains (held slots) found → IsSomewhere slots found
+held_contains slots found there = All-contains (IsSomewhere slots) (held slots) found (all_held (IsSomewhere slots) slots (λ k h. record { place = k; here = h; is = refl })) there
+
+pub is_ahead : (mask : ℕ) (slots : List RowAt) (found : RowAt) → AreProbed mask slots → Contains (held slots) found → IsAhead slots found.row (home_of mask found.tag)
+is_ahead mask slots found probed there =
+    let at = held_contains slots found there in
+    record {
+      place = at.place;
+      inside = held_inside slots at.place at.here;
+      behind = subst (λ (s : RowAt). home_of mask s.tag ≤ at.place) at.is (probed.behind at.place at.here);
+      is = ap (λ (s : RowAt). s.row) at.is;
+    }
+
+pub some_row : (slots : List RowAt) (found : RowAt) → Contains (held slots) found → found.row ≢ 4294967295
+some_row slots found there = let at = held_contains slots found there in subst (λ (s : RowAt). s.row ≢ 4294967295) at.is at.here
+
+pub tagged_within : (key_of : ℕ → List ℕ) (xs ys : List RowAt) → Within xs ys → AreTagged key_of xs → AreTagged key_of ys
+tagged_within key_of xs ys within is k h =
+    let from = within k h in
+    subst (λ (s : RowAt). s.tag ≡ tag_of (key_of s.row)) from.1 (is from.0 (subst (λ (s : RowAt). s.row ≢ 4294967295) (sym from.1) h))
+
+pub tagged_more : (key_of : ℕ → List ℕ) (slot : RowAt) (slots : List RowAt) → slot.tag ≡ tag_of (key_of slot.row) → AreTagged key_of slots → AreTagged key_of (slot ∷ slots)
+tagged_more key_of slot slots here is zero h = here
+tagged_more key_of slot slots here is (suc k) h = is k h
+
+-- what holds of the rows, by how often each is there
+pub all_listed : (P : ℕ → Type 0) (kept : List RowAt) → ((n : ℕ) → 1 ≤ times n (rows_of kept) → P n) → All (λ (s : RowAt). P s.row) kept
+all_listed P [] is = All-nil (λ (s : RowAt). P s.row)
+all_listed P (slot ∷ kept) is =
+    All-cons (λ (s : RowAt). P s.row) slot kept (is slot.row (let h = times_here slot.row (rows_of kept) in omega (arith, h)))
+    (all_listed P kept (λ n h. is n (let more = times_cons_le n slot.row (rows_of kept) in omega (arith, more, h))))
+
+pub listed_all : (P : ℕ → Type 0) (kept : List RowAt) → All (λ (s : RowAt). P s.row) kept → (n : ℕ) → 1 ≤ times n (rows_of kept) → P n
+listed_all P [] all n h = absurd (omega arith)
+listed_all P (slot ∷ kept) all n h =
+    elim (cases_eq slot.row n) [
+      | inl e ↦ subst P e (All-head (λ (s : RowAt). P s.row) slot kept all)
+      | inr far ↦ listed_all P kept (All-tail (λ (s : RowAt). P s.row) slot kept all) n (subst (λ k. 1 ≤ k) (times_there n slot.row (rows_of kept) far) h)
+    ]
+
+pub contains_listed : (kept : List RowAt) (found : RowAt) → Contains kept found → 1 ≤ times found.row (rows_of kept)
+contains_listed kept found there = All-contains (λ (s : RowAt). 1 ≤ times s.row (rows_of kept)) kept found (all_listed (λ n. 1 ≤ times n (rows_of kept)) kept (λ n h. h)) there
+
+pub tagged_there : (key_of : ℕ → List ℕ) (kept : List RowAt) → All (λ (s : RowAt). s.tag ≡ tag_of (key_of s.row)) kept → (n : ℕ) → 1 ≤ times n (rows_of kept) → Contains kept (record { row = n; tag = tag_of (key_of n) })
+tagged_there key_of kept tagged =
+    let at : ℕ → RowAt = λ n. record { row = n; tag = tag_of (key_of n) } in
+    listed_all (λ n. Contains kept (at n)) kept
+    (λ k d inside. let s : RowAt = get_or kept k d in let with_tag : ℕ → RowAt = λ t. record { row = s.row; tag = t } in subst (Contains kept) (ap with_tag (tagged k d inside)) (All-contains_itself kept k d inside))

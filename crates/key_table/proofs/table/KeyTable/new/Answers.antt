@@ -1,0 +1,17 @@
+use Rattle.std.proofs.Common.{length, sym, ap, subst, ◌∙◌, arith}
+use Rattle.key_table.specs.inside.Slots.{held, AreProbed}
+use Rattle.key_table.proofs.Copied.{held_empty, probed_empty}
+use Rattle.key_table.proofs.table.KeyTable.new.Goals as goal
+
+pub invariant_of-result : goal.invariant_of-result
+invariant_of-result c =
+    let empty = c.clear.ensures.slots in
+    record {
+      probed = subst (AreProbed 1023) (sym empty) (probed_empty 1023 1024 (omega arith));
+      counted = sym (ap (λ slots. length slots) (ap held empty ∙ held_empty 1024));
+      within = omega arith;
+      upto = c.most_of-most.ensures;
+      slots_fit = omega (arith, c.in_ok-slots.ensures.exact, c.clear.ensures.capacity);
+      spare_fit = omega (arith, c.in_ok-spare.ensures.exact);
+      none_spare = c.in_ok-spare.ensures.items;
+    }

@@ -1,0 +1,79 @@
+-- Slots, of which each holds a row or none.
+use Rattle.std.specs.Prelude.{◌≡◌, ◌≢◌, ℕ, ◌-◌, ◌<◌, ◌≤◌, ◌==◌, Bool, not, List, length, filter, slice_index_or, bit_and}
+use Rattle.key_table.specs.Hash.{tag_of}
+use Rattle.key_table.specs.declared.entries.RowAt.{RowAt}
+
+abbrev pub nothing : RowAt
+nothing = record { row = 4294967295; tag = 0 }
+
+abbrev pub slot_at : List RowAt → ℕ → RowAt
+slot_at slots k = slice_index_or slots k nothing
+
+abbrev pub holds : RowAt → Bool
+holds slot = not (slot.row == 4294967295)
+
+-- what the slots hold
+abbrev pub held : List RowAt → List RowAt
+held slots = filter holds slots
+
+abbrev pub IsHeld : List RowAt → ℕ → Type 0
+IsHeld slots k = (slot_at slots k).row ≢ 4294967295
+
+-- the slot of a tag
+abbrev pub home_of : ℕ → ℕ → ℕ
+home_of mask tag = bit_and tag mask
+
+-- each row stands at its tag's slot or behind it, with no empty slot between; the last slot is empty
+pub record AreProbed (mask : ℕ) (slots : List RowAt) : Type 0 where
+  pub some : mask < length slots
+  pub last : (slot_at slots (length slots - 1)).row ≡ 4294967295
+  pub behind : (j : ℕ) → IsHeld slots j → home_of mask (slot_at slots j).tag ≤ j
+  pub between : (j k : ℕ) → IsHeld slots j → home_of mask (slot_at slots j).tag ≤ k → k < j → IsHeld slots k
+
+-- each row in the one stands in the other, with its tag
+abbrev pub Within : List RowAt → List RowAt → Type 0
+Within xs ys = (k : ℕ) → IsHeld ys k → (j : ℕ) × (slot_at xs j ≡ slot_at ys k)
+
+-- the first slot from one on that is empty
+pub record IsFirstVacant (slots : List RowAt) (start at : ℕ) : Type 0 where
+  pub inside : at < length slots
+  pub behind : start ≤ at
+  pub vacant : (slot_at slots at).row ≡ 4294967295
+  pub between : (k : ℕ) → start ≤ k → k < at → IsHeld slots k
+
+-- the row of a slot may stand in one before it
+pub record CanMove (mask : ℕ) (slots : List RowAt) (hole next : ℕ) : Type 0 where
+  pub inside : next < length slots
+  pub behind : hole < next
+  pub held : IsHeld slots next
+  pub home : home_of mask (slot_at slots next).tag ≤ hole
+
+-- no row behind a slot needs it
+abbrev pub NoneMoves : ℕ → List RowAt → ℕ → Type 0
+NoneMoves mask slots hole = (j : ℕ) → hole < j → IsHeld slots j → hole < home_of mask (slot_at slots j).tag
+
+-- the row stands at a slot or behind it
+pub record IsAhead (slots : List RowAt) (row at : ℕ) : Type 0 where
+  pub place : ℕ
+  pub inside : place < length slots
+  pub behind : at ≤ place
+  pub is : (slot_at slots place).row ≡ row
+
+-- the keys of the rows can be read
+abbrev pub AreReadable : (ℕ → Type 0) → List RowAt → Type 0
+AreReadable has_row slots = (k : ℕ) → IsHeld slots k → has_row (slot_at slots k).row
+
+-- each row's tag is the one of its key
+abbrev pub AreTagged : (ℕ → List ℕ) → List RowAt → Type 0
+AreTagged key_of slots = (k : ℕ) → IsHeld slots k → (slot_at slots k).tag ≡ tag_of (key_of (slot_at slots k).row)
+
+-- no row has the key
+abbrev pub HaveNot : (ℕ → List ℕ) → List ℕ → List RowAt → Type 0
+HaveNot key_of key slots = (k : ℕ) → IsHeld slots k → key_of (slot_at slots k).row ≢ key
+
+-- a row that has the key
+pub record IsFound (key_of : ℕ → List ℕ) (key : List ℕ) (slots : List RowAt) (found : RowAt) : Type 0 where
+  pub place : ℕ
+  pub is : slot_at slots place ≡ found
+  pub here : IsHeld slots place
+  pub same : key_of found.row ≡ key

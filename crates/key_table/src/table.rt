@@ -1,0 +1,145 @@
+//! The table.
+ghost use Rattle.std.specs.Prelude.{◌≡◌, ◌≢◌, ℕ, ◌+◌, ◌<◌, ◌≤◌, ◌∷◌, [], List, length, All, Contains, IfOk, MatchResult, MatchOption, vec_capacity};
+ghost use Rattle.key_table.specs.Table.{rows_of, AreSame, Has, IsSpotFor, IsTagged, IsTableOf};
+
+use crate::entries::{RowAt, Spot};
+use crate::hash::tag_of;
+use crate::seeking::seek;
+use crate::slots::{clear, locate, put, take_out};
+use crate::widening::{LEAST, most_of, widen};
+use key_index::Keys;
+use std::alloc::{AllocError, Global};
+use std::marker::Model;
+
+/// Rows that are found by their keys.
+///
+/// A table knows the numbers of its rows and tags of their keys. It is the table of given keys where `IsTableOf` holds; it
+/// stays so as long as its rows keep their keys, wherever these are moved (see [`KeyTable::law`]).
+#[derive(Drop)]
+pub struct KeyTable {
+    room: u32,
+    count: u32,
+    // one less than the number of slots that tags have, and the most of that
+    mask: u32,
+    most: u32,
+    slots: Vec<RowAt>,
+    // memory for the next slots
+    spare: Vec<RowAt>,
+}
+
+impl Model for KeyTable {
+    ghost use Rattle.key_table.specs.Table.{Table};
+    ghost use Rattle.key_table.specs.inside.Slots.{held};
+    ghost use Rattle.key_table.specs.inside.Kept.{AreKept};
+
+    ghost Value = { Table };
+
+    ghost view = { λ t. record { room = t.room; kept = held t.slots.items } };
+
+    ghost invariant = { λ t. AreKept t.room t.count t.mask t.most t.slots t.spare };
+}
+
+impl KeyTable {
+    /// A table with room for so many rows, and no row. No other call takes memory.
+    ///
+    /// # Errors
+    /// Want of memory.
+    pub fn new(alloc: Global, room: u32) -> Result<KeyTable, AllocError>
+        ensures { IfOk result (λ made. made ≡ record { room = room; kept = [] }) }
+    {
+        let most = most_of(room);
+        let size = most as usize + 2 + room as usize;
+        let mut slots = Vec::with_capacity(alloc, size)?;
+        let spare = Vec::with_capacity(alloc, size)?;
+        clear(&mut slots, LEAST as usize + 1);
+        Ok(KeyTable {
+            room,
+            count: 0,
+            mask: LEAST,
+            most,
+            slots,
+            spare,
+        })
+    }
+
+    /// How many rows there are.
+    pub fn len(&self) -> u32
+        ensures count { result ≡ length self.now.kept }
+        ensures within { result ≤ self.now.room }
+    {
+        self.count
+    }
+
+    /// How many rows there is room for.
+    pub fn room(&self) -> u32
+        ensures { result ≡ self.now.room }
+    {
+        self.room
+    }
+
+    /// The row of a key.
+    ///
+    /// # Errors
+    /// No row has the key. The answer is the spot for one, for [`KeyTable::insert`].
+    pub fn find<K: Keys>(&self, keys: &K, key: &[u8]) -> Result<RowAt, Spot>
+        requires { IsTableOf (K.has_row keys.now) (K.key_of keys.now) self.now }
+        ensures { MatchResult result
+            (λ found. Contains self.now.kept found × Has self.now found.row × (K.key_of keys.now found.row ≡ key.now))
+            (λ spot. IsSpotFor key.now spot × ((n : ℕ) → Has self.now n → K.key_of keys.now n ≢ key.now)) }
+    {
+        let tag = tag_of(key);
+        match seek(keys, &self.slots, self.mask, key, tag) {
+            Some(found) => Ok(found),
+            None => Err(Spot { tag }),
+        }
+    }
+
+    /// Puts a row in at the spot of its key. No memory is taken.
+    pub fn insert(&mut self, spot: Spot, row: u32)
+        requires number { row < 4294967295 }
+        requires room { length self.old.kept < self.old.room }
+        ensures room { self.new.room ≡ self.old.room }
+        ensures rows { AreSame (row ∷ rows_of self.old.kept) (rows_of self.new.kept) }
+        ensures tagged { (key_of : ℕ → List ℕ) → IsTagged key_of self.old → IsSpotFor (key_of row) spot → IsTagged key_of self.new }
+    {
+        self.mask = widen(
+            &mut self.slots,
+            &mut self.spare,
+            self.mask,
+            self.most,
+            self.count,
+        );
+        put(&mut self.slots, self.mask, RowAt { row, tag: spot.tag });
+        self.count += 1;
+    }
+
+    /// Where a row stands, by its key.
+    pub fn row_at<K: Keys>(&self, keys: &K, row: u32) -> RowAt
+        requires table { IsTableOf (K.has_row keys.now) (K.key_of keys.now) self.now }
+        requires row { Has self.now row }
+        ensures there { Contains self.now.kept result }
+        ensures row { result.row ≡ row }
+    {
+        RowAt {
+            row,
+            tag: tag_of(keys.key(row)),
+        }
+    }
+
+    /// Takes a row out. It is not asked for its key.
+    pub fn remove(&mut self, found: RowAt)
+        requires { Contains self.old.kept found }
+        ensures room { self.new.room ≡ self.old.room }
+        ensures rows { AreSame (rows_of self.old.kept) (found.row ∷ rows_of self.new.kept) }
+        ensures tagged { (key_of : ℕ → List ℕ) → IsTagged key_of self.old → IsTagged key_of self.new }
+    {
+        let at = locate(&self.slots, self.mask, found);
+        take_out(&mut self.slots, self.mask, at);
+        self.count -= 1;
+    }
+
+    /// What holds of each table, whoever keeps the keys of its rows: it stays the table of its rows where keys are moved.
+    pub fn law(&self)
+        ensures moved { (before after : ℕ → List ℕ) → ((n : ℕ) → Has self.now n → after n ≡ before n) → IsTagged before self.now → IsTagged after self.now }
+    {}
+}

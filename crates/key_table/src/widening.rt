@@ -1,0 +1,56 @@
+//! Slots for more rows.
+ghost use Rattle.std.specs.Prelude.{◌≡◌, ℕ, ◌+◌, ◌<◌, ◌≤◌, [], length, vec_capacity};
+ghost use Rattle.key_table.specs.Table.{rows_of, AreSame};
+ghost use Rattle.key_table.specs.inside.Slots.{held, AreProbed, Within};
+
+use crate::entries::RowAt;
+use crate::slots::put_all;
+use std::mem;
+
+/// One less than the least number of slots.
+pub(crate) const LEAST: u32 = 1023;
+
+/// Whether five eighths of the slots are in use.
+fn is_full(mask: u32, count: u32) -> bool {
+    u64::from(count) * 8 >= (u64::from(mask) + 1) * 5
+}
+
+/// One less than the greatest number of slots that a table of so many rows needs.
+pub(crate) fn most_of(room: u32) -> u32
+    ensures { 1023 ≤ result }
+{
+    let mut most = LEAST;
+    while most < 2147483647 && is_full(most, room) {
+        most = most * 2 + 1;
+    }
+    most
+}
+
+/// Doubles the slots where too many are in use, and answers one less than their number.
+pub(crate) fn widen(
+    slots: &mut Vec<RowAt>,
+    spare: &mut Vec<RowAt>,
+    mask: u32,
+    most: u32,
+    count: u32,
+) -> u32
+    requires probed { AreProbed mask slots.old.items }
+    requires spare { spare.old.items ≡ [] }
+    requires upto { mask ≤ most }
+    requires room { most + 2 + length (held slots.old.items) ≤ vec_capacity spare.old }
+    ensures probed { AreProbed result slots.new.items }
+    ensures upto { result ≤ most }
+    ensures rows { AreSame (rows_of (held slots.old.items)) (rows_of (held slots.new.items)) }
+    ensures within { Within slots.old.items slots.new.items }
+    ensures spare { spare.new.items ≡ [] }
+    ensures capacity { (n : ℕ) → n ≤ vec_capacity slots.old → n ≤ vec_capacity spare.old → (n ≤ vec_capacity slots.new) × (n ≤ vec_capacity spare.new) }
+{
+    if !is_full(mask, count) || u64::from(mask) * 2 + 1 > u64::from(most) {
+        return mask;
+    }
+    let wider = mask * 2 + 1;
+    put_all(slots, spare, wider);
+    mem::swap(slots, spare);
+    spare.clear();
+    wider
+}

@@ -1,0 +1,14 @@
+use Rattle.std.proofs.Common.{◌≡◌, ℕ, length}
+use Rattle.lazy_index.specs.inside.Mixed.{both, CanSettle}
+use Rattle.lazy_index.proofs.settling.drain.Given as goal
+
+abbrev pub invariant-loop : goal.invariant-loop
+invariant-loop g l = record {
+  settled : CanSettle (g.K.Keys.has_row l.keys) (g.K.Keys.key_of l.keys) l.order l.late;
+  all : (n : ℕ) → both l.order l.late n ≡ both l.fn.order l.fn.late n;
+  order_room : l.order.room ≡ l.fn.order.room;
+  late_room : l.late.bound ≡ l.fn.late.bound;
+}
+
+abbrev pub decreases-loop : goal.decreases-loop
+decreases-loop g l = length l.late.numbers

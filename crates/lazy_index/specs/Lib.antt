@@ -1,0 +1,3 @@
+pub mod Late
+pub mod Lazy
+pub mod inside

@@ -1,0 +1,4 @@
+-- What only the private parts cite.
+pub mod Places
+pub mod Mixed
+pub mod Waiting

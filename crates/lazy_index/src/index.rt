@@ -1,0 +1,165 @@
+//! The index.
+ghost use Rattle.std.specs.Prelude.{◌≡◌, ◌≢◌, ℕ, ◌<◌, ◌≤◌, ◌∷◌, [], List, length, Contains, IfOk, MatchResult};
+ghost use Rattle.common_lemmas.specs.Lists.{times};
+ghost use Rattle.key_index.specs.Order.{AreRising, rows_from};
+ghost use Rattle.key_table.specs.Table.{AreSame, Has, IsSpotFor};
+ghost use Rattle.lazy_index.specs.Lazy.{rows_in, IsKeyed, IsLazyOf, IsStanding};
+
+use crate::late::Late;
+use crate::settling::{leave, settle_all};
+use crate::standing::Standing;
+use key_index::{KeyIndex, Keys, Rows};
+use key_table::{KeyTable, RowAt, Spot};
+use std::alloc::{AllocError, Global};
+use std::marker::Model;
+
+/// Rows that are found by their keys, and that are put in order only once order is asked for.
+///
+/// It is the index of given keys where `IsLazyOf` holds; it stays so as long as its rows keep their keys, wherever these
+/// are moved (see [`LazyIndex::law`]).
+#[derive(Drop)]
+pub struct LazyIndex {
+    room: u32,
+    table: KeyTable,
+    order: KeyIndex,
+    // the rows that are not in order yet
+    late: Late,
+}
+
+impl Model for LazyIndex {
+    ghost use Rattle.lazy_index.specs.Lazy.{Lazy};
+    ghost use Rattle.lazy_index.specs.inside.Mixed.{AreMixed};
+
+    ghost Value = { Lazy };
+
+    ghost view = { λ a. record { room = a.room; table = a.table; order = a.order; late = a.late.numbers } };
+
+    ghost invariant = { λ a. AreMixed a.room a.table a.order a.late };
+}
+
+impl LazyIndex {
+    /// An index with room for so many rows, whose numbers are below that, and no row. No other call takes memory.
+    ///
+    /// # Errors
+    /// Want of memory.
+    pub fn new(alloc: Global, room: u32) -> Result<LazyIndex, AllocError>
+        ensures room { IfOk result (λ made. made.room ≡ room) }
+        ensures table { IfOk result (λ made. made.table ≡ record { room = room; kept = [] }) }
+        ensures order { IfOk result (λ made. made.order ≡ record { rows = []; room = room; kept = [] }) }
+        ensures late { IfOk result (λ made. made.late ≡ []) }
+    {
+        let table = KeyTable::new(alloc, room)?;
+        let order = KeyIndex::new(alloc, room)?;
+        let late = Late::new(alloc, room)?;
+        Ok(LazyIndex {
+            room,
+            table,
+            order,
+            late,
+        })
+    }
+
+    /// How many rows there are.
+    pub fn len(&self) -> u32
+        ensures count { result ≡ length self.now.table.kept }
+    {
+        self.table.len()
+    }
+
+    /// The row of a key.
+    ///
+    /// # Errors
+    /// No row has the key. The answer is the spot for one, for [`LazyIndex::insert`].
+    pub fn find<K: Keys>(&self, keys: &K, key: &[u8]) -> Result<RowAt, Spot>
+        requires { IsLazyOf (K.has_row keys.now) (K.key_of keys.now) self.now }
+        ensures { MatchResult result
+            (λ found. Contains self.now.table.kept found × Has self.now.table found.row × (K.key_of keys.now found.row ≡ key.now))
+            (λ spot. IsSpotFor key.now spot × ((n : ℕ) → Has self.now.table n → K.key_of keys.now n ≢ key.now)) }
+    {
+        self.table.find(keys, key)
+    }
+
+    /// Where a row stands, by its key.
+    pub fn row_at<K: Keys>(&self, keys: &K, row: u32) -> RowAt
+        requires lazy { IsLazyOf (K.has_row keys.now) (K.key_of keys.now) self.now }
+        requires row { Has self.now.table row }
+        ensures there { Contains self.now.table.kept result }
+        ensures row { result.row ≡ row }
+    {
+        self.table.row_at(keys, row)
+    }
+
+    /// Puts a row in at the spot of its key. It waits for its place in the order.
+    pub fn insert(&mut self, spot: Spot, row: u32)
+        requires number { row < self.old.room }
+        requires absent { times row (rows_in self.old) ≡ 0 }
+        requires room { length self.old.table.kept < self.old.room }
+        ensures room { self.new.room ≡ self.old.room }
+        ensures rows { AreSame (row ∷ rows_in self.old) (rows_in self.new) }
+        ensures keyed { (key_of : ℕ → List ℕ) → IsKeyed key_of self.old → IsSpotFor (key_of row) spot → IsKeyed key_of self.new }
+    {
+        self.table.insert(spot, row);
+        self.late.add(row);
+    }
+
+    /// Where a row stands in the order of keys, for [`LazyIndex::remove`].
+    pub fn standing<K: Keys>(&self, keys: &K, found: RowAt) -> Standing
+        requires lazy { IsLazyOf (K.has_row keys.now) (K.key_of keys.now) self.now }
+        requires there { Contains self.now.table.kept found }
+        ensures standing { IsStanding self.now result }
+        ensures found { result.found ≡ found }
+    {
+        if self.late.has(found.row) {
+            return Standing { found, place: None };
+        }
+        let Ok(at) = self.order.search(keys, keys.key(found.row)) else {
+            unreachable!()
+        };
+        Standing {
+            found,
+            place: Some(at.place),
+        }
+    }
+
+    /// Takes a row out. It is not asked for its key.
+    pub fn remove(&mut self, standing: Standing)
+        requires { IsStanding self.old standing }
+        ensures room { self.new.room ≡ self.old.room }
+        ensures rows { AreSame (rows_in self.old) (standing.found.row ∷ rows_in self.new) }
+        ensures keyed { (key_of : ℕ → List ℕ) → IsKeyed key_of self.old → IsKeyed key_of self.new }
+    {
+        self.table.remove(standing.found);
+        leave(&mut self.late, &mut self.order, standing);
+    }
+
+    /// Puts the rows that wait into the order.
+    pub fn settle<K: Keys>(&mut self, keys: &K)
+        requires { IsLazyOf (K.has_row keys.now) (K.key_of keys.now) self.old }
+        ensures lazy { IsLazyOf (K.has_row keys.now) (K.key_of keys.now) self.new }
+        ensures room { self.new.room ≡ self.old.room }
+        ensures table { self.new.table ≡ self.old.table }
+        ensures settled { self.new.late ≡ [] }
+    {
+        settle_all(&mut self.late, &mut self.order, keys);
+    }
+
+    /// The rows of the keys that are at or above a key, in order. No row waits.
+    pub fn rows_from<K: Keys>(&self, keys: &K, key: &[u8]) -> Rows<'_>
+        requires lazy { IsLazyOf (K.has_row keys.now) (K.key_of keys.now) self.now }
+        requires settled { self.now.late ≡ [] }
+        ensures rows { result ≡ rows_from (K.key_of keys.now) key.now self.now.order.rows }
+        ensures rising { AreRising (K.key_of keys.now) self.now.order.rows }
+        ensures all { AreSame (rows_in self.now) self.now.order.rows }
+    {
+        self.order.rows_from(keys, key)
+    }
+
+    /// What holds of each index, whoever keeps the keys of its rows: it stays the index of its rows where keys are moved.
+    pub fn law(&self)
+        ensures moved { (before after : ℕ → List ℕ) → ((n : ℕ) → Has self.now.table n → after n ≡ before n) → IsKeyed before self.now → IsKeyed after self.now }
+        ensures once { (n : ℕ) → times n (rows_in self.now) ≤ 1 }
+    {
+        self.table.law();
+        self.order.law();
+    }
+}

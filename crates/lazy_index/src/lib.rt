@@ -1,0 +1,16 @@
+//! Rows by their keys, for exact look-up and for look-ups in order.
+//!
+//! A table finds the row of a key. The order of keys is kept in blocks, which learn of a row only once order is asked
+//! for: until then it is late, and goes again without a word to the blocks.
+#![tactic(auto)]
+
+mod index;
+mod late;
+mod settling;
+mod standing;
+mod waiting;
+
+pub use index::LazyIndex;
+pub use key_index::{Keys, Rows};
+pub use key_table::{RowAt, Spot};
+pub use standing::Standing;
