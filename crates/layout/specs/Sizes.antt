@@ -75,9 +75,16 @@ scan_room = 8272
 abbrev pub greatest_request : ℕ
 greatest_request = 12272
 
--- the blocks that a shard may have lent at once
+-- the blocks that a shard may have lent at once, and those among them that are lent for requests
 abbrev pub tickets : ℕ
 tickets = 32
+
+abbrev pub request_tickets : ℕ
+request_tickets = 8
+
+-- the most bytes of a trace
+abbrev pub most_trace_bytes : ℕ
+most_trace_bytes = 67108864
 
 -- the pieces of a range that may be allocated at once
 abbrev pub most_pieces : ℕ

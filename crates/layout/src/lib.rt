@@ -67,6 +67,18 @@ pub const GREATEST_REQUEST: u32 = MESSAGE_HEADER + GREATEST_KEY as u32 + GREATES
 /// The blocks that a shard may have lent at once.
 pub const TICKETS: u32 = 32;
 
+/// Those among them that are lent for requests; the others are lent for replies.
+pub const REQUEST_TICKETS: u32 = 8;
+
+/// The packets that the ring of a lane of requests holds.
+pub const REQUEST_SLOTS: usize = 4;
+
+/// The packets that the ring of a lane of replies holds.
+pub const REPLY_SLOTS: usize = 8;
+
+/// The most bytes of a trace.
+pub const MOST_TRACE_BYTES: u32 = 67_108_864;
+
 /// The sizes hang together: what one of them says of another.
 pub fn sizes_hang_together()
     ensures segment { sizes.segment ≡ sizes.page * sizes.segment_pages }

@@ -1,4 +1,3 @@
-pub mod Rose
 pub mod Moves
 pub mod Memory
 pub mod Counted

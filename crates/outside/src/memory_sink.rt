@@ -1,7 +1,7 @@
 //! A sink that keeps its bytes in memory.
 ghost use Rattle.std.specs.Prelude.{◌≡◌, ◌≤◌, ◌<◌, ◌-◌, ◌↔◌, [], ◌++◌, min, take, length, vec_len, vec_capacity, Some, IsErr, IfOk, OnErr};
 ghost use Rattle.outside.specs.Memory.{SinkState, number_after};
-ghost use Rattle.outside.specs.Rose.{Rose};
+ghost use Rattle.layout.specs.Counts.{Rose};
 
 use crate::{Failed, Sink};
 use std::alloc::{AllocError, Global};

@@ -1,7 +1,7 @@
 //! A source over bytes in memory.
 ghost use Rattle.std.specs.Prelude.{◌≡◌, ◌≤◌, ◌<◌, ◌↔◌, [], ◌++◌, min, drop, take, length, Some, Contains, IsErr, IfOk, OnErr};
 ghost use Rattle.outside.specs.Memory.{SourceState, number_after};
-ghost use Rattle.outside.specs.Rose.{Rose};
+ghost use Rattle.layout.specs.Counts.{Rose};
 
 use crate::{Failed, Source};
 use std::marker::Model;

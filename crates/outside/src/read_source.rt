@@ -2,7 +2,7 @@
 ghost use Rattle.std.specs.Prelude.{◌≡◌, ◌≤◌, length, None, IfOk, OnErr};
 ghost use Rattle.std.specs.Io.KnownBytes.{ReadConsumes};
 ghost use Rattle.outside.specs.Counted.{Counted};
-ghost use Rattle.outside.specs.Rose.{Rose};
+ghost use Rattle.layout.specs.Counts.{Rose};
 
 use crate::{Failed, Source};
 use std::io::{ErrorKind, Read};

@@ -2,7 +2,8 @@
 ghost use Rattle.std.specs.Prelude.{◌≡◌, ◌≢◌, ◌+◌, ◌^◌, ◌<◌, ◌≤◌, length, take, drop, vec_len, Err, OnOk, IfOk, OnErr, IfSome};
 ghost use Rattle.std.specs.Io.KnownBytes.{Consumes, IsAtEnd, Keeps};
 ghost use Rattle.outside.specs.Moves.{ConsumesExactly, ConsumesUpTo};
-ghost use Rattle.outside.specs.Rose.{Rose};
+ghost use Rattle.layout.specs.Counts.{Rose};
+ghost use Rattle.layout.specs.Sizes.{most_trace_bytes};
 
 use crate::{Failed, Source};
 use std::alloc::{AllocError, Global};
@@ -32,7 +33,7 @@ const PIECE: usize = 64 * 1024;
 /// [`ReadStop::Fault`] where the source failed, [`ReadStop::TooLong`] once `limit + 1` bytes were
 /// taken, [`ReadStop::Memory`] where no room could be made. What was taken is lost.
 pub fn read_all<S: Source>(alloc: Global, source: &mut S, limit: u32) -> Result<Vec<u8>, ReadStop>
-    requires { limit ≤ 67108864 }
+    requires { limit ≤ most_trace_bytes }
 
     // All that was left, which is at most `limit` bytes.
     ensures all { IfOk result (λ bytes. IfSome (S.left source.old) (λ left. bytes.items ≡ left)) }

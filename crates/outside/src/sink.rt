@@ -1,7 +1,7 @@
 //! What takes bytes.
 ghost use Rattle.std.specs.Prelude.{◌≡◌, ℕ, ◌<◌, ◌≤◌, List, Option, length, take, IfOk, OnErr};
 ghost use Rattle.std.specs.Io.KnownBytes.{Appends, Keeps};
-ghost use Rattle.outside.specs.Rose.{Rose};
+ghost use Rattle.layout.specs.Counts.{Rose};
 
 use crate::Failed;
 

@@ -2,7 +2,7 @@
 ghost use Rattle.std.specs.Prelude.{◌≡◌, ◌≤◌, ◌<◌, length, take, None, IfOk, OnErr};
 ghost use Rattle.std.specs.Io.KnownBytes.{Appends, Keeps};
 ghost use Rattle.outside.specs.Counted.{Counted};
-ghost use Rattle.outside.specs.Rose.{Rose};
+ghost use Rattle.layout.specs.Counts.{Rose};
 
 use crate::{Failed, Sink};
 use std::io::{ErrorKind, Write};

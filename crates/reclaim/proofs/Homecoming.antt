@@ -5,7 +5,8 @@ use Rattle.std.proofs.lemmas.List.Sums.{sum_by-cons}
 use Rattle.foreign_list.specs.declared.piece_id.PieceId.{PieceId}
 use Rattle.foreign_list.specs.Blocks.{Block}
 use Rattle.shard_memory.specs.Shards.{Shard, ComeBack}
-use Rattle.shard_memory.specs.Tickets.{Tickets, HasIdle, BecomeIdle, tickets_out, raised}
+use Rattle.layout.specs.Counts.{raised}
+use Rattle.shard_memory.specs.Tickets.{Tickets, HasIdle, BecomeIdle, tickets_out}
 use Rattle.shard_memory.specs.declared.share.Share.{Share}
 use Rattle.foreign_list.specs.Lists.{OwnedList}
 use Rattle.row_cache.specs.Rows.{CacheState}

@@ -8,7 +8,8 @@ use Rattle.cache_model.specs.Row.{Row}
 use Rattle.foreign_list.specs.Blocks.{Block, piece_id_of}
 use Rattle.regions.specs.Shapes.{free_count}
 use Rattle.shard_memory.specs.Room.{LacksBlock}
-use Rattle.shard_memory.specs.Tickets.{Tickets, IsOfShare, IsIdle, HasIdle, BecomeIdle, tickets_out, raised}
+use Rattle.layout.specs.Counts.{raised}
+use Rattle.shard_memory.specs.Tickets.{Tickets, IsOfShare, IsIdle, HasIdle, BecomeIdle, tickets_out}
 use Rattle.shard_memory.specs.declared.share.Share.{Share}
 use Rattle.shard_memory.specs.declared.give_refusal.GiveRefusal.{GiveRefusal}
 use Rattle.shard_memory.specs.declared.give_refusal.GiveRefusal.TheVariants.{TooLarge, NoTicket, NoSpan}

@@ -5,7 +5,7 @@ use Rattle.std.proofs.Math.Seq.{take-append-add}
 use Rattle.std.specs.Io.KnownBytes.{Appends}
 use Rattle.std.proofs.KnownBytes.{Appends-trans}
 use Rattle.outside.specs.Moves.{AppendsFront}
-use Rattle.outside.specs.Rose.{Rose}
+use Rattle.layout.specs.Counts.{Rose}
 
 -- a count did not fall at first, and then rose
 pub Rose-after : (a b c : ℕ) → a ≤ b → Rose b c → Rose a c

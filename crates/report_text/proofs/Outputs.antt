@@ -9,7 +9,7 @@ use Rattle.std.specs.Io.KnownBytes.{Appends}
 use Rattle.std.proofs.KnownBytes.{Appends-nil, Appends-trans}
 use Rattle.outside.specs.Moves.{AppendsFront}
 use Rattle.outside.specs.declared.failure.Failed.{Failed}
-use Rattle.outside.specs.Rose.{Rose}
+use Rattle.layout.specs.Counts.{Rose}
 use Rattle.report_text.proofs.Fronts.{AppendsFront-before, AppendsFront-after, Rose-after}
 use Rattle.report_text.specs.inside.Output.{Output, Adds, Fails, Writes}
 

@@ -4,7 +4,7 @@ use Rattle.std.specs.Result.{OnOk, OnErr}
 use Rattle.std.specs.Borrow.{GName}
 use Rattle.std.specs.Io.KnownBytes.{Appends}
 use Rattle.outside.specs.Moves.{AppendsFront}
-use Rattle.outside.specs.Rose.{Rose}
+use Rattle.layout.specs.Counts.{Rose}
 use Rattle.report_text.specs.declared.writer.Writer.{Writer}
 use Rattle.report_text.specs.inside.Output.{Output, Adds, Writes, output}
 

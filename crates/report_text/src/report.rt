@@ -3,7 +3,7 @@ ghost use Rattle.std.specs.Prelude.{◌≡◌, ℕ, ◌≤◌, List, length, fla
 ghost use Rattle.std.specs.List.{enumerate_from};
 ghost use Rattle.std.specs.Io.KnownBytes.{Appends};
 ghost use Rattle.outside.specs.Moves.{AppendsFront};
-ghost use Rattle.outside.specs.Rose.{Rose};
+ghost use Rattle.layout.specs.Counts.{Rose};
 ghost use Rattle.cache_model.specs.Apply.{Reply};
 ghost use Rattle.cache_model.specs.Logged.{AreLogged};
 ghost use Rattle.cache_model.specs.Report.{line, answer_text, journal_text, report_of};

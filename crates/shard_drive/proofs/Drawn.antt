@@ -4,7 +4,7 @@ use Rattle.std.specs.List.{All, sum_by}
 use Rattle.std.proofs.lemmas.Bool.{cases_eq}
 use Rattle.std.proofs.lemmas.List.Sums.{sum_by-set}
 use Rattle.rand_pcg.specs.Lcg.{Lcg}
-use Rattle.shard_rings.specs.Lanes.{counted, greatest_count}
+use Rattle.layout.specs.Counts.{counted, greatest_count}
 use Rattle.shard_drive.specs.Drives.{Follows}
 use Rattle.shard_drive.specs.Words.{FollowsWords, behind, drawn, first_state, named, word}
 use Rattle.shard_drive.proofs.Places.{Writes}

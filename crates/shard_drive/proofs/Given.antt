@@ -2,7 +2,7 @@
 use Rattle.std.proofs.Common.{◌≡◌, ◌≢◌, ℕ, suc, ◌==◌, List, [], ◌∷◌, ◌++◌, cond, arith, ap, sym, ◌∙◌}
 use Rattle.std.proofs.lemmas.Bool.Decides.{nat_tests}
 use Rattle.std.proofs.lemmas.List.Sums.{sum_by_push}
-use Rattle.shard_rings.specs.Lanes.{counted}
+use Rattle.layout.specs.Counts.{counted}
 use Rattle.shard_drive.specs.Drives.{raised, turns_given}
 
 pub given-named : (schedule : List ℕ) (k : ℕ) → turns_given (schedule ++ k ∷ []) k ≡ suc (turns_given schedule k)

@@ -2,7 +2,7 @@
 use Rattle.std.proofs.Common.{◌≡◌, ℕ, ◌<◌, List, [], ◌∷◌, ◌++◌, length, get_or, set, sym, subst, ◌∙◌}
 use Rattle.std.specs.List.{All}
 use Rattle.std.proofs.lemmas.List.Elements.{All-get_or, All-set}
-use Rattle.shard_rings.specs.Lanes.{counted}
+use Rattle.layout.specs.Counts.{counted}
 use Rattle.shard_drive.specs.Drives.{AtEach, Follows, raised, turns_given}
 use Rattle.shard_drive.proofs.Places.{AtEach-next, Writes}
 use Rattle.shard_drive.proofs.Given.{turn-named, turn-other}

@@ -1,7 +1,7 @@
 -- What driving does to a row of nodes: each keeps its place and makes the turns that it is given.
 use Rattle.std.specs.Prelude.{◌≡◌, ℕ, zero, suc, ◌<◌, ◌==◌, List, length, count_by}
 use Rattle.std.specs.List.{slice_index_or}
-use Rattle.shard_rings.specs.Lanes.{counted}
+use Rattle.layout.specs.Counts.{counted}
 
 -- at each place k, so of what stood there and what stands there
 abbrev pub AtEach : {A : Type 0} → (ℕ → A → A → Type 0) → List A → List A → Type 0

@@ -2,7 +2,7 @@
 use Rattle.std.specs.Prelude.{◌≡◌, ℕ, zero, suc, ◌+◌, ◌<◌, ◌%◌, List, [], ◌∷◌, length, All, sum_by}
 use Rattle.rand_pcg.specs.Lcg.{Lcg, started, increment_of}
 use Rattle.rand_pcg.specs.Pcg.{multiplier_64, pcg32}
-use Rattle.shard_rings.specs.Lanes.{greatest_count}
+use Rattle.layout.specs.Counts.{greatest_count}
 use Rattle.shard_drive.specs.Drives.{Follows}
 
 -- The words are those of the generator of 64 bits that is started with the number on stream 1. A word is drawn from

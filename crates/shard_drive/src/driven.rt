@@ -1,7 +1,7 @@
 //! What can be driven.
 ghost use Rattle.std.specs.Prelude.{◌≡◌, ℕ, ◌<◌, length, slice_set, true, All};
 ghost use Rattle.std.specs.List.{slice_index_or};
-ghost use Rattle.shard_rings.specs.Lanes.{counted};
+ghost use Rattle.layout.specs.Counts.{counted};
 ghost use Rattle.shard_node.specs.Nodes.{traffic_by};
 ghost use Rattle.shard_node.specs.Standing.{InStanding};
 ghost use Rattle.shard_node.specs.Turns.{IsDone};

@@ -12,7 +12,8 @@ use Rattle.foreign_list.specs.declared.piece_id.PieceId.{PieceId}
 use Rattle.foreign_list.specs.Lists.{OwnedList, owned_list_code}
 use Rattle.foreign_list.specs.Blocks.{piece_id_code}
 use Rattle.shard_memory.specs.Room.{Room, KeepsRoom, room_code}
-use Rattle.shard_memory.specs.Tickets.{Tickets, IsLentWith, tickets_out, BecomeIdle, raised}
+use Rattle.layout.specs.Counts.{raised}
+use Rattle.shard_memory.specs.Tickets.{Tickets, IsLentWith, tickets_out, BecomeIdle}
 
 -- home and owner: those of its pieces. blocks: the pieces of `give_here`, the last one in front. objects: how many bytes are set aside for each block, by its place.
 -- segments: the pieces of `give_segment`. pages_out: the number of pages in allocated spans. list: that over which lent blocks come home. lent: which piece is lent with each ticket.

@@ -1,14 +1,11 @@
 -- The tickets with which blocks are lent, and their shares.
-use Rattle.std.specs.Prelude.{◌≡◌, ℕ, ◌+◌, ◌-◌, ◌^◌, ◌<◌, ◌≤◌, ◌⊎◌, min, List, Option, Some, None, is_some, count_by, slice_get}
-use Rattle.layout.specs.Sizes.{tickets}
+use Rattle.std.specs.Prelude.{◌≡◌, ℕ, ◌+◌, ◌-◌, ◌<◌, ◌≤◌, ◌⊎◌, List, Option, Some, None, is_some, count_by, slice_get}
+use Rattle.layout.specs.Sizes.{request_tickets, tickets}
 use Rattle.foreign_list.specs.declared.piece_id.PieceId.{PieceId}
 use Rattle.shard_memory.specs.declared.share.Share.{Share}
 use Rattle.shard_memory.specs.declared.share.Share.TheVariants.{Request, Reply}
 
 -- the first tickets are for requests, and the others for replies
-abbrev pub request_tickets : ℕ
-request_tickets = 8
-
 abbrev pub first_ticket : Share → ℕ
 first_ticket Request = 0
 first_ticket Reply = request_tickets
@@ -48,6 +45,3 @@ tickets_out lent = count_by is_some lent
 abbrev pub BecomeIdle : Tickets → Tickets → Type 0
 BecomeIdle old new = (ticket : ℕ) → (slice_get new ticket ≡ slice_get old ticket) ⊎ IsIdle new ticket
 
--- a count that rose, and stands still at the greatest u64
-abbrev pub raised : ℕ → ℕ → ℕ
-raised count by = min (count + by) (2 ^ 64 - 1)

@@ -6,7 +6,8 @@ ghost use Rattle.raw_range.specs.Memory.{Lent, extent_of, remove_extent};
 ghost use Rattle.foreign_list.specs.OwnerSeats.{IsSeatOf, IsAtRest};
 ghost use Rattle.foreign_list.specs.Blocks.{piece_id_of, IsFresh};
 ghost use Rattle.shard_memory.specs.Room.{LacksBlock, LacksSegment, IsTrimmed, KeepsRoom, HasAllRoom};
-ghost use Rattle.shard_memory.specs.Tickets.{first_ticket, end_ticket, HasIdle, IsLeastIdle, tickets_out, raised};
+ghost use Rattle.layout.specs.Counts.{raised};
+ghost use Rattle.shard_memory.specs.Tickets.{first_ticket, end_ticket, HasIdle, IsLeastIdle, tickets_out};
 ghost use Rattle.shard_memory.specs.Shards.{
   Shard,
   most_blocks,
@@ -28,13 +29,10 @@ use crate::give_refusal::GiveRefusal;
 use crate::piece_allocator::PieceAllocator;
 use crate::share::Share;
 use foreign_list::{Foreign, ForeignBlock, OwnerSeat};
-use layout::{GREATEST_BLOCK, TICKETS};
+use layout::{GREATEST_BLOCK, REQUEST_TICKETS, TICKETS};
 use raw_range::Piece;
 use std::alloc::Global;
 use std::marker::Model;
-
-/// The tickets for requests: the first ones.
-const REQUEST_TICKETS: u32 = 8;
 
 /// The memory of one shard, with the owner's seat at its list. One that is dropped is not freed: only `finish` gives its memory
 /// back.
@@ -51,7 +49,8 @@ pub struct ShardMemory<'f> {
 
 impl<'f> Model for ShardMemory<'f> {
     ghost use Rattle.shard_memory.specs.Shards.{Shard, shard_code};
-    ghost use Rattle.shard_memory.specs.Tickets.{tickets_out, raised};
+    ghost use Rattle.layout.specs.Counts.{raised};
+    ghost use Rattle.shard_memory.specs.Tickets.{tickets_out};
     ghost use Rattle.shard_memory.specs.inside.Lending.{staying, IsLending};
 
     ghost Value = { Shard };

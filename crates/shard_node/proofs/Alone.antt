@@ -12,7 +12,7 @@ use Rattle.trace_text.specs.Trace.{Trace}
 use Rattle.cache_model.specs.declared.entry.Entry.{Entry}
 use Rattle.cache_model.specs.Legal.{done}
 use Rattle.cache_model.specs.OwnParts.{issued_parts, parts_of}
-use Rattle.shard_memory.specs.Tickets.{raised}
+use Rattle.layout.specs.Counts.{raised}
 
 -- each part is done by one of the shards
 doer-of : (n i own : ℕ) (scan : Bool) → own < n → All (λ (part : ℕ × ℕ). part.1 < n) (cond scan (map (λ s. (i, s)) (range_with_len 0 n)) ((i, own) ∷ []))

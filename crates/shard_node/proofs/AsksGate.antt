@@ -20,7 +20,7 @@ use Rattle.std.proofs.lemmas.Option.{slice_get_past}
 use Rattle.shard_memory.specs.Tickets.{HasIdle}
 use Rattle.shard_memory.specs.declared.share.Share.TheVariants.{Request as RequestShare, Reply as ReplyShare}
 use Rattle.reclaim.specs.Spaces.{SpaceState}
-use Rattle.shard_rings.specs.Lanes.{Rose}
+use Rattle.layout.specs.Counts.{Rose}
 use Rattle.shard_node.specs.declared.waiting.Waiting.{Waiting}
 use Rattle.shard_node.specs.Turns.{IsHeldBack}
 use Rattle.shard_node.specs.inside.Own.{IsFirstPart}

@@ -15,7 +15,8 @@ use Rattle.cache_model.specs.Legal.{cache_after, reply_at}
 use Rattle.cache_model.specs.OwnParts.{issued_parts}
 use Rattle.cache_model.specs.Row.{floor}
 use Rattle.run_log.specs.JournalState.{JournalState}
-use Rattle.shard_memory.specs.Tickets.{raised, tickets_out}
+use Rattle.layout.specs.Counts.{raised}
+use Rattle.shard_memory.specs.Tickets.{tickets_out}
 use Rattle.foreign_list.specs.Blocks.{Block}
 use Rattle.shard_rings.specs.Request.{request}
 use Rattle.shard_rings.specs.declared.link.Packet.{Packet}

@@ -9,7 +9,8 @@ use Rattle.run_log.specs.JournalState.{JournalState}
 use Rattle.run_log.specs.Replies.{Replies as ReplyLog}
 use Rattle.shard_memory.specs.Tickets.{Tickets}
 use Rattle.reclaim.specs.Spaces.{SpaceState}
-use Rattle.shard_rings.specs.Lanes.{LinkEnd, Lanes, Rose}
+use Rattle.layout.specs.Counts.{Rose}
+use Rattle.shard_rings.specs.Lanes.{LinkEnd, Lanes}
 use Rattle.shard_rings.specs.Request.{request}
 use Rattle.shard_rings.specs.declared.link.Lane.TheVariants.{Requests, Replies}
 use Rattle.shard_rings.specs.declared.link.Packet.{Packet}

@@ -11,7 +11,8 @@ use Rattle.foreign_list.specs.Blocks.{Block}
 use Rattle.shard_memory.specs.Tickets.{HasIdle, Tickets}
 use Rattle.shard_memory.specs.declared.share.Share.TheVariants.{Request as RequestShare, Reply as ReplyShare}
 use Rattle.reclaim.specs.Spaces.{SpaceState}
-use Rattle.shard_rings.specs.Lanes.{Lanes, Rose, on}
+use Rattle.layout.specs.Counts.{Rose}
+use Rattle.shard_rings.specs.Lanes.{Lanes, on}
 use Rattle.shard_rings.specs.declared.link.Lane.{Lane}
 use Rattle.shard_rings.specs.declared.link.Lane.TheVariants.{Requests, Replies}
 use Rattle.shard_node.specs.Nodes.{NodeState, PeerState, Traffic}

@@ -18,7 +18,8 @@ use Rattle.cache_model.specs.Row.{Row}
 use Rattle.cache_model.specs.Spelled.{spelled}
 use Rattle.run_log.specs.JournalState.{JournalState}
 use Rattle.run_log.specs.Replies.{Replies}
-use Rattle.shard_memory.specs.Tickets.{raised, tickets_out}
+use Rattle.layout.specs.Counts.{raised}
+use Rattle.shard_memory.specs.Tickets.{tickets_out}
 use Rattle.shard_rings.specs.Lanes.{LinkEnd}
 use Rattle.reclaim.specs.Spaces.{SpaceState}
 use Rattle.reclaim.specs.Works.{pressure}

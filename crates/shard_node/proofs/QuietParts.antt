@@ -10,7 +10,8 @@ use Rattle.cache_model.specs.Spelled.{spelled}
 use Rattle.run_log.specs.JournalState.{JournalState}
 use Rattle.run_log.specs.Replies.{Replies}
 use Rattle.regions.specs.Shapes.{guards_of}
-use Rattle.shard_memory.specs.Tickets.{BecomeIdle, raised, tickets_out}
+use Rattle.layout.specs.Counts.{raised}
+use Rattle.shard_memory.specs.Tickets.{BecomeIdle, tickets_out}
 use Rattle.reclaim.specs.Lending.{TakesBack}
 use Rattle.reclaim.specs.Spaces.{SpaceState, IsSameSpace, with_rows}
 use Rattle.reclaim.specs.Works.{Records}

@@ -1,7 +1,8 @@
 -- What a try of each block that waits to be released comes to.
 use Rattle.std.proofs.Common.{◌≡◌, ℕ, ◌+◌, ◌≤◌, min, Option, Some, None, arith, refl}
 use Rattle.foreign_list.specs.Blocks.{Block}
-use Rattle.shard_rings.specs.Lanes.{Lanes, counted, greatest_count}
+use Rattle.layout.specs.Counts.{counted, greatest_count}
+use Rattle.shard_rings.specs.Lanes.{Lanes}
 use Rattle.shard_node.specs.Standing.{one_if}
 use Rattle.shard_node.specs.inside.Releases.{Releases, Tries, TriesBoth, held_count}
 

@@ -10,7 +10,8 @@ use Rattle.trace_text.specs.Operation.{operation}
 use Rattle.trace_text.specs.Parsed.{AreNumbered, trace_in}
 use Rattle.cache_model.specs.declared.entry.Entry.TheVariants.{Evicted}
 use Rattle.run_log.specs.JournalState.{JournalState}
-use Rattle.shard_memory.specs.Tickets.{raised, tickets_out}
+use Rattle.layout.specs.Counts.{raised}
+use Rattle.shard_memory.specs.Tickets.{tickets_out}
 use Rattle.shard_rings.specs.Lanes.{LinkEnd}
 use Rattle.shard_rings.specs.Request.{request}
 use Rattle.reclaim.specs.Spaces.{SpaceState}

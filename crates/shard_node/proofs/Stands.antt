@@ -5,7 +5,8 @@ use Rattle.std.proofs.lemmas.List.Sums.{sum_by-cons}
 use Rattle.foreign_list.specs.Blocks.{Block}
 use Rattle.shard_rings.specs.Lanes.{Lanes}
 use Rattle.reclaim.specs.Spaces.{SpaceState}
-use Rattle.shard_memory.specs.Tickets.{raised, tickets_out}
+use Rattle.layout.specs.Counts.{raised}
+use Rattle.shard_memory.specs.Tickets.{tickets_out}
 use Rattle.shard_node.specs.Nodes.{NodeState, PeerState, Traffic}
 use Rattle.shard_node.specs.Standing.{InStanding, held_of, received_from}
 use Rattle.shard_node.specs.inside.Releases.{Releases}

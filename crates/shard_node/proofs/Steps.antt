@@ -6,7 +6,8 @@ use Rattle.layout.specs.Sizes.{greatest_key}
 use Rattle.cache_model.specs.Holds.{RowsHold}
 use Rattle.regions.specs.Shapes.{guards_of}
 use Rattle.reclaim.specs.Spaces.{SpaceState}
-use Rattle.shard_memory.specs.Tickets.{raised, tickets_out}
+use Rattle.layout.specs.Counts.{raised}
+use Rattle.shard_memory.specs.Tickets.{tickets_out}
 use Rattle.shard_rings.specs.Lanes.{LinkEnd}
 use Rattle.shard_node.specs.declared.peer.Peer.{Peer}
 use Rattle.shard_node.specs.declared.shard.Shard.{Shard}

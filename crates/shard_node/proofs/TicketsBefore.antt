@@ -14,7 +14,8 @@ use Rattle.cache_model.specs.Legal.{done}
 use Rattle.cache_model.specs.OwnParts.{issued_parts}
 use Rattle.foreign_list.specs.Blocks.{Block, piece_id_of}
 use Rattle.foreign_list.specs.declared.piece_id.PieceId.{PieceId}
-use Rattle.shard_memory.specs.Tickets.{BecomeIdle, HasIdle, IsIdle, Tickets, raised, tickets_out}
+use Rattle.layout.specs.Counts.{raised}
+use Rattle.shard_memory.specs.Tickets.{BecomeIdle, HasIdle, IsIdle, Tickets, tickets_out}
 use Rattle.shard_memory.specs.declared.share.Share.TheVariants.{Request, Reply}
 use Rattle.reclaim.specs.Lending.{LendsBlock}
 use Rattle.reclaim.specs.Spaces.{SpaceState}

@@ -19,7 +19,8 @@ use Rattle.cache_model.specs.Legal.{IsComplete, IsLegal, cache_after, done, repl
 use Rattle.cache_model.specs.OwnParts.{HoldsReplies, issued_parts, part_reply, parts_of}
 use Rattle.cache_model.specs.Report.{lent}
 use Rattle.cache_model.specs.Spelled.{spelled}
-use Rattle.shard_memory.specs.Tickets.{raised, tickets_out}
+use Rattle.layout.specs.Counts.{raised}
+use Rattle.shard_memory.specs.Tickets.{tickets_out}
 use Rattle.shard_rings.specs.Lanes.{Lanes}
 use Rattle.shard_rings.specs.declared.link.Packet.{Packet}
 use Rattle.shard_node.specs.Nodes.{NodeState, PeerState, Traffic}

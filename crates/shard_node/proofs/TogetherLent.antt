@@ -5,7 +5,7 @@ use Rattle.std.proofs.lemmas.Bool.{cases_eq, eq-eqb}
 use Rattle.std.proofs.lemmas.Bool.Decides.{nat_tests}
 use Rattle.std.proofs.lemmas.List.Elements.{All-head, All-tail}
 use Rattle.std.proofs.lemmas.List.Sums.{sum_by-cons}
-use Rattle.shard_memory.specs.Tickets.{raised}
+use Rattle.layout.specs.Counts.{raised}
 
 sum-none : (xs : List ℕ) → sum_by (λ x. 0) xs ≡ 0
 sum-none [] = refl

@@ -4,7 +4,8 @@ use Rattle.std.proofs.lemmas.Bool.Decides.{nat_tests}
 use Rattle.std.proofs.Common.{◌≡◌, ℕ, ◌+◌, ◌<◌, ◌≤◌, ◌↔◌, Bool, true, false, true≢false, List, length, get_or, slice_get, Some, IsTrue, ◌||◌, inl, inr, arith, refl, sym, ap, ◌∙◌}
 use Rattle.std.specs.Prelude.{◌⊎◌}
 use Rattle.std.proofs.lemmas.Bool.{cases_order}
-use Rattle.shard_rings.specs.Lanes.{Lanes, Rose, greatest_count}
+use Rattle.layout.specs.Counts.{Rose, greatest_count}
+use Rattle.shard_rings.specs.Lanes.{Lanes}
 use Rattle.shard_rings.specs.declared.link.Packet.{Packet}
 use Rattle.shard_node.specs.Nodes.{NodeState, PeerState, Traffic}
 use Rattle.shard_node.specs.Turns.{HasCause, HasMoved}

@@ -13,8 +13,8 @@ use Rattle.cache_model.specs.OwnParts.{issued_parts}
 use Rattle.cache_model.specs.Row.{tight_floor}
 use Rattle.cache_model.specs.Spelled.{spelled}
 use Rattle.foreign_list.specs.Blocks.{Block}
-use Rattle.shard_memory.specs.Tickets.{raised, tickets_out}
-use Rattle.shard_rings.specs.Lanes.{greatest_count}
+use Rattle.layout.specs.Counts.{raised, greatest_count}
+use Rattle.shard_memory.specs.Tickets.{tickets_out}
 use Rattle.shard_rings.specs.Reply.{HoldsReply}
 use Rattle.shard_rings.specs.declared.link.Packet.{Packet}
 use Rattle.shard_rings.specs.declared.link.Packet.TheVariants.{Block as InBlock, Bye}

@@ -7,7 +7,7 @@ use Rattle.cache_model.specs.declared.reply_kind.ReplyKind.{ReplyKind}
 use Rattle.cache_model.specs.Legal.{IsComplete, IsLegal, cache_after}
 use Rattle.cache_model.specs.OwnParts.{HoldsReplies, part_reply, parts_of}
 use Rattle.cache_model.specs.Report.{lent}
-use Rattle.shard_memory.specs.Tickets.{raised}
+use Rattle.layout.specs.Counts.{raised}
 use Rattle.shard_rings.specs.Lanes.{ArePrefixes}
 use Rattle.shard_node.specs.Nodes.{NodeState, PeerState, Traffic}
 use Rattle.shard_node.specs.Standing.{InStanding}

@@ -8,7 +8,8 @@ use Rattle.cache_model.specs.OwnParts.{issued_parts}
 use Rattle.foreign_list.specs.Blocks.{Block}
 use Rattle.shard_memory.specs.Tickets.{HasIdle, tickets_out}
 use Rattle.shard_memory.specs.declared.share.Share.TheVariants.{Request, Reply as ReplyShare}
-use Rattle.shard_rings.specs.Lanes.{Rose, on}
+use Rattle.layout.specs.Counts.{Rose}
+use Rattle.shard_rings.specs.Lanes.{on}
 use Rattle.shard_rings.specs.declared.link.Lane.{Lane}
 use Rattle.shard_rings.specs.declared.link.Lane.TheVariants.{Requests, Replies}
 use Rattle.shard_rings.specs.declared.link.Packet.{Packet}

@@ -4,7 +4,7 @@ ghost use Rattle.layout.specs.Sizes.{ArePages};
 ghost use Rattle.trace_text.specs.Parsed.{trace_in};
 ghost use Rattle.foreign_list.specs.OwnerSeats.{IsAtRest};
 ghost use Rattle.shard_memory.specs.Tickets.{tickets_out};
-ghost use Rattle.shard_rings.specs.Lanes.{counted};
+ghost use Rattle.layout.specs.Counts.{counted};
 ghost use Rattle.reclaim.specs.Spaces.{IsUnguarded};
 ghost use Rattle.shard_node.specs.Nodes.{traffic_by};
 ghost use Rattle.shard_node.specs.Standing.{InStanding};

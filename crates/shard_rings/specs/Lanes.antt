@@ -1,6 +1,7 @@
 -- A link's lanes: the rings that it sends and receives on, and what went over them.
-use Rattle.std.specs.Prelude.{◌≡◌, ℕ, ◌+◌, ◌<◌, ◌≤◌, ◌⊎◌, List, [], ◌∷◌, ◌++◌, min}
+use Rattle.std.specs.Prelude.{◌≡◌, ℕ, ◌≤◌, List, [], ◌∷◌, ◌++◌}
 use mathlib.Core.List.{IsPrefix}
+use Rattle.layout.specs.Counts.{counted}
 use denote.RawPtr.{Ptr}
 use Rattle.std.specs.declared.alloc.Global.{Global}
 use Rattle.rtrb.specs.Shared.{Names}
@@ -31,20 +32,9 @@ ArePrefixes a b = IsPrefix a.requests b.requests × IsPrefix a.replies b.replies
 
 -- Counts.
 
-abbrev pub greatest_count : ℕ
-greatest_count = 18446744073709551615
-
--- one more, up to the greatest
-abbrev pub counted : ℕ → ℕ
-counted n = min (n + 1) greatest_count
-
 abbrev pub counts : Lane → Lanes ℕ → Lanes ℕ
 counts Requests numbers = record numbers { requests = counted numbers.requests }
 counts Replies numbers = record numbers { replies = counted numbers.replies }
-
--- the count rose, or stands still at the greatest
-abbrev pub Rose : ℕ → ℕ → Type 0
-Rose old new = (old < new) ⊎ ((old ≡ greatest_count) × (new ≡ greatest_count))
 
 -- on no lane did the count fall
 abbrev pub NoneFell : Lanes ℕ → Lanes ℕ → Type 0

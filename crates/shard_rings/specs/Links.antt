@@ -2,7 +2,8 @@
 use Rattle.std.specs.Prelude.{◌≡◌, ℕ, List, [], Option, Result, OnOk, OnErr, IfErr, OnSome, IfSome, IfNone}
 use Rattle.shard_rings.specs.declared.link.Packet.{Packet}
 use Rattle.shard_rings.specs.declared.link.Lane.{Lane}
-use Rattle.shard_rings.specs.Lanes.{Lanes, NoneFell, Rose, RingId, LinkEnd, adds, counts, each_lane, on}
+use Rattle.layout.specs.Counts.{Rose}
+use Rattle.shard_rings.specs.Lanes.{Lanes, NoneFell, RingId, LinkEnd, adds, counts, each_lane, on}
 
 -- the sending ends of two rings: what was sent, and how many sends were refused
 pub record Outgoing : Type 0 where

@@ -1,18 +1,15 @@
 //! The ends of two rings, one for each lane.
 ghost use Rattle.std.specs.Prelude.{◌≡◌, ◌↔◌, length, min, IsNone, IfOk};
 ghost use mathlib.Core.List.{IsPrefix};
-ghost use Rattle.shard_rings.specs.Lanes.{on, greatest_count, ArePrefixes};
+ghost use Rattle.layout.specs.Counts.{greatest_count};
+ghost use Rattle.shard_rings.specs.Lanes.{on, ArePrefixes};
 ghost use Rattle.shard_rings.specs.Links.{none_sent, none_received, Receives, Sends};
 
 use crate::link::{Lane, Packet};
 use crate::ring_end::{ReceivingEnd, SendingEnd, ring};
+use layout::{REPLY_SLOTS, REQUEST_SLOTS};
 use std::alloc::{AllocError, Global};
 use std::marker::Model;
-
-/// How many packets the ring of a lane holds.
-pub(crate) const REQUESTS: usize = 4;
-
-pub(crate) const REPLIES: usize = 8;
 
 /// The ends that send.
 #[derive(Drop)]
@@ -52,8 +49,8 @@ pub(crate) fn lanes<'f>(alloc: Global) -> Result<(SendingEnds<'f>, ReceivingEnds
     ensures sending { IfOk result (λ r. r.0 ≡ none_sent r.0.rings) }
     ensures receiving { IfOk result (λ r. r.1 ≡ none_received r.1.rings) }
 {
-    let (requests, to_requests) = ring(alloc, REQUESTS)?;
-    let (replies, to_replies) = ring(alloc, REPLIES)?;
+    let (requests, to_requests) = ring(alloc, REQUEST_SLOTS)?;
+    let (replies, to_replies) = ring(alloc, REPLY_SLOTS)?;
     Ok((
         SendingEnds { requests, replies },
         ReceivingEnds {

@@ -1,7 +1,8 @@
 //! A node's end toward one peer.
 ghost use Rattle.std.specs.Prelude.{◌≡◌, ℕ, List, OnOk, IfErr, OnErr, IfSome, IfNone};
 ghost use Rattle.shard_rings.specs.declared.link.Packet.{Packet};
-ghost use Rattle.shard_rings.specs.Lanes.{Lanes, LinkEnd, Rose, NoneFell, on, adds};
+ghost use Rattle.layout.specs.Counts.{Rose};
+ghost use Rattle.shard_rings.specs.Lanes.{Lanes, LinkEnd, NoneFell, on, adds};
 
 use foreign_list::ForeignBlock;
 

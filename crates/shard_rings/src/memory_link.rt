@@ -1,7 +1,8 @@
 //! A link with the other end of its pair, for one thread.
 ghost use Rattle.std.specs.Prelude.{◌≡◌, ◌↔◌, OnOk, IfErr, OnErr, IfSome, OnSome, IfNone, IsNone, IfOk};
 ghost use mathlib.Core.List.{IsPrefix};
-ghost use Rattle.shard_rings.specs.Lanes.{NoneFell, Rose, adds, on, counts};
+ghost use Rattle.layout.specs.Counts.{Rose};
+ghost use Rattle.shard_rings.specs.Lanes.{NoneFell, adds, on, counts};
 ghost use Rattle.shard_rings.specs.Links.{IsUnused, end_of, none_sent, none_received, Receives, Sends};
 
 use crate::lane_ends::{ReceivingEnds, SendingEnds, lanes};

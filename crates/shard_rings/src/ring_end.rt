@@ -1,7 +1,7 @@
 //! The two ends of one ring, each with its counts.
 ghost use Rattle.std.specs.Prelude.{◌≡◌, ◌≤◌, ◌↔◌, [], ◌∷◌, ◌++◌, length, min, OnOk, IfErr, OnErr, IfSome, IfNone, IsNone, IfOk};
 ghost use mathlib.Core.List.{IsPrefix};
-ghost use Rattle.shard_rings.specs.Lanes.{Rose, counted, greatest_count};
+ghost use Rattle.layout.specs.Counts.{Rose, counted, greatest_count};
 
 use crate::link::Packet;
 use rtrb::{Consumer, Producer, PushError, RingBuffer};

@@ -1,6 +1,7 @@
 //! A link over rings between two threads.
 ghost use Rattle.std.specs.Prelude.{◌≡◌, ℕ, ◌+◌, ◌<◌, length, min, OnOk, IfErr, OnErr, IfSome, IfNone, IfOk};
-ghost use Rattle.shard_rings.specs.Lanes.{adds, on, counts, greatest_count, ArePair, ArePrefixes};
+ghost use Rattle.layout.specs.Counts.{greatest_count};
+ghost use Rattle.shard_rings.specs.Lanes.{adds, on, counts, ArePair, ArePrefixes};
 ghost use Rattle.shard_rings.specs.Links.{IsUnused, end_of};
 
 use crate::lane_ends::{ReceivingEnds, SendingEnds, lanes};
@@ -10,7 +11,7 @@ use std::marker::Model;
 
 /// A node's end toward a peer that may run on another thread.
 ///
-/// Each lane is a ring of 4 requests or 8 replies, which one thread sends on and one receives on.
+/// Each lane is a ring, which one thread sends on and one receives on.
 #[derive(Drop)]
 pub struct RingLink<'f> {
     out: SendingEnds<'f>,

@@ -10,7 +10,7 @@ use Rattle.trace_text.specs.Parts.{has_part, most_shards, origin, parts}
 use Rattle.trace_text.specs.Reading.{most_commands}
 use Rattle.trace_text.specs.Trace.{Trace}
 use Rattle.cache_model.specs.Report.{lent}
-use Rattle.shard_memory.specs.Tickets.{raised}
+use Rattle.layout.specs.Counts.{raised}
 
 filter_is_shorter : {X : Type 0} (p : X → Bool) (xs : List X) → length (filter p xs) ≤ length xs
 filter_is_shorter p [] = omega arith

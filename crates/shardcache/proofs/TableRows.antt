@@ -4,7 +4,8 @@ use Rattle.std.specs.Io.KnownBytes.{Appends, Consumes, IsAtEnd}
 use Rattle.std.proofs.lemmas.Bool.Decides.{nat_tests}
 use Rattle.std.proofs.lemmas.List.{take-append-drop}
 use Rattle.trace_text.specs.declared.refusal.Cause.{Cause}
-use Rattle.trace_text.specs.Reading.{Refusal, TooLong, AtLine, most_bytes, trace_of}
+use Rattle.layout.specs.Sizes.{most_trace_bytes}
+use Rattle.trace_text.specs.Reading.{Refusal, TooLong, AtLine, trace_of}
 use Rattle.trace_text.specs.Trace.{Trace}
 use Rattle.made_trace.specs.Made.{made}
 use Rattle.shard_node.specs.Rans.{RanState}
@@ -94,8 +95,8 @@ pub means_read : (found : Settings) (words : List (List ℕ)) (taken : List ℕ)
 means_read found words taken left meaning asked reads out is =
     record { wanted = asked; trace = ap (trace_for found) (bytes_taken found.mode found taken reads) ∙ is; read = is_read found.mode meaning taken left reads out }
 
-pub is_too_long : (bytes : List ℕ) (n : ℕ) → most_bytes < length bytes → trace_of bytes n ≡ Err TooLong
-is_too_long bytes n long = let test : ltb most_bytes (length bytes) ≡ true = grind (arith, nat_tests) in rw test refl
+pub is_too_long : (bytes : List ℕ) (n : ℕ) → most_trace_bytes < length bytes → trace_of bytes n ≡ Err TooLong
+is_too_long bytes n long = let test : ltb most_trace_bytes (length bytes) ≡ true = grind (arith, nat_tests) in rw test refl
 
 -- ---- a trace that is made
 

@@ -2,7 +2,8 @@
 use Rattle.std.specs.Prelude.{◌≡◌, ℕ, ◌+◌, ◌<◌, ◌++◌, List, [], length, codes, slice_index_or, Some, None, Result, Ok, Err, Option}
 use Rattle.std.specs.Io.KnownBytes.{Appends, Consumes, IsAtEnd}
 use Rattle.layout.specs.Sizes.{dense}
-use Rattle.trace_text.specs.Reading.{Refusal, TooLong, AtLine, most_bytes}
+use Rattle.layout.specs.Sizes.{most_trace_bytes}
+use Rattle.trace_text.specs.Reading.{Refusal, TooLong, AtLine}
 use Rattle.trace_text.specs.Trace.{Trace}
 use Rattle.cache_model.specs.declared.entry.Entry.{Entry}
 use Rattle.cache_model.specs.Row.{tight_floor}
@@ -31,7 +32,7 @@ trace_bytes Gen settings taken = made settings.number settings.commands
 -- A source is read to its end for a trace, or for why there is none; but of a trace that is too long one byte above the most is read.
 abbrev pub IsReadOut : Result Trace Refusal → List ℕ → Option (List ℕ) → Type 0
 IsReadOut (Ok trace) taken left = IsAtEnd left
-IsReadOut (Err TooLong) taken left = length taken ≡ most_bytes + 1
+IsReadOut (Err TooLong) taken left = length taken ≡ most_trace_bytes + 1
 IsReadOut (Err (AtLine number cause)) taken left = IsAtEnd left
 
 -- how far the source was read: by `gen` not at all

@@ -2,14 +2,15 @@
 ghost use Rattle.std.specs.Prelude.{◌≡◌, ◌≢◌, ◌⊎◌, ◌+◌, ◌<◌, ◌≤◌, ◌∷◌, [], ℕ, List, Option, length, map, string_bytes, IsOk, IsErr, IfOk, OnOk, Err, None, Some};
 ghost use Rattle.std.specs.Io.KnownBytes.{Consumes, IsAtEnd};
 ghost use Rattle.outside.specs.Moves.{ConsumesExactly, ConsumesUpTo};
-ghost use Rattle.outside.specs.Rose.{Rose};
+ghost use Rattle.layout.specs.Counts.{Rose};
 ghost use Rattle.cache_model.specs.Report.{report};
 ghost use Rattle.cache_model.specs.Summary.{summary};
 ghost use Rattle.layout.specs.Sizes.{ArePages};
 ghost use Rattle.report_text.specs.Views.{journals_in};
 ghost use Rattle.trace_text.specs.Parsed.{trace_in};
 ghost use Rattle.trace_text.specs.Parts.{most_shards};
-ghost use Rattle.trace_text.specs.Reading.{AtLine, TooLong, most_bytes};
+ghost use Rattle.layout.specs.Sizes.{most_trace_bytes};
+ghost use Rattle.trace_text.specs.Reading.{AtLine, TooLong};
 ghost use Rattle.made_trace.specs.Made.{made};
 ghost use Rattle.shardcache.specs.Settings.{Settings as Wanted, most_made_commands, settings as settings_of, view};
 ghost use Rattle.shardcache.specs.Table.{FollowsTable, IsOutput, Reads, trace_bytes};
@@ -30,7 +31,8 @@ use shard_node::{Gates, Ran};
 use std::alloc::Global;
 use std::sync::Wait;
 use std::thread::Threads;
-use trace_text::{Cause, MOST_BYTES, ParseRefusal, Trace, parse};
+use layout::MOST_TRACE_BYTES;
+use trace_text::{Cause, ParseRefusal, Trace, parse};
 
 /// Writes a text to its end, and answers this status, or that the sink failed.
 fn write_line<K: Sink>(sink: &mut K, text: &[u8], status: Status) -> Status
@@ -154,7 +156,7 @@ where
     R: Threads + Wait + Sync,
     K: Sink,
     G: Gates,
-    requires short { length bytes.items ≤ MOST_BYTES }
+    requires short { length bytes.items ≤ MOST_TRACE_BYTES }
     requires some { 1 ≤ settings.shards }
     requires most { settings.shards ≤ most_shards }
     requires pages { ArePages settings.pages }
@@ -188,12 +190,12 @@ where
 fn read_trace<S: Source>(alloc: Global, source: &mut S) -> Result<Vec<u8>, ReadStop>
     ensures taken { IfOk result (λ bytes. Consumes (S.left source.old) (S.left source.new) bytes.items) }
     ensures at_end { OnOk result (IsAtEnd (S.left source.new)) }
-    ensures within { IfOk result (λ bytes. length bytes.items ≤ most_bytes) }
-    ensures one_above { result ≡ Err ReadStop.TooLong → ConsumesExactly (S.left source.old) (S.left source.new) (most_bytes + 1) }
-    ensures no_more { result ≢ Err ReadStop.TooLong → ConsumesUpTo (S.left source.old) (S.left source.new) most_bytes }
+    ensures within { IfOk result (λ bytes. length bytes.items ≤ most_trace_bytes) }
+    ensures one_above { result ≡ Err ReadStop.TooLong → ConsumesExactly (S.left source.old) (S.left source.new) (most_trace_bytes + 1) }
+    ensures no_more { result ≢ Err ReadStop.TooLong → ConsumesUpTo (S.left source.old) (S.left source.new) most_trace_bytes }
     ensures fault { result ≡ Err ReadStop.Fault → Rose (S.faults source.old) (S.faults source.new) }
 {
-    read_all(alloc, source, MOST_BYTES)
+    read_all(alloc, source, MOST_TRACE_BYTES)
 }
 
 /// Reads a trace from the source to its end and runs it.
@@ -263,7 +265,7 @@ where
     let Ok(bytes) = make_trace(alloc, settings.number, settings.commands) else {
         return Outcome::without_run(Status::Memory);
     };
-    if bytes.len() > MOST_BYTES as usize {
+    if bytes.len() > MOST_TRACE_BYTES as usize {
         return Outcome::without_run(too_long(sink));
     }
     run_bytes(rt, alloc, settings, bytes, sink, gates)

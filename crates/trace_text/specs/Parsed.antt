@@ -7,7 +7,8 @@ use Rattle.trace_text.specs.declared.command.Kind.TheVariants.{Put, Get, Erase, 
 use Rattle.trace_text.specs.Line.{key_fault, value_fault}
 use Rattle.trace_text.specs.Operation.{Operation, operations, part}
 use Rattle.trace_text.specs.Parts.{most_shards, replies_room}
-use Rattle.trace_text.specs.Reading.{command_lines, lines, most_bytes, most_commands, most_replies, operations_of}
+use Rattle.layout.specs.Sizes.{most_trace_bytes}
+use Rattle.trace_text.specs.Reading.{command_lines, lines, most_commands, most_replies, operations_of}
 use Rattle.trace_text.specs.Trace.{Trace, trace_with}
 
 pub record Parsed : Type 0 where
@@ -61,7 +62,7 @@ pub record AreSpelled (bytes : List ℕ) (commands : List Command) : Type 0 wher
 
 pub record IsConsistent (trace : Parsed) : Type 0 where
   pub spelled : AreSpelled trace.bytes trace.commands
-  pub short : length trace.bytes ≤ most_bytes
+  pub short : length trace.bytes ≤ most_trace_bytes
   pub room : replies_room (trace_in trace) trace.shards ≤ most_replies
   pub some_shards : 1 ≤ trace.shards
   pub most_shards : trace.shards ≤ most_shards

@@ -7,6 +7,7 @@ use Rattle.trace_text.specs.declared.refusal.ParseRefusal.{ParseRefusal}
 use Rattle.trace_text.specs.declared.refusal.ParseRefusal.TheVariants as refusals
 use Rattle.trace_text.specs.Line.{Fields, fields_of, is_passed}
 use Rattle.trace_text.specs.Operation.{Operation}
+use Rattle.layout.specs.Sizes.{most_trace_bytes}
 use Rattle.trace_text.specs.Parts.{replies_room}
 use Rattle.trace_text.specs.Trace.{Trace, trace_with}
 
@@ -15,10 +16,7 @@ pub data Refusal : Type 0 where
   TooLong : Refusal
   AtLine : ℕ → Cause → Refusal
 
--- the most bytes of a trace, the most commands, and the most bytes of replies
-abbrev pub most_bytes : ℕ
-most_bytes = 67108864
-
+-- the most commands of a trace, and the most bytes of replies
 abbrev pub most_commands : ℕ
 most_commands = 1048576
 
@@ -87,7 +85,7 @@ answerable n (Ok operations) =
 -- what the bytes of a trace mean for a run of n shards
 abbrev pub trace_of : List ℕ → ℕ → Result Trace Refusal
 trace_of bytes n =
-    if nat_lt most_bytes (length bytes) then Err TooLong else answerable n (operations_of 1 (command_lines 1 (lines bytes)))
+    if nat_lt most_trace_bytes (length bytes) then Err TooLong else answerable n (operations_of 1 (command_lines 1 (lines bytes)))
 
 -- the refusal of `parse` is the one of the reading; want of memory says nothing of it
 abbrev pub IsRefusedAs : {T : Type 0} → ParseRefusal → Result T Refusal → Type 0

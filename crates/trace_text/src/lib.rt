@@ -15,6 +15,6 @@ mod trace;
 
 pub use command::{Command, Kind, Span};
 pub use parts::{MOST_SHARDS, Needs, origin_of, owner_of};
-pub use reading::{MOST_BYTES, parse};
+pub use reading::parse;
 pub use refusal::{Cause, ParseRefusal};
 pub use trace::Trace;

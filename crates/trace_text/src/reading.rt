@@ -4,7 +4,8 @@ ghost use Rattle.trace_text.specs.inside.Found.{AddsLine, IsCommandAt, IsRestOf,
 ghost use Rattle.trace_text.specs.inside.Plain.{IsPlain};
 ghost use Rattle.trace_text.specs.Parsed.{AreSpelled, trace_in};
 ghost use Rattle.trace_text.specs.Parts.{most_shards};
-ghost use Rattle.trace_text.specs.Reading.{AtLine, is_cr, line_reading, lines, most_bytes, most_commands, most_replies, operations_of, command_lines, trace_of, strip_cr, IsRefusedAs};
+ghost use Rattle.layout.specs.Sizes.{most_trace_bytes};
+ghost use Rattle.trace_text.specs.Reading.{AtLine, is_cr, line_reading, lines, most_commands, most_replies, operations_of, command_lines, trace_of, strip_cr, IsRefusedAs};
 
 use crate::command::{Command, Span};
 use crate::command_list::CommandList;
@@ -14,9 +15,6 @@ use crate::plain::plain_front;
 use crate::refusal::{Cause, ParseRefusal};
 use crate::trace::Trace;
 use std::alloc::Global;
-
-/// The most bytes of a trace.
-pub const MOST_BYTES: u32 = 67_108_864;
 
 /// The most commands of a trace.
 const MOST_COMMANDS: usize = 1_048_576;
@@ -129,7 +127,7 @@ fn add_line(
 
 /// The commands that the bytes spell.
 fn commands_of(alloc: Global, bytes: &[u8]) -> Result<CommandList, ParseRefusal>
-    requires { length bytes.now ≤ most_bytes }
+    requires { length bytes.now ≤ most_trace_bytes }
     ensures read { IfOk result (λ commands. AreSpelled bytes.now commands) }
     ensures refused { IfErr result (λ refusal. IsRefusedAs refusal (operations_of 1 (command_lines 1 (lines bytes.now)))) }
 {
@@ -146,7 +144,7 @@ fn commands_of(alloc: Global, bytes: &[u8]) -> Result<CommandList, ParseRefusal>
     Ok(commands)
 }
 
-/// Reads a trace of at most [`MOST_BYTES`] bytes for a run with `shards` shards, 1 to 16.
+/// Reads a trace of at most [`MOST_TRACE_BYTES`] bytes for a run with `shards` shards, 1 to 16.
 ///
 /// The bytes are cut at each LF, what stands behind the last LF is a line too, and one CR at a line's end is dropped.
 /// A line that is empty or begins with `#` is passed over; each other line is a command. The format is this project's
@@ -158,7 +156,7 @@ fn commands_of(alloc: Global, bytes: &[u8]) -> Result<CommandList, ParseRefusal>
 /// line has one and the replies would be too large. [`ParseRefusal::Memory`] says that memory ran out. Both give up
 /// the bytes.
 pub fn parse(alloc: Global, bytes: Vec<u8>, shards: u32) -> Result<Trace, ParseRefusal>
-    requires short { length bytes.items ≤ most_bytes }
+    requires short { length bytes.items ≤ most_trace_bytes }
     requires some_shards { 1 ≤ shards }
     requires most_shards { shards ≤ most_shards }
     ensures bytes { IfOk result (λ trace. trace.bytes ≡ bytes.items) }

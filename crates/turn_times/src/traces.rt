@@ -3,7 +3,8 @@ ghost use Rattle.std.specs.Prelude.{◌≡◌, ◌≤◌, IfSome};
 ghost use Rattle.trace_text.specs.Parts.{most_shards};
 
 use std::alloc::Global;
-use trace_text::{MOST_BYTES, Trace, parse};
+use layout::MOST_TRACE_BYTES;
+use trace_text::{Trace, parse};
 
 /// For one shard: a row is stored, and then read so many times.
 pub fn of_reads(alloc: Global, number: u32) -> Option<Trace>
@@ -30,7 +31,7 @@ fn read_for(alloc: Global, text: Vec<u8>, shards: u32) -> Option<Trace>
     requires most { shards ≤ most_shards }
     ensures { IfSome result (λ trace. trace.shards ≡ shards) }
 {
-    if text.len() > MOST_BYTES as usize {
+    if text.len() > MOST_TRACE_BYTES as usize {
         return None;
     }
     parse(alloc, text, shards).ok()

@@ -6,7 +6,8 @@ use Rattle.regions.specs.Segments.{RegionState}
 use Rattle.regions.specs.Shapes.{free_count}
 use Rattle.shard_memory.specs.Room.{LacksBlock}
 use Rattle.shard_memory.specs.Shards.{Shard, IsCrowded}
-use Rattle.shard_memory.specs.Tickets.{IsOfShare, IsIdle, HasIdle, raised, tickets_out}
+use Rattle.layout.specs.Counts.{raised}
+use Rattle.shard_memory.specs.Tickets.{IsOfShare, IsIdle, HasIdle, tickets_out}
 use Rattle.shard_memory.specs.declared.share.Share.{Share}
 use Rattle.shard_memory.specs.declared.give_refusal.GiveRefusal.{GiveRefusal}
 use Rattle.shard_memory.specs.declared.give_refusal.GiveRefusal.TheVariants.{TooLarge, NoTicket, NoSpan}

@@ -6,7 +6,8 @@ ghost use Rattle.cache_model.specs.Apply as apply;
 ghost use Rattle.regions.specs.Contents.{live_at};
 ghost use Rattle.regions.specs.Shapes.{guards_of};
 ghost use Rattle.row_cache.specs.Rows.{StandsAt};
-ghost use Rattle.shard_memory.specs.Tickets.{HasIdle, tickets_out, raised};
+ghost use Rattle.layout.specs.Counts.{raised};
+ghost use Rattle.shard_memory.specs.Tickets.{HasIdle, tickets_out};
 ghost use Rattle.reclaim.specs.Spaces.{IsSameSpace, RowsStay, with_guards};
 ghost use Rattle.reclaim.specs.Lending.{TakesBack, LooksOnce, LendsBlock, RefusesNow};
 

@@ -3,7 +3,7 @@ use Rattle.std.specs.Prelude.{◌≡◌, ℕ, ◌≤◌, List, ◌++◌, Option,
 use Rattle.std.specs.Borrow.{GName}
 use Rattle.std.specs.Io.KnownBytes.{Appends}
 use Rattle.outside.specs.Moves.{AppendsFront}
-use Rattle.outside.specs.Rose.{Rose}
+use Rattle.layout.specs.Counts.{Rose}
 use Rattle.report_text.specs.declared.writer.Writer.{Writer}
 
 -- which sink it is, what it was given, its faults, and what stands in the block

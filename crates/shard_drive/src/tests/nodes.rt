@@ -1,7 +1,7 @@
 //! Nodes are driven to their ends.
 ghost use Rattle.std.specs.Prelude.{◌≤◌, length, All};
 ghost use Rattle.trace_text.specs.Parts.{most_shards};
-ghost use Rattle.trace_text.specs.Reading.{most_bytes};
+ghost use Rattle.layout.specs.Sizes.{most_trace_bytes};
 ghost use Rattle.shard_node.specs.Links.{ring_traffic};
 ghost use Rattle.shard_node.specs.Standing.{InStanding};
 
@@ -73,7 +73,7 @@ fn driven<R: Threads + Wait + Sync, S: Gates>(
     way: Way,
     gates: &S,
 ) -> Result<((u64, u64), bool), Fail>
-    requires short { length lines.now ≤ most_bytes }
+    requires short { length lines.now ≤ most_trace_bytes }
     requires several { 2 ≤ shards }
     requires most { shards ≤ most_shards }
 {

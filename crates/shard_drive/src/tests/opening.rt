@@ -2,7 +2,7 @@
 ghost use Rattle.std.specs.Prelude.{◌≡◌, ◌+◌, ◌<◌, ◌≤◌, [], length, All, IfOk, OnOk};
 ghost use Rattle.foreign_list.specs.OwnerSeats.{IsAtRest};
 ghost use Rattle.trace_text.specs.Parts.{most_shards};
-ghost use Rattle.trace_text.specs.Reading.{most_bytes};
+ghost use Rattle.layout.specs.Sizes.{most_trace_bytes};
 ghost use Rattle.shard_node.specs.Links.{IsUnused, ring_traffic};
 ghost use Rattle.shard_node.specs.Standing.{InStanding};
 ghost use Rattle.shard_drive.specs.Trials.{AreReady, AreUnused};
@@ -17,7 +17,7 @@ use trace_text::{Trace, parse};
 
 /// The trace of a text, for so many shards.
 pub fn trace_for(alloc: Global, text: &[u8], shards: u32) -> Result<Trace, Fail>
-    requires short { length text.now ≤ most_bytes }
+    requires short { length text.now ≤ most_trace_bytes }
     requires some { 1 ≤ shards }
     requires most { shards ≤ most_shards }
     ensures { IfOk result (λ trace. trace.shards ≡ shards) }

@@ -3,7 +3,8 @@ use Rattle.std.specs.Prelude.{◌≡◌, ℕ, ◌+◌, ◌<◌, ◌≤◌, ◌�
 use Rattle.cache_model.specs.Legal.{done}
 use Rattle.shard_memory.specs.Tickets.{HasIdle, Tickets}
 use Rattle.shard_memory.specs.declared.share.Share.TheVariants.{Reply as ReplyShare}
-use Rattle.shard_rings.specs.Lanes.{NoneFell, Rose, on}
+use Rattle.layout.specs.Counts.{Rose}
+use Rattle.shard_rings.specs.Lanes.{NoneFell, on}
 use Rattle.shard_rings.specs.declared.link.Lane.{Lane}
 use Rattle.shard_node.specs.declared.aside.Aside.{Aside}
 use Rattle.shard_node.specs.declared.aside.Tried.{Tried}

@@ -7,7 +7,8 @@ use Rattle.cache_model.specs.Apply.{Reply}
 use Rattle.cache_model.specs.Spelled.{spelled}
 use Rattle.foreign_list.specs.Blocks.{Block}
 use Rattle.run_log.specs.Replies.{Replies}
-use Rattle.shard_rings.specs.Lanes.{LinkEnd, NoneFell, Rose, adds, on}
+use Rattle.layout.specs.Counts.{Rose}
+use Rattle.shard_rings.specs.Lanes.{LinkEnd, NoneFell, adds, on}
 use Rattle.shard_rings.specs.declared.link.Lane.{Lane}
 use Rattle.shard_rings.specs.declared.link.Lane.TheVariants as lanes
 use Rattle.shard_rings.specs.declared.link.Packet.{Packet}

@@ -1,7 +1,8 @@
 -- Blocks that wait to be released, and the one try that each has in a turn.
 use Rattle.std.specs.Prelude.{◌≡◌, ℕ, ◌+◌, ◌≤◌, min, Option, Some, None}
 use Rattle.foreign_list.specs.Blocks.{Block, raced}
-use Rattle.shard_rings.specs.Lanes.{Lanes, counted, greatest_count}
+use Rattle.layout.specs.Counts.{counted, greatest_count}
+use Rattle.shard_rings.specs.Lanes.{Lanes}
 use Rattle.shard_node.specs.Standing.{one_if}
 
 -- Nothing waited; or the block is on its list, and was counted; or it saw the head of the list change, and waits on.

@@ -1,7 +1,8 @@
 -- What waits to be sent over a link, and the one try that it has in a turn.
 use Rattle.std.specs.Prelude.{◌≡◌, Bool, true, false, Option, Some, None}
 use Rattle.foreign_list.specs.Blocks.{Block}
-use Rattle.shard_rings.specs.Lanes.{NoneFell, Rose, adds, on}
+use Rattle.layout.specs.Counts.{Rose}
+use Rattle.shard_rings.specs.Lanes.{NoneFell, adds, on}
 use Rattle.shard_rings.specs.declared.link.Lane.{Lane}
 use Rattle.shard_rings.specs.declared.link.Lane.TheVariants.{Requests}
 use Rattle.shard_rings.specs.declared.link.Packet.{Packet}

@@ -6,7 +6,7 @@ ghost use Rattle.shard_node.specs.inside.Own.{IsFirstPart, own_log};
 ghost use Rattle.shard_node.specs.inside.Work.{others};
 ghost use Rattle.shard_memory.specs.Tickets.{HasIdle};
 ghost use Rattle.shard_memory.specs.declared.share.Share.{Share as Shares};
-ghost use Rattle.shard_rings.specs.Lanes.{Rose};
+ghost use Rattle.layout.specs.Counts.{Rose};
 ghost use Rattle.shard_rings.specs.declared.link.Lane.{Lane as AnyLane};
 ghost use Rattle.shard_node.specs.declared.waiting.Waiting.{Waiting as IsWaiting};
 ghost use Rattle.shard_node.specs.Standing.{InStanding};

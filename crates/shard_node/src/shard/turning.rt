@@ -1,6 +1,6 @@
 //! A turn: its steps, one after the other.
 ghost use Rattle.std.specs.Prelude.{◌≡◌, ◌↔◌, true, false};
-ghost use Rattle.shard_rings.specs.Lanes.{counted};
+ghost use Rattle.layout.specs.Counts.{counted};
 ghost use Rattle.shard_node.specs.Nodes.{traffic_by};
 ghost use Rattle.shard_node.specs.Standing.{InStanding};
 ghost use Rattle.shard_node.specs.Turns.{HasCause, IsAnswer, IsDone, IsIdle, IsSameNode};

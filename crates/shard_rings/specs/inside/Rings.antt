@@ -4,7 +4,8 @@ use Rattle.std.specs.declared.alloc.Global.{Global}
 use Rattle.rtrb.specs.declared.producer.Producer.{Producer}
 use Rattle.rtrb.specs.declared.consumer.Consumer.{Consumer}
 use Rattle.shard_rings.specs.declared.link.Packet.{Packet}
-use Rattle.shard_rings.specs.Lanes.{RingId, greatest_count}
+use Rattle.layout.specs.Counts.{greatest_count}
+use Rattle.shard_rings.specs.Lanes.{RingId}
 use Rattle.shard_rings.specs.Links.{Outgoing, Incoming}
 
 module _ {P : Type 0} where

@@ -9,7 +9,8 @@ use std::alloc::{AllocError, Global};
 use std::sync::Wait;
 use std::test::Fail;
 use std::thread::Threads;
-use trace_text::{MOST_BYTES, Trace, origin_of, owner_of, parse};
+use layout::MOST_TRACE_BYTES;
+use trace_text::{Trace, origin_of, owner_of, parse};
 
 /// How many keys are put, each of which is read by the next command.
 const KEYS: u32 = 1000;
@@ -29,7 +30,7 @@ fn lines_for(alloc: Global) -> Result<Vec<u8>, AllocError> {
 
 fn trace_for(alloc: Global) -> Result<Option<Trace>, AllocError> {
     let bytes = lines_for(alloc)?;
-    if bytes.len() > MOST_BYTES as usize {
+    if bytes.len() > MOST_TRACE_BYTES as usize {
         return Ok(None);
     }
     Ok(parse(alloc, bytes, 2).ok())

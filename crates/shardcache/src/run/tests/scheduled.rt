@@ -1,6 +1,6 @@
 //! Two shards whose turns a schedule orders.
 ghost use Rattle.std.specs.Prelude.{◌≡◌, ◌≤◌, length, true, All, IfSome};
-ghost use Rattle.trace_text.specs.Reading.{most_bytes};
+ghost use Rattle.layout.specs.Sizes.{most_trace_bytes};
 ghost use Rattle.trace_text.specs.Parsed.{trace_in};
 ghost use Rattle.shard_rings.specs.Links.{end_of};
 ghost use Rattle.shard_node.specs.Links.{ring_traffic};
@@ -91,7 +91,7 @@ fn report_of(alloc: Global, trace: &Trace, run: &Run) -> Result<Vec<u8>, AllocEr
 
 /// The report of a trace of two shards that are driven so, or nothing.
 fn report_by_schedule(alloc: Global, lines: &[u8]) -> Result<Vec<u8>, Fail>
-    requires short { length lines.now ≤ most_bytes }
+    requires short { length lines.now ≤ most_trace_bytes }
 {
     let bytes = Vec::from_slice(alloc, lines)?;
     let trace = parse(alloc, bytes, 2).ok().ok_or("refused")?;
