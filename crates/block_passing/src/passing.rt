@@ -1,3 +1,4 @@
+//! Two threads that pass marked blocks to each other and give them back.
 ghost use Rattle.std.specs.Prelude.{◌≡◌, ◌<◌, [], length};
 ghost use Rattle.foreign_list.specs.OwnerSeats.{IsSeatOf};
 

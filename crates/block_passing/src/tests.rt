@@ -1,3 +1,4 @@
+//! That every byte arrives.
 ghost use Rattle.std.specs.Prelude.{◌≡◌, []};
 ghost use Rattle.foreign_list.specs.OwnerSeats.{IsSeatOf};
 

@@ -36,11 +36,13 @@ pub fn keys_are_distinct()
 /// end, and was not before, has the reply that it has on that cache.
 pub fn a_journal_goes_on()
     ensures leads { (trace : Trace) (pages : ℕ) (journal entries : List JournalEntry) (cache : List Row)
-        → cache_after trace pages journal ≡ Some cache → cache_after trace pages (journal ++ entries) ≡ cache_from trace pages cache entries }
+        → cache_after trace pages journal ≡ Some cache
+        → cache_after trace pages (journal ++ entries) ≡ cache_from trace pages cache entries }
     ensures kept { (trace : Trace) (pages : ℕ) (journal entries : List JournalEntry) (i : ℕ) (reply : Reply)
         → reply_at trace pages journal i ≡ Some reply → reply_at trace pages (journal ++ entries) i ≡ Some reply }
     ensures replied { (trace : Trace) (pages i : ℕ) (journal : List JournalEntry) (cache : List Row) (operation : Operation)
-        → list_any (is_done i) journal ≡ false → command_of trace i ≡ Some operation → cache_after trace pages journal ≡ Some cache
+        → list_any (is_done i) journal ≡ false → command_of trace i ≡ Some operation
+        → cache_after trace pages journal ≡ Some cache
         → reply_at trace pages (journal ++ Done i ∷ []) i ≡ Some (apply operation cache).1 }
     ensures evicts { (trace : Trace) (pages bound i : ℕ) (journal : List JournalEntry)
         → EvictsAbove trace pages bound journal → EvictsAbove trace pages bound (journal ++ Done i ∷ []) }
@@ -64,7 +66,8 @@ pub fn evictions_are_counted()
     ensures more { (bound q : ℕ) (cache rest : List Row) (puts : List ℕ)
         → Evicts bound cache puts rest → is_of_put q (last_or None rest) ≡ true → bound < live rest
         → Evicts bound cache (puts ++ q ∷ []) (take (length rest - 1) rest) }
-    ensures count { (bound : ℕ) (cache rest : List Row) (puts : List ℕ) → Evicts bound cache puts rest → length puts + length rest ≡ length cache }
+    ensures count { (bound : ℕ) (cache rest : List Row) (puts : List ℕ) → Evicts bound cache puts rest
+        → length puts + length rest ≡ length cache }
 {}
 
 /// What the rows of other keys are: where no row has the key they are all rows, and no two of them have one key. A row
@@ -73,19 +76,22 @@ pub fn other_rows_are_distinct()
     ensures absent { (key : List ℕ) (cache : List Row) → has key (without key cache) ≡ false }
     ensures all { (key : List ℕ) (cache : List Row) → has key cache ≡ false → without key cache ≡ cache }
     ensures distinct { (key : List ℕ) (cache : List Row) → HasDistinctKeys cache → HasDistinctKeys (without key cache) }
-    ensures brought { (key : List ℕ) (cache : List Row) (row : Row) → row_of key cache ≡ Some row → HasDistinctKeys cache → HasDistinctKeys (row ∷ without key cache) }
+    ensures brought { (key : List ℕ) (cache : List Row) (row : Row) → row_of key cache ≡ Some row → HasDistinctKeys cache
+        → HasDistinctKeys (row ∷ without key cache) }
     ensures front { (count : ℕ) (cache : List Row) → HasDistinctKeys cache → HasDistinctKeys (take count cache) }
 {}
 
 /// The keys of a scan are among those that it was taken from, and stay as they are where they are put in order once more.
 pub fn scanned_keys_are_in_order()
-    ensures among { (count : ℕ) (test : List ℕ → Bool) (keys : List (List ℕ)) → All (Contains keys) (take count (in_order (filter test keys))) }
+    ensures among { (count : ℕ) (test : List ℕ → Bool) (keys : List (List ℕ))
+        → All (Contains keys) (take count (in_order (filter test keys))) }
     ensures stay { (count : ℕ) (keys : List (List ℕ)) → in_order (take count (in_order keys)) ≡ take count (in_order keys) }
 {}
 
 /// Keys in order are the one sorted list of them.
 pub fn sorted_keys_are_in_order()
-    ensures { (keys sorted : List (List ℕ)) → IsPermutation keys sorted → IsSorted (slice_cmp nat_cmp) sorted → in_order keys ≡ sorted }
+    ensures { (keys sorted : List (List ℕ)) → IsPermutation keys sorted → IsSorted (slice_cmp nat_cmp) sorted
+        → in_order keys ≡ sorted }
 {}
 
 /// What holds of the keys and the values of a trace's puts holds of each row of a cache to which a journal leads, and of
@@ -96,16 +102,19 @@ pub fn replies_hold_what_was_put()
         → RowsHold on_key on_value (apply operation cache).0 × ReplyHolds on_key on_value (apply operation cache).1 }
     ensures rows { (on_key on_value : List ℕ → Bool) (trace : Trace) (pages : ℕ) (journal : List JournalEntry) (cache : List Row)
         → PutsHold on_key on_value trace → cache_after trace pages journal ≡ Some cache → RowsHold on_key on_value cache }
-    ensures replies { (on_key on_value : List ℕ → Bool) (trace : Trace) (pages : ℕ) (journal : List JournalEntry) (i : ℕ) (reply : Reply)
+    ensures replies { (on_key on_value : List ℕ → Bool) (trace : Trace) (pages : ℕ) (journal : List JournalEntry) (i : ℕ)
+        (reply : Reply)
         → PutsHold on_key on_value trace → reply_at trace pages journal i ≡ Some reply → ReplyHolds on_key on_value reply }
-    ensures answers { (on_key on_value : List ℕ → Bool) (trace : Trace) (n pages : ℕ) (journals : List (List JournalEntry)) (operation : Operation) (reply : Reply)
+    ensures answers { (on_key on_value : List ℕ → Bool) (trace : Trace) (n pages : ℕ) (journals : List (List JournalEntry))
+        (operation : Operation) (reply : Reply)
         → PutsHold on_key on_value trace → answer trace n pages journals operation ≡ Some reply → ReplyHolds on_key on_value reply }
 {}
 
 /// The body of a reply is no longer than the greatest value of a trace, or than the room of each key that is asked.
 pub fn bodies_have_room()
     ensures { (trace : Trace) (pages : ℕ) (journal : List JournalEntry) (operation : Operation) (reply : Reply)
-        → HasShortKeys trace → command_of trace operation.number ≡ Some operation → reply_at trace pages journal operation.number ≡ Some reply
+        → HasShortKeys trace → command_of trace operation.number ≡ Some operation
+        → reply_at trace pages journal operation.number ≡ Some reply
         → length (spelled reply).1 ≤ most_of_body (longest_value trace) operation }
 {}
 
@@ -115,10 +124,12 @@ pub fn a_report_has_its_lines()
     ensures lines { (answers : List (ℕ × Reply)) (journals : List (List JournalEntry)) (occupancies : List Occupancy)
         → All (λ answer. IsUnbroken answer.1) answers
         → text_lines (report_of answers journals occupancies)
-        ≡ map answer_text answers ++ (map journal_text (enumerate_from 0 journals) ++ (map occupancy_text (enumerate_from 0 occupancies) ++ [] ∷ [])) }
+        ≡ map answer_text answers ++ (map journal_text (enumerate_from 0 journals) ++
+        (map occupancy_text (enumerate_from 0 occupancies) ++ [] ∷ [])) }
     ensures journals { (answers : List (ℕ × Reply)) (journals : List (List JournalEntry)) (occupancies : List Occupancy) (s : ℕ)
         → All (λ answer. IsUnbroken answer.1) answers → s < length journals
-        → slice_get (text_lines (report_of answers journals occupancies)) (length answers + s) ≡ option_map (λ journal. journal_text (s, journal)) (slice_get journals s) }
+        → slice_get (text_lines (report_of answers journals occupancies)) (length answers + s)
+        ≡ option_map (λ journal. journal_text (s, journal)) (slice_get journals s) }
 {}
 
 /// A body spells at most one list of keys.
@@ -141,14 +152,16 @@ pub fn one_shard_answers_alone()
     ensures answers { (trace : Trace) (pages : ℕ) (journal : List JournalEntry) (operation : Operation) (reply : Reply)
         → command_of trace operation.number ≡ Some operation → reply_at trace pages journal operation.number ≡ Some reply
         → answer trace 1 pages (journal ∷ []) operation ≡ Some reply }
-    ensures fitting { (longest : ℕ) (operation : Operation) (reply : Reply) → Fits longest operation reply → answer_from 1 operation (Some reply ∷ []) ≡ Some reply }
+    ensures fitting { (longest : ℕ) (operation : Operation) (reply : Reply) → Fits longest operation reply
+        → answer_from 1 operation (Some reply ∷ []) ≡ Some reply }
 {}
 
 /// The list of the parts that a shard issues has their count as its length, and those that one shard does among them are
 /// the parts of that peer.
 pub fn issued_parts_are_counted()
     ensures count { (trace : Trace) (n o : ℕ) → length (issued_parts trace n o) ≡ own_parts trace n o }
-    ensures peer { (trace : Trace) (n o q : ℕ) → q < n → map (λ part. part.0) (filter (λ part. part.1 == q) (issued_parts trace n o)) ≡ parts trace n o q }
+    ensures peer { (trace : Trace) (n o q : ℕ) → q < n
+        → map (λ part. part.0) (filter (λ part. part.1 == q) (issued_parts trace n o)) ≡ parts trace n o q }
 {}
 
 /// How many parts a shard issued before a command, with so many shards: they go up by the parts of the commands that it
@@ -156,7 +169,8 @@ pub fn issued_parts_are_counted()
 pub fn parts_go_up_by_command()
     ensures next { (trace : Trace) (n o i : ℕ) (d : Operation) → i < length trace.operations
         → parts_before trace n o (i + 1) ≡ parts_before trace n o i
-        + (if origin (slice_index_or trace.operations i d).number n == o then (if is_scan (slice_index_or trace.operations i d).kind then n else 1) else 0) }
+        + (if origin (slice_index_or trace.operations i d).number n == o then
+        (if is_scan (slice_index_or trace.operations i d).kind then n else 1) else 0) }
     ensures most { (trace : Trace) (n o i : ℕ) → 1 ≤ n → parts_before trace n o i ≤ i * n }
 {}
 
@@ -180,7 +194,8 @@ pub fn replies_fit_their_commands()
         → HasDistinctKeys cache → All (λ row. IsKey row.key) cache → All (λ row. length row.value ≤ longest) cache
         → Fits longest operation (apply operation cache).1 }
     ensures journal { (trace : Trace) (pages : ℕ) (journal : List JournalEntry) (operation : Operation) (reply : Reply)
-        → HasKeys trace → command_of trace operation.number ≡ Some operation → reply_at trace pages journal operation.number ≡ Some reply
+        → HasKeys trace → command_of trace operation.number ≡ Some operation
+        → reply_at trace pages journal operation.number ≡ Some reply
         → Fits (longest_value trace) operation reply }
 {}
 
@@ -190,6 +205,7 @@ pub fn logs_hold_the_answers()
         → length journals ≡ n → HasKeys trace
         → All (λ operation. command_of trace operation.number ≡ Some operation) trace.operations
         → All (λ operation. All (λ part. IsSome (part_reply trace pages journals part)) (parts_of n operation)) trace.operations
-        → ((o : ℕ) (d : List (Option (ReplyKind × List ℕ))) → o < n → HoldsReplies trace n o (part_reply trace pages journals) (slice_index_or logs o d))
+        → ((o : ℕ) (d : List (Option (ReplyKind × List ℕ))) → o < n
+        → HoldsReplies trace n o (part_reply trace pages journals) (slice_index_or logs o d))
         → AreLogged trace n logs (answers trace n pages journals) }
 {}

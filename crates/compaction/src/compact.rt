@@ -36,7 +36,8 @@ pub fn compact_one<M: Movers>(region: &mut Region, movers: &mut M) -> Compacted
     ensures free { result ≡ Compacted.Freed → 1 ≤ free_count region.new }
     ensures lower { result ≡ Compacted.Freed → HasFewerDead region.old region.new }
     ensures fits { M.fits movers.new (live_at region.new) }
-    ensures store { (n : ℕ) → store_of M.bare (M.place_of movers.new) (live_at region.new) n ≡ store_of M.bare (M.place_of movers.old) (live_at region.old) n }
+    ensures store { (n : ℕ) → store_of M.bare (M.place_of movers.new) (live_at region.new) n ≡ store_of M.bare
+        (M.place_of movers.old) (live_at region.old) n }
     ensures rest { M.rest movers.new ≡ M.rest movers.old }
     ensures holds { HoldsTheSame region.old region.new }
 {
@@ -61,7 +62,8 @@ fn empty<M: Movers>(region: &mut Region, movers: &mut M, source: u32)
     ensures free { 1 ≤ free_count region.new }
     ensures lower { HasFewerDead region.old region.new }
     ensures fits { M.fits movers.new (live_at region.new) }
-    ensures store { (n : ℕ) → store_of M.bare (M.place_of movers.new) (live_at region.new) n ≡ store_of M.bare (M.place_of movers.old) (live_at region.old) n }
+    ensures store { (n : ℕ) → store_of M.bare (M.place_of movers.new) (live_at region.new) n ≡ store_of M.bare
+        (M.place_of movers.old) (live_at region.old) n }
     ensures rest { M.rest movers.new ≡ M.rest movers.old }
     ensures holds { HoldsTheSame region.old region.new }
 {

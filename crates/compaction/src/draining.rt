@@ -25,7 +25,8 @@ fn make_room(region: &mut Region, source: u32, size: u32)
     ensures used { used_counts region.new ≡ used_counts region.old }
     ensures live { live_counts region.new ≡ live_counts region.old }
     ensures holds { HoldsTheSame region.old region.new }
-    ensures begun { ((shape region.new ≡ shape region.old) × (left region.new ≡ left region.old)) ⊎ ((left region.old < size) × BeginsNext region.old region.new × (left region.new ≡ sizes.segment)) }
+    ensures begun { ((shape region.new ≡ shape region.old) × (left region.new ≡ left region.old))
+        ⊎ ((left region.old < size) × BeginsNext region.old region.new × (left region.new ≡ sizes.segment)) }
 {
     if region.left() < size {
         region.next_active();
@@ -42,7 +43,8 @@ fn take_out<M: Movers>(region: &mut Region, movers: &mut M, place: Place, kind: 
     requires room { HasRoomFor place.segment region.old }
     requires fits { M.fits movers.old (live_at region.old) }
     ensures fits { M.fits movers.new (live_at region.new) }
-    ensures store { (n : ℕ) → store_of M.bare (M.place_of movers.new) (live_at region.new) n ≡ store_of M.bare (M.place_of movers.old) (live_at region.old) n }
+    ensures store { (n : ℕ) → store_of M.bare (M.place_of movers.new) (live_at region.new) n ≡ store_of M.bare
+        (M.place_of movers.old) (live_at region.old) n }
     ensures rest { M.rest movers.new ≡ M.rest movers.old }
     ensures dead { live_at region.new place ≡ None }
     ensures others { (p : Place) → p ≢ place → IsClosed region.old p.segment → IsSameAt M.bare region.old region.new p }
@@ -61,7 +63,8 @@ pub(crate) fn drain<M: Movers>(region: &mut Region, movers: &mut M, source: u32)
     requires room { HasRoomFor source region.old }
     requires fits { M.fits movers.old (live_at region.old) }
     ensures fits { M.fits movers.new (live_at region.new) }
-    ensures store { (n : ℕ) → store_of M.bare (M.place_of movers.new) (live_at region.new) n ≡ store_of M.bare (M.place_of movers.old) (live_at region.old) n }
+    ensures store { (n : ℕ) → store_of M.bare (M.place_of movers.new) (live_at region.new) n ≡ store_of M.bare
+        (M.place_of movers.old) (live_at region.old) n }
     ensures rest { M.rest movers.new ≡ M.rest movers.old }
     ensures dead { live_bytes_at region.new source ≡ 0 }
     ensures drained { IsDrained M.bare source region.old region.new }

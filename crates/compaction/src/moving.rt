@@ -49,7 +49,8 @@ pub(crate) fn move_object<M: Movers>(
     requires room { size ≤ left region.old }
     requires fits { M.fits movers.old (live_at region.old) }
     ensures fits { M.fits movers.new (live_at region.new) }
-    ensures store { (n : ℕ) → store_of M.bare (M.place_of movers.new) (live_at region.new) n ≡ store_of M.bare (M.place_of movers.old) (live_at region.old) n }
+    ensures store { (n : ℕ) → store_of M.bare (M.place_of movers.new) (live_at region.new) n ≡ store_of M.bare
+        (M.place_of movers.old) (live_at region.old) n }
     ensures rest { M.rest movers.new ≡ M.rest movers.old }
     ensures dead { live_at region.new from ≡ None }
     ensures others { (p : Place) → p ≢ from → IsClosed region.old p.segment → IsSameAt M.bare region.old region.new p }
@@ -68,7 +69,8 @@ fn tell<M: Movers>(region: &mut Region, movers: &mut M, kind: u8, from: Place, t
     requires copied { (i : Item) × (i.kind ≡ kind) × (live_at region.old from ≡ Some i) × (live_at region.old to ≡ Some i) }
     requires apart { from ≢ to }
     requires fits { M.fits movers.old (less to (live_at region.old)) }
-    ensures stands { (m : M) (live : Live) → M.fits m live → StandsFor M.bare (store_of M.bare (M.place_of m) live) (M.place_of m) live }
+    ensures stands { (m : M) (live : Live) → M.fits m live
+        → StandsFor M.bare (store_of M.bare (M.place_of m) live) (M.place_of m) live }
     ensures names { (n : ℕ) → M.place_of movers.new n ≡ option_map (renamed from to) (M.place_of movers.old n) }
     ensures fits { M.fits movers.new (less from (live_at region.new)) }
     ensures store { SameBut M.bare region.old region.new }

@@ -24,10 +24,12 @@ pub fn pass<M: Movers>(region: &mut Region, movers: &mut M) -> Compacted
     ensures unchanged { result ≡ Compacted.Guarded → (region.new ≡ region.old) × (movers.new ≡ movers.old) }
     ensures freed { result ≡ Compacted.Freed → 2 ≤ free_count region.new }
     ensures none { result ≡ Compacted.NoneSparse → IsCompacted region.new }
-    ensures enough { guards_of region.old ≡ 0 → 2 ≤ free_count region.old → (result ≡ Compacted.Freed) × (region.new ≡ region.old) × (movers.new ≡ movers.old) }
+    ensures enough { guards_of region.old ≡ 0 → 2 ≤ free_count region.old
+        → (result ≡ Compacted.Freed) × (region.new ≡ region.old) × (movers.new ≡ movers.old) }
     ensures free { 1 ≤ free_count region.new }
     ensures fits { M.fits movers.new (live_at region.new) }
-    ensures store { (n : ℕ) → store_of M.bare (M.place_of movers.new) (live_at region.new) n ≡ store_of M.bare (M.place_of movers.old) (live_at region.old) n }
+    ensures store { (n : ℕ) → store_of M.bare (M.place_of movers.new) (live_at region.new) n ≡ store_of M.bare
+        (M.place_of movers.old) (live_at region.old) n }
     ensures rest { M.rest movers.new ≡ M.rest movers.old }
     ensures holds { HoldsTheSame region.old region.new }
 {
@@ -51,7 +53,8 @@ fn free_one<M: Movers>(region: &mut Region, movers: &mut M) -> bool
     ensures none { result ≡ false → IsCompacted region.new }
     ensures free { 1 ≤ free_count region.new }
     ensures fits { M.fits movers.new (live_at region.new) }
-    ensures store { (n : ℕ) → store_of M.bare (M.place_of movers.new) (live_at region.new) n ≡ store_of M.bare (M.place_of movers.old) (live_at region.old) n }
+    ensures store { (n : ℕ) → store_of M.bare (M.place_of movers.new) (live_at region.new) n ≡ store_of M.bare
+        (M.place_of movers.old) (live_at region.old) n }
     ensures rest { M.rest movers.new ≡ M.rest movers.old }
     ensures holds { HoldsTheSame region.old region.new }
 {
@@ -75,8 +78,10 @@ fn close_spent(region: &mut Region)
 
 // Whether the active segment is sparse and full.
 fn is_spent(region: &Region) -> bool
-    ensures spent { result ≡ true → (n : ℕ) × (active_of region.now ≡ Some n) × IsSparse region.now n × (left region.now < sizes.greatest_object) }
-    ensures other { result ≡ false → (n : ℕ) → active_of region.now ≡ Some n → IsDense region.now n ⊎ (sizes.greatest_object ≤ left region.now) }
+    ensures spent { result ≡ true → (n : ℕ) × (active_of region.now ≡ Some n) × IsSparse region.now n ×
+        (left region.now < sizes.greatest_object) }
+    ensures other { result ≡ false → (n : ℕ) → active_of region.now ≡ Some n
+        → IsDense region.now n ⊎ (sizes.greatest_object ≤ left region.now) }
 {
     match region.active() {
         Some(active) => region.live_in(active) <= DENSE && region.left() < GREATEST_OBJECT,

@@ -1,3 +1,4 @@
+//! A history of events, replayed.
 ghost use Rattle.std.specs.Prelude.{◌≡◌, ◌≤◌, IfOk, IfSome, length};
 ghost use Rattle.foreign_core.specs.Tickets.{start};
 ghost use Rattle.foreign_core.specs.Histories.{run, EachInOneState, EachReturnsOnce, NewestReturnsFirst, EachTakenReturns};

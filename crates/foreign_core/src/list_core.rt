@@ -1,3 +1,4 @@
+//! The state of a foreign free list, and its steps.
 ghost use Rattle.std.specs.Prelude.{◌≡◌, ◌<◌, ◌≤◌, ◌↔◌, [], length, IsTrue, IsSome, IfOk, Some, unwrap_or, map, slice_set, vec_capacity};
 ghost use Rattle.foreign_core.specs.declared.ticket_state.TicketState.TheVariants.{Idle};
 ghost use Rattle.foreign_core.specs.Tickets.{start, state_of, head_of, step, becomes, listed_first, taken};

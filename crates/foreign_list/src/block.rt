@@ -1,3 +1,4 @@
+//! A lent block in the hands of whoever has it.
 ghost use Rattle.std.specs.Prelude.{◌≡◌, ◌≢◌, IfOk, IfErr};
 ghost use Rattle.foreign_list.specs.Blocks.{raced, spent};
 

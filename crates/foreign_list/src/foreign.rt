@@ -1,3 +1,4 @@
+//! The list of one owner.
 use crate::list_table::ListTable;
 use std::marker::Model;
 

@@ -1,3 +1,4 @@
+//! The law of the list.
 ghost use Rattle.foreign_list.specs.Laws.{EachShowsCore, EachStepIsOneEvent};
 
 use foreign_core::law_of_histories;

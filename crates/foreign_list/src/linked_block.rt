@@ -1,3 +1,4 @@
+//! A block on its way onto the list.
 ghost use Rattle.std.specs.Prelude.{◌≡◌, ◌≢◌, ◌≤◌, IfOk, IfErr};
 ghost use Rattle.foreign_list.specs.Blocks.{raced, spent};
 ghost use Rattle.foreign_list.specs.inside.Words.{ticket_of};

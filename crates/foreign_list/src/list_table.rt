@@ -1,3 +1,4 @@
+//! The words and slots of a list, and the rule of their steps.
 ghost use Rattle.std.specs.Prelude.{◌≡◌};
 
 use crate::views::View;

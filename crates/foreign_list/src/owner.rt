@@ -1,3 +1,4 @@
+//! What the owner does with a list: lending, taking whole, taking back, closing.
 ghost use Rattle.std.specs.Prelude.{◌≡◌, ℕ, List, [], IfOk, IfSome, IfNone, IsNone, All};
 ghost use Rattle.foreign_list.specs.OwnerSeats.{IsSeatOf, IsAtRest, IsIdle, all_idle, after_lend, after_take_whole, ComesBack};
 ghost use Rattle.foreign_list.specs.Blocks.{piece_id_of, IsFresh};

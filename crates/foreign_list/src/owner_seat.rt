@@ -1,3 +1,4 @@
+//! The owner's seat at a list.
 ghost use Rattle.std.specs.Prelude.{◌≡◌, ◌<◌, ◌↔◌, true, false, IsTrue, length, slice_set};
 ghost use Rattle.foreign_list.specs.OwnerSeats.{IsIdle};
 

@@ -1,3 +1,4 @@
+//! What is left of a block that came on its list.
 use crate::block::ForeignBlock;
 use crate::list_table::{ListTable, TableSeat};
 use std::marker::Model;

@@ -46,7 +46,10 @@ impl ListTable {
         requires stage { ((holder_of pass.old.me.0).stage ≡ Carry) × ((holder_of pass.old.me.0).has_slot ≡ false) }
         ensures seat { SameSeat pass.old pass.new }
         ensures low { result ≤ 32 }
-        ensures looked { pass.new.me ≡ (Pass (at_stage (holder_of pass.old.me.0) (Looked result)), ((holder_of pass.old.me.0).ticket, None) ∷ pass.old.me.1) }
+        ensures looked { pass.new.me ≡ (
+          Pass (at_stage (holder_of pass.old.me.0) (Looked result)),
+          ((holder_of pass.old.me.0).ticket, None) ∷ pass.old.me.1,
+        ) }
     {
         self.table.shared.load::<FirstLook>(pass, 0)
     }
@@ -80,7 +83,8 @@ impl ListTable {
         requires seat { IsAt self.now pass.old × IsPass pass.old.me.0 }
         requires ticket { (ticket ≡ (holder_of pass.old.me.0).ticket) × (ticket < 32) }
         requires stage { (holder_of pass.old.me.0).stage ≡ Linked head }
-        requires piece { (piece : Lent) × (pass.old.me.1 ≡ (ticket, Some piece) ∷ []) × (piece_id_of piece ≡ (holder_of pass.old.me.0).piece_id) }
+        requires piece { (piece : Lent) × (pass.old.me.1 ≡ (ticket, Some piece) ∷ [])
+            × (piece_id_of piece ≡ (holder_of pass.old.me.0).piece_id) }
         ensures seat { SameSeat pass.old pass.new }
         ensures low { result ≤ 32 }
         ensures won { result ≡ head → pass.new.me ≡ (Spent, []) }

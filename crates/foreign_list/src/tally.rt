@@ -1,3 +1,4 @@
+//! A count of blocks that were released.
 ghost use Rattle.std.specs.Prelude.{◌≡◌, ◌+◌, ◌^◌, ◌-◌, min};
 
 use crate::released::Released;

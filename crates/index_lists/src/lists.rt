@@ -1,3 +1,4 @@
+//! Lists of indices through arrays, linked both ways.
 ghost use Rattle.std.specs.Prelude.{
   ◌≡◌,
   ℕ,
@@ -46,7 +47,8 @@ impl Model for IndexLists {
 
     ghost view = { λ a. record { indices = a.indices; lists = rings_from a.indices a.next.items a.lengths.items } };
 
-    ghost invariant = { λ a. IsConsistent a.indices a.next.items a.prev.items a.lengths.items (rings_from a.indices a.next.items a.lengths.items) };
+    ghost invariant = { λ a. IsConsistent a.indices a.next.items a.prev.items a.lengths.items
+        (rings_from a.indices a.next.items a.lengths.items) };
 }
 
 impl IndexLists {

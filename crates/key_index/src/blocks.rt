@@ -37,8 +37,10 @@ pub(crate) fn put(blocks: &mut Vec<Vec<Entry>>, place: Place, entry: Entry)
     requires at { place.at ≤ length (entries_at blocks.old.items place.block) }
     requires room { length (entries_at blocks.old.items place.block) < 256 }
     requires are_blocks { All IsBlock blocks.old.items }
-    ensures entries { entries_of blocks.new.items ≡ entries_of (take place.block blocks.old.items) ++ (insert (entries_at blocks.old.items place.block) place.at entry ++ entries_of (drop (place.block + 1) blocks.old.items)) }
-    ensures lens { lens_of blocks.new.items ≡ slice_set (lens_of blocks.old.items) place.block (length (entries_at blocks.old.items place.block) + 1) }
+    ensures entries { entries_of blocks.new.items ≡ entries_of (take place.block blocks.old.items)
+        ++ (insert (entries_at blocks.old.items place.block) place.at entry ++ entries_of (drop (place.block + 1) blocks.old.items)) }
+    ensures lens { lens_of blocks.new.items
+        ≡ slice_set (lens_of blocks.old.items) place.block (length (entries_at blocks.old.items place.block) + 1) }
     ensures are_blocks { All IsBlock blocks.new.items }
     ensures dense { AreDense (lens_of blocks.old.items) → AreDense (lens_of blocks.new.items) }
     ensures len { vec_len blocks.new ≡ vec_len blocks.old }
@@ -57,11 +59,13 @@ fn cut(blocks: &mut Vec<Vec<Entry>>, spare: &mut Vec<Vec<Entry>>, at: usize)
     requires are_blocks { All IsBlock blocks.old.items }
     requires are_spare { All IsSpare spare.old.items }
     ensures before { entries_of (take at blocks.new.items) ≡ entries_of (take at blocks.old.items) }
-    ensures upto { entries_of (take (at + 1) blocks.new.items) ≡ entries_of (take at blocks.old.items) ++ take 128 (entries_at blocks.old.items at) }
+    ensures upto { entries_of (take (at + 1) blocks.new.items) ≡ entries_of (take at blocks.old.items)
+        ++ take 128 (entries_at blocks.old.items at) }
     ensures low { entries_at blocks.new.items at ≡ take 128 (entries_at blocks.old.items at) }
     ensures high { entries_at blocks.new.items (at + 1) ≡ drop 128 (entries_at blocks.old.items at) }
     ensures entries { entries_of blocks.new.items ≡ entries_of blocks.old.items }
-    ensures lens { lens_of blocks.new.items ≡ take at (lens_of blocks.old.items) ++ 128 ∷ 128 ∷ drop (at + 1) (lens_of blocks.old.items) }
+    ensures lens { lens_of blocks.new.items ≡ take at (lens_of blocks.old.items)
+        ++ 128 ∷ 128 ∷ drop (at + 1) (lens_of blocks.old.items) }
     ensures are_blocks { All IsBlock blocks.new.items }
     ensures are_spare { All IsSpare spare.new.items }
     ensures more { vec_len blocks.new ≡ vec_len blocks.old + 1 }
@@ -94,7 +98,8 @@ pub(crate) fn split(
     ensures half { length (entries_at blocks.new.items result.block) ≡ 128 }
     ensures front { front blocks.new.items result.block result.at ≡ front blocks.old.items place.block place.at }
     ensures entries { entries_of blocks.new.items ≡ entries_of blocks.old.items }
-    ensures lens { lens_of blocks.new.items ≡ take place.block (lens_of blocks.old.items) ++ 128 ∷ 128 ∷ drop (place.block + 1) (lens_of blocks.old.items) }
+    ensures lens { lens_of blocks.new.items ≡ take place.block (lens_of blocks.old.items)
+        ++ 128 ∷ 128 ∷ drop (place.block + 1) (lens_of blocks.old.items) }
     ensures are_blocks { All IsBlock blocks.new.items }
     ensures are_spare { All IsSpare spare.new.items }
     ensures more { vec_len blocks.new ≡ vec_len blocks.old + 1 }
@@ -204,7 +209,8 @@ fn drop_entry(blocks: &mut Vec<Vec<Entry>>, place: Place) -> usize
     requires at { place.at < length (entries_at blocks.old.items place.block) }
     requires are_blocks { All IsBlock blocks.old.items }
     ensures left { result + 1 ≡ length (entries_at blocks.old.items place.block) }
-    ensures entries { entries_of blocks.new.items ≡ entries_of (take place.block blocks.old.items) ++ (remove (entries_at blocks.old.items place.block) place.at ++ entries_of (drop (place.block + 1) blocks.old.items)) }
+    ensures entries { entries_of blocks.new.items ≡ entries_of (take place.block blocks.old.items)
+        ++ (remove (entries_at blocks.old.items place.block) place.at ++ entries_of (drop (place.block + 1) blocks.old.items)) }
     ensures lens { lens_of blocks.new.items ≡ slice_set (lens_of blocks.old.items) place.block result }
     ensures fit { All IsFit blocks.new.items }
     ensures len { vec_len blocks.new ≡ vec_len blocks.old }
@@ -223,7 +229,9 @@ fn merge(blocks: &mut Vec<Vec<Entry>>, spare: &mut Vec<Vec<Entry>>, at: usize)
     requires are_spare { All IsSpare spare.old.items }
     requires room { vec_len spare.old < vec_capacity spare.old }
     ensures entries { entries_of blocks.new.items ≡ entries_of blocks.old.items }
-    ensures lens { lens_of blocks.new.items ≡ take at (lens_of blocks.old.items) ++ (length (entries_at blocks.old.items at) + length (entries_at blocks.old.items (at + 1))) ∷ drop (at + 2) (lens_of blocks.old.items) }
+    ensures lens { lens_of blocks.new.items ≡ take at (lens_of blocks.old.items)
+        ++ (length (entries_at blocks.old.items at) + length (entries_at blocks.old.items (at + 1))) ∷ drop (at + 2)
+        (lens_of blocks.old.items) }
     ensures fit { All IsFit blocks.new.items }
     ensures are_spare { All IsSpare spare.new.items }
     ensures fewer { vec_len blocks.new + 1 ≡ vec_len blocks.old }
@@ -242,8 +250,10 @@ fn merge(blocks: &mut Vec<Vec<Entry>>, spare: &mut Vec<Vec<Entry>>, at: usize)
 fn can_join(blocks: &[Vec<Entry>], at: usize) -> bool
     requires block { at < length blocks.now }
     requires fit { All IsFit blocks.now }
-    ensures joins { result ≡ true → (at + 1 < length blocks.now) × (length (entries_at blocks.now at) + length (entries_at blocks.now (at + 1)) ≤ 128) }
-    ensures not { result ≡ false → at + 1 < length blocks.now → 128 < length (entries_at blocks.now at) + length (entries_at blocks.now (at + 1)) }
+    ensures joins { result ≡ true → (at + 1 < length blocks.now) ×
+        (length (entries_at blocks.now at) + length (entries_at blocks.now (at + 1)) ≤ 128) }
+    ensures not { result ≡ false → at + 1 < length blocks.now
+        → 128 < length (entries_at blocks.now at) + length (entries_at blocks.now (at + 1)) }
 {
     if at + 1 >= blocks.len() {
         return false;
@@ -324,7 +334,8 @@ pub(crate) fn take_out(
     requires are_spare { All IsSpare spare.old.items }
     requires dense { AreDense (lens_of blocks.old.items) }
     requires room { vec_len spare.old < vec_capacity spare.old }
-    ensures entries { entries_of blocks.new.items ≡ entries_of (take place.block blocks.old.items) ++ (remove (entries_at blocks.old.items place.block) place.at ++ entries_of (drop (place.block + 1) blocks.old.items)) }
+    ensures entries { entries_of blocks.new.items ≡ entries_of (take place.block blocks.old.items)
+        ++ (remove (entries_at blocks.old.items place.block) place.at ++ entries_of (drop (place.block + 1) blocks.old.items)) }
     ensures are_blocks { All IsBlock blocks.new.items }
     ensures are_spare { All IsSpare spare.new.items }
     ensures dense { AreDense (lens_of blocks.new.items) }

@@ -85,8 +85,10 @@ impl KeyIndex {
     pub fn search<K: Keys>(&self, keys: &K, key: &[u8]) -> Result<RowAt, Place>
         requires { IsIndexOf (K.has_row keys.now) (K.key_of keys.now) self.now }
         ensures { MatchResult result
-            (λ found. IsRowAt self.now found.place found.row × Contains self.now.rows found.row × (K.key_of keys.now found.row ≡ key.now))
-            (λ place. IsPlaceFor (K.key_of keys.now) key.now self.now place × All (λ row. K.key_of keys.now row ≢ key.now) self.now.rows) }
+            (λ found. IsRowAt self.now found.place found.row × Contains self.now.rows found.row
+            × (K.key_of keys.now found.row ≡ key.now))
+            (λ place. IsPlaceFor (K.key_of keys.now) key.now self.now place
+            × All (λ row. K.key_of keys.now row ≢ key.now) self.now.rows) }
     {
         let blocks = self.blocks.as_slice();
         let place = seek(keys, blocks, key, self.hints.guess(key));
@@ -162,7 +164,8 @@ impl KeyIndex {
     /// longer.
     pub fn remove_at(&mut self, found: RowAt)
         requires { IsRowAt self.old found.place found.row }
-        ensures ordered { (before after : ℕ → List ℕ) → IsOrdered before self.old → All (λ row. after row ≡ before row) self.new.rows → IsOrdered after self.new }
+        ensures ordered { (before after : ℕ → List ℕ) → IsOrdered before self.old
+            → All (λ row. after row ≡ before row) self.new.rows → IsOrdered after self.new }
         ensures room { self.new.room ≡ self.old.room }
         ensures rows { TakesOut found.row self.old.rows self.new.rows }
     {
@@ -201,13 +204,16 @@ impl KeyIndex {
     /// one, and a place in it stays, where keys are moved. After a row is put in or taken out the others are there as
     /// before; one key is of one row; and the rows of an index are any list of them whose keys rise.
     pub fn law(&self)
-        ensures moved { (before after : ℕ → List ℕ) → All (λ row. after row ≡ before row) self.now.rows → IsOrdered before self.now → IsOrdered after self.now }
-        ensures place { (before after : ℕ → List ℕ) (key : List ℕ) (place : Place) → All (λ row. after row ≡ before row) self.now.rows
+        ensures moved { (before after : ℕ → List ℕ) → All (λ row. after row ≡ before row) self.now.rows
+            → IsOrdered before self.now → IsOrdered after self.now }
+        ensures place { (before after : ℕ → List ℕ) (key : List ℕ) (place : Place)
+            → All (λ row. after row ≡ before row) self.now.rows
             → IsPlaceFor before key self.now place → IsPlaceFor after key self.now place }
         ensures put_in { (key_of : ℕ → List ℕ) (row other : ℕ) (before : List ℕ) → PutsIn key_of row before self.now.rows
             → (Contains self.now.rows other → (other ≡ row) ⊎ Contains before other)
             × Contains self.now.rows row × (Contains before other → Contains self.now.rows other) }
-        ensures taken_out { (key_of : ℕ → List ℕ) (row other : ℕ) (before : List ℕ) → TakesOut row before self.now.rows → AreRising key_of before
+        ensures taken_out { (key_of : ℕ → List ℕ) (row other : ℕ) (before : List ℕ) → TakesOut row before self.now.rows
+            → AreRising key_of before
             → (Contains before other → (other ≡ row) ⊎ Contains self.now.rows other)
             × (Contains self.now.rows other → Contains before other × (other ≢ row)) }
         ensures one { (key_of : ℕ → List ℕ) (row other : ℕ) → IsOrdered key_of self.now

@@ -1,3 +1,4 @@
+//! One line of a made trace.
 ghost use Rattle.std.specs.Prelude.{◌≡◌, ◌++◌, ◌+◌, ◌*◌, ◌≤◌, ◌<◌, ◌^◌, codes, decimal, map, OnOk};
 ghost use Rattle.std.specs.List.{range_with_len};
 ghost use Rattle.made_trace.specs.Made.{made_line, behind_line, kind_of, key_of, value_of, count_of, command_text, behind_command, word, behind, letter};

@@ -1,3 +1,4 @@
+//! A set of numbers, one bit each.
 ghost use Rattle.std.specs.Prelude.{◌≡◌, ◌↔◌, ◌<◌, false, true, length, replicate, slice_set, IfOk, IfSome, IsNone};
 ghost use Rattle.number_set.specs.Numbers.{size, IsLeast, IsGreatest, IsLeastAbsent};
 

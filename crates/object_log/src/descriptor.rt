@@ -1,3 +1,4 @@
+//! The descriptor of an object.
 ghost use Rattle.std.specs.Prelude.{◌≡◌, ℕ, ◌+◌, ◌≤◌, ◌⊎◌, List, length, All};
 ghost use Rattle.layout.specs.Sizes as sizes;
 ghost use Rattle.object_log.specs.Objects.{descriptor_at, described, objects, with_content, IsSize, IsSegment, StandsAt};
@@ -18,10 +19,13 @@ pub struct Descriptor {
 
 /// The descriptor at the offset, where an object or the end stands.
 pub fn read_descriptor(segment: &[u8], at: u32) -> Descriptor
-    requires { (used : ℕ) × IsSegment segment.now used × (StandsAt at (objects segment.now used) ⊎ ((at ≡ used) × (used + sizes.descriptor ≤ sizes.segment))) }
+    requires { (used : ℕ) × IsSegment segment.now used
+        × (StandsAt at (objects segment.now used) ⊎ ((at ≡ used) × (used + sizes.descriptor ≤ sizes.segment))) }
     ensures read { result ≡ descriptor_at segment.now at }
-    ensures object { (used : ℕ) → IsSegment segment.now used → All (λ o. o.at ≡ at → o ≡ described at result) (objects segment.now used) }
-    ensures fits { (used : ℕ) → IsSegment segment.now used → StandsAt at (objects segment.now used) → IsSize result.size × (at + result.size ≤ used) }
+    ensures object { (used : ℕ) → IsSegment segment.now used
+        → All (λ o. o.at ≡ at → o ≡ described at result) (objects segment.now used) }
+    ensures fits { (used : ℕ) → IsSegment segment.now used → StandsAt at (objects segment.now used)
+        → IsSize result.size × (at + result.size ≤ used) }
     ensures end { IsSegment segment.now at → result.state ≡ 0 }
 {
     descriptor_in(segment, at as usize)
@@ -33,9 +37,12 @@ pub fn content_extent(segment: &[u8], at: u32) -> (usize, usize)
     requires { (used : ℕ) × IsSegment segment.now used × StandsAt at (objects segment.now used) }
     ensures start { result.0 ≡ at + sizes.descriptor }
     ensures size { result.1 + sizes.descriptor ≡ (descriptor_at segment.now at).size }
-    ensures inside { (used : ℕ) → IsSegment segment.now used → StandsAt at (objects segment.now used) → result.0 + result.1 ≤ used }
-    ensures segment { (used : ℕ) (ws : List ℕ) → IsSegment segment.now used → StandsAt at (objects segment.now used) → length ws ≡ result.1 → IsSegment (with_content at ws segment.now) used }
-    ensures objects { (used : ℕ) (ws : List ℕ) → IsSegment segment.now used → StandsAt at (objects segment.now used) → length ws ≡ result.1 → objects (with_content at ws segment.now) used ≡ objects segment.now used }
+    ensures inside { (used : ℕ) → IsSegment segment.now used → StandsAt at (objects segment.now used)
+        → result.0 + result.1 ≤ used }
+    ensures segment { (used : ℕ) (ws : List ℕ) → IsSegment segment.now used → StandsAt at (objects segment.now used)
+        → length ws ≡ result.1 → IsSegment (with_content at ws segment.now) used }
+    ensures objects { (used : ℕ) (ws : List ℕ) → IsSegment segment.now used → StandsAt at (objects segment.now used)
+        → length ws ≡ result.1 → objects (with_content at ws segment.now) used ≡ objects segment.now used }
 {
     behind_descriptor(at, read_descriptor(segment, at).size)
 }

@@ -1,3 +1,4 @@
+//! Objects appended to a segment, marked dead, and read.
 ghost use Rattle.std.specs.Prelude.{◌≡◌, ℕ, ◌+◌, ◌-◌, ◌<◌, ◌≤◌, ◌⊎◌, ◌++◌, [], ◌∷◌, length, take, drop, replicate, slice_set};
 ghost use Rattle.object_log.specs.inside.Made.{object_bytes};
 ghost use Rattle.layout.specs.Sizes as sizes;
@@ -60,7 +61,8 @@ fn write_end(segment: &mut [u8], at: usize)
 /// The live object at the offset is dead from now on. It keeps its place and its content.
 pub fn kill(segment: &mut [u8], at: u32)
     requires { (used : ℕ) × IsSegment segment.old used × LivesAt at (objects segment.old used) }
-    ensures dead { (used : ℕ) → IsSegment segment.old used → LivesAt at (objects segment.old used) → objects segment.new used ≡ killed at (objects segment.old used) }
+    ensures dead { (used : ℕ) → IsSegment segment.old used → LivesAt at (objects segment.old used)
+        → objects segment.new used ≡ killed at (objects segment.old used) }
     ensures segment { (used : ℕ) → IsSegment segment.old used → LivesAt at (objects segment.old used) → IsSegment segment.new used }
     ensures state { segment.new ≡ slice_set segment.old at 2 }
 {

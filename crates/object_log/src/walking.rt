@@ -1,3 +1,4 @@
+//! A walk over the objects of a segment.
 ghost use Rattle.std.specs.Prelude.{◌≡◌, ◌≢◌, [], ◌∷◌};
 ghost use Rattle.std.specs.Iterator.{YieldsFirst, item_count};
 ghost use Rattle.std.specs.List.Sorted.{IsStrictlyIncreasing};

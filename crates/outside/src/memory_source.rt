@@ -21,7 +21,13 @@ pub struct MemorySource {
 impl Model for MemorySource {
     ghost Value = { SourceState };
 
-    ghost view = { λ s. record { left = drop s.at s.bytes.items; most = s.most; next_call = s.next_call; failing = s.failing.items; faults = s.faults } };
+    ghost view = { λ s. record {
+      left = drop s.at s.bytes.items;
+      most = s.most;
+      next_call = s.next_call;
+      failing = s.failing.items;
+      faults = s.faults;
+    } };
 
     ghost invariant = { λ s. (s.at ≤ length s.bytes.items) × (1 ≤ s.most) };
 }

@@ -1,3 +1,4 @@
+//! The definitions of a cache, run on a vector of rows.
 ghost use Rattle.std.specs.Prelude.{◌≡◌, ◌+◌, ◌-◌, ◌*◌, ◌/◌, ◌^◌, ◌<◌, ◌≤◌, ◌∷◌, ◌++◌, [], length, take, map, filter, flat_map, position, Some, vec_len, vec_capacity, All, Contains, None, false, IfOk, OnOk, OnErr, IfSome, IfNone, is_some};
 ghost use Rattle.std.specs.Bool.{OnTrue, OnFalse};
 ghost use Rattle.std.specs.List.{last_or};
@@ -48,7 +49,8 @@ impl Model for Plain {
 
     ghost view = { λ p. record { pages = p.pages; rows = map row_in p.rows.items } };
 
-    ghost invariant = { λ p. ArePages p.pages × All IsSmall p.rows.items × (length p.rows.items < 2 ^ 32) × HasDistinctKeys (map row_in p.rows.items) };
+    ghost invariant = { λ p. ArePages p.pages × All IsSmall p.rows.items × (length p.rows.items < 2 ^ 32)
+        × HasDistinctKeys (map row_in p.rows.items) };
 }
 
 /// The floor of a shard with so many pages, in bytes: up to so many live bytes nothing may be evicted.
@@ -145,7 +147,8 @@ fn keys_from<'a>(
     rows: &'a [OwnedRow],
     key: &[u8],
 ) -> Result<Vec<&'a [u8]>, AllocError>
-    ensures { IfOk result (λ keys. map (λ found. found.now) keys.items ≡ filter (is_at_most key.now) (map (λ row. row.key) (map row_in rows.now))) }
+    ensures { IfOk result (λ keys. map (λ found. found.now) keys.items ≡ filter (is_at_most key.now)
+        (map (λ row. row.key) (map row_in rows.now))) }
 {
     let mut keys = Vec::new(alloc);
     for row in rows {
@@ -249,7 +252,8 @@ impl Plain {
 
     fn get(&mut self, key: &[u8], body: &mut Vec<u8>) -> Result<ReplyKind, AllocError>
         ensures got { OnOk result (self.new ≡ record self.old { rows = (get key.now self.old.rows).0 }) }
-        ensures replied { IfOk result (λ kind. (kind, body.new.items) ≡ with_body body.old.items (spelled (get key.now self.old.rows).1)) }
+        ensures replied { IfOk result (λ kind. (kind, body.new.items) ≡ with_body body.old.items
+            (spelled (get key.now self.old.rows).1)) }
         ensures kept { OnErr result (self.new ≡ self.old) }
         ensures body_kept { OnErr result (body.new.items ≡ body.old.items) }
     {
@@ -276,7 +280,8 @@ impl Plain {
         count: u32,
         body: &mut Vec<u8>,
     ) -> Result<ReplyKind, AllocError>
-        ensures replied { IfOk result (λ kind. (kind, body.new.items) ≡ with_body body.old.items (spelled (scan key.now count self.now.rows).1)) }
+        ensures replied { IfOk result (λ kind. (kind, body.new.items) ≡ with_body body.old.items
+            (spelled (scan key.now count self.now.rows).1)) }
         ensures body_kept { OnErr result (body.new.items ≡ body.old.items) }
     {
         let keys = scanned(alloc, self.rows.as_slice(), key, count)?;
@@ -300,8 +305,12 @@ impl Plain {
     ) -> Result<ReplyKind, AllocError>
         requires of_trace { Contains trace.now.commands command.now }
         requires room { length self.old.rows < 4294967295 }
-        ensures applied { OnOk result (self.new ≡ record self.old { rows = (apply (operation trace.now.bytes command.now) self.old.rows).0 }) }
-        ensures replied { IfOk result (λ kind. (kind, body.new.items) ≡ with_body body.old.items (spelled (apply (operation trace.now.bytes command.now) self.old.rows).1)) }
+        ensures applied { OnOk result (self.new ≡ record self.old {
+          rows =
+              (apply (operation trace.now.bytes command.now) self.old.rows).0;
+        }) }
+        ensures replied { IfOk result (λ kind. (kind, body.new.items) ≡ with_body body.old.items
+            (spelled (apply (operation trace.now.bytes command.now) self.old.rows).1)) }
         ensures kept { OnErr result (self.new ≡ self.old) }
         ensures body_kept { OnErr result (body.new.items ≡ body.old.items) }
     {

@@ -1,3 +1,4 @@
+//! A plain cache on worked traces.
 use super::*;
 use std::alloc::{AllocError, Global};
 use std::test::Fail;

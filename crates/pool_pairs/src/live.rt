@@ -1,3 +1,4 @@
+//! Rounds that replace objects among many live ones.
 ghost use Rattle.std.specs.Prelude.{◌<◌, ◌≡◌, vec_len, OnOk};
 ghost use Rattle.small_pools.specs.Objects.{AreHeldIn};
 ghost use Rattle.pool_pairs.specs.Live.{AreLive};

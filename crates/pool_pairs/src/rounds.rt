@@ -1,3 +1,4 @@
+//! Rounds of objects that are nested in each other.
 ghost use Rattle.std.specs.Prelude.{◌≡◌, ◌<◌, ◌≤◌};
 ghost use Rattle.small_pools.specs.Objects.{AreHeldIn};
 

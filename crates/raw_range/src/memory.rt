@@ -45,7 +45,10 @@ impl<A: Allocator> Owns for Sole<A> {
 }
 
 impl<A: Allocator> Move for Sole<A> {
-    ghost own_val = { λ e vs. fex Inside (λ v. fsep (feq ℕ v.vec.len e.len) (fall (List ℕ) (λ xs. fwand (fsep (feq ℕ (length xs) e.len) (run_owns e.ptr xs)) (Fields.own_val (record { vec = with_items v.vec xs }) vs)))) };
+    ghost own_val = { λ e vs. fex Inside
+        (λ v. fsep (feq ℕ v.vec.len e.len)
+        (fall (List ℕ) (λ xs. fwand (fsep (feq ℕ (length xs) e.len) (run_owns e.ptr xs))
+        (Fields.own_val (record { vec = with_items v.vec xs }) vs)))) };
 }
 
 // The bytes of a range that are not allocated: those of `bytes` at `ptr` that lie in no extent of `allocated`.
@@ -94,7 +97,8 @@ impl Unallocated {
     // Parts with the bytes of an extent, which is allocated from then on.
     pub(crate) fn allocate(self, at: usize, len: usize) -> (Unallocated, Run)
         requires { IsPlaced self.ptr × (at + len ≤ length self.bytes) × All (Disjoint (extent at len)) self.allocated }
-        ensures { (result.0.ptr ≡ self.ptr) × (result.0.allocated ≡ extent at len ∷ self.allocated) × (result.0.bytes ≡ self.bytes)
+        ensures { (result.0.ptr ≡ self.ptr) × (result.0.allocated ≡ extent at len ∷ self.allocated)
+            × (result.0.bytes ≡ self.bytes)
             × (result.1.ptr ≡ self.ptr +ₚ at) × (result.1.items ≡ take len (drop at self.bytes)) }
     {
         let Unallocated {} = self;
@@ -103,8 +107,10 @@ impl Unallocated {
 
     // Takes the bytes of an allocated extent back.
     pub(crate) fn deallocate(self, at: usize, run: Run) -> Unallocated
-        requires { IsPlaced self.ptr × (run.ptr ≡ self.ptr +ₚ at) × AreDisjoint (length self.bytes) self.allocated × Contains self.allocated (extent at (length run.items)) }
-        ensures { (result.ptr ≡ self.ptr) × (result.allocated ≡ remove_extent (extent at (length run.items)) self.allocated) × (result.bytes ≡ written self.bytes at run.items) }
+        requires { IsPlaced self.ptr × (run.ptr ≡ self.ptr +ₚ at) × AreDisjoint (length self.bytes) self.allocated
+            × Contains self.allocated (extent at (length run.items)) }
+        ensures { (result.ptr ≡ self.ptr) × (result.allocated ≡ remove_extent (extent at (length run.items)) self.allocated)
+            × (result.bytes ≡ written self.bytes at run.items) }
     {
         let Unallocated {} = self;
         let Run {} = run;

@@ -1,3 +1,4 @@
+//! An allocated part of a range.
 ghost use Rattle.std.specs.Prelude.{◌≡◌, ◌+◌, ◌≤◌, ℕ, List, length, take, drop};
 ghost use Rattle.std.specs.Borrow.{sem};
 ghost use Rattle.raw_range.specs.Writes.{IsSamePiece, rewritten, part_rewritten, LendsBytes, LendsPart, LendsRun, LendsFitted};

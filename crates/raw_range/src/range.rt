@@ -1,3 +1,4 @@
+//! The memory of one shard, and the pieces that it gives.
 ghost use Rattle.std.specs.Prelude.{◌≡◌, ◌+◌, ◌*◌, ◌<◌, ◌≤◌, [], ◌∷◌, length, take, drop, replicate, All, Contains, IfOk};
 ghost use Rattle.layout.specs.Extents.{extent, Disjoint, AreDisjoint};
 ghost use Rattle.layout.specs.Sizes.{page, most_pages, most_pieces};
@@ -35,9 +36,17 @@ impl Model for Range {
 
     ghost coded = { memory_code };
 
-    ghost view = { λ r. record { home = r.base.ptr; owner = r.owner; pages = r.pages; allocated = r.unallocated.allocated; bytes = r.unallocated.bytes } };
+    ghost view = { λ r. record {
+      home = r.base.ptr;
+      owner = r.owner;
+      pages = r.pages;
+      allocated = r.unallocated.allocated;
+      bytes = r.unallocated.bytes;
+    } };
 
-    ghost invariant = { λ r. (length r.unallocated.bytes ≡ page * r.pages) × (r.unallocated.ptr ≡ r.base.ptr) × IsPlaced r.base.ptr × AreDisjoint (length r.unallocated.bytes) r.unallocated.allocated × IsBlock (manually_drop_value r.sole) r.base.ptr (page * r.pages) };
+    ghost invariant = { λ r. (length r.unallocated.bytes ≡ page * r.pages) × (r.unallocated.ptr ≡ r.base.ptr) × IsPlaced r.base.ptr
+        × AreDisjoint (length r.unallocated.bytes) r.unallocated.allocated
+        × IsBlock (manually_drop_value r.sole) r.base.ptr (page * r.pages) };
 }
 
 impl Range {
@@ -71,7 +80,13 @@ impl Range {
         requires inside { at + len ≤ page * self.old.pages }
         requires disjoint { All (Disjoint (extent at len)) self.old.allocated }
         requires few { length self.old.allocated < most_pieces }
-        ensures piece { result ≡ record { home = self.old.home; owner = self.old.owner; at = at; bytes = take len (drop at self.old.bytes) } }
+        ensures piece { result ≡ record {
+          home = self.old.home;
+          owner = self.old.owner;
+          at = at;
+          bytes = take len
+              (drop at self.old.bytes);
+        } }
         ensures extent { extent_of result ≡ extent at len }
         ensures allocated { self.new ≡ with_allocated self.old (extent at len ∷ self.old.allocated) self.old.bytes }
         ensures blocks { AreDisjoint (page * self.new.pages) self.new.allocated }
@@ -92,7 +107,8 @@ impl Range {
     pub fn put(&mut self, piece: Piece)
         requires home { piece.home ≡ self.old.home }
         requires piece { Contains self.old.allocated (extent_of piece) }
-        ensures back { self.new ≡ with_allocated self.old (remove_extent (extent_of piece) self.old.allocated) (written self.old.bytes piece.at piece.bytes) }
+        ensures back { self.new ≡ with_allocated self.old (remove_extent (extent_of piece) self.old.allocated)
+            (written self.old.bytes piece.at piece.bytes) }
         ensures blocks { AreDisjoint (page * self.new.pages) self.new.allocated }
     {
         let Piece {

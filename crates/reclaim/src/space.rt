@@ -1,3 +1,4 @@
+//! The memory and the cache of one shard, as one.
 ghost use Rattle.std.specs.Prelude.{◌≡◌, ◌⊎◌, ◌*◌, ◌+◌, ◌-◌, ◌^◌, ◌<◌, ◌≤◌, [], ◌∷◌, length, take, drop, true, IfOk, IfErr};
 ghost use Rattle.layout.specs.Sizes as sizes;
 ghost use Rattle.trace_text.specs.declared.command.Kind.{Kind as Kinds};

@@ -1,3 +1,4 @@
+//! How many live bytes each closed segment has.
 ghost use Rattle.std.specs.Prelude.{◌≡◌, ◌<◌, ◌≤◌, length, replicate, slice_set, IfOk};
 ghost use Rattle.std.specs.List.{count_by};
 ghost use Rattle.regions.specs.inside.Consistent.{not_closed, is_sparse};

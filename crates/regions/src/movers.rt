@@ -1,3 +1,4 @@
+//! The law of whoever keeps places of objects that move.
 ghost use Rattle.std.specs.Prelude.{◌≡◌, ◌≢◌, ℕ, List, Option, Some, map, option_map};
 ghost use Rattle.regions.specs.Contents.{Item, live_at};
 ghost use Rattle.regions.specs.Stores.{Live, Bare, StandsFor, SameBut, store_of, less, renamed};
@@ -33,7 +34,9 @@ pub trait Movers {
         ensures stands { (m : Self) (live : Live) → fits m live → StandsFor bare (store_of bare (place_of m) live) (place_of m) live }
         ensures names { (n : ℕ) → place_of self.new n ≡ option_map (renamed from to) (place_of self.old n) }
         ensures fits { fits self.new (less from (live_at store.new)) }
-        ensures references { (p : Place) → option_map references (less from (live_at store.new) p) ≡ option_map (λ i. map (renamed from to) (references i)) (less from (live_at store.old) p) }
+        ensures references { (p : Place)
+            → option_map references (less from (live_at store.new) p)
+            ≡ option_map (λ i. map (renamed from to) (references i)) (less from (live_at store.old) p) }
         ensures store { SameBut bare store.old store.new }
         ensures rest { Self.rest self.new ≡ Self.rest self.old };
 }

@@ -1,3 +1,4 @@
+//! The segments of one shard and the objects in them.
 ghost use Rattle.std.specs.Prelude.{◌≡◌, ◌↔◌, ◌⊎◌, ℕ, ◌+◌, ◌-◌, ◌<◌, ◌≤◌, List, true, false, cond, length, slice_index, Some, None, option_map, replicate, slice_set, IfOk, IfErr, IfSome, IsSome, IsNone, IsErr};
 ghost use Rattle.std.specs.Borrow.{sem};
 ghost use Rattle.layout.specs.Sizes as sizes;
@@ -49,7 +50,8 @@ impl Model for Region {
 
     ghost view = { λ r. record { most = r.most; guards = r.guards; active = r.active; segments = r.slots.items } };
 
-    ghost invariant = { λ r. IsConsistent r.most r.active r.held r.free r.active_live r.table (slots_of r.slots.items) (used_in_each r.slots.items) (live_in_each r.slots.items) };
+    ghost invariant = { λ r. IsConsistent r.most r.active r.held r.free r.active_live r.table (slots_of r.slots.items)
+        (used_in_each r.slots.items) (live_in_each r.slots.items) };
 }
 
 impl Region {
@@ -98,7 +100,8 @@ impl Region {
     pub fn take_free(&mut self) -> Option<Piece>
         ensures none { IsNone result ↔ free_count self.old ≤ 1 }
         ensures unchanged { IsNone result → self.new ≡ self.old }
-        ensures taken { IfSome result (λ piece. (n : ℕ) × IsGreatestFree self.old n × (segment_at self.old n ≡ Some (fresh piece)) × (self.new ≡ with_segment self.old n None)) }
+        ensures taken { IfSome result (λ piece. (n : ℕ) × IsGreatestFree self.old n × (segment_at self.old n ≡ Some (fresh piece))
+            × (self.new ≡ with_segment self.old n None)) }
         ensures objects { Keeps self.old self.new }
         ensures held { IsSome result → held_count self.new + 1 ≡ held_count self.old }
         ensures free { IsSome result → free_count self.new + 1 ≡ free_count self.old }
@@ -174,7 +177,8 @@ impl Region {
         requires { IsSome (live_at self.old place) }
         ensures killed { ChangesAt place (option_map dead (standing_at self.old place)) self.old self.new }
         ensures used { used_counts self.new ≡ used_counts self.old }
-        ensures live { IfSome (standing_at self.old place) (λ s. live_counts self.old ≡ plus place.segment (size_of s.item) (live_counts self.new)) }
+        ensures live { IfSome (standing_at self.old place)
+            (λ s. live_counts self.old ≡ plus place.segment (size_of s.item) (live_counts self.new)) }
         ensures live_total { IfSome (standing_at self.old place) (λ s. live_total self.new + size_of s.item ≡ live_total self.old) }
         ensures shape { shape self.new ≡ shape self.old }
     {
@@ -189,8 +193,10 @@ impl Region {
         requires { IsSome (live_at self.old place) }
         ensures* lends { sem 𝓛 (LendsContent self.entry place result) }
         ensures value { option_map (λ s. s.item.content) (standing_at self.old place) ≡ Some result.now }
-        ensures left { (ws : List ℕ) → length ws ≡ length result.now → ChangesAt place (option_map (with_bytes ws) (standing_at self.old place)) self.old (with_content self.old place ws) }
-        ensures fitted { (ws : List ℕ) → ChangesAt place (option_map (rewritten ws) (standing_at self.old place)) self.old (with_content self.old place ws) }
+        ensures left { (ws : List ℕ) → length ws ≡ length result.now
+            → ChangesAt place (option_map (with_bytes ws) (standing_at self.old place)) self.old (with_content self.old place ws) }
+        ensures fitted { (ws : List ℕ) → ChangesAt place (option_map (rewritten ws) (standing_at self.old place)) self.old
+            (with_content self.old place ws) }
         ensures used { (ws : List ℕ) → used_counts (with_content self.old place ws) ≡ used_counts self.old }
         ensures live { (ws : List ℕ) → live_counts (with_content self.old place ws) ≡ live_counts self.old }
         ensures live_total { (ws : List ℕ) → live_total (with_content self.old place ws) ≡ live_total self.old }
@@ -204,7 +210,8 @@ impl Region {
         requires from { IsSome (live_at self.old from) }
         requires to { IsSome (live_at self.old to) }
         requires size { option_map size_of (live_at self.old from) ≡ option_map size_of (live_at self.old to) }
-        ensures copied { IfSome (live_at self.old from) (λ i. ChangesAt to (option_map (with_bytes i.content) (standing_at self.old to)) self.old self.new) }
+        ensures copied { IfSome (live_at self.old from)
+            (λ i. ChangesAt to (option_map (with_bytes i.content) (standing_at self.old to)) self.old self.new) }
         ensures used { used_counts self.new ≡ used_counts self.old }
         ensures live { live_counts self.new ≡ live_counts self.old }
         ensures live_total { live_total self.new ≡ live_total self.old }
@@ -239,7 +246,8 @@ impl Region {
         requires { guards_of self.old ≡ 0 }
         ensures none { IsNone result ↔ held_count self.old ≡ 0 }
         ensures emptied { IsNone result → self.new ≡ all_emptied self.old }
-        ensures given { IfSome result (λ piece. (n : ℕ) × IsGreatestHeld self.old n × (segment_at (all_emptied self.old) n ≡ Some (fresh piece)) × (self.new ≡ with_segment (all_emptied self.old) n None)) }
+        ensures given { IfSome result (λ piece. (n : ℕ) × IsGreatestHeld self.old n ×
+            (segment_at (all_emptied self.old) n ≡ Some (fresh piece)) × (self.new ≡ with_segment (all_emptied self.old) n None)) }
         ensures objects { (p : Place) → standing_at self.new p ≡ None }
         ensures held { IsSome result → held_count self.new + 1 ≡ held_count self.old }
         ensures free { free_count self.new ≡ held_count self.new }

@@ -1,3 +1,4 @@
+//! A segment that a region holds.
 ghost use Rattle.std.specs.Prelude.{◌≡◌, ◌⊎◌, ℕ, ◌+◌, ◌<◌, ◌≤◌, List, true, false, length, take, drop, Some, None, option_map, IsSome, IsNone, IfSome};
 ghost use Rattle.std.specs.Borrow.{Array, Lends, sem, u8 as byte};
 ghost use Rattle.layout.specs.Sizes as sizes;
@@ -33,7 +34,8 @@ impl Model for Segment {
 
     ghost view = { λ s. record { piece = s.piece; used = s.used; free = s.free } };
 
-    ghost invariant = { λ s. (length s.piece.bytes ≡ sizes.segment) × (s.free ≡ true → s.used ≡ 0) × (s.free ≡ false → IsSegment s.piece.bytes s.used) };
+    ghost invariant = { λ s. (length s.piece.bytes ≡ sizes.segment) × (s.free ≡ true → s.used ≡ 0)
+        × (s.free ≡ false → IsSegment s.piece.bytes s.used) };
 }
 
 impl Segment {
@@ -147,7 +149,8 @@ impl Segment {
         ensures value { option_map (λ s. s.item.content) (standing_in (Some self.old) at) ≡ Some result.now }
         ensures slot { (ws : List ℕ) → slot_of (segment_with at ws self.old) ≡ slot_of self.old }
         ensures live { (ws : List ℕ) → live_in (Some (segment_with at ws self.old)) ≡ live_in (Some self.old) }
-        ensures written { (ws : List ℕ) → ChangesIn at (option_map (rewritten ws) (standing_in (Some self.old) at)) (Some self.old) (Some (segment_with at ws self.old)) }
+        ensures written { (ws : List ℕ) → ChangesIn at (option_map (rewritten ws) (standing_in (Some self.old) at)) (Some self.old)
+            (Some (segment_with at ws self.old)) }
     {
         let (start, len) = content_extent(self.piece.bytes(), at);
         self.piece.part_mut(start, len)
@@ -157,11 +160,13 @@ impl Segment {
     pub(crate) fn copy_within(&mut self, from: u32, to: u32)
         requires from { IsSome (item_if_live (standing_in (Some self.old) from)) }
         requires to { IsSome (item_if_live (standing_in (Some self.old) to)) }
-        requires size { option_map size_of (item_if_live (standing_in (Some self.old) from)) ≡ option_map size_of (item_if_live (standing_in (Some self.old) to)) }
+        requires size { option_map size_of (item_if_live (standing_in (Some self.old) from))
+            ≡ option_map size_of (item_if_live (standing_in (Some self.old) to)) }
         ensures slot { slot_of self.new ≡ slot_of self.old }
         ensures used { self.new.used ≡ self.old.used }
         ensures live { live_in (Some self.new) ≡ live_in (Some self.old) }
-        ensures copied { IfSome (item_if_live (standing_in (Some self.old) from)) (λ i. ChangesIn to (option_map (with_bytes i.content) (standing_in (Some self.old) to)) (Some self.old) (Some self.new)) }
+        ensures copied { IfSome (item_if_live (standing_in (Some self.old) from))
+            (λ i. ChangesIn to (option_map (with_bytes i.content) (standing_in (Some self.old) to)) (Some self.old) (Some self.new)) }
     {
         let (start, len) = content_extent(self.piece.bytes(), from);
         let (target, _len) = content_extent(self.piece.bytes(), to);
@@ -172,11 +177,13 @@ impl Segment {
     pub(crate) fn copy_from(&mut self, source: &Segment, from: u32, to: u32)
         requires from { IsSome (item_if_live (standing_in (Some source.now) from)) }
         requires to { IsSome (item_if_live (standing_in (Some self.old) to)) }
-        requires size { option_map size_of (item_if_live (standing_in (Some source.now) from)) ≡ option_map size_of (item_if_live (standing_in (Some self.old) to)) }
+        requires size { option_map size_of (item_if_live (standing_in (Some source.now) from))
+            ≡ option_map size_of (item_if_live (standing_in (Some self.old) to)) }
         ensures slot { slot_of self.new ≡ slot_of self.old }
         ensures used { self.new.used ≡ self.old.used }
         ensures live { live_in (Some self.new) ≡ live_in (Some self.old) }
-        ensures copied { IfSome (item_if_live (standing_in (Some source.now) from)) (λ i. ChangesIn to (option_map (with_bytes i.content) (standing_in (Some self.old) to)) (Some self.old) (Some self.new)) }
+        ensures copied { IfSome (item_if_live (standing_in (Some source.now) from))
+            (λ i. ChangesIn to (option_map (with_bytes i.content) (standing_in (Some self.old) to)) (Some self.old) (Some self.new)) }
     {
         overwrite(self.content_mut(to), source.content(from));
     }

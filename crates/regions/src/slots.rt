@@ -38,11 +38,14 @@ pub(crate) fn copy_into(target: &mut Segment, slots: &[Option<Segment>], from: P
     requires inside { to.segment < length slots.now }
     requires from { IsSome (item_if_live (standing_with slots.now to.segment target.old from)) }
     requires to { IsSome (item_if_live (standing_in (Some target.old) to.at)) }
-    requires size { option_map size_of (item_if_live (standing_with slots.now to.segment target.old from)) ≡ option_map size_of (item_if_live (standing_in (Some target.old) to.at)) }
+    requires size { option_map size_of (item_if_live (standing_with slots.now to.segment target.old from))
+        ≡ option_map size_of (item_if_live (standing_in (Some target.old) to.at)) }
     ensures slot { slot_of target.new ≡ slot_of target.old }
     ensures used { target.new.used ≡ target.old.used }
     ensures live { live_in (Some target.new) ≡ live_in (Some target.old) }
-    ensures copied { IfSome (item_if_live (standing_with slots.now to.segment target.old from)) (λ i. ChangesIn to.at (option_map (with_bytes i.content) (standing_in (Some target.old) to.at)) (Some target.old) (Some target.new)) }
+    ensures copied { IfSome (item_if_live (standing_with slots.now to.segment target.old from))
+        (λ i. ChangesIn to.at (option_map (with_bytes i.content) (standing_in (Some target.old) to.at)) (Some target.old)
+        (Some target.new)) }
 {
     if from.segment == to.segment {
         target.copy_within(from.at, to.at);

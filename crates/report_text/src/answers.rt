@@ -38,7 +38,8 @@ fn put_one<K: Sink>(
 
 /// The words, each behind a space.
 fn put_words<K: Sink>(writer: &mut Writer<'_, K>, words: &[&[u8]]) -> Result<(), Failed>
-    ensures { Writes result (output K.written K.faults writer.old) (output K.written K.faults writer.new) (flat_map (λ word. 32 ∷ word) (map (λ word. word.now) words.now)) }
+    ensures { Writes result (output K.written K.faults writer.old) (output K.written K.faults writer.new)
+        (flat_map (λ word. 32 ∷ word) (map (λ word. word.now) words.now)) }
 {
     for word in words {
         writer.put_word(word)?;
@@ -52,7 +53,8 @@ fn put_keys_line<K: Sink>(
     number: u32,
     keys: &[&[u8]],
 ) -> Result<(), Failed>
-    ensures { Writes result (output K.written K.faults writer.old) (output K.written K.faults writer.new) (line (answer_text (number, Keys (map (λ key. key.now) keys.now)))) }
+    ensures { Writes result (output K.written K.faults writer.old) (output K.written K.faults writer.new)
+        (line (answer_text (number, Keys (map (λ key. key.now) keys.now)))) }
 {
     writer.put_number(u64::from(number))?;
     writer.put(b" keys")?;
@@ -85,7 +87,8 @@ fn put_scan<K: Sink>(
     requires room { first + shards < 2 ^ 32 }
     requires replied { (lists : List (List (List ℕ))) × HasFound log.now.replies first shards lists }
     ensures { (lists : List (List (List ℕ))) → HasFound log.now.replies first shards lists →
-        Writes result (output K.written K.faults writer.old) (output K.written K.faults writer.new) (line (answer_text (command.now.number, Keys (join command.now.count lists)))) }
+        Writes result (output K.written K.faults writer.old) (output K.written K.faults writer.new) (line
+        (answer_text (command.now.number, Keys (join command.now.count lists)))) }
 {
     let mut found = Found::new();
     add_found(&mut found, log, first, shards);
@@ -100,7 +103,7 @@ fn is_joined(kind: Kind, shards: u32) -> bool
     ensures joined { result ≡ true → is_scan kind ≡ true }
     ensures alone { result ≡ false → (is_scan kind ≡ false) ⊎ (shards ≡ 1) }
 {
-    matches!(kind, Kind::Scan) && shards > 1
+    kind.is_scan() && shards > 1
 }
 
 /// The line of the answer to a command whose replies stand in a log from part `first` on.
@@ -115,8 +118,10 @@ pub(crate) fn put_answer<K: Sink>(
     requires most { shards ≤ most_shards }
     requires few { command.now.count ≤ most_keys }
     requires room { first + shards < 2 ^ 32 }
-    requires read { (bytes : List ℕ) × (longest : ℕ) × (answer : ℕ × Reply) × IsRead longest shards (operation bytes command.now) log.now.replies first answer }
-    ensures { (bytes : List ℕ) (longest : ℕ) (answer : ℕ × Reply) → IsRead longest shards (operation bytes command.now) log.now.replies first answer →
+    requires read { (bytes : List ℕ) × (longest : ℕ) × (answer : ℕ × Reply)
+        × IsRead longest shards (operation bytes command.now) log.now.replies first answer }
+    ensures { (bytes : List ℕ) (longest : ℕ) (answer : ℕ × Reply)
+        → IsRead longest shards (operation bytes command.now) log.now.replies first answer →
         Writes result (output K.written K.faults writer.old) (output K.written K.faults writer.new) (line (answer_text answer)) }
 {
     one_shard_answers_alone();

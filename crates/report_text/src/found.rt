@@ -21,9 +21,11 @@ pub(crate) type Found<'l> = ArrayVec<&'l [u8], MOST_FOUND>;
 
 /// Adds the keys of a body.
 fn add_keys<'l>(found: &mut Found<'l>, body: &'l [u8])
-    requires keys { (keys : List (List ℕ)) × AreKeys body.now keys × (array_vec_len found.old + length keys ≤ most_keys * most_shards) }
+    requires keys { (keys : List (List ℕ)) × AreKeys body.now keys
+        × (array_vec_len found.old + length keys ≤ most_keys * most_shards) }
     requires short { length body.now < 2 ^ 32 }
-    ensures { (keys : List (List ℕ)) → AreKeys body.now keys → map (λ key. key.now) found.new.items ≡ map (λ key. key.now) found.old.items ++ keys }
+    ensures { (keys : List (List ℕ)) → AreKeys body.now keys
+        → map (λ key. key.now) found.new.items ≡ map (λ key. key.now) found.old.items ++ keys }
 {
     let mut at = 0;
     while let Some(span) = next_key(body, at) {
@@ -36,7 +38,8 @@ fn add_keys<'l>(found: &mut Found<'l>, body: &'l [u8])
 /// The body of a reply of keys.
 fn keys_at(log: &ReplyLog, part: u32) -> &[u8]
     requires { (keys : List (List ℕ)) × (slice_get log.now.replies part ≡ Some (Some (spelled (Keys keys)))) }
-    ensures keys { (keys : List (List ℕ)) → slice_get log.now.replies part ≡ Some (Some (spelled (Keys keys))) → result.now ≡ (spelled (Keys keys)).1 }
+    ensures keys { (keys : List (List ℕ)) → slice_get log.now.replies part ≡ Some (Some (spelled (Keys keys)))
+        → result.now ≡ (spelled (Keys keys)).1 }
     ensures short { length result.now < 2 ^ 32 }
 {
     let (_, body) = log.reply(part).unwrap();

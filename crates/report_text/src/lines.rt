@@ -32,7 +32,9 @@ fn word(kind: ReplyKind) -> &'static [u8]
 fn put_keys<K: Sink>(writer: &mut Writer<'_, K>, body: &[u8]) -> Result<(), Failed>
     requires keys { (keys : List (List ℕ)) × AreKeys body.now keys }
     requires short { length body.now < 2 ^ 32 }
-    ensures { (keys : List (List ℕ)) → AreKeys body.now keys → Writes result (output K.written K.faults writer.old) (output K.written K.faults writer.new) (flat_map (λ key. 32 ∷ key) keys) }
+    ensures { (keys : List (List ℕ)) → AreKeys body.now keys
+        → Writes result (output K.written K.faults writer.old) (output K.written K.faults writer.new)
+        (flat_map (λ key. 32 ∷ key) keys) }
 {
     let mut at = 0;
     while let Some(span) = next_key(body, at) {
@@ -51,7 +53,8 @@ fn put_reply<K: Sink>(
 ) -> Result<(), Failed>
     requires reply { (reply : Reply) × Spells kind body.now reply }
     requires short { length body.now < 2 ^ 32 }
-    ensures { (reply : Reply) → Spells kind body.now reply → Writes result (output K.written K.faults writer.old) (output K.written K.faults writer.new) (reply_text reply) }
+    ensures { (reply : Reply) → Spells kind body.now reply
+        → Writes result (output K.written K.faults writer.old) (output K.written K.faults writer.new) (reply_text reply) }
 {
     writer.put(word(kind))?;
     match kind {
@@ -69,7 +72,9 @@ pub(crate) fn put_reply_line<K: Sink>(
 ) -> Result<(), Failed>
     requires reply { (reply : Reply) × Spells kind body.now reply }
     requires short { length body.now < 2 ^ 32 }
-    ensures { (reply : Reply) → Spells kind body.now reply → Writes result (output K.written K.faults writer.old) (output K.written K.faults writer.new) (line (answer_text (number, reply))) }
+    ensures { (reply : Reply) → Spells kind body.now reply
+        → Writes result (output K.written K.faults writer.old) (output K.written K.faults writer.new)
+        (line (answer_text (number, reply))) }
 {
     writer.put_number(u64::from(number))?;
     writer.put(b" ")?;
@@ -87,7 +92,8 @@ fn put_entry<K: Sink>(writer: &mut Writer<'_, K>, entry: Entry) -> Result<(), Fa
 }
 
 fn put_entries<K: Sink>(writer: &mut Writer<'_, K>, entries: &[Entry]) -> Result<(), Failed>
-    ensures { Writes result (output K.written K.faults writer.old) (output K.written K.faults writer.new) (flat_map (λ entry. 32 ∷ entry_text entry) entries.now) }
+    ensures { Writes result (output K.written K.faults writer.old) (output K.written K.faults writer.new)
+        (flat_map (λ entry. 32 ∷ entry_text entry) entries.now) }
 {
     for entry in entries {
         put_entry(writer, *entry)?;
@@ -101,7 +107,8 @@ pub(crate) fn put_journal<K: Sink>(
     shard: u64,
     journal: &Journal,
 ) -> Result<(), Failed>
-    ensures { Writes result (output K.written K.faults writer.old) (output K.written K.faults writer.new) (line (journal_text (shard, journal.now.entries))) }
+    ensures { Writes result (output K.written K.faults writer.old) (output K.written K.faults writer.new)
+        (line (journal_text (shard, journal.now.entries))) }
 {
     writer.put_field(b"journal ", shard)?;
     put_entries(writer, journal.entries())?;
@@ -110,7 +117,8 @@ pub(crate) fn put_journal<K: Sink>(
 
 /// Fields, each a name and a number.
 fn put_fields<K: Sink>(writer: &mut Writer<'_, K>, fields: &[(&[u8], u64)]) -> Result<(), Failed>
-    ensures { Writes result (output K.written K.faults writer.old) (output K.written K.faults writer.new) (flat_map (λ field. field.0.now ++ decimal field.1) fields.now) }
+    ensures { Writes result (output K.written K.faults writer.old) (output K.written K.faults writer.new)
+        (flat_map (λ field. field.0.now ++ decimal field.1) fields.now) }
 {
     for (name, number) in fields {
         writer.put_field(name, *number)?;
@@ -123,7 +131,8 @@ pub(crate) fn put_field_line<K: Sink>(
     writer: &mut Writer<'_, K>,
     fields: &[(&[u8], u64)],
 ) -> Result<(), Failed>
-    ensures { Writes result (output K.written K.faults writer.old) (output K.written K.faults writer.new) (line (flat_map (λ field. field.0.now ++ decimal field.1) fields.now)) }
+    ensures { Writes result (output K.written K.faults writer.old) (output K.written K.faults writer.new)
+        (line (flat_map (λ field. field.0.now ++ decimal field.1) fields.now)) }
 {
     put_fields(writer, fields)?;
     writer.end_line()
@@ -135,7 +144,8 @@ fn put_shard_line<K: Sink>(
     shard: u64,
     occupancy: &ShardLine,
 ) -> Result<(), Failed>
-    ensures { Writes result (output K.written K.faults writer.old) (output K.written K.faults writer.new) (line (occupancy_text (shard, occupancy_in occupancy.now))) }
+    ensures { Writes result (output K.written K.faults writer.old) (output K.written K.faults writer.new)
+        (line (occupancy_text (shard, occupancy_in occupancy.now))) }
 {
     put_field_line(
         writer,
@@ -151,7 +161,8 @@ fn put_shard_line<K: Sink>(
 
 /// The lines of what the shards hold.
 fn put_shard_lines<K: Sink>(writer: &mut Writer<'_, K>, lines: &[ShardLine]) -> Result<(), Failed>
-    ensures { Writes result (output K.written K.faults writer.old) (output K.written K.faults writer.new) (flat_map (λ occupancy. line (occupancy_text occupancy)) (enumerate_from 0 (occupancies_in lines.now))) }
+    ensures { Writes result (output K.written K.faults writer.old) (output K.written K.faults writer.new)
+        (flat_map (λ occupancy. line (occupancy_text occupancy)) (enumerate_from 0 (occupancies_in lines.now))) }
 {
     for (shard, line) in lines.iter().enumerate() {
         put_shard_line(writer, shard as u64, line)?;
@@ -161,7 +172,8 @@ fn put_shard_lines<K: Sink>(writer: &mut Writer<'_, K>, lines: &[ShardLine]) -> 
 
 /// The last lines, of what the shards hold. The sink has the whole text then.
 pub(crate) fn finish<K: Sink>(writer: &mut Writer<'_, K>, lines: &[ShardLine]) -> Result<(), Failed>
-    ensures wrote { Writes result (output K.written K.faults writer.old) (output K.written K.faults writer.new) (flat_map (λ occupancy. line (occupancy_text occupancy)) (enumerate_from 0 (occupancies_in lines.now))) }
+    ensures wrote { Writes result (output K.written K.faults writer.old) (output K.written K.faults writer.new)
+        (flat_map (λ occupancy. line (occupancy_text occupancy)) (enumerate_from 0 (occupancies_in lines.now))) }
     ensures empty { OnOk result (writer.new.block.items ≡ []) }
 {
     put_shard_lines(writer, lines)?;

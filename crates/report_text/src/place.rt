@@ -1,9 +1,9 @@
 //! Where the replies to a command stand.
-ghost use Rattle.std.specs.Prelude.{◌≡◌, ◌+◌, ◌^◌, ◌<◌, ◌≤◌, ℕ, List, length, slice_index, slice_set, if◌then◌else◌};
+ghost use Rattle.std.specs.Prelude.{◌≡◌, ◌+◌, ◌^◌, ◌<◌, ◌≤◌, ℕ, List, length, slice_index, slice_set};
 ghost use Rattle.std.specs.List.{slice_index_or};
 ghost use Rattle.trace_text.specs.Operation.{operation};
 ghost use Rattle.trace_text.specs.Parsed.{trace_in};
-ghost use Rattle.trace_text.specs.Parts.{is_scan, longest_value, most_shards, origin};
+ghost use Rattle.trace_text.specs.Parts.{longest_value, most_shards, origin};
 ghost use Rattle.trace_text.specs.declared.command.Command.{Command as TraceCommand};
 ghost use Rattle.cache_model.specs.Apply.{Reply};
 ghost use Rattle.cache_model.specs.Logged.{AreLogged, IsRead};
@@ -12,19 +12,10 @@ ghost use Rattle.report_text.specs.inside.Places.{ArePlaces};
 
 use cache_model::{answers_are_read_by_command, parts_go_up_by_command};
 use run_log::ReplyLog;
-use trace_text::{Command, Kind, MOST_SHARDS, Trace, origin_of};
+use trace_text::{Command, MOST_SHARDS, Trace, origin_of};
 
 /// The number of the next part of each shard, while the commands are gone over in order.
 pub(crate) type Places = [u32; MOST_SHARDS as usize];
-
-fn parts_of(kind: Kind, shards: u32) -> u32
-    ensures { result ≡ (if is_scan kind then shards else 1) }
-{
-    match kind {
-        Kind::Scan => shards,
-        Kind::Put | Kind::Get | Kind::Erase => 1,
-    }
-}
 
 /// The number of the first part of a command in its origin's log. The next command of that origin comes behind its parts.
 fn take_place(places: &mut Places, origin: u32, parts: u32) -> u32
@@ -51,8 +42,10 @@ pub(crate) fn next_replies<'l>(
     requires places { ArePlaces (trace_in trace.now) trace.now.shards index places.old }
     requires one_log_each { length logs.now ≡ trace.now.shards }
     ensures places_behind { ArePlaces (trace_in trace.now) trace.now.shards (index + 1) places.new }
-    ensures read { (answers : List (ℕ × Reply)) (d : TraceCommand) (e : ℕ × Reply) → AreLogged (trace_in trace.now) trace.now.shards (replies_in logs.now) answers
-        → IsRead (longest_value (trace_in trace.now)) trace.now.shards (operation trace.now.bytes (slice_index_or trace.now.commands index d))
+    ensures read { (answers : List (ℕ × Reply)) (d : TraceCommand) (e : ℕ × Reply)
+        → AreLogged (trace_in trace.now) trace.now.shards (replies_in logs.now) answers
+        → IsRead (longest_value (trace_in trace.now)) trace.now.shards (operation trace.now.bytes
+        (slice_index_or trace.now.commands index d))
         result.0.now.replies result.1 (slice_index_or answers index e) }
     ensures room { result.1 + trace.now.shards < 2 ^ 32 }
 {
@@ -61,6 +54,6 @@ pub(crate) fn next_replies<'l>(
     let command = &trace.commands()[index];
     let shards = logs.len() as u32;
     let origin = origin_of(command.number, shards);
-    let first = take_place(places, origin, parts_of(command.kind, shards));
+    let first = take_place(places, origin, command.kind.parts(shards));
     (&logs[origin as usize], first)
 }

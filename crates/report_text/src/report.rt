@@ -50,8 +50,11 @@ pub fn write_report<K: Sink>(
     requires one_journal_each { length journals.now ≡ shards }
     requires one_line_each { length lines.now ≡ shards }
     requires answered { (answers : List (ℕ × Reply)) × AreLogged (trace_in trace.now) shards (replies_in logs.now) answers }
-    ensures written { OnOk result ((answers : List (ℕ × Reply)) → AreLogged (trace_in trace.now) shards (replies_in logs.now) answers → Appends (K.written sink.old) (K.written sink.new) (report_of answers (journals_in journals.now) (occupancies_in lines.now))) }
-    ensures front { OnErr result ((answers : List (ℕ × Reply)) → AreLogged (trace_in trace.now) shards (replies_in logs.now) answers → AppendsFront (K.written sink.old) (K.written sink.new) (report_of answers (journals_in journals.now) (occupancies_in lines.now))) }
+    ensures written { OnOk result ((answers : List (ℕ × Reply)) → AreLogged (trace_in trace.now) shards (replies_in logs.now) answers
+        → Appends (K.written sink.old) (K.written sink.new) (report_of answers (journals_in journals.now) (occupancies_in lines.now))) }
+    ensures front { OnErr result ((answers : List (ℕ × Reply)) → AreLogged (trace_in trace.now) shards (replies_in logs.now) answers
+        → AppendsFront (K.written sink.old) (K.written sink.new)
+        (report_of answers (journals_in journals.now) (occupancies_in lines.now))) }
     ensures failed { OnErr result (Rose (K.faults sink.old) (K.faults sink.new)) }
     ensures never_falls { K.faults sink.old ≤ K.faults sink.new }
 {
@@ -71,7 +74,8 @@ fn put_answers<K: Sink>(
     requires one_log_each { length logs.now ≡ shards }
     requires answered { (answers : List (ℕ × Reply)) × AreLogged (trace_in trace.now) shards (replies_in logs.now) answers }
     ensures { (answers : List (ℕ × Reply)) → AreLogged (trace_in trace.now) shards (replies_in logs.now) answers →
-        Writes result (output K.written K.faults writer.old) (output K.written K.faults writer.new) (flat_map (λ answer. line (answer_text answer)) answers) }
+        Writes result (output K.written K.faults writer.old) (output K.written K.faults writer.new) (flat_map
+        (λ answer. line (answer_text answer)) answers) }
 {
     answers_are_read_by_command();
     let mut places = [0; MOST_SHARDS as usize];
@@ -83,7 +87,8 @@ fn put_answers<K: Sink>(
 }
 
 fn put_journals<K: Sink>(writer: &mut Writer<'_, K>, journals: &[Journal]) -> Result<(), Failed>
-    ensures { Writes result (output K.written K.faults writer.old) (output K.written K.faults writer.new) (flat_map (λ journal. line (journal_text journal)) (enumerate_from 0 (journals_in journals.now))) }
+    ensures { Writes result (output K.written K.faults writer.old) (output K.written K.faults writer.new)
+        (flat_map (λ journal. line (journal_text journal)) (enumerate_from 0 (journals_in journals.now))) }
 {
     for (shard, journal) in journals.iter().enumerate() {
         put_journal(writer, shard as u64, journal)?;

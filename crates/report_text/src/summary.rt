@@ -48,8 +48,11 @@ pub fn write_summary<K: Sink>(
     requires one_journal_each { length journals.now ≡ shards }
     requires one_line_each { length lines.now ≡ shards }
     requires answered { (answers : List (ℕ × Reply)) × AreLogged (trace_in trace.now) shards (replies_in logs.now) answers }
-    ensures written { OnOk result ((answers : List (ℕ × Reply)) → AreLogged (trace_in trace.now) shards (replies_in logs.now) answers → Appends (K.written sink.old) (K.written sink.new) (summary_of answers (journals_in journals.now) (occupancies_in lines.now))) }
-    ensures front { OnErr result ((answers : List (ℕ × Reply)) → AreLogged (trace_in trace.now) shards (replies_in logs.now) answers → AppendsFront (K.written sink.old) (K.written sink.new) (summary_of answers (journals_in journals.now) (occupancies_in lines.now))) }
+    ensures written { OnOk result ((answers : List (ℕ × Reply)) → AreLogged (trace_in trace.now) shards (replies_in logs.now) answers
+        → Appends (K.written sink.old) (K.written sink.new) (summary_of answers (journals_in journals.now) (occupancies_in lines.now))) }
+    ensures front { OnErr result ((answers : List (ℕ × Reply)) → AreLogged (trace_in trace.now) shards (replies_in logs.now) answers
+        → AppendsFront (K.written sink.old) (K.written sink.new)
+        (summary_of answers (journals_in journals.now) (occupancies_in lines.now))) }
     ensures failed { OnErr result (Rose (K.faults sink.old) (K.faults sink.new)) }
     ensures never_falls { K.faults sink.old ≤ K.faults sink.new }
 {
@@ -70,7 +73,8 @@ fn put_counts<K: Sink>(
     requires one_log_each { length logs.now ≡ shards }
     requires answered { (answers : List (ℕ × Reply)) × AreLogged (trace_in trace.now) shards (replies_in logs.now) answers }
     ensures { (answers : List (ℕ × Reply)) → AreLogged (trace_in trace.now) shards (replies_in logs.now) answers →
-        Writes result (output K.written K.faults writer.old) (output K.written K.faults writer.new) (line (codes "commands " ++ decimal (length answers)) ++ line (tally_text (tally answers))) }
+        Writes result (output K.written K.faults writer.old) (output K.written K.faults writer.new) (line
+        (codes "commands " ++ decimal (length answers)) ++ line (tally_text (tally answers))) }
 {
     answers_are_read_by_command();
     let commands = trace.commands().len() as u64;
@@ -81,7 +85,8 @@ fn put_counts<K: Sink>(
 
 /// The line of the counted answers.
 fn put_tally<K: Sink>(writer: &mut Writer<'_, K>, tally: &Tally) -> Result<(), Failed>
-    ensures { Writes result (output K.written K.faults writer.old) (output K.written K.faults writer.new) (line (tally_text (tally_in tally.now))) }
+    ensures { Writes result (output K.written K.faults writer.old) (output K.written K.faults writer.new)
+        (line (tally_text (tally_in tally.now))) }
 {
     put_field_line(
         writer,
@@ -123,7 +128,8 @@ fn evictions_of(journals: &[Journal]) -> u64
 /// The line of the evictions.
 fn put_evictions<K: Sink>(writer: &mut Writer<'_, K>, journals: &[Journal]) -> Result<(), Failed>
     requires few { length journals.now < 2 ^ 32 }
-    ensures { Writes result (output K.written K.faults writer.old) (output K.written K.faults writer.new) (line (codes "evictions " ++ decimal (evictions (journals_in journals.now)))) }
+    ensures { Writes result (output K.written K.faults writer.old) (output K.written K.faults writer.new)
+        (line (codes "evictions " ++ decimal (evictions (journals_in journals.now)))) }
 {
     put_field_line(writer, &[(b"evictions ", evictions_of(journals))])
 }

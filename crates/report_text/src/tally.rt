@@ -73,7 +73,8 @@ pub(crate) fn tally_of(trace: &Trace, shards: u32, logs: &[ReplyLog]) -> Tally
     requires parsed_for { shards ≡ trace.now.shards }
     requires one_log_each { length logs.now ≡ shards }
     requires answered { (answers : List (ℕ × Reply)) × AreLogged (trace_in trace.now) shards (replies_in logs.now) answers }
-    ensures { (answers : List (ℕ × Reply)) → AreLogged (trace_in trace.now) shards (replies_in logs.now) answers → tally_in result ≡ tally answers }
+    ensures { (answers : List (ℕ × Reply)) → AreLogged (trace_in trace.now) shards (replies_in logs.now) answers
+        → tally_in result ≡ tally answers }
 {
     answers_are_read_by_command();
     let mut places = [0; MOST_SHARDS as usize];

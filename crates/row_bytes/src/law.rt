@@ -1,3 +1,4 @@
+//! That a row is read as it is written.
 ghost use Rattle.std.specs.Prelude.{◌≡◌, ℕ, ◌+◌, ◌≤◌, List, length};
 ghost use Rattle.layout.specs.Sizes.{descriptor};
 ghost use Rattle.cache_model.specs.Row.{Row, size};
@@ -8,7 +9,8 @@ ghost use Rattle.row_bytes.specs.Rows.{HoldsRow, header, number_in, put_in, key_
 pub fn a_row_is_read_as_it_is_written()
     ensures row { (content : List ℕ) (number : ℕ) (row : Row) → HoldsRow content number row → row_in content ≡ row }
     ensures number { (content : List ℕ) (number : ℕ) (row : Row) → HoldsRow content number row → number_in content ≡ number }
-    ensures size { (content : List ℕ) (number : ℕ) (row : Row) → HoldsRow content number row → length content + descriptor ≡ size row.key row.value }
+    ensures size { (content : List ℕ) (number : ℕ) (row : Row) → HoldsRow content number row
+        → length content + descriptor ≡ size row.key row.value }
     ensures lengths { (content : List ℕ) (number : ℕ) (row : Row) → HoldsRow content number row
         → (key_length_in content ≡ length row.key) × (value_length_in content ≡ length row.value) }
     ensures within { (content : List ℕ) (number : ℕ) (row : Row) → HoldsRow content number row

@@ -1,3 +1,4 @@
+//! A row read from the content of its object.
 ghost use Rattle.std.specs.Prelude.{◌≡◌, ◌+◌, ◌≤◌, length};
 ghost use Rattle.row_bytes.specs.Rows as rows;
 

@@ -1,3 +1,4 @@
+//! A row written into the content of its object.
 ghost use Rattle.std.specs.Prelude.{◌≡◌, ◌+◌, ◌<◌, ◌≤◌, ◌^◌, ◌++◌, drop, length, replicate};
 ghost use Rattle.byteorder.specs.Endian.{little_bytes};
 ghost use Rattle.layout.specs.Sizes.{descriptor, greatest_key, greatest_value};

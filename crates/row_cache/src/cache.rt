@@ -1,3 +1,4 @@
+//! The rows of one shard's cache.
 ghost use Rattle.std.specs.Bool.{OnFalse};
 ghost use Rattle.std.specs.Prelude.{◌^◌, ◌≡◌, ◌-◌, ◌↔◌, ◌⊎◌, ◌+◌, ◌<◌, ◌≤◌, [], true, length, take, replicate, None, IfOk, IfErr, IfSome, IsErr, IsNone, IsSome};
 ghost use Rattle.layout.specs.Sizes as sizes;

@@ -1,3 +1,4 @@
+//! The keys of rows, read where they stand.
 ghost use Rattle.std.specs.Prelude.{◌≡◌};
 ghost use Rattle.row_bytes.specs.Rows.{IsRow, row_in};
 ghost use Rattle.regions.specs.Contents.{live_at};

@@ -1,3 +1,4 @@
+//! Where rows stand, and in which order they were used.
 ghost use Rattle.std.specs.Prelude.{◌≡◌, ◌≢◌, ◌+◌, ◌<◌, ◌≤◌, ℕ, [], ◌∷◌, length, Some, None, slice_get, slice_set, IfOk, IfSome, MatchOption, MatchResult, All, Contains, vec_len, vec_capacity, List, ◌-◌, ◌^◌, take, map, filter};
 ghost use Rattle.std.specs.List.{last_or};
 ghost use Rattle.cache_model.specs.Row.{Row};

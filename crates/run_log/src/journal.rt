@@ -1,3 +1,4 @@
+//! The journal of a shard.
 ghost use Rattle.std.specs.Prelude.{◌≡◌, ◌+◌, ◌^◌, ◌<◌, ◌≤◌, length, [], ◌∷◌, ◌++◌, IfOk};
 
 use cache_model::Entry;

@@ -14,7 +14,8 @@ fn first_key(body: &[u8]) -> Option<(&[u8], &[u8])>
     requires { (keys : List (List ℕ)) × AreKeys body.now keys }
     ensures end { IsNone result ↔ (body.now ≡ []) }
     ensures none { IfNone result ((keys : List (List ℕ)) → AreKeys body.now keys → keys ≡ []) }
-    ensures first { IfSome result (λ cut. (keys : List (List ℕ)) → AreKeys body.now keys → (rest : List (List ℕ)) × (keys ≡ cut.0.now ∷ rest) × AreKeys cut.1.now rest) }
+    ensures first { IfSome result (λ cut. (keys : List (List ℕ)) → AreKeys body.now keys → (rest : List (List ℕ)) ×
+        (keys ≡ cut.0.now ∷ rest) × AreKeys cut.1.now rest) }
     ensures shorter { IfSome result (λ cut. 2 + length cut.0.now + length cut.1.now ≡ length body.now) }
 {
     let [low, high, behind @ ..] = body else {
@@ -41,7 +42,8 @@ pub fn next_key(body: &[u8], at: u32) -> Option<Span>
     ensures none { IfNone result ((keys : List (List ℕ)) → AreKeysAt body.now at keys → keys ≡ []) }
     ensures start { IfSome result (λ span. span.start ≡ at + 2) }
     ensures within { IfSome result (λ span. span.start + span.len ≤ length body.now) }
-    ensures first { IfSome result (λ span. (keys : List (List ℕ)) → AreKeysAt body.now at keys → (rest : List (List ℕ)) × (keys ≡ part body.now span ∷ rest) × AreKeysAt body.now (span.start + span.len) rest) }
+    ensures first { IfSome result (λ span. (keys : List (List ℕ)) → AreKeysAt body.now at keys → (rest : List (List ℕ)) ×
+        (keys ≡ part body.now span ∷ rest) × AreKeysAt body.now (span.start + span.len) rest) }
 {
     let (key, _) = first_key(&body[at as usize..])?;
     Some(span_behind(at, key))

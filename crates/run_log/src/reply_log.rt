@@ -1,3 +1,4 @@
+//! The replies to the parts that a shard issued.
 ghost use Rattle.std.specs.Prelude.{◌≡◌, ◌+◌, ◌^◌, ◌<◌, ◌≤◌, length, replicate, slice_set, unwrap_or, None, Some, IfOk, IfSome};
 ghost use Rattle.std.specs.List.{slice_get};
 ghost use Rattle.std.specs.Option.{option_map};
@@ -33,7 +34,8 @@ impl Model for ReplyLog {
 
     ghost view = { λ l. record { replies = map (reply_in l.bytes.items) l.recorded.items; room = l.room - vec_len l.bytes } };
 
-    ghost invariant = { λ l. (vec_len l.bytes ≤ l.room) × (l.room ≤ vec_capacity l.bytes) × All (LiesIn (length l.bytes.items)) l.recorded.items };
+    ghost invariant = { λ l. (vec_len l.bytes ≤ l.room) × (l.room ≤ vec_capacity l.bytes)
+        × All (LiesIn (length l.bytes.items)) l.recorded.items };
 }
 
 impl ReplyLog {

@@ -44,4 +44,3 @@ tickets_out lent = count_by is_some lent
 -- some tickets are idle that were not, and no other one has changed
 abbrev pub BecomeIdle : Tickets → Tickets → Type 0
 BecomeIdle old new = (ticket : ℕ) → (slice_get new ticket ≡ slice_get old ticket) ⊎ IsIdle new ticket
-

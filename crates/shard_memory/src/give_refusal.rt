@@ -1,3 +1,4 @@
+//! Why no block is given.
 use thiserror::Error;
 
 /// Why no block is given.

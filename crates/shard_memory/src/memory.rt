@@ -1,3 +1,4 @@
+//! Blocks and segments of one shard, and the blocks that it lends.
 ghost use Rattle.std.specs.Prelude.{◌≡◌, ℕ, ◌+◌, ◌*◌, ◌%◌, ◌^◌, ◌<◌, ◌≤◌, ◌↔◌, [], ◌∷◌, suc, cond, false, length, replicate, IfOk, IfErr, IfSome, IfNone, IsNone, IsTrue, All, Some, slice_set};
 ghost use Rattle.std.specs.FinMap as map;
 ghost use Rattle.layout.specs.Extents.{Blocks};
@@ -98,7 +99,8 @@ impl<'f> ShardMemory<'f> {
         ensures segments { IfOk result (λ memory. memory.segments ≡ []) }
         ensures pages_out { IfOk result (λ memory. memory.pages_out ≡ 0) }
         ensures lent { IfOk result (λ memory. memory.lent ≡ seat.lent) }
-        ensures counts { IfOk result (λ memory. (memory.lends ≡ 0) × (memory.backs ≡ 0) × (memory.take_wholes ≡ seat.take_wholes)) }
+        ensures counts { IfOk result (λ memory. (memory.lends ≡ 0) × (memory.backs ≡ 0) ×
+            (memory.take_wholes ≡ seat.take_wholes)) }
         ensures room { IfOk result (λ memory. HasAllRoom memory.room) }
         ensures trimmed { IfOk result (λ memory. IsTrimmed memory.room) }
     {
@@ -132,7 +134,9 @@ impl<'f> ShardMemory<'f> {
         ensures lends { self.now.lends ≡ raised self.now.backs (tickets_out self.now.lent) }
         ensures backs { self.now.backs < 2 ^ 64 }
         ensures pages_out { (segment_pages * length self.now.segments ≤ self.now.pages_out) × (self.now.pages_out ≤ self.now.pages) }
-        ensures trimmed { IsTrimmed self.now.room → self.now.pages_out ≤ segment_pages * length self.now.segments + longest_span * (length self.now.blocks + tickets_out self.now.lent) }
+        ensures trimmed { IsTrimmed self.now.room
+            → self.now.pages_out ≤ segment_pages * length self.now.segments + longest_span *
+            (length self.now.blocks + tickets_out self.now.lent) }
         ensures crowded { IsTrimmed self.now.room → LacksSegment self.now.room → IsCrowded self.now }
     {
         self.own.facts();
@@ -159,7 +163,13 @@ impl<'f> ShardMemory<'f> {
         ensures least { IfOk result (λ block. SetsAside self.old.objects self.new.objects size block.piece.at) }
         ensures pages_out { IfOk result (λ _. TakesPages self.old.pages_out self.new.pages_out size) }
         ensures trimmed { IsTrimmed self.old.room → IsTrimmed self.new.room }
-        ensures same { self.new ≡ record self.old { lent = self.new.lent; lends = self.new.lends; objects = self.new.objects; pages_out = self.new.pages_out; room = self.new.room } }
+        ensures same { self.new ≡ record self.old {
+          lent = self.new.lent;
+          lends = self.new.lends;
+          objects = self.new.objects;
+          pages_out = self.new.pages_out;
+          room = self.new.room;
+        } }
     {
         if size > GREATEST_BLOCK {
             return Err(GiveRefusal::TooLarge);
@@ -232,7 +242,12 @@ impl<'f> ShardMemory<'f> {
         ensures least { IfOk result (λ piece. SetsAside self.old.objects self.new.objects size piece.at) }
         ensures pages_out { IfOk result (λ _. TakesPages self.old.pages_out self.new.pages_out size) }
         ensures trimmed { IsTrimmed self.old.room → IsTrimmed self.new.room }
-        ensures same { self.new ≡ record self.old { blocks = self.new.blocks; objects = self.new.objects; pages_out = self.new.pages_out; room = self.new.room } }
+        ensures same { self.new ≡ record self.old {
+          blocks = self.new.blocks;
+          objects = self.new.objects;
+          pages_out = self.new.pages_out;
+          room = self.new.room;
+        } }
     {
         self.own.give_block(size)
     }

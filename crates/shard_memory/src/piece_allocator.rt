@@ -1,3 +1,4 @@
+//! Pieces of the pages of one shard, without regard to who has them.
 ghost use Rattle.std.specs.Prelude.{
   ◌≡◌,
   ℕ,
@@ -103,15 +104,21 @@ impl PieceAllocator {
     pub(crate) fn facts(&self)
         ensures blocks { AreDisjoint (page * self.now.pages) self.now.blocks }
         ensures segments { AreDisjoint (page * self.now.pages) self.now.segments }
-        ensures apart { (block segment : Extent) → Contains self.now.blocks block → Contains self.now.segments segment → Disjoint block segment }
-        ensures kinds { (piece : Lent) → IsOneOf self.now.home self.now.segments piece → ¬ IsOneOf self.now.home self.now.blocks piece }
+        ensures apart { (block segment : Extent) → Contains self.now.blocks block → Contains self.now.segments segment
+            → Disjoint block segment }
+        ensures kinds { (piece : Lent) → IsOneOf self.now.home self.now.segments piece
+            → ¬ IsOneOf self.now.home self.now.blocks piece }
         ensures objects { Blocks (page * self.now.pages) (map.get self.now.objects) }
-        ensures of_blocks { (block : Extent) → Contains self.now.blocks block → (class : ℕ) × IsLeastClass block.len class × (map.get self.now.objects block.start ≡ Some (size_of class)) }
-        ensures of_objects { (at size : ℕ) → map.get self.now.objects at ≡ Some size → (len : ℕ) × Contains self.now.blocks (extent at len) }
+        ensures of_blocks { (block : Extent) → Contains self.now.blocks block
+            → (class : ℕ) × IsLeastClass block.len class × (map.get self.now.objects block.start ≡ Some (size_of class)) }
+        ensures of_objects { (at size : ℕ) → map.get self.now.objects at ≡ Some size
+            → (len : ℕ) × Contains self.now.blocks (extent at len) }
         ensures least { segment_pages * length self.now.segments ≤ self.now.pages }
         ensures pages_out { (segment_pages * length self.now.segments ≤ self.now.pages_out) × (self.now.pages_out ≤ self.now.pages) }
-        ensures trimmed { IsTrimmed self.now.room → self.now.pages_out ≤ segment_pages * length self.now.segments + longest_span * length self.now.blocks }
-        ensures crowded { IsTrimmed self.now.room → LacksSegment self.now.room → FillPages self.now.pages (length self.now.segments) (length self.now.blocks) }
+        ensures trimmed { IsTrimmed self.now.room
+            → self.now.pages_out ≤ segment_pages * length self.now.segments + longest_span * length self.now.blocks }
+        ensures crowded { IsTrimmed self.now.room → LacksSegment self.now.room
+            → FillPages self.now.pages (length self.now.segments) (length self.now.blocks) }
     {
         self.spans.facts();
     }
@@ -122,7 +129,8 @@ impl PieceAllocator {
         requires few { length self.old.blocks < most_out }
         ensures refused { IfErr result (RefusesHere self.old.room size) }
         ensures room { IfOk result (λ _. (size ≤ greatest_block) × ¬ LacksBlock self.old.room size) }
-        ensures crowded { IfErr result (λ refusal. refusal ≡ GiveRefusal.NoSpan → IsTrimmed self.old.room → FillPages self.old.pages (length self.old.segments) (length self.old.blocks)) }
+        ensures crowded { IfErr result (λ refusal. refusal ≡ GiveRefusal.NoSpan → IsTrimmed self.old.room → FillPages self.old.pages
+            (length self.old.segments) (length self.old.blocks)) }
         ensures unchanged { IfErr result (λ _. self.new ≡ self.old) }
         ensures mine { IfOk result (λ piece. (piece.home ≡ self.old.home) × (piece.owner ≡ self.old.owner)) }
         ensures given { IfOk result (IsOneOf self.new.home self.new.blocks) }
@@ -173,7 +181,8 @@ impl PieceAllocator {
     pub(crate) fn give_segment(&mut self) -> Option<Piece>
         ensures none { IsNone result ↔ LacksSegment self.old.room }
         ensures unchanged { IfNone result (self.new ≡ self.old) }
-        ensures crowded { IfNone result (IsTrimmed self.old.room → FillPages self.old.pages (length self.old.segments) (length self.old.blocks)) }
+        ensures crowded { IfNone result (IsTrimmed self.old.room → FillPages self.old.pages (length self.old.segments)
+            (length self.old.blocks)) }
         ensures mine { IfSome result (λ piece. (piece.home ≡ self.old.home) × (piece.owner ≡ self.old.owner)) }
         ensures given { IfSome result (IsOneOf self.new.home self.new.segments) }
         ensures whole { IfSome result (λ piece. (length piece.bytes ≡ segment) × (piece.at % segment ≡ 0)) }

@@ -1,3 +1,4 @@
+//! A request that waits for its lane.
 use foreign_list::ForeignBlock;
 
 /// A request that waits to be sent.

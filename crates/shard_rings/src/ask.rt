@@ -1,3 +1,4 @@
+//! What a message asks.
 ghost use Rattle.std.specs.Prelude.{◌≡◌, List, Contains};
 ghost use Rattle.trace_text.specs.Operation.{operation};
 ghost use Rattle.cache_model.specs.Apply.{apply};

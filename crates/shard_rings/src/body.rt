@@ -1,3 +1,4 @@
+//! The body of a reply.
 ghost use Rattle.std.specs.Prelude.{◌≡◌, ℕ, ◌+◌, ◌<◌, ◌^◌, ◌↔◌, IsTrue, IfSome, IfNone};
 ghost use Rattle.shard_rings.specs.inside.Body.{HasKeys, IsBody};
 

@@ -1,3 +1,4 @@
+//! The header of a reply.
 ghost use Rattle.std.specs.Prelude.{length, ◌≡◌, ◌≢◌, ◌<◌, ◌^◌, IfSome, IfNone};
 ghost use Rattle.layout.specs.Sizes.{message_header};
 ghost use Rattle.cache_model.specs.declared.reply_kind.ReplyKind.{ReplyKind};

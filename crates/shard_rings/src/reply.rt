@@ -1,3 +1,4 @@
+//! Replies, written and read.
 ghost use Rattle.std.specs.Prelude.{◌≡◌, ℕ, ◌+◌, ◌<◌, ◌≤◌, ◌^◌, ◌++◌, length, take, drop, IfSome, IfNone};
 ghost use Rattle.layout.specs.Sizes.{message_header};
 ghost use Rattle.cache_model.specs.Apply.{Reply};

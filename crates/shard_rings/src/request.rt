@@ -1,3 +1,4 @@
+//! Requests, written and compared.
 ghost use Rattle.std.specs.Prelude.{◌≡◌, ◌+◌, ◌≤◌, ◌++◌, length};
 ghost use Rattle.std.specs.Str.{bytes_eq};
 ghost use Rattle.layout.specs.Sizes.{greatest_request};

@@ -1,3 +1,4 @@
+//! Texts and numbers written into a message.
 ghost use Rattle.std.specs.Prelude.{◌≡◌, ◌+◌, ◌≤◌, ◌++◌, length, take, drop};
 
 /// Writes a text over the bytes from `at` on.

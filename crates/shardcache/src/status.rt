@@ -1,3 +1,4 @@
+//! How a call of the program ends.
 ghost use Rattle.std.specs.Prelude.{◌≡◌};
 ghost use Rattle.shardcache.specs.Codes.{code_of};
 

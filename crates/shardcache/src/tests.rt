@@ -1,3 +1,4 @@
+//! The program on worked traces and words.
 mod evictions;
 mod examples;
 mod gates;

@@ -1,3 +1,4 @@
+//! The size classes.
 ghost use Rattle.std.specs.Prelude.{◌≡◌, ◌+◌, ◌<◌, ◌≤◌, ◌↔◌, IsNone, IfSome};
 ghost use Rattle.layout.specs.Sizes.{greatest_block};
 ghost use Rattle.small_pools.specs.Classes.{size_of, order_of, capacity_of, IsClass, IsLeastClass};

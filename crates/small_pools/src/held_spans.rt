@@ -1,3 +1,4 @@
+//! The spans that pools hold, and the objects in them.
 ghost use Rattle.std.specs.Prelude.{
   ◌≡◌,
   ◌⊎◌,
@@ -78,9 +79,16 @@ impl Model for HeldSpans {
 
     ghost use Rattle.small_pools.specs.inside.Tables.{objects_of, IsConsistent};
 
-    ghost view = { λ a. objects_of (record { pages = a.pages; classes = a.classes.items; firsts = a.firsts.items; masks = a.masks.items; lists = a.lists }) };
+    ghost view = { λ a. objects_of (record {
+      pages = a.pages;
+      classes = a.classes.items;
+      firsts = a.firsts.items;
+      masks = a.masks.items;
+      lists = a.lists;
+    }) };
 
-    ghost invariant = { λ a. IsConsistent (record { pages = a.pages; classes = a.classes.items; firsts = a.firsts.items; masks = a.masks.items; lists = a.lists }) };
+    ghost invariant = { λ a. IsConsistent
+        (record { pages = a.pages; classes = a.classes.items; firsts = a.firsts.items; masks = a.masks.items; lists = a.lists }) };
 }
 
 impl HeldSpans {
@@ -126,7 +134,8 @@ impl HeldSpans {
         ensures was_free { IfSome result (λ place. map.get self.old.allocated place ≡ None) }
         ensures allocated { IfSome result (λ place. self.new.allocated ≡ map.insert self.old.allocated place (size_of class)) }
         ensures spans { IfSome result (λ _. HoldsFor self.old self.new spans.old spans.new class) }
-        ensures come { IfSome result (λ _. (first held : ℕ) → IsHeld self.new first held → IsHeld self.old first held ⊎ HasObject self.new first held) }
+        ensures come { IfSome result (λ _. (first held : ℕ) → IsHeld self.new first held → IsHeld self.old first held
+            ⊎ HasObject self.new first held) }
         ensures pages { self.new.pages ≡ self.old.pages }
         ensures held { AreHeldIn self.new spans.new }
         ensures objects { AreObjects self.new }
@@ -141,7 +150,8 @@ impl HeldSpans {
     pub fn put(&mut self, place: u32) -> u32
         requires { IsSome (map.get self.old.allocated place) }
         ensures within { result < self.old.pages }
-        ensures others { (first class : ℕ) → first ≢ result → IsHeld self.old first class → HasObject self.old first class → HasObject self.new first class }
+        ensures others { (first class : ℕ) → first ≢ result → IsHeld self.old first class → HasObject self.old first class
+            → HasObject self.new first class }
         ensures allocated { self.new.allocated ≡ map.remove self.old.allocated place }
         ensures held { self.new.held ≡ self.old.held }
         ensures pages { self.new.pages ≡ self.old.pages }
@@ -202,7 +212,8 @@ impl HeldSpans {
         ensures none { IsNone result ↔ LacksObject self.old spans.old class }
         ensures unchanged { IfNone result ((self.new ≡ self.old) × (spans.new ≡ spans.old)) }
         ensures found { IfSome result (λ first. IsHeld self.new first class) }
-        ensures come { IfSome result (λ first. (other held : ℕ) → IsHeld self.new other held → (other ≡ first) ⊎ IsHeld self.old other held) }
+        ensures come { IfSome result (λ first. (other held : ℕ) → IsHeld self.new other held → (other ≡ first)
+            ⊎ IsHeld self.old other held) }
         ensures room { IfSome result (λ first. HasRoom self.new first class) }
         ensures allocated { self.new.allocated ≡ self.old.allocated }
         ensures spans { IfSome result (λ _. HoldsFor self.old self.new spans.old spans.new class) }
@@ -275,7 +286,8 @@ impl HeldSpans {
     fn add(&mut self, first: u32, class: u8)
         requires class { class < 37 }
         requires inside { first + 2 ^ order_of class ≤ self.old.pages }
-        requires clear { (other held : ℕ) → IsHeld self.old other held → (other + 2 ^ order_of held ≤ first) ⊎ (first + 2 ^ order_of class ≤ other) }
+        requires clear { (other held : ℕ) → IsHeld self.old other held
+            → (other + 2 ^ order_of held ≤ first) ⊎ (first + 2 ^ order_of class ≤ other) }
         ensures moves { self.new ≡ record self.old { held = map.insert self.old.held first class } }
         ensures room { HasRoom self.new first class }
         ensures objects { AreObjects self.new }
@@ -320,7 +332,8 @@ fn own(firsts: &mut Vec<u32>, first: u32, count: u32)
     requires small { vec_len firsts.old ≤ most_pages }
     ensures len { vec_len firsts.new ≡ vec_len firsts.old }
     ensures mine { (page : ℕ) → first ≤ page → page < first + count → slice_index firsts.new.items page ≡ first }
-    ensures others { (page : ℕ) → (page < first) ⊎ (first + count ≤ page) → slice_index firsts.new.items page ≡ slice_index firsts.old.items page }
+    ensures others { (page : ℕ) → (page < first) ⊎ (first + count ≤ page)
+        → slice_index firsts.new.items page ≡ slice_index firsts.old.items page }
 {
     for page in first..first + count {
         firsts[page as usize] = first;

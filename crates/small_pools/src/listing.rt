@@ -25,7 +25,8 @@ pub fn relist(lists: &mut IndexLists, index: u32, from: Option<u32>, to: Option<
     requires to { IfSome to (λ list. list < length lists.old.lists) }
     requires stands { (list : ℕ) → list < length lists.old.lists → times index (list_at lists.old list) ≡ stands_on from list }
     ensures stands { (list : ℕ) → list < length lists.new.lists → times index (list_at lists.new list) ≡ stands_on to list }
-    ensures others { (list other : ℕ) → other ≢ index → times other (list_at lists.new list) ≡ times other (list_at lists.old list) }
+    ensures others { (list other : ℕ) → other ≢ index
+        → times other (list_at lists.new list) ≡ times other (list_at lists.old list) }
     ensures indices { lists.new.indices ≡ lists.old.indices }
     ensures lists { length lists.new.lists ≡ length lists.old.lists }
 {
@@ -41,7 +42,8 @@ fn unlist(lists: &mut IndexLists, index: u32, from: Option<u32>)
     requires from { IfSome from (λ list. list < length lists.old.lists) }
     requires stands { (list : ℕ) → list < length lists.old.lists → times index (list_at lists.old list) ≡ stands_on from list }
     ensures gone { (list : ℕ) → list < length lists.new.lists → times index (list_at lists.new list) ≡ 0 }
-    ensures others { (list other : ℕ) → other ≢ index → times other (list_at lists.new list) ≡ times other (list_at lists.old list) }
+    ensures others { (list other : ℕ) → other ≢ index
+        → times other (list_at lists.new list) ≡ times other (list_at lists.old list) }
     ensures indices { lists.new.indices ≡ lists.old.indices }
     ensures lists { length lists.new.lists ≡ length lists.old.lists }
 {
@@ -56,7 +58,8 @@ fn enlist(lists: &mut IndexLists, index: u32, to: Option<u32>)
     requires to { IfSome to (λ list. list < length lists.old.lists) }
     requires gone { (list : ℕ) → list < length lists.old.lists → times index (list_at lists.old list) ≡ 0 }
     ensures stands { (list : ℕ) → list < length lists.new.lists → times index (list_at lists.new list) ≡ stands_on to list }
-    ensures others { (list other : ℕ) → other ≢ index → times other (list_at lists.new list) ≡ times other (list_at lists.old list) }
+    ensures others { (list other : ℕ) → other ≢ index
+        → times other (list_at lists.new list) ≡ times other (list_at lists.old list) }
     ensures indices { lists.new.indices ≡ lists.old.indices }
     ensures lists { length lists.new.lists ≡ length lists.old.lists }
 {

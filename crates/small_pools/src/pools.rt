@@ -1,3 +1,4 @@
+//! Small objects of 37 sizes.
 ghost use Rattle.std.specs.Prelude.{◌≡◌, ◌≢◌, ◌<◌, ◌↔◌, IfOk, IfSome, IfNone, IsNone, IsSome, Some, None};
 ghost use Rattle.std.specs.FinMap as map;
 ghost use Rattle.layout.specs.Sizes.{ArePages};

@@ -1,3 +1,4 @@
+//! The pages of one shard, in spans.
 ghost use Rattle.std.specs.Prelude.{
   ◌≡◌,
   ℕ,

@@ -1,3 +1,7 @@
+//! What a command is.
+ghost use Rattle.std.specs.Prelude.{◌≡◌, if◌then◌else◌};
+ghost use Rattle.trace_text.specs.Parts.{is_get, is_put, is_scan};
+
 /// What a command does.
 #[derive(Clone, Copy, Debug, PartialEq, Eq)]
 pub enum Kind {
@@ -5,6 +9,34 @@ pub enum Kind {
     Get,
     Erase,
     Scan,
+}
+
+impl Kind {
+    pub fn is_put(self) -> bool
+        ensures { result ≡ is_put self }
+    {
+        matches!(self, Kind::Put)
+    }
+
+    pub fn is_get(self) -> bool
+        ensures { result ≡ is_get self }
+    {
+        matches!(self, Kind::Get)
+    }
+
+    /// Whether each shard does a part of such a command. Another one is done by the owner of its key alone.
+    pub fn is_scan(self) -> bool
+        ensures { result ≡ is_scan self }
+    {
+        matches!(self, Kind::Scan)
+    }
+
+    /// How many parts such a command has, with so many shards.
+    pub fn parts(self, shards: u32) -> u32
+        ensures { result ≡ (if is_scan self then shards else 1) }
+    {
+        if self.is_scan() { shards } else { 1 }
+    }
 }
 
 /// Bytes of a trace: `len` of them, from `start` on.

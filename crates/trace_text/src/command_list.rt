@@ -2,7 +2,7 @@
 ghost use Rattle.std.specs.Prelude.{◌≡◌, ◌≤◌, [], ◌∷◌, ◌++◌, length, count_by, fold, max, OnOk};
 ghost use Rattle.trace_text.specs.Parts.{is_get, is_scan};
 
-use crate::command::{Command, Kind};
+use crate::command::Command;
 use std::alloc::{AllocFailed, Global};
 use std::marker::Model;
 
@@ -43,8 +43,8 @@ impl CommandList {
         ensures { OnOk result (self.new ≡ self.old ++ command ∷ []) }
     {
         self.commands.push(command)?;
-        self.gets += usize::from(is_get(command.kind));
-        self.scans += usize::from(is_scan(command.kind));
+        self.gets += usize::from(command.kind.is_get());
+        self.scans += usize::from(command.kind.is_scan());
         self.longest = max(self.longest, command.value.len);
         Ok(())
     }
@@ -81,18 +81,6 @@ impl CommandList {
     {
         self.longest
     }
-}
-
-pub(crate) fn is_get(kind: Kind) -> bool
-    ensures { result ≡ is_get kind }
-{
-    matches!(kind, Kind::Get)
-}
-
-pub(crate) fn is_scan(kind: Kind) -> bool
-    ensures { result ≡ is_scan kind }
-{
-    matches!(kind, Kind::Scan)
 }
 
 fn max(left: u32, right: u32) -> u32

@@ -222,7 +222,8 @@ fn bare_in(kind: Kind, fields: &[u8], sound: bool) -> Result<Found<'_>, Cause>
 
 /// The count of a scan, and nothing behind it.
 fn count_in(fields: &[u8]) -> Result<u32, Cause>
-    ensures count { IfOk result (λ count. (key : List ℕ) → from_count key (cut_at 32 fields.now) ≡ Ok (record { kind = Kind.Scan; key = key; value = []; count = count })) }
+    ensures count { IfOk result (λ count. (key : List ℕ) → from_count key (cut_at 32 fields.now) ≡ Ok
+        (record { kind = Kind.Scan; key = key; value = []; count = count })) }
     ensures fields { IfOk result (λ count. HasItsFields Kind.Scan [] count) }
     ensures fault { IfErr result (λ cause. (key : List ℕ) → from_count key (cut_at 32 fields.now) ≡ Err cause) }
 {

@@ -7,7 +7,7 @@ ghost use Rattle.trace_text.specs.Reading.{most_commands};
 ghost use Rattle.trace_text.specs.Trace.{trace_with};
 
 use crate::command::Kind;
-use crate::command_list::{CommandList, is_get, is_scan};
+use crate::command_list::CommandList;
 use crate::trace::Trace;
 use layout::SCAN_ROOM;
 
@@ -88,9 +88,9 @@ impl Trace {
             let owns = owner_of(self.key(command), shards) == shard;
             own_parts += own_parts_of(command.kind, is_own, shards);
             here_parts += u32::from(has_part(command.kind, owns));
-            here_puts += u32::from(is_put(command.kind) & owns);
-            gets += u32::from(is_get(command.kind) & is_own);
-            scans += u32::from(is_scan(command.kind) & is_own);
+            here_puts += u32::from(command.kind.is_put() & owns);
+            gets += u32::from(command.kind.is_get() & is_own);
+            scans += u32::from(command.kind.is_scan() & is_own);
             greatest = greatest.max(command.value.len);
         }
         Needs {
@@ -123,26 +123,14 @@ pub(crate) fn replies_room(commands: &CommandList, shards: u32) -> u64
     gets * u64::from(commands.longest_value()) + scans * u64::from(shards * SCAN_ROOM)
 }
 
-fn is_put(kind: Kind) -> bool
-    ensures { result ≡ is_put kind }
+fn own_parts_of(kind: Kind, is_own: bool, shards: u32) -> u32
+    ensures { result ≡ (if is_own then (if is_scan kind then shards else 1) else 0) }
 {
-    matches!(kind, Kind::Put)
+    if is_own { kind.parts(shards) } else { 0 }
 }
 
 fn has_part(kind: Kind, owns: bool) -> bool
     ensures { result ≡ (if is_scan kind then true else owns) }
 {
-    match kind {
-        Kind::Scan => true,
-        Kind::Put | Kind::Get | Kind::Erase => owns,
-    }
-}
-
-fn own_parts_of(kind: Kind, is_own: bool, shards: u32) -> u32
-    ensures { result ≡ (if is_own then (if is_scan kind then shards else 1) else 0) }
-{
-    match kind {
-        Kind::Scan if is_own => shards,
-        _ => u32::from(is_own),
-    }
+    kind.is_scan() || owns
 }

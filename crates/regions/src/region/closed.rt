@@ -63,7 +63,8 @@ impl Region {
         ensures within { IfSome result (λ f. f.0 + f.2 ≤ used_at self.now segment) }
         ensures inside { IfSome result (λ f. f.0 + f.2 ≤ sizes.segment) }
         ensures next { IfSome result (λ f. IsStart self.now segment (f.0 + f.2)) }
-        ensures between { IfSome result (λ f. (a : ℕ) → f.0 < a → a < f.0 + f.2 → standing_at self.now (record { segment = segment; at = a }) ≡ None) }
+        ensures between { IfSome result (λ f. (a : ℕ) → f.0 < a → a < f.0 + f.2 → standing_at self.now
+            (record { segment = segment; at = a }) ≡ None) }
         ensures counted { IfSome result (λ f. f.2 ≤ live_bytes_at self.now segment) }
         ensures dead { IsNone result → NoneLives self.now segment 0 from → live_bytes_at self.now segment ≡ 0 }
     {
@@ -81,7 +82,8 @@ impl Region {
     /// The live bytes of each closed segment, by number, and `u32::MAX` for each other number.
     pub fn closed_live(&self) -> &[u32]
         ensures length { length result.now ≡ (shape self.now).most }
-        ensures closed { (n : ℕ) → IsClosed self.now n → (n < (shape self.now).most) × (slice_index result.now n ≡ live_bytes_at self.now n) }
+        ensures closed { (n : ℕ) → IsClosed self.now n
+            → (n < (shape self.now).most) × (slice_index result.now n ≡ live_bytes_at self.now n) }
         ensures others { (n : ℕ) → n < (shape self.now).most → ¬ IsClosed self.now n → slice_index result.now n ≡ not_closed }
     {
         self.table.bytes()

@@ -68,6 +68,7 @@ impl Region {
     /// A region by itself stands for the store in which each live object is named by its place, whatever of its items is
     /// taken for reference fields.
     pub fn facts(&self)
-        ensures store { (bare : Bare) → StandsFor bare (store_of bare (itself (live_at self.now)) (live_at self.now)) (itself (live_at self.now)) (live_at self.now) }
+        ensures store { (bare : Bare) → StandsFor bare (store_of bare (itself (live_at self.now)) (live_at self.now))
+            (itself (live_at self.now)) (live_at self.now) }
     {}
 }

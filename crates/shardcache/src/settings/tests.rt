@@ -1,3 +1,4 @@
+//! Words that ask for something, and words that do not.
 use super::*;
 use std::test::Fail;
 

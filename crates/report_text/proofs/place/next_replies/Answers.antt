@@ -6,7 +6,7 @@ use Rattle.trace_text.specs.Parsed.{trace_in}
 use Rattle.trace_text.specs.Parts.{is_scan, origin}
 use Rattle.report_text.proofs.Places.{places_behind, read_there, room_for}
 use Rattle.report_text.proofs.place.next_replies.Goals as goal
-use Rattle.report_text.proofs.place.next_replies.Goals.{After-parts_of}
+use Rattle.report_text.proofs.place.next_replies.Goals.{After-parts}
 
 abbrev none : Command
 none = record { number = 0; line = 0; kind = Put; key = record { start = 0; len = 0 }; value = record { start = 0; len = 0 }; count = 0 }
@@ -22,17 +22,17 @@ below k n o some is = omega (arith, is)
 abbrev number_at : List Command → ℕ → ℕ
 number_at commands i = (get_or commands i none).number
 
-origin-is : (c : After-parts_of) → c.origin_of-origin.result ≡ origin (number_at c.args.trace.now.commands c.args.index) c.args.trace.now.shards
+origin-is : (c : After-parts) → c.origin_of-origin.result ≡ origin (number_at c.args.trace.now.commands c.args.index) c.args.trace.now.shards
 origin-is c =
     c.origin_of-origin.ensures ∙ ap (λ n. origin (number_at c.commands.result.now c.args.index) n) c.requires.one_log_each
     ∙ ap (λ (list : List Command). origin (number_at list c.args.index) c.args.trace.now.shards) c.commands.ensures.value
 
-parts-are : (c : After-parts_of) → c.parts_of.result ≡ cond (is_scan (get_or c.args.trace.now.commands c.args.index none).kind) c.args.trace.now.shards 1
+parts-are : (c : After-parts) → c.parts.result ≡ cond (is_scan (get_or c.args.trace.now.commands c.args.index none).kind) c.args.trace.now.shards 1
 parts-are c =
-    c.parts_of.ensures ∙ ap (λ (n : ℕ). cond (is_scan (get_or c.commands.result.now c.args.index none).kind) n 1) c.requires.one_log_each
+    c.parts.ensures ∙ ap (λ (n : ℕ). cond (is_scan (get_or c.commands.result.now c.args.index none).kind) n 1) c.requires.one_log_each
     ∙ ap (λ (list : List Command). cond (is_scan (get_or list c.args.index none).kind) c.args.trace.now.shards 1) c.commands.ensures.value
 
-room-is : (c : After-parts_of) → get_or c.args.places.now c.origin_of-origin.result 0 + c.args.trace.now.shards < 4294967296
+room-is : (c : After-parts) → get_or c.args.places.now c.origin_of-origin.result 0 + c.args.trace.now.shards < 4294967296
 room-is c =
     let n = c.args.trace.now.shards in
     let o = c.origin_of-origin.result in
@@ -42,21 +42,21 @@ room-is c =
 
 pub take_place-first-requires-clause-room : goal.take_place-first-requires-clause-room
 take_place-first-requires-clause-room c =
-    omega (arith, room-is c, few _ c.parts_of.result c.args.trace.now.shards (parts-are c) c.commands.ensures.some_shards)
+    omega (arith, room-is c, few _ c.parts.result c.args.trace.now.shards (parts-are c) c.commands.ensures.some_shards)
 
 pub returns-clause-places_behind : goal.returns-clause-places_behind
 returns-clause-places_behind c =
-    let d = (goal.at-returns-clause-places_behind c).After-parts_of in
+    let d = (goal.at-returns-clause-places_behind c).After-parts in
     let n = c.args.trace.now.shards in
     let o = c.origin_of-origin.result in
     let o-below = below (number_at c.args.trace.now.commands c.args.index - 1) n o c.commands.ensures.some_shards (origin-is d) in
     let within : o < length c.args.places.now = omega (arith, o-below, c.commands.ensures.most_shards, c.told-places) in
-    places_behind c.parts_go_up_by_command.ensures.next c.args.trace.now n c.args.index o c.parts_of.result c.take_place-first.result none c.args.places.now
+    places_behind c.parts_go_up_by_command.ensures.next c.args.trace.now n c.args.index o c.parts.result c.take_place-first.result none c.args.places.now
     c.take_place-first.new.places c.requires.index within (origin-is d) (parts-are d) c.take_place-first.ensures.first c.take_place-first.ensures.next c.requires.places
 
 pub returns-clause-read : goal.returns-clause-read
 returns-clause-read c = λ answers d e logged.
-    let k = (goal.at-returns-clause-read c).After-parts_of in
+    let k = (goal.at-returns-clause-read c).After-parts in
     let n = c.args.trace.now.shards in
     let o = c.origin_of-origin.result in
     let o-below = below (number_at c.args.trace.now.commands c.args.index - 1) n o c.commands.ensures.some_shards (origin-is k) in
@@ -68,5 +68,5 @@ returns-clause-read c = λ answers d e logged.
 
 pub returns-clause-room : goal.returns-clause-room
 returns-clause-room c =
-    let k = (goal.at-returns-clause-room c).After-parts_of in
+    let k = (goal.at-returns-clause-room c).After-parts in
     rw (← c.take_place-first.ensures.first) at (room-is k)
