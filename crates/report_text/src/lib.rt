@@ -8,11 +8,10 @@ mod found;
 mod lines;
 mod place;
 mod report;
-mod shard_line;
 mod summary;
 mod tally;
 mod writer;
 
 pub use report::write_report;
-pub use shard_line::ShardLine;
+pub use run_log::ShardLine;
 pub use summary::write_summary;

@@ -1,3 +1,4 @@
 pub mod JournalState
 pub mod Replies
+pub mod ShardLines
 pub mod inside

@@ -1,4 +1,6 @@
-/// What the report says of a shard at the end.
+//! What a report says of a shard at the end.
+
+/// What a shard's cache came to, and how many blocks the shard lent and got back.
 #[derive(Clone, Copy, Debug, PartialEq, Eq)]
 pub struct ShardLine {
     /// The rows that the shard holds.
