@@ -1,13 +1,14 @@
 -- The blocks that a space lends and that come home to it.
-use Rattle.std.specs.Prelude.{◌≡◌, ℕ, suc, ◌+◌, ◌*◌, ◌≤◌, ◌<◌, Option, Some, None, slice_set, length}
+use Rattle.std.specs.Prelude.{◌≡◌, ◌⊎◌, ℕ, suc, ◌+◌, ◌*◌, ◌≤◌, ◌<◌, Option, Some, None, slice_set, length}
 use Rattle.layout.specs.Sizes.{greatest_block, key_room}
 use Rattle.trace_text.specs.declared.command.Kind.{Kind}
 use Rattle.trace_text.specs.declared.command.Kind.TheVariants as kinds
 use Rattle.trace_text.specs.Operation.{Operation}
 use Rattle.cache_model.specs.Row.{Row}
 use Rattle.foreign_list.specs.Blocks.{Block, piece_id_of}
+use Rattle.regions.specs.Segments.{RegionState}
 use Rattle.regions.specs.Shapes.{free_count}
-use Rattle.shard_memory.specs.Room.{LacksBlock}
+use Rattle.shard_memory.specs.Room.{LacksBlock, IsTrimmed}
 use Rattle.layout.specs.Counts.{raised}
 use Rattle.shard_memory.specs.Tickets.{Tickets, IsOfShare, IsIdle, HasIdle, BecomeIdle, tickets_out}
 use Rattle.shard_memory.specs.declared.share.Share.{Share}
@@ -45,12 +46,44 @@ pub record LendsBlock (share : Share) (old new : SpaceState) (block : Block) : T
   pub owner : block.piece.owner ≡ old.shard
   pub fresh : block.seen ≡ 0
 
--- why no block is given: it is larger than the greatest class; no ticket of the share is idle; or there is no room for it, and no
--- segment is free that could be given back, though the list was looked at
+-- There is no room for a block of so many bytes, though the list was looked at, the pools are trimmed, and at most one segment is
+-- free. Nothing changed but what came home and what the pages can still give.
+pub record HasNoSpan (size : ℕ) (old new : SpaceState) : Type 0 where
+  pub none : LacksBlock new.free size
+  pub trimmed : IsTrimmed new.free
+  pub last : free_count new.region ≤ 1
+  pub looked : LooksOnce old new
+  pub home : ComeHome old.lent new.lent old.backs new.backs
+  pub same : new ≡ record old { lent = new.lent; backs = new.backs; looks = new.looks; free = new.free }
+
+-- why no block is given: it is larger than the greatest class; no ticket of the share is idle; or there is no room for it
 abbrev pub RefusesNow : SpaceState → SpaceState → ℕ → Share → GiveRefusal → Type 0
 RefusesNow old new size share TooLarge = greatest_block < size
 RefusesNow old new size share NoTicket = (size ≤ greatest_block) × ¬ HasIdle old.lent share
-RefusesNow old new size share NoSpan = (size ≤ greatest_block) × HasIdle old.lent share × LacksBlock new.free size × (free_count new.region ≤ 1) × LooksOnce old new
+RefusesNow old new size share NoSpan = (size ≤ greatest_block) × HasIdle old.lent share × HasNoSpan size old new
+
+-- no segment goes, or one, which is not the last free one
+abbrev pub HandsBack : RegionState → RegionState → Type 0
+HandsBack old new = (new ≡ old) ⊎ ((1 ≤ free_count new) × (free_count new + 1 ≡ free_count old))
+
+-- there was room for a block of so many bytes: the list was left alone, and no segment went
+pub record HasRoomAtOnce (size : ℕ) (old new : SpaceState) : Type 0 where
+  pub room : ¬ LacksBlock old.free size
+  pub looks : new.looks ≡ old.looks
+  pub region : new.region ≡ old.region
+
+-- there was none: the list was looked at, and a segment may have gone
+pub record MakesRoom (size : ℕ) (old new : SpaceState) : Type 0 where
+  pub none : LacksBlock old.free size
+  pub looked : LooksOnce old new
+  pub segments : HandsBack old.region new.region
+
+-- where a block is given: it is no larger than the greatest class, a ticket of the share was idle as the call began, and there was
+-- room, or some was made
+pub record GivesNow (size : ℕ) (share : Share) (old new : SpaceState) : Type 0 where
+  pub small : size ≤ greatest_block
+  pub idle : HasIdle old.lent share
+  pub room : HasRoomAtOnce size old new ⊎ MakesRoom size old new
 
 -- the length of the value that is found
 abbrev pub value_length : Option Row → ℕ

@@ -11,7 +11,8 @@ ghost use Rattle.regions.specs.Shapes.{free_count};
 ghost use Rattle.compaction.specs.Sparse.{IsCompacted};
 ghost use Rattle.row_cache.specs.Rows.{rows_of, Stay};
 ghost use Rattle.reclaim.specs.Works.{floor_of};
-ghost use Rattle.reclaim.specs.inside.Consistent.{IsConsistent};
+ghost use Rattle.reclaim.specs.Lending.{GivesNow, HandsBack};
+ghost use Rattle.reclaim.specs.inside.Consistent.{IsConsistent, space_of};
 ghost use Rattle.reclaim.specs.inside.Evicted.{HasEvicted};
 ghost use Rattle.reclaim.specs.inside.Homecoming.{TakesHome, TakesOnce, GivesAfter, RefusesAfter};
 
@@ -118,8 +119,10 @@ pub(crate) fn give_now<'f>(
     requires some { 1 ≤ size }
     requires consistent { (guards : ℕ) × IsConsistent memory.old.owner memory.old.pages guards memory.old cache.old.region }
     ensures given { IfOk result (GivesAfter share size memory.old memory.new) }
+    ensures in_turn { IfOk result (λ _. GivesNow size share (space_of memory.old cache.old) (space_of memory.new cache.new)) }
     ensures refused { IfErr result (RefusesAfter memory.old memory.new cache.new.region size share) }
-    ensures unchanged { IfErr result (λ refusal. (refusal ≢ GiveRefusal.NoSpan → memory.new ≡ memory.old) × (cache.new ≡ cache.old)) }
+    ensures unchanged { IfErr result (λ refusal. refusal ≢ GiveRefusal.NoSpan → memory.new ≡ memory.old) }
+    ensures kept { IfErr result (λ _. cache.new ≡ cache.old) }
     ensures consistent { (shard pages guards : ℕ) → IsConsistent shard pages guards memory.old cache.old.region → IsConsistent shard pages guards memory.new cache.new.region }
     ensures stay { Stay cache.old.region cache.new.region }
     ensures rows { rows_of cache.new ≡ rows_of cache.old }
@@ -169,6 +172,8 @@ fn give_squeezed<'f>(
     requires idle { HasIdle memory.old.lent share }
     requires consistent { (guards : ℕ) × IsConsistent memory.old.owner memory.old.pages guards memory.old cache.old.region }
     ensures given { IfSome result (GivesAfter share size memory.old memory.new) }
+    ensures once { TakesOnce memory.old memory.new }
+    ensures handed { HandsBack cache.old.region cache.new.region }
     ensures none { IfNone result (RefusesAfter memory.old memory.new cache.new.region size share GiveRefusal.NoSpan) }
     ensures unchanged { IfNone result (cache.new ≡ cache.old) }
     ensures consistent { (shard pages guards : ℕ) → IsConsistent shard pages guards memory.old cache.old.region → IsConsistent shard pages guards memory.new cache.new.region }
@@ -194,8 +199,8 @@ fn give_trimmed<'f>(
     requires idle { HasIdle memory.old.lent share }
     ensures given { IfSome result (GivesAfter share size memory.old memory.new) }
     ensures taken { IfNone result (TakesHome memory.old memory.new) }
-    ensures once { IfNone result (TakesOnce memory.old memory.new) }
-    ensures none { IfNone result (LacksBlock memory.new.room size × IsCrowded memory.new) }
+    ensures once { TakesOnce memory.old memory.new }
+    ensures none { IfNone result (LacksBlock memory.new.room size × IsTrimmed memory.new.room × IsCrowded memory.new) }
     ensures consistent { (shard pages guards : ℕ) (region : RegionState) → IsConsistent shard pages guards memory.old region → IsConsistent shard pages guards memory.new region }
 {
     memory.take_back();
@@ -219,6 +224,8 @@ fn give_freed<'f>(
     requires idle { HasIdle memory.old.lent share }
     requires consistent { (guards : ℕ) × IsConsistent memory.old.owner memory.old.pages guards memory.old cache.old.region }
     ensures given { IfSome result (GivesAfter share size memory.old memory.new) }
+    ensures looks { memory.new.take_wholes ≡ memory.old.take_wholes }
+    ensures handed { HandsBack cache.old.region cache.new.region }
     ensures none { IfNone result (free_count cache.new.region ≤ 1) }
     ensures unchanged { IfNone result ((memory.new ≡ memory.old) × (cache.new ≡ cache.old)) }
     ensures consistent { (shard pages guards : ℕ) → IsConsistent shard pages guards memory.old cache.old.region → IsConsistent shard pages guards memory.new cache.new.region }
@@ -239,6 +246,7 @@ fn give_surely<'f>(memory: &mut ShardMemory<'f>, size: u32, share: Share) -> For
     requires idle { HasIdle memory.old.lent share }
     requires room { HasAllRoom memory.old.room }
     ensures given { GivesAfter share size memory.old memory.new result }
+    ensures looks { memory.new.take_wholes ≡ memory.old.take_wholes }
     ensures consistent { (shard pages guards : ℕ) (region : RegionState) → IsConsistent shard pages guards memory.old region → IsConsistent shard pages guards memory.new region }
 {
     let Ok(block) = give_at_once(memory, size, share) else {
@@ -255,6 +263,8 @@ fn give_at_once<'f>(
 ) -> Result<ForeignBlock<'f>, GiveRefusal>
     requires { 1 ≤ size }
     ensures given { IfOk result (GivesAfter share size memory.old memory.new) }
+    ensures able { IfOk result (λ _. (size ≤ greatest_block) × HasIdle memory.old.lent share × ¬ LacksBlock memory.old.room size) }
+    ensures looks { memory.new.take_wholes ≡ memory.old.take_wholes }
     ensures refused { IfErr result (RefusesFor memory.old share size) }
     ensures crowded { IfErr result (λ refusal. refusal ≡ GiveRefusal.NoSpan → IsTrimmed memory.old.room → IsCrowded memory.old) }
     ensures unchanged { IfErr result (λ _. memory.new ≡ memory.old) }

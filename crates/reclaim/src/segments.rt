@@ -7,6 +7,7 @@ ghost use Rattle.shard_memory.specs.Tickets.{tickets_out};
 ghost use Rattle.regions.specs.Shapes.{active_of, free_count};
 ghost use Rattle.row_cache.specs.Rows.{rows_of, Stay};
 ghost use Rattle.reclaim.specs.inside.Consistent.{IsMadeOf, IsConsistent};
+ghost use Rattle.reclaim.specs.Lending.{HandsBack};
 ghost use Rattle.reclaim.specs.inside.Homecoming.{SameTickets};
 
 use row_cache::RowCache;
@@ -80,7 +81,9 @@ pub(crate) fn give_free_back(memory: &mut ShardMemory<'_>, cache: &mut RowCache)
     ensures room { result ≡ true → HasAllRoom memory.new.room }
     ensures none { result ≡ false → free_count cache.old.region ≤ 1 }
     ensures unchanged { result ≡ false → (memory.new ≡ memory.old) × (cache.new ≡ cache.old) }
+    ensures handed { HandsBack cache.old.region cache.new.region }
     ensures tickets { SameTickets memory.old memory.new }
+    ensures looks { memory.new.take_wholes ≡ memory.old.take_wholes }
     ensures stay { Stay cache.old.region cache.new.region }
     ensures rows { rows_of cache.new ≡ rows_of cache.old }
     ensures tables { cache.new.room ≡ cache.old.room }

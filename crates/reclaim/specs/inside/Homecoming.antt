@@ -4,7 +4,7 @@ use Rattle.layout.specs.Sizes.{greatest_block}
 use Rattle.foreign_list.specs.Blocks.{Block, piece_id_of}
 use Rattle.regions.specs.Segments.{RegionState}
 use Rattle.regions.specs.Shapes.{free_count}
-use Rattle.shard_memory.specs.Room.{LacksBlock}
+use Rattle.shard_memory.specs.Room.{LacksBlock, IsTrimmed}
 use Rattle.shard_memory.specs.Shards.{Shard, IsCrowded}
 use Rattle.layout.specs.Counts.{raised}
 use Rattle.shard_memory.specs.Tickets.{IsOfShare, IsIdle, HasIdle, tickets_out}
@@ -60,4 +60,5 @@ abbrev pub RefusesAfter : Shard → Shard → RegionState → ℕ → Share → 
 RefusesAfter old new region size share TooLarge = greatest_block < size
 RefusesAfter old new region size share NoTicket = (size ≤ greatest_block) × ¬ HasIdle old.lent share
 RefusesAfter old new region size share NoSpan =
-    (size ≤ greatest_block) × HasIdle old.lent share × LacksBlock new.room size × (free_count region ≤ 1) × TakesHome old new × TakesOnce old new × IsCrowded new
+    (size ≤ greatest_block) × HasIdle old.lent share × LacksBlock new.room size × IsTrimmed new.room × (free_count region ≤ 1)
+    × TakesHome old new × TakesOnce old new × IsCrowded new

@@ -9,7 +9,7 @@ ghost use Rattle.row_cache.specs.Rows.{StandsAt};
 ghost use Rattle.layout.specs.Counts.{raised};
 ghost use Rattle.shard_memory.specs.Tickets.{HasIdle, tickets_out};
 ghost use Rattle.reclaim.specs.Spaces.{IsSameSpace, RowsStay, with_guards};
-ghost use Rattle.reclaim.specs.Lending.{TakesBack, LooksOnce, LendsBlock, RefusesNow};
+ghost use Rattle.reclaim.specs.Lending.{TakesBack, LooksOnce, LendsBlock, RefusesNow, GivesNow};
 
 use super::Space;
 use crate::giving::give_now;
@@ -33,13 +33,13 @@ impl<'f> Space<'f> {
     /// moved and no row goes, so it may be called under a guard.
     ///
     /// # Errors
-    /// `TooLarge` above 16,384 bytes, and `NoTicket` where no ticket of the share is idle; then nothing changed. `NoSpan` where there
-    /// is no room after that.
+    /// In this order: `TooLarge` exactly above 16,384 bytes, and `NoTicket` exactly where no ticket of the share is idle as the call
+    /// begins; then nothing changed. `NoSpan` where there is no room after that, with the pools trimmed and one segment free at most.
     pub fn give_now(&mut self, size: u32, share: Share) -> Result<ForeignBlock<'f>, GiveRefusal>
         requires { 1 ≤ size }
         ensures refused { IfErr result (RefusesNow self.old self.new size share) }
         ensures unchanged { IfErr result (λ refusal. refusal ≢ GiveRefusal.NoSpan → self.new ≡ self.old) }
-        ensures taken { IfErr result (λ refusal. refusal ≡ GiveRefusal.NoSpan → TakesBack self.old self.new) }
+        ensures in_turn { IfOk result (λ _. GivesNow size share self.old self.new) }
         ensures lends { IfOk result (LendsBlock share self.old self.new) }
         ensures zeros { IfOk result (λ block. block.piece.bytes ≡ replicate size 0) }
         ensures rows { self.new.rows ≡ self.old.rows }
