@@ -6,7 +6,7 @@ use Rattle.std.proofs.lemmas.List.Sorted.{length_permutation}
 use Rattle.common_lemmas.proofs.Counts.{same-permutation}
 use Rattle.common_lemmas.specs.Lists.{times}
 use Rattle.key_table.specs.declared.entries.RowAt.{RowAt}
-use Rattle.key_table.specs.Table.{rows_of, AreSame}
+use Rattle.key_table.specs.Table.{rows_of, reach, AreSame}
 use Rattle.key_table.specs.inside.Slots.{nothing, slot_at, holds, held, IsHeld, AreProbed, Within}
 use Rattle.key_table.proofs.Held.{weight, weight_none, weight_some, times_held}
 
@@ -23,9 +23,10 @@ held_empty (suc n) = held_empty n
 pub none_held : (n k : ℕ) → IsHeld (replicate n nothing) k → ⊥
 none_held n k is = is (ap (λ (s : RowAt). s.row) (slot_at_empty n k))
 
-pub probed_empty : (mask n : ℕ) → mask < n → AreProbed mask (replicate n nothing)
+pub probed_empty : (mask n : ℕ) → mask + 1 + reach ≤ n → AreProbed mask (replicate n nothing)
 probed_empty mask n more = record {
-  some = subst (λ m. mask < m) (sym (length-replicate n nothing)) more;
+  some = subst (λ m. mask + 1 + reach ≤ m) (sym (length-replicate n nothing)) more;
+  gaps = λ k. record { at = k; behind = omega arith; before = omega arith; vacant = ap (λ (s : RowAt). s.row) (slot_at_empty n k) };
   last = ap (λ (s : RowAt). s.row) (slot_at_empty n (length (replicate n nothing) - 1));
   behind = λ j h. absurd (none_held n j h);
   between = λ j k h low below. absurd (none_held n j h);

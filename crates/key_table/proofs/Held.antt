@@ -1,11 +1,10 @@
 -- What slots hold, after one is written.
-use Rattle.std.proofs.Common.{◌≡◌, ◌≢◌, ℕ, zero, suc, ◌+◌, ◌-◌, ◌<◌, ◌≤◌, inl, inr, Bool, true, false, cond, List, [], ◌∷◌, ◌++◌, length, take, set, refl, sym, ap, subst, ◌∙◌, arith}
+use Rattle.std.proofs.Common.{◌≡◌, ◌≢◌, ℕ, zero, suc, ◌+◌, ◌-◌, ◌<◌, ◌≤◌, inl, inr, Bool, true, false, cond, List, [], ◌∷◌, length, take, set, refl, sym, ap, subst, ◌∙◌, arith}
 use Rattle.std.specs.Prelude.{◌==◌, if◌then◌else◌}
 use Rattle.std.specs.List.{sum_by, count_by}
 use Rattle.std.proofs.lemmas.Bool.{cases_eq}
 use Rattle.std.proofs.lemmas.Bool.Decides.{nat_tests}
-use Rattle.std.proofs.lemmas.List.{append-nil, get_or-set_same, get_or-set_other}
-use Rattle.std.proofs.lemmas.List.Elements.{filter-append}
+use Rattle.std.proofs.lemmas.List.{get_or-set_same, get_or-set_other}
 use Rattle.std.proofs.lemmas.List.Sums.{sum_by-cons, sum_by-set, sum_by-take-le, count_by_more_yes, length-filter}
 use Rattle.common_lemmas.specs.Lists.{times}
 use Rattle.key_table.specs.declared.entries.RowAt.{RowAt}
@@ -38,15 +37,6 @@ times_set n slots i slot h =
     let after = times_held n (set slots i slot) in
     let sums = sum_by-set (weight n) slots i slot nothing h in
     omega (arith, before, after, sums)
-
-pub held_push : (slots : List RowAt) → held (slots ++ nothing ∷ []) ≡ held slots
-held_push slots = filter-append holds slots (nothing ∷ []) ∙ append-nil (held slots)
-
-pub slot_at_push : (slots : List RowAt) (k : ℕ) → slot_at (slots ++ nothing ∷ []) k ≡ slot_at slots k
-slot_at_push [] zero = refl
-slot_at_push [] (suc k) = refl
-slot_at_push (slot ∷ slots) zero = refl
-slot_at_push (slot ∷ slots) (suc k) = slot_at_push slots k
 
 pub rows_put : (slots : List RowAt) (i : ℕ) (slot : RowAt) → i < length slots → (slot_at slots i).row ≡ 4294967295 → slot.row ≢ 4294967295 → AreSame (slot.row ∷ rows_of (held slots)) (rows_of (held (set slots i slot)))
 rows_put slots i slot inside vacant some n =
@@ -117,9 +107,3 @@ within_move slots old hole next inside there is k held' =
           let from = is k (subst (λ (s : RowAt). s.row ≢ 4294967295) same held') in
           (from.0, from.1 ∙ sym same))
     ]
-
-pub within_push : (slots : List RowAt) (i : ℕ) (slot : RowAt) → i < length slots → Within (slot ∷ slots) (set slots i slot ++ nothing ∷ [])
-within_push slots i slot inside k is =
-    let same = slot_at_push (set slots i slot) k in
-    let from = within_set slots i slot inside k (subst (λ (s : RowAt). s.row ≢ 4294967295) same is) in
-    (from.0, from.1 ∙ sym same)

@@ -1,4 +1,5 @@
 mod Held
 mod Probes
 mod Copied
+mod Gaps
 mod Told

@@ -1,5 +1,5 @@
 -- What holds of slots, and of the rows that they hold.
-use Rattle.std.proofs.Common.{get_or, ◌≡◌, ◌≢◌, ℕ, zero, suc, ◌≤◌, inl, inr, false, List, [], ◌∷◌, cond, refl, sym, ap, subst, arith}
+use Rattle.std.proofs.Common.{◌≡◌, ◌≢◌, ℕ, zero, suc, ◌≤◌, inl, inr, false, List, [], ◌∷◌, cond, refl, sym, ap, subst, arith}
 use Rattle.std.specs.Prelude.{All, Contains}
 use Rattle.std.proofs.lemmas.Bool.{cases_eq}
 use Rattle.std.proofs.lemmas.Bool.Decides.{nat_tests}
@@ -9,8 +9,8 @@ use Rattle.common_lemmas.proofs.Counts.{times_here, times_there, times_cons_le}
 use Rattle.key_table.specs.declared.entries.RowAt.{RowAt}
 use Rattle.key_table.specs.Hash.{tag_of}
 use Rattle.key_table.specs.Table.{rows_of}
-use Rattle.key_table.specs.inside.Slots.{slot_at, home_of, holds, held, IsHeld, IsAhead, AreProbed, AreTagged, Within}
-use Rattle.key_table.proofs.Held.{holds_some, held_inside}
+use Rattle.key_table.specs.inside.Slots.{slot_at, holds, held, IsHeld, AreTagged, Within}
+use Rattle.key_table.proofs.Held.{holds_some}
 
 holds_none : (slot : RowAt) → slot.row ≡ 4294967295 → holds slot ≡ false
 holds_none slot h = grind (arith, nat_tests)
@@ -48,27 +48,6 @@ all_rows P (slot ∷ kept) all = All-cons (λ (s : RowAt). P s.row) slot kept (A
 pub contains_held : (slots : List RowAt) (k : ℕ) → IsHeld slots k → Contains (held slots) (slot_at slots k)
 contains_held slots = held_all (Contains (held slots)) slots (All-contains_itself (held slots))
 
-pub record IsSomewhere (slots : List RowAt) (found : RowAt) : Type 0 where
-  pub place : ℕ
-  pub here : IsHeld slots place
-  pub is : slot_at slots place ≡ found
-
-pub held_contains : (slots : List RowAt) (found : RowAt) → Contains (held slots) found → IsSomewhere slots found
-held_contains slots found there = All-contains (IsSomewhere slots) (held slots) found (all_held (IsSomewhere slots) slots (λ k h. record { place = k; here = h; is = refl })) there
-
-pub is_ahead : (mask : ℕ) (slots : List RowAt) (found : RowAt) → AreProbed mask slots → Contains (held slots) found → IsAhead slots found.row (home_of mask found.tag)
-is_ahead mask slots found probed there =
-    let at = held_contains slots found there in
-    record {
-      place = at.place;
-      inside = held_inside slots at.place at.here;
-      behind = subst (λ (s : RowAt). home_of mask s.tag ≤ at.place) at.is (probed.behind at.place at.here);
-      is = ap (λ (s : RowAt). s.row) at.is;
-    }
-
-pub some_row : (slots : List RowAt) (found : RowAt) → Contains (held slots) found → found.row ≢ 4294967295
-some_row slots found there = let at = held_contains slots found there in subst (λ (s : RowAt). s.row ≢ 4294967295) at.is at.here
-
 pub tagged_within : (key_of : ℕ → List ℕ) (xs ys : List RowAt) → Within xs ys → AreTagged key_of xs → AreTagged key_of ys
 tagged_within key_of xs ys within is k h =
     let from = within k h in
@@ -96,8 +75,9 @@ listed_all P (slot ∷ kept) all n h =
 pub contains_listed : (kept : List RowAt) (found : RowAt) → Contains kept found → 1 ≤ times found.row (rows_of kept)
 contains_listed kept found there = All-contains (λ (s : RowAt). 1 ≤ times s.row (rows_of kept)) kept found (all_listed (λ n. 1 ≤ times n (rows_of kept)) kept (λ n h. h)) there
 
-pub tagged_there : (key_of : ℕ → List ℕ) (kept : List RowAt) → All (λ (s : RowAt). s.tag ≡ tag_of (key_of s.row)) kept → (n : ℕ) → 1 ≤ times n (rows_of kept) → Contains kept (record { row = n; tag = tag_of (key_of n) })
-tagged_there key_of kept tagged =
-    let at : ℕ → RowAt = λ n. record { row = n; tag = tag_of (key_of n) } in
-    listed_all (λ n. Contains kept (at n)) kept
-    (λ k d inside. let s : RowAt = get_or kept k d in let with_tag : ℕ → RowAt = λ t. record { row = s.row; tag = t } in subst (Contains kept) (ap with_tag (tagged k d inside)) (All-contains_itself kept k d inside))
+pub absent_listed : (kept : List RowAt) (n : ℕ) → All (λ (s : RowAt). s.row ≢ n) kept → times n (rows_of kept) ≡ 0
+absent_listed kept n none =
+    elim (cases_eq (times n (rows_of kept)) 0) [
+      | inl e ↦ e
+      | inr some ↦ absurd (listed_all (λ m. m ≢ n) kept none n (omega (arith, some)) refl)
+    ]

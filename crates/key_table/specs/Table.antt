@@ -25,6 +25,14 @@ IsSpotFor key spot = spot.tag ≡ tag_of key
 abbrev pub IsTagged : (ℕ → List ℕ) → Table → Type 0
 IsTagged key_of table = All (λ (found : RowAt). found.tag ≡ tag_of (key_of found.row)) table.kept
 
+-- where the table has a row, it has this tag
+abbrev pub IsTagOf : Table → RowAt → Type 0
+IsTagOf table found = All (λ (kept : RowAt). kept.row ≡ found.row → kept.tag ≡ found.tag) table.kept
+
+-- so many slots in a row never hold rows
+abbrev pub reach : ℕ
+reach = 64
+
 -- the table has the row
 abbrev pub Has : Table → ℕ → Type 0
 Has table n = 1 ≤ times n (rows_of table.kept)

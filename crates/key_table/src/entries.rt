@@ -1,4 +1,8 @@
 //! What a search in a table finds.
+ghost use Rattle.std.specs.Prelude.{◌≡◌};
+ghost use Rattle.key_table.specs.Table.{IsSpotFor};
+
+use crate::hash::tag_of;
 
 /// A row of a table, and the tag of its key.
 #[derive(Clone, Copy)]
@@ -11,4 +15,25 @@ pub struct RowAt {
 #[derive(Clone, Copy)]
 pub struct Spot {
     pub(crate) tag: u32,
+}
+
+/// A row is not put in, since it would make 64 slots in a row that hold rows.
+#[derive(Clone, Copy)]
+pub struct Full;
+
+impl Spot {
+    /// The spot of a key.
+    pub fn new(key: &[u8]) -> Spot
+        ensures { IsSpotFor key.now result }
+    {
+        Spot { tag: tag_of(key) }
+    }
+
+    /// The row with this number, if it has the key of the spot.
+    pub fn of(self, row: u32) -> RowAt
+        ensures row { result.row ≡ row }
+        ensures tag { result.tag ≡ self.tag }
+    {
+        RowAt { row, tag: self.tag }
+    }
 }

@@ -4,7 +4,7 @@ ghost use Rattle.key_table.specs.Hash.{tag_of};
 ghost use Rattle.key_table.specs.inside.Slots.{slot_at, home_of, IsHeld, AreProbed, AreReadable, AreTagged, IsFound, HaveNot};
 
 use crate::entries::RowAt;
-use crate::slots::{VACANT, home_of, slot_at};
+use crate::slots::{REACH, VACANT, home_of, slot_at};
 use key_index::Keys;
 
 /// The row of a key, if one has it. The tag is the key's.
@@ -21,8 +21,8 @@ pub(crate) fn seek<K: Keys>(
     requires tag { tag ≡ tag_of key.now }
     ensures { MatchOption result (HaveNot (K.key_of keys.now) key.now slots.now.items) (IsFound (K.key_of keys.now) key.now slots.now.items) }
 {
-    let mut at = home_of(mask, tag);
-    loop {
+    let home = home_of(mask, tag);
+    for at in home..home + REACH {
         let slot = slot_at(slots, at);
         if slot.row == VACANT {
             return None;
@@ -30,6 +30,6 @@ pub(crate) fn seek<K: Keys>(
         if slot.tag == tag && keys.key(slot.row) == key {
             return Some(slot);
         }
-        at += 1;
     }
+    unreachable!()
 }

@@ -1,9 +1,12 @@
 //! The slots of a table.
-ghost use Rattle.std.specs.Prelude.{◌≡◌, ◌≢◌, ℕ, ◌+◌, ◌<◌, ◌≤◌, ◌∷◌, [], length, replicate, MatchOption, vec_capacity};
-ghost use Rattle.key_table.specs.Table.{rows_of, AreSame};
-ghost use Rattle.key_table.specs.inside.Slots.{nothing, home_of, held, slot_at, IsHeld, AreProbed, Within, IsFirstVacant, CanMove, NoneMoves, IsAhead};
+ghost use Rattle.std.specs.Prelude.{◌≡◌, ◌≢◌, ℕ, ◌+◌, ◌<◌, ◌≤◌, ◌∷◌, [], true, false, length, replicate, MatchOption, vec_capacity};
+ghost use Rattle.key_table.specs.Table.{rows_of, reach, AreSame};
+ghost use Rattle.key_table.specs.inside.Slots.{nothing, home_of, held, slot_at, IsHeld, AreProbed, Within, IsFirstVacant, IsRunStart, IsGapIn, HaveGaps, IsLoose, CanMove, NoneMoves, HasTag, IsRowAt, HasNot};
 
 use crate::entries::RowAt;
+
+/// So many slots in a row never hold rows.
+pub(crate) const REACH: usize = 64;
 
 /// The row of a slot that holds none.
 pub(crate) const VACANT: u32 = 4294967295;
@@ -17,7 +20,8 @@ const NOTHING: RowAt = RowAt {
 /// The slot of a tag.
 #[inline(always)]
 pub(crate) fn home_of(mask: u32, tag: u32) -> usize
-    ensures { result ≡ home_of mask tag }
+    ensures home { result ≡ home_of mask tag }
+    ensures low { result ≤ mask }
 {
     (tag & mask) as usize
 }
@@ -31,34 +35,81 @@ pub(crate) fn slot_at(slots: &Vec<RowAt>, at: usize) -> RowAt
     slots[at]
 }
 
-/// The first slot without a row from the slot of a tag on.
+/// The first slot without a row from one on.
 #[inline(always)]
-fn vacant_from(slots: &Vec<RowAt>, mask: u32, tag: u32) -> usize
-    requires { AreProbed mask slots.now.items }
-    ensures { IsFirstVacant slots.now.items (home_of mask tag) result }
+fn vacant_from(slots: &Vec<RowAt>, mask: u32, home: usize) -> usize
+    requires probed { AreProbed mask slots.now.items }
+    requires low { home ≤ mask }
+    ensures { IsFirstVacant slots.now.items home result }
 {
-    let mut at = home_of(mask, tag);
-    while slot_at(slots, at).row != VACANT {
-        at += 1;
+    for at in home..home + REACH {
+        if slot_at(slots, at).row == VACANT {
+            return at;
+        }
     }
-    at
+    unreachable!()
 }
 
-/// Puts a row into the first slot that holds none from the slot of its tag on.
-pub(crate) fn put(slots: &mut Vec<RowAt>, mask: u32, entry: RowAt)
+/// The first of the slots before one that hold rows, with no empty slot between.
+#[inline(always)]
+fn run_start(slots: &Vec<RowAt>, home: usize) -> usize
+    requires { home ≤ length slots.now.items }
+    ensures { IsRunStart slots.now.items home result }
+{
+    let mut low = home;
+    while low > 0 && slot_at(slots, low - 1).row != VACANT {
+        low -= 1;
+    }
+    low
+}
+
+/// Whether one of some slots is empty.
+#[inline(always)]
+fn has_gap(slots: &Vec<RowAt>, from: usize, to: usize) -> bool
+    requires { to ≤ length slots.now.items }
+    ensures gap { result ≡ true → IsGapIn slots.now.items from to }
+    ensures none { result ≡ false → (k : ℕ) → from ≤ k → k < to → IsHeld slots.now.items k }
+{
+    for at in from..to {
+        if slot_at(slots, at).row == VACANT {
+            return true;
+        }
+    }
+    false
+}
+
+/// Whether fewer than 64 slots in a row would hold rows if the first empty one from a slot on held one, too.
+#[inline(always)]
+fn is_loose(slots: &Vec<RowAt>, home: usize, at: usize) -> bool
+    requires room { home + reach ≤ length slots.now.items }
+    requires first { IsFirstVacant slots.now.items home at }
+    requires gaps { HaveGaps slots.now.items }
+    ensures loose { result ≡ true → IsLoose slots.now.items at }
+    ensures tight { result ≡ false → reach ≤ length (held slots.now.items) + 1 }
+{
+    let low = run_start(slots, home);
+    has_gap(slots, at + 1, low + REACH)
+}
+
+/// Puts a row into the first slot that holds none from the slot of its tag on. False where 64 slots in a row would hold
+/// rows then, and the row is not put in.
+pub(crate) fn put(slots: &mut Vec<RowAt>, mask: u32, entry: RowAt) -> bool
     requires probed { AreProbed mask slots.old.items }
     requires row { entry.row < 4294967295 }
-    requires room { mask + 2 + length (held slots.old.items) ≤ vec_capacity slots.old }
     ensures probed { AreProbed mask slots.new.items }
-    ensures rows { AreSame (entry.row ∷ rows_of (held slots.old.items)) (rows_of (held slots.new.items)) }
+    ensures rows { result ≡ true → AreSame (entry.row ∷ rows_of (held slots.old.items)) (rows_of (held slots.new.items)) }
+    ensures unchanged { result ≡ false → slots.new.items ≡ slots.old.items }
+    ensures tight { result ≡ false → reach ≤ length (held slots.old.items) + 1 }
     ensures within { Within (entry ∷ slots.old.items) slots.new.items }
     ensures capacity { vec_capacity slots.old ≤ vec_capacity slots.new }
 {
-    let at = vacant_from(slots, mask, entry.tag);
-    slots[at] = entry;
-    if at + 1 == slots.len() {
-        slots.push(NOTHING).unwrap();
+    let home = home_of(mask, entry.tag);
+    let at = vacant_from(slots, mask, home);
+    if !is_loose(slots, home, at) {
+        return false;
     }
+    slots[at] = entry;
+    true
 }
 
 /// The next slot behind one whose row may stand there, too.
@@ -98,17 +149,23 @@ pub(crate) fn take_out(slots: &mut Vec<RowAt>, mask: u32, at: usize)
     slots[hole] = NOTHING;
 }
 
-/// Where a row stands, at the slot of its tag or behind it.
-pub(crate) fn locate(slots: &Vec<RowAt>, mask: u32, found: RowAt) -> usize
-    requires { IsAhead slots.now.items found.row (home_of mask found.tag) }
-    ensures inside { result < length slots.now.items }
-    ensures row { (slot_at slots.now.items result).row ≡ found.row }
+/// Where a row stands, at the slot of its tag or behind it, if it is there.
+pub(crate) fn locate(slots: &Vec<RowAt>, mask: u32, found: RowAt) -> Option<usize>
+    requires probed { AreProbed mask slots.now.items }
+    requires tag { HasTag slots.now.items found }
+    ensures { MatchOption result (HasNot slots.now.items found.row) (IsRowAt slots.now.items found.row) }
 {
-    let mut at = home_of(mask, found.tag);
-    while slot_at(slots, at).row != found.row {
-        at += 1;
+    let home = home_of(mask, found.tag);
+    for at in home..home + REACH {
+        let slot = slot_at(slots, at);
+        if slot.row == VACANT {
+            return None;
+        }
+        if slot.row == found.row {
+            return Some(at);
+        }
     }
-    at
+    unreachable!()
 }
 
 /// Makes so many empty slots where there are none.
@@ -123,21 +180,24 @@ pub(crate) fn clear(slots: &mut Vec<RowAt>, count: usize)
     }
 }
 
-/// Puts the rows of some slots into others, of which there are none yet.
-pub(crate) fn put_all(from: &Vec<RowAt>, slots: &mut Vec<RowAt>, mask: u32)
+/// Puts the rows of some slots into others, of which there are none yet. False where one was not put in.
+pub(crate) fn put_all(from: &Vec<RowAt>, slots: &mut Vec<RowAt>, mask: u32) -> bool
     requires none { slots.old.items ≡ [] }
-    requires room { mask + 2 + length (held from.now.items) ≤ vec_capacity slots.old }
+    requires room { mask + 1 + reach ≤ vec_capacity slots.old }
     ensures probed { AreProbed mask slots.new.items }
-    ensures rows { AreSame (rows_of (held from.now.items)) (rows_of (held slots.new.items)) }
+    ensures rows { result ≡ true → AreSame (rows_of (held from.now.items)) (rows_of (held slots.new.items)) }
     ensures within { Within from.now.items slots.new.items }
     ensures capacity { vec_capacity slots.old ≤ vec_capacity slots.new }
 {
-    clear(slots, mask as usize + 1);
+    clear(slots, mask as usize + 1 + REACH);
     for at in 0..from.len() {
         let slot = slot_at(from, at);
         if slot.row == VACANT {
             continue;
         }
-        put(slots, mask, slot);
+        if !put(slots, mask, slot) {
+            return false;
+        }
     }
+    true
 }

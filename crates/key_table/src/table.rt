@@ -1,11 +1,11 @@
 //! The table.
-ghost use Rattle.std.specs.Prelude.{◌≡◌, ◌≢◌, ℕ, ◌+◌, ◌<◌, ◌≤◌, ◌∷◌, [], List, length, All, Contains, IfOk, MatchResult, MatchOption, vec_capacity};
-ghost use Rattle.key_table.specs.Table.{rows_of, AreSame, Has, IsSpotFor, IsTagged, IsTableOf};
+ghost use Rattle.std.specs.Prelude.{◌≡◌, ◌≢◌, ℕ, ◌+◌, ◌<◌, ◌≤◌, ◌∷◌, [], List, length, All, Contains, IfOk, IfErr, MatchResult, true, false, vec_capacity};
+ghost use Rattle.common_lemmas.specs.Lists.{times};
+ghost use Rattle.key_table.specs.Table.{rows_of, reach, AreSame, Has, IsSpotFor, IsTagged, IsTagOf, IsTableOf};
 
-use crate::entries::{RowAt, Spot};
-use crate::hash::tag_of;
+use crate::entries::{Full, RowAt, Spot};
 use crate::seeking::seek;
-use crate::slots::{clear, locate, put, take_out};
+use crate::slots::{REACH, clear, locate, put, take_out};
 use crate::widening::{LEAST, most_of, widen};
 use key_index::Keys;
 use std::alloc::{AllocError, Global};
@@ -48,10 +48,10 @@ impl KeyTable {
         ensures { IfOk result (λ made. made ≡ record { room = room; kept = [] }) }
     {
         let most = most_of(room);
-        let size = most as usize + 2 + room as usize;
+        let size = most as usize + 1 + REACH;
         let mut slots = Vec::with_capacity(alloc, size)?;
         let spare = Vec::with_capacity(alloc, size)?;
-        clear(&mut slots, LEAST as usize + 1);
+        clear(&mut slots, LEAST as usize + 1 + REACH);
         Ok(KeyTable {
             room,
             count: 0,
@@ -87,55 +87,56 @@ impl KeyTable {
             (λ found. Contains self.now.kept found × Has self.now found.row × (K.key_of keys.now found.row ≡ key.now))
             (λ spot. IsSpotFor key.now spot × ((n : ℕ) → Has self.now n → K.key_of keys.now n ≢ key.now)) }
     {
-        let tag = tag_of(key);
-        match seek(keys, &self.slots, self.mask, key, tag) {
+        let spot = Spot::new(key);
+        match seek(keys, &self.slots, self.mask, key, spot.tag) {
             Some(found) => Ok(found),
-            None => Err(Spot { tag }),
+            None => Err(spot),
         }
     }
 
     /// Puts a row in at the spot of its key. No memory is taken.
-    pub fn insert(&mut self, spot: Spot, row: u32)
+    ///
+    /// # Errors
+    /// The row would make 64 slots in a row that hold rows. The rows are as before.
+    pub fn insert(&mut self, spot: Spot, row: u32) -> Result<(), Full>
         requires number { row < 4294967295 }
         requires room { length self.old.kept < self.old.room }
         ensures room { self.new.room ≡ self.old.room }
-        ensures rows { AreSame (row ∷ rows_of self.old.kept) (rows_of self.new.kept) }
+        ensures rows { MatchResult result
+            (λ _. AreSame (row ∷ rows_of self.old.kept) (rows_of self.new.kept))
+            (λ _. AreSame (rows_of self.old.kept) (rows_of self.new.kept)) }
+        ensures full { IfErr result (λ _. reach ≤ length self.old.kept + 1) }
         ensures tagged { (key_of : ℕ → List ℕ) → IsTagged key_of self.old → IsSpotFor (key_of row) spot → IsTagged key_of self.new }
     {
         self.mask = widen(
             &mut self.slots,
             &mut self.spare,
             self.mask,
-            self.most,
+            &mut self.most,
             self.count,
         );
-        put(&mut self.slots, self.mask, RowAt { row, tag: spot.tag });
-        self.count += 1;
-    }
-
-    /// Where a row stands, by its key.
-    pub fn row_at<K: Keys>(&self, keys: &K, row: u32) -> RowAt
-        requires table { IsTableOf (K.has_row keys.now) (K.key_of keys.now) self.now }
-        requires row { Has self.now row }
-        ensures there { Contains self.now.kept result }
-        ensures row { result.row ≡ row }
-    {
-        RowAt {
-            row,
-            tag: tag_of(keys.key(row)),
+        if !put(&mut self.slots, self.mask, spot.of(row)) {
+            return Err(Full);
         }
+        self.count += 1;
+        Ok(())
     }
 
-    /// Takes a row out. It is not asked for its key.
-    pub fn remove(&mut self, found: RowAt)
-        requires { Contains self.old.kept found }
+    /// Takes a row out. False where the table has not the row. It is not asked for its key.
+    pub fn remove(&mut self, found: RowAt) -> bool
+        requires { IsTagOf self.old found }
         ensures room { self.new.room ≡ self.old.room }
-        ensures rows { AreSame (rows_of self.old.kept) (found.row ∷ rows_of self.new.kept) }
+        ensures rows { result ≡ true → AreSame (rows_of self.old.kept) (found.row ∷ rows_of self.new.kept) }
+        ensures absent { result ≡ false → times found.row (rows_of self.old.kept) ≡ 0 }
+        ensures unchanged { result ≡ false → self.new ≡ self.old }
         ensures tagged { (key_of : ℕ → List ℕ) → IsTagged key_of self.old → IsTagged key_of self.new }
     {
-        let at = locate(&self.slots, self.mask, found);
+        let Some(at) = locate(&self.slots, self.mask, found) else {
+            return false;
+        };
         take_out(&mut self.slots, self.mask, at);
         self.count -= 1;
+        true
     }
 
     /// What holds of each table, whoever keeps the keys of its rows: it stays the table of its rows where keys are moved.

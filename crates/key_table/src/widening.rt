@@ -1,6 +1,6 @@
 //! Slots for more rows.
 ghost use Rattle.std.specs.Prelude.{◌≡◌, ℕ, ◌+◌, ◌<◌, ◌≤◌, [], length, vec_capacity};
-ghost use Rattle.key_table.specs.Table.{rows_of, AreSame};
+ghost use Rattle.key_table.specs.Table.{rows_of, reach, AreSame};
 ghost use Rattle.key_table.specs.inside.Slots.{held, AreProbed, Within};
 
 use crate::entries::RowAt;
@@ -10,9 +10,9 @@ use std::mem;
 /// One less than the least number of slots.
 pub(crate) const LEAST: u32 = 1023;
 
-/// Whether five eighths of the slots are in use.
+/// Whether half of the slots are in use.
 fn is_full(mask: u32, count: u32) -> bool {
-    u64::from(count) * 8 >= (u64::from(mask) + 1) * 5
+    u64::from(count) * 2 > u64::from(mask)
 }
 
 /// One less than the greatest number of slots that a table of so many rows needs.
@@ -26,30 +26,36 @@ pub(crate) fn most_of(room: u32) -> u32
     most
 }
 
-/// Doubles the slots where too many are in use, and answers one less than their number.
+/// Doubles the slots where too many are in use, and answers one less than their number. Where a row would not be put in
+/// among so many, the slots stay as they are, and there never are more.
 pub(crate) fn widen(
     slots: &mut Vec<RowAt>,
     spare: &mut Vec<RowAt>,
     mask: u32,
-    most: u32,
+    most: &mut u32,
     count: u32,
 ) -> u32
     requires probed { AreProbed mask slots.old.items }
     requires spare { spare.old.items ≡ [] }
-    requires upto { mask ≤ most }
-    requires room { most + 2 + length (held slots.old.items) ≤ vec_capacity spare.old }
+    requires upto { mask ≤ most.old }
+    requires room { most.old + 1 + reach ≤ vec_capacity spare.old }
     ensures probed { AreProbed result slots.new.items }
-    ensures upto { result ≤ most }
+    ensures upto { result ≤ most.new }
+    ensures most { most.new ≤ most.old }
     ensures rows { AreSame (rows_of (held slots.old.items)) (rows_of (held slots.new.items)) }
     ensures within { Within slots.old.items slots.new.items }
     ensures spare { spare.new.items ≡ [] }
     ensures capacity { (n : ℕ) → n ≤ vec_capacity slots.old → n ≤ vec_capacity spare.old → (n ≤ vec_capacity slots.new) × (n ≤ vec_capacity spare.new) }
 {
-    if !is_full(mask, count) || u64::from(mask) * 2 + 1 > u64::from(most) {
+    if !is_full(mask, count) || u64::from(mask) * 2 + 1 > u64::from(*most) {
         return mask;
     }
     let wider = mask * 2 + 1;
-    put_all(slots, spare, wider);
+    if !put_all(slots, spare, wider) {
+        spare.clear();
+        *most = mask;
+        return mask;
+    }
     mem::swap(slots, spare);
     spare.clear();
     wider

@@ -1,9 +1,10 @@
 //! The index.
-ghost use Rattle.std.specs.Prelude.{◌≡◌, ◌≢◌, ℕ, ◌<◌, ◌≤◌, ◌∷◌, [], List, length, Contains, IfOk, MatchResult};
+ghost use Rattle.std.specs.Prelude.{◌≡◌, ◌≢◌, ℕ, ◌<◌, ◌≤◌, ◌∷◌, [], List, length, IfOk, MatchResult};
 ghost use Rattle.common_lemmas.specs.Lists.{times};
 ghost use Rattle.key_index.specs.Order.{AreRising, rows_from};
-ghost use Rattle.key_table.specs.Table.{AreSame, Has, IsSpotFor};
-ghost use Rattle.lazy_index.specs.Lazy.{rows_in, IsKeyed, IsLazyOf, IsStanding};
+ghost use Rattle.key_table.specs.Table.{AreSame, IsSpotFor};
+ghost use Rattle.key_table.specs.Table as tables;
+ghost use Rattle.lazy_index.specs.Lazy.{rows_in, Has, IsKeyed, IsLazyOf, IsStanding, IsThere};
 
 use crate::late::Late;
 use crate::settling::{leave, settle_all};
@@ -24,6 +25,8 @@ pub struct LazyIndex {
     order: KeyIndex,
     // the rows that are not in order yet
     late: Late,
+    // how many rows are in order alone, and not in the table
+    outside: u32,
 }
 
 impl Model for LazyIndex {
@@ -34,7 +37,7 @@ impl Model for LazyIndex {
 
     ghost view = { λ a. record { room = a.room; table = a.table; order = a.order; late = a.late.numbers } };
 
-    ghost invariant = { λ a. AreMixed a.room a.table a.order a.late };
+    ghost invariant = { λ a. AreMixed a.room a.outside a.table a.order a.late };
 }
 
 impl LazyIndex {
@@ -56,14 +59,22 @@ impl LazyIndex {
             table,
             order,
             late,
+            outside: 0,
         })
     }
 
     /// How many rows there are.
     pub fn len(&self) -> u32
-        ensures count { result ≡ length self.now.table.kept }
+        ensures count { result ≡ length (rows_in self.now) }
     {
-        self.table.len()
+        self.table.len() + self.outside
+    }
+
+    /// For how many rows there is room.
+    pub fn room(&self) -> u32
+        ensures { result ≡ self.now.room }
+    {
+        self.room
     }
 
     /// The row of a key.
@@ -73,39 +84,68 @@ impl LazyIndex {
     pub fn find<K: Keys>(&self, keys: &K, key: &[u8]) -> Result<RowAt, Spot>
         requires { IsLazyOf (K.has_row keys.now) (K.key_of keys.now) self.now }
         ensures { MatchResult result
-            (λ found. Contains self.now.table.kept found × Has self.now.table found.row × (K.key_of keys.now found.row ≡ key.now))
-            (λ spot. IsSpotFor key.now spot × ((n : ℕ) → Has self.now.table n → K.key_of keys.now n ≢ key.now)) }
+            (λ found. IsThere self.now found × (K.key_of keys.now found.row ≡ key.now))
+            (λ spot. IsSpotFor key.now spot × ((n : ℕ) → Has self.now n → K.key_of keys.now n ≢ key.now)) }
     {
-        self.table.find(keys, key)
+        match self.table.find(keys, key) {
+            Ok(found) => Ok(found),
+            Err(spot) => self.find_outside(keys, key, spot),
+        }
+    }
+
+    /// The row of a key that no row of the table has.
+    fn find_outside<K: Keys>(&self, keys: &K, key: &[u8], spot: Spot) -> Result<RowAt, Spot>
+        requires lazy { IsLazyOf (K.has_row keys.now) (K.key_of keys.now) self.now }
+        requires spot { IsSpotFor key.now spot }
+        requires absent { (n : ℕ) → tables.Has self.now.table n → K.key_of keys.now n ≢ key.now }
+        ensures { MatchResult result
+            (λ found. IsThere self.now found × (K.key_of keys.now found.row ≡ key.now))
+            (λ spot. IsSpotFor key.now spot × ((n : ℕ) → Has self.now n → K.key_of keys.now n ≢ key.now)) }
+    {
+        if self.outside == 0 {
+            return Err(spot);
+        }
+        match self.order.search(keys, key) {
+            Ok(at) => Ok(spot.of(at.row)),
+            Err(_) => Err(spot),
+        }
     }
 
     /// Where a row stands, by its key.
     pub fn row_at<K: Keys>(&self, keys: &K, row: u32) -> RowAt
         requires lazy { IsLazyOf (K.has_row keys.now) (K.key_of keys.now) self.now }
-        requires row { Has self.now.table row }
-        ensures there { Contains self.now.table.kept result }
+        requires row { Has self.now row }
+        ensures there { IsThere self.now result }
         ensures row { result.row ≡ row }
     {
-        self.table.row_at(keys, row)
+        Spot::new(keys.key(row)).of(row)
     }
 
-    /// Puts a row in at the spot of its key. It waits for its place in the order.
-    pub fn insert(&mut self, spot: Spot, row: u32)
+    /// Puts a row in at the spot of its key, which no other row has. It waits for its place in the order, but where the
+    /// table does not take it.
+    pub fn insert<K: Keys>(&mut self, keys: &K, spot: Spot, row: u32)
+        requires lazy { IsLazyOf (K.has_row keys.now) (K.key_of keys.now) self.old }
+        requires readable { K.has_row keys.now row }
+        requires spot { IsSpotFor (K.key_of keys.now row) spot }
+        requires absent { (n : ℕ) → Has self.old n → K.key_of keys.now n ≢ K.key_of keys.now row }
         requires number { row < self.old.room }
-        requires absent { times row (rows_in self.old) ≡ 0 }
-        requires room { length self.old.table.kept < self.old.room }
+        requires room { length (rows_in self.old) < self.old.room }
+        ensures lazy { IsLazyOf (K.has_row keys.now) (K.key_of keys.now) self.new }
         ensures room { self.new.room ≡ self.old.room }
         ensures rows { AreSame (row ∷ rows_in self.old) (rows_in self.new) }
-        ensures keyed { (key_of : ℕ → List ℕ) → IsKeyed key_of self.old → IsSpotFor (key_of row) spot → IsKeyed key_of self.new }
     {
-        self.table.insert(spot, row);
-        self.late.add(row);
+        let Err(_) = self.table.insert(spot, row) else {
+            self.late.add(row);
+            return;
+        };
+        self.order.insert(keys, row);
+        self.outside += 1;
     }
 
     /// Where a row stands in the order of keys, for [`LazyIndex::remove`].
     pub fn standing<K: Keys>(&self, keys: &K, found: RowAt) -> Standing
         requires lazy { IsLazyOf (K.has_row keys.now) (K.key_of keys.now) self.now }
-        requires there { Contains self.now.table.kept found }
+        requires there { IsThere self.now found }
         ensures standing { IsStanding self.now result }
         ensures found { result.found ≡ found }
     {
@@ -128,8 +168,10 @@ impl LazyIndex {
         ensures rows { AreSame (rows_in self.old) (standing.found.row ∷ rows_in self.new) }
         ensures keyed { (key_of : ℕ → List ℕ) → IsKeyed key_of self.old → IsKeyed key_of self.new }
     {
-        self.table.remove(standing.found);
         leave(&mut self.late, &mut self.order, standing);
+        if !self.table.remove(standing.found) {
+            self.outside -= 1;
+        }
     }
 
     /// Puts the rows that wait into the order.
@@ -137,7 +179,7 @@ impl LazyIndex {
         requires { IsLazyOf (K.has_row keys.now) (K.key_of keys.now) self.old }
         ensures lazy { IsLazyOf (K.has_row keys.now) (K.key_of keys.now) self.new }
         ensures room { self.new.room ≡ self.old.room }
-        ensures table { self.new.table ≡ self.old.table }
+        ensures rows { AreSame (rows_in self.old) (rows_in self.new) }
         ensures settled { self.new.late ≡ [] }
     {
         settle_all(&mut self.late, &mut self.order, keys);
@@ -156,7 +198,7 @@ impl LazyIndex {
 
     /// What holds of each index, whoever keeps the keys of its rows: it stays the index of its rows where keys are moved.
     pub fn law(&self)
-        ensures moved { (before after : ℕ → List ℕ) → ((n : ℕ) → Has self.now.table n → after n ≡ before n) → IsKeyed before self.now → IsKeyed after self.now }
+        ensures moved { (before after : ℕ → List ℕ) → ((n : ℕ) → Has self.now n → after n ≡ before n) → IsKeyed before self.now → IsKeyed after self.now }
         ensures once { (n : ℕ) → times n (rows_in self.now) ≤ 1 }
     {
         self.table.law();

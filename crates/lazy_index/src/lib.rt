@@ -1,7 +1,9 @@
 //! Rows by their keys, for exact look-up and for look-ups in order.
 //!
 //! A table finds the row of a key. The order of keys is kept in blocks, which learn of a row only once order is asked
-//! for: until then it is late, and goes again without a word to the blocks.
+//! for: until then it is late, and goes again without a word to the blocks. A row that the table does not take, since too
+//! many rows stand about its slot, goes to the blocks at once and is found there; as long as there are such rows, a search
+//! that finds nothing in the table asks the blocks.
 #![tactic(auto)]
 
 mod index;

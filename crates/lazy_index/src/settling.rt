@@ -13,6 +13,7 @@ fn settle_one<K: Keys>(late: &mut Late, order: &mut KeyIndex, keys: &K) -> bool
     requires { CanSettle (K.has_row keys.now) (K.key_of keys.now) order.old late.old }
     ensures settled { CanSettle (K.has_row keys.now) (K.key_of keys.now) order.new late.new }
     ensures all { (n : ℕ) → both order.new late.new n ≡ both order.old late.old n }
+    ensures more { (n : ℕ) → times n order.old.rows ≤ times n order.new.rows }
     ensures order_room { order.new.room ≡ order.old.room }
     ensures late_room { late.new.bound ≡ late.old.bound }
     ensures none { result ≡ false → late.new.numbers ≡ [] }
@@ -30,6 +31,7 @@ fn drain<K: Keys>(late: &mut Late, order: &mut KeyIndex, keys: &K)
     requires { CanSettle (K.has_row keys.now) (K.key_of keys.now) order.old late.old }
     ensures settled { CanSettle (K.has_row keys.now) (K.key_of keys.now) order.new late.new }
     ensures all { (n : ℕ) → both order.new late.new n ≡ both order.old late.old n }
+    ensures more { (n : ℕ) → times n order.old.rows ≤ times n order.new.rows }
     ensures order_room { order.new.room ≡ order.old.room }
     ensures late_room { late.new.bound ≡ late.old.bound }
     ensures none { late.new.numbers ≡ [] }
@@ -42,6 +44,7 @@ pub(crate) fn settle_all<K: Keys>(late: &mut Late, order: &mut KeyIndex, keys: &
     requires { CanSettle (K.has_row keys.now) (K.key_of keys.now) order.old late.old }
     ensures settled { CanSettle (K.has_row keys.now) (K.key_of keys.now) order.new late.new }
     ensures all { (n : ℕ) → both order.new late.new n ≡ both order.old late.old n }
+    ensures more { (n : ℕ) → times n order.old.rows ≤ times n order.new.rows }
     ensures order_room { order.new.room ≡ order.old.room }
     ensures late_room { late.new.bound ≡ late.old.bound }
     ensures none { late.new.numbers ≡ [] }
@@ -54,6 +57,7 @@ pub(crate) fn settle_all<K: Keys>(late: &mut Late, order: &mut KeyIndex, keys: &
 pub(crate) fn leave(late: &mut Late, order: &mut KeyIndex, standing: Standing)
     requires { MatchOption standing.place (1 ≤ times standing.found.row late.old.numbers) (λ place. IsRowAt order.old place standing.found.row) }
     ensures all { (n : ℕ) → both order.old late.old n ≡ times n (standing.found.row ∷ []) + both order.new late.new n }
+    ensures fewer { (n : ℕ) → times n order.old.rows ≤ times n (standing.found.row ∷ []) + times n order.new.rows }
     ensures ordered { (key_of : ℕ → List ℕ) → IsOrdered key_of order.old → IsOrdered key_of order.new }
     ensures order_room { order.new.room ≡ order.old.room }
     ensures late_room { late.new.bound ≡ late.old.bound }

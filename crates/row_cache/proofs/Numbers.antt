@@ -3,11 +3,10 @@ use Rattle.std.proofs.Common.{◌≡◌, ℕ, suc, ◌+◌, ◌-◌, ◌<◌, �
 use Rattle.std.specs.Prelude.{nat_lt, slice_get, slice_set, All}
 use Rattle.std.proofs.lemmas.Bool.{cases_eq}
 use Rattle.std.proofs.lemmas.Bool.Decides.{leb_tells}
-use Rattle.std.proofs.lemmas.List.{length-set, length-map, get_or-set_same}
+use Rattle.std.proofs.lemmas.List.{length-set, get_or-set_same}
 use Rattle.index_lists.specs.Lists.{Lists, with_list, list_at}
 use Rattle.std.specs.List.{last_or, AllByRecursion}
 use Rattle.std.proofs.lemmas.List.Sorted.{length_permutation}
-use Rattle.key_table.specs.declared.entries.RowAt.{RowAt}
 use Rattle.std.proofs.lemmas.List.Elements.{All-from_recursion}
 use Rattle.common_lemmas.specs.Lists.{times, delete}
 use Rattle.common_lemmas.proofs.Counts.{times_here, times_there, times-delete_same, times-delete_other, length-delete, same-permutation}
@@ -43,16 +42,28 @@ numbers_kept t u a room index freed places recency len =
       count = omega (arith, all, len, count, places);
       room = ap (λ i. i.room) index ∙ (a.room ∙ sym room);
       indexed = λ m. rows m ∙ (a.indexed m ∙ sym (recency m));
-      index_count = ap (λ (i : Lazy). length i.table.kept) index ∙ (a.index_count ∙ sym len);
+      index_count = ap (λ (i : Lazy). length (rows_in i)) index ∙ (a.index_count ∙ sym len);
     }
 
 -- an index that has one row fewer
-one_fewer : (n : ℕ) (more less : Lazy) → AreSame (rows_in more) (n ∷ rows_in less) → length more.table.kept ≡ suc (length less.table.kept)
-one_fewer n more less same =
-    let sizes = length_permutation (rows_in more) (n ∷ rows_in less) (same-permutation (rows_in more) (n ∷ rows_in less) (λ m. sym (same m))) in
-    let first = length-map more.table.kept (λ (found : RowAt). found.row) in
-    let second = length-map less.table.kept (λ (found : RowAt). found.row) in
-    omega (arith, sizes, first, second)
+one_fewer : (n : ℕ) (more less : Lazy) → AreSame (rows_in more) (n ∷ rows_in less) → length (rows_in more) ≡ suc (length (rows_in less))
+one_fewer n more less same = sym (length_permutation (rows_in more) (n ∷ rows_in less) (same-permutation (rows_in more) (n ∷ rows_in less) (λ m. sym (same m))))
+
+-- the index has the same rows, some of which waited
+pub numbers_settled : (t u : TableState) → AreNumbers t → u.room ≡ t.room → u.recency ≡ t.recency → u.places ≡ t.places → u.freed ≡ t.freed → u.index.room ≡ t.index.room → AreSame (rows_in t.index) (rows_in u.index) → AreNumbers u
+numbers_settled t u a room recency places freed index_room same =
+    let kept = numbers_kept t (record u { index = t.index }) a room refl freed (ap (λ ps. length ps) places) (λ m. ap (times m) recency) (ap (λ ns. length ns) recency) in
+    let sizes = length_permutation (rows_in t.index) (rows_in u.index) (same-permutation (rows_in t.index) (rows_in u.index) (λ m. sym (same m))) in
+    record {
+      small = kept.small;
+      few = kept.few;
+      given = kept.given;
+      others = kept.others;
+      count = kept.count;
+      room = index_room ∙ kept.room;
+      indexed = λ m. sym (same m) ∙ kept.indexed m;
+      index_count = sizes ∙ kept.index_count;
+    }
 
 -- a number is given back
 pub numbers_dropped : (t u : TableState) (n : ℕ) → AreNumbers t → IsListed t n → u.room ≡ t.room → u.recency ≡ delete n t.recency → u.places ≡ t.places

@@ -1,10 +1,10 @@
 -- What a search of the index tells of the rows.
 use Rattle.std.proofs.Common.{◌≡◌, ◌≢◌, ℕ, List, Result, Ok, Err, subst, arith}
-use Rattle.std.specs.Prelude.{Contains, MatchResult}
-use Rattle.key_table.specs.Table.{Has, IsSpotFor}
+use Rattle.std.specs.Prelude.{MatchResult}
+use Rattle.key_table.specs.Table.{IsSpotFor}
 use Rattle.key_table.specs.declared.entries.RowAt.{RowAt}
 use Rattle.key_table.specs.declared.entries.Spot.{Spot}
-use Rattle.lazy_index.specs.Lazy.{Lazy}
+use Rattle.lazy_index.specs.Lazy.{Lazy, Has, IsThere}
 use Rattle.regions.specs.Stores.{Live}
 use Rattle.row_cache.specs.Rows.{row_at, key_at}
 use Rattle.row_cache.specs.inside.Tables.{TableState, AreTablesOf, IsListed}
@@ -14,18 +14,18 @@ use Rattle.row_cache.proofs.Numbers.{once}
 use Rattle.row_cache.proofs.States.{apart_rows}
 
 found_in : (t : TableState) (live : Live) (key : List ℕ) (result : Result RowAt Spot) → AreTablesOf t live
-    → MatchResult result (λ found. Contains t.index.table.kept found × Has t.index.table found.row × (key_at live t.places found.row ≡ key))
-    (λ spot. IsSpotFor key spot × ((n : ℕ) → Has t.index.table n → key_at live t.places n ≢ key))
+    → MatchResult result (λ found. IsThere t.index found × (key_at live t.places found.row ≡ key))
+    (λ spot. IsSpotFor key spot × ((n : ℕ) → Has t.index n → key_at live t.places n ≢ key))
     → MatchResult result (IsFound t live key) (IsMissing t live key)
 found_in t live key (Ok found) are e =
-    let listed : IsListed t found.row = (let l = e.1 in let i = are.numbers.indexed found.row in omega (arith, l, i)) in
+    let listed : IsListed t found.row = (let l = e.0.has in let i = are.numbers.indexed found.row in omega (arith, l, i)) in
     record {
       at = e.0;
       listed = listed;
-      same = e.2;
-      has = one_has (row_at live t.places) key found.row t.recency listed e.2;
-      row = one_found (row_at live t.places) key found.row t.recency (apart_rows t live are) listed e.2;
-      without = one_without (row_at live t.places) key found.row t.recency (apart_rows t live are) listed (once t are.numbers) e.2;
+      same = e.1;
+      has = one_has (row_at live t.places) key found.row t.recency listed e.1;
+      row = one_found (row_at live t.places) key found.row t.recency (apart_rows t live are) listed e.1;
+      without = one_without (row_at live t.places) key found.row t.recency (apart_rows t live are) listed (once t are.numbers) e.1;
     }
 found_in t live key (Err spot) are e =
     let absent : (n : ℕ) → IsListed t n → key_at live t.places n ≢ key = λ n l. e.1 n (let i = are.numbers.indexed n in omega (arith, i, l)) in
@@ -38,11 +38,11 @@ found_in t live key (Err spot) are e =
     }
 
 pub search_told : (t : TableState) (live : Live) (key : List ℕ) (k : ℕ → List ℕ) (i : Lazy) (result : Result RowAt Spot) → AreTablesOf t live → i ≡ t.index → k ≡ key_at live t.places
-    → MatchResult result (λ found. Contains i.table.kept found × Has i.table found.row × (k found.row ≡ key)) (λ spot. IsSpotFor key spot × ((n : ℕ) → Has i.table n → k n ≢ key))
+    → MatchResult result (λ found. IsThere i found × (k found.row ≡ key)) (λ spot. IsSpotFor key spot × ((n : ℕ) → Has i n → k n ≢ key))
     → MatchResult result (IsFound t live key) (IsMissing t live key)
 search_told t live key k i result are same keys e =
     found_in t live key result are
-    (subst (λ (x : Lazy). MatchResult result (λ found. Contains x.table.kept found × Has x.table found.row × (key_at live t.places found.row ≡ key))
-    (λ spot. IsSpotFor key spot × ((n : ℕ) → Has x.table n → key_at live t.places n ≢ key))) same
-    (subst (λ (f : ℕ → List ℕ). MatchResult result (λ found. Contains i.table.kept found × Has i.table found.row × (f found.row ≡ key))
-    (λ spot. IsSpotFor key spot × ((n : ℕ) → Has i.table n → f n ≢ key))) keys e))
+    (subst (λ (x : Lazy). MatchResult result (λ found. IsThere x found × (key_at live t.places found.row ≡ key))
+    (λ spot. IsSpotFor key spot × ((n : ℕ) → Has x n → key_at live t.places n ≢ key))) same
+    (subst (λ (f : ℕ → List ℕ). MatchResult result (λ found. IsThere i found × (f found.row ≡ key))
+    (λ spot. IsSpotFor key spot × ((n : ℕ) → Has i n → f n ≢ key))) keys e))

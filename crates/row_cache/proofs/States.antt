@@ -12,9 +12,9 @@ use Rattle.cache_model.specs.Row.{Row}
 use Rattle.row_bytes.specs.Rows.{number_in, row_in, key_in}
 use Rattle.common_lemmas.specs.Lists.{times, delete}
 use Rattle.common_lemmas.proofs.Counts.{times-delete_other}
-use Rattle.key_table.specs.Table.{Has, IsSpotFor}
+use Rattle.key_table.specs.Table.{IsSpotFor}
 use Rattle.key_table.specs.declared.entries.Spot.{Spot}
-use Rattle.lazy_index.specs.Lazy.{IsKeyed, IsLazyOf}
+use Rattle.lazy_index.specs.Lazy.{Has, IsKeyed, IsLazyOf}
 use Rattle.std.specs.Prelude.{option_map}
 use Rattle.regions.specs.Segments.{RegionState}
 use Rattle.regions.specs.Contents.{Item, Standing, standing_at, live_at, item_if_live, if_live}
@@ -78,7 +78,7 @@ pub all_listed : (P : ℕ → Type 0) (xs : List ℕ) → ((n : ℕ) → 1 ≤ t
 all_listed P xs h = All-from_recursion P xs (all_by P xs h)
 
 -- the index has the rows' numbers
-pub has_listed : (t : TableState) (n : ℕ) → AreNumbers t → Has t.index.table n → IsListed t n
+pub has_listed : (t : TableState) (n : ℕ) → AreNumbers t → Has t.index n → IsListed t n
 has_listed t n a h = let e = a.indexed n in omega (arith, e, h)
 
 pub contained_times : (xs : List ℕ) (n : ℕ) → Contains xs n → 1 ≤ times n xs
@@ -142,7 +142,7 @@ still_listed t n m a listed l =
 
 pub tables_dropped : (t u : TableState) (live after : Live) (n : ℕ) (p : Place) → AreTablesOf t live → AreNumbers u → IsListed t n → slice_get t.places n ≡ Some p → Drops p live after
     → u.recency ≡ delete n t.recency → u.places ≡ t.places
-    → ((a b : ℕ → List ℕ) → IsKeyed a t.index → ((m : ℕ) → Has u.index.table m → b m ≡ a m) → IsKeyed b u.index)
+    → ((a b : ℕ → List ℕ) → IsKeyed a t.index → ((m : ℕ) → Has u.index m → b m ≡ a m) → IsKeyed b u.index)
     → AreTablesOf u after
 tables_dropped t u live after n p are numbers listed here drops recency places kept =
     let a = are.numbers in
@@ -211,7 +211,7 @@ replaced_found t n to row old new r listed q i e =
 
 pub tables_replaced : (t u : TableState) (n : ℕ) (to : Place) (row : Row) (old new : Live) → ReplacesRow t n to row old new → IsListed t n → AreNumbers u
     → ((m : ℕ) → times m u.recency ≡ times m t.recency) → u.places ≡ slice_set t.places n to → u.index ≡ t.index
-    → ((a b : ℕ → List ℕ) → ((m : ℕ) → Has t.index.table m → b m ≡ a m) → IsKeyed a t.index → IsKeyed b t.index)
+    → ((a b : ℕ → List ℕ) → ((m : ℕ) → Has t.index m → b m ≡ a m) → IsKeyed a t.index → IsKeyed b t.index)
     → AreTablesOf u new
 tables_replaced t u n to row old new r listed numbers recency places index moved =
     let are = r.tables in
@@ -278,7 +278,7 @@ added_others t there place row old new r m l =
 
 -- the index of the rows that there were is one of the new places too
 pub added_index : (t : TableState) (there : Spot) (place : Place) (row : Row) (old new : Live) (r : AddsRow t there place row old new)
-    → ((a b : ℕ → List ℕ) → ((m : ℕ) → Has t.index.table m → b m ≡ a m) → IsKeyed a t.index → IsKeyed b t.index)
+    → ((a b : ℕ → List ℕ) → ((m : ℕ) → Has t.index m → b m ≡ a m) → IsKeyed a t.index → IsKeyed b t.index)
     → IsKeyed (key_at new (placed (next_number t) place t.places)) t.index
 added_index t there place row old new r moved =
     let others = added_others t there place row old new r in
@@ -287,6 +287,27 @@ added_index t there place row old new r moved =
 pub added_spot : (t : TableState) (there : Spot) (place : Place) (row : Row) (old new : Live) (r : AddsRow t there place row old new)
     → IsSpotFor (key_at new (placed (next_number t) place t.places) (next_number t)) there
 added_spot t there place row old new r = subst (λ key. IsSpotFor key there) (sym (ap (λ (x : Row). x.key) (added_here t there place row old new r).1)) r.at
+
+-- and each of its rows has a key of its own there
+pub added_lazy : (t : TableState) (there : Spot) (place : Place) (row : Row) (old new : Live) (r : AddsRow t there place row old new)
+    → ((a b : ℕ → List ℕ) → ((m : ℕ) → Has t.index m → b m ≡ a m) → IsKeyed a t.index → IsKeyed b t.index)
+    → IsLazyOf (HasRow new (placed (next_number t) place t.places)) (key_at new (placed (next_number t) place t.places)) t.index
+added_lazy t there place row old new r moved =
+    let others = added_others t there place row old new r in
+    let listed : (m : ℕ) → Has t.index m → IsListed t m = λ m h. has_listed t m r.tables.numbers h in
+    let key_old : (m : ℕ) → IsListed t m → key_at new (placed (next_number t) place t.places) m ≡ key_at old t.places m = λ m l. ap (λ (x : Row). x.key) (others m l).1 in
+    record {
+      readable = λ m h. (others m (listed m h)).0;
+      apart = λ m n h k e. r.tables.apart m n (listed m h) (listed n k) (sym (key_old m (listed m h)) ∙ (e ∙ key_old n (listed n k)));
+      keyed = added_index t there place row old new r moved;
+    }
+
+-- none has the new row's key
+pub added_absent : (t : TableState) (there : Spot) (place : Place) (row : Row) (old new : Live) (r : AddsRow t there place row old new)
+    → (m : ℕ) → Has t.index m → key_at new (placed (next_number t) place t.places) m ≢ key_at new (placed (next_number t) place t.places) (next_number t)
+added_absent t there place row old new r m h e =
+    let l = has_listed t m r.tables.numbers h in
+    r.absent m l (sym (ap (λ (x : Row). x.key) (added_others t there place row old new r m l).1) ∙ (e ∙ ap (λ (x : Row). x.key) (added_here t there place row old new r).1))
 
 pub tables_added : (t u : TableState) (there : Spot) (place : Place) (row : Row) (old new : Live) → AddsRow t there place row old new → AreNumbers u
     → u.recency ≡ next_number t ∷ t.recency → u.places ≡ placed (next_number t) place t.places

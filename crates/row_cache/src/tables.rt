@@ -1,13 +1,13 @@
 //! Where rows stand, and in which order they were used.
-ghost use Rattle.std.specs.Prelude.{◌≡◌, ◌≢◌, ◌+◌, ◌<◌, ◌≤◌, ℕ, [], ◌∷◌, length, Some, None, slice_get, slice_set, IfOk, IfSome, MatchOption, MatchResult, All, Contains, vec_len, vec_capacity, List, ◌-◌, ◌^◌, take, map, filter};
+ghost use Rattle.std.specs.Prelude.{◌≡◌, ◌≢◌, ◌+◌, ◌<◌, ◌≤◌, ℕ, [], ◌∷◌, length, Some, None, slice_get, slice_set, IfOk, IfSome, MatchOption, MatchResult, All, vec_len, vec_capacity, List, ◌-◌, ◌^◌, take, map, filter};
 ghost use Rattle.std.specs.List.{last_or};
 ghost use Rattle.cache_model.specs.Row.{Row};
 ghost use Rattle.cache_model.specs.Apply.{in_order, is_at_most};
 ghost use Rattle.cache_model.specs.KeyBody.{IsKey};
 ghost use Rattle.common_lemmas.specs.Lists.{delete, times};
 ghost use Rattle.index_lists.specs.Lists.{list_at, with_list};
-ghost use Rattle.key_table.specs.Table.{AreSame, Has};
-ghost use Rattle.lazy_index.specs.Lazy.{IsKeyed, IsStanding, rows_in};
+ghost use Rattle.key_table.specs.Table.{AreSame};
+ghost use Rattle.lazy_index.specs.Lazy.{Has, IsKeyed, IsStanding, IsThere, rows_in};
 ghost use Rattle.regions.specs.Contents.{Item, live_at};
 ghost use Rattle.regions.specs.Stores.{Live};
 ghost use Rattle.row_bytes.specs.Rows.{number_in};
@@ -135,16 +135,21 @@ impl Tables {
     }
 
     // A new row, with the next number, stands at the place.
-    pub(crate) fn insert(&mut self, at: Spot, place: Place)
-        requires { length self.old.recency < self.old.room }
+    pub(crate) fn insert(&mut self, region: &Region, at: Spot, place: Place)
+        requires room { length self.old.recency < self.old.room }
+        requires adds { tables.AddsNewRow self.old at place (live_at region.now) }
         ensures room { self.new.room ≡ self.old.room }
         ensures recency { self.new.recency ≡ tables.next_number self.old ∷ self.old.recency }
         ensures places { self.new.places ≡ tables.placed (tables.next_number self.old) place self.old.places }
-        ensures tables { (row : Row) (old new : Live) → tables.AddsRow self.old at place row old new → tables.AreTablesOf self.new new }
+        ensures tables { tables.AreTablesOf self.new (live_at region.now) }
     {
         self.index.law();
         let number = give_number(&mut self.places, &mut self.freed, place);
-        self.index.insert(at, number);
+        let keys = RowKeys {
+            region,
+            places: self.places.as_slice(),
+        };
+        self.index.insert(&keys, at, number);
         self.recency.push_front(RECENCY, number);
     }
 
@@ -210,7 +215,7 @@ impl Tables {
     pub(crate) fn row_at(&self, region: &Region, number: u32) -> RowAt
         requires tables { tables.AreTablesOf self.now (live_at region.now) }
         requires listed { tables.IsListed self.now number }
-        ensures at { Contains self.now.index.table.kept result }
+        ensures at { IsThere self.now.index result }
         ensures row { result.row ≡ number }
     {
         self.index.row_at(&self.keys(region), number)
@@ -219,7 +224,7 @@ impl Tables {
     // Where a row stands in the order of the keys.
     pub(crate) fn standing(&self, region: &Region, found: RowAt) -> Standing
         requires tables { tables.AreTablesOf self.now (live_at region.now) }
-        requires at { Contains self.now.index.table.kept found }
+        requires at { IsThere self.now.index found }
         ensures at { IsStanding self.now.index result }
         ensures found { result.found ≡ found }
     {
@@ -263,7 +268,7 @@ fn unlist(recency: &mut IndexLists, index: &mut LazyIndex, standing: Standing)
     requires at { IsStanding index.old standing }
     ensures recency { recency.new ≡ with_list recency.old 0 (delete standing.found.row (list_at recency.old 0)) }
     ensures rows { AreSame (rows_in index.old) (standing.found.row ∷ rows_in index.new) }
-    ensures keyed { (before after : ℕ → List ℕ) → IsKeyed before index.old → ((n : ℕ) → Has index.new.table n → after n ≡ before n) → IsKeyed after index.new }
+    ensures keyed { (before after : ℕ → List ℕ) → IsKeyed before index.old → ((n : ℕ) → Has index.new n → after n ≡ before n) → IsKeyed after index.new }
     ensures room { index.new.room ≡ index.old.room }
 {
     index.remove(standing);

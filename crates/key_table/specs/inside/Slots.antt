@@ -1,6 +1,7 @@
 -- Slots, of which each holds a row or none.
-use Rattle.std.specs.Prelude.{◌≡◌, ◌≢◌, ℕ, ◌-◌, ◌<◌, ◌≤◌, ◌==◌, Bool, not, List, length, filter, slice_index_or, bit_and}
+use Rattle.std.specs.Prelude.{◌≡◌, ◌≢◌, ℕ, ◌+◌, ◌-◌, ◌<◌, ◌≤◌, ◌==◌, Bool, not, List, length, filter, slice_index_or, bit_and}
 use Rattle.key_table.specs.Hash.{tag_of}
+use Rattle.key_table.specs.Table.{reach}
 use Rattle.key_table.specs.declared.entries.RowAt.{RowAt}
 
 abbrev pub nothing : RowAt
@@ -23,9 +24,21 @@ IsHeld slots k = (slot_at slots k).row ≢ 4294967295
 abbrev pub home_of : ℕ → ℕ → ℕ
 home_of mask tag = bit_and tag mask
 
--- each row stands at its tag's slot or behind it, with no empty slot between; the last slot is empty
+-- an empty slot, from one slot on and before another
+pub record IsGapIn (slots : List RowAt) (from to : ℕ) : Type 0 where
+  pub at : ℕ
+  pub behind : from ≤ at
+  pub before : at < to
+  pub vacant : (slot_at slots at).row ≡ 4294967295
+
+-- of each so many slots in a row one is empty
+abbrev pub HaveGaps : List RowAt → Type 0
+HaveGaps slots = (k : ℕ) → IsGapIn slots k (k + reach)
+
+-- each row stands at its tag's slot or behind it, with no empty slot between; fewer slots in a row hold rows than are in reach; the last slot is empty
 pub record AreProbed (mask : ℕ) (slots : List RowAt) : Type 0 where
-  pub some : mask < length slots
+  pub some : mask + 1 + reach ≤ length slots
+  pub gaps : HaveGaps slots
   pub last : (slot_at slots (length slots - 1)).row ≡ 4294967295
   pub behind : (j : ℕ) → IsHeld slots j → home_of mask (slot_at slots j).tag ≤ j
   pub between : (j k : ℕ) → IsHeld slots j → home_of mask (slot_at slots j).tag ≤ k → k < j → IsHeld slots k
@@ -41,6 +54,16 @@ pub record IsFirstVacant (slots : List RowAt) (start at : ℕ) : Type 0 where
   pub vacant : (slot_at slots at).row ≡ 4294967295
   pub between : (k : ℕ) → start ≤ k → k < at → IsHeld slots k
 
+-- the first of the slots before one that hold rows, with no empty slot between
+pub record IsRunStart (slots : List RowAt) (at low : ℕ) : Type 0 where
+  pub before : low ≤ at
+  pub start : 0 < low → (slot_at slots (low - 1)).row ≡ 4294967295
+  pub between : (k : ℕ) → low ≤ k → k < at → IsHeld slots k
+
+-- of each so many slots in a row another one is empty
+abbrev pub IsLoose : List RowAt → ℕ → Type 0
+IsLoose slots at = (k : ℕ) → (gap : IsGapIn slots k (k + reach)) × (gap.at ≢ at)
+
 -- the row of a slot may stand in one before it
 pub record CanMove (mask : ℕ) (slots : List RowAt) (hole next : ℕ) : Type 0 where
   pub inside : next < length slots
@@ -52,12 +75,18 @@ pub record CanMove (mask : ℕ) (slots : List RowAt) (hole next : ℕ) : Type 0 
 abbrev pub NoneMoves : ℕ → List RowAt → ℕ → Type 0
 NoneMoves mask slots hole = (j : ℕ) → hole < j → IsHeld slots j → hole < home_of mask (slot_at slots j).tag
 
--- the row stands at a slot or behind it
-pub record IsAhead (slots : List RowAt) (row at : ℕ) : Type 0 where
-  pub place : ℕ
-  pub inside : place < length slots
-  pub behind : at ≤ place
-  pub is : (slot_at slots place).row ≡ row
+-- a row that the slots hold has this tag
+abbrev pub HasTag : List RowAt → RowAt → Type 0
+HasTag slots found = (k : ℕ) → IsHeld slots k → (slot_at slots k).row ≡ found.row → (slot_at slots k).tag ≡ found.tag
+
+-- the slot holds the row
+pub record IsRowAt (slots : List RowAt) (row at : ℕ) : Type 0 where
+  pub held : IsHeld slots at
+  pub is : (slot_at slots at).row ≡ row
+
+-- no slot holds the row
+abbrev pub HasNot : List RowAt → ℕ → Type 0
+HasNot slots row = (k : ℕ) → IsHeld slots k → (slot_at slots k).row ≢ row
 
 -- the keys of the rows can be read
 abbrev pub AreReadable : (ℕ → Type 0) → List RowAt → Type 0

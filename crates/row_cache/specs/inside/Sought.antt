@@ -1,17 +1,18 @@
 -- What a search tells of a key among the rows.
-use Rattle.std.specs.Prelude.{◌≡◌, ◌≢◌, ℕ, List, true, false, Some, None, Contains}
+use Rattle.std.specs.Prelude.{◌≡◌, ◌≢◌, ℕ, List, true, false, Some, None}
 use Rattle.cache_model.specs.Apply as apply
 use Rattle.common_lemmas.specs.Lists.{delete}
 use Rattle.key_table.specs.Table.{IsSpotFor}
 use Rattle.key_table.specs.declared.entries.RowAt.{RowAt}
 use Rattle.key_table.specs.declared.entries.Spot.{Spot}
+use Rattle.lazy_index.specs.Lazy.{IsThere}
 use Rattle.regions.specs.Stores.{Live}
 use Rattle.row_cache.specs.Rows.{row_at, key_at, rows_at}
 use Rattle.row_cache.specs.inside.Tables.{TableState, IsListed}
 
 -- the row has the key, and the others have not
 pub record IsFound (t : TableState) (live : Live) (key : List ℕ) (found : RowAt) : Type 0 where
-  pub at : Contains t.index.table.kept found
+  pub at : IsThere t.index found
   pub listed : IsListed t found.row
   pub same : key_at live t.places found.row ≡ key
   pub has : apply.has key (rows_at live t.places t.recency) ≡ true

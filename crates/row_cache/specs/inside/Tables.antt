@@ -75,7 +75,7 @@ pub record AreNumbers (t : TableState) : Type 0 where
   pub count : length t.recency + length t.freed ≡ length t.places
   pub room : t.index.room ≡ t.room
   pub indexed : (n : ℕ) → times n (rows_in t.index) ≡ times n t.recency
-  pub index_count : length t.index.table.kept ≡ length t.recency
+  pub index_count : length (rows_in t.index) ≡ length t.recency
 
 -- the tables are those of these live objects: each row stands at its place, each live object is a row, no two rows have
 -- one key, and the index is one of their keys
@@ -130,6 +130,12 @@ pub record AddsRow (t : TableState) (there : Spot) (place : Place) (row : Row) (
   pub adds : Adds place item old new
   pub absent : (n : ℕ) → IsListed t n → key_at old t.places n ≢ row.key
   pub at : IsSpotFor row.key there
+
+-- the live objects are those of the tables and some new row
+pub record AddsNewRow (t : TableState) (there : Spot) (place : Place) (new : Live) : Type 0 where
+  pub row : Row
+  pub old : Live
+  pub adds : AddsRow t there place row old new
 
 -- the live objects are those of the tables, but the row of a number stands elsewhere as another row of the same key
 pub record ReplacesRow (t : TableState) (n : ℕ) (to : Place) (row : Row) (old new : Live) : Type 0 where

@@ -1,10 +1,11 @@
 //! How a row comes into the segments of a cache, and how it goes.
-ghost use Rattle.std.specs.Prelude.{◌≡◌, ◌≢◌, ℕ, ◌+◌, ◌<◌, ◌≤◌, ◌↔◌, ◌⊎◌, ◌∷◌, true, length, slice_get, Some, None, IfOk, IfErr, IfSome, IsErr, IsSome, Contains};
+ghost use Rattle.std.specs.Prelude.{◌≡◌, ◌≢◌, ℕ, ◌+◌, ◌<◌, ◌≤◌, ◌↔◌, ◌⊎◌, ◌∷◌, true, length, slice_get, Some, None, IfOk, IfErr, IfSome, IsErr, IsSome};
 ghost use Rattle.layout.specs.Sizes as sizes;
 ghost use Rattle.cache_model.specs.Row.{Row, size};
 ghost use Rattle.cache_model.specs.Apply as apply;
 ghost use Rattle.common_lemmas.specs.Lists.{delete};
 ghost use Rattle.key_table.specs.Table.{IsSpotFor};
+ghost use Rattle.lazy_index.specs.Lazy.{IsThere};
 ghost use Rattle.regions.specs.Shapes.{shape, active_of};
 ghost use Rattle.regions.specs.Counts.{left, live_total};
 ghost use Rattle.regions.specs.Contents.{Item, live_at, size_of};
@@ -88,7 +89,7 @@ fn store_row(
     ensures stay { Stay region.old region.new }
 {
     let place = place_row(region, tables.next_number(), row)?;
-    tables.insert(at, place);
+    tables.insert(region, at, place);
     *live += u64::from(row_size(row.key, row.value));
     Ok(())
 }
@@ -124,7 +125,7 @@ fn replace_row(
 // Takes the row out.
 pub(super) fn drop_row(region: &mut Region, tables: &mut Tables, live: &mut u64, found: RowAt)
     requires consistent { IsConsistent tables.old region.old live.old }
-    requires at { Contains tables.old.index.table.kept found }
+    requires at { IsThere tables.old.index found }
     requires listed { IsListed tables.old found.row }
     ensures consistent { IsConsistent tables.new region.new live.new }
     ensures rows { rows_in tables.new region.new ≡ rows_with tables.old region.old (delete found.row tables.old.recency) }

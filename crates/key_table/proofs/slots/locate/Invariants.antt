@@ -1,9 +1,9 @@
-use Rattle.std.proofs.Common.{◌-◌, length}
-use Rattle.key_table.specs.inside.Slots.{IsAhead}
+use Rattle.std.proofs.Common.{◌≢◌, ℕ, ◌<◌, ◌≤◌}
+use Rattle.key_table.specs.inside.Slots.{home_of, slot_at, IsHeld}
 use Rattle.key_table.proofs.slots.locate.Given as goal
 
-abbrev pub invariant-loop-found : goal.invariant-loop-found
-invariant-loop-found l = IsAhead l.slots.items l.found.row l.at
-
-abbrev pub decreases-loop-found : goal.decreases-loop-found
-decreases-loop-found l = length l.slots.items - l.at
+abbrev pub invariant-loop-at : goal.invariant-loop-at
+invariant-loop-at l = record {
+  between : (k : ℕ) → home_of l.mask l.found.tag ≤ k → k < l.at → IsHeld l.slots.items k;
+  others : (k : ℕ) → home_of l.mask l.found.tag ≤ k → k < l.at → (slot_at l.slots.items k).row ≢ l.found.row;
+}

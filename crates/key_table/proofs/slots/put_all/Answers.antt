@@ -1,25 +1,20 @@
-use Rattle.std.proofs.Common.{◌+◌, sym, ap, subst, ◌∙◌, arith}
+use Rattle.std.proofs.Common.{◌+◌, sym, ap, subst, ◌∙◌, refl, arith}
 use Rattle.common_lemmas.specs.Lists.{times}
-use Rattle.key_table.specs.Table.{rows_of}
+use Rattle.key_table.specs.Table.{rows_of, reach}
 use Rattle.key_table.specs.inside.Slots.{held, IsHeld, AreProbed}
-use Rattle.key_table.proofs.Copied.{held_empty, none_held, probed_empty, same_length, fewer_held, rows_more, rows_none, within_more}
+use Rattle.key_table.proofs.Copied.{held_empty, none_held, probed_empty, rows_more, rows_none, within_more}
 use Rattle.key_table.proofs.slots.put_all.Goals as goal
 
 pub loop-at-init : goal.loop-at-init
 loop-at-init c =
     let empty = c.clear.ensures.slots in
+    let count = c.args.mask + 1 + reach in
     record {
-      probed = subst (AreProbed c.args.mask) (sym empty) (probed_empty c.args.mask (c.args.mask + 1) (omega arith));
-      rows = λ n. sym (ap (λ slots. times n (rows_of slots)) (ap held empty ∙ held_empty (c.args.mask + 1)));
-      inside = λ k h. absurd (none_held (c.args.mask + 1) k (subst (λ slots. IsHeld slots k) empty h));
+      probed = subst (AreProbed c.args.mask) (sym empty) (probed_empty c.args.mask count (omega arith));
+      rows = λ n. sym (ap (λ slots. times n (rows_of slots)) (ap held empty ∙ held_empty count));
+      inside = λ k h. absurd (none_held count k (subst (λ slots. IsHeld slots k) empty h));
       capacity = c.clear.ensures.capacity;
     }
-
-pub put-requires-clause-room : goal.put-requires-clause-room
-put-requires-clause-room c =
-    let same = same_length _ _ c.loop-at.invariant.rows in
-    let fewer = fewer_held c.args.from.now.items c.loop-at.at in
-    omega (arith, same, fewer)
 
 pub loop-at-preserved-then-slot : goal.loop-at-preserved-then-slot
 loop-at-preserved-then-slot c =
@@ -36,7 +31,7 @@ loop-at-preserved c =
     let inv = c.loop-at.invariant in
     record {
       probed = c.put.ensures.probed;
-      rows = rows_more c.args.from.now.items c.loop-at.slots.items c.put.new.slots.items c.loop-at.at c.slot_at-slot.result (omega arith) c.slot_at-slot.ensures c.if-slot.false inv.rows c.put.ensures.rows;
+      rows = rows_more c.args.from.now.items c.loop-at.slots.items c.put.new.slots.items c.loop-at.at c.slot_at-slot.result (omega arith) c.slot_at-slot.ensures c.if-slot.false inv.rows (c.if-not-put.ensures.rows refl);
       inside = within_more c.args.from.now.items c.loop-at.slots.items c.put.new.slots.items c.loop-at.at c.slot_at-slot.result c.slot_at-slot.ensures inv.inside c.put.ensures.within;
       capacity = omega arith;
     }

@@ -2,7 +2,7 @@ use Rattle.std.proofs.Common.{◌≢◌, ◌<◌, length, set, sym, subst, arith
 use Rattle.key_table.specs.declared.entries.RowAt.{RowAt}
 use Rattle.key_table.specs.inside.Slots.{slot_at, AreProbed, Within}
 use Rattle.key_table.proofs.Held.{held_inside, rows_move, rows_end, within_move}
-use Rattle.key_table.proofs.Probes.{probed_move, set_there}
+use Rattle.key_table.proofs.Probes.{probed_end, probed_move, set_there}
 use Rattle.key_table.proofs.slots.take_out.Goals as goal
 
 pub loop-next-preserved : goal.loop-next-preserved
@@ -23,3 +23,8 @@ loop-next-preserved c =
 
 pub returns-clause-rows : goal.returns-clause-rows
 returns-clause-rows c n = rows_end c.loop-next.slots.items c.args.slots.now.items c.loop-next.hole n (slot_at c.args.slots.now.items c.args.at).row (held_inside c.loop-next.slots.items c.loop-next.hole c.loop-next.invariant.here) c.loop-next.invariant.here (c.loop-next.invariant.rows n)
+
+pub returns-clause-probed : goal.returns-clause-probed
+returns-clause-probed c =
+    let inv = c.loop-next.invariant in
+    probed_end c.args.mask c.loop-next.slots.items c.loop-next.hole inv.probed (held_inside c.loop-next.slots.items c.loop-next.hole inv.here) c.in_default.ensures

@@ -1,4 +1,5 @@
-use Rattle.std.proofs.Common.{◌≡◌, ℕ, length}
+use Rattle.std.proofs.Common.{◌≡◌, ℕ, ◌≤◌, length}
+use Rattle.common_lemmas.specs.Lists.{times}
 use Rattle.lazy_index.specs.inside.Mixed.{both, CanSettle}
 use Rattle.lazy_index.proofs.settling.drain.Given as goal
 
@@ -6,6 +7,7 @@ abbrev pub invariant-loop : goal.invariant-loop
 invariant-loop g l = record {
   settled : CanSettle (g.K.Keys.has_row l.keys) (g.K.Keys.key_of l.keys) l.order l.late;
   all : (n : ℕ) → both l.order l.late n ≡ both l.fn.order l.fn.late n;
+  more : (n : ℕ) → times n l.fn.order.rows ≤ times n l.order.rows;
   order_room : l.order.room ≡ l.fn.order.room;
   late_room : l.late.bound ≡ l.fn.late.bound;
 }

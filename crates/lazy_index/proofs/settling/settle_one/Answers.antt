@@ -1,6 +1,6 @@
 use Rattle.std.proofs.Common.{◌≢◌, ◌≤◌, subst, arith}
 use Rattle.common_lemmas.specs.Lists.{times}
-use Rattle.lazy_index.proofs.Both.{all_of, moved_both, settles, waits}
+use Rattle.lazy_index.proofs.Both.{all_of, moved_both, put_times, settles, waits}
 use Rattle.lazy_index.proofs.settling.settle_one.Goals as goal
 
 pub insert-requires-clause-readable : goal.insert-requires-clause-readable
@@ -24,3 +24,6 @@ returns-clause-settled g c = settles (g.K.Keys.has_row c.args.keys.now) (g.K.Key
 
 pub returns-clause-all : goal.returns-clause-all
 returns-clause-all g c n = moved_both (g.K.Keys.key_of c.args.keys.now) c.in-Some.row n c.args.order.now c.insert.new.self c.args.late.now c.pop.new.self c.insert.ensures.rows c.in-Some.ensures.numbers
+
+pub returns-clause-more : goal.returns-clause-more
+returns-clause-more g c n = let p = put_times (g.K.Keys.key_of c.args.keys.now) c.in-Some.row n c.args.order.now.rows c.insert.new.self.rows c.insert.ensures.rows in omega (arith, p)

@@ -28,4 +28,4 @@ pub returns-in-None : goal.returns-in-None
 returns-in-None g c =
     let key_of = g.K.Keys.key_of c.args.keys.now in
     let none = all_held (λ (s : RowAt). key_of s.row ≢ c.args.key.now) c.self.inside.slots.items c.in-None.ensures in
-    (c.tag_of-tag.ensures, listed_all (λ n. key_of n ≢ c.args.key.now) c.args.self.now.kept (subst (λ (t : Table). All (λ (s : RowAt). key_of s.row ≢ c.args.key.now) t.kept) c.self.view_is none))
+    (c.new-spot.ensures, listed_all (λ n. key_of n ≢ c.args.key.now) c.args.self.now.kept (subst (λ (t : Table). All (λ (s : RowAt). key_of s.row ≢ c.args.key.now) t.kept) c.self.view_is none))

@@ -7,8 +7,8 @@ pub invariant_of-result : goal.invariant_of-result
 invariant_of-result c =
     let empty = c.clear.ensures.slots in
     record {
-      probed = subst (AreProbed 1023) (sym empty) (probed_empty 1023 1024 (omega arith));
-      counted = sym (ap (λ slots. length slots) (ap held empty ∙ held_empty 1024));
+      probed = subst (AreProbed 1023) (sym empty) (probed_empty 1023 1088 (omega arith));
+      counted = sym (ap (λ slots. length slots) (ap held empty ∙ held_empty 1088));
       within = omega arith;
       upto = c.most_of-most.ensures;
       slots_fit = omega (arith, c.in_ok-slots.ensures.exact, c.clear.ensures.capacity);

@@ -1,18 +1,27 @@
-use Rattle.std.proofs.Common.{◌≡◌, sym, subst, ◌∙◌, arith}
-use Rattle.std.specs.Prelude.{Contains}
+use Rattle.std.proofs.Common.{◌≡◌, ◌≢◌, sym, subst, arith}
+use Rattle.std.specs.Prelude.{All}
 use Rattle.key_table.specs.declared.entries.RowAt.{RowAt}
 use Rattle.key_table.specs.Hash.{tag_of}
-use Rattle.key_table.specs.Table.{Table, IsTagged}
+use Rattle.key_table.specs.Table.{Table, IsTagged, IsTagOf}
 use Rattle.key_table.specs.inside.Slots.{held}
 use Rattle.key_table.proofs.Copied.{one_more}
-use Rattle.key_table.proofs.Told.{all_held, held_all, is_ahead, some_row, tagged_within}
+use Rattle.key_table.proofs.Told.{all_held, held_all, absent_listed, tagged_within}
 use Rattle.key_table.proofs.table.KeyTable.remove.Goals as goal
 
-pub locate-at-requires : goal.locate-at-requires
-locate-at-requires c = is_ahead c.self.inside.mask c.self.inside.slots.items c.args.found c.self.invariant.probed (subst (λ (t : Table). Contains t.kept c.args.found) (sym c.self.view_is) c.requires)
+pub locate-requires-clause-tag : goal.locate-requires-clause-tag
+locate-requires-clause-tag c =
+    let found = c.args.found in
+    held_all (λ (s : RowAt). s.row ≡ found.row → s.tag ≡ found.tag) c.self.inside.slots.items (subst (λ (t : Table). IsTagOf t found) (sym c.self.view_is) c.requires)
 
-pub take_out-requires-clause-held : goal.take_out-requires-clause-held
-take_out-requires-clause-held c e = some_row c.self.inside.slots.items c.args.found (subst (λ (t : Table). Contains t.kept c.args.found) (sym c.self.view_is) c.requires) (sym c.locate-at.ensures.row ∙ e)
+pub returns-in_default-clause-absent : goal.returns-in_default-clause-absent
+returns-in_default-clause-absent c none =
+    let n = c.args.found.row in
+    absent_listed c.args.self.now.kept n (subst (λ (t : Table). All (λ (s : RowAt). s.row ≢ n) t.kept) c.self.view_is (all_held (λ (s : RowAt). s.row ≢ n) c.self.inside.slots.items c.in_default.ensures))
+
+pub overflow_sub-self : goal.overflow_sub-self
+overflow_sub-self c =
+    let more = one_more (held c.self.inside.slots.items) (held c.take_out.new.slots.items) _ c.take_out.ensures.rows in
+    omega (arith, more, c.self.invariant.counted)
 
 pub invariant_of-self : goal.invariant_of-self
 invariant_of-self c =
