@@ -16,7 +16,8 @@ use Rattle.shard_node.specs.declared.shard.Shard.{Shard}
 use Rattle.shard_node.specs.Due.{operations_for}
 use Rattle.shard_node.specs.Standing.{begun_at, waiting_request}
 use Rattle.shard_node.specs.inside.Peers.{peer_state}
-use Rattle.shard_node.specs.inside.Work.{bodies, others, puts_among}
+use Rattle.shard_node.specs.Nodes.{others}
+use Rattle.shard_node.specs.inside.Work.{bodies, puts_among}
 use Rattle.shard_node.proofs.OtherPlaces.{other-below}
 use Rattle.shard_node.specs.inside.Shards.{AreUnanswered, HasAsked, HasCursors, IsConsistent, bodies_left, node_state, parts_left, puts_left}
 use Rattle.shard_node.proofs.ShortRows.{AreShort}

@@ -21,7 +21,7 @@ use Rattle.cache_model.specs.Legal.{after, cache_after, cache_from, command_of, 
 use Rattle.cache_model.specs.OwnParts.{issued_parts, parts_of}
 use Rattle.cache_model.specs.Row.{Row}
 use Rattle.cache_model.specs.Spelled.{spelled}
-use Rattle.shard_node.specs.Nodes.{NodeState, PeerState, Traffic}
+use Rattle.shard_node.specs.Nodes.{NodeState, PeerState, Traffic, others}
 use Rattle.shard_node.specs.Due.{operations_for}
 use Rattle.shard_node.specs.Standing.{InStanding, KnowsItsPlace, LogsWhatCame, begun_at, done_for, logged_at}
 use Rattle.shard_node.specs.Turns.{HasParted, IsDone}
@@ -31,7 +31,6 @@ use Rattle.shard_node.specs.inside.Endings.{HasEnded, IsAtEnd}
 use Rattle.shard_node.specs.inside.Own.{own_log}
 use Rattle.shard_node.specs.inside.Peers.{peer_state}
 use Rattle.shard_node.specs.inside.Shards.{IsConsistent, issued_by, node_state}
-use Rattle.shard_node.specs.inside.Work.{others}
 use Rattle.shard_node.proofs.BegunParts.{commands-found, count-issued, place-more}
 use Rattle.shard_node.proofs.Byes.{same_own_log}
 use Rattle.shard_node.proofs.Counts.{counts_more}

@@ -17,13 +17,13 @@ use Rattle.shard_memory.specs.Tickets.{tickets_out}
 use Rattle.reclaim.specs.Spaces.{IsUnguarded}
 use Rattle.shard_node.specs.declared.peer.Peer.{Peer}
 use Rattle.shard_node.specs.declared.shard.Shard.{Shard}
-use Rattle.shard_node.specs.Nodes.{Traffic}
+use Rattle.shard_node.specs.Nodes.{Traffic, others}
 use Rattle.shard_node.specs.Due.{operations_for}
 use Rattle.shard_node.specs.Standing.{waiting_request}
 use Rattle.shard_node.specs.Links.{IsUnused}
 use Rattle.shard_node.specs.inside.Opening.{IsNewPeer}
 use Rattle.shard_node.specs.inside.Shards.{AreUnanswered, HasRoom, IsConsistent, issued_by}
-use Rattle.shard_node.specs.inside.Work.{bodies, others, puts_among}
+use Rattle.shard_node.specs.inside.Work.{bodies, puts_among}
 use Rattle.shard_node.proofs.IssuedParts.{AreCounted, AreOfPeers}
 use Rattle.shard_node.proofs.WorkLeft.{here-parts, here-puts, reply-room, split-off}
 

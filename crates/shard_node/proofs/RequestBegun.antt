@@ -19,13 +19,12 @@ use Rattle.reclaim.specs.Works.{EvictsForBlock, floor_of}
 use Rattle.shard_node.specs.declared.peer.Peer.{Peer}
 use Rattle.shard_node.specs.declared.shard.Shard.{Shard}
 use Rattle.shard_node.specs.declared.waiting.Waiting.{Waiting}
-use Rattle.shard_node.specs.Nodes.{Traffic}
+use Rattle.shard_node.specs.Nodes.{Traffic, others}
 use Rattle.shard_node.specs.Due.{operations_for}
 use Rattle.shard_node.specs.Standing.{waiting_request}
 use Rattle.shard_node.specs.inside.Own.{OwnState}
 use Rattle.shard_node.specs.inside.Shards.{node_state, issued_by, HasAsked, HasRoom, IsConsistent}
 use Rattle.shard_node.specs.inside.Steps.{IsStep}
-use Rattle.shard_node.specs.inside.Work.{others}
 use Rattle.shard_node.proofs.BeginsRequest.{begins}
 use Rattle.shard_node.proofs.BegunParts.{begun-more, begun-other, next-command, place-other}
 use Rattle.shard_node.proofs.Growth.{Laws}

@@ -21,14 +21,14 @@ use Rattle.shard_rings.specs.declared.link.Packet.TheVariants.{Block as InBlock}
 use Rattle.shard_node.specs.declared.peer.Peer.{Peer}
 use Rattle.shard_node.specs.declared.shard.Shard.{Shard}
 use Rattle.shard_node.specs.declared.waiting.Waiting.{Waiting}
-use Rattle.shard_node.specs.Nodes.{NodeState, PeerState, Traffic}
+use Rattle.shard_node.specs.Nodes.{NodeState, PeerState, Traffic, others}
 use Rattle.shard_node.specs.Due.{Takes, due, operations_for, requests_taken, said}
 use Rattle.shard_node.specs.Standing.{InStanding, AreReplies, ReleasesAll, blocks, done_for, one_if, waiting_reply, waiting_request}
 use Rattle.shard_node.specs.inside.Peers.{peer_state}
 use Rattle.shard_node.specs.inside.Sends.{IsRefused, IsSent}
 use Rattle.shard_node.specs.inside.Shards.{AreUnanswered, HasAsked, IsConsistent, issued_by, node_state}
 use Rattle.shard_node.specs.inside.Steps.{IsStep}
-use Rattle.shard_node.specs.inside.Work.{bodies, others, puts_among}
+use Rattle.shard_node.specs.inside.Work.{bodies, puts_among}
 use Rattle.shard_node.proofs.Asides.{aside_with}
 use Rattle.shard_node.proofs.Consistent.{peers_differ}
 use Rattle.shard_node.proofs.Peerwise.{StandsWith, all_but, all_stand, each_stands, receives_one, stays}

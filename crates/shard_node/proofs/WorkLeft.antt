@@ -16,7 +16,8 @@ use Rattle.trace_text.specs.Parts.{has_part, hash, here_parts, here_puts, is_get
 use Rattle.trace_text.specs.Trace.{Trace}
 use Rattle.cache_model.specs.Bodies.{most_of_body, most_of_kind}
 use Rattle.shard_node.specs.Due.{operations_for}
-use Rattle.shard_node.specs.inside.Work.{bodies, others, puts_among, work}
+use Rattle.shard_node.specs.Nodes.{others}
+use Rattle.shard_node.specs.inside.Work.{bodies, puts_among, work}
 
 abbrev one_if : Bool → ℕ
 one_if b = cond b 1 0

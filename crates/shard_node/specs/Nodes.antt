@@ -1,5 +1,6 @@
 -- What a caller sees of a node: one shard at work on its parts of a trace.
-use Rattle.std.specs.Prelude.{ℕ, Bool, List, Option}
+use Rattle.std.specs.Prelude.{ℕ, Bool, List, Option, ◌==◌, not, filter}
+use Rattle.std.specs.List.{range_with_len}
 use Rattle.trace_text.specs.Operation.{Operation}
 use Rattle.trace_text.specs.Trace.{Trace}
 use Rattle.run_log.specs.JournalState.{JournalState}
@@ -20,6 +21,10 @@ pub record Traffic : Type 0 where
 -- what the members of a kind of link tell of one
 abbrev pub traffic_by : {L : Type 0} → (L → Lanes (List Packet)) → (L → Lanes (List Packet)) → (L → Lanes ℕ) → (L → Lanes ℕ) → L → Traffic
 traffic_by sent received full empty link = record { sent = sent link; received = received link; full = full link; empty = empty link }
+
+-- the shards of n other than s, in rising order
+abbrev pub others : ℕ → ℕ → List ℕ
+others n s = filter (λ q. not (q == s)) (range_with_len 0 n)
 
 -- What a node keeps of a peer in place of whole lists: it tells how far the two are with each other.
 pub record Keeping : Type 0 where

@@ -1,6 +1,6 @@
 -- The nodes of one run, once all of them are done: what they say together.
-use Rattle.std.specs.Prelude.{◌≡◌, ℕ, ◌==◌, ◌<◌, ◌^◌, not, List, length, map, filter, All, Contains, Option, Some, IsSome}
-use Rattle.std.specs.List.{range_with_len, slice_get, slice_index_or}
+use Rattle.std.specs.Prelude.{◌≡◌, ℕ, ◌<◌, ◌^◌, List, length, map, All, Contains, Option, Some, IsSome}
+use Rattle.std.specs.List.{slice_get, slice_index_or}
 use Rattle.trace_text.specs.Trace.{Trace}
 use Rattle.cache_model.specs.declared.entry.Entry.{Entry}
 use Rattle.cache_model.specs.declared.reply_kind.ReplyKind.{ReplyKind}
@@ -9,7 +9,7 @@ use Rattle.cache_model.specs.OwnParts.{HoldsReplies, part_reply, parts_of}
 use Rattle.cache_model.specs.Report.{lent}
 use Rattle.layout.specs.Counts.{raised}
 use Rattle.shard_rings.specs.Lanes.{ArePrefixes}
-use Rattle.shard_node.specs.Nodes.{NodeState, PeerState, Traffic}
+use Rattle.shard_node.specs.Nodes.{NodeState, PeerState, Traffic, others}
 use Rattle.shard_node.specs.Standing.{InStanding}
 use Rattle.shard_node.specs.Turns.{IsDone}
 
@@ -36,7 +36,7 @@ module _ {L G : Type 0} (traffic : L → Traffic) (holds : G → ℕ) (trace : T
     pub of_pages : node.pages ≡ pages
     pub of_trace : node.trace ≡ trace
     -- its peers are the other shards, in rising order
-    pub peers : map (λ peer. peer.shard) node.peers ≡ filter (λ q. not (q == s)) (range_with_len 0 n)
+    pub peers : map (λ peer. peer.shard) node.peers ≡ others n s
     pub standing : InStanding traffic node
     pub done : IsDone traffic holds node
     -- its count of the blocks that came back is a u64

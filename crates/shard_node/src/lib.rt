@@ -29,6 +29,7 @@ mod rising;
 mod seen;
 mod send;
 mod shard;
+mod trace_mark;
 mod turn;
 mod waiting;
 

@@ -1,17 +1,17 @@
 //! A node: one shard at work, from its opening to its end.
-ghost use Rattle.std.specs.Prelude.{◌≡◌, ◌↔◌, ◌+◌, ◌<◌, ◌≤◌, [], ◌∷◌, ◌++◌, length, map, vec_capacity, All, IfOk, IfErr, IsTrue};
+ghost use Rattle.std.specs.Prelude.{◌≡◌, ◌↔◌, ◌+◌, ◌^◌, ◌<◌, ◌≤◌, [], ◌∷◌, ◌++◌, length, map, vec_capacity, All, IfOk, IfErr, IsTrue};
 ghost use Rattle.layout.specs.Sizes.{ArePages};
 ghost use Rattle.trace_text.specs.Parsed.{trace_in};
 ghost use Rattle.foreign_list.specs.OwnerSeats.{IsAtRest};
 ghost use Rattle.shard_memory.specs.Tickets.{tickets_out};
 ghost use Rattle.layout.specs.Counts.{counted};
 ghost use Rattle.reclaim.specs.Spaces.{IsUnguarded};
-ghost use Rattle.shard_node.specs.Nodes.{traffic_by};
+ghost use Rattle.shard_node.specs.Nodes.{others, traffic_by};
 ghost use Rattle.shard_node.specs.Standing.{InStanding};
 ghost use Rattle.shard_node.specs.Links.{IsUnused};
+ghost use Rattle.shard_node.specs.Rans.{line_of};
 ghost use Rattle.shard_node.specs.Turns.{IsAnswer, IsDone, IsSameNode};
 ghost use Rattle.shard_node.specs.declared.turn.Turn.{Turn as Turns};
-ghost use Rattle.shard_node.specs.inside.Work.{others};
 
 use crate::gate::Gate;
 use crate::peer::Peer;
@@ -21,6 +21,7 @@ use crate::shard::Shard;
 use crate::turn::Turn;
 use foreign_list::{Foreign, OwnerSeat};
 use reclaim::Space;
+use run_log::ShardLine;
 use shard_rings::Link;
 use std::alloc::Global;
 use std::marker::Model;
@@ -134,18 +135,25 @@ impl<'f, L: Link<'f> + Drop, G: Gate + Drop> Node<'f, L, G> {
         ensures peers { map (λ peer. peer.shard) self.now.peers ≡ others self.now.shards self.now.shard }
         ensures pages { self.now.space.pages ≡ self.now.pages }
         ensures owner { self.now.space.shard ≡ self.now.shard }
+        ensures counted { self.now.space.backs < 2 ^ 64 }
     {
-        let _ = &self.shard;
+        self.shard.space.facts();
     }
 
-    /// Ends a node that is done: its journal and its log go to the record of the run, which has those of all shards below its own.
+    /// Ends a node that is done: its journal, its log and the line of its space go to the record of its run, which has those of all
+    /// shards below its own.
     pub fn finish(self, into: &mut Ran) -> Finished<'f, L>
         requires done { IsDone (traffic_by L.sent L.received L.full L.empty) G.holds self }
+        requires trace { into.old.trace ≡ self.trace }
         requires shards { into.old.shards ≡ self.shards }
+        requires pages { into.old.pages ≡ self.pages }
         requires place { length into.old.journals ≡ self.shard }
         ensures journals { into.new.journals ≡ into.old.journals ++ self.entry.journal ∷ [] }
         ensures logs { into.new.logs ≡ into.old.logs ++ self.entry.log ∷ [] }
+        ensures lines { into.new.lines ≡ into.old.lines ++ line_of self.entry.space ∷ [] }
+        ensures trace { into.new.trace ≡ into.old.trace }
         ensures shards { into.new.shards ≡ into.old.shards }
+        ensures pages { into.new.pages ≡ into.old.pages }
         ensures space { result.space ≡ self.entry.space }
         ensures links { result.links.items ≡ map (λ peer. peer.link) self.entry.peers }
         ensures idle { tickets_out result.space.lent ≡ 0 }
@@ -159,7 +167,7 @@ impl<'f, L: Link<'f> + Drop, G: Gate + Drop> Node<'f, L, G> {
             peers,
             ..
         } = shard;
-        into.add(journal, log);
+        into.add(journal, log, line_of(&space));
         Finished {
             space,
             links: links_of(peers, links),
@@ -178,6 +186,18 @@ impl<'f, L: Link<'f> + Drop, G: Gate + Drop> Node<'f, L, G> {
             seat: space.finish(),
             links: links_of(peers, links),
         }
+    }
+}
+
+/// The line that says what a space came to.
+fn line_of(space: &Space<'_>) -> ShardLine
+    ensures { result ≡ line_of space.now }
+{
+    ShardLine {
+        rows: space.rows(),
+        live: space.live(),
+        lent: space.lent(),
+        back: space.back(),
     }
 }
 

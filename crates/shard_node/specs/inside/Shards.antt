@@ -11,10 +11,10 @@ use Rattle.shard_node.specs.declared.peer.Peer.{Peer}
 use Rattle.shard_node.specs.declared.shard.Shard.{Shard}
 use Rattle.shard_node.specs.declared.waiting.Waiting.{Waiting}
 use Rattle.shard_node.specs.Due.{operations_for}
-use Rattle.shard_node.specs.Nodes.{NodeState}
+use Rattle.shard_node.specs.Nodes.{NodeState, others}
 use Rattle.shard_node.specs.Standing.{begun_at, waiting_request}
 use Rattle.shard_node.specs.inside.Peers.{peer_state}
-use Rattle.shard_node.specs.inside.Work.{bodies, others, puts_among}
+use Rattle.shard_node.specs.inside.Work.{bodies, puts_among}
 
 module _ {L G : Type 0} where
   abbrev pub node_state : Shard L G → NodeState L G

@@ -1,6 +1,5 @@
 -- The operations that are left to do, and what they take.
-use Rattle.std.specs.Prelude.{ℕ, ◌+◌, ◌==◌, not, List, length, filter, count_by, sum_by}
-use Rattle.std.specs.List.{range_with_len}
+use Rattle.std.specs.Prelude.{ℕ, ◌+◌, List, length, count_by, sum_by}
 use Rattle.trace_text.specs.Operation.{Operation}
 use Rattle.trace_text.specs.Parts.{is_put, longest_value}
 use Rattle.trace_text.specs.Trace.{Trace}
@@ -16,7 +15,3 @@ work operations = length operations + puts_among operations
 -- the most bytes of the replies to them, as commands of the trace
 abbrev pub bodies : Trace → List Operation → ℕ
 bodies trace operations = sum_by (λ operation. most_of_body (longest_value trace) operation) operations
-
--- the shards of n other than s, in rising order
-abbrev pub others : ℕ → ℕ → List ℕ
-others n s = filter (λ q. not (q == s)) (range_with_len 0 n)

@@ -6,12 +6,11 @@ ghost use Rattle.trace_text.specs.Parsed.{trace_in};
 ghost use Rattle.trace_text.specs.Parts.{here_parts, here_puts, own_parts, reply_bytes, most_shards};
 ghost use Rattle.foreign_list.specs.OwnerSeats.{IsAtRest};
 ghost use Rattle.shard_memory.specs.Tickets.{tickets_out};
-ghost use Rattle.shard_node.specs.Nodes.{traffic_by};
+ghost use Rattle.shard_node.specs.Nodes.{others, traffic_by};
 ghost use Rattle.shard_node.specs.Standing.{InStanding};
 ghost use Rattle.shard_node.specs.Links.{IsUnused};
 ghost use Rattle.shard_node.specs.inside.Opening.{IsNewPeer};
 ghost use Rattle.shard_node.specs.inside.Shards.{node_state, IsConsistent};
-ghost use Rattle.shard_node.specs.inside.Work.{others};
 
 use super::Shard;
 use crate::gate::Gate;

@@ -2,7 +2,7 @@ use Rattle.std.proofs.Common.{◌≡◌, [], ◌∷◌, ◌++◌, length, map, t
 use Rattle.std.specs.List.{All}
 use Rattle.std.specs.Vec.Iter.{into_iter_items}
 use Rattle.shard_node.specs.inside.Opening.{IsNewPeer}
-use Rattle.shard_node.specs.inside.Work.{others}
+use Rattle.shard_node.specs.Nodes.{others}
 use Rattle.shard_node.proofs.OpenedPeers.{all-more, all-others, one-more, over-all, over-more}
 use Rattle.shard_node.proofs.shard.opening.peers_over.Goals as goal
 

@@ -1,7 +1,7 @@
 use Rattle.std.specs.Prelude.{◌≡◌, ◌+◌, ◌++◌, ◌≤◌, All, length, map, take, vec_capacity}
 use Rattle.std.specs.Vec.Iter.{into_iter_items, into_iter_len}
 use Rattle.shard_node.specs.inside.Opening.{IsNewPeer}
-use Rattle.shard_node.specs.inside.Work.{others}
+use Rattle.shard_node.specs.Nodes.{others}
 use Rattle.shard_node.proofs.shard.opening.peers_over.Given as goal
 
 abbrev pub invariant-loop-link : goal.invariant-loop-link
