@@ -1,5 +1,5 @@
 -- What came of a peer in one try of a lane was set aside exactly where the lists say so.
-use Rattle.std.proofs.Common.{◌≡◌, ℕ, zero, suc, ◌≤◌, List, [], ◌∷◌, ◌++◌, length, map, drop, slice_get, Option, Some, None, inl, inr, arith, refl, sym, ap, subst, ◌∙◌, true≢false}
+use Rattle.std.proofs.Common.{◌≡◌, ℕ, zero, suc, ◌+◌, ◌≤◌, List, [], ◌∷◌, ◌++◌, length, map, drop, slice_get, Option, Some, None, inl, inr, arith, refl, sym, ap, subst, ◌∙◌, true≢false}
 use Rattle.std.specs.Option.{option_map}
 use Rattle.std.proofs.lemmas.Bool.{cases_eq}
 use Rattle.std.proofs.lemmas.List.{length-append, length-map, same_from_push}
@@ -23,8 +23,8 @@ use Rattle.shard_node.specs.declared.shard.Shard.{Shard}
 use Rattle.shard_node.specs.Nodes.{NodeState, PeerState, Traffic}
 use Rattle.shard_node.specs.Due.{Answers, AnswersNot, due, is_next, is_same, number_in, number_said, operations_for, requests_taken, said}
 use Rattle.shard_node.specs.Standing.{InStanding}
-use Rattle.shard_node.specs.Turns.{HasAside, IsAside, expected_number, expected_said}
-use Rattle.shard_node.specs.inside.Moves.{TriedSays}
+use Rattle.shard_node.specs.Turns.{IsAside, expected_number, expected_said}
+use Rattle.shard_node.specs.inside.Moves.{SetsOneAside, TriedSays}
 use Rattle.shard_node.specs.inside.Peers.{peer_state}
 use Rattle.shard_node.specs.inside.Receives.{IsNoReply, IsReply, TriesReply, next_answer}
 use Rattle.shard_node.specs.inside.Serves.{IsNoRequest, MayAsk, TriesRequest, due_next}
@@ -32,7 +32,7 @@ use Rattle.shard_node.specs.inside.Shards.{HasCursors, node_state}
 use Rattle.shard_node.proofs.DueNext.{due-next, due_for, taken-most}
 use Rattle.shard_node.proofs.Peerwise.{StandsWith, each_stands}
 use Rattle.shard_node.proofs.Replies.{get_first}
-use Rattle.shard_node.proofs.TellsAsides.{no_aside, same_some, takes_as_many}
+use Rattle.shard_node.proofs.TellsAsides.{one-more, same_some, takes_as_many}
 
 -- the number of what is due next
 due-said : (operations : List Operation) (taken : ℕ) → taken ≤ length operations
@@ -43,15 +43,22 @@ due-said (operation ∷ operations) zero within = refl
 due-said (operation ∷ operations) (suc taken) within = due-said operations taken (omega (arith, within))
 
 module _ {L G : Type 0} (traffic : L → Traffic) (end : L → LinkEnd) (holds : G → ℕ) where
-  aside_here : (lane : Lane) (node now : NodeState L G) (k : ℕ) (a b : PeerState L) (aside : Aside) → slice_get node.peers k ≡ Some a → slice_get now.peers k ≡ Some b
-      → HasAside traffic holds lane node now k aside → IsAside traffic holds lane node aside a b
-  aside_here lane node now k a b aside here there has =
-      subst (λ (p : PeerState L). IsAside traffic holds lane node aside p b) (same_some has.0 a (sym has.2 ∙ here))
-      (subst (λ (p : PeerState L). IsAside traffic holds lane node aside has.0 p) (same_some has.1 b (sym has.3 ∙ there)) has.4)
+  -- one packet came of a peer on the lane, and was set aside
+  record OneCame (lane : Lane) (node : NodeState L G) (aside : Aside) (a b : PeerState L) : Type 0 where
+    packet : Packet
+    came : on lane (traffic b.link).received ≡ on lane (traffic a.link).received ++ packet ∷ []
+    is : IsAside traffic holds lane node a.shard (on lane (traffic a.link).received) packet aside
+
+  one_came : (lane : Lane) (node now : NodeState L G) (k : ℕ) (a b : PeerState L) (aside : Aside) → slice_get node.peers k ≡ Some a → slice_get now.peers k ≡ Some b
+      → SetsOneAside traffic holds lane node now k aside → OneCame lane node aside a b
+  one_came lane node now k a b aside here there has =
+      subst (λ (p : PeerState L). OneCame lane node aside p b) (same_some has.0 a (sym has.3 ∙ here))
+      (subst (λ (p : PeerState L). OneCame lane node aside has.0 p) (same_some has.1 b (sym has.4 ∙ there)) (record { packet = has.2; came = has.5; is = has.6 }))
 
   pub nothing_came : (lane : Lane) (node now : NodeState L G) (k : ℕ) (a b : PeerState L) → slice_get node.peers k ≡ Some a → slice_get now.peers k ≡ Some b
-      → on lane (traffic b.link).received ≡ on lane (traffic a.link).received → TriedSays (HasAside traffic holds lane node now k) Nothing
-  nothing_came lane node now k a b here there same aside has = no_aside traffic holds lane node a b aside same (aside_here lane node now k a b aside here there has)
+      → on lane (traffic b.link).received ≡ on lane (traffic a.link).received → TriedSays (SetsOneAside traffic holds lane node now k) Nothing
+  nothing_came lane node now k a b here there same aside has =
+      let one = one_came lane node now k a b aside here there has in one-more (on lane (traffic a.link).received) one.packet (sym same ∙ one.came)
 
   stands_there : (node : NodeState L G) (k : ℕ) (a : PeerState L) → InStanding traffic node → slice_get node.peers k ≡ Some a → StandsWith traffic node a
   stands_there node k a stands here =
@@ -72,6 +79,26 @@ module _ {L G : Type 0} (traffic : L → Traffic) (end : L → LinkEnd) (holds :
       (ap (λ (p : Peer L). p.shard) none.0.same, ap (λ (ps : Lanes (List Packet)). ps.replies) none.0.came.received)
   request_alone old new space space' journal journal' tally tally' tried (inr serves) =
       (ap (λ (p : Peer L). p.shard) serves.same, ap (λ (ps : Lanes (List Packet)). ps.replies) serves.came.received)
+
+  -- on its own lane one packet came at most
+  pub one_reply : (old new : Peer L) (log logged : ReplyLog) (tally tally' : ℕ) (tried : Tried) → TriesReply traffic end old new log logged tally tally' tried
+      → length (traffic new.link).received.replies ≤ 1 + length (traffic old.link).received.replies
+  one_reply old new log logged tally tally' tried (inl none) =
+      let e = ap (λ (ps : Lanes (List Packet)). length ps.replies) none.0.came.received in omega (arith, e)
+  one_reply old new log logged tally tally' tried (inr takes) =
+      let e = ap (λ (ps : Lanes (List Packet)). length ps.replies) takes.came.received in
+      let all = length-append (traffic old.link).received.replies (takes.packet ∷ []) in
+      omega (arith, e, all)
+
+  pub one_request : (old new : Peer L) (space space' : SpaceState) (journal journal' : JournalState) (tally tally' : ℕ) (tried : Tried)
+      → TriesRequest traffic end old new space space' journal journal' tally tally' tried
+      → length (traffic new.link).received.requests ≤ 1 + length (traffic old.link).received.requests
+  one_request old new space space' journal journal' tally tally' tried (inl none) =
+      let e = ap (λ (ps : Lanes (List Packet)). length ps.requests) none.0.came.received in omega (arith, e)
+  one_request old new space space' journal journal' tally tally' tried (inr serves) =
+      let e = ap (λ (ps : Lanes (List Packet)). length ps.requests) serves.came.received in
+      let all = length-append (traffic old.link).received.requests (serves.packet ∷ []) in
+      omega (arith, e, all)
 
   module _ (shard : Shard L G) (now : NodeState L G) (k : ℕ) (old new : Peer L) (here : slice_get (node_state shard).peers k ≡ Some (peer_state old))
       (there : slice_get now.peers k ≡ Some (peer_state new)) (stands : InStanding traffic (node_state shard)) where
@@ -98,9 +125,9 @@ module _ {L G : Type 0} (traffic : L → Traffic) (end : L → LinkEnd) (holds :
     next_is = ap (λ os. slice_get os 0) standing.logged.answers ∙ get_first answered (length standing.logged.replies)
 
     pub reply_tells : (log logged : ReplyLog) (tally tally' : ℕ) (tried : Tried) → HasCursors shard old
-        → TriesReply traffic end old new log logged tally tally' tried → TriedSays (HasAside traffic holds Replies node now k) tried
+        → TriesReply traffic end old new log logged tally tally' tried → TriedSays (SetsOneAside traffic holds Replies node now k) tried
     reply_tells log logged tally tally' tried cursors (inl none) =
-        subst (λ t. TriedSays (HasAside traffic holds Replies node now k) t) (sym none.3)
+        subst (λ t. TriedSays (SetsOneAside traffic holds Replies node now k) t) (sym none.3)
         (nothing_came Replies node now k a b here there (ap (λ (ps : Lanes (List Packet)). ps.replies) none.0.came.received))
     reply_tells log logged tally tally' Nothing cursors (inr takes) = absurd takes.ends
     reply_tells log logged tally tally' (Other aside) cursors (inr takes) =
@@ -108,12 +135,12 @@ module _ {L G : Type 0} (traffic : L → Traffic) (end : L → LinkEnd) (holds :
         let rs = standing.logged.replies in (
           a,
           b,
+          takes.packet,
           here,
           there,
+          ap (λ (ps : Lanes (List Packet)). ps.replies) takes.came.received,
           (
-            takes.packet,
             rs,
-            ap (λ (ps : Lanes (List Packet)). ps.replies) takes.came.received,
             standing.logged.taken,
             subst (λ o. AnswersNot trace o takes.packet) next_is (subst (λ t. AnswersNot (trace_in t) (next_answer old) takes.packet) cursors.answers_trace e.none),
             e.aside ∙ ap (λ o. record { peer = old.shard; expected = expected_number o; found = number_in takes.packet }) next_is,
@@ -121,13 +148,14 @@ module _ {L G : Type 0} (traffic : L → Traffic) (end : L → LinkEnd) (holds :
         )
     reply_tells log logged tally tally' Expected cursors (inr takes) = λ aside has.
         let e : IsReply takes.packet old new log logged = takes.ends in
-        let is : IsAside traffic holds Replies node aside a b = aside_here Replies node now k a b aside here there has in
+        let one = one_came Replies node now k a b aside here there has in
+        let is : IsAside traffic holds Replies node old.shard (traffic old.link).received.replies one.packet aside = one.is in
         let came : (traffic new.link).received.replies ≡ (traffic old.link).received.replies ++ takes.packet ∷ [] = ap (λ (ps : Lanes (List Packet)). ps.replies) takes.came.received in
-        let same : is.0 ≡ takes.packet = (same_from_push (traffic old.link).received.replies (traffic old.link).received.replies is.0 takes.packet (sym is.2 ∙ came)).1 in
-        let many : length is.1 ≡ length standing.logged.replies = takes_as_many trace answered (traffic old.link).received.replies is.1 standing.logged.replies is.3 standing.logged.taken in
+        let same : one.packet ≡ takes.packet = (same_from_push (traffic old.link).received.replies (traffic old.link).received.replies one.packet takes.packet (sym one.came ∙ came)).1 in
+        let many : length is.0 ≡ length standing.logged.replies = takes_as_many trace answered (traffic old.link).received.replies is.0 standing.logged.replies is.1 standing.logged.taken in
         let answers : Answers trace (next_answer old) takes.packet e.reply = subst (λ t. Answers (trace_in t) (next_answer old) takes.packet e.reply) cursors.answers_trace e.answers in
-        is.4 e.reply
-        (subst (λ p. Answers trace (slice_get answered (length is.1)) p e.reply) (sym same)
+        is.2 e.reply
+        (subst (λ p. Answers trace (slice_get answered (length is.0)) p e.reply) (sym same)
         (subst (λ o. Answers trace o takes.packet e.reply) (next_is ∙ ap (slice_get answered) (sym many)) answers))
 
     -- on the lane of requests
@@ -157,26 +185,27 @@ module _ {L G : Type 0} (traffic : L → Traffic) (end : L → LinkEnd) (holds :
     said_due may = due-said asked taken (within may) ∙ ap (λ os. number_said (option_map request (slice_get os 0))) (sym standing.placed.asks)
 
     pub request_tells : (space space' : SpaceState) (journal journal' : JournalState) (tally tally' : ℕ) (tried : Tried) → MayAsk old
-        → TriesRequest traffic end old new space space' journal journal' tally tally' tried → TriedSays (HasAside traffic holds Requests node now k) tried
+        → TriesRequest traffic end old new space space' journal journal' tally tally' tried → TriedSays (SetsOneAside traffic holds Requests node now k) tried
     request_tells space space' journal journal' tally tally' tried may (inl none) =
-        subst (λ t. TriedSays (HasAside traffic holds Requests node now k) t) (sym none.4)
+        subst (λ t. TriedSays (SetsOneAside traffic holds Requests node now k) t) (sym none.4)
         (nothing_came Requests node now k a b here there (ap (λ (ps : Lanes (List Packet)). ps.requests) none.0.came.received))
     request_tells space space' journal journal' tally tally' Nothing may (inr serves) = absurd serves.ends
     request_tells space space' journal journal' tally tally' (Other aside) may (inr serves) =
         let e : IsNoRequest serves.packet old new space space' journal journal' aside = serves.ends in (
           a,
           b,
+          serves.packet,
           here,
           there,
+          ap (λ (ps : Lanes (List Packet)). ps.requests) serves.came.received,
           (
-            serves.packet,
-            ap (λ (ps : Lanes (List Packet)). ps.requests) serves.came.received,
             is_due may serves.packet ∙ e.other,
             e.aside ∙ ap (λ n. record { peer = old.shard; expected = n; found = number_in serves.packet }) (sym (said_due may)),
           ),
         )
     request_tells space space' journal journal' tally tally' Expected may (inr serves) = λ aside has.
-        let is : IsAside traffic holds Requests node aside a b = aside_here Requests node now k a b aside here there has in
+        let one = one_came Requests node now k a b aside here there has in
+        let is : IsAside traffic holds Requests node old.shard (traffic old.link).received.requests one.packet aside = one.is in
         let came : (traffic new.link).received.requests ≡ (traffic old.link).received.requests ++ serves.packet ∷ [] = ap (λ (ps : Lanes (List Packet)). ps.requests) serves.came.received in
-        let same : is.0 ≡ serves.packet = (same_from_push (traffic old.link).received.requests (traffic old.link).received.requests is.0 serves.packet (sym is.1 ∙ came)).1 in
-        true≢false (sym (is_due may serves.packet ∙ serves.ends.0) ∙ (ap (is_next dues taken) (sym same) ∙ is.2))
+        let same : one.packet ≡ serves.packet = (same_from_push (traffic old.link).received.requests (traffic old.link).received.requests one.packet serves.packet (sym one.came ∙ came)).1 in
+        true≢false (sym (is_due may serves.packet ∙ serves.ends.0) ∙ (ap (is_next dues taken) (sym same) ∙ is.0))

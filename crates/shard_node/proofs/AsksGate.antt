@@ -141,6 +141,7 @@ module _ {L G : Type 0} (traffic : L → Traffic) (holds : G → ℕ) (shard : S
     own = λ none. back;
     all = λ all. all;
     idle = λ stands same has. has;
+    space = λ same. refl;
   }
 
   -- no own part is left
@@ -173,6 +174,7 @@ module _ {L G : Type 0} (traffic : L → Traffic) (holds : G → ℕ) (shard : S
     );
     all = λ all. all;
     idle = λ stands back has. has;
+    space = λ same. refl;
   })
 
   -- a request was made, and met a full lane
@@ -200,6 +202,7 @@ module _ {L G : Type 0} (traffic : L → Traffic) (holds : G → ℕ) (shard : S
             subst (λ (s : SpaceState). HasIdle s.lent ReplyShare) space
             (tickets (standing stands) (ap (λ (s : SpaceState). s.backs) (sym held.space) ∙ (back ∙ ap (λ (s : SpaceState). s.backs) (sym space)))
             (subst (λ (s : SpaceState). HasIdle s.lent ReplyShare) held.space has));
+        space = λ same. absurd (none_some asked.request waiting (sym held.request ∙ (same ∙ idle)) waits);
       }
 
 -- a request waited, and met a full lane
@@ -215,4 +218,5 @@ module _ {L G : Type 0} (traffic : L → Traffic) (holds : G → ℕ) (shard sen
     own = λ none. absurd (none_some shard.request waiting (sym held.request ∙ none) is);
     all = λ all. absurd (none_some shard.request waiting all.1 is);
     idle = λ stands back has. subst (λ (s : SpaceState). HasIdle s.lent ReplyShare) held.space has;
+    space = λ same. held.space;
   }

@@ -10,6 +10,7 @@ use Rattle.cache_model.specs.OwnParts.{issued_parts}
 use Rattle.foreign_list.specs.Blocks.{Block}
 use Rattle.shard_memory.specs.Tickets.{HasIdle, Tickets}
 use Rattle.shard_memory.specs.declared.share.Share.TheVariants.{Request as RequestShare, Reply as ReplyShare}
+use Rattle.reclaim.specs.Lending.{LooksOnce}
 use Rattle.reclaim.specs.Spaces.{SpaceState}
 use Rattle.layout.specs.Counts.{Rose}
 use Rattle.shard_rings.specs.Lanes.{Lanes, on}
@@ -93,6 +94,7 @@ module _ {L G : Type 0} (traffic : L → Traffic) (holds : G → ℕ) where
   pub record MovedNone (a b c d e f g h : NodeState L G) : Type 0 where
     pub home : Goes traffic a b
     pub same : b ≡ record a { space = b.space }
+    pub looked : LooksOnce a.space b.space
     pub released : Goes traffic b c
     pub raced : RacesAll traffic holds b c
     pub replied : Goes traffic c d
@@ -362,4 +364,9 @@ module _ {L G : Type 0} (traffic : L → Traffic) (holds : G → ℕ) where
       own = λ none. back-by holds a.trace f.trace a.shards f.shards a.shard f.shard a.begun f.begun a.gate f.gate h.gate g.gate h.space.lent g.space.lent
           x.task.trace x.task.shards x.task.shard begun-f gate-f (sym (x.tells quiet_gh).gate) (ap (λ (s : SpaceState). s.lent) (sym (x.tells quiet_gh).space))
           (x.goes.own (sym (x.tells quiet_gh).request ∙ none));
+      looked = λ same.
+          let last = x.tells quiet_gh in
+          let space = last.space ∙ (x.goes.space (sym last.request ∙ (same ∙ sym request-f))
+          ∙ ((x.serves quiet_ef).space ∙ ((x.takes quiet_de).space ∙ ((x.replies quiet_cd).space ∙ x.raced.space)))) in
+          subst (λ (s : SpaceState). LooksOnce a.space s) (sym space) x.looked;
     }

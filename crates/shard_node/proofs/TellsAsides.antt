@@ -1,7 +1,8 @@
 -- Packets that were set aside: what is told of them as steps come before and behind.
-use Rattle.std.proofs.Common.{◌≡◌, ◌≢◌, ℕ, suc, ◌<◌, ◌≤◌, List, [], ◌∷◌, ◌++◌, length, drop, get_or, slice_get, Option, Some, None, inl, inr, arith, refl, sym, ap, subst, ◌∙◌, false}
+use Rattle.std.proofs.Common.{◌≡◌, ◌≢◌, ℕ, suc, ◌+◌, ◌<◌, ◌≤◌, List, [], ◌∷◌, ◌++◌, length, drop, get_or, slice_get, Option, Some, None, inl, inr, arith, refl, sym, ap, subst, ◌∙◌, false}
 use Rattle.std.proofs.lemmas.Bool.{cases_order}
-use Rattle.std.proofs.lemmas.List.{length-append}
+use Rattle.std.proofs.lemmas.List.{append-nil, length-append, nil_from_length}
+use Rattle.std.proofs.lemmas.Option.{get_or_from_slice_get, slice_get-get_or}
 use Rattle.trace_text.specs.Operation.{Operation}
 use Rattle.trace_text.specs.Trace.{Trace}
 use Rattle.cache_model.specs.Apply.{Reply}
@@ -14,8 +15,8 @@ use Rattle.shard_node.specs.declared.aside.Tried.{Tried}
 use Rattle.shard_node.specs.declared.aside.Tried.TheVariants.{Nothing, Expected, Other}
 use Rattle.shard_node.specs.Nodes.{NodeState, PeerState, Traffic}
 use Rattle.shard_node.specs.Due.{AnswersNot, Takes, due, is_next, number_in, operations_for, requests_taken}
-use Rattle.shard_node.specs.Turns.{HasAside, IsAside, IsSameNode, expected_number, expected_said}
-use Rattle.shard_node.specs.inside.Moves.{ReceivesNone, Tells, TellsFirst, TriedSays}
+use Rattle.shard_node.specs.Turns.{HasAside, IsAside, IsFirstOf, IsSameNode, NoneAside, NoneOf, expected_number, expected_said}
+use Rattle.shard_node.specs.inside.Moves.{ReceivesNone, ReceivesOne, SetsOneAside, Tells, TellsFirst, TriedSays}
 use Rattle.shard_node.specs.inside.Seen.{first_aside}
 use Rattle.shard_node.proofs.PeerPairs.{pair_at, pair_there, pairs_back, pairs_join, pairs_same}
 
@@ -75,27 +76,24 @@ tells_next A B at tried None (Some y) on back late says told =
       λ j less x b. told.2 j less x (back j x (λ e. omega (arith, e, less, before)) b),
     )
 
--- Where a packet was set aside, as the lists tell.
-abbrev AsideOf : Lane → Trace → ℕ → ℕ → ℕ → List Packet → List Packet → Aside → Type 0
-AsideOf Replies trace n s q before now aside = (packet : Packet) × (replies : List Reply)
-    × (now ≡ before ++ packet ∷ [])
+-- Where a packet is not the expected one, as the lists tell.
+abbrev AsideOf : Lane → Trace → ℕ → ℕ → ℕ → List Packet → Packet → Aside → Type 0
+AsideOf Replies trace n s q before packet aside = (replies : List Reply)
     × Takes trace (operations_for trace n s q) before replies
     × AnswersNot trace (slice_get (operations_for trace n s q) (length replies)) packet
     × (aside ≡ record { peer = q; expected = expected_number (slice_get (operations_for trace n s q) (length replies)); found = number_in packet })
-AsideOf Requests trace n s q before now aside = (packet : Packet)
-    × (now ≡ before ++ packet ∷ [])
-    × (is_next (due trace n q s) (requests_taken (due trace n q s) before) packet ≡ false)
+AsideOf Requests trace n s q before packet aside =
+    (is_next (due trace n q s) (requests_taken (due trace n q s) before) packet ≡ false)
     × (aside ≡ record { peer = q; expected = expected_said (slice_get (due trace n q s) (requests_taken (due trace n q s) before)); found = number_in packet })
 
-carried : (P : Trace → ℕ → ℕ → ℕ → List Packet → List Packet → Type 0) (t t' : Trace) (n n' s s' q q' : ℕ) (x x' y y' : List Packet)
-    → t' ≡ t → n' ≡ n → s' ≡ s → q' ≡ q → x' ≡ x → y' ≡ y → P t n s q x y → P t' n' s' q' x' y'
-carried P t t' n n' s s' q q' x x' y y' a b c d e f p =
-    subst (λ z. P z n' s' q' x' y') (sym a)
-    (subst (λ z. P t z s' q' x' y') (sym b)
-    (subst (λ z. P t n z q' x' y') (sym c)
-    (subst (λ z. P t n s z x' y') (sym d)
-    (subst (λ (z : List Packet). P t n s q z y') (sym e)
-    (subst (λ (z : List Packet). P t n s q x z) (sym f) p)))))
+carried : (P : Trace → ℕ → ℕ → ℕ → List Packet → Type 0) (t t' : Trace) (n n' s s' q q' : ℕ) (x x' : List Packet)
+    → t' ≡ t → n' ≡ n → s' ≡ s → q' ≡ q → x' ≡ x → P t n s q x → P t' n' s' q' x'
+carried P t t' n n' s s' q q' x x' a b c d e p =
+    subst (λ z. P z n' s' q' x') (sym a)
+    (subst (λ z. P t z s' q' x') (sym b)
+    (subst (λ z. P t n z q' x') (sym c)
+    (subst (λ z. P t n s z x') (sym d)
+    (subst (λ (z : List Packet). P t n s q z) (sym e) p))))
 
 module _ {L G : Type 0} (traffic : L → Traffic) (holds : G → ℕ) where
   -- the trace, the number of shards and the shard of a node are those of another
@@ -110,23 +108,18 @@ module _ {L G : Type 0} (traffic : L → Traffic) (holds : G → ℕ) where
   pub task_back : (old new : NodeState L G) → SameTask old new → SameTask new old
   task_back old new same = record { trace = sym same.trace; shards = sym same.shards; shard = sym same.shard }
 
-  pub aside_so : (lane : Lane) (node other : NodeState L G) (a b c d : PeerState L) (aside : Aside) → SameTask node other → c.shard ≡ a.shard
-      → on lane (traffic c.link).received ≡ on lane (traffic a.link).received → on lane (traffic d.link).received ≡ on lane (traffic b.link).received
-      → IsAside traffic holds lane node aside a b → IsAside traffic holds lane other aside c d
-  aside_so Replies node other a b c d aside same number before now is =
-      carried (λ t n s q x y. AsideOf Replies t n s q x y aside) node.trace other.trace node.shards other.shards node.shard other.shard a.shard c.shard
-      (traffic a.link).received.replies (traffic c.link).received.replies (traffic b.link).received.replies (traffic d.link).received.replies
-      same.trace same.shards same.shard number before now is
-  aside_so Requests node other a b c d aside same number before now is =
-      carried (λ t n s q x y. AsideOf Requests t n s q x y aside) node.trace other.trace node.shards other.shards node.shard other.shard a.shard c.shard
-      (traffic a.link).received.requests (traffic c.link).received.requests (traffic b.link).received.requests (traffic d.link).received.requests
-      same.trace same.shards same.shard number before now is
+  aside_so : (lane : Lane) (node other : NodeState L G) (q q' : ℕ) (before before' : List Packet) (packet : Packet) (aside : Aside) → SameTask node other
+      → q' ≡ q → before' ≡ before → IsAside traffic holds lane node q before packet aside → IsAside traffic holds lane other q' before' packet aside
+  aside_so Replies node other q q' before before' packet aside same number came is =
+      carried (λ t n s q x. AsideOf Replies t n s q x packet aside) node.trace other.trace node.shards other.shards node.shard other.shard q q' before before'
+      same.trace same.shards same.shard number came is
+  aside_so Requests node other q q' before before' packet aside same number came is =
+      carried (λ t n s q x. AsideOf Requests t n s q x packet aside) node.trace other.trace node.shards other.shards node.shard other.shard q q' before before'
+      same.trace same.shards same.shard number came is
 
-  -- nothing was set aside where nothing was received
-  pub no_aside : (lane : Lane) (node : NodeState L G) (a b : PeerState L) (aside : Aside)
-      → on lane (traffic b.link).received ≡ on lane (traffic a.link).received → IsAside traffic holds lane node aside a b → ⊥
-  no_aside Replies node a b aside same is = one-more (traffic a.link).received.replies is.0 (sym same ∙ is.2)
-  no_aside Requests node a b aside same is = one-more (traffic a.link).received.requests is.0 (sym same ∙ is.1)
+  -- what came on the lane of a peer
+  abbrev came_of : Lane → PeerState L → List Packet
+  came_of lane p = on lane (traffic p.link).received
 
   pub none_here : (lane : Lane) (node : NodeState L G) → ReceivesNone traffic lane node node
   none_here lane node = pairs_same _ node.peers (λ k a. (refl, refl))
@@ -137,54 +130,179 @@ module _ {L G : Type 0} (traffic : L → Traffic) (holds : G → ℕ) where
   pub came_back : (lane : Lane) (old new : NodeState L G) → ReceivesNone traffic lane old new → ReceivesNone traffic lane new old
   came_back lane old new none = pairs_back _ _ old.peers new.peers (λ k a b same. (sym same.0, sym same.1)) none
 
+  pub none_then_one : (lane : Lane) (a b c : NodeState L G) → ReceivesNone traffic lane a b → ReceivesOne traffic lane b c → ReceivesOne traffic lane a c
+  none_then_one lane a b c first second =
+      pairs_join _ _ _ a.peers b.peers c.peers (λ k x y z none one. let e = ap length none.1 in omega (arith, one, e)) first second
+
+  pub one_then_none : (lane : Lane) (a b c : NodeState L G) → ReceivesOne traffic lane a b → ReceivesNone traffic lane b c → ReceivesOne traffic lane a c
+  one_then_none lane a b c first second =
+      pairs_join _ _ _ a.peers b.peers c.peers (λ k x y z one none. let e = ap length none.1 in omega (arith, one, e)) first second
+
   -- what was set aside between two nodes was set aside between two others, where between these nothing came
   pub aside_between : (lane : Lane) (old new before after : NodeState L G) (k : ℕ) (aside : Aside) → SameTask old before
-      → ReceivesNone traffic lane old before → ReceivesNone traffic lane new after → HasAside traffic holds lane old new k aside → HasAside traffic holds lane before after k aside
+      → ReceivesNone traffic lane old before → ReceivesNone traffic lane new after
+      → SetsOneAside traffic holds lane old new k aside → SetsOneAside traffic holds lane before after k aside
   aside_between lane old new before after k aside task first last has =
       let a = has.0 in
       let b = has.1 in
       let c = get_or before.peers k a in
       let d = get_or after.peers k b in
-      let here = pair_there _ old.peers before.peers k a first has.2 in
-      let there = pair_there _ new.peers after.peers k b last has.3 in
-      let one = pair_at _ old.peers before.peers k a c first has.2 here in
-      let two = pair_at _ new.peers after.peers k b d last has.3 there in
-      (c, d, here, there, aside_so lane old before a b c d aside task one.0 one.1 two.1 has.4)
+      let here = pair_there _ old.peers before.peers k a first has.3 in
+      let there = pair_there _ new.peers after.peers k b last has.4 in
+      let one = pair_at _ old.peers before.peers k a c first has.3 here in
+      let two = pair_at _ new.peers after.peers k b d last has.4 there in (
+        c,
+        d,
+        has.2,
+        here,
+        there,
+        two.1 ∙ (has.5 ∙ ap (λ (xs : List Packet). xs ++ has.2 ∷ []) (sym one.1)),
+        aside_so lane old before a.shard c.shard (came_of lane a) (came_of lane c) has.2 aside task one.0 one.1 has.6,
+      )
 
   pub told_between : (lane : Lane) (old new before after : NodeState L G) (was now : Option Aside) → SameTask old before
       → ReceivesNone traffic lane old before → ReceivesNone traffic lane new after
-      → Tells (HasAside traffic holds lane old new) was now → Tells (HasAside traffic holds lane before after) was now
+      → Tells (SetsOneAside traffic holds lane old new) was now → Tells (SetsOneAside traffic holds lane before after) was now
   told_between lane old new before after was now task first last told =
-      tells_so (HasAside traffic holds lane old new) (HasAside traffic holds lane before after) was now
+      tells_so (SetsOneAside traffic holds lane old new) (SetsOneAside traffic holds lane before after) was now
       (λ k x. aside_between lane old new before after k x task first last)
       (λ k x. aside_between lane before after old new k x (task_back old before task) (came_back lane old before first) (came_back lane new after last)) told
 
+  -- On a lane on which at most one packet came of each peer in a turn.
+  module _ (lane : Lane) (old new : NodeState L G) (most : ReceivesOne traffic lane old new) where
+    -- a packet that is told is the one that came
+    only_one : (k m : ℕ) (aside : Aside) → HasAside traffic holds lane old new k m aside → (m ≡ 0) × SetsOneAside traffic holds lane old new k aside
+    only_one k m aside has =
+        let a = has.0 in
+        let b = has.1 in
+        let before = has.2 in
+        let behind = has.3 in
+        let packet = has.4 in
+        let few : length (came_of lane b) ≤ 1 + length (came_of lane a) = pair_at _ old.peers new.peers k a b most has.5 has.6 in
+        let many : length before ≡ m = has.7 in
+        let all : length (came_of lane b) ≡ length (came_of lane a ++ before ++ packet ∷ behind) = ap length has.8 in
+        let each = length-append (came_of lane a ++ before) (packet ∷ behind) in
+        let fresh = length-append (came_of lane a) before in
+        let no-before : before ≡ [] = nil_from_length before (omega (arith, few, all, each, fresh)) in
+        let no-behind : behind ≡ [] = nil_from_length behind (omega (arith, few, all, each, fresh)) in
+        let was : came_of lane a ++ before ≡ came_of lane a = ap (λ (xs : List Packet). came_of lane a ++ xs) no-before ∙ append-nil (came_of lane a) in (
+          omega (arith, many, few, all, each, fresh),
+          (
+            a,
+            b,
+            packet,
+            has.5,
+            has.6,
+            has.8 ∙ (ap (λ (xs : List Packet). xs ++ packet ∷ behind) was ∙ ap (λ (xs : List Packet). came_of lane a ++ packet ∷ xs) no-behind),
+            subst (λ (xs : List Packet). IsAside traffic holds lane old a.shard xs packet aside) was has.9,
+          ),
+        )
+
+    the_one : (k : ℕ) (aside : Aside) → SetsOneAside traffic holds lane old new k aside → HasAside traffic holds lane old new k 0 aside
+    the_one k aside has = (
+      has.0,
+      has.1,
+      [],
+      [],
+      has.2,
+      has.3,
+      has.4,
+      refl,
+      has.5 ∙ ap (λ (xs : List Packet). xs ++ has.2 ∷ []) (sym (append-nil (came_of lane has.0))),
+      subst (λ (xs : List Packet). IsAside traffic holds lane old has.0.shard xs has.2 aside) (sym (append-nil (came_of lane has.0))) has.6,
+    )
+
+    pub none_of : ((k : ℕ) (aside : Aside) → SetsOneAside traffic holds lane old new k aside → ⊥) → NoneOf traffic holds lane old new
+    none_of none k m aside has = none k aside (only_one k m aside has).1
+
+    pub first_of : (k : ℕ) (aside : Aside) → SetsOneAside traffic holds lane old new k aside
+        → ((j : ℕ) → j < k → (other : Aside) → SetsOneAside traffic holds lane old new j other → ⊥) → IsFirstOf traffic holds lane old new aside
+    first_of k aside has none = (
+      k,
+      0,
+      the_one k aside has,
+      λ j i before other told. let only = only_one j i other told in elim before [
+        | inl less ↦ none j less other only.1
+        | inr same ↦ absurd (omega (arith, same))
+      ],
+    )
+
+  on_both : (old new : NodeState L G) → NoneOf traffic holds Replies old new → NoneOf traffic holds Requests old new → NoneAside traffic holds old new
+  on_both old new replies requests Replies = replies
+  on_both old new replies requests Requests = requests
+
   -- the lanes of replies, and then the lanes of requests
-  pub told_first : (old new : NodeState L G) (then last : Option Aside) → Tells (HasAside traffic holds Replies old new) None then
-      → Tells (HasAside traffic holds Requests old new) then last → TellsFirst traffic holds last old new
-  told_first old new (Some y) last replies requests = subst (λ s. TellsFirst traffic holds s old new) (sym requests) (inl (replies.0, replies.1, replies.2))
-  told_first old new None None replies requests = λ k. (replies k, requests k)
-  told_first old new None (Some y) replies requests = inr (requests.0, requests.1, requests.2, replies)
+  pub told_first : (old new : NodeState L G) (then last : Option Aside) → ReceivesOne traffic Replies old new → ReceivesOne traffic Requests old new
+      → Tells (SetsOneAside traffic holds Replies old new) None then → Tells (SetsOneAside traffic holds Requests old new) then last → TellsFirst traffic holds last old new
+  told_first old new (Some y) last one two replies requests =
+      subst (λ s. TellsFirst traffic holds s old new) (sym requests) (inl (first_of Replies old new one replies.0 y replies.1 replies.2))
+  told_first old new None None one two replies requests = on_both old new (none_of Replies old new one replies) (none_of Requests old new two requests)
+  told_first old new None (Some y) one two replies requests =
+      inr (first_of Requests old new two requests.0 y requests.1 requests.2, none_of Replies old new one replies)
 
   -- A pass over the peers: at its start, and one place more.
-  pub told_start : (lane : Lane) (node : NodeState L G) (told : Option Aside) → Tells (HasAside traffic holds lane node node) told told
+  pub told_start : (lane : Lane) (node : NodeState L G) (told : Option Aside) → Tells (SetsOneAside traffic holds lane node node) told told
   told_start lane node (Some aside) = refl
   told_start lane node None = λ k x has.
-      let same : Some has.1 ≡ Some has.0 = sym has.3 ∙ has.2 in
-      no_aside lane node has.0 has.1 x (ap (λ (p : PeerState L). on lane (traffic p.link).received) (same_some has.1 has.0 same)) has.4
+      let same : Some has.1 ≡ Some has.0 = sym has.4 ∙ has.3 in
+      one-more (came_of lane has.0) has.2 (sym (ap (λ (p : PeerState L). came_of lane p) (same_some has.1 has.0 same)) ∙ has.5)
 
   pub told_next : (lane : Lane) (first old new : NodeState L G) (at : ℕ) (tried : Tried) (was now : Option Aside) → SameTask first old
       → ((k : ℕ) → k ≢ at → slice_get new.peers k ≡ slice_get old.peers k) → ((k : ℕ) → at ≤ k → slice_get old.peers k ≡ slice_get first.peers k)
-      → TriedSays (HasAside traffic holds lane old new at) tried → Tells (HasAside traffic holds lane first old) was now
-      → Tells (HasAside traffic holds lane first new) was (first_aside now tried)
+      → TriedSays (SetsOneAside traffic holds lane old new at) tried → Tells (SetsOneAside traffic holds lane first old) was now
+      → Tells (SetsOneAside traffic holds lane first new) was (first_aside now tried)
   told_next lane first old new at tried was now task others later says told =
-      tells_next (HasAside traffic holds lane first old) (HasAside traffic holds lane first new) at tried was now
-      (λ j x apart has. (has.0, has.1, has.2, others j apart ∙ has.3, has.4))
-      (λ j x apart has. (has.0, has.1, has.2, sym (others j apart) ∙ has.3, has.4))
+      tells_next (SetsOneAside traffic holds lane first old) (SetsOneAside traffic holds lane first new) at tried was now
+      (λ j x apart has. (has.0, has.1, has.2, has.3, others j apart ∙ has.4, has.5, has.6))
+      (λ j x apart has. (has.0, has.1, has.2, has.3, sym (others j apart) ∙ has.4, has.5, has.6))
       (λ j x behind has.
-      let same : Some has.1 ≡ Some has.0 = sym has.3 ∙ (later j behind ∙ has.2) in
-      no_aside lane first has.0 has.1 x (ap (λ (p : PeerState L). on lane (traffic p.link).received) (same_some has.1 has.0 same)) has.4)
-      (tried_so (HasAside traffic holds lane old new at) (HasAside traffic holds lane first new at) tried
-      (λ x has. (has.0, has.1, sym (later at (omega arith)) ∙ has.2, has.3, aside_so lane old first has.0 has.1 has.0 has.1 x (task_back first old task) refl refl refl has.4))
-      (λ x has. (has.0, has.1, later at (omega arith) ∙ has.2, has.3, aside_so lane first old has.0 has.1 has.0 has.1 x task refl refl refl has.4)) says)
+      let same : Some has.1 ≡ Some has.0 = sym has.4 ∙ (later j behind ∙ has.3) in
+      one-more (came_of lane has.0) has.2 (sym (ap (λ (p : PeerState L). came_of lane p) (same_some has.1 has.0 same)) ∙ has.5))
+      (tried_so (SetsOneAside traffic holds lane old new at) (SetsOneAside traffic holds lane first new at) tried
+      (λ x has. (
+        has.0,
+        has.1,
+        has.2,
+        sym (later at (omega arith)) ∙ has.3,
+        has.4,
+        has.5,
+        aside_so lane old first has.0.shard has.0.shard (came_of lane has.0) (came_of lane has.0) has.2 x (task_back first old task) refl refl has.6,
+      ))
+      (λ x has. (
+        has.0,
+        has.1,
+        has.2,
+        later at (omega arith) ∙ has.3,
+        has.4,
+        has.5,
+        aside_so lane first old has.0.shard has.0.shard (came_of lane has.0) (came_of lane has.0) has.2 x task refl refl has.6,
+      )) says)
       told
+
+  pub one_here : (lane : Lane) (node : NodeState L G) → ReceivesOne traffic lane node node
+  one_here lane node = pairs_same _ node.peers (λ k a. omega arith)
+
+  pub one_next : (lane : Lane) (first old new : NodeState L G) (at : ℕ)
+      → ((k : ℕ) → k ≢ at → slice_get new.peers k ≡ slice_get old.peers k) → ((k : ℕ) → at ≤ k → slice_get old.peers k ≡ slice_get first.peers k)
+      → ReceivesOne traffic lane first old → ReceivesOne traffic lane old new → ReceivesOne traffic lane first new
+  one_next lane first old new at others later before step = record {
+    long = step.long ∙ before.long;
+    each = λ k d below.
+        let long = before.long in
+        let inside : k < length old.peers = omega (arith, below, long) in
+        let x = get_or first.peers k d in
+        let y = get_or old.peers k d in
+        let z = get_or new.peers k d in
+        let apart : k ≢ at → length (came_of lane z) ≤ 1 + length (came_of lane x) = (λ other.
+        let same : z ≡ y = get_or_from_slice_get new.peers k y d (others k other ∙ slice_get-get_or old.peers k d inside) in
+        let few = before.each k d below in
+        subst (λ (p : PeerState L). length (came_of lane p) ≤ 1 + length (came_of lane x)) (sym same) few) in
+        elim (cases_order k at) [
+          | inl is ↦
+              let same : y ≡ x = get_or_from_slice_get old.peers k x d (later k (omega (arith, is)) ∙ slice_get-get_or first.peers k d below) in
+              let few = step.each k d inside in
+              subst (λ (p : PeerState L). length (came_of lane z) ≤ 1 + length (came_of lane p)) same few
+          | inr (inl less) ↦ apart (λ e. omega (arith, e, less))
+          | inr (inr more) ↦ apart (λ e. omega (arith, e, more))
+        ];
+  }

@@ -5,7 +5,7 @@ use Rattle.shard_rings.specs.declared.link.Lane.TheVariants.{Requests, Replies}
 use Rattle.shard_node.specs.declared.aside.Aside.{Aside}
 use Rattle.shard_node.specs.declared.turn.Turn.TheVariants.{Done}
 use Rattle.shard_node.specs.Nodes.{NodeState, Traffic}
-use Rattle.shard_node.specs.Turns.{HasAside, HasCause, IsAnswer, IsDone, IsIdle}
+use Rattle.shard_node.specs.Turns.{HasAside, HasCause, IsAnswer, IsDone, IsFirstOf, IsIdle, NoneOf}
 use Rattle.shard_node.specs.inside.Moves.{TellsFirst}
 use Rattle.shard_node.specs.inside.Seen.{answer_of}
 
@@ -16,29 +16,32 @@ never_done None false e = cc
 
 module _ {L G : Type 0} (traffic : L → Traffic) (holds : G → ℕ) where
   -- the count of turns is not read
-  between : (lane : Lane) (old : NodeState L G) (turns : ℕ) (new : NodeState L G) (k : ℕ) (aside : Aside)
-      → HasAside traffic holds lane (record old { turns = turns }) new k aside → HasAside traffic holds lane old new k aside
-  between Replies old turns new k aside has = has
-  between Requests old turns new k aside has = has
+  between : (lane : Lane) (old : NodeState L G) (turns : ℕ) (new : NodeState L G) (k m : ℕ) (aside : Aside)
+      → HasAside traffic holds lane (record old { turns = turns }) new k m aside → HasAside traffic holds lane old new k m aside
+  between Replies old turns new k m aside has = has
+  between Requests old turns new k m aside has = has
 
-  between-back : (lane : Lane) (old : NodeState L G) (turns : ℕ) (new : NodeState L G) (k : ℕ) (aside : Aside)
-      → HasAside traffic holds lane old new k aside → HasAside traffic holds lane (record old { turns = turns }) new k aside
-  between-back Replies old turns new k aside has = has
-  between-back Requests old turns new k aside has = has
+  between-back : (lane : Lane) (old : NodeState L G) (turns : ℕ) (new : NodeState L G) (k m : ℕ) (aside : Aside)
+      → HasAside traffic holds lane old new k m aside → HasAside traffic holds lane (record old { turns = turns }) new k m aside
+  between-back Replies old turns new k m aside has = has
+  between-back Requests old turns new k m aside has = has
+
+  none_so : (lane : Lane) (old : NodeState L G) (turns : ℕ) (new : NodeState L G) → NoneOf traffic holds lane (record old { turns = turns }) new → NoneOf traffic holds lane old new
+  none_so lane old turns new none = λ k m aside has. none k m aside (between-back lane old turns new k m aside has)
+
+  first_so : (lane : Lane) (aside : Aside) (old : NodeState L G) (turns : ℕ) (new : NodeState L G)
+      → IsFirstOf traffic holds lane (record old { turns = turns }) new aside → IsFirstOf traffic holds lane old new aside
+  first_so lane aside old turns new first = (
+    first.0,
+    first.1,
+    between lane old turns new first.0 first.1 aside first.2,
+    λ j i before other has. first.3 j i before other (between-back lane old turns new j i other has),
+  )
 
   turns_aside : (aside : Option Aside) (old : NodeState L G) (turns : ℕ) (new : NodeState L G) → TellsFirst traffic holds aside (record old { turns = turns }) new → TellsFirst traffic holds aside old new
-  turns_aside None old turns new none = λ k. (
-    λ aside has. (none k).0 aside (between-back Replies old turns new k aside has),
-    λ aside has. (none k).1 aside (between-back Requests old turns new k aside has),
-  )
-  turns_aside (Some aside) old turns new (inl first) =
-      inl (first.0, between Replies old turns new first.0 aside first.1, λ j less other has. first.2 j less other (between-back Replies old turns new j other has))
-  turns_aside (Some aside) old turns new (inr first) = inr (
-    first.0,
-    between Requests old turns new first.0 aside first.1,
-    λ j less other has. first.2 j less other (between-back Requests old turns new j other has),
-    λ j other has. first.3 j other (between-back Replies old turns new j other has),
-  )
+  turns_aside None old turns new none = λ lane. none_so lane old turns new (none lane)
+  turns_aside (Some aside) old turns new (inl first) = inl (first_so Replies aside old turns new first)
+  turns_aside (Some aside) old turns new (inr first) = inr (first_so Requests aside old turns new first.0, none_so Replies old turns new first.1)
 
   held_so : (old : NodeState L G) (turns : ℕ) (new : NodeState L G) → IsIdle traffic holds (record old { turns = turns }) new → IsIdle traffic holds old new
   held_so old turns new idle = record {
@@ -53,6 +56,7 @@ module _ {L G : Type 0} (traffic : L → Traffic) (holds : G → ℕ) where
     };
     request = idle.request;
     own = idle.own;
+    looked = idle.looked;
   }
 
   -- the answer, where the node is not done

@@ -9,6 +9,7 @@ use Rattle.foreign_list.specs.Blocks.{Block}
 use Rattle.shard_memory.specs.Tickets.{HasIdle, tickets_out}
 use Rattle.shard_memory.specs.declared.share.Share.TheVariants.{Request, Reply as ReplyShare}
 use Rattle.layout.specs.Counts.{Rose}
+use Rattle.reclaim.specs.Lending.{LooksOnce}
 use Rattle.shard_rings.specs.Lanes.{on}
 use Rattle.shard_rings.specs.declared.link.Lane.{Lane}
 use Rattle.shard_rings.specs.declared.link.Lane.TheVariants.{Requests, Replies}
@@ -59,36 +60,45 @@ module _ {L G : Type 0} (traffic : L → Traffic) (holds : G → ℕ) where
 
   -- Stray.
 
-  abbrev pub IsAside : Lane → NodeState L G → Aside → PeerState L → PeerState L → Type 0
-  IsAside Replies node aside old new = (packet : Packet) × (replies : List Reply)
-      × ((traffic new.link).received.replies ≡ (traffic old.link).received.replies ++ packet ∷ [])
-      × Takes node.trace (operations_for node.trace node.shards node.shard old.shard) (traffic old.link).received.replies replies
-      × AnswersNot node.trace (slice_get (operations_for node.trace node.shards node.shard old.shard) (length replies)) packet
-      × (aside ≡ record { peer = old.shard; expected = expected_number (slice_get (operations_for node.trace node.shards node.shard old.shard) (length replies)); found = number_in packet })
-  IsAside Requests node aside old new = (packet : Packet)
-      × ((traffic new.link).received.requests ≡ (traffic old.link).received.requests ++ packet ∷ [])
-      × (is_next (due node.trace node.shards old.shard node.shard) (requests_taken (due node.trace node.shards old.shard node.shard) (traffic old.link).received.requests) packet ≡ false)
+  -- the packet comes from shard `peer` behind these others of the lane, and is not the one that is expected once they were gone
+  -- through in order
+  abbrev pub IsAside : Lane → NodeState L G → ℕ → List Packet → Packet → Aside → Type 0
+  IsAside Replies node peer before packet aside = (replies : List Reply)
+      × Takes node.trace (operations_for node.trace node.shards node.shard peer) before replies
+      × AnswersNot node.trace (slice_get (operations_for node.trace node.shards node.shard peer) (length replies)) packet
+      × (aside ≡ record { peer = peer; expected = expected_number (slice_get (operations_for node.trace node.shards node.shard peer) (length replies)); found = number_in packet })
+  IsAside Requests node peer before packet aside =
+      (is_next (due node.trace node.shards peer node.shard) (requests_taken (due node.trace node.shards peer node.shard) before) packet ≡ false)
       × (aside ≡ record {
-        peer = old.shard;
-        expected = expected_said (slice_get (due node.trace node.shards old.shard node.shard) (requests_taken (due node.trace node.shards old.shard node.shard) (traffic old.link).received.requests));
+        peer = peer;
+        expected = expected_said (slice_get (due node.trace node.shards peer node.shard) (requests_taken (due node.trace node.shards peer node.shard) before));
         found = number_in packet;
       })
 
-  -- the peers are served in rising order, all lanes of replies before the lanes of requests
-  abbrev pub HasAside : Lane → NodeState L G → NodeState L G → ℕ → Aside → Type 0
-  HasAside lane old new k aside = (a b : PeerState L) × (slice_get old.peers k ≡ Some a) × (slice_get new.peers k ≡ Some b) × IsAside lane old aside a b
+  -- so it is with a packet of the turn: of the peer at place k, and with m others of the turn before it on its lane
+  abbrev pub HasAside : Lane → NodeState L G → NodeState L G → ℕ → ℕ → Aside → Type 0
+  HasAside lane old new k m aside = (a b : PeerState L) × (before behind : List Packet) × (packet : Packet)
+      × (slice_get old.peers k ≡ Some a) × (slice_get new.peers k ≡ Some b) × (length before ≡ m)
+      × (on lane (traffic b.link).received ≡ on lane (traffic a.link).received ++ before ++ packet ∷ behind)
+      × IsAside lane old a.shard (on lane (traffic a.link).received ++ before) packet aside
 
-  abbrev pub HasNone : Lane → NodeState L G → NodeState L G → ℕ → Type 0
-  HasNone lane old new k = (aside : Aside) → HasAside lane old new k aside → ⊥
+  abbrev pub HasNone : Lane → NodeState L G → NodeState L G → ℕ → ℕ → Type 0
+  HasNone lane old new k m = (aside : Aside) → HasAside lane old new k m aside → ⊥
 
-  -- the first packet of the turn that was not the expected one
+  -- on the lanes of one kind the peers are served in rising order, and the packets of each in the order in which they came
+  abbrev pub IsFirstOf : Lane → NodeState L G → NodeState L G → Aside → Type 0
+  IsFirstOf lane old new aside = (k m : ℕ) × HasAside lane old new k m aside
+      × ((j i : ℕ) → (j < k) ⊎ ((j ≡ k) × (i < m)) → HasNone lane old new j i)
+
+  abbrev pub NoneOf : Lane → NodeState L G → NodeState L G → Type 0
+  NoneOf lane old new = (k m : ℕ) → HasNone lane old new k m
+
+  -- the first packet of the turn that was not the expected one: all lanes of replies come before the lanes of requests
   abbrev pub IsFirstAside : NodeState L G → NodeState L G → Aside → Type 0
-  IsFirstAside old new aside =
-      ((k : ℕ) × HasAside Replies old new k aside × ((j : ℕ) → j < k → HasNone Replies old new j))
-      ⊎ ((k : ℕ) × HasAside Requests old new k aside × ((j : ℕ) → j < k → HasNone Requests old new j) × ((j : ℕ) → HasNone Replies old new j))
+  IsFirstAside old new aside = IsFirstOf Replies old new aside ⊎ (IsFirstOf Requests old new aside × NoneOf Replies old new)
 
   abbrev pub NoneAside : NodeState L G → NodeState L G → Type 0
-  NoneAside old new = (k : ℕ) → HasNone Replies old new k × HasNone Requests old new k
+  NoneAside old new = (lane : Lane) → NoneOf lane old new
 
   -- Moved.
 
@@ -171,6 +181,9 @@ module _ {L G : Type 0} (traffic : L → Traffic) (holds : G → ℕ) where
     pub request : (waiting : Waiting) (k : ℕ) → (old.request ≡ Some waiting) ⊎ (new.request ≡ Some waiting)
         → AtPlace old.peers new.peers k (λ a b. a.shard ≡ waiting.peer → IsFull Requests a b)
     pub own : IsEmpty new.request → IsHeldBack old new
+    -- where a block was out, the list was looked at once for those that came home; for the room of a request that was made in this
+    -- turn it may have been looked at again
+    pub looked : new.request ≡ old.request → LooksOnce old.space new.space
 
   -- The answer of a turn.
   abbrev pub IsAnswer : Turn → NodeState L G → NodeState L G → Type 0

@@ -1,5 +1,6 @@
 //! A shard at work: what a node holds, and the steps of its turn.
 ghost use Rattle.std.specs.Prelude.{◌≡◌, ◌+◌, ◌<◌, ◌↔◌, length, true, false, IsTrue};
+ghost use Rattle.reclaim.specs.Lending.{LooksOnce};
 ghost use Rattle.shard_node.specs.Nodes.{traffic_by};
 ghost use Rattle.shard_rings.specs.declared.link.Lane.{Lane as AnyLane};
 ghost use Rattle.shard_node.specs.inside.Moves.{packets_of, ByeWaits, Frees, Goes, HeldUp, NonePassed, RacesAll, ReceivesNone, ReplyWaits};
@@ -60,6 +61,7 @@ impl<'f, L: Link<'f> + Drop, G: Gate + Drop> Shard<'f, L, G> {
         ensures received { (lane : AnyLane) → ReceivesNone (traffic_by L.sent L.received L.full L.empty) lane (node_state self.old) (node_state self.new) }
         ensures goes { Goes (traffic_by L.sent L.received L.full L.empty) (node_state self.old) (node_state self.new) }
         ensures same { node_state self.new ≡ record (node_state self.old) { space = (node_state self.new).space } }
+        ensures looked { LooksOnce self.old.space self.new.space }
     {
         self.space.facts();
         self.space.take_back();

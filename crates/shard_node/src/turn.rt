@@ -4,8 +4,8 @@ pub enum Turn {
     /// Something moved: a block came back, a packet was sent or received, a part was done, or a block that waited was
     /// released.
     Moved,
-    /// Nothing moved. Each lane that was tried was full or empty, each release was raced, and what the next own part waits for
-    /// is not there.
+    /// Nothing moved. No block that was lent came home, each lane that was tried was full or empty, each release was raced, and
+    /// what the next own part waits for is not there.
     Idle,
     /// All own parts are answered, all peers are done with this one, nothing waits, and all blocks are back.
     Done,

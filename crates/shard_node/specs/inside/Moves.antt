@@ -1,11 +1,13 @@
 -- What the steps of a turn do to the peers, place by place.
-use Rattle.std.specs.Prelude.{◌≡◌, ℕ, ◌+◌, ◌<◌, ◌≤◌, ◌⊎◌, false, List, length, sum_by, slice_index_or, Option, Some, None, IsSome}
+use Rattle.std.specs.Prelude.{◌≡◌, ℕ, ◌+◌, ◌<◌, ◌≤◌, ◌⊎◌, false, List, [], ◌∷◌, ◌++◌, length, sum_by, slice_index_or, Option, Some, None, IsSome}
+use Rattle.std.specs.List.{slice_get}
 use Rattle.cache_model.specs.Legal.{done}
 use Rattle.shard_memory.specs.Tickets.{HasIdle, Tickets}
 use Rattle.shard_memory.specs.declared.share.Share.TheVariants.{Reply as ReplyShare}
 use Rattle.layout.specs.Counts.{Rose}
 use Rattle.shard_rings.specs.Lanes.{NoneFell, on}
 use Rattle.shard_rings.specs.declared.link.Lane.{Lane}
+use Rattle.shard_rings.specs.declared.link.Packet.{Packet}
 use Rattle.shard_node.specs.declared.aside.Aside.{Aside}
 use Rattle.shard_node.specs.declared.aside.Tried.{Tried}
 use Rattle.shard_node.specs.declared.peer.Peer.{Peer}
@@ -13,7 +15,7 @@ use Rattle.shard_node.specs.declared.aside.Tried.TheVariants.{Nothing, Expected,
 use Rattle.shard_node.specs.Nodes.{NodeState, PeerState, Traffic}
 use Rattle.shard_node.specs.declared.waiting.Waiting.{Waiting}
 use Rattle.shard_node.specs.Standing.{InStanding}
-use Rattle.shard_node.specs.Turns.{ForSome, HasBegunAll, HasReleased, IsEmpty, IsFirstAside, IsHeldBack, NoneAside, Raced}
+use Rattle.shard_node.specs.Turns.{ForSome, HasBegunAll, HasReleased, IsAside, IsEmpty, IsFirstAside, IsHeldBack, NoneAside, Raced}
 use Rattle.shard_node.specs.inside.Releases.{CountsOn}
 
 -- two lists are as long, and so with the two elements at each place
@@ -118,6 +120,8 @@ module _ {L G : Type 0} (traffic : L → Traffic) (holds : G → ℕ) where
     pub own : IsEmpty new.request → IsHeldBack traffic holds old new
     pub all : HasBegunAll traffic holds old → HasBegunAll traffic holds new
     pub idle : InStanding traffic old → new.space.backs ≡ old.space.backs → HasIdle new.space.lent ReplyShare → HasIdle old.space.lent ReplyShare
+    -- but for the block of a request that was made, the space is as it was
+    pub space : new.request ≡ old.request → new.space ≡ old.space
 
   -- a block that waited was released, and counted
   pub record Frees (old new : NodeState L G) : Type 0 where
@@ -144,7 +148,18 @@ module _ {L G : Type 0} (traffic : L → Traffic) where
   abbrev pub ReceivesNone : Lane → NodeState L G → NodeState L G → Type 0
   ReceivesNone lane old new = Pairs (λ k a b. (b.shard ≡ a.shard) × (on lane (traffic b.link).received ≡ on lane (traffic a.link).received)) old.peers new.peers
 
+  -- at most one packet was received of each peer on the lane
+  abbrev pub ReceivesOne : Lane → NodeState L G → NodeState L G → Type 0
+  ReceivesOne lane old new = Pairs (λ k a b. length (on lane (traffic b.link).received) ≤ 1 + length (on lane (traffic a.link).received)) old.peers new.peers
+
 module _ {L G : Type 0} (traffic : L → Traffic) (holds : G → ℕ) where
+  -- one packet was received of the peer at place k, and set aside
+  abbrev pub SetsOneAside : Lane → NodeState L G → NodeState L G → ℕ → Aside → Type 0
+  SetsOneAside lane old new k aside = (a b : PeerState L) × (packet : Packet)
+      × (slice_get old.peers k ≡ Some a) × (slice_get new.peers k ≡ Some b)
+      × (on lane (traffic b.link).received ≡ on lane (traffic a.link).received ++ packet ∷ [])
+      × IsAside traffic holds lane old a.shard (on lane (traffic a.link).received) packet aside
+
   -- what a turn tells of the packets that were not expected
   abbrev pub TellsFirst : Option Aside → NodeState L G → NodeState L G → Type 0
   TellsFirst None old new = NoneAside traffic holds old new

@@ -14,8 +14,7 @@ ghost use Rattle.shard_rings.specs.declared.link.Lane.{Lane as AnyLane};
 ghost use Rattle.shard_rings.specs.declared.link.Lane.TheVariants.{Replies, Requests};
 ghost use Rattle.shard_node.specs.Due.{number_said};
 ghost use Rattle.shard_node.specs.Standing.{InStanding};
-ghost use Rattle.shard_node.specs.Turns.{HasAside};
-ghost use Rattle.shard_node.specs.inside.Moves.{packets_of, Goes, HeldUp, NonePassed, ReceivesNone, RequestLacks, Tells, TriedSays};
+ghost use Rattle.shard_node.specs.inside.Moves.{packets_of, Goes, HeldUp, NonePassed, ReceivesNone, ReceivesOne, RequestLacks, SetsOneAside, Tells, TriedSays};
 ghost use Rattle.shard_node.specs.inside.Seen.{has_come};
 ghost use Rattle.shard_node.specs.inside.Receives.{next_ask};
 ghost use Rattle.shard_node.specs.inside.Serves.{EndsRequest, MayAsk, TriesRequest, due_next};
@@ -46,12 +45,13 @@ impl<'f, L: Link<'f> + Drop, G: Gate + Drop> Shard<'f, L, G> {
         requires consistent { IsConsistent self.old }
         ensures step { IsStep (traffic_by L.sent L.received L.full L.empty) L.end self.old self.new }
         ensures replies { ReceivesNone (traffic_by L.sent L.received L.full L.empty) Replies (node_state self.old) (node_state self.new) }
+        ensures one { ReceivesOne (traffic_by L.sent L.received L.full L.empty) Requests (node_state self.old) (node_state self.new) }
         ensures goes { Goes (traffic_by L.sent L.received L.full L.empty) (node_state self.old) (node_state self.new) }
         ensures moved { IsTrue seen.new.moved ↔ (IsTrue seen.old.moved ⊎ (packets_of (traffic_by L.sent L.received L.full L.empty) (node_state self.old) < packets_of (traffic_by L.sent L.received L.full L.empty) (node_state self.new))) }
         ensures held_up { NonePassed (traffic_by L.sent L.received L.full L.empty) (node_state self.old) (node_state self.new)
             → HeldUp (traffic_by L.sent L.received L.full L.empty) (λ k. RequestLacks (traffic_by L.sent L.received L.full L.empty) (node_state self.old).space.lent) (node_state self.old) (node_state self.new) }
         ensures tells { InStanding (traffic_by L.sent L.received L.full L.empty) (node_state self.old)
-            → Tells (HasAside (traffic_by L.sent L.received L.full L.empty) G.holds Requests (node_state self.old) (node_state self.new)) seen.old.aside seen.new.aside }
+            → Tells (SetsOneAside (traffic_by L.sent L.received L.full L.empty) G.holds Requests (node_state self.old) (node_state self.new)) seen.old.aside seen.new.aside }
     {
         let mut at = 0;
         while at < self.peers.len() {
@@ -65,13 +65,14 @@ impl<'f, L: Link<'f> + Drop, G: Gate + Drop> Shard<'f, L, G> {
         requires peer { at < length self.old.peers.items }
         ensures step { IsStep (traffic_by L.sent L.received L.full L.empty) L.end self.old self.new }
         ensures replies { ReceivesNone (traffic_by L.sent L.received L.full L.empty) Replies (node_state self.old) (node_state self.new) }
+        ensures one { ReceivesOne (traffic_by L.sent L.received L.full L.empty) Requests (node_state self.old) (node_state self.new) }
         ensures goes { Goes (traffic_by L.sent L.received L.full L.empty) (node_state self.old) (node_state self.new) }
         ensures moved { IsTrue (has_come result) ↔ (packets_of (traffic_by L.sent L.received L.full L.empty) (node_state self.old) < packets_of (traffic_by L.sent L.received L.full L.empty) (node_state self.new)) }
         ensures held_up { NonePassed (traffic_by L.sent L.received L.full L.empty) (node_state self.old) (node_state self.new)
             → HeldUp (traffic_by L.sent L.received L.full L.empty) (λ k a b. k ≡ at → RequestLacks (traffic_by L.sent L.received L.full L.empty) (node_state self.old).space.lent a b) (node_state self.old) (node_state self.new) }
         ensures others { (k : ℕ) → k ≢ at → slice_get (node_state self.new).peers k ≡ slice_get (node_state self.old).peers k }
         ensures tells { InStanding (traffic_by L.sent L.received L.full L.empty) (node_state self.old)
-            → TriedSays (HasAside (traffic_by L.sent L.received L.full L.empty) G.holds Requests (node_state self.old) (node_state self.new) at) result }
+            → TriedSays (SetsOneAside (traffic_by L.sent L.received L.full L.empty) G.holds Requests (node_state self.old) (node_state self.new) at) result }
         ensures peers { length self.new.peers.items ≡ length self.old.peers.items }
     {
         match self.take_request(at) {
@@ -89,13 +90,14 @@ impl<'f, L: Link<'f> + Drop, G: Gate + Drop> Shard<'f, L, G> {
         requires peer { at < length self.old.peers.items }
         ensures step { IsStep (traffic_by L.sent L.received L.full L.empty) L.end self.old self.new }
         ensures replies { ReceivesNone (traffic_by L.sent L.received L.full L.empty) Replies (node_state self.old) (node_state self.new) }
+        ensures one { ReceivesOne (traffic_by L.sent L.received L.full L.empty) Requests (node_state self.old) (node_state self.new) }
         ensures goes { Goes (traffic_by L.sent L.received L.full L.empty) (node_state self.old) (node_state self.new) }
         ensures moved { IsTrue (has_come result) ↔ (packets_of (traffic_by L.sent L.received L.full L.empty) (node_state self.old) < packets_of (traffic_by L.sent L.received L.full L.empty) (node_state self.new)) }
         ensures held_up { NonePassed (traffic_by L.sent L.received L.full L.empty) (node_state self.old) (node_state self.new)
             → HeldUp (traffic_by L.sent L.received L.full L.empty) (λ k a b. k ≡ at → RequestLacks (traffic_by L.sent L.received L.full L.empty) (node_state self.old).space.lent a b) (node_state self.old) (node_state self.new) }
         ensures others { (k : ℕ) → k ≢ at → slice_get (node_state self.new).peers k ≡ slice_get (node_state self.old).peers k }
         ensures tells { InStanding (traffic_by L.sent L.received L.full L.empty) (node_state self.old)
-            → TriedSays (HasAside (traffic_by L.sent L.received L.full L.empty) G.holds Requests (node_state self.old) (node_state self.new) at) result }
+            → TriedSays (SetsOneAside (traffic_by L.sent L.received L.full L.empty) G.holds Requests (node_state self.old) (node_state self.new) at) result }
         ensures peers { length self.new.peers.items ≡ length self.old.peers.items }
     {
         if !self.space.is_idle(Share::Reply) || !self.peers[at].may_ask() {

@@ -3,11 +3,10 @@ use Rattle.std.proofs.Common.{inl, inr, true≢false, ◌≡◌, ◌<◌, ◌↔
 use Rattle.shard_rings.specs.declared.link.Lane.{Lane}
 use Rattle.shard_rings.specs.declared.link.Lane.TheVariants.{Replies, Requests}
 use Rattle.shard_node.specs.Nodes.{NodeState, traffic_by}
-use Rattle.shard_node.specs.Turns.{HasAside}
-use Rattle.shard_node.specs.inside.Moves.{Goes, ReceivesNone, Tells, packets_of}
+use Rattle.shard_node.specs.inside.Moves.{Goes, ReceivesNone, SetsOneAside, Tells, packets_of}
 use Rattle.shard_node.specs.inside.Shards.{node_state}
 use Rattle.shard_node.proofs.Joins.{steps_join}
-use Rattle.shard_node.proofs.TellsAsides.{none_join, task_of, task_back, told_between, told_first, came_back}
+use Rattle.shard_node.proofs.TellsAsides.{none_join, none_then_one, one_then_none, task_of, task_back, told_between, told_first, came_back}
 use Rattle.shard_node.proofs.StepGoes.{all_go}
 use Rattle.shard_node.proofs.TurnMoves.{caused, rose-other}
 use Rattle.shard_node.proofs.Frees.{not_less}
@@ -58,22 +57,29 @@ returns g c =
     record {
       step = join c.go_on.new.self h (join f c.go_on.new.self to_f c.go_on.ensures.step) c.say_byes.ensures.step;
       told = λ stands.
-          let replies : Tells (HasAside traffic holds Replies (node_state a) (node_state h)) None c.take_replies.new.seen.aside =
+          let replies : Tells (SetsOneAside traffic holds Replies (node_state a) (node_state h)) None c.take_replies.new.seen.aside =
           told_between traffic holds Replies (node_state d) (node_state e) (node_state a) (node_state h) None c.take_replies.new.seen.aside
           (task_back traffic holds (node_state a) (node_state d) (task_of traffic holds end (node_state a) (node_state d) to_d.same))
           (came_back traffic holds Replies (node_state a) (node_state d) (before Replies))
           (none Replies (node_state e) (node_state f) (node_state h) c.serve.ensures.replies (behind Replies))
-          (subst (λ was. Tells (HasAside traffic holds Replies (node_state d) (node_state e)) was c.take_replies.new.seen.aside)
+          (subst (λ was. Tells (SetsOneAside traffic holds Replies (node_state d) (node_state e)) was c.take_replies.new.seen.aside)
           (c.note-2.ensures.aside ∙ (c.note.ensures.aside ∙ c.nothing-seen.ensures.aside))
           (c.take_replies.ensures.tells (to_d.standing stands))) in
-          let requests : Tells (HasAside traffic holds Requests (node_state a) (node_state h)) c.take_replies.new.seen.aside c.serve.new.seen.aside =
+          let requests : Tells (SetsOneAside traffic holds Requests (node_state a) (node_state h)) c.take_replies.new.seen.aside c.serve.new.seen.aside =
           told_between traffic holds Requests (node_state e) (node_state f) (node_state a) (node_state h) c.take_replies.new.seen.aside c.serve.new.seen.aside
           (task_back traffic holds (node_state a) (node_state e) (task_of traffic holds end (node_state a) (node_state e) to_e.same))
           (came_back traffic holds Requests (node_state a) (node_state e) (none Requests (node_state a) (node_state d) (node_state e) (before Requests) c.take_replies.ensures.requests))
           (behind Requests)
           (c.serve.ensures.tells (to_e.standing stands)) in
-          told_first traffic holds (node_state a) (node_state h) c.take_replies.new.seen.aside _ replies
-          (subst (Tells (HasAside traffic holds Requests (node_state a) (node_state h)) c.take_replies.new.seen.aside)
+          told_first traffic holds (node_state a) (node_state h) c.take_replies.new.seen.aside _
+          (one_then_none traffic holds Replies (node_state a) (node_state e) (node_state h)
+          (none_then_one traffic holds Replies (node_state a) (node_state d) (node_state e) (before Replies) c.take_replies.ensures.one)
+          (none Replies (node_state e) (node_state f) (node_state h) c.serve.ensures.replies (behind Replies)))
+          (one_then_none traffic holds Requests (node_state a) (node_state f) (node_state h)
+          (none_then_one traffic holds Requests (node_state a) (node_state e) (node_state f)
+          (none Requests (node_state a) (node_state d) (node_state e) (before Requests) c.take_replies.ensures.requests) c.serve.ensures.one)
+          (behind Requests)) replies
+          (subst (Tells (SetsOneAside traffic holds Requests (node_state a) (node_state h)) c.take_replies.new.seen.aside)
           (sym (c.note-5.ensures.aside ∙ (c.note-4.ensures.aside ∙ c.note-3.ensures.aside))) requests);
       caused = λ stands is.
           caused traffic holds (node_state a) x y (node_state d) (node_state e) (node_state f) z (node_state h)
@@ -116,6 +122,7 @@ returns g c =
           (record {
             home = c.take_back.ensures.goes;
             same = c.take_back.ensures.same;
+            looked = c.take_back.ensures.looked;
             released = c.release_held.ensures.goes;
             raced = c.release_held.ensures.raced four.0;
             replied = c.send_replies.ensures.goes;

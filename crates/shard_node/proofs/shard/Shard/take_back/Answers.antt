@@ -21,4 +21,5 @@ returns g c =
         tally = no_more self.tally;
       };
       same = refl;
+      looked = c.take_back.ensures.looked;
     }

@@ -2,11 +2,10 @@ use Rattle.std.specs.Prelude.{◌⊎◌}
 use Rattle.std.proofs.Common.{◌<◌, ◌↔◌, IsTrue, inl, inr, arith, refl, sym, subst, ◌∙◌}
 use Rattle.shard_rings.specs.declared.link.Lane.TheVariants.{Replies, Requests}
 use Rattle.shard_node.specs.Nodes.{traffic_by}
-use Rattle.shard_node.specs.Turns.{HasAside}
-use Rattle.shard_node.specs.inside.Moves.{ReplyLacks, Tells, packets_of}
+use Rattle.shard_node.specs.inside.Moves.{ReplyLacks, SetsOneAside, Tells, packets_of}
 use Rattle.shard_node.specs.inside.Shards.{node_state}
 use Rattle.shard_node.proofs.Joins.{no_step, steps_join}
-use Rattle.shard_node.proofs.TellsAsides.{none_here, none_join, task_of, told_next, told_start}
+use Rattle.shard_node.proofs.TellsAsides.{none_here, none_join, one_here, one_next, task_of, told_next, told_start}
 use Rattle.shard_node.specs.inside.Seen.{has_come}
 use Rattle.shard_node.proofs.StepGoes.{all_go, packets_rise, stays_goes, tries_so_far}
 use Rattle.std.proofs.lemmas.List.{length-map}
@@ -21,6 +20,7 @@ loop-at-init g c =
     record {
       step = no_step traffic g.L.Link.end self c.requires.consistent;
       requests = none_here traffic g.G.Gate.holds Requests (node_state self);
+      one = one_here traffic g.G.Gate.holds Replies (node_state self);
       goes = stays_goes traffic (node_state self);
       moved = (λ is. inl is, λ so. elim so [ inl before ↦ before | inr less ↦ absurd (omega (arith, less)) ]);
       held_up = λ quiet. held_start traffic _ (node_state self) (λ k p below. absurd (omega (arith, below)));
@@ -39,6 +39,7 @@ loop-at-preserved g c =
     record {
       step = steps_join traffic g.L.Link.end first old new so_far.step c.take_reply.ensures.step;
       requests = none_join traffic g.G.Gate.holds Requests (node_state first) (node_state old) (node_state new) so_far.requests c.take_reply.ensures.requests;
+      one = one_next traffic g.G.Gate.holds Replies (node_state first) (node_state old) (node_state new) at c.take_reply.ensures.others so_far.later so_far.one c.take_reply.ensures.one;
       goes = all_go traffic (node_state first) (node_state old) (node_state new) so_far.goes c.take_reply.ensures.goes;
       moved = subst (λ m. IsTrue m ↔ (IsTrue c.args.seen.now.moved ⊎ (packets_of traffic (node_state first) < packets_of traffic (node_state new)))) (sym c.note_try.ensures.moved)
           (tries_so_far c.args.seen.now.moved c.loop-at.seen.moved (has_come c.take_reply.result) (packets_of traffic (node_state first)) (packets_of traffic (node_state old)) (packets_of traffic (node_state new))
@@ -50,7 +51,7 @@ loop-at-preserved g c =
           (so_far.held_up (omega (arith, quiet, high))) (c.take_reply.ensures.held_up (omega (arith, quiet, low)));
       later = λ k from. c.take_reply.ensures.others k (λ e. omega (arith, e, from)) ∙ so_far.later k (omega (arith, from));
       tells = λ stands.
-          subst (Tells (HasAside traffic g.G.Gate.holds Replies (node_state first) (node_state new)) c.args.seen.now.aside) (sym c.note_try.ensures.aside)
+          subst (Tells (SetsOneAside traffic g.G.Gate.holds Replies (node_state first) (node_state new)) c.args.seen.now.aside) (sym c.note_try.ensures.aside)
           (told_next traffic g.G.Gate.holds Replies (node_state first) (node_state old) (node_state new) at c.take_reply.result c.args.seen.now.aside c.loop-at.seen.aside
           (task_of traffic g.G.Gate.holds g.L.Link.end (node_state first) (node_state old) so_far.step.same)
           c.take_reply.ensures.others so_far.later (c.take_reply.ensures.tells (so_far.step.standing stands)) (so_far.tells stands));

@@ -5,7 +5,7 @@ use Rattle.shard_node.specs.Nodes.{traffic_by}
 use Rattle.shard_rings.specs.declared.link.Lane.TheVariants.{Replies}
 use Rattle.shard_node.specs.inside.Peers.{peer_state}
 use Rattle.shard_node.specs.inside.Shards.{HasCursors, node_state}
-use Rattle.shard_node.proofs.AsidesCame.{nothing_came, reply_alone, reply_tells}
+use Rattle.shard_node.proofs.AsidesCame.{nothing_came, one_reply, reply_alone, reply_tells}
 use Rattle.shard_node.proofs.PeerPairs.{one_pair, seen_there, set_elsewhere, set_seen}
 use Rattle.shard_node.proofs.TakesPackets.{stays_put, takes_reply}
 use Rattle.shard_node.proofs.TakesReplies.{next_has_room, next_unanswered}
@@ -68,6 +68,16 @@ pub returns-clause-requests : goal.returns-clause-requests
 returns-clause-requests g c =
     one_pair peer_state _ c.args.self.now.peers.items c.args.at c.index_mut-peer.result.now c.take_reply.new.self c.requires.peer (sym c.index_mut-peer.ensures.value) (λ k a apart. (refl, refl))
     (reply_alone (traffic_by g.L.Link.sent g.L.Link.received g.L.Link.full g.L.Link.empty) g.L.Link.end g.G.Gate.holds _ _ _ _ _ _ _ c.take_reply.ensures)
+
+pub returns-then-not-owes_reply-clause-one : goal.returns-then-not-owes_reply-clause-one
+returns-then-not-owes_reply-clause-one g c =
+    let old = c.index_mut-peer.result.now in
+    one_pair peer_state _ c.args.self.now.peers.items c.args.at old old c.requires.peer (sym c.index_mut-peer.ensures.value) (λ k a apart. omega arith) (omega arith)
+
+pub returns-clause-one : goal.returns-clause-one
+returns-clause-one g c =
+    one_pair peer_state _ c.args.self.now.peers.items c.args.at c.index_mut-peer.result.now c.take_reply.new.self c.requires.peer (sym c.index_mut-peer.ensures.value) (λ k a apart. omega arith)
+    (one_reply (traffic_by g.L.Link.sent g.L.Link.received g.L.Link.full g.L.Link.empty) g.L.Link.end g.G.Gate.holds _ _ _ _ _ _ _ c.take_reply.ensures)
 
 pub returns-clause-others : goal.returns-clause-others
 returns-clause-others g c k apart = set_elsewhere peer_state c.args.self.now.peers.items c.args.at c.take_reply.new.self k apart

@@ -1,7 +1,7 @@
 -- A packet of a peer is received and done.
-use Rattle.std.proofs.Common.{ap, inl, length, ◌≡◌, get_or, refl, sym, subst, ◌∙◌}
+use Rattle.std.proofs.Common.{ap, arith, inl, length, ◌≡◌, get_or, refl, sym, subst, ◌∙◌}
 use Rattle.shard_node.specs.inside.Peers.{peer_state}
-use Rattle.shard_node.proofs.AsidesCame.{request_alone, request_tells}
+use Rattle.shard_node.proofs.AsidesCame.{one_request, request_alone, request_tells}
 use Rattle.shard_node.proofs.PeerPairs.{one_pair, seen_there, set_elsewhere, set_seen}
 use Rattle.std.proofs.lemmas.List.{get_or_default}
 use Rattle.trace_text.specs.Parsed.{AreNumbered}
@@ -67,6 +67,11 @@ returns-clause-replies g c =
     let traffic = traffic_by g.L.Link.sent g.L.Link.received g.L.Link.full g.L.Link.empty in
     one_pair peer_state _ self.peers.items c.args.at old c.serve-tried.new.self c.requires.peer (sym c.index_mut.ensures.value) (λ k a apart. (refl, refl))
     (request_alone traffic g.L.Link.end g.G.Gate.holds _ _ _ _ _ _ _ _ _ c.serve-tried.ensures)
+
+pub returns-clause-one : goal.returns-clause-one
+returns-clause-one g c =
+    one_pair peer_state _ c.args.self.now.peers.items c.args.at c.index_mut.result.now c.serve-tried.new.self c.requires.peer (sym c.index_mut.ensures.value) (λ k a apart. omega arith)
+    (one_request (traffic_by g.L.Link.sent g.L.Link.received g.L.Link.full g.L.Link.empty) g.L.Link.end g.G.Gate.holds _ _ _ _ _ _ _ _ _ c.serve-tried.ensures)
 
 pub returns-clause-others : goal.returns-clause-others
 returns-clause-others g c k apart = set_elsewhere peer_state c.args.self.now.peers.items c.args.at c.serve-tried.new.self k apart
