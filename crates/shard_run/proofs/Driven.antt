@@ -10,11 +10,10 @@ use Rattle.foreign_list.specs.OwnerSeats.{IsAtRest}
 use Rattle.shard_rings.specs.Lanes.{ArePair, ArePrefixes}
 use Rattle.shard_rings.specs.Links.{LinkState, end_of}
 use Rattle.shard_rings.specs.Mesh.{Ends, IsEnd}
-use Rattle.shard_node.specs.Nodes.{NodeState, PeerState}
+use Rattle.shard_node.specs.Nodes.{NodeState, PeerState, others}
 use Rattle.shard_node.specs.Standing.{InStanding}
 use Rattle.shard_node.specs.Together.{AreTogether, IsDoneNode, IsPeer}
 use Rattle.shard_node.specs.Turns.{IsDone, IsSameNode}
-use Rattle.shard_node.specs.inside.Work.{others}
 use Rattle.shard_run.specs.Closing.{ArePaired, WereExchanged}
 use Rattle.shard_node.specs.Links.{ring_traffic}
 use Rattle.shard_run.specs.Opening.{AreAtRest, IsLinkOf, IsOpened, links_of}
@@ -54,12 +53,14 @@ module _ {G : Type 0} (holds : G → ℕ) (trace : Trace) (n pages : ℕ) (homes
         kept = d.same s old.0 node old.1 at;
       }
 
-  pub can_finish : AllCanFinish holds nodes
+  pub can_finish : AllCanFinish holds trace pages nodes
   can_finish s node at =
       let was = was_opened s node at in
       record {
         number = was.kept.shard ∙ was.as_opened.number;
         shards = was.kept.shards ∙ was.as_opened.shards ∙ sym as_many;
+        room = was.kept.pages ∙ was.as_opened.room;
+        work = was.kept.trace ∙ was.as_opened.work;
         done = all_at (IsDone ring_traffic holds) nodes s node d.done at;
       }
 

@@ -3,27 +3,29 @@ use Rattle.std.proofs.Common.{◌≡◌, ℕ, ◌+◌, ◌<◌, inl, inr, List, 
 use Rattle.std.specs.Prelude.{map}
 use Rattle.std.proofs.lemmas.List.{map-append}
 use Rattle.std.proofs.lemmas.Option.{slice_get_within}
+use Rattle.trace_text.specs.Trace.{Trace}
 use Rattle.foreign_list.specs.OwnerSeats.{OwnerState, IsAtRest}
 use Rattle.shard_rings.specs.Links.{LinkState}
 use Rattle.shard_node.specs.Nodes.{NodeState}
+use Rattle.shard_node.specs.Rans.{IsOfRun, line_of}
 use Rattle.shard_node.specs.Turns.{IsDone}
 use Rattle.shard_node.specs.Links.{ring_traffic}
 use Rattle.shard_run.specs.Opening.{links_of}
-use Rattle.shard_run.specs.Remaining.{AllCanFinish, AllHaveFacts, AreLeftBy, CanFinish, HasFacts, IsRoomFor, occupancy_in}
+use Rattle.shard_run.specs.Remaining.{AllCanFinish, AllHaveFacts, AreLeftBy, CanFinish, HasFacts, IsRoomFor}
 use Rattle.shard_run.specs.inside.Finishing.{HasFinished, Leaves}
 use Rattle.shard_run.specs.declared.remains.Remains.{Remains}
 use Rattle.shard_run.proofs.Getting.{same_thing, get_front, get_between, before_or_last, get_last}
 
-module _ {G : Type 0} where
+module _ {G : Type 0} (trace : Trace) (pages : ℕ) where
   -- the nodes before these have finished
   pub record AreFinished (nodes rest : List (NodeState LinkState G)) (now : Remains) : Type 0 where
     pub gone : List (NodeState LinkState G)
     pub split : nodes ≡ gone ++ rest
     pub facts : AllHaveFacts gone
     pub left : AreLeftBy gone now
-    pub so_far : HasFinished (length nodes) (length gone) now
+    pub so_far : HasFinished trace (length nodes) pages (length gone) now
 
-  pub none_finished : (nodes rest : List (NodeState LinkState G)) (now : Remains) → rest ≡ nodes → IsRoomFor (length nodes) now → AreFinished nodes rest now
+  pub none_finished : (nodes rest : List (NodeState LinkState G)) (now : Remains) → rest ≡ nodes → IsRoomFor trace (length nodes) pages now → AreFinished nodes rest now
   none_finished nodes rest now e room = record {
     gone = [];
     split = sym e;
@@ -31,18 +33,16 @@ module _ {G : Type 0} where
     left = record {
       journals = room.journals;
       logs = room.logs;
-      occupancies = room.occupancies;
+      lines = room.lines;
       links = ap (map (λ row. row.items)) room.links;
       one_seat_each = ap length room.seats;
       seats = λ s node seat at there. absurd (let w = slice_get_within [] s node at in omega (arith, w));
     };
     so_far = record {
-      shards = room.shards;
+      run = room.run;
       journals = ap length room.journals;
-      occupancies = ap length room.occupancies;
       links = ap length room.links;
       seats = ap length room.seats;
-      occupancy_room = room.occupancy_room;
       link_room = room.link_room;
       seat_room = room.seat_room;
     };
@@ -50,8 +50,8 @@ module _ {G : Type 0} where
 
   -- the node that comes next
   module _ (holds : G → ℕ) (nodes rest others : List (NodeState LinkState G)) (old : Remains) (node : NodeState LinkState G) (h : AreFinished nodes rest old) (e : rest ≡ node ∷ others)
-      (all : AllCanFinish holds nodes) where
-    can_finish : CanFinish holds (length nodes) (length h.gone) node
+      (all : AllCanFinish holds trace pages nodes) where
+    can_finish : CanFinish holds trace (length nodes) pages (length h.gone) node
     can_finish = all (length h.gone) node (subst (λ l. slice_get l (length h.gone) ≡ Some node) (sym (h.split ∙ ap (λ l. h.gone ++ l) e)) (get_between h.gone node others))
 
     pub next_is_done : IsDone ring_traffic holds node
@@ -64,10 +64,14 @@ module _ {G : Type 0} where
         let shards = can_finish.shards in
         omega (arith, total, number, shards)
 
-    pub next_so_far : HasFinished node.shards node.shard old
-    next_so_far = subst (λ n. HasFinished n node.shard old) (sym can_finish.shards) (subst (λ s. HasFinished (length nodes) s old) (sym can_finish.number) h.so_far)
+    pub next_so_far : HasFinished node.trace node.shards node.pages node.shard old
+    next_so_far =
+        subst (λ t. HasFinished t node.shards node.pages node.shard old) (sym can_finish.work)
+        (subst (λ p. HasFinished trace node.shards p node.shard old) (sym can_finish.room)
+        (subst (λ n. HasFinished trace n pages node.shard old) (sym can_finish.shards)
+        (subst (λ s. HasFinished trace (length nodes) pages s old) (sym can_finish.number) h.so_far)))
 
-    pub one_finished : (new : Remains) → HasFacts node → Leaves node old new → HasFinished node.shards (node.shard + 1) new → AreFinished nodes others new
+    pub one_finished : (new : Remains) → HasFacts node → Leaves node old new → HasFinished node.trace node.shards node.pages (node.shard + 1) new → AreFinished nodes others new
     one_finished new facts l room = record {
       gone = h.gone ++ node ∷ [];
       split = h.split ∙ ap (λ l. h.gone ++ l) e ∙ sym (append_assoc h.gone (node ∷ []) others);
@@ -78,13 +82,17 @@ module _ {G : Type 0} where
       left = record {
         journals = l.journals ∙ ap (λ xs. xs ++ node.journal ∷ []) h.left.journals ∙ sym (map-append (λ d. d.journal) h.gone (node ∷ []));
         logs = l.logs ∙ ap (λ xs. xs ++ node.log ∷ []) h.left.logs ∙ sym (map-append (λ d. d.log) h.gone (node ∷ []));
-        occupancies = l.occupancies ∙ ap (λ xs. xs ++ occupancy_in node.space ∷ []) h.left.occupancies ∙ sym (map-append (λ d. occupancy_in d.space) h.gone (node ∷ []));
+        lines = l.lines ∙ ap (λ xs. xs ++ line_of node.space ∷ []) h.left.lines ∙ sym (map-append (λ d. line_of d.space) h.gone (node ∷ []));
         links = ap (map (λ row. row.items)) l.links ∙ map-append (λ row. row.items) old.links.items (l.row ∷ [])
             ∙ (ap (λ xs. xs ++ l.row.items ∷ []) h.left.links ∙ (ap (λ r. map links_of h.gone ++ r ∷ []) l.row_is ∙ sym (map-append links_of h.gone (node ∷ []))));
         one_seat_each = more_seats ∙ sym (length-append h.gone (node ∷ []));
         seats = seat_at;
       };
-      so_far = subst (λ k. HasFinished (length nodes) k new) place (subst (λ n. HasFinished n (node.shard + 1) new) can_finish.shards room);
+      so_far =
+          subst (λ k. HasFinished trace (length nodes) pages k new) place
+          (subst (λ n. HasFinished trace n pages (node.shard + 1) new) can_finish.shards
+          (subst (λ p. HasFinished trace node.shards p (node.shard + 1) new) can_finish.room
+          (subst (λ t. HasFinished t node.shards node.pages (node.shard + 1) new) can_finish.work room)));
     }
       where
         place : node.shard + 1 ≡ length (h.gone ++ node ∷ [])
@@ -115,3 +123,6 @@ module _ {G : Type 0} where
 
   pub all_have_facts : (nodes rest : List (NodeState LinkState G)) (now : Remains) → AreFinished nodes rest now → rest ≡ [] → AllHaveFacts nodes
   all_have_facts nodes rest now h e = subst (λ l. AllHaveFacts l) (sym (h.split ∙ ap (λ l. h.gone ++ l) e ∙ append-nil h.gone)) h.facts
+
+  pub still_of_run : (nodes rest : List (NodeState LinkState G)) (now : Remains) → AreFinished nodes rest now → IsOfRun trace (length nodes) pages now.ran
+  still_of_run nodes rest now h = h.so_far.run

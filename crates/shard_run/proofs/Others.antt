@@ -4,7 +4,7 @@ use Rattle.std.specs.List.{filter, range_with_len}
 use Rattle.std.proofs.lemmas.Bool.{cases_eq}
 use Rattle.std.proofs.lemmas.Bool.Decides.{nat_tests}
 use Rattle.std.proofs.lemmas.Option.{slice_get_within}
-use Rattle.shard_node.specs.inside.Work.{others}
+use Rattle.shard_node.specs.Nodes.{others}
 use Rattle.shard_run.proofs.Getting.{same_thing}
 
 stays : (q s : ℕ) → q ≢ s → not (q == s) ≡ true

@@ -14,13 +14,15 @@ use Rattle.cache_model.specs.Report.{lent, occupancy}
 use Rattle.cache_model.specs.Row.{live, tight_floor}
 use Rattle.foreign_list.specs.Lists.{OwnedList}
 use Rattle.run_log.specs.JournalState.{JournalState}
+use Rattle.run_log.specs.ShardLines.{occupancies_in, occupancy_in}
 use Rattle.shard_rings.specs.Links.{LinkState}
 use Rattle.shard_node.specs.Nodes.{NodeState}
+use Rattle.shard_node.specs.Rans.{IsOfRun, line_of}
 use Rattle.shard_node.specs.Standing.{InStanding}
 use Rattle.shard_node.specs.Together.{Agree, journals_of as journals_by, logs_of as logs_by}
 use Rattle.shard_node.specs.Links.{ring_traffic}
-use Rattle.shard_run.specs.Remaining.{AreLeftBy, occupancy_in}
-use Rattle.shard_run.specs.Running.{IsRun, WereDriven, journals_of, logs_of, told}
+use Rattle.shard_run.specs.Remaining.{AreLeftBy}
+use Rattle.shard_run.specs.Running.{IsRun, WereDriven, journals_of, logs_of}
 use Rattle.shard_run.specs.declared.remains.Remains.{Remains}
 use Rattle.shard_run.proofs.Driven.{as_many, was_opened}
 use Rattle.shard_run.proofs.Getting.{all_at, all_mapped}
@@ -39,7 +41,7 @@ one_by_one {X} f g h at (x ∷ xs) each =
     get_later x xs k y here = subst (λ j. slice_get (x ∷ xs) j ≡ Some y) (let e : suc k ≡ k + 1 = omega arith in e) here
 
 module _ {G : Type 0} (holds : G → ℕ) (trace : Trace) (n pages : ℕ) (homes : List OwnedList) (nodes : List (NodeState LinkState G)) (d : WereDriven holds trace n pages homes nodes)
-    (remains : Remains) (left : AreLeftBy nodes remains) where
+    (remains : Remains) (left : AreLeftBy nodes remains) (of_run : IsOfRun trace (length nodes) pages remains.ran) where
   same_journals : journals_of remains.ran ≡ journals_by nodes
   same_journals = ap (map (λ (journal : JournalState). journal.entries)) left.journals ∙ map-map (λ (journal : JournalState). journal.entries) (λ node. node.journal) nodes
 
@@ -57,7 +59,7 @@ module _ {G : Type 0} (holds : G → ℕ) (trace : Trace) (n pages : ℕ) (homes
       (subst (λ t. EvictsAbove t node.pages (tight_floor node.pages 0 + dense) node.journal.entries) (was.kept.trace ∙ was.as_opened.work) evicts)))
 
   module _ (agree : Agree ring_traffic trace n pages nodes) (few : n ≤ most_shards) (short : length trace.operations ≤ most_commands) where
-    occupied_at : (s : ℕ) (node : NodeState LinkState G) → slice_get nodes s ≡ Some node → told (occupancy_in node.space) ≡ occupancy trace n pages (0 + s, node.journal.entries)
+    occupied_at : (s : ℕ) (node : NodeState LinkState G) → slice_get nodes s ≡ Some node → occupancy_in (line_of node.space) ≡ occupancy trace n pages (0 + s, node.journal.entries)
     occupied_at s node at =
         let blocks = agree.occupied s node at in
         let exact = few_lent trace n s few short in
@@ -69,16 +71,18 @@ module _ {G : Type 0} (holds : G → ℕ) (trace : Trace) (n pages : ℕ) (homes
         ∙ (ap (λ k. (record { rows = length (unwrap_or (cache_after trace pages node.journal.entries) []); live = live (unwrap_or (cache_after trace pages node.journal.entries) []); lent = k; back = node.space.backs })) lends
         ∙ ap (λ k. (record { rows = length (unwrap_or (cache_after trace pages node.journal.entries) []); live = live (unwrap_or (cache_after trace pages node.journal.entries) []); lent = lent trace n (0 + s); back = k })) backs)
 
-    occupied : map told remains.occupancies.items ≡ map (occupancy trace n pages) (enumerate_from 0 (journals_of remains.ran))
+    occupied : occupancies_in remains.ran.lines ≡ map (occupancy trace n pages) (enumerate_from 0 (journals_of remains.ran))
     occupied =
-        ap (map told) left.occupancies ∙ (map-map told (λ node. occupancy_in node.space) nodes
-        ∙ (one_by_one (λ node. told (occupancy_in node.space)) (λ node. node.journal.entries) (occupancy trace n pages) 0 nodes occupied_at
+        ap occupancies_in left.lines ∙ (map-map occupancy_in (λ node. line_of node.space) nodes
+        ∙ (one_by_one (λ node. occupancy_in (line_of node.space)) (λ node. node.journal.entries) (occupancy trace n pages) 0 nodes occupied_at
         ∙ ap (λ journals. map (occupancy trace n pages) (enumerate_from 0 journals)) (sym same_journals)))
 
-    pub is_run : IsRun trace n pages remains.ran remains.occupancies.items
+    pub is_run : IsRun trace n pages remains.ran
     is_run = record {
+      of_run = record { of_trace = of_run.of_trace; of_shards = of_run.of_shards ∙ as_many holds trace n pages homes nodes d; of_pages = of_run.of_pages };
       one_journal_each = ap length left.journals ∙ (length-map nodes (λ node. node.journal) ∙ as_many holds trace n pages homes nodes d);
       one_log_each = ap length left.logs ∙ (length-map nodes (λ node. node.log) ∙ as_many holds trace n pages homes nodes d);
+      one_line_each = ap length left.lines ∙ (length-map nodes (λ node. line_of node.space) ∙ as_many holds trace n pages homes nodes d);
       legal = subst (λ l. All (IsLegal trace pages) l) (sym same_journals) agree.legal;
       complete = λ s e below. subst (λ l. IsComplete trace n s (slice_index_or l s e)) (sym same_journals) (agree.complete s e below);
       replied = subst (λ l. All (λ operation. All (λ part. IsSome (part_reply trace pages l part)) (parts_of n operation)) trace.operations) (sym same_journals) agree.replied;

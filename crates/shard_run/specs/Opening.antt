@@ -5,10 +5,9 @@ use Rattle.foreign_list.specs.Lists.{OwnedList}
 use Rattle.foreign_list.specs.OwnerSeats.{OwnerState, IsAtRest}
 use Rattle.shard_rings.specs.Lanes.{ArePair}
 use Rattle.shard_rings.specs.Links.{LinkState, end_of}
-use Rattle.shard_node.specs.Nodes.{NodeState}
+use Rattle.shard_node.specs.Nodes.{NodeState, others}
 use Rattle.shard_node.specs.Links.{ring_traffic}
 use Rattle.shard_node.specs.Standing.{InStanding}
-use Rattle.shard_node.specs.inside.Work.{others}
 
 -- there are n lists, and list s is that of shard s
 pub record AreLists (n : ℕ) (homes : List OwnedList) : Type 0 where

@@ -1,5 +1,5 @@
 //! The end of a run.
-ghost use Rattle.std.specs.Prelude.{ℕ, List};
+ghost use Rattle.std.specs.Prelude.{List};
 ghost use Rattle.trace_text.specs.Parsed.{trace_in};
 ghost use Rattle.foreign_list.specs.Lists.{OwnedList};
 ghost use Rattle.shard_run.specs.Opening.{AreAtRest};
@@ -8,7 +8,7 @@ ghost use Rattle.shard_run.specs.Running.{IsRun, WereDriven};
 
 use crate::closing::close_links;
 use crate::finishing::finish_nodes;
-use crate::remains::{Occupancy, Remains};
+use crate::remains::Remains;
 use crate::trace_facts::facts_of;
 use foreign_list::OwnerSeat;
 use shard_node::{Gate, Node, Ran, done_nodes_agree};
@@ -19,7 +19,6 @@ use trace_text::Trace;
 #[derive(Drop)]
 pub struct Ended {
     pub ran: Ran,
-    pub occupancies: Vec<Occupancy>,
     pub seats: Vec<OwnerSeat>,
 }
 
@@ -30,25 +29,15 @@ pub fn finish_run<'f, G: Gate + Drop>(
     nodes: Vec<Node<'f, RingLink<'f>, G>>,
     into: Remains<'f>,
 ) -> Ended
-    requires driven { (pages : ℕ) × (homes : List OwnedList) × WereDriven G.holds (trace_in trace.now) trace.now.shards pages homes nodes.items }
-    requires room { IsRoomFor trace.now.shards into }
-    ensures run { (pages : ℕ) (homes : List OwnedList) → WereDriven G.holds (trace_in trace.now) trace.now.shards pages homes nodes.entry.items
-        → IsRun (trace_in trace.now) trace.now.shards pages result.ran result.occupancies.items }
-    ensures seats { (pages : ℕ) (homes : List OwnedList) → WereDriven G.holds (trace_in trace.now) trace.now.shards pages homes nodes.entry.items
+    requires driven { (homes : List OwnedList) × WereDriven G.holds (trace_in trace.now) trace.now.shards into.ran.pages homes nodes.items }
+    requires room { IsRoomFor (trace_in trace.now) trace.now.shards into.ran.pages into }
+    ensures run { IsRun (trace_in trace.now) trace.now.shards into.entry.ran.pages result.ran }
+    ensures seats { (homes : List OwnedList) → WereDriven G.holds (trace_in trace.now) trace.now.shards into.entry.ran.pages homes nodes.entry.items
         → AreAtRest trace.now.shards homes result.seats.items }
 {
     facts_of(trace);
     done_nodes_agree::<RingLink<'f>, G>();
-    let Remains {
-        ran,
-        occupancies,
-        links,
-        seats,
-    } = finish_nodes(nodes, into);
+    let Remains { ran, links, seats } = finish_nodes(nodes, into);
     close_links(links);
-    Ended {
-        ran,
-        occupancies,
-        seats,
-    }
+    Ended { ran, seats }
 }

@@ -1,12 +1,12 @@
 //! The end of the nodes of all shards.
-ghost use Rattle.std.specs.Prelude.{◌≡◌, ℕ, ◌+◌, ◌^◌, ◌<◌, ◌≤◌, List, length};
+ghost use Rattle.std.specs.Prelude.{◌+◌, ◌<◌, length};
 ghost use Rattle.shard_node.specs.Turns.{IsDone};
 ghost use Rattle.shard_node.specs.Links.{ring_traffic};
-ghost use Rattle.shard_run.specs.Remaining.{AllCanFinish, AllHaveFacts, AreLeftBy, HasFacts, IsRoomFor, occupancy_in};
+ghost use Rattle.shard_node.specs.Rans.{IsOfRun};
+ghost use Rattle.shard_run.specs.Remaining.{AllCanFinish, AllHaveFacts, AreLeftBy, HasFacts, IsRoomFor};
 ghost use Rattle.shard_run.specs.inside.Finishing.{HasFinished, Leaves};
 
-use crate::remains::{Occupancy, Remains};
-use reclaim::Space;
+use crate::remains::Remains;
 use shard_node::{Finished, Gate, Node};
 use shard_rings::RingLink;
 
@@ -15,8 +15,9 @@ pub fn finish_nodes<'f, G: Gate + Drop>(
     nodes: Vec<Node<'f, RingLink<'f>, G>>,
     mut into: Remains<'f>,
 ) -> Remains<'f>
-    requires nodes { AllCanFinish G.holds nodes.items }
-    requires room { IsRoomFor (length nodes.items) into }
+    requires nodes { AllCanFinish G.holds into.ran.trace into.ran.pages nodes.items }
+    requires room { IsRoomFor into.ran.trace (length nodes.items) into.ran.pages into }
+    ensures run { IsOfRun into.entry.ran.trace (length nodes.entry.items) into.entry.ran.pages result.ran }
     ensures left { AreLeftBy nodes.entry.items result }
     ensures facts { AllHaveFacts nodes.entry.items }
 {
@@ -30,27 +31,13 @@ pub fn finish_nodes<'f, G: Gate + Drop>(
 fn finish_one<'f, G: Gate + Drop>(node: Node<'f, RingLink<'f>, G>, into: &mut Remains<'f>)
     requires done { IsDone ring_traffic G.holds node }
     requires within { node.shard < node.shards }
-    requires so_far { HasFinished node.shards node.shard into.old }
+    requires so_far { HasFinished node.trace node.shards node.pages node.shard into.old }
     ensures facts { HasFacts node.entry }
     ensures leaves { Leaves node.entry into.old into.new }
-    ensures room { HasFinished node.entry.shards (node.entry.shard + 1) into.new }
+    ensures room { HasFinished node.entry.trace node.entry.shards node.entry.pages (node.entry.shard + 1) into.new }
 {
     node.facts();
     let Finished { space, links } = node.finish(&mut into.ran);
-    into.occupancies.push(occupancy_of(&space)).unwrap();
     into.links.push(links).unwrap();
     into.seats.push(space.finish()).unwrap();
-}
-
-/// What a shard's space came to.
-fn occupancy_of(space: &Space<'_>) -> Occupancy
-    ensures occupancy { result ≡ occupancy_in space.now }
-    ensures counted { space.now.backs < 2 ^ 64 }
-{
-    Occupancy {
-        rows: space.rows(),
-        live: space.live(),
-        lent: space.lent(),
-        back: space.back(),
-    }
 }

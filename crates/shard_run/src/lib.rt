@@ -23,4 +23,4 @@ pub use ending::{Ended, finish_run};
 pub use finishing::finish_nodes;
 pub use lists::{close_lists, open_lists};
 pub use opening::open_nodes;
-pub use remains::{Occupancy, Remains};
+pub use remains::Remains;

@@ -6,4 +6,4 @@ use Rattle.shard_run.proofs.finishing.finish_nodes.Given as goal
 
 abbrev pub invariant-loop-node : goal.invariant-loop-node
 invariant-loop-node g l =
-    AreFinished l.fn.nodes.items (into_iter_items l.node-iterator) l.into × (into_iter_len l.node-iterator ≡ length (into_iter_items l.node-iterator))
+    AreFinished l.fn.into.ran.trace l.fn.into.ran.pages l.fn.nodes.items (into_iter_items l.node-iterator) l.into × (into_iter_len l.node-iterator ≡ length (into_iter_items l.node-iterator))

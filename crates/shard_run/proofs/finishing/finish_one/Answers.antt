@@ -1,6 +1,5 @@
-use Rattle.std.proofs.Common.{◌∷◌, [], ◌++◌, ap, subst, ◌∙◌}
+use Rattle.std.proofs.Common.{subst}
 use Rattle.foreign_list.specs.OwnerSeats.{IsAtRest}
-use Rattle.shard_run.specs.Remaining.{occupancy_in}
 use Rattle.shard_run.proofs.Getting.{pushed}
 use Rattle.shard_run.proofs.finishing.finish_one.Goals as goal
 
@@ -8,12 +7,11 @@ pub returns-clause-leaves : goal.returns-clause-leaves
 returns-clause-leaves g c = record {
   journals = c.finish-space.ensures.journals;
   logs = c.finish-space.ensures.logs;
-  occupancies = pushed c.args.into.now.occupancies.items c.push.new.self.items c.occupancy_of.result c.push.result c.unwrap.result c.push.ensures.items c.unwrap.ensures
-      ∙ ap (λ o. c.args.into.now.occupancies.items ++ o ∷ []) (c.occupancy_of.ensures.occupancy ∙ ap occupancy_in c.finish-space.ensures.space);
+  lines = c.finish-space.ensures.lines;
   row = c.finish-space.result.links;
-  links = pushed c.args.into.now.links.items c.push-2.new.self.items c.finish-space.result.links c.push-2.result c.unwrap-2.result c.push-2.ensures.items c.unwrap-2.ensures;
+  links = pushed c.args.into.now.links.items c.push.new.self.items c.finish-space.result.links c.push.result c.unwrap.result c.push.ensures.items c.unwrap.ensures;
   row_is = c.finish-space.ensures.links;
   seat = c.finish.result;
-  seats = pushed c.args.into.now.seats.items c.push-3.new.self.items c.finish.result c.push-3.result c.unwrap-3.result c.push-3.ensures.items c.unwrap-3.ensures;
+  seats = pushed c.args.into.now.seats.items c.push-2.new.self.items c.finish.result c.push-2.result c.unwrap-2.result c.push-2.ensures.items c.unwrap-2.ensures;
   at_rest = subst (λ s. IsAtRest s.list c.finish.result) c.finish-space.ensures.space c.finish.ensures.seat;
 }

@@ -1,7 +1,7 @@
 use Rattle.std.proofs.Common.{◌≡◌, ◌∷◌, [], ◌++◌, Some, slice_get, refl, sym, ap, subst, ◌∙◌, arith, length, length-append, get_or}
 use Rattle.std.specs.Option.{option_to_list}
 use Rattle.std.proofs.lemmas.Option.{slice_get-get_or}
-use Rattle.shard_node.specs.inside.Work.{others}
+use Rattle.shard_node.specs.Nodes.{others}
 use Rattle.shard_run.proofs.Getting.{inserted, same_thing}
 use Rattle.shard_run.proofs.Openings.{last_seat}
 use Rattle.shard_run.proofs.opening.open_last.Goals as goal
