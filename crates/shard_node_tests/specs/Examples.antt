@@ -125,9 +125,12 @@ at_start space requests = record {
 }
 
 -- Offered a request whose number is 3: of peer 0, expected 1, found 3. No other answer is right, and none where nothing came.
+-- Where it came in one turn with the right one before it, Bye was expected, and the turn may not hide it.
 pub record StrayIsRight (block : Block) (space : SpaceState) : Type 0 where
   pub stray : IsAnswer (λ link. link) (λ gate. 0) (Stray 0 1 3) (at_start space []) (at_start space (packet block of_number_3 ∷ []))
   pub other_number : IsAnswer (λ link. link) (λ gate. 0) (Stray 0 1 2) (at_start space []) (at_start space (packet block of_number_3 ∷ [])) → ⊥
   pub moved : IsAnswer (λ link. link) (λ gate. 0) Moved (at_start space []) (at_start space (packet block of_number_3 ∷ [])) → ⊥
   pub nothing : IsAnswer (λ link. link) (λ gate. 0) (Stray 0 1 3) (at_start space []) (at_start space []) → ⊥
   pub expected : IsAnswer (λ link. link) (λ gate. 0) (Stray 0 1 1) (at_start space []) (at_start space (packet block put_request ∷ [])) → ⊥
+  pub behind : IsAnswer (λ link. link) (λ gate. 0) (Stray 0 0 3) (at_start space []) (at_start space (packet block put_request ∷ packet block of_number_3 ∷ []))
+  pub hidden : IsAnswer (λ link. link) (λ gate. 0) Moved (at_start space []) (at_start space (packet block put_request ∷ packet block of_number_3 ∷ [])) → ⊥

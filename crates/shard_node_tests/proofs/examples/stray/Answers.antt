@@ -1,10 +1,11 @@
 -- The definitions compute on the example.
-use Rattle.std.proofs.Common.{◌≡◌, ℕ, zero, suc, ◌+◌, ◌<◌, ◌⊎◌, inl, inr, List, [], ◌∷◌, ◌++◌, Option, Some, None, true, false, refl, sym, ap, subst, arith, ◌∙◌}
+use Rattle.std.proofs.Common.{◌≡◌, ℕ, zero, suc, ◌+◌, ◌<◌, ◌⊎◌, inl, inr, List, [], ◌∷◌, ◌++◌, length, Option, Some, None, true, false, refl, sym, ap, subst, arith, ◌∙◌}
+use Rattle.std.proofs.lemmas.List.{nil_from_length}
 use Rattle.std.proofs.lemmas.List.Elements.{All-head}
 use Rattle.foreign_list.specs.Blocks.{Block}
 use Rattle.reclaim.specs.Spaces.{SpaceState}
 use Rattle.shard_rings.specs.declared.link.Packet.{Packet}
-use Rattle.shard_rings.specs.Lanes.{each_lane}
+use Rattle.shard_rings.specs.Lanes.{each_lane, on}
 use Rattle.shard_rings.specs.declared.link.Lane.{Lane}
 use Rattle.shard_rings.specs.declared.link.Lane.TheVariants.{Requests, Replies}
 use Rattle.shard_node.specs.Nodes.{NodeState, PeerState, Traffic}
@@ -36,68 +37,119 @@ some-is a b e = cc
 none-is : {A : Type 0} (b : A) → ◌≡◌ {A = Option A} None (Some b) → ⊥
 none-is b e = cc
 
-not-longer : (packet : Packet) → ◌≡◌ {A = List Packet} [] ([] ++ packet ∷ []) → ⊥
-not-longer packet e = cc
+true-false : true ≡ false → ⊥
+true-false e = cc
 
-head-is : (x y : Packet) → x ∷ [] ≡ [] ++ y ∷ [] → y ≡ x
-head-is x y e = cc
+not-longer : (before : List Packet) (packet : Packet) (behind : List Packet) → ◌≡◌ {A = List Packet} [] (before ++ packet ∷ behind) → ⊥
+not-longer [] packet behind e = cc
+not-longer (x ∷ xs) packet behind e = cc
 
--- what is said of a peer at the first place
-at-first : (lane : Lane) (space : SpaceState) (before after : List Packet) (aside : Aside)
-    → HasAside link_is holds lane (at_start space before) (at_start space after) 0 aside
-    → IsAside link_is holds lane (at_start space before) aside (peer_with before) (peer_with after)
-at-first lane space before after aside has =
-    subst (λ b. IsAside link_is holds lane (at_start space before) aside (peer_with before) b) (some-is _ _ has.3)
-    (subst (λ a. IsAside link_is holds lane (at_start space before) aside a has.1) (some-is _ _ has.2) has.4)
+head-is : (x : Packet) (before : List Packet) (y : Packet) (behind : List Packet) → x ∷ [] ≡ before ++ y ∷ behind → (before ≡ []) × (y ≡ x)
+head-is x [] y behind e = (refl, cc)
+head-is x (z ∷ zs) y behind e = absurd (not-longer zs y behind (cc))
+
+-- what is told of a packet of the first peer
+record Told (lane : Lane) (node : NodeState Traffic (Unit {0})) (m : ℕ) (aside : Aside) (a b : PeerState Traffic) : Type 0 where
+  before : List Packet
+  behind : List Packet
+  packet : Packet
+  many : length before ≡ m
+  came : on lane b.link.received ≡ on lane a.link.received ++ before ++ packet ∷ behind
+  is : IsAside link_is holds lane node a.shard (on lane a.link.received ++ before) packet aside
+
+at-first : (lane : Lane) (space : SpaceState) (before after : List Packet) (m : ℕ) (aside : Aside)
+    → HasAside link_is holds lane (at_start space before) (at_start space after) 0 m aside
+    → Told lane (at_start space before) m aside (peer_with before) (peer_with after)
+at-first lane space before after m aside has =
+    subst (λ b. Told lane (at_start space before) m aside (peer_with before) b) (some-is _ _ has.6)
+    (subst (λ a. Told lane (at_start space before) m aside a has.1) (some-is _ _ has.5)
+    (record { before = has.2; behind = has.3; packet = has.4; many = has.7; came = has.8; is = has.9 }))
 
 -- nothing came on the lane of replies
-quiet : (space : SpaceState) (before after : List Packet) (j : ℕ) → HasNone link_is holds Replies (at_start space before) (at_start space after) j
-quiet space before after zero aside has = let first = at-first Replies space before after aside has in not-longer first.0 first.2
-quiet space before after (suc j) aside has = none-is has.0 has.2
+quiet : (space : SpaceState) (before after : List Packet) (j i : ℕ) → HasNone link_is holds Replies (at_start space before) (at_start space after) j i
+quiet space before after zero i aside has = let told = at-first Replies space before after i aside has in not-longer told.before told.packet told.behind told.came
+quiet space before after (suc j) i aside has = none-is has.0 has.5
 
 -- what came on that of requests
-came : (space : SpaceState) (after : Packet) (j : ℕ) (aside : Aside) → HasAside link_is holds Requests (at_start space []) (at_start space (after ∷ [])) j aside
+came : (space : SpaceState) (after : Packet) (j i : ℕ) (aside : Aside) → HasAside link_is holds Requests (at_start space []) (at_start space (after ∷ [])) j i aside
     → (is_next to_the_owner 0 after ≡ false) × (aside ≡ record { peer = 0; expected = 1; found = number_in after })
-came space after zero aside has =
-    let first = at-first Requests space [] (after ∷ []) aside has in
-    let same : first.0 ≡ after = head-is after first.0 first.1 in
-    (subst (λ p. is_next to_the_owner 0 p ≡ false) same first.2, first.3 ∙ ap (λ p. let a : Aside = record { peer = 0; expected = 1; found = number_in p } in a) same)
-came space after (suc j) aside has = absurd (none-is has.0 has.2)
+came space after zero i aside has =
+    let told = at-first Requests space [] (after ∷ []) i aside has in
+    let same = head-is after told.before told.packet told.behind told.came in
+    let is : IsAside link_is holds Requests (at_start space []) 0 [] after aside =
+    (subst (λ p. IsAside link_is holds Requests (at_start space []) 0 [] p aside) same.1
+    (subst (λ (ps : List Packet). IsAside link_is holds Requests (at_start space []) 0 ps told.packet aside) same.0 told.is)) in
+    is
+came space after (suc j) i aside has = absurd (none-is has.0 has.5)
 
-silent : (space : SpaceState) (j : ℕ) (aside : Aside) → HasAside link_is holds Requests (at_start space []) (at_start space []) j aside → ⊥
-silent space zero aside has = let first = at-first Requests space [] [] aside has in not-longer first.0 first.1
-silent space (suc j) aside has = none-is has.0 has.2
+silent : (space : SpaceState) (j i : ℕ) (aside : Aside) → HasAside link_is holds Requests (at_start space []) (at_start space []) j i aside → ⊥
+silent space zero i aside has = let told = at-first Requests space [] [] i aside has in not-longer told.before told.packet told.behind told.came
+silent space (suc j) i aside has = none-is has.0 has.5
 
-stray : (block : Block) (space : SpaceState) → HasAside link_is holds Requests (at_start space []) (at_start space (packet block of_number_3 ∷ [])) 0 (record { peer = 0; expected = 1; found = 3 })
-stray block space = (peer_with [], peer_with (packet block of_number_3 ∷ []), refl, refl, (packet block of_number_3, refl, refl, refl))
+stray : (block : Block) (space : SpaceState) → HasAside link_is holds Requests (at_start space []) (at_start space (packet block of_number_3 ∷ [])) 0 0 (record { peer = 0; expected = 1; found = 3 })
+stray block space = (peer_with [], peer_with (packet block of_number_3 ∷ []), [], [], packet block of_number_3, refl, refl, refl, refl, (refl, refl))
+
+-- behind the request that is expected
+hidden : (block : Block) (space : SpaceState)
+    → HasAside link_is holds Requests (at_start space []) (at_start space (packet block put_request ∷ packet block of_number_3 ∷ [])) 0 1 (record { peer = 0; expected = 0; found = 3 })
+hidden block space = (
+  peer_with [],
+  peer_with (packet block put_request ∷ packet block of_number_3 ∷ []),
+  packet block put_request ∷ [],
+  [],
+  packet block of_number_3,
+  refl,
+  refl,
+  refl,
+  refl,
+  (refl, refl),
+)
+
+first-taken : (block : Block) (space : SpaceState) (j i : ℕ) → (j < 0) ⊎ ((j ≡ 0) × (i < 1))
+    → HasNone link_is holds Requests (at_start space []) (at_start space (packet block put_request ∷ packet block of_number_3 ∷ [])) j i
+first-taken block space zero i before aside has =
+    let both = packet block put_request ∷ packet block of_number_3 ∷ [] in
+    let told = at-first Requests space [] both i aside has in
+    let none : told.before ≡ [] = nil_from_length told.before (let many = told.many in elim before [ inl less ↦ absurd (omega (arith, less)) | inr one ↦ omega (arith, one, many) ]) in
+    let here : both ≡ told.packet ∷ told.behind = told.came ∙ ap (λ (ps : List Packet). ps ++ told.packet ∷ told.behind) none in
+    let same : told.packet ≡ packet block put_request = cc in
+    let is : IsAside link_is holds Requests (at_start space []) 0 [] (packet block put_request) aside =
+    (subst (λ p. IsAside link_is holds Requests (at_start space []) 0 [] p aside) same
+    (subst (λ (ps : List Packet). IsAside link_is holds Requests (at_start space []) 0 ps told.packet aside) none told.is)) in
+    true-false is.0
+first-taken block space (suc j) i before aside has = none-is has.0 has.5
 
 nothing-said : ◌≡◌ {A = List (Option (List ℕ))} [] (None ∷ []) → ⊥
 nothing-said e = cc
 
-not-done : (space : SpaceState) (after : Packet) → is_next to_the_owner 0 after ≡ false → IsDone link_is holds (at_start space (after ∷ [])) → ⊥
-not-done space after other done =
-    let heard = (All-head (HasParted link_is holds (at_start space (after ∷ []))) (peer_with (after ∷ [])) [] done.parted).told in nothing-said heard
+not-done : (space : SpaceState) (after : List Packet) → IsDone link_is holds (at_start space after) → ⊥
+not-done space after done = let heard = (All-head (HasParted link_is holds (at_start space after)) (peer_with after) [] done.parted).told in nothing-said heard
 
 two-three : (x : Aside) → x ≡ record { peer = 0; expected = 1; found = 3 } → x ≡ record { peer = 0; expected = 1; found = 2 } → ⊥
 two-three x e f = let n : 3 ≡ 2 = ap (λ (a : Aside). a.found) (sym e ∙ f) in omega (arith, n)
 
-true-false : true ≡ false → ⊥
-true-false e = cc
-
 pub returns : goal.returns
 returns c block space = record {
-  stray = (not-done space (packet block of_number_3) refl, inr (0, stray block space, (λ j below. absurd (omega (arith, below))), quiet space [] (packet block of_number_3 ∷ [])));
+  stray = (
+    not-done space (packet block of_number_3 ∷ []),
+    inr ((0, 0, stray block space, λ j i before. elim before [ inl less ↦ absurd (omega (arith, less)) | inr same ↦ absurd (omega (arith, same)) ]), quiet space [] (packet block of_number_3 ∷ [])),
+  );
   other_number = λ answer. elim answer.1 [
-    | inl first ↦ quiet space [] (packet block of_number_3 ∷ []) first.0 _ first.1
-    | inr first ↦ two-three _ (came space (packet block of_number_3) first.0 _ first.1).1 refl
+    | inl first ↦ quiet space [] (packet block of_number_3 ∷ []) first.0 first.1 _ first.2
+    | inr first ↦ let one = first.0 in two-three _ (came space (packet block of_number_3) one.0 one.1 _ one.2).1 refl
   ];
-  moved = λ answer. (answer.1 0).1 _ (stray block space);
+  moved = λ answer. answer.1 Requests 0 0 _ (stray block space);
   nothing = λ answer. elim answer.1 [
-    | inl first ↦ quiet space [] [] first.0 _ first.1
-    | inr first ↦ silent space first.0 _ first.1
+    | inl first ↦ quiet space [] [] first.0 first.1 _ first.2
+    | inr first ↦ let one = first.0 in silent space one.0 one.1 _ one.2
   ];
   expected = λ answer. elim answer.1 [
-    | inl first ↦ quiet space [] (packet block put_request ∷ []) first.0 _ first.1
-    | inr first ↦ true-false (came space (packet block put_request) first.0 _ first.1).0
+    | inl first ↦ quiet space [] (packet block put_request ∷ []) first.0 first.1 _ first.2
+    | inr first ↦ let one = first.0 in true-false (came space (packet block put_request) one.0 one.1 _ one.2).0
   ];
+  behind = (
+    not-done space (packet block put_request ∷ packet block of_number_3 ∷ []),
+    inr ((0, 1, hidden block space, first-taken block space), quiet space [] (packet block put_request ∷ packet block of_number_3 ∷ [])),
+  );
+  hidden = λ answer. answer.1 Requests 0 1 _ (hidden block space);
 }
