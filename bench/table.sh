@@ -1,6 +1,7 @@
 #!/usr/bin/env bash
-# Nanoseconds per insertion, find and removal: the index of keys in blocks and the table of keys, over random keys of 11
-# to 20 bytes. The least of some runs, user and system time together, less that of a run of one step fewer.
+# Nanoseconds per insertion, find, first scan and removal: the index of keys in blocks, the table of keys, and the two
+# together, over random keys of 11 to 20 bytes; and the two together over a fifth as many keys that all have one tag, beside
+# as many random keys. The least of some runs, user and system time together, less that of a run of one step fewer.
 #   bench/table.sh [ROWS] [RUNS]
 set -euo pipefail
 top=$(cd "$(dirname "${BASH_SOURCE[0]}")/.." && pwd)
@@ -21,11 +22,19 @@ time_of() {
     echo "$least"
 }
 
-for kind in index table; do
+# KIND ROWS STEP..
+steps_of() {
+    local kind=$1 rows=$2 before spent
+    shift 2
     before=$(time_of "$top/crates/table_times/out/table_times" "$kind" "$rows" keys)
-    for step in insert find remove; do
+    for step in "$@"; do
         spent=$(time_of "$top/crates/table_times/out/table_times" "$kind" "$rows" "$step")
-        echo "$kind $step $(((spent - before) / rows))"
+        echo "$kind $rows $step $(((spent - before) / rows))"
         before=$spent
     done
-done
+}
+steps_of index "$rows" insert find remove
+steps_of table "$rows" insert find remove
+steps_of both "$rows" insert find scan remove
+steps_of both $((rows / 5)) insert find scan remove
+steps_of one_tag $((rows / 5)) insert find scan remove

@@ -1,4 +1,4 @@
-//! Keys of 11 to 20 bytes.
+//! Keys that look like chance, and keys of one hash.
 ghost use Rattle.std.specs.Prelude.{◌≡◌, true};
 
 use key_index::Keys;
@@ -42,7 +42,7 @@ fn stirred(state: u64) -> u64 {
     x ^ (x << 17)
 }
 
-/// The keys of so many rows.
+/// The keys of so many rows, of 11 to 20 bytes.
 pub fn fill_arena(alloc: Global, rows: u32) -> Result<Arena, AllocError> {
     let mut bytes = Vec::new(alloc);
     let mut state = 88_172_645_463_325_252;
@@ -58,6 +58,26 @@ pub fn fill_arena(alloc: Global, rows: u32) -> Result<Arena, AllocError> {
             bytes.push((word % 64) as u8 + 48)?;
             word >>= 8;
         }
+    }
+    Ok(Arena { bytes })
+}
+
+/// A hash of a key that is mixed with a word, as a table of keys has it.
+fn mixed(hash: u64, word: u64) -> u64 {
+    let product = (hash ^ word).wrapping_mul(0x9E37_79B9_7F4A_7C15);
+    product ^ (product >> 32)
+}
+
+/// The keys of so many rows, of 16 bytes, which all have one hash.
+pub fn fill_one_tag(alloc: Global, rows: u32) -> Result<Arena, AllocError> {
+    let mut bytes = Vec::new(alloc);
+    let mut state = 88_172_645_463_325_252;
+    for _row in 0..rows {
+        state = stirred(state);
+        bytes.push(16)?;
+        bytes.extend_from_slice(state.to_le_bytes().as_slice())?;
+        bytes.extend_from_slice((mixed(16, state) ^ 7).to_le_bytes().as_slice())?;
+        bytes.extend_from_slice([0u8; 7].as_slice())?;
     }
     Ok(Arena { bytes })
 }

@@ -1,16 +1,20 @@
-//! Puts rows into an index of keys or a table of them, finds them and takes them out, to be timed.
+//! Puts rows into an index of keys, finds them and takes them out, to be timed.
 //!
-//! The words are `index` or `table`, a number of rows, and what is done: `keys` (they are made and no more), `insert`,
-//! `find` or `remove`, each after those before it. It prints how many rows were put in, found and taken out; a script measures the time.
+//! The words are which index, a number of rows, and what is done: `keys` (they are made and no more), `insert`, `find`,
+//! `scan` or `remove`, each after those before it. `index` is the order of keys, `table` the table of keys, `both` the two
+//! together, and `one_tag` the two together over keys that all have one tag. A scan puts the rows that wait into the order.
+//! It prints how many rows were put in, found and taken out; a script measures the time.
 #![tactic(auto)]
 
 mod arena;
+mod both_rounds;
 mod rounds;
 mod table_rounds;
 
-use arena::{Arena, fill_arena};
+use arena::{Arena, fill_arena, fill_one_tag};
 use key_index::KeyIndex;
 use key_table::KeyTable;
+use lazy_index::LazyIndex;
 use std::alloc::{AllocError, Global};
 use std::{env, io};
 
@@ -22,10 +26,19 @@ struct Counts {
     removed: u32,
 }
 
+/// Which index, over which keys.
+#[derive(Clone, Copy)]
+enum Kind {
+    Index,
+    Table,
+    Both,
+    OneTag,
+}
+
 fn main(rt: HostRuntime) -> io::Result<()> {
-    let table = match env::args(&rt)?.nth(1) {
-        Some(word) => word.as_str() == "table",
-        None => true,
+    let kind = match env::args(&rt)?.nth(1) {
+        Some(word) => kind_of(word.as_str()),
+        None => Kind::Table,
     };
     let rows = match env::args(&rt)?.nth(2) {
         Some(word) => word.as_str().parse::<u32>().unwrap_or(0),
@@ -35,12 +48,7 @@ fn main(rt: HostRuntime) -> io::Result<()> {
         Some(word) => steps_of(word.as_str()),
         None => 0,
     };
-    let arena = fill_arena(rt.alloc(), rows)?;
-    let counts = if table {
-        over_table(rt.alloc(), &arena, rows, last)?
-    } else {
-        over_index(rt.alloc(), &arena, rows, last)?
-    };
+    let counts = counts_of(rt.alloc(), kind, rows, last)?;
     println!(rt;
         "inserted {} found {} removed {}",
         counts.inserted, counts.found, counts.removed
@@ -52,8 +60,27 @@ fn steps_of(word: &str) -> u32 {
     match word {
         "insert" => 1,
         "find" => 2,
-        "remove" => 3,
+        "scan" => 3,
+        "remove" => 4,
         _ => 0,
+    }
+}
+
+fn kind_of(word: &str) -> Kind {
+    match word {
+        "index" => Kind::Index,
+        "both" => Kind::Both,
+        "one_tag" => Kind::OneTag,
+        _ => Kind::Table,
+    }
+}
+
+fn counts_of(alloc: Global, kind: Kind, rows: u32, last: u32) -> Result<Counts, AllocError> {
+    match kind {
+        Kind::Index => over_index(alloc, &fill_arena(alloc, rows)?, rows, last),
+        Kind::Table => over_table(alloc, &fill_arena(alloc, rows)?, rows, last),
+        Kind::Both => over_both(alloc, &fill_arena(alloc, rows)?, rows, last),
+        Kind::OneTag => over_both(alloc, &fill_one_tag(alloc, rows)?, rows, last),
     }
 }
 
@@ -68,7 +95,7 @@ fn over_index(alloc: Global, arena: &Arena, rows: u32, last: u32) -> Result<Coun
     } else {
         0
     };
-    let removed = if last >= 3 {
+    let removed = if last >= 4 {
         rounds::count_removed(&mut index, arena, rows)
     } else {
         0
@@ -91,7 +118,7 @@ fn over_table(alloc: Global, arena: &Arena, rows: u32, last: u32) -> Result<Coun
     } else {
         0
     };
-    let removed = if last >= 3 {
+    let removed = if last >= 4 {
         table_rounds::count_removed(&mut table, arena, rows)
     } else {
         0
@@ -101,4 +128,23 @@ fn over_table(alloc: Global, arena: &Arena, rows: u32, last: u32) -> Result<Coun
         found,
         removed,
     })
+}
+
+fn over_both(alloc: Global, arena: &Arena, rows: u32, last: u32) -> Result<Counts, AllocError> {
+    let mut index = LazyIndex::new(alloc, rows)?;
+    both_rounds::fill(&mut index, arena, rows_if(last >= 1, rows));
+    let inserted = index.len();
+    let found = both_rounds::count_found(&index, arena, rows_if(last >= 2, rows));
+    both_rounds::settle_if(&mut index, arena, last >= 3);
+    let removed = both_rounds::count_removed(&mut index, arena, rows_if(last >= 4, rows));
+    Ok(Counts {
+        inserted,
+        found,
+        removed,
+    })
+}
+
+/// All rows, or none.
+fn rows_if(all: bool, rows: u32) -> u32 {
+    if all { rows } else { 0 }
 }

@@ -18,7 +18,7 @@ fn insert_row(table: &mut KeyTable, arena: &Arena, row: u32)
     let Err(spot) = table.find(arena, arena.key(row)) else {
         return;
     };
-    table.insert(spot, row);
+    let _taken = table.insert(spot, row);
 }
 
 /// Puts rows in, each at the place that a search gives.
@@ -60,7 +60,9 @@ fn remove_row(table: &mut KeyTable, arena: &Arena, row: u32) -> bool
     let Ok(found) = table.find(arena, arena.key(row)) else {
         return false;
     };
-    table.remove(found);
+    if !table.remove(found) {
+        return false;
+    }
     found.row == row
 }
 
