@@ -19,7 +19,8 @@ pub(crate) fn seek<K: Keys>(
     requires readable { AreReadable (K.has_row keys.now) slots.now.items }
     requires tagged { AreTagged (K.key_of keys.now) slots.now.items }
     requires tag { tag ≡ tag_of key.now }
-    ensures { MatchOption result (HaveNot (K.key_of keys.now) key.now slots.now.items) (IsFound (K.key_of keys.now) key.now slots.now.items) }
+    ensures { MatchOption result (HaveNot (K.key_of keys.now) key.now slots.now.items)
+        (IsFound (K.key_of keys.now) key.now slots.now.items) }
 {
     let home = home_of(mask, tag);
     for at in home..home + REACH {

@@ -106,7 +106,8 @@ impl KeyTable {
             (λ _. AreSame (row ∷ rows_of self.old.kept) (rows_of self.new.kept))
             (λ _. AreSame (rows_of self.old.kept) (rows_of self.new.kept)) }
         ensures full { IfErr result (λ _. reach ≤ length self.old.kept + 1) }
-        ensures tagged { (key_of : ℕ → List ℕ) → IsTagged key_of self.old → IsSpotFor (key_of row) spot → IsTagged key_of self.new }
+        ensures tagged { (key_of : ℕ → List ℕ) → IsTagged key_of self.old → IsSpotFor (key_of row) spot
+            → IsTagged key_of self.new }
     {
         self.mask = widen(
             &mut self.slots,
@@ -141,6 +142,7 @@ impl KeyTable {
 
     /// What holds of each table, whoever keeps the keys of its rows: it stays the table of its rows where keys are moved.
     pub fn law(&self)
-        ensures moved { (before after : ℕ → List ℕ) → ((n : ℕ) → Has self.now n → after n ≡ before n) → IsTagged before self.now → IsTagged after self.now }
+        ensures moved { (before after : ℕ → List ℕ) → ((n : ℕ) → Has self.now n → after n ≡ before n)
+            → IsTagged before self.now → IsTagged after self.now }
     {}
 }

@@ -45,7 +45,8 @@ pub(crate) fn widen(
     ensures rows { AreSame (rows_of (held slots.old.items)) (rows_of (held slots.new.items)) }
     ensures within { Within slots.old.items slots.new.items }
     ensures spare { spare.new.items ≡ [] }
-    ensures capacity { (n : ℕ) → n ≤ vec_capacity slots.old → n ≤ vec_capacity spare.old → (n ≤ vec_capacity slots.new) × (n ≤ vec_capacity spare.new) }
+    ensures capacity { (n : ℕ) → n ≤ vec_capacity slots.old → n ≤ vec_capacity spare.old
+        → (n ≤ vec_capacity slots.new) × (n ≤ vec_capacity spare.new) }
 {
     if !is_full(mask, count) || u64::from(mask) * 2 + 1 > u64::from(*most) {
         return mask;

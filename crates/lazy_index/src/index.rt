@@ -198,7 +198,8 @@ impl LazyIndex {
 
     /// What holds of each index, whoever keeps the keys of its rows: it stays the index of its rows where keys are moved.
     pub fn law(&self)
-        ensures moved { (before after : ℕ → List ℕ) → ((n : ℕ) → Has self.now n → after n ≡ before n) → IsKeyed before self.now → IsKeyed after self.now }
+        ensures moved { (before after : ℕ → List ℕ) → ((n : ℕ) → Has self.now n → after n ≡ before n)
+            → IsKeyed before self.now → IsKeyed after self.now }
         ensures once { (n : ℕ) → times n (rows_in self.now) ≤ 1 }
     {
         self.table.law();

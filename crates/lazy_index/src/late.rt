@@ -29,7 +29,8 @@ impl Model for Late {
 
     ghost view = { λ a. record { bound = a.bound; numbers = a.numbers.items } };
 
-    ghost invariant = { λ a. ArePlaced a.bound a.numbers.items a.places.items (vec_capacity a.numbers) (vec_capacity a.places) × (a.bound ≤ vec_capacity a.waiting) };
+    ghost invariant = { λ a. ArePlaced a.bound a.numbers.items a.places.items (vec_capacity a.numbers) (vec_capacity a.places)
+        × (a.bound ≤ vec_capacity a.waiting) };
 }
 
 impl Late {
@@ -102,7 +103,8 @@ impl Late {
     /// Takes the last number out.
     pub fn pop(&mut self) -> Option<u32>
         ensures bound { self.new.bound ≡ self.old.bound }
-        ensures numbers { MatchOption result ((self.old.numbers ≡ []) × (self.new.numbers ≡ [])) (λ number. self.old.numbers ≡ self.new.numbers ++ number ∷ []) }
+        ensures numbers { MatchOption result ((self.old.numbers ≡ []) × (self.new.numbers ≡ []))
+            (λ number. self.old.numbers ≡ self.new.numbers ++ number ∷ []) }
     {
         self.numbers.pop()
     }

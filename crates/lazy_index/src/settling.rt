@@ -55,7 +55,8 @@ pub(crate) fn settle_all<K: Keys>(late: &mut Late, order: &mut KeyIndex, keys: &
 
 /// Takes a row out of the order, or from those that wait.
 pub(crate) fn leave(late: &mut Late, order: &mut KeyIndex, standing: Standing)
-    requires { MatchOption standing.place (1 ≤ times standing.found.row late.old.numbers) (λ place. IsRowAt order.old place standing.found.row) }
+    requires { MatchOption standing.place (1 ≤ times standing.found.row late.old.numbers)
+        (λ place. IsRowAt order.old place standing.found.row) }
     ensures all { (n : ℕ) → both order.old late.old n ≡ times n (standing.found.row ∷ []) + both order.new late.new n }
     ensures fewer { (n : ℕ) → times n order.old.rows ≤ times n (standing.found.row ∷ []) + times n order.new.rows }
     ensures ordered { (key_of : ℕ → List ℕ) → IsOrdered key_of order.old → IsOrdered key_of order.new }

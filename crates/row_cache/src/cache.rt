@@ -52,7 +52,12 @@ impl RowCache {
         requires segments { segments ≤ 2048 }
         ensures room { IfOk result (λ c. c.room ≡ rows) }
         ensures empty { IfOk result (λ c. rows_of c ≡ []) }
-        ensures region { IfOk result (λ c. c.region ≡ record { most = segments; guards = 0; active = None; segments = replicate segments None }) }
+        ensures region { IfOk result (λ c. c.region ≡ record {
+          most = segments;
+          guards = 0;
+          active = None;
+          segments = replicate segments None;
+        }) }
     {
         Ok(RowCache {
             region: Region::new(alloc, segments)?,

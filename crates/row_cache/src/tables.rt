@@ -42,10 +42,23 @@ impl Model for Tables {
 
     ghost Value = { TableState };
 
-    ghost view = { λ t. record { room = t.recency.indices; recency = slice_index_or t.recency.lists 0 []; places = t.places.items; freed = t.freed.items; index = t.index } };
+    ghost view = { λ t. record {
+      room = t.recency.indices;
+      recency = slice_index_or t.recency.lists 0 [];
+      places = t.places.items;
+      freed = t.freed.items;
+      index = t.index;
+    } };
 
-    ghost invariant = { λ t. AreNumbers (record { room = t.recency.indices; recency = slice_index_or t.recency.lists 0 []; places = t.places.items; freed = t.freed.items; index = t.index })
-        × (length t.recency.lists ≡ 1) × (t.recency.indices ≤ vec_capacity t.places) × (t.recency.indices ≤ vec_capacity t.freed) };
+    ghost invariant = { λ t. AreNumbers (record {
+      room = t.recency.indices;
+      recency = slice_index_or t.recency.lists 0 [];
+      places = t.places.items;
+      freed = t.freed.items;
+      index = t.index;
+    })
+        × (length t.recency.lists ≡ 1) × (t.recency.indices ≤ vec_capacity t.places)
+        × (t.recency.indices ≤ vec_capacity t.freed) };
 }
 
 impl Tables {
@@ -117,8 +130,12 @@ impl Tables {
     // The row stands elsewhere, and is the one used last.
     pub(crate) fn replace(&mut self, number: u32, place: Place)
         requires { tables.IsListed self.old number }
-        ensures state { self.new ≡ record self.old { recency = number ∷ delete number self.old.recency; places = slice_set self.old.places number place } }
-        ensures tables { (row : Row) (old new : Live) → tables.ReplacesRow self.old number place row old new → tables.AreTablesOf self.new new }
+        ensures state { self.new ≡ record self.old {
+          recency = number ∷ delete number self.old.recency;
+          places = slice_set self.old.places number place;
+        } }
+        ensures tables { (row : Row) (old new : Live) → tables.ReplacesRow self.old number place row old new
+            → tables.AreTablesOf self.new new }
     {
         self.put_at(number, place);
         self.touch(number);
@@ -128,7 +145,8 @@ impl Tables {
     fn put_at(&mut self, number: u32, place: Place)
         requires { tables.IsListed self.old number }
         ensures state { self.new ≡ record self.old { places = slice_set self.old.places number place } }
-        ensures tables { (row : Row) (old new : Live) → tables.ReplacesRow self.old number place row old new → tables.AreTablesOf self.new new }
+        ensures tables { (row : Row) (old new : Live) → tables.ReplacesRow self.old number place row old new
+            → tables.AreTablesOf self.new new }
     {
         self.index.law();
         self.places[number as usize] = place;
@@ -160,7 +178,9 @@ impl Tables {
         ensures recency { self.new.recency ≡ delete standing.found.row self.old.recency }
         ensures places { self.new.places ≡ self.old.places }
         ensures room { self.new.room ≡ self.old.room }
-        ensures tables { (place : Place) (old new : Live) → tables.AreTablesOf self.old old → slice_get self.old.places standing.found.row ≡ Some place → tables.Drops place old new → tables.AreTablesOf self.new new }
+        ensures tables { (place : Place) (old new : Live) → tables.AreTablesOf self.old old
+            → slice_get self.old.places standing.found.row ≡ Some place → tables.Drops place old new
+            → tables.AreTablesOf self.new new }
     {
         unlist(&mut self.recency, &mut self.index, standing);
         self.freed.push(standing.found.row).unwrap();
@@ -188,7 +208,8 @@ impl Tables {
         requires settled { self.now.index.late ≡ [] }
         ensures rows { All (tables.HasRow (live_at region.now) self.now.places) result }
         ensures order { map (key_at (live_at region.now) self.now.places) result
-            ≡ in_order (filter (is_at_most key.now) (map (λ row. row.key) (rows_at (live_at region.now) self.now.places self.now.recency))) }
+            ≡ in_order (filter (is_at_most key.now)
+            (map (λ row. row.key) (rows_at (live_at region.now) self.now.places self.now.recency))) }
     {
         sorted_keys_are_in_order();
         self.index.rows_from(&self.keys(region), key)
@@ -268,7 +289,8 @@ fn unlist(recency: &mut IndexLists, index: &mut LazyIndex, standing: Standing)
     requires at { IsStanding index.old standing }
     ensures recency { recency.new ≡ with_list recency.old 0 (delete standing.found.row (list_at recency.old 0)) }
     ensures rows { AreSame (rows_in index.old) (standing.found.row ∷ rows_in index.new) }
-    ensures keyed { (before after : ℕ → List ℕ) → IsKeyed before index.old → ((n : ℕ) → Has index.new n → after n ≡ before n) → IsKeyed after index.new }
+    ensures keyed { (before after : ℕ → List ℕ) → IsKeyed before index.old
+        → ((n : ℕ) → Has index.new n → after n ≡ before n) → IsKeyed after index.new }
     ensures room { index.new.room ≡ index.old.room }
 {
     index.remove(standing);

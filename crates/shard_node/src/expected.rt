@@ -15,8 +15,10 @@ pub(crate) fn expected_reply<'a>(
     ask: &Ask<'_>,
     longest: u32,
 ) -> Option<ReplyView<'a>>
-    ensures some { IfSome result (λ view. (reply : Reply) × IsViewOf view reply × HoldsReply bytes.now ask.now.number reply × Fits longest (asked ask.now) reply) }
-    ensures none { IfNone result ((reply : Reply) → HoldsReply bytes.now ask.now.number reply → Fits longest (asked ask.now) reply → ⊥) }
+    ensures some { IfSome result (λ view. (reply : Reply) × IsViewOf view reply × HoldsReply bytes.now ask.now.number reply
+        × Fits longest (asked ask.now) reply) }
+    ensures none { IfNone result ((reply : Reply) → HoldsReply bytes.now ask.now.number reply → Fits longest (asked ask.now) reply
+        → ⊥) }
 {
     a_message_is_one_reply();
     let view = read_reply(bytes)?;

@@ -35,7 +35,8 @@ fn can_have(kind: Kind, reply: ReplyKind) -> bool
 fn body_fits(view: &ReplyView<'_>, ask: &Ask<'_>, longest: u32) -> bool
     requires sendable { (reply : Reply) × IsSendable reply × IsViewOf view.now reply }
     requires short { length view.now.body.now < 2 ^ 32 }
-    ensures { (reply : Reply) → IsSendable reply → IsViewOf view.now reply → (IsTrue result ↔ BodyFits longest ask.now.key.now ask.now.count reply) }
+    ensures { (reply : Reply) → IsSendable reply → IsViewOf view.now reply
+        → (IsTrue result ↔ BodyFits longest ask.now.key.now ask.now.count reply) }
 {
     match view.kind {
         ReplyKind::Value => view.body.len() <= longest as usize,

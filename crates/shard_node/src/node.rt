@@ -101,13 +101,15 @@ impl<'f, L: Link<'f> + Drop, G: Gate + Drop> Node<'f, L, G> {
 
     /// One turn. It waits for nobody, and takes no memory. A node that is done makes no step.
     pub fn turn(&mut self) -> Turn
-        ensures standing { InStanding (traffic_by L.sent L.received L.full L.empty) self.old → InStanding (traffic_by L.sent L.received L.full L.empty) self.new }
+        ensures standing { InStanding (traffic_by L.sent L.received L.full L.empty) self.old
+            → InStanding (traffic_by L.sent L.received L.full L.empty) self.new }
         ensures same { IsSameNode L.end self.old self.new }
         ensures turns { self.new.turns ≡ counted self.old.turns }
         ensures done { InStanding (traffic_by L.sent L.received L.full L.empty) self.old
             → ((result ≡ Turns.Done) ↔ IsDone (traffic_by L.sent L.received L.full L.empty) G.holds self.new) }
         ensures rests { InStanding (traffic_by L.sent L.received L.full L.empty) self.old
-            → IsDone (traffic_by L.sent L.received L.full L.empty) G.holds self.old → self.new ≡ record self.old { turns = self.new.turns } }
+            → IsDone (traffic_by L.sent L.received L.full L.empty) G.holds self.old
+            → self.new ≡ record self.old { turns = self.new.turns } }
         ensures answer { InStanding (traffic_by L.sent L.received L.full L.empty) self.old
             → IsAnswer (traffic_by L.sent L.received L.full L.empty) G.holds result self.old self.new }
     {

@@ -85,7 +85,8 @@ impl<'f> Own<'f> {
         ensures some { IfSome result (λ next. slice_get (own_log self.now) self.now.begun ≡ Some (next.0.now.number, next.1)) }
         ensures of_trace { IfSome result (λ next. Contains self.now.trace.commands next.0.now) }
         ensures origin { IfSome result (λ next. origin next.0.now.number self.now.trace.shards ≡ self.now.shard) }
-        ensures has_part { IfSome result (λ next. has_part self.now.trace.shards next.1 (operation self.now.trace.bytes next.0.now) ≡ true) }
+        ensures has_part { IfSome result
+            (λ next. has_part self.now.trace.shards next.1 (operation self.now.trace.bytes next.0.now) ≡ true) }
         ensures below { IfSome result (λ next. next.1 < self.now.trace.shards) }
     {
         issued_parts_are_counted();
@@ -137,7 +138,8 @@ fn first_part(trace: &Trace, shards: u32, at: usize) -> Part
     requires parsed_for { shards ≡ trace.now.shards }
     ensures at { result.at ≡ at }
     ensures below { result.to < shards }
-    ensures does { (d : Operation) → at < length trace.now.commands → has_part shards result.to (slice_index_or (trace_in trace.now).operations at d) ≡ true }
+    ensures does { (d : Operation) → at < length trace.now.commands
+        → has_part shards result.to (slice_index_or (trace_in trace.now).operations at d) ≡ true }
     ensures first { shards_before result.to (slice_get (trace_in trace.now).operations at) ≡ 0 }
 {
     let commands = trace.commands();

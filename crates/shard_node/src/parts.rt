@@ -27,7 +27,8 @@ pub(crate) fn do_part(
 )
     requires askable { IsAskable (asked ask.now) }
     requires unguarded { guards_of space.old.region ≡ 0 }
-    requires tables { ask.now.kind ≡ kinds.Put → (has ask.now.key.now space.old.rows ≡ true) ⊎ (length space.old.rows < space.old.room) }
+    requires tables { ask.now.kind ≡ kinds.Put
+        → (has ask.now.key.now space.old.rows ≡ true) ⊎ (length space.old.rows < space.old.room) }
     requires spare { length space.old.rows + 1 ≤ journal.old.spare }
     requires buffer { length keys.old ≡ key_room * most_keys }
     requires unanswered { slice_get log.old.replies part ≡ Some None }

@@ -41,7 +41,8 @@ impl<'f, L: Link<'f> + Drop> Peer<'f, L> {
     /// Sends the reply that waits. True where it was sent.
     pub(crate) fn send_reply(&mut self) -> bool
         ensures sends { SendsReply (traffic_by L.sent L.received L.full L.empty) L.end self.old self.new }
-        ensures sent { IsTrue result ↔ (packets (traffic_by L.sent L.received L.full L.empty self.old.link) < packets (traffic_by L.sent L.received L.full L.empty self.new.link)) }
+        ensures sent { IsTrue result ↔ (packets (traffic_by L.sent L.received L.full L.empty self.old.link) < packets
+            (traffic_by L.sent L.received L.full L.empty self.new.link)) }
     {
         send_held(&mut self.link, Lane::Replies, &mut self.reply)
     }
@@ -49,7 +50,8 @@ impl<'f, L: Link<'f> + Drop> Peer<'f, L> {
     /// Says Bye, where it was not said. True where it was sent.
     pub(crate) fn say_bye(&mut self) -> bool
         ensures says { SaysBye (traffic_by L.sent L.received L.full L.empty) L.end self.old self.new }
-        ensures sent { IsTrue result ↔ (packets (traffic_by L.sent L.received L.full L.empty self.old.link) < packets (traffic_by L.sent L.received L.full L.empty self.new.link)) }
+        ensures sent { IsTrue result ↔ (packets (traffic_by L.sent L.received L.full L.empty self.old.link) < packets
+            (traffic_by L.sent L.received L.full L.empty self.new.link)) }
     {
         if self.has_sent_bye {
             return false;
@@ -62,7 +64,8 @@ impl<'f, L: Link<'f> + Drop> Peer<'f, L> {
 /// Says Bye to each peer that was not told, on the lane of requests: no more of these come. True where it was sent to one.
 pub(crate) fn say_byes<'f, L: Link<'f> + Drop>(peers: &mut [Peer<'f, L>]) -> bool
     ensures each { Each (SaysBye (traffic_by L.sent L.received L.full L.empty) L.end) peers.old peers.new }
-    ensures sent { IsTrue result ↔ (packets_by_all (traffic_by L.sent L.received L.full L.empty) peers.old < packets_by_all (traffic_by L.sent L.received L.full L.empty) peers.new) }
+    ensures sent { IsTrue result ↔ (packets_by_all (traffic_by L.sent L.received L.full L.empty) peers.old < packets_by_all
+        (traffic_by L.sent L.received L.full L.empty) peers.new) }
 {
     let mut moved = false;
     for peer in peers.iter_mut() {
@@ -74,7 +77,8 @@ pub(crate) fn say_byes<'f, L: Link<'f> + Drop>(peers: &mut [Peer<'f, L>]) -> boo
 /// Sends each reply that waits. True where one was sent.
 pub(crate) fn send_replies<'f, L: Link<'f> + Drop>(peers: &mut [Peer<'f, L>]) -> bool
     ensures each { Each (SendsReply (traffic_by L.sent L.received L.full L.empty) L.end) peers.old peers.new }
-    ensures sent { IsTrue result ↔ (packets_by_all (traffic_by L.sent L.received L.full L.empty) peers.old < packets_by_all (traffic_by L.sent L.received L.full L.empty) peers.new) }
+    ensures sent { IsTrue result ↔ (packets_by_all (traffic_by L.sent L.received L.full L.empty) peers.old < packets_by_all
+        (traffic_by L.sent L.received L.full L.empty) peers.new) }
 {
     let mut moved = false;
     for peer in peers.iter_mut() {

@@ -35,8 +35,10 @@ pub(crate) fn shards_take_turns(trace: &Trace)
     ensures first { (o : ℕ) → o < trace.now.shards → parts_before (trace_in trace.now) trace.now.shards o o ≡ 0 }
     ensures next { (o at : ℕ) (d : Operation) → at % trace.now.shards ≡ o → at < length trace.now.commands
         → parts_before (trace_in trace.now) trace.now.shards o (at + trace.now.shards)
-        ≡ parts_before (trace_in trace.now) trace.now.shards o at + (if is_scan (slice_index_or (trace_in trace.now).operations at d).kind then trace.now.shards else 1) }
-    ensures most { (o at : ℕ) → at < length trace.now.commands → parts_before (trace_in trace.now) trace.now.shards o at + trace.now.shards ≤ most_commands * most_shards }
+        ≡ parts_before (trace_in trace.now) trace.now.shards o at + (if is_scan
+        (slice_index_or (trace_in trace.now).operations at d).kind then trace.now.shards else 1) }
+    ensures most { (o at : ℕ) → at < length trace.now.commands
+        → parts_before (trace_in trace.now) trace.now.shards o at + trace.now.shards ≤ most_commands * most_shards }
 {
     parts_go_up_by_command();
     trace.commands();

@@ -47,7 +47,14 @@ impl Ran {
     /// There is no memory.
     pub fn new(alloc: Global, trace: &Trace, shards: u32, pages: u32) -> Result<Ran, AllocError>
         requires parsed_for { shards ≡ trace.now.shards }
-        ensures { IfOk result (λ ran. ran ≡ record { trace = trace_in trace.now; shards = shards; pages = pages; journals = []; logs = []; lines = [] }) }
+        ensures { IfOk result (λ ran. ran ≡ record {
+          trace = trace_in trace.now;
+          shards = shards;
+          pages = pages;
+          journals = [];
+          logs = [];
+          lines = [];
+        }) }
     {
         Ok(Ran {
             mark: TraceMark::of(trace),

@@ -75,7 +75,8 @@ impl<'f> Rest<'f> {
         ensures origin { self.now.origin < self.now.trace.shards }
         ensures in_log { (operation : Operation) (others : List Operation) → self.now.left ≡ operation ∷ others
             → slice_get (log_of self.now) self.now.part ≡ Some (operation.number, self.now.shard) }
-        ensures before { count_by (λ part. part.1 == self.now.shard) (take self.now.part (log_of self.now)) + length self.now.left ≡ length (all_of self.now) }
+        ensures before { count_by (λ part. part.1 == self.now.shard) (take self.now.part (log_of self.now)) + length self.now.left
+            ≡ length (all_of self.now) }
         ensures rest { self.now.left ≡ drop (length (all_of self.now) - length self.now.left) (all_of self.now) }
         ensures few { length self.now.left ≤ most_commands }
         ensures parts { self.now.part ≤ most_commands * most_shards }
@@ -160,7 +161,8 @@ fn find(trace: &Trace, shards: u32, origin: u32, shard: u32, from: Place) -> Pla
         → left_from trace.now shards origin shard result.at ≡ left_from trace.now shards origin shard place }
     ensures origin { result.at % shards ≡ origin }
     ensures before { result.before ≡ parts_before (trace_in trace.now) shards origin result.at }
-    ensures here { (d : Operation) → result.at < length trace.now.commands → is_for shards origin shard (slice_index_or (trace_in trace.now).operations result.at d) ≡ true }
+    ensures here { (d : Operation) → result.at < length trace.now.commands
+        → is_for shards origin shard (slice_index_or (trace_in trace.now).operations result.at d) ≡ true }
 {
     shards_take_turns(trace);
     let commands = trace.commands();

@@ -58,7 +58,8 @@ impl<'f, L: Link<'f> + Drop, G: Gate + Drop> Shard<'f, L, G> {
     pub(crate) fn take_back(&mut self)
         requires consistent { IsConsistent self.old }
         ensures step { IsStep (traffic_by L.sent L.received L.full L.empty) L.end self.old self.new }
-        ensures received { (lane : AnyLane) → ReceivesNone (traffic_by L.sent L.received L.full L.empty) lane (node_state self.old) (node_state self.new) }
+        ensures received { (lane : AnyLane)
+            → ReceivesNone (traffic_by L.sent L.received L.full L.empty) lane (node_state self.old) (node_state self.new) }
         ensures goes { Goes (traffic_by L.sent L.received L.full L.empty) (node_state self.old) (node_state self.new) }
         ensures same { node_state self.new ≡ record (node_state self.old) { space = (node_state self.new).space } }
         ensures looked { LooksOnce self.old.space self.new.space }
@@ -72,10 +73,13 @@ impl<'f, L: Link<'f> + Drop, G: Gate + Drop> Shard<'f, L, G> {
     pub(crate) fn release_held(&mut self) -> bool
         requires consistent { IsConsistent self.old }
         ensures step { IsStep (traffic_by L.sent L.received L.full L.empty) L.end self.old self.new }
-        ensures received { (lane : AnyLane) → ReceivesNone (traffic_by L.sent L.received L.full L.empty) lane (node_state self.old) (node_state self.new) }
+        ensures received { (lane : AnyLane)
+            → ReceivesNone (traffic_by L.sent L.received L.full L.empty) lane (node_state self.old) (node_state self.new) }
         ensures goes { Goes (traffic_by L.sent L.received L.full L.empty) (node_state self.old) (node_state self.new) }
-        ensures released { result ≡ true → Frees (traffic_by L.sent L.received L.full L.empty) G.holds (node_state self.old) (node_state self.new) }
-        ensures raced { result ≡ false → RacesAll (traffic_by L.sent L.received L.full L.empty) G.holds (node_state self.old) (node_state self.new) }
+        ensures released { result ≡ true
+            → Frees (traffic_by L.sent L.received L.full L.empty) G.holds (node_state self.old) (node_state self.new) }
+        ensures raced { result ≡ false → RacesAll (traffic_by L.sent L.received L.full L.empty) G.holds (node_state self.old)
+            (node_state self.new) }
     {
         release_all(self.peers.as_mut_slice(), &mut self.tally)
     }
@@ -84,11 +88,14 @@ impl<'f, L: Link<'f> + Drop, G: Gate + Drop> Shard<'f, L, G> {
     pub(crate) fn send_replies(&mut self) -> bool
         requires consistent { IsConsistent self.old }
         ensures step { IsStep (traffic_by L.sent L.received L.full L.empty) L.end self.old self.new }
-        ensures received { (lane : AnyLane) → ReceivesNone (traffic_by L.sent L.received L.full L.empty) lane (node_state self.old) (node_state self.new) }
+        ensures received { (lane : AnyLane)
+            → ReceivesNone (traffic_by L.sent L.received L.full L.empty) lane (node_state self.old) (node_state self.new) }
         ensures goes { Goes (traffic_by L.sent L.received L.full L.empty) (node_state self.old) (node_state self.new) }
-        ensures sent { IsTrue result ↔ (packets_of (traffic_by L.sent L.received L.full L.empty) (node_state self.old) < packets_of (traffic_by L.sent L.received L.full L.empty) (node_state self.new)) }
+        ensures sent { IsTrue result ↔ (packets_of (traffic_by L.sent L.received L.full L.empty) (node_state self.old) < packets_of
+            (traffic_by L.sent L.received L.full L.empty) (node_state self.new)) }
         ensures held_up { NonePassed (traffic_by L.sent L.received L.full L.empty) (node_state self.old) (node_state self.new)
-            → HeldUp (traffic_by L.sent L.received L.full L.empty) (λ k. ReplyWaits (traffic_by L.sent L.received L.full L.empty)) (node_state self.old) (node_state self.new) }
+            → HeldUp (traffic_by L.sent L.received L.full L.empty) (λ k. ReplyWaits
+            (traffic_by L.sent L.received L.full L.empty)) (node_state self.old) (node_state self.new) }
     {
         send_replies(self.peers.as_mut_slice())
     }
@@ -97,11 +104,14 @@ impl<'f, L: Link<'f> + Drop, G: Gate + Drop> Shard<'f, L, G> {
     pub(crate) fn say_byes(&mut self) -> bool
         requires consistent { IsConsistent self.old }
         ensures step { IsStep (traffic_by L.sent L.received L.full L.empty) L.end self.old self.new }
-        ensures received { (lane : AnyLane) → ReceivesNone (traffic_by L.sent L.received L.full L.empty) lane (node_state self.old) (node_state self.new) }
+        ensures received { (lane : AnyLane)
+            → ReceivesNone (traffic_by L.sent L.received L.full L.empty) lane (node_state self.old) (node_state self.new) }
         ensures goes { Goes (traffic_by L.sent L.received L.full L.empty) (node_state self.old) (node_state self.new) }
-        ensures sent { IsTrue result ↔ (packets_of (traffic_by L.sent L.received L.full L.empty) (node_state self.old) < packets_of (traffic_by L.sent L.received L.full L.empty) (node_state self.new)) }
+        ensures sent { IsTrue result ↔ (packets_of (traffic_by L.sent L.received L.full L.empty) (node_state self.old) < packets_of
+            (traffic_by L.sent L.received L.full L.empty) (node_state self.new)) }
         ensures held_up { NonePassed (traffic_by L.sent L.received L.full L.empty) (node_state self.old) (node_state self.new)
-            → HeldUp (traffic_by L.sent L.received L.full L.empty) (λ k. ByeWaits (traffic_by L.sent L.received L.full L.empty) G.holds (node_state self.old)) (node_state self.old) (node_state self.new) }
+            → HeldUp (traffic_by L.sent L.received L.full L.empty) (λ k. ByeWaits (traffic_by L.sent L.received L.full L.empty) G.holds
+            (node_state self.old)) (node_state self.old) (node_state self.new) }
     {
         issued_parts_are_counted();
         if self.request.is_none() && self.own.next().is_none() {

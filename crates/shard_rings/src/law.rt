@@ -11,8 +11,10 @@ use cache_model::scanned_keys_are_in_order;
 
 /// Bytes hold at most one reply, to at most one command.
 pub fn a_message_is_one_reply()
-    ensures number { (bytes : List ℕ) (i j : ℕ) (reply other : Reply) → HoldsReply bytes i reply → HoldsReply bytes j other → i ≡ j }
-    ensures reply { (bytes : List ℕ) (i j : ℕ) (reply other : Reply) → HoldsReply bytes i reply → HoldsReply bytes j other → reply ≡ other }
+    ensures number { (bytes : List ℕ) (i j : ℕ) (reply other : Reply) → HoldsReply bytes i reply → HoldsReply bytes j other
+        → i ≡ j }
+    ensures reply { (bytes : List ℕ) (i j : ℕ) (reply other : Reply) → HoldsReply bytes i reply → HoldsReply bytes j other
+        → reply ≡ other }
 {}
 
 /// Each command of a trace can be asked, and it does not matter on which line it stood.
@@ -23,7 +25,8 @@ pub fn commands_can_be_asked()
 
 /// What a part replies can be sent, where its operation can be asked and each row of the cache can be sent.
 pub fn replies_can_be_sent()
-    ensures { (operation : Operation) (cache : List Row) → IsAskable operation → All IsSendableRow cache → IsSendable (apply operation cache).1 }
+    ensures { (operation : Operation) (cache : List Row) → IsAskable operation → All IsSendableRow cache
+        → IsSendable (apply operation cache).1 }
 {
     scanned_keys_are_in_order();
 }

@@ -107,7 +107,8 @@ impl<'f> Link<'f> for MemoryLink<'f> {
         ensures back { IfErr result (λ back. back ≡ packet.entry) }
         ensures not_sent { OnErr result (self.new.link.out.sent ≡ self.old.link.out.sent) }
         ensures full { OnErr result (Rose (on lane self.old.link.out.full) (on lane self.new.link.out.full)) }
-        ensures never_falls { NoneFell self.old.link.out.full self.new.link.out.full × NoneFell self.old.link.into.empty self.new.link.into.empty }
+        ensures never_falls { NoneFell self.old.link.out.full self.new.link.out.full
+            × NoneFell self.old.link.into.empty self.new.link.into.empty }
         ensures counted { OnErr result (self.new.link.out.full ≡ counts lane self.old.link.out.full) }
         ensures not_counted { OnOk result (self.new.link.out.full ≡ self.old.link.out.full) }
         ensures received { self.new.link.into.received ≡ self.old.link.into.received }
@@ -122,7 +123,8 @@ impl<'f> Link<'f> for MemoryLink<'f> {
         ensures received { IfSome result (λ packet. self.new.link.into.received ≡ adds lane packet self.old.link.into.received) }
         ensures not_received { IfNone result (self.new.link.into.received ≡ self.old.link.into.received) }
         ensures empty { IfNone result (Rose (on lane self.old.link.into.empty) (on lane self.new.link.into.empty)) }
-        ensures never_falls { NoneFell self.old.link.out.full self.new.link.out.full × NoneFell self.old.link.into.empty self.new.link.into.empty }
+        ensures never_falls { NoneFell self.old.link.out.full self.new.link.out.full
+            × NoneFell self.old.link.into.empty self.new.link.into.empty }
         ensures counted { IfNone result (self.new.link.into.empty ≡ counts lane self.old.link.into.empty) }
         ensures not_counted { OnSome result (self.new.link.into.empty ≡ self.old.link.into.empty) }
         ensures holds_none { IsNone result ↔ (on lane self.old.link.into.received ≡ on lane self.old.offered.sent) }

@@ -54,8 +54,10 @@ fn body_in(bytes: &[u8], len: u32) -> Option<&[u8]>
 pub fn write_reply(reply: &ReplyView<'_>, into: &mut [u8])
     requires sendable { (meaning : Reply) × IsSendable meaning × IsViewOf reply.now meaning }
     requires room { message_header + length reply.now.body.now ≤ length into.old }
-    ensures bytes { into.new ≡ reply_header reply.now.kind reply.now.keys reply.now.number (length reply.now.body.now) ++ reply.now.body.now ++ drop (message_header + length reply.now.body.now) into.old }
-    ensures holds { (meaning : Reply) → IsSendable meaning → IsViewOf reply.now meaning → HoldsReply into.new reply.now.number meaning }
+    ensures bytes { into.new ≡ reply_header reply.now.kind reply.now.keys reply.now.number (length reply.now.body.now)
+        ++ reply.now.body.now ++ drop (message_header + length reply.now.body.now) into.old }
+    ensures holds { (meaning : Reply) → IsSendable meaning → IsViewOf reply.now meaning
+        → HoldsReply into.new reply.now.number meaning }
 {
     let head = Head {
         kind: reply.kind,
@@ -73,7 +75,8 @@ pub fn write_reply_header(kind: ReplyKind, number: u32, keys: u32, len: u32, int
     requires keys { keys < 2 ^ 16 }
     requires room { message_header + len ≤ length into.old }
     ensures bytes { into.new ≡ reply_header kind keys number len ++ drop message_header into.old }
-    ensures holds { (meaning : Reply) → IsSendable meaning → spelled meaning ≡ (kind, take len (drop message_header into.old)) → key_count meaning ≡ keys → HoldsReply into.new number meaning }
+    ensures holds { (meaning : Reply) → IsSendable meaning → spelled meaning ≡ (kind, take len (drop message_header into.old))
+        → key_count meaning ≡ keys → HoldsReply into.new number meaning }
 {
     let head = Head {
         kind,

@@ -29,10 +29,12 @@ pub fn finish_run<'f, G: Gate + Drop>(
     nodes: Vec<Node<'f, RingLink<'f>, G>>,
     into: Remains<'f>,
 ) -> Ended
-    requires driven { (homes : List OwnedList) × WereDriven G.holds (trace_in trace.now) trace.now.shards into.ran.pages homes nodes.items }
+    requires driven { (homes : List OwnedList)
+        × WereDriven G.holds (trace_in trace.now) trace.now.shards into.ran.pages homes nodes.items }
     requires room { IsRoomFor (trace_in trace.now) trace.now.shards into.ran.pages into }
     ensures run { IsRun (trace_in trace.now) trace.now.shards into.entry.ran.pages result.ran }
-    ensures seats { (homes : List OwnedList) → WereDriven G.holds (trace_in trace.now) trace.now.shards into.entry.ran.pages homes nodes.entry.items
+    ensures seats { (homes : List OwnedList)
+        → WereDriven G.holds (trace_in trace.now) trace.now.shards into.entry.ran.pages homes nodes.entry.items
         → AreAtRest trace.now.shards homes result.seats.items }
 {
     facts_of(trace);

@@ -111,7 +111,9 @@ fn open_last<'f, G: Gates>(
     requires links { length links.items + 1 ≡ shards }
     requires unused { AreUnused links.items }
     requires room { shards ≤ vec_capacity nodes.old }
-    ensures opened { OnOk result (OpensLast (trace_in trace.now) shards pages homes.now links.entry.items seats.old.items seats.new.items nodes.old.items nodes.new.items) }
+    ensures opened { OnOk result
+        (OpensLast
+        (trace_in trace.now) shards pages homes.now links.entry.items seats.old.items seats.new.items nodes.old.items nodes.new.items) }
     ensures refused { OnErr result ((seats.new.items ≡ seats.old.items) × (nodes.new.items ≡ nodes.old.items)) }
     ensures seats_room { vec_capacity seats.old ≤ vec_capacity seats.new }
     ensures nodes_room { vec_capacity nodes.old ≤ vec_capacity nodes.new }

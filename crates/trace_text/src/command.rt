@@ -12,13 +12,13 @@ pub enum Kind {
 }
 
 impl Kind {
-    pub fn is_put(self) -> bool
+    pub(crate) fn is_put(self) -> bool
         ensures { result ≡ is_put self }
     {
         matches!(self, Kind::Put)
     }
 
-    pub fn is_get(self) -> bool
+    pub(crate) fn is_get(self) -> bool
         ensures { result ≡ is_get self }
     {
         matches!(self, Kind::Get)

@@ -14,8 +14,10 @@ impl RowCache {
 
     /// The value of a key's row, which is the row used last from now on. None where no row has the key.
     pub fn get(&mut self, key: &[u8]) -> Option<&[u8]>
-        ensures value { MatchOption result (apply.row_of key.now (rows_of self.old) ≡ None) (λ value. (row : Row) × (apply.row_of key.now (rows_of self.old) ≡ Some row) × (value.now ≡ row.value)) }
-        ensures* after { sem 𝓛 (EndsAs self.entry (λ c. (rows_of c ≡ (apply.get key.now (rows_of self.old)).0) × (c.room ≡ self.old.room) × (c.region ≡ self.old.region))) }
+        ensures value { MatchOption result (apply.row_of key.now (rows_of self.old) ≡ None)
+            (λ value. (row : Row) × (apply.row_of key.now (rows_of self.old) ≡ Some row) × (value.now ≡ row.value)) }
+        ensures* after { sem 𝓛 (EndsAs self.entry (λ c. (rows_of c ≡ (apply.get key.now (rows_of self.old)).0) ×
+            (c.room ≡ self.old.room) × (c.region ≡ self.old.region))) }
     {
         let place = self.use_row(key)?;
         Some(self.value_at(place))
@@ -23,7 +25,9 @@ impl RowCache {
 
     // Makes the row of a key the one used last, and tells where it stands.
     fn use_row(&mut self, key: &[u8]) -> Option<Place>
-        ensures found { MatchOption result (apply.row_of key.now (rows_of self.old) ≡ None) (λ place. (row : Row) × (apply.row_of key.now (rows_of self.old) ≡ Some row) × StandsAt self.new.region place row × IsSome (live_at self.new.region place)) }
+        ensures found { MatchOption result (apply.row_of key.now (rows_of self.old) ≡ None)
+            (λ place. (row : Row) × (apply.row_of key.now (rows_of self.old) ≡ Some row) × StandsAt self.new.region place row
+            × IsSome (live_at self.new.region place)) }
         ensures rows { rows_of self.new ≡ (apply.get key.now (rows_of self.old)).0 }
         ensures room { self.new.room ≡ self.old.room }
         ensures region { self.new.region ≡ self.old.region }

@@ -37,7 +37,8 @@ impl RowCache {
 
     /// The length of the value of a key's row, in bytes. None where no row has the key.
     pub fn find_len(&self, key: &[u8]) -> Option<u32>
-        ensures { MatchOption result (apply.row_of key.now (rows_of self.now) ≡ None) (λ len. (row : Row) × (apply.row_of key.now (rows_of self.now) ≡ Some row) × (len ≡ length row.value)) }
+        ensures { MatchOption result (apply.row_of key.now (rows_of self.now) ≡ None)
+            (λ len. (row : Row) × (apply.row_of key.now (rows_of self.now) ≡ Some row) × (len ≡ length row.value)) }
     {
         let place = self.place_of(key)?;
         Some(value_in(self.region.bytes(place)).len() as u32)
@@ -45,7 +46,9 @@ impl RowCache {
 
     /// Where the row of a key stands. None where no row has the key.
     pub fn place_of(&self, key: &[u8]) -> Option<Place>
-        ensures { MatchOption result (apply.row_of key.now (rows_of self.now) ≡ None) (λ place. (row : Row) × (apply.row_of key.now (rows_of self.now) ≡ Some row) × StandsAt self.now.region place row × IsSome (live_at self.now.region place)) }
+        ensures { MatchOption result (apply.row_of key.now (rows_of self.now) ≡ None)
+            (λ place. (row : Row) × (apply.row_of key.now (rows_of self.now) ≡ Some row) × StandsAt self.now.region place row
+            × IsSome (live_at self.now.region place)) }
     {
         let Ok(found) = self.tables.search(&self.region, key) else {
             return None;

@@ -19,7 +19,8 @@ impl RowCache {
         requires segment { length piece.bytes ≡ sizes.segment }
         ensures rows { rows_of self.new ≡ rows_of self.old }
         ensures room { self.new.room ≡ self.old.room }
-        ensures added { (n : ℕ) × IsLeastUnused self.old.region n × (self.new.region ≡ with_segment self.old.region n (Some (fresh piece))) }
+        ensures added { (n : ℕ) × IsLeastUnused self.old.region n
+            × (self.new.region ≡ with_segment self.old.region n (Some (fresh piece))) }
         ensures held { held_count self.new.region ≡ held_count self.old.region + 1 }
         ensures free { free_count self.new.region ≡ free_count self.old.region + 1 }
         ensures stay { Stay self.old.region self.new.region }
@@ -33,7 +34,8 @@ impl RowCache {
         ensures unchanged { IsNone result → self.new ≡ self.old }
         ensures rows { rows_of self.new ≡ rows_of self.old }
         ensures room { self.new.room ≡ self.old.room }
-        ensures taken { IfSome result (λ piece. (n : ℕ) × IsGreatestFree self.old.region n × (segment_at self.old.region n ≡ Some (fresh piece)) × (self.new.region ≡ with_segment self.old.region n None)) }
+        ensures taken { IfSome result (λ piece. (n : ℕ) × IsGreatestFree self.old.region n ×
+            (segment_at self.old.region n ≡ Some (fresh piece)) × (self.new.region ≡ with_segment self.old.region n None)) }
         ensures held { IsSome result → held_count self.new.region + 1 ≡ held_count self.old.region }
         ensures free { IsSome result → free_count self.new.region + 1 ≡ free_count self.old.region }
         ensures stay { Stay self.old.region self.new.region }
@@ -43,7 +45,8 @@ impl RowCache {
 
     /// Closes the active segment, and makes the free one with the least number active.
     pub fn next_active(&mut self)
-        requires free { (2 ≤ free_count self.old.region) ⊎ ((1 ≤ free_count self.old.region) × (active_of self.old.region ≡ None)) }
+        requires free { (2 ≤ free_count self.old.region)
+            ⊎ ((1 ≤ free_count self.old.region) × (active_of self.old.region ≡ None)) }
         requires full { IsSome (active_of self.old.region) → left self.old.region < sizes.greatest_object }
         ensures rows { rows_of self.new ≡ rows_of self.old }
         ensures room { self.new.room ≡ self.old.room }
@@ -101,7 +104,9 @@ impl RowCache {
         ensures none { IsNone result ↔ held_count self.old.region ≡ 0 }
         ensures rows { rows_of self.new ≡ [] }
         ensures room { self.new.room ≡ self.old.room }
-        ensures given { IfSome result (λ piece. (n : ℕ) × IsGreatestHeld self.old.region n × (slice_get (pieces self.old.region) n ≡ Some (Some (identity piece))) × (pieces self.new.region ≡ slice_set (pieces self.old.region) n None)) }
+        ensures given { IfSome result (λ piece. (n : ℕ) × IsGreatestHeld self.old.region n ×
+            (slice_get (pieces self.old.region) n ≡ Some (Some (identity piece)))
+            × (pieces self.new.region ≡ slice_set (pieces self.old.region) n None)) }
         ensures held { IsSome result → held_count self.new.region + 1 ≡ held_count self.old.region }
         ensures free { free_count self.new.region ≡ held_count self.new.region }
         ensures most { (shape self.new.region).most ≡ (shape self.old.region).most }

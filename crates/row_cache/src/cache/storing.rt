@@ -42,12 +42,15 @@ pub(super) fn put_row(
     requires consistent { IsConsistent tables.old region.old live.old }
     requires row { IsStored row }
     requires active { IsSome (active_of region.old) }
-    requires room { (apply.has row.key.now (rows_in tables.old region.old) ≡ true) ⊎ (length (rows_in tables.old region.old) < tables.old.room) }
+    requires room { (apply.has row.key.now (rows_in tables.old region.old) ≡ true)
+        ⊎ (length (rows_in tables.old region.old) < tables.old.room) }
     ensures full { IsErr result ↔ left region.old < size row.entry.key.now row.entry.value.now }
     ensures unchanged { IfErr result (λ _. (region.new ≡ region.old) × (tables.new ≡ tables.old) × (live.new ≡ live.old)) }
     ensures consistent { IsConsistent tables.new region.new live.new }
-    ensures rows { IfOk result (λ _. rows_in tables.new region.new ≡ (apply.put row.entry.key.now row.entry.value.now row.entry.put (rows_in tables.old region.old)).0) }
-    ensures reply { IfOk result (λ did. reply_of did ≡ (apply.put row.entry.key.now row.entry.value.now row.entry.put (rows_in tables.old region.old)).1) }
+    ensures rows { IfOk result (λ _. rows_in tables.new region.new ≡
+        (apply.put row.entry.key.now row.entry.value.now row.entry.put (rows_in tables.old region.old)).0) }
+    ensures reply { IfOk result (λ did. reply_of did ≡ (apply.put row.entry.key.now row.entry.value.now row.entry.put
+        (rows_in tables.old region.old)).1) }
     ensures room { tables.new.room ≡ tables.old.room }
     ensures shape { shape region.new ≡ shape region.old }
     ensures left { IfOk result (λ _. left region.new + size row.entry.key.now row.entry.value.now ≡ left region.old) }
@@ -110,7 +113,8 @@ fn replace_row(
     ensures full { IsErr result ↔ left region.old < size row.entry.key.now row.entry.value.now }
     ensures unchanged { IfErr result (λ _. (region.new ≡ region.old) × (tables.new ≡ tables.old) × (live.new ≡ live.old)) }
     ensures consistent { IsConsistent tables.new region.new live.new }
-    ensures rows { IfOk result (λ _. rows_in tables.new region.new ≡ row_of row.entry ∷ rows_with tables.old region.old (delete number tables.old.recency)) }
+    ensures rows { IfOk result (λ _. rows_in tables.new region.new ≡ row_of row.entry ∷ rows_with tables.old region.old
+        (delete number tables.old.recency)) }
     ensures room { tables.new.room ≡ tables.old.room }
     ensures shape { shape region.new ≡ shape region.old }
     ensures left { IfOk result (λ _. left region.new + size row.entry.key.now row.entry.value.now ≡ left region.old) }
@@ -156,7 +160,8 @@ fn swap_row(
     ensures unchanged { IfErr result (λ _. region.new ≡ region.old) }
     ensures swapped { IfOk result (λ did. SwapsRow old did.0 number (row_of row.entry) (live_at region.old) (live_at region.new)) }
     ensures bytes { IfOk result (λ did. IfSome (live_at region.old old) (λ item. did.1 ≡ size_of item)) }
-    ensures live { IfOk result (λ did. live_total region.new + did.1 ≡ live_total region.old + size row.entry.key.now row.entry.value.now) }
+    ensures live { IfOk result (λ did. live_total region.new + did.1
+        ≡ live_total region.old + size row.entry.key.now row.entry.value.now) }
     ensures shape { shape region.new ≡ shape region.old }
     ensures left { IfOk result (λ _. left region.new + size row.entry.key.now row.entry.value.now ≡ left region.old) }
     ensures stay { Stay region.old region.new }

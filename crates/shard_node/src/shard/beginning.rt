@@ -32,10 +32,12 @@ impl<'f, L: Link<'f> + Drop, G: Gate + Drop> Shard<'f, L, G> {
     pub(crate) fn go_on(&mut self) -> bool
         requires consistent { IsConsistent self.old }
         ensures step { IsStep (traffic_by L.sent L.received L.full L.empty) L.end self.old self.new }
-        ensures received { (lane : AnyLane) → ReceivesNone (traffic_by L.sent L.received L.full L.empty) lane (node_state self.old) (node_state self.new) }
+        ensures received { (lane : AnyLane)
+            → ReceivesNone (traffic_by L.sent L.received L.full L.empty) lane (node_state self.old) (node_state self.new) }
         ensures goes { Goes (traffic_by L.sent L.received L.full L.empty) (node_state self.old) (node_state self.new) }
         ensures moved { IsTrue result ↔ Rises (traffic_by L.sent L.received L.full L.empty) (node_state self.old) (node_state self.new) }
-        ensures held_back { result ≡ false → HoldsBack (traffic_by L.sent L.received L.full L.empty) G.holds (node_state self.old) (node_state self.new) }
+        ensures held_back { result ≡ false
+            → HoldsBack (traffic_by L.sent L.received L.full L.empty) G.holds (node_state self.old) (node_state self.new) }
     {
         if self.request.is_some() {
             self.send_request()
@@ -48,10 +50,13 @@ impl<'f, L: Link<'f> + Drop, G: Gate + Drop> Shard<'f, L, G> {
     fn send_request(&mut self) -> bool
         requires consistent { IsConsistent self.old }
         ensures step { IsStep (traffic_by L.sent L.received L.full L.empty) L.end self.old self.new }
-        ensures received { (lane : AnyLane) → ReceivesNone (traffic_by L.sent L.received L.full L.empty) lane (node_state self.old) (node_state self.new) }
+        ensures received { (lane : AnyLane)
+            → ReceivesNone (traffic_by L.sent L.received L.full L.empty) lane (node_state self.old) (node_state self.new) }
         ensures goes { Goes (traffic_by L.sent L.received L.full L.empty) (node_state self.old) (node_state self.new) }
         ensures moved { IsTrue result ↔ Rises (traffic_by L.sent L.received L.full L.empty) (node_state self.old) (node_state self.new) }
-        ensures held_up { result ≡ false → HeldUp (traffic_by L.sent L.received L.full L.empty) (λ k a b. (waiting : IsWaiting) → self.old.request ≡ Some waiting → a.shard ≡ waiting.peer
+        ensures held_up { result ≡ false
+            → HeldUp (traffic_by L.sent L.received L.full L.empty)
+            (λ k a b. (waiting : IsWaiting) → self.old.request ≡ Some waiting → a.shard ≡ waiting.peer
             → Rose (L.full a.link).requests (L.full b.link).requests) (node_state self.old) (node_state self.new) }
     {
         let Some(Waiting { peer, block }) = self.request.take() else {
@@ -79,10 +84,12 @@ impl<'f, L: Link<'f> + Drop, G: Gate + Drop> Shard<'f, L, G> {
         requires consistent { IsConsistent self.old }
         requires idle { self.old.request ≡ None }
         ensures step { IsStep (traffic_by L.sent L.received L.full L.empty) L.end self.old self.new }
-        ensures received { (lane : AnyLane) → ReceivesNone (traffic_by L.sent L.received L.full L.empty) lane (node_state self.old) (node_state self.new) }
+        ensures received { (lane : AnyLane)
+            → ReceivesNone (traffic_by L.sent L.received L.full L.empty) lane (node_state self.old) (node_state self.new) }
         ensures goes { Goes (traffic_by L.sent L.received L.full L.empty) (node_state self.old) (node_state self.new) }
         ensures moved { IsTrue result ↔ Rises (traffic_by L.sent L.received L.full L.empty) (node_state self.old) (node_state self.new) }
-        ensures held_back { result ≡ false → HoldsBack (traffic_by L.sent L.received L.full L.empty) G.holds (node_state self.old) (node_state self.new) }
+        ensures held_back { result ≡ false
+            → HoldsBack (traffic_by L.sent L.received L.full L.empty) G.holds (node_state self.old) (node_state self.new) }
     {
         let Some((command, doer)) = self.own.next() else {
             return false;
@@ -117,7 +124,8 @@ impl<'f, L: Link<'f> + Drop, G: Gate + Drop> Shard<'f, L, G> {
         requires consistent { IsConsistent self.old }
         requires next { (i : ℕ) × (slice_get (issued_by self.old) self.old.own.begun ≡ Some (i, self.old.shard)) }
         ensures step { IsStep (traffic_by L.sent L.received L.full L.empty) L.end self.old self.new }
-        ensures received { (lane : AnyLane) → ReceivesNone (traffic_by L.sent L.received L.full L.empty) lane (node_state self.old) (node_state self.new) }
+        ensures received { (lane : AnyLane)
+            → ReceivesNone (traffic_by L.sent L.received L.full L.empty) lane (node_state self.old) (node_state self.new) }
         ensures goes { Goes (traffic_by L.sent L.received L.full L.empty) (node_state self.old) (node_state self.new) }
         ensures moved { IsTrue result ↔ Rises (traffic_by L.sent L.received L.full L.empty) (node_state self.old) (node_state self.new) }
         ensures done { IsTrue result }
@@ -152,12 +160,15 @@ impl<'f, L: Link<'f> + Drop, G: Gate + Drop> Shard<'f, L, G> {
         requires below { doer < self.old.shards }
         requires ticket { HasIdle self.old.space.lent Shares.Request }
         ensures step { IsStep (traffic_by L.sent L.received L.full L.empty) L.end self.old self.new }
-        ensures received { (lane : AnyLane) → ReceivesNone (traffic_by L.sent L.received L.full L.empty) lane (node_state self.old) (node_state self.new) }
+        ensures received { (lane : AnyLane)
+            → ReceivesNone (traffic_by L.sent L.received L.full L.empty) lane (node_state self.old) (node_state self.new) }
         ensures goes { Goes (traffic_by L.sent L.received L.full L.empty) (node_state self.old) (node_state self.new) }
         ensures peers { (node_state self.new).peers ≡ (node_state self.old).peers }
-        ensures done { done_in (traffic_by L.sent L.received L.full L.empty) (node_state self.new) ≡ done_in (traffic_by L.sent L.received L.full L.empty) (node_state self.old) }
+        ensures done { done_in (traffic_by L.sent L.received L.full L.empty) (node_state self.new)
+            ≡ done_in (traffic_by L.sent L.received L.full L.empty) (node_state self.old) }
         ensures waits { (waiting : IsWaiting) × (self.new.request ≡ Some waiting) }
-        ensures idle { InStanding (traffic_by L.sent L.received L.full L.empty) (node_state self.old) → self.new.space.backs ≡ self.old.space.backs
+        ensures idle { InStanding (traffic_by L.sent L.received L.full L.empty) (node_state self.old)
+            → self.new.space.backs ≡ self.old.space.backs
             → HasIdle self.new.space.lent Shares.Reply → HasIdle self.old.space.lent Shares.Reply }
     {
         a_journal_goes_on();

@@ -42,8 +42,15 @@ impl<'f, L: Drop> Room<'f, L> {
     fn new(alloc: Global, shard: u32, shards: u32, trace: &Trace) -> Result<Room<'f, L>, AllocError>
         requires parsed_for { shards ≡ trace.now.shards }
         requires within { shard < shards }
-        ensures journal { IfOk result (λ room. room.journal ≡ record { entries = []; spare = here_parts (trace_in trace.now) shards shard + here_puts (trace_in trace.now) shards shard }) }
-        ensures log { IfOk result (λ room. room.log ≡ record { replies = replicate (own_parts (trace_in trace.now) shards shard) None; room = reply_bytes (trace_in trace.now) shards shard }) }
+        ensures journal { IfOk result (λ room. room.journal ≡ record {
+          entries = [];
+          spare = here_parts
+              (trace_in trace.now) shards shard + here_puts (trace_in trace.now) shards shard;
+        }) }
+        ensures log { IfOk result (λ room. room.log ≡ record {
+          replies = replicate (own_parts (trace_in trace.now) shards shard) None;
+          room = reply_bytes (trace_in trace.now) shards shard;
+        }) }
         ensures keys { IfOk result (λ room. vec_len room.keys ≡ key_room * most_keys) }
         ensures rows { IfOk result (λ room. room.rows ≡ here_puts (trace_in trace.now) shards shard) }
         ensures peers { IfOk result (λ room. (room.peers.items ≡ []) × (shards ≤ vec_capacity room.peers + 1)) }

@@ -38,11 +38,15 @@ impl<'f, L: Link<'f> + Drop, G: Gate + Drop> Shard<'f, L, G> {
         ensures requests { ReceivesNone (traffic_by L.sent L.received L.full L.empty) Requests (node_state self.old) (node_state self.new) }
         ensures one { ReceivesOne (traffic_by L.sent L.received L.full L.empty) Replies (node_state self.old) (node_state self.new) }
         ensures goes { Goes (traffic_by L.sent L.received L.full L.empty) (node_state self.old) (node_state self.new) }
-        ensures moved { IsTrue seen.new.moved ↔ (IsTrue seen.old.moved ⊎ (packets_of (traffic_by L.sent L.received L.full L.empty) (node_state self.old) < packets_of (traffic_by L.sent L.received L.full L.empty) (node_state self.new))) }
+        ensures moved { IsTrue seen.new.moved ↔
+            (IsTrue seen.old.moved ⊎ (packets_of (traffic_by L.sent L.received L.full L.empty) (node_state self.old) < packets_of
+            (traffic_by L.sent L.received L.full L.empty) (node_state self.new))) }
         ensures held_up { NonePassed (traffic_by L.sent L.received L.full L.empty) (node_state self.old) (node_state self.new)
-            → HeldUp (traffic_by L.sent L.received L.full L.empty) (λ k. ReplyLacks (traffic_by L.sent L.received L.full L.empty)) (node_state self.old) (node_state self.new) }
+            → HeldUp (traffic_by L.sent L.received L.full L.empty) (λ k. ReplyLacks
+            (traffic_by L.sent L.received L.full L.empty)) (node_state self.old) (node_state self.new) }
         ensures tells { InStanding (traffic_by L.sent L.received L.full L.empty) (node_state self.old)
-            → Tells (SetsOneAside (traffic_by L.sent L.received L.full L.empty) G.holds Replies (node_state self.old) (node_state self.new)) seen.old.aside seen.new.aside }
+            → Tells (SetsOneAside (traffic_by L.sent L.received L.full L.empty) G.holds Replies (node_state self.old)
+            (node_state self.new)) seen.old.aside seen.new.aside }
     {
         let mut at = 0;
         while at < self.peers.len() {
@@ -58,12 +62,16 @@ impl<'f, L: Link<'f> + Drop, G: Gate + Drop> Shard<'f, L, G> {
         ensures requests { ReceivesNone (traffic_by L.sent L.received L.full L.empty) Requests (node_state self.old) (node_state self.new) }
         ensures one { ReceivesOne (traffic_by L.sent L.received L.full L.empty) Replies (node_state self.old) (node_state self.new) }
         ensures goes { Goes (traffic_by L.sent L.received L.full L.empty) (node_state self.old) (node_state self.new) }
-        ensures moved { IsTrue (has_come result) ↔ (packets_of (traffic_by L.sent L.received L.full L.empty) (node_state self.old) < packets_of (traffic_by L.sent L.received L.full L.empty) (node_state self.new)) }
+        ensures moved { IsTrue (has_come result) ↔
+            (packets_of (traffic_by L.sent L.received L.full L.empty) (node_state self.old) < packets_of
+            (traffic_by L.sent L.received L.full L.empty) (node_state self.new)) }
         ensures held_up { NonePassed (traffic_by L.sent L.received L.full L.empty) (node_state self.old) (node_state self.new)
-            → HeldUp (traffic_by L.sent L.received L.full L.empty) (λ k a b. k ≡ at → ReplyLacks (traffic_by L.sent L.received L.full L.empty) a b) (node_state self.old) (node_state self.new) }
+            → HeldUp (traffic_by L.sent L.received L.full L.empty) (λ k a b. k ≡ at
+            → ReplyLacks (traffic_by L.sent L.received L.full L.empty) a b) (node_state self.old) (node_state self.new) }
         ensures others { (k : ℕ) → k ≢ at → slice_get (node_state self.new).peers k ≡ slice_get (node_state self.old).peers k }
         ensures tells { InStanding (traffic_by L.sent L.received L.full L.empty) (node_state self.old)
-            → TriedSays (SetsOneAside (traffic_by L.sent L.received L.full L.empty) G.holds Replies (node_state self.old) (node_state self.new) at) result }
+            → TriedSays (SetsOneAside (traffic_by L.sent L.received L.full L.empty) G.holds Replies (node_state self.old)
+            (node_state self.new) at) result }
         ensures peers { length self.new.peers.items ≡ length self.old.peers.items }
     {
         let (trace, longest) = (self.trace, self.longest);
@@ -95,9 +103,11 @@ impl<'f, L: Link<'f> + Drop> Peer<'f, L> {
         requires owes { OwesReply self.old }
         requires trace { self.old.answers.trace ≡ trace.now }
         requires longest { longest ≡ longest_value (trace_in trace.now) }
-        requires open { (d : Operation) → next_answer self.old ≡ Some d → slice_get log.old.replies self.old.answers.part ≡ Some None }
+        requires open { (d : Operation) → next_answer self.old ≡ Some d
+            → slice_get log.old.replies self.old.answers.part ≡ Some None }
         requires room { (d : Operation) → next_answer self.old ≡ Some d → most_of_body longest d ≤ log.old.room }
-        ensures { TriesReply (traffic_by L.sent L.received L.full L.empty) L.end self.old self.new log.old log.new tally.old tally.new result }
+        ensures { TriesReply
+            (traffic_by L.sent L.received L.full L.empty) L.end self.old self.new log.old log.new tally.old tally.new result }
     {
         match self.link.receive(Lane::Replies) {
             None => Tried::Nothing,
@@ -123,7 +133,8 @@ impl<'f, L: Drop> Peer<'f, L> {
         requires owes { 0 < self.old.owed }
         requires trace { self.old.answers.trace ≡ trace.now }
         requires longest { longest ≡ longest_value (trace_in trace.now) }
-        requires open { (d : Operation) → next_answer self.old ≡ Some d → slice_get log.old.replies self.old.answers.part ≡ Some None }
+        requires open { (d : Operation) → next_answer self.old ≡ Some d
+            → slice_get log.old.replies self.old.answers.part ≡ Some None }
         requires room { (d : Operation) → next_answer self.old ≡ Some d → most_of_body longest d ≤ log.old.room }
         ensures ends { EndsReply (InBlock block.now) self.old self.new log.old log.new result }
         ensures same { self.new ≡ record self.old { answers = self.new.answers; owed = self.new.owed } }
@@ -144,7 +155,11 @@ impl<'f, L: Drop> Peer<'f, L> {
 
     /// A packet of this number in place of the reply that is expected.
     fn unexpected_reply(&self, found: u32) -> Tried
-        ensures { result ≡ Tries.Other (record { peer = self.now.shard; expected = expected_number (next_answer self.now); found = found }) }
+        ensures { result ≡ Tries.Other (record {
+          peer = self.now.shard;
+          expected = expected_number (next_answer self.now);
+          found = found;
+        }) }
     {
         let expected = match self.answers.first() {
             Some(command) => command.number,

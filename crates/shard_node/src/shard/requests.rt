@@ -47,11 +47,15 @@ impl<'f, L: Link<'f> + Drop, G: Gate + Drop> Shard<'f, L, G> {
         ensures replies { ReceivesNone (traffic_by L.sent L.received L.full L.empty) Replies (node_state self.old) (node_state self.new) }
         ensures one { ReceivesOne (traffic_by L.sent L.received L.full L.empty) Requests (node_state self.old) (node_state self.new) }
         ensures goes { Goes (traffic_by L.sent L.received L.full L.empty) (node_state self.old) (node_state self.new) }
-        ensures moved { IsTrue seen.new.moved ↔ (IsTrue seen.old.moved ⊎ (packets_of (traffic_by L.sent L.received L.full L.empty) (node_state self.old) < packets_of (traffic_by L.sent L.received L.full L.empty) (node_state self.new))) }
+        ensures moved { IsTrue seen.new.moved ↔
+            (IsTrue seen.old.moved ⊎ (packets_of (traffic_by L.sent L.received L.full L.empty) (node_state self.old) < packets_of
+            (traffic_by L.sent L.received L.full L.empty) (node_state self.new))) }
         ensures held_up { NonePassed (traffic_by L.sent L.received L.full L.empty) (node_state self.old) (node_state self.new)
-            → HeldUp (traffic_by L.sent L.received L.full L.empty) (λ k. RequestLacks (traffic_by L.sent L.received L.full L.empty) (node_state self.old).space.lent) (node_state self.old) (node_state self.new) }
+            → HeldUp (traffic_by L.sent L.received L.full L.empty) (λ k. RequestLacks (traffic_by L.sent L.received L.full L.empty)
+            (node_state self.old).space.lent) (node_state self.old) (node_state self.new) }
         ensures tells { InStanding (traffic_by L.sent L.received L.full L.empty) (node_state self.old)
-            → Tells (SetsOneAside (traffic_by L.sent L.received L.full L.empty) G.holds Requests (node_state self.old) (node_state self.new)) seen.old.aside seen.new.aside }
+            → Tells (SetsOneAside (traffic_by L.sent L.received L.full L.empty) G.holds Requests (node_state self.old)
+            (node_state self.new)) seen.old.aside seen.new.aside }
     {
         let mut at = 0;
         while at < self.peers.len() {
@@ -67,12 +71,17 @@ impl<'f, L: Link<'f> + Drop, G: Gate + Drop> Shard<'f, L, G> {
         ensures replies { ReceivesNone (traffic_by L.sent L.received L.full L.empty) Replies (node_state self.old) (node_state self.new) }
         ensures one { ReceivesOne (traffic_by L.sent L.received L.full L.empty) Requests (node_state self.old) (node_state self.new) }
         ensures goes { Goes (traffic_by L.sent L.received L.full L.empty) (node_state self.old) (node_state self.new) }
-        ensures moved { IsTrue (has_come result) ↔ (packets_of (traffic_by L.sent L.received L.full L.empty) (node_state self.old) < packets_of (traffic_by L.sent L.received L.full L.empty) (node_state self.new)) }
+        ensures moved { IsTrue (has_come result) ↔
+            (packets_of (traffic_by L.sent L.received L.full L.empty) (node_state self.old) < packets_of
+            (traffic_by L.sent L.received L.full L.empty) (node_state self.new)) }
         ensures held_up { NonePassed (traffic_by L.sent L.received L.full L.empty) (node_state self.old) (node_state self.new)
-            → HeldUp (traffic_by L.sent L.received L.full L.empty) (λ k a b. k ≡ at → RequestLacks (traffic_by L.sent L.received L.full L.empty) (node_state self.old).space.lent a b) (node_state self.old) (node_state self.new) }
+            → HeldUp (traffic_by L.sent L.received L.full L.empty) (λ k a b. k ≡ at
+            → RequestLacks (traffic_by L.sent L.received L.full L.empty)
+            (node_state self.old).space.lent a b) (node_state self.old) (node_state self.new) }
         ensures others { (k : ℕ) → k ≢ at → slice_get (node_state self.new).peers k ≡ slice_get (node_state self.old).peers k }
         ensures tells { InStanding (traffic_by L.sent L.received L.full L.empty) (node_state self.old)
-            → TriedSays (SetsOneAside (traffic_by L.sent L.received L.full L.empty) G.holds Requests (node_state self.old) (node_state self.new) at) result }
+            → TriedSays (SetsOneAside (traffic_by L.sent L.received L.full L.empty) G.holds Requests (node_state self.old)
+            (node_state self.new) at) result }
         ensures peers { length self.new.peers.items ≡ length self.old.peers.items }
     {
         match self.take_request(at) {
@@ -92,12 +101,17 @@ impl<'f, L: Link<'f> + Drop, G: Gate + Drop> Shard<'f, L, G> {
         ensures replies { ReceivesNone (traffic_by L.sent L.received L.full L.empty) Replies (node_state self.old) (node_state self.new) }
         ensures one { ReceivesOne (traffic_by L.sent L.received L.full L.empty) Requests (node_state self.old) (node_state self.new) }
         ensures goes { Goes (traffic_by L.sent L.received L.full L.empty) (node_state self.old) (node_state self.new) }
-        ensures moved { IsTrue (has_come result) ↔ (packets_of (traffic_by L.sent L.received L.full L.empty) (node_state self.old) < packets_of (traffic_by L.sent L.received L.full L.empty) (node_state self.new)) }
+        ensures moved { IsTrue (has_come result) ↔
+            (packets_of (traffic_by L.sent L.received L.full L.empty) (node_state self.old) < packets_of
+            (traffic_by L.sent L.received L.full L.empty) (node_state self.new)) }
         ensures held_up { NonePassed (traffic_by L.sent L.received L.full L.empty) (node_state self.old) (node_state self.new)
-            → HeldUp (traffic_by L.sent L.received L.full L.empty) (λ k a b. k ≡ at → RequestLacks (traffic_by L.sent L.received L.full L.empty) (node_state self.old).space.lent a b) (node_state self.old) (node_state self.new) }
+            → HeldUp (traffic_by L.sent L.received L.full L.empty) (λ k a b. k ≡ at
+            → RequestLacks (traffic_by L.sent L.received L.full L.empty)
+            (node_state self.old).space.lent a b) (node_state self.old) (node_state self.new) }
         ensures others { (k : ℕ) → k ≢ at → slice_get (node_state self.new).peers k ≡ slice_get (node_state self.old).peers k }
         ensures tells { InStanding (traffic_by L.sent L.received L.full L.empty) (node_state self.old)
-            → TriedSays (SetsOneAside (traffic_by L.sent L.received L.full L.empty) G.holds Requests (node_state self.old) (node_state self.new) at) result }
+            → TriedSays (SetsOneAside (traffic_by L.sent L.received L.full L.empty) G.holds Requests (node_state self.old)
+            (node_state self.new) at) result }
         ensures peers { length self.new.peers.items ≡ length self.old.peers.items }
     {
         if !self.space.is_idle(Share::Reply) || !self.peers[at].may_ask() {
@@ -121,7 +135,8 @@ impl<'f, L: Link<'f> + Drop, G: Gate + Drop> Shard<'f, L, G> {
         requires consistent { IsConsistent self.old }
         requires peer { at < length self.old.peers.items }
         ensures step { IsStep (traffic_by L.sent L.received L.full L.empty) L.end self.old self.new }
-        ensures received { (lane : AnyLane) → ReceivesNone (traffic_by L.sent L.received L.full L.empty) lane (node_state self.old) (node_state self.new) }
+        ensures received { (lane : AnyLane)
+            → ReceivesNone (traffic_by L.sent L.received L.full L.empty) lane (node_state self.old) (node_state self.new) }
         ensures goes { Goes (traffic_by L.sent L.received L.full L.empty) (node_state self.old) (node_state self.new) }
         ensures others { (k : ℕ) → k ≢ at → slice_get (node_state self.new).peers k ≡ slice_get (node_state self.old).peers k }
         ensures peers { length self.new.peers.items ≡ length self.old.peers.items }
@@ -151,9 +166,11 @@ impl<'f, L: Link<'f> + Drop> Peer<'f, L> {
         requires trace { self.old.asks.trace ≡ trace.now }
         requires idle { HasIdle space.old.lent Shares.Reply }
         requires unguarded { IsUnguarded space.old }
-        requires room { (d : Operation) → next_ask self.old ≡ Some d → is_put d.kind ≡ true → length space.old.rows < space.old.room }
+        requires room { (d : Operation) → next_ask self.old ≡ Some d → is_put d.kind ≡ true
+            → length space.old.rows < space.old.room }
         requires spare { (d : Operation) → next_ask self.old ≡ Some d → length space.old.rows + 1 ≤ journal.old.spare }
-        ensures { TriesRequest (traffic_by L.sent L.received L.full L.empty) L.end self.old self.new space.old space.new journal.old journal.new tally.old tally.new result }
+        ensures { TriesRequest
+            (traffic_by L.sent L.received L.full L.empty) L.end self.old self.new space.old space.new journal.old journal.new tally.old tally.new result }
     {
         match self.link.receive(Lane::Requests) {
             None => Tried::Nothing,
@@ -169,7 +186,8 @@ impl<'f, L: Link<'f> + Drop> Peer<'f, L> {
 
 impl<'f, L: Drop> Peer<'f, L> {
     fn hear_bye(&mut self) -> Tried
-        ensures ends { (space : SpaceState) (journal : JournalState) → EndsRequest Bye self.old self.new space space journal journal result }
+        ensures ends { (space : SpaceState) (journal : JournalState)
+            → EndsRequest Bye self.old self.new space space journal journal result }
         ensures same { self.new ≡ record self.old { has_heard_bye = self.new.has_heard_bye } }
     {
         if self.asks.first().is_some() {
@@ -190,7 +208,8 @@ impl<'f, L: Drop> Peer<'f, L> {
         requires trace { self.old.asks.trace ≡ trace.now }
         requires idle { HasIdle space.old.lent Shares.Reply }
         requires unguarded { IsUnguarded space.old }
-        requires room { (d : Operation) → next_ask self.old ≡ Some d → is_put d.kind ≡ true → length space.old.rows < space.old.room }
+        requires room { (d : Operation) → next_ask self.old ≡ Some d → is_put d.kind ≡ true
+            → length space.old.rows < space.old.room }
         requires spare { (d : Operation) → next_ask self.old ≡ Some d → length space.old.rows + 1 ≤ journal.old.spare }
         ensures ends { EndsRequest (InBlock block.now) self.old self.new space.old space.new journal.old journal.new result }
         ensures same { self.new ≡ record self.old { reply = self.new.reply; asks = self.new.asks } }

@@ -20,13 +20,15 @@ impl<'f, L: Link<'f> + Drop, G: Gate + Drop> Shard<'f, L, G> {
     pub(crate) fn turn(&mut self) -> Turn
         requires consistent { IsConsistent self.old }
         ensures consistent { IsConsistent self.new }
-        ensures standing { InStanding (traffic_by L.sent L.received L.full L.empty) (node_state self.old) → InStanding (traffic_by L.sent L.received L.full L.empty) (node_state self.new) }
+        ensures standing { InStanding (traffic_by L.sent L.received L.full L.empty) (node_state self.old)
+            → InStanding (traffic_by L.sent L.received L.full L.empty) (node_state self.new) }
         ensures same { IsSameNode L.end (node_state self.old) (node_state self.new) }
         ensures turns { self.new.turns ≡ counted self.old.turns }
         ensures done { InStanding (traffic_by L.sent L.received L.full L.empty) (node_state self.old)
             → ((result ≡ Turns.Done) ↔ IsDone (traffic_by L.sent L.received L.full L.empty) G.holds (node_state self.new)) }
         ensures rests { InStanding (traffic_by L.sent L.received L.full L.empty) (node_state self.old)
-            → IsDone (traffic_by L.sent L.received L.full L.empty) G.holds (node_state self.old) → self.new ≡ record self.old { turns = self.new.turns } }
+            → IsDone (traffic_by L.sent L.received L.full L.empty) G.holds (node_state self.old)
+            → self.new ≡ record self.old { turns = self.new.turns } }
         ensures answer { InStanding (traffic_by L.sent L.received L.full L.empty) (node_state self.old)
             → IsAnswer (traffic_by L.sent L.received L.full L.empty) G.holds result (node_state self.old) (node_state self.new) }
     {
@@ -48,8 +50,10 @@ impl<'f, L: Link<'f> + Drop, G: Gate + Drop> Shard<'f, L, G> {
         ensures step { IsStep (traffic_by L.sent L.received L.full L.empty) L.end self.old self.new }
         ensures told { InStanding (traffic_by L.sent L.received L.full L.empty) (node_state self.old)
             → TellsFirst (traffic_by L.sent L.received L.full L.empty) G.holds result.aside (node_state self.old) (node_state self.new) }
-        ensures caused { InStanding (traffic_by L.sent L.received L.full L.empty) (node_state self.old) → result.moved ≡ true → HasCause (traffic_by L.sent L.received L.full L.empty) G.holds (node_state self.old) (node_state self.new) }
-        ensures held_up { InStanding (traffic_by L.sent L.received L.full L.empty) (node_state self.old) → result.moved ≡ false → IsIdle (traffic_by L.sent L.received L.full L.empty) G.holds (node_state self.old) (node_state self.new) }
+        ensures caused { InStanding (traffic_by L.sent L.received L.full L.empty) (node_state self.old) → result.moved ≡ true
+            → HasCause (traffic_by L.sent L.received L.full L.empty) G.holds (node_state self.old) (node_state self.new) }
+        ensures held_up { InStanding (traffic_by L.sent L.received L.full L.empty) (node_state self.old) → result.moved ≡ false
+            → IsIdle (traffic_by L.sent L.received L.full L.empty) G.holds (node_state self.old) (node_state self.new) }
     {
         let mut seen = Seen::nothing();
         let back = self.space.back();

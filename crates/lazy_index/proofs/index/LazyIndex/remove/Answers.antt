@@ -26,7 +26,8 @@ invariant_of-self c =
 pub invariant_of-self-else-not-remove : goal.invariant_of-self-else-not-remove
 invariant_of-self-else-not-remove c =
     let i = c.self.inside in
-    mixed_less i.room i.outside c.args.standing.found.row i.table c.remove.new.self i.order c.leave.new.order i.late c.leave.new.late c.self.invariant (c.if-not-remove.ensures.rows refl) c.remove.ensures.room c.leave.ensures.all c.leave.ensures.fewer c.leave.ensures.order_room c.leave.ensures.late_room
+    mixed_less i.room i.outside c.args.standing.found.row i.table c.remove.new.self i.order c.leave.new.order i.late c.leave.new.late c.self.invariant
+    (c.if-not-remove.ensures.rows refl) c.remove.ensures.room c.leave.ensures.all c.leave.ensures.fewer c.leave.ensures.order_room c.leave.ensures.late_room
 
 pub returns-then-not-remove-clause-rows : goal.returns-then-not-remove-clause-rows
 returns-then-not-remove-clause-rows c n =
