@@ -1,0 +1,148 @@
+#!/usr/bin/env python3
+"""Writes the traces that programs are compared on. The same arguments give the same bytes.
+
+    bench/traces.py KIND FILE [--number N] [--scale S]      S in (0, 1] cuts the numbers
+
+    gen       what the program's mode `gen` makes: 100,000 commands, values of 100 to 2,000 bytes
+    small     1,000,000 commands over 100,000 keys, values of 20 to 100 bytes: 50 % get, 40 % put, 9 % erase, 1 % scan
+    manykeys  500,000 puts of keys of their own in a shuffled order, then 500,000 gets
+    evict     10,000 puts and 40,000 gets of 20,000 keys, values of 1,000 to 12,000 bytes
+    churn     900,000 commands over 1,000,000 keys, values of 20 to 100 bytes, 85 % put: small rows go by the hundred thousand
+    scans     200,000 puts of keys of their own, a scan behind each of the last 60,000 (a trace may have 64,900 scans)
+"""
+import argparse
+
+MASK = (1 << 64) - 1
+ALPHABET = b"abcdefghijklmnopqrstuvwxyz" * 470
+
+
+class Lcg64Xsh32:
+    """rand_pcg's Lcg64Xsh32::new(state, stream); one u32 per draw."""
+
+    def __init__(self, state, stream):
+        self.increment = (stream << 1 | 1) & MASK
+        self.state = (state + self.increment) & MASK
+        self.step()
+
+    def step(self):
+        self.state = (self.state * 6364136223846793005 + self.increment) & MASK
+
+    def draw(self):
+        state = self.state
+        self.step()
+        word = ((state >> 18 ^ state) >> 27) & 0xFFFFFFFF
+        turn = state >> 59
+        return (word >> turn | word << (32 - turn)) & 0xFFFFFFFF if turn else word
+
+
+def value(i, length):
+    """Byte j is 97 + (i + j) mod 26."""
+    return ALPHABET[i % 26:i % 26 + length]
+
+
+def gen(number, scale):
+    draw = Lcg64Xsh32(number, 2).draw
+    for i in range(1, int(100_000 * scale) + 1):
+        word = draw() % 100
+        key = b"k%d" % (draw() % 20_000)
+        if word < 40:
+            yield b"put %s %s\n" % (key, value(i, 100 + draw() % 1_901))
+        elif word < 95:
+            yield b"get %s\n" % key
+        elif word < 99:
+            yield b"erase %s\n" % key
+        else:
+            yield b"scan %s %d\n" % (key, 1 + draw() % 32)
+
+
+def small(number, scale):
+    draw = Lcg64Xsh32(number, 3).draw
+    keys = int(100_000 * scale)
+    for i in range(1, int(1_000_000 * scale) + 1):
+        word = draw() % 100
+        key = b"k%d" % (draw() % keys)
+        if word < 40:
+            yield b"put %s %s\n" % (key, value(i, 20 + draw() % 81))
+        elif word < 90:
+            yield b"get %s\n" % key
+        elif word < 99:
+            yield b"erase %s\n" % key
+        else:
+            yield b"scan %s %d\n" % (key, 1 + draw() % 32)
+
+
+def evict(number, scale):
+    draw = Lcg64Xsh32(number, 4).draw
+    for i in range(1, int(50_000 * scale) + 1):
+        word = draw() % 100
+        key = b"k%d" % (draw() % 20_000)
+        if word < 20:
+            yield b"put %s %s\n" % (key, value(i, 1_000 + draw() % 11_001))
+        else:
+            yield b"get %s\n" % key
+
+
+def churn(number, scale):
+    draw = Lcg64Xsh32(number, 6).draw
+    for i in range(1, int(900_000 * scale) + 1):
+        word = draw() % 100
+        key = b"k%d" % (draw() % 1_000_000)
+        if word < 85:
+            yield b"put %s %s\n" % (key, value(i, 20 + draw() % 81))
+        else:
+            yield b"get %s\n" % key
+
+
+def manykeys(number, scale):
+    draw = Lcg64Xsh32(number, 5).draw
+    count = int(500_000 * scale)
+    order = list(range(count))
+    for i in range(count - 1, 0, -1):
+        j = draw() % (i + 1)
+        order[i], order[j] = order[j], order[i]
+    for i, key in enumerate(order, 1):
+        yield b"put item:%d %s\n" % (key, value(i, 8 + draw() % 33))
+    for _ in range(count):
+        yield b"get item:%d\n" % (draw() % count)
+
+
+def scans(number, scale):
+    draw = Lcg64Xsh32(number, 7).draw
+    count = int(200_000 * scale)
+    order = list(range(count))
+    for i in range(count - 1, 0, -1):
+        j = draw() % (i + 1)
+        order[i], order[j] = order[j], order[i]
+    for i, key in enumerate(order, 1):
+        yield b"put item:%d %s\n" % (key, value(i, 8))
+        if i > 0.7 * count:
+            yield b"scan item:%d 1\n" % key
+
+
+KINDS = {"gen": gen, "small": small, "manykeys": manykeys, "evict": evict, "churn": churn, "scans": scans}
+
+
+def write(kind, path, number=7, scale=1.0):
+    """Writes the trace of this kind, if it is within a trace's limits."""
+    data = b"".join(KINDS[kind](number, scale))
+    lines = data.split(b"\n")[:-1]
+    greatest = max(len(line.split(b" ", 2)[2]) for line in lines if line.startswith(b"put "))
+    replies = sum(line.startswith(b"get ") for line in lines) * greatest + sum(line.startswith(b"scan ") for line in lines) * 8_272
+    if len(data) > 67_108_864 or len(lines) > 1_048_576 or replies > 536_870_912:
+        raise SystemExit(f"{kind}: too large")
+    with open(path, "wb") as file:
+        file.write(data)
+
+
+def main():
+    parser = argparse.ArgumentParser(description=__doc__, formatter_class=argparse.RawDescriptionHelpFormatter)
+    parser.add_argument("kind", choices=KINDS)
+    parser.add_argument("path")
+    parser.add_argument("--number", type=int, default=7)
+    parser.add_argument("--scale", type=float, default=1.0)
+    args = parser.parse_args()
+    write(args.kind, args.path, args.number, args.scale)
+
+
+if __name__ == "__main__":
+    main()
