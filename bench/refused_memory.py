@@ -8,7 +8,7 @@ first with all its memory, then with its first allocation refused, then with its
 no byte may be left that was not freed; where one was refused, the status is that of want of memory and nothing is written.
 
 What is allocated to start a thread is not refused: the last allocation for each shard but one, and those of the system. Where a
-thread cannot be started, its shard is driven after the others, which may wait for it: such a run does not end. g++ is needed.
+thread cannot be started the run goes on without it: `bench/refused_threads.py` sees to that. g++ is needed.
 """
 import os
 import subprocess

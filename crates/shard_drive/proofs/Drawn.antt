@@ -1,5 +1,5 @@
 -- One word more is drawn.
-use Rattle.std.proofs.Common.{◌≡◌, ℕ, zero, suc, ◌+◌, ◌<◌, ◌%◌, List, [], ◌∷◌, ◌++◌, length, inl, inr, get_or, set, get_or-set_other, arith, ap, sym, refl, subst, ◌∙◌}
+use Rattle.std.proofs.Common.{◌≡◌, ℕ, zero, suc, ◌+◌, ◌<◌, ◌≤◌, ◌%◌, List, [], ◌∷◌, ◌++◌, length, inl, inr, get_or, set, get_or-set_other, arith, ap, sym, refl, subst, ◌∙◌}
 use Rattle.std.specs.List.{All, sum_by}
 use Rattle.std.proofs.lemmas.Bool.{cases_eq}
 use Rattle.std.proofs.lemmas.List.Sums.{sum_by-set}
@@ -7,6 +7,7 @@ use Rattle.rand_pcg.specs.Lcg.{Lcg}
 use Rattle.layout.specs.Counts.{counted, greatest_count}
 use Rattle.shard_drive.specs.Drives.{Follows}
 use Rattle.shard_drive.specs.Words.{FollowsWords, behind, drawn, first_state, named, word}
+use Rattle.shard_drive.proofs.Given.{raised-none}
 use Rattle.shard_drive.proofs.Places.{Writes}
 use Rattle.shard_drive.proofs.Turned.{turns-next}
 
@@ -59,11 +60,12 @@ pub record HasFollowed {A : Type 0} (turns : A → ℕ) (number : ℕ) (old new 
   pub follows : Follows turns (drawn number (length old) words) old new
   pub sum : All (λ node. turns node < greatest_count) new → sum_by turns new ≡ sum_by turns old + words
 
-pub none-followed : {A : Type 0} (turns : A → ℕ) (number : ℕ) (old : List A) → HasFollowed turns number old old (first_state number)
-none-followed turns number old = record {
+pub none-followed : {A : Type 0} (turns : A → ℕ) (number : ℕ) (old : List A) → All (λ node. turns node ≤ greatest_count) old
+    → HasFollowed turns number old old (first_state number)
+none-followed turns number old few = record {
   words = 0;
   at = refl;
-  follows = λ k d below. refl;
+  follows = λ k d below. raised-none (turns (get_or old k d)) (few k d below);
   sum = λ all. omega arith;
 }
 

@@ -2,8 +2,8 @@
 use Rattle.std.proofs.Common.{◌≡◌, ℕ, ◌<◌, List, [], ◌∷◌, ◌++◌, length, get_or, set, sym, subst, ◌∙◌}
 use Rattle.std.specs.List.{All}
 use Rattle.std.proofs.lemmas.List.Elements.{All-get_or, All-set}
-use Rattle.layout.specs.Counts.{counted}
-use Rattle.shard_drive.specs.Drives.{AtEach, Follows, raised, turns_given}
+use Rattle.layout.specs.Counts.{counted, raised}
+use Rattle.shard_drive.specs.Drives.{AtEach, Follows, turns_given}
 use Rattle.shard_drive.proofs.Places.{AtEach-next, Writes}
 use Rattle.shard_drive.proofs.Given.{turn-named, turn-other}
 
@@ -24,6 +24,11 @@ pub lasting-next : {A B : Type 0} (lasting : A → B) (old xs ys : List A) (k : 
     → ((d : A) → lasting (get_or ys k d) ≡ lasting (get_or xs k d)) → AtEach (λ _ a b. lasting b ≡ lasting a) old xs → AtEach (λ _ a b. lasting b ≡ lasting a) old ys
 lasting-next {A} {B} lasting old xs ys k within writes turn each =
     AtEach-next (λ _ a b. lasting b ≡ lasting a) (λ _ a b. lasting b ≡ lasting a) old xs ys k within writes each (λ j a b ne same. same) (λ a d same. turn d ∙ same)
+
+-- what lasts lasts on
+pub lasts-on : {A B : Type 0} (lasting : A → B) (old xs ys : List A) → length xs ≡ length old → AtEach (λ _ a b. lasting b ≡ lasting a) old xs
+    → AtEach (λ _ a b. lasting b ≡ lasting a) xs ys → AtEach (λ _ a b. lasting b ≡ lasting a) old ys
+lasts-on lasting old xs ys long before after k d below = after k d (subst (λ (n : ℕ). k < n) (sym long) below) ∙ before k d below
 
 pub turns-next : {A : Type 0} (turns : A → ℕ) (schedule : List ℕ) (old xs ys : List A) (k : ℕ) → k < length xs → Writes k xs ys
     → ((d : A) → turns (get_or ys k d) ≡ counted (turns (get_or xs k d))) → Follows turns schedule old xs → Follows turns (schedule ++ k ∷ []) old ys

@@ -1,16 +1,11 @@
 -- What driving does to a row of nodes: each keeps its place and makes the turns that it is given.
-use Rattle.std.specs.Prelude.{◌≡◌, ℕ, zero, suc, ◌<◌, ◌==◌, List, length, count_by}
+use Rattle.std.specs.Prelude.{◌≡◌, ℕ, ◌<◌, ◌==◌, List, length, count_by}
 use Rattle.std.specs.List.{slice_index_or}
-use Rattle.layout.specs.Counts.{counted}
+use Rattle.layout.specs.Counts.{raised}
 
 -- at each place k, so of what stood there and what stands there
 abbrev pub AtEach : {A : Type 0} → (ℕ → A → A → Type 0) → List A → List A → Type 0
 AtEach {A} R old new = (k : ℕ) (d : A) → k < length old → R k (slice_index_or old k d) (slice_index_or new k d)
-
--- a count that was raised so often, each time by one, up to the greatest
-abbrev pub raised : ℕ → ℕ → ℕ
-raised count zero = count
-raised count (suc more) = counted (raised count more)
 
 -- how many turns a schedule gives to node k: so many of its entries are k
 abbrev pub turns_given : List ℕ → ℕ → ℕ

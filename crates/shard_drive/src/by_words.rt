@@ -6,7 +6,7 @@ ghost use Rattle.shard_node.specs.Turns.{IsDone, IsSameNode};
 ghost use Rattle.shard_drive.specs.Drives.{AtEach};
 ghost use Rattle.shard_drive.specs.Words.{FollowsWords, behind, first_state, word};
 
-use crate::driven::{Driven, have_finished, turn_of};
+use crate::driven::{Driven, have_finished, turn_of, turns_are_counts};
 use rand_core::utils::NextWord;
 use rand_pcg::Lcg64Xsh32;
 use shard_node::{Gate, Node};
@@ -42,6 +42,7 @@ pub(crate) fn finish_numbered<R: Wait, N: Driven>(rt: &R, nodes: &mut [N], numbe
     ensures lasting { AtEach (λ _ a b. N.lasting b ≡ N.lasting a) nodes.old nodes.new }
     ensures turns { FollowsWords N.turns number nodes.old nodes.new }
 {
+    turns_are_counts(nodes);
     let mut words = words_of(number);
     'turns: for _ in rt.forever() {
         if have_finished(nodes) {

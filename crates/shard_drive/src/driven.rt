@@ -1,7 +1,7 @@
 //! What can be driven.
-ghost use Rattle.std.specs.Prelude.{◌≡◌, ℕ, ◌<◌, length, slice_set, true, All};
+ghost use Rattle.std.specs.Prelude.{◌≡◌, ℕ, ◌<◌, ◌≤◌, length, slice_set, true, All};
 ghost use Rattle.std.specs.List.{slice_index_or};
-ghost use Rattle.layout.specs.Counts.{counted};
+ghost use Rattle.layout.specs.Counts.{counted, greatest_count};
 ghost use Rattle.shard_node.specs.Nodes.{traffic_by};
 ghost use Rattle.shard_node.specs.Standing.{InStanding};
 ghost use Rattle.shard_node.specs.Turns.{IsDone};
@@ -33,6 +33,10 @@ pub(crate) trait Driven {
     /// Whether it is done.
     fn has_finished(&self) -> bool
         ensures { stands self.now → result ≡ true → is_done self.now };
+
+    /// How many turns it made.
+    fn turns_made(&self) -> u64
+        ensures { result ≡ turns self.now };
 }
 
 impl<'f, L: Link<'f> + Drop, G: Gate + Drop> Driven for Node<'f, L, G> {
@@ -50,6 +54,10 @@ impl<'f, L: Link<'f> + Drop, G: Gate + Drop> Driven for Node<'f, L, G> {
 
     fn has_finished(&self) -> bool {
         self.is_done()
+    }
+
+    fn turns_made(&self) -> u64 {
+        self.turns()
     }
 }
 
@@ -76,4 +84,13 @@ pub(crate) fn have_finished<N: Driven>(nodes: &[N]) -> bool
         }
     }
     true
+}
+
+/// Changes nothing. No count of turns is above the greatest.
+pub(crate) fn turns_are_counts<N: Driven>(nodes: &[N])
+    ensures { All (λ node. N.turns node ≤ greatest_count) nodes.now }
+{
+    for node in nodes {
+        node.turns_made();
+    }
 }

@@ -5,7 +5,7 @@ ghost use Rattle.shard_node.specs.Standing.{InStanding};
 ghost use Rattle.shard_node.specs.Turns.{IsSameNode};
 ghost use Rattle.shard_drive.specs.Drives.{AtEach, Follows};
 
-use crate::driven::{Driven, turn_of};
+use crate::driven::{Driven, turn_of, turns_are_counts};
 use shard_node::{Gate, Node};
 use shard_rings::Link;
 
@@ -30,6 +30,7 @@ pub(crate) fn follow<N: Driven>(nodes: &mut [N], schedule: &[u32])
     ensures lasting { AtEach (λ _ a b. N.lasting b ≡ N.lasting a) nodes.old nodes.new }
     ensures turns { Follows N.turns schedule.now nodes.old nodes.new }
 {
+    turns_are_counts(nodes);
     for k in schedule {
         turn_of(nodes, *k as usize);
     }

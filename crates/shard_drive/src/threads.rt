@@ -1,12 +1,12 @@
 //! Driving on threads.
-ghost use Rattle.std.specs.Prelude.{◌≡◌, All};
+ghost use Rattle.std.specs.Prelude.{◌≡◌, ◌<◌, All};
 ghost use Rattle.shard_rings.specs.Links.{end_of};
 ghost use Rattle.shard_node.specs.Standing.{InStanding};
 ghost use Rattle.shard_node.specs.Turns.{IsDone, IsSameNode};
 ghost use Rattle.shard_node.specs.Links.{ring_traffic};
 ghost use Rattle.shard_drive.specs.Drives.{AtEach};
 
-use crate::driven::Driven;
+use crate::driven::{Driven, have_finished};
 use crossbeam_utils::Backoff;
 use shard_node::{Gate, Node, Turn};
 use shard_rings::RingLink;
@@ -14,8 +14,12 @@ use std::sync::Wait;
 use std::thread;
 use std::thread::Threads;
 
+/// How many turns in which nothing moved a node makes one after another before its driver leaves it to the next round. All but
+/// the first few yield the processor.
+const IDLE_TURNS: u32 = 10_000;
+
 /// Drives each node on a thread of its own, turn by turn, until all are done. It returns only then, and whether it returns is not
-/// promised: where the system makes no thread, the nodes are driven one after another.
+/// promised. Where the system makes no thread, or fewer than nodes, they are driven one after another, round by round.
 pub fn drive_threads<'f, R, G>(rt: &R, nodes: &mut [Node<'f, RingLink<'f>, G>])
 where
     R: Threads + Wait + Sync,
@@ -25,34 +29,65 @@ where
     ensures done { All (IsDone ring_traffic G.holds) nodes.new }
     ensures same { AtEach (λ _. IsSameNode end_of) nodes.old nodes.new }
 {
-    finish_all(rt, nodes);
+    let threads = nodes.len().max(1);
+    finish_all(rt, nodes, threads);
 }
 
-/// Drives one until it is done. After a turn in which nothing moved it pauses, longer each time.
-pub(crate) fn finish_one<R: Wait, N: Driven>(rt: &R, node: &mut N)
-    requires { N.stands node.old }
-    ensures stands { N.stands node.new }
-    ensures done { N.is_done node.new }
-    ensures lasting { N.lasting node.new ≡ N.lasting node.old }
-{
-    let pause = Backoff::new();
-    'turns: for _ in rt.forever() {
-        match node.step() {
-            Turn::Done => return,
-            Turn::Idle => pause.snooze(),
-            Turn::Moved | Turn::Stray { .. } => pause.reset(),
-        }
-    }
-    unreachable!()
-}
-
-/// Drives all until they are done, each on a thread of its own where threads can be made.
-pub(crate) fn finish_all<R: Threads + Wait + Sync, N: Driven + Send>(rt: &R, nodes: &mut [N])
-    requires { All N.stands nodes.old }
+/// Drives all until they are done, in rounds, on at most so many threads. Before each round it looks whether all are done.
+pub(crate) fn finish_all<R: Threads + Wait + Sync, N: Driven + Send>(
+    rt: &R,
+    nodes: &mut [N],
+    threads: usize,
+)
+    requires threads { 0 < threads }
+    requires stands { All N.stands nodes.old }
     ensures stands { All N.stands nodes.new }
     ensures done { All N.is_done nodes.new }
     ensures lasting { AtEach (λ _ a b. N.lasting b ≡ N.lasting a) nodes.old nodes.new }
 {
-    let threads = nodes.len().max(1);
-    thread::for_each_mut(rt, nodes, threads, &|_, node| finish_one(rt, node));
+    'rounds: for _ in rt.forever() {
+        if have_finished(nodes) {
+            return;
+        }
+        drive_round(rt, nodes, threads);
+    }
+    unreachable!()
+}
+
+/// Drives each of them once, on at most so many threads, and one after another where no threads can be made.
+fn drive_round<R: Threads + Wait + Sync, N: Driven + Send>(rt: &R, nodes: &mut [N], threads: usize)
+    requires threads { 0 < threads }
+    requires stands { All N.stands nodes.old }
+    ensures stands { All N.stands nodes.new }
+    ensures lasting { AtEach (λ _ a b. N.lasting b ≡ N.lasting a) nodes.old nodes.new }
+{
+    thread::for_each_mut(rt, nodes, threads, &|_, node| drive_one(rt, node));
+}
+
+/// Drives one until it is done, or until nothing moved for long: it may wait for one that is driven only after it. After a turn
+/// in which nothing moved it pauses, longer each time.
+pub(crate) fn drive_one<R: Wait, N: Driven>(rt: &R, node: &mut N)
+    requires { N.stands node.old }
+    ensures stands { N.stands node.new }
+    ensures lasting { N.lasting node.new ≡ N.lasting node.old }
+{
+    let pause = Backoff::new();
+    let mut idle = 0;
+    'turns: for _ in rt.forever() {
+        match node.step() {
+            Turn::Done => return,
+            Turn::Idle => {
+                if idle == IDLE_TURNS {
+                    return;
+                }
+                idle += 1;
+                pause.snooze();
+            }
+            Turn::Moved | Turn::Stray { .. } => {
+                idle = 0;
+                pause.reset();
+            }
+        }
+    }
+    unreachable!()
 }

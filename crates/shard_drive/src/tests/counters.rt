@@ -47,6 +47,10 @@ impl Driven for Counter {
     fn has_finished(&self) -> bool {
         self.left == 0
     }
+
+    fn turns_made(&self) -> u64 {
+        self.turns
+    }
 }
 
 /// Three that are done after 3 turns, 5 turns and one.
@@ -94,10 +98,10 @@ fn the_words_of_a_number_give_these_turns(rt: HostRuntime) -> Result<(), Fail> {
 #[test]
 fn threads_stop_each_at_its_last_turn(rt: HostRuntime) -> Result<(), Fail> {
     let mut row = three(rt.alloc())?;
-    finish_all(&rt, row.as_mut_slice());
+    finish_all(&rt, row.as_mut_slice(), 3);
     assert!(rt; made(row.as_slice(), &[3, 5, 1]));
     let mut none: Vec<Counter> = Vec::new(rt.alloc());
-    finish_all(&rt, none.as_mut_slice());
+    finish_all(&rt, none.as_mut_slice(), 1);
     assert!(rt; none.is_empty());
     Ok(())
 }

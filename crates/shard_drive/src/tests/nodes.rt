@@ -6,6 +6,7 @@ ghost use Rattle.shard_node.specs.Links.{ring_traffic};
 ghost use Rattle.shard_node.specs.Standing.{InStanding};
 
 use super::opening::{lists, open_nodes, trace_for};
+use crate::threads::finish_all;
 use crate::{drive_numbered, drive_schedule, drive_threads};
 use shard_node::{Gate, Gates, Node, OpenGates, Turn};
 use shard_rings::RingLink;
@@ -35,6 +36,8 @@ enum Way {
     Schedule,
     Number(u32),
     Threads,
+    /// On at most so many threads, or one.
+    Few(usize),
 }
 
 fn drive<'f, R: Threads + Wait + Sync, G: Gate + Send + Drop>(
@@ -53,6 +56,7 @@ fn drive<'f, R: Threads + Wait + Sync, G: Gate + Send + Drop>(
         }
         Way::Number(number) => drive_numbered(rt, nodes, number),
         Way::Threads => drive_threads(rt, nodes),
+        Way::Few(threads) => finish_all(rt, nodes, threads.max(1)),
     }
 }
 
@@ -107,6 +111,16 @@ fn a_number_makes_the_same_turns_again(rt: HostRuntime) -> Result<(), Fail> {
 fn threads_take_three_nodes_to_their_ends(rt: HostRuntime) -> Result<(), Fail> {
     let (_, done) = driven(&rt, rt.alloc(), WORK, 3, Way::Threads, &OpenGates)?;
     assert!(rt; done);
+    Ok(())
+}
+
+#[test]
+fn fewer_threads_than_nodes_take_them_to_their_ends(rt: HostRuntime) -> Result<(), Fail> {
+    for (shards, threads) in [(2, 1), (3, 1), (3, 2)] {
+        let way = Way::Few(threads);
+        let (_, done) = driven(&rt, rt.alloc(), WORK, shards, way, &OpenGates)?;
+        assert!(rt; done, "{shards} on {threads}");
+    }
     Ok(())
 }
 

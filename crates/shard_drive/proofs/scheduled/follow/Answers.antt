@@ -1,6 +1,7 @@
 use Rattle.std.proofs.Common.{◌≡◌, ◌<◌, ◌+◌, ◌++◌, ◌∷◌, [], ℕ, List, length, take, get_or, sym, subst, refl}
 use Rattle.std.proofs.lemmas.List.{take_more}
 use Rattle.shard_drive.specs.Drives.{Follows}
+use Rattle.shard_drive.proofs.Given.{raised-none}
 use Rattle.shard_drive.proofs.Turned.{stands-next, lasting-next, turns-next}
 use Rattle.shard_drive.proofs.scheduled.follow.Goals as goal
 
@@ -8,7 +9,7 @@ pub loop-k-init : goal.loop-k-init
 loop-k-init g c = record {
   stands = λ k d below stood. stood;
   lasting = λ k d below. refl;
-  turns = λ k d below. refl;
+  turns = λ k d below. raised-none (g.N.Driven.turns (get_or c.args.nodes.now k d)) (c.turns_are_counts.ensures k d below);
 }
 
 pub loop-k-preserved : goal.loop-k-preserved

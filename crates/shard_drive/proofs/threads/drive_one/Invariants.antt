@@ -1,5 +1,5 @@
-use Rattle.std.proofs.Common.{◌≡◌}
-use Rattle.shard_drive.proofs.threads.finish_one.Given as goal
+use Rattle.std.proofs.Common.{◌≡◌, ◌≤◌}
+use Rattle.shard_drive.proofs.threads.drive_one.Given as goal
 
 -- it stands, and what no turn changes is as it was
 abbrev pub invariant-turns : goal.invariant-turns
@@ -8,4 +8,5 @@ invariant-turns g l = record {
   is_finite : (goal.iterator-turns g).is_finite l.iterator';
   stands : g.N.Driven.stands l.node;
   lasting : g.N.Driven.lasting l.node ≡ g.N.Driven.lasting l.fn.node;
+  idle : l.idle ≤ 10000;
 }
