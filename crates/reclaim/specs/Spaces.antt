@@ -53,5 +53,5 @@ pub record IsSameSpace (old new : SpaceState) : Type 0 where
   pub guards : guards_of new.region ≡ guards_of old.region
 
 -- each row that stood at a place, live or dead, stands there
-abbrev pub RowsStay : SpaceState → SpaceState → Type 0
-RowsStay old new = (p : Place) (row : Row) → StandsAt old.region p row → StandsAt new.region p row
+pub record RowsStay (old new : SpaceState) : Type 0 where
+  pub each : (p : Place) (row : Row) → StandsAt old.region p row → StandsAt new.region p row

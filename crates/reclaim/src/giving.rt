@@ -1,5 +1,5 @@
 //! How a block is given that goes to another shard.
-ghost use Rattle.std.specs.Prelude.{◌≡◌, ◌≢◌, ℕ, ◌+◌, ◌<◌, ◌≤◌, length, IfOk, IfErr, IfSome, IfNone};
+ghost use Rattle.std.specs.Prelude.{◌≡◌, ◌≢◌, ℕ, ◌+◌, ◌<◌, ◌≤◌, length, replicate, IfOk, IfErr, IfSome, IfNone};
 ghost use Rattle.layout.specs.Sizes.{greatest_block};
 ghost use Rattle.cache_model.specs.Row.{live};
 ghost use Rattle.shard_memory.specs.Room.{LacksBlock, HasAllRoom, IsTrimmed};
@@ -11,8 +11,9 @@ ghost use Rattle.regions.specs.Shapes.{free_count};
 ghost use Rattle.compaction.specs.Sparse.{IsCompacted};
 ghost use Rattle.row_cache.specs.Rows.{rows_of, Stay};
 ghost use Rattle.reclaim.specs.Works.{floor_of};
-ghost use Rattle.reclaim.specs.Lending.{GivesNow, HandsBack};
-ghost use Rattle.reclaim.specs.inside.Consistent.{IsConsistent, space_of};
+ghost use Rattle.reclaim.specs.Spaces.{IsSameSpace, RowsStay};
+ghost use Rattle.reclaim.specs.Lending.{RefusesNow, GivesNow, HandsBack, LendsBlock};
+ghost use Rattle.reclaim.specs.inside.Consistent.{IsConsistent, IsWhole, space_of};
 ghost use Rattle.reclaim.specs.inside.Evicted.{HasEvicted};
 ghost use Rattle.reclaim.specs.inside.Homecoming.{TakesHome, TakesOnce, GivesAfter, RefusesAfter};
 
@@ -109,8 +110,30 @@ fn give_compacted<'f>(
 }
 
 // Gives a block; where there is no room for it, once the blocks that came home and the spans without an object are back in the
-// pages; and then once a segment is back that is free besides the last one.
+// pages; and then once a segment is back that is free besides the last one. What of it callers of a space see.
 pub(crate) fn give_now<'f>(
+    memory: &mut ShardMemory<'f>,
+    cache: &mut RowCache,
+    size: u32,
+    share: Share,
+) -> Result<ForeignBlock<'f>, GiveRefusal>
+    requires some { 1 ≤ size }
+    requires whole { IsWhole memory.old cache.old }
+    ensures same { IsSameSpace (space_of memory.old cache.old) (space_of memory.new cache.new) }
+    ensures rows { rows_of cache.new ≡ rows_of cache.old }
+    ensures stay { RowsStay (space_of memory.old cache.old) (space_of memory.new cache.new) }
+    ensures refused { IfErr result (RefusesNow (space_of memory.old cache.old) (space_of memory.new cache.new) size share) }
+    ensures unchanged { IfErr result (λ refusal. refusal ≢ GiveRefusal.NoSpan → (memory.new ≡ memory.old) × (cache.new ≡ cache.old)) }
+    ensures in_turn { IfOk result (λ _. GivesNow size share (space_of memory.old cache.old) (space_of memory.new cache.new)) }
+    ensures lends { IfOk result (LendsBlock share (space_of memory.old cache.old) (space_of memory.new cache.new)) }
+    ensures zeros { IfOk result (λ block. block.piece.bytes ≡ replicate size 0) }
+    ensures whole { IsWhole memory.new cache.new }
+{
+    give_or_refuse(memory, cache, size, share)
+}
+
+// The same, of the memory and the cache.
+fn give_or_refuse<'f>(
     memory: &mut ShardMemory<'f>,
     cache: &mut RowCache,
     size: u32,

@@ -181,7 +181,7 @@ fn reply_scan(cache: &mut RowCache, ask: &Ask<'_>, into: &mut [u8], journal: &mu
 }
 
 // Writes the reply with a value.
-fn write_value(value: &[u8], number: u32, into: &mut [u8])
+pub(crate) fn write_value(value: &[u8], number: u32, into: &mut [u8])
     requires short { length value.now ≤ greatest_value }
     requires room { message_header + length value.now ≤ length into.old }
     ensures { HoldsReply into.new number (apply.Value value.now) }

@@ -50,3 +50,7 @@ space_of memory cache = record {
   region = cache.region;
   free = memory.room;
 }
+
+-- so they are, for the shard that it is, with the guards that stand
+abbrev pub IsWhole : Shard → CacheState → Type 0
+IsWhole memory cache = IsConsistent memory.owner memory.pages (guards_of cache.region) memory cache.region
