@@ -31,7 +31,8 @@ pub(crate) fn find_room(
     requires consistent { IsConsistent memory.old.owner memory.old.pages 0 memory.old cache.old.region }
     requires spare { length (rows_of cache.old) ≤ journal.old.spare }
     ensures room { size ≤ left cache.new.region }
-    ensures evicted { HasEvicted (pressure memory.old.pages memory.old.lent) (rows_of cache.old) (rows_of cache.new) journal.old journal.new }
+    ensures evicted { HasEvicted (pressure memory.old.pages memory.old.lent) (rows_of cache.old)
+        (rows_of cache.new) journal.old journal.new }
     ensures spare { journal.new.spare + length (rows_of cache.old) ≡ journal.old.spare + length (rows_of cache.new) }
     ensures fewer { (rows_of cache.new ≡ rows_of cache.old) ⊎ (length (rows_of cache.new) < cache.new.room) }
     ensures consistent { IsConsistent memory.old.owner memory.old.pages 0 memory.new cache.new.region }
@@ -50,10 +51,12 @@ pub(crate) fn find_room(
 pub(crate) fn evict(cache: &mut RowCache, journal: &mut Journal)
     requires some { 1 ≤ live (rows_of cache.old) }
     requires spare { 1 ≤ journal.old.spare }
-    ensures evicted { (put : ℕ) × (is_of_put put (last_or None (rows_of cache.old)) ≡ true) × Records journal.old journal.new (Entries.Evicted put ∷ []) }
+    ensures evicted { (put : ℕ) × (is_of_put put (last_or None (rows_of cache.old)) ≡ true)
+        × Records journal.old journal.new (Entries.Evicted put ∷ []) }
     ensures rows { rows_of cache.new ≡ take (length (rows_of cache.old) - 1) (rows_of cache.old) }
     ensures one_less { length (rows_of cache.new) + 1 ≡ length (rows_of cache.old) }
-    ensures consistent { (shard pages guards : ℕ) (memory : Shard) → IsConsistent shard pages guards memory cache.old.region → IsConsistent shard pages guards memory cache.new.region }
+    ensures consistent { (shard pages guards : ℕ) (memory : Shard) → IsConsistent shard pages guards memory cache.old.region
+        → IsConsistent shard pages guards memory cache.new.region }
     ensures tables { cache.new.room ≡ cache.old.room }
 {
     let Some(put) = cache.evict_last() else {

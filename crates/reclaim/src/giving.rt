@@ -41,7 +41,8 @@ pub(crate) fn find_block<'f>(
     requires consistent { IsConsistent memory.old.owner memory.old.pages 0 memory.old cache.old.region }
     requires spare { length (rows_of cache.old) ≤ journal.old.spare }
     ensures given { GivesAfter share size memory.old memory.new result }
-    ensures evicted { HasEvicted (floor_of memory.old.pages memory.old.lent) (rows_of cache.old) (rows_of cache.new) journal.old journal.new }
+    ensures evicted { HasEvicted (floor_of memory.old.pages memory.old.lent) (rows_of cache.old)
+        (rows_of cache.new) journal.old journal.new }
     ensures spare { journal.new.spare + length (rows_of cache.old) ≡ journal.old.spare + length (rows_of cache.new) }
     ensures consistent { IsConsistent memory.old.owner memory.old.pages 0 memory.new cache.new.region }
     ensures tables { cache.new.room ≡ cache.old.room }
@@ -123,7 +124,8 @@ pub(crate) fn give_now<'f>(
     ensures rows { rows_of cache.new ≡ rows_of cache.old }
     ensures stay { RowsStay (space_of memory.old cache.old) (space_of memory.new cache.new) }
     ensures refused { IfErr result (RefusesNow (space_of memory.old cache.old) (space_of memory.new cache.new) size share) }
-    ensures unchanged { IfErr result (λ refusal. refusal ≢ GiveRefusal.NoSpan → (memory.new ≡ memory.old) × (cache.new ≡ cache.old)) }
+    ensures unchanged { IfErr result (λ refusal. refusal ≢ GiveRefusal.NoSpan → (memory.new ≡ memory.old) ×
+        (cache.new ≡ cache.old)) }
     ensures in_turn { IfOk result (λ _. GivesNow size share (space_of memory.old cache.old) (space_of memory.new cache.new)) }
     ensures lends { IfOk result (LendsBlock share (space_of memory.old cache.old) (space_of memory.new cache.new)) }
     ensures zeros { IfOk result (λ block. block.piece.bytes ≡ replicate size 0) }
@@ -146,7 +148,8 @@ fn give_or_refuse<'f>(
     ensures refused { IfErr result (RefusesAfter memory.old memory.new cache.new.region size share) }
     ensures unchanged { IfErr result (λ refusal. refusal ≢ GiveRefusal.NoSpan → memory.new ≡ memory.old) }
     ensures kept { IfErr result (λ _. cache.new ≡ cache.old) }
-    ensures consistent { (shard pages guards : ℕ) → IsConsistent shard pages guards memory.old cache.old.region → IsConsistent shard pages guards memory.new cache.new.region }
+    ensures consistent { (shard pages guards : ℕ) → IsConsistent shard pages guards memory.old cache.old.region
+        → IsConsistent shard pages guards memory.new cache.new.region }
     ensures stay { Stay cache.old.region cache.new.region }
     ensures rows { rows_of cache.new ≡ rows_of cache.old }
     ensures tables { cache.new.room ≡ cache.old.room }
@@ -173,7 +176,8 @@ fn give_uncompacted<'f>(
     requires consistent { (guards : ℕ) × IsConsistent memory.old.owner memory.old.pages guards memory.old cache.old.region }
     ensures given { IfSome result (GivesAfter share size memory.old memory.new) }
     ensures none { IfNone result (TakesHome memory.old memory.new × IsCrowded memory.new) }
-    ensures consistent { (shard pages guards : ℕ) → IsConsistent shard pages guards memory.old cache.old.region → IsConsistent shard pages guards memory.new cache.new.region }
+    ensures consistent { (shard pages guards : ℕ) → IsConsistent shard pages guards memory.old cache.old.region
+        → IsConsistent shard pages guards memory.new cache.new.region }
     ensures rows { rows_of cache.new ≡ rows_of cache.old }
     ensures tables { cache.new.room ≡ cache.old.room }
 {
@@ -199,7 +203,8 @@ fn give_squeezed<'f>(
     ensures handed { HandsBack cache.old.region cache.new.region }
     ensures none { IfNone result (RefusesAfter memory.old memory.new cache.new.region size share GiveRefusal.NoSpan) }
     ensures unchanged { IfNone result (cache.new ≡ cache.old) }
-    ensures consistent { (shard pages guards : ℕ) → IsConsistent shard pages guards memory.old cache.old.region → IsConsistent shard pages guards memory.new cache.new.region }
+    ensures consistent { (shard pages guards : ℕ) → IsConsistent shard pages guards memory.old cache.old.region
+        → IsConsistent shard pages guards memory.new cache.new.region }
     ensures stay { Stay cache.old.region cache.new.region }
     ensures rows { rows_of cache.new ≡ rows_of cache.old }
     ensures tables { cache.new.room ≡ cache.old.room }
@@ -224,7 +229,8 @@ fn give_trimmed<'f>(
     ensures taken { IfNone result (TakesHome memory.old memory.new) }
     ensures once { TakesOnce memory.old memory.new }
     ensures none { IfNone result (LacksBlock memory.new.room size × IsTrimmed memory.new.room × IsCrowded memory.new) }
-    ensures consistent { (shard pages guards : ℕ) (region : RegionState) → IsConsistent shard pages guards memory.old region → IsConsistent shard pages guards memory.new region }
+    ensures consistent { (shard pages guards : ℕ) (region : RegionState) → IsConsistent shard pages guards memory.old region
+        → IsConsistent shard pages guards memory.new region }
 {
     memory.take_back();
     memory.trim();
@@ -251,7 +257,8 @@ fn give_freed<'f>(
     ensures handed { HandsBack cache.old.region cache.new.region }
     ensures none { IfNone result (free_count cache.new.region ≤ 1) }
     ensures unchanged { IfNone result ((memory.new ≡ memory.old) × (cache.new ≡ cache.old)) }
-    ensures consistent { (shard pages guards : ℕ) → IsConsistent shard pages guards memory.old cache.old.region → IsConsistent shard pages guards memory.new cache.new.region }
+    ensures consistent { (shard pages guards : ℕ) → IsConsistent shard pages guards memory.old cache.old.region
+        → IsConsistent shard pages guards memory.new cache.new.region }
     ensures stay { Stay cache.old.region cache.new.region }
     ensures rows { rows_of cache.new ≡ rows_of cache.old }
     ensures tables { cache.new.room ≡ cache.old.room }
@@ -270,7 +277,8 @@ fn give_surely<'f>(memory: &mut ShardMemory<'f>, size: u32, share: Share) -> For
     requires room { HasAllRoom memory.old.room }
     ensures given { GivesAfter share size memory.old memory.new result }
     ensures looks { memory.new.take_wholes ≡ memory.old.take_wholes }
-    ensures consistent { (shard pages guards : ℕ) (region : RegionState) → IsConsistent shard pages guards memory.old region → IsConsistent shard pages guards memory.new region }
+    ensures consistent { (shard pages guards : ℕ) (region : RegionState) → IsConsistent shard pages guards memory.old region
+        → IsConsistent shard pages guards memory.new region }
 {
     let Ok(block) = give_at_once(memory, size, share) else {
         unreachable!()
@@ -291,7 +299,8 @@ fn give_at_once<'f>(
     ensures refused { IfErr result (RefusesFor memory.old share size) }
     ensures crowded { IfErr result (λ refusal. refusal ≡ GiveRefusal.NoSpan → IsTrimmed memory.old.room → IsCrowded memory.old) }
     ensures unchanged { IfErr result (λ _. memory.new ≡ memory.old) }
-    ensures consistent { (shard pages guards : ℕ) (region : RegionState) → IsConsistent shard pages guards memory.old region → IsConsistent shard pages guards memory.new region }
+    ensures consistent { (shard pages guards : ℕ) (region : RegionState) → IsConsistent shard pages guards memory.old region
+        → IsConsistent shard pages guards memory.new region }
 {
     memory.facts();
     let block = memory.give(size, share)?;

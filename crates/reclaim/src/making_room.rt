@@ -68,7 +68,8 @@ fn begin_next(cache: &mut RowCache, size: u32)
     requires active { IsSome (active_of cache.old.region) }
     requires free { 2 ≤ free_count cache.old.region }
     ensures room { size ≤ left cache.new.region }
-    ensures consistent { (shard pages guards : ℕ) (memory : Shard) → IsConsistent shard pages guards memory cache.old.region → IsConsistent shard pages guards memory cache.new.region }
+    ensures consistent { (shard pages guards : ℕ) (memory : Shard) → IsConsistent shard pages guards memory cache.old.region
+        → IsConsistent shard pages guards memory cache.new.region }
     ensures rows { rows_of cache.new ≡ rows_of cache.old }
     ensures tables { cache.new.room ≡ cache.old.room }
 {

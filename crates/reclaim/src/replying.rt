@@ -64,10 +64,12 @@ pub(crate) fn reply(
 )
     requires askable { IsAskable (asked ask.now) }
     requires consistent { IsConsistent memory.old.owner memory.old.pages 0 memory.old cache.old.region }
-    requires tables { ask.now.kind ≡ Kinds.Put → (apply.has ask.now.key.now (rows_of cache.old) ≡ true) ⊎ (length (rows_of cache.old) < cache.old.room) }
+    requires tables { ask.now.kind ≡ Kinds.Put
+        → (apply.has ask.now.key.now (rows_of cache.old) ≡ true) ⊎ (length (rows_of cache.old) < cache.old.room) }
     requires spare { length (rows_of cache.old) + 1 ≤ journal.old.spare }
     requires room { HasRoomFor (asked ask.now) (rows_of cache.old) (length into.old) }
-    ensures replied { HasReplied (pressure memory.old.pages memory.old.lent) (asked ask.now) (rows_of cache.old) (rows_of cache.new) journal.old journal.new into.new }
+    ensures replied { HasReplied (pressure memory.old.pages memory.old.lent) (asked ask.now) (rows_of cache.old)
+        (rows_of cache.new) journal.old journal.new into.new }
     ensures consistent { IsConsistent memory.old.owner memory.old.pages 0 memory.new cache.new.region }
     ensures taken { TakesHome memory.old memory.new }
     ensures tables { cache.new.room ≡ cache.old.room }
@@ -96,7 +98,8 @@ fn reply_put(
     requires tables { (apply.has ask.now.key.now (rows_of cache.old) ≡ true) ⊎ (length (rows_of cache.old) < cache.old.room) }
     requires spare { length (rows_of cache.old) + 1 ≤ journal.old.spare }
     requires room { message_header ≤ length into.old }
-    ensures replied { HasReplied (pressure memory.old.pages memory.old.lent) (asked ask.now) (rows_of cache.old) (rows_of cache.new) journal.old journal.new into.new }
+    ensures replied { HasReplied (pressure memory.old.pages memory.old.lent) (asked ask.now) (rows_of cache.old)
+        (rows_of cache.new) journal.old journal.new into.new }
     ensures consistent { IsConsistent memory.old.owner memory.old.pages 0 memory.new cache.new.region }
     ensures taken { TakesHome memory.old memory.new }
     ensures tables { cache.new.room ≡ cache.old.room }
@@ -148,7 +151,8 @@ fn reply_erase(cache: &mut RowCache, ask: &Ask<'_>, into: &mut [u8], journal: &m
     ensures rows { rows_of cache.new ≡ (apply.apply (asked ask.now) (rows_of cache.old)).0 }
     ensures holds { HoldsReply into.new ask.now.number (apply.apply (asked ask.now) (rows_of cache.old)).1 }
     ensures recorded { Records journal.old journal.new (Entries.Done ask.now.number ∷ []) }
-    ensures consistent { (shard pages guards : ℕ) (memory : Shard) → IsConsistent shard pages guards memory cache.old.region → IsConsistent shard pages guards memory cache.new.region }
+    ensures consistent { (shard pages guards : ℕ) (memory : Shard) → IsConsistent shard pages guards memory cache.old.region
+        → IsConsistent shard pages guards memory cache.new.region }
     ensures tables { cache.new.room ≡ cache.old.room }
 {
     journal.add(Entry::Done(ask.number));

@@ -77,7 +77,8 @@ pub(crate) fn add_segment(memory: &mut ShardMemory<'_>, cache: &mut RowCache) ->
 // changed.
 pub(crate) fn give_free_back(memory: &mut ShardMemory<'_>, cache: &mut RowCache) -> bool
     requires made { (guards : ℕ) × IsMadeOf memory.old.owner memory.old.pages guards memory.old cache.old.region }
-    ensures consistent { (shard pages guards : ℕ) → IsConsistent shard pages guards memory.old cache.old.region → IsConsistent shard pages guards memory.new cache.new.region }
+    ensures consistent { (shard pages guards : ℕ) → IsConsistent shard pages guards memory.old cache.old.region
+        → IsConsistent shard pages guards memory.new cache.new.region }
     ensures room { result ≡ true → HasAllRoom memory.new.room }
     ensures none { result ≡ false → free_count cache.old.region ≤ 1 }
     ensures unchanged { result ≡ false → (memory.new ≡ memory.old) × (cache.new ≡ cache.old) }

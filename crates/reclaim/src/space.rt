@@ -50,8 +50,8 @@ impl<'f> Model for Space<'f> {
 }
 
 impl<'f> Space<'f> {
-    /// The space of a shard of so many pages of 4,096 bytes, with room for so many rows and none in it, whose lent blocks come home
-    /// over this list. Two segments go to the cache, one of them active.
+    /// The space of a shard of so many pages of 4,096 bytes, with room for so many rows, fewer than 4,294,967,295, and none in it,
+    /// whose lent blocks come home over this list. Two segments go to the cache, one of them active.
     ///
     /// # Errors
     /// Want of memory; then the seat is handed back. No other call takes memory.

@@ -34,7 +34,8 @@ pub(crate) fn put_row(
     requires consistent { IsConsistent memory.old.owner memory.old.pages 0 memory.old cache.old.region }
     requires room { (apply.has ask.now.key.now (rows_of cache.old) ≡ true) ⊎ (length (rows_of cache.old) < cache.old.room) }
     requires spare { length (rows_of cache.old) + 1 ≤ journal.old.spare }
-    ensures stored { HasStored (pressure memory.old.pages memory.old.lent) (asked ask.now) (reply_of result) (rows_of cache.old) (rows_of cache.new) journal.old journal.new }
+    ensures stored { HasStored (pressure memory.old.pages memory.old.lent) (asked ask.now) (reply_of result) (rows_of cache.old)
+        (rows_of cache.new) journal.old journal.new }
     ensures consistent { IsConsistent memory.old.owner memory.old.pages 0 memory.new cache.new.region }
     ensures taken { TakesHome memory.old memory.new }
     ensures tables { cache.new.room ≡ cache.old.room }
@@ -54,7 +55,8 @@ fn store(cache: &mut RowCache, ask: &Ask<'_>) -> Put
     requires room { (apply.has ask.now.key.now (rows_of cache.old) ≡ true) ⊎ (length (rows_of cache.old) < cache.old.room) }
     ensures rows { rows_of cache.new ≡ (apply.apply (asked ask.now) (rows_of cache.old)).0 }
     ensures reply { reply_of result ≡ (apply.apply (asked ask.now) (rows_of cache.old)).1 }
-    ensures consistent { (shard pages guards : ℕ) (memory : Shard) → IsConsistent shard pages guards memory cache.old.region → IsConsistent shard pages guards memory cache.new.region }
+    ensures consistent { (shard pages guards : ℕ) (memory : Shard) → IsConsistent shard pages guards memory cache.old.region
+        → IsConsistent shard pages guards memory cache.new.region }
     ensures tables { cache.new.room ≡ cache.old.room }
 {
     let Ok(did) = cache.put(ask.key, ask.value, ask.number) else {

@@ -43,7 +43,8 @@ impl Model for RowCache {
 }
 
 impl RowCache {
-    /// A cache without rows and segments, with room for so many rows and numbers of segments below `segments`.
+    /// A cache without rows and segments, with room for so many rows, fewer than 4,294,967,295, and numbers of segments below
+    /// `segments`.
     ///
     /// # Errors
     /// `AllocError` where memory is not found. No other call takes memory.

@@ -3,6 +3,7 @@ mod calls;
 mod first_row;
 mod list;
 mod moved;
+mod one_tag;
 mod scans;
 mod sizes;
 mod steps;

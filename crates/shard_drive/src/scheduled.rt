@@ -15,7 +15,8 @@ pub fn drive_schedule<'f, L: Link<'f> + Drop, G: Gate + Drop>(
     schedule: &[u32],
 )
     requires { All (λ k. k < length nodes.old) schedule.now }
-    ensures standing { AtEach (λ _ a b. InStanding (traffic_by L.sent L.received L.full L.empty) a → InStanding (traffic_by L.sent L.received L.full L.empty) b)
+    ensures standing { AtEach (λ _ a b. InStanding (traffic_by L.sent L.received L.full L.empty) a → InStanding
+        (traffic_by L.sent L.received L.full L.empty) b)
         nodes.old nodes.new }
     ensures same { AtEach (λ _. IsSameNode L.end) nodes.old nodes.new }
     ensures turns { Follows (λ node. node.turns) schedule.now nodes.old nodes.new }

@@ -1,5 +1,4 @@
 pub mod Ask
-pub mod Expected
 pub mod Lanes
 pub mod Links
 pub mod Mesh

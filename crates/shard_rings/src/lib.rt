@@ -1,7 +1,7 @@
 //! The messages of shards: what a shard asks of another, and what it is answered.
 //!
 //! A request is the bytes of an operation; a reply is a message that bytes begin with, whatever stands behind it.
-//! `specs/Request.antt` and `specs/Reply.antt` say so, and `specs/Expected.antt` what a shard expects of another.
+//! `specs/Request.antt` and `specs/Reply.antt` say so.
 //!
 //! They go over links. A [`Link`] is one shard's end toward one other, with a lane for requests and one for replies each way, and
 //! waits for nobody. [`ring_links`] gives the ends of all shards, over rings between threads; [`MemoryLink`] has the other end

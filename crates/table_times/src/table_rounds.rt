@@ -19,7 +19,7 @@ fn insert_row(table: &mut KeyTable, arena: &Arena, row: u32)
         return;
     };
     // a row that finds no slot is left out
-    let _taken = table.insert(spot, row);
+    table.insert(spot, row).ok();
 }
 
 /// Puts rows in, each at the place that a search gives.

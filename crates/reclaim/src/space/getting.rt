@@ -21,7 +21,8 @@ impl<'f> Space<'f> {
         requires kind { ask.now.kind ≡ Kinds.Get }
         requires unguarded { IsUnguarded self.old }
         requires spare { 1 ≤ journal.old.spare }
-        ensures value { MatchOption result (apply.row_of ask.now.key.now self.old.rows ≡ None) (λ value. (row : Row) × (apply.row_of ask.now.key.now self.old.rows ≡ Some row) × (value.now ≡ row.value)) }
+        ensures value { MatchOption result (apply.row_of ask.now.key.now self.old.rows ≡ None)
+            (λ value. (row : Row) × (apply.row_of ask.now.key.now self.old.rows ≡ Some row) × (value.now ≡ row.value)) }
         ensures* after { sem 𝓛 (EndsAs self.entry (λ s. s ≡ with_rows self.old (apply.get ask.now.key.now self.old.rows).0)) }
         ensures recorded { Records journal.old journal.new (Entries.Done ask.now.number ∷ []) }
     {

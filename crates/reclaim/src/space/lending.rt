@@ -56,7 +56,12 @@ impl<'f> Space<'f> {
         ensures taken { TakesBack self.old self.new }
         ensures count { tickets_out self.new.lent + result ≡ tickets_out self.old.lent }
         ensures looked { LooksOnce self.old self.new }
-        ensures same { self.new ≡ record self.old { lent = self.new.lent; backs = self.new.backs; looks = self.new.looks; free = self.new.free } }
+        ensures same { self.new ≡ record self.old {
+          lent = self.new.lent;
+          backs = self.new.backs;
+          looks = self.new.looks;
+          free = self.new.free;
+        } }
     {
         self.memory.take_back()
     }
@@ -107,7 +112,9 @@ impl<'f> Space<'f> {
 
     /// Where the row of a key stands. None where no row has the key.
     pub fn place_of(&self, key: &[u8]) -> Option<Place>
-        ensures { MatchOption result (apply.row_of key.now self.now.rows ≡ None) (λ place. (row : Row) × (apply.row_of key.now self.now.rows ≡ Some row) × StandsAt self.now.region place row × IsSome (live_at self.now.region place)) }
+        ensures { MatchOption result (apply.row_of key.now self.now.rows ≡ None)
+            (λ place. (row : Row) × (apply.row_of key.now self.now.rows ≡ Some row) × StandsAt self.now.region place row
+            × IsSome (live_at self.now.region place)) }
     {
         self.cache.place_of(key)
     }

@@ -68,14 +68,16 @@ impl<'f> Space<'f> {
     ) -> Result<ForeignBlock<'f>, NoTicket>
         requires askable { IsAskable (asked ask.now) }
         requires unguarded { IsUnguarded self.old }
-        requires room { ask.now.kind ≡ Kinds.Put → (apply.has ask.now.key.now self.old.rows ≡ true) ⊎ (length self.old.rows < self.old.room) }
+        requires room { ask.now.kind ≡ Kinds.Put
+            → (apply.has ask.now.key.now self.old.rows ≡ true) ⊎ (length self.old.rows < self.old.room) }
         requires spare { length self.old.rows + 1 ≤ journal.old.spare }
         ensures none { IsErr result ↔ ¬ HasIdle self.old.lent Shares.Reply }
         ensures unchanged { IfErr result (λ _. (self.new ≡ self.old) × (journal.new ≡ journal.old)) }
         ensures replied { IfOk result (λ block. (answer : Reply) × HoldsReply block.piece.bytes ask.now.number answer
             × DoesAbove (floor_of self.old.pages self.old.lent) (asked ask.now) answer self.old self.new journal.old journal.new) }
         ensures lends { IfOk result (LendsBlock Shares.Reply self.old self.new) }
-        ensures size { IfOk result (λ block. length block.piece.bytes ≡ message_header + body_size ask.now.kind (asked ask.now) (apply.row_of ask.now.key.now self.old.rows)) }
+        ensures size { IfOk result (λ block. length block.piece.bytes ≡ message_header + body_size ask.now.kind (asked ask.now)
+            (apply.row_of ask.now.key.now self.old.rows)) }
     {
         if !self.memory.is_idle(Share::Reply) {
             return Err(NoTicket);

@@ -14,7 +14,7 @@ const ROWS: u32 = 150;
 const ROOM: usize = 1290;
 
 #[derive(Drop)]
-struct Both {
+pub(super) struct Both {
     trial: Trial,
     list: List,
     /// How often another segment was begun. Each but the first three was freed by compaction.
@@ -41,7 +41,7 @@ fn length_of(draw: u32) -> usize {
 }
 
 impl Both {
-    fn new(alloc: Global) -> Result<Both, AllocError> {
+    pub(super) fn new(alloc: Global) -> Result<Both, AllocError> {
         Ok(Both {
             trial: Trial::new(alloc, ROWS)?,
             list: List::new(alloc),
@@ -108,14 +108,14 @@ impl Both {
         Ok(scanned.keys == keys && into.get(..scanned.bytes as usize) == Some(bytes.as_slice()))
     }
 
-    fn are_alike(&self) -> bool {
+    pub(super) fn are_alike(&self) -> bool {
         let (rows, live) = self.trial.size();
         rows as usize == self.list.len() && live == self.list.live()
     }
 }
 
 /// One call of a key, drawn at random, and whether both reply alike.
-fn one_call_of(
+pub(super) fn one_call_of(
     alloc: Global,
     both: &mut Both,
     random: &mut Lcg64Xsh32,
@@ -167,7 +167,7 @@ fn first_unlike(
 }
 
 /// Whether each row that is left goes from both alike, and leaves no bytes.
-fn all_go(both: &mut Both) -> bool {
+pub(super) fn all_go(both: &mut Both) -> bool {
     for _ in 0..ROWS {
         if !both.evict() {
             return false;
