@@ -1,4 +1,4 @@
-// The steps of crates/index_times over a structure of the C++ library.
+// The steps of crates/bench_index over a structure of the C++ library.
 //   index_maps map|hash KIND ROWS keys|insert|find|remove
 // map is std::map, whose keys are in order; hash is std::unordered_map, whose keys are not.
 #include <cstdint>

@@ -24,6 +24,7 @@ use crate::run::{Order, run_trace};
 use crate::settings::{Mode, Settings, settings_of};
 use crate::status::Status;
 use cache_model::{a_report_has_its_lines, answers_are_read_by_command, replies_hold_what_was_put};
+use layout::MOST_TRACE_BYTES;
 use made_trace::make_trace;
 use outside::{ReadStop, Sink, Source, read_all, write_all};
 use report_text::{ShardLine, write_report, write_summary};
@@ -31,7 +32,6 @@ use shard_node::{Gates, Ran};
 use std::alloc::Global;
 use std::sync::Wait;
 use std::thread::Threads;
-use layout::MOST_TRACE_BYTES;
 use trace_text::{Cause, ParseRefusal, Trace, parse};
 
 /// Writes a text to its end, and answers this status, or that the sink failed.

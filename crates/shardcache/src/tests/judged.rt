@@ -4,12 +4,12 @@ use super::evictions::put_letters;
 use super::plain::apply_to;
 use super::printed::lines_of;
 use crate::Status;
+use layout::MOST_TRACE_BYTES;
 use plain_cache::{Plain, ReplyKind};
 use std::alloc::{AllocError, Global};
 use std::sync::Wait;
 use std::test::Fail;
 use std::thread::Threads;
-use layout::MOST_TRACE_BYTES;
 use trace_text::{Trace, origin_of, owner_of, parse};
 
 /// How many keys are put, each of which is read by the next command.

@@ -1,0 +1,78 @@
+//! The rounds that are timed, over the index.
+ghost use Rattle.std.specs.Prelude.{◌≡◌, ℕ, ◌<◌, ◌≤◌, length};
+ghost use Rattle.key_index.specs.Index.{IsIndexOf};
+ghost use Rattle.bench_table.specs.Arena.{has_row, key_of};
+
+use crate::arena::Arena;
+use key_index::{KeyIndex, Keys};
+
+/// The row that comes so many rows on, in an order that jumps.
+pub fn jumped(at: u32, rows: u32) -> u32 {
+    if rows == 0 {
+        return 0;
+    }
+    (u64::from(at) * 100_003 % u64::from(rows)) as u32
+}
+
+/// Puts a row in at the place that a search gives.
+fn insert_row(index: &mut KeyIndex, arena: &Arena, row: u32)
+    requires { IsIndexOf (has_row arena.now) (key_of arena.now) index.old }
+    ensures { IsIndexOf (has_row arena.now) (key_of arena.now) index.new }
+{
+    if !arena.has_key(row) || index.len() >= index.room() {
+        return;
+    }
+    let Err(place) = index.search(arena, arena.key(row)) else {
+        return;
+    };
+    index.insert_at(arena, place, row);
+}
+
+/// Puts rows in, each at the place that a search gives.
+pub fn fill(index: &mut KeyIndex, arena: &Arena, rows: u32)
+    requires { IsIndexOf (has_row arena.now) (key_of arena.now) index.old }
+    ensures { IsIndexOf (has_row arena.now) (key_of arena.now) index.new }
+{
+    for row in 0..rows {
+        insert_row(index, arena, row);
+    }
+}
+
+/// How many searches found their row.
+pub fn count_found(index: &KeyIndex, arena: &Arena, rows: u32) -> u32
+    requires { IsIndexOf (has_row arena.now) (key_of arena.now) index.now }
+{
+    let mut found: u32 = 0;
+    for at in 0..rows {
+        let row = jumped(at, rows);
+        if arena.has_key(row) && index.find(arena, arena.key(row)) == Some(row) {
+            found = found.wrapping_add(1);
+        }
+    }
+    found
+}
+
+/// Takes a row out, and answers whether it was there.
+fn remove_row(index: &mut KeyIndex, arena: &Arena, row: u32) -> bool
+    requires { IsIndexOf (has_row arena.now) (key_of arena.now) index.old }
+    ensures { IsIndexOf (has_row arena.now) (key_of arena.now) index.new }
+{
+    if !arena.has_key(row) {
+        return false;
+    }
+    index.remove(arena, arena.key(row)) == Some(row)
+}
+
+/// How many rows were taken out.
+pub fn count_removed(index: &mut KeyIndex, arena: &Arena, rows: u32) -> u32
+    requires { IsIndexOf (has_row arena.now) (key_of arena.now) index.old }
+    ensures { IsIndexOf (has_row arena.now) (key_of arena.now) index.new }
+{
+    let mut removed: u32 = 0;
+    for at in 0..rows {
+        if remove_row(index, arena, jumped(at, rows)) {
+            removed = removed.wrapping_add(1);
+        }
+    }
+    removed
+}

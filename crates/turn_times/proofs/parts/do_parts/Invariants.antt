@@ -1,6 +1,0 @@
-use Rattle.std.proofs.Common.{◌≡◌}
-use Rattle.reclaim.specs.Spaces.{IsUnguarded}
-use Rattle.turn_times.proofs.parts.do_parts.Given as goal
-
-abbrev pub invariant-loop-command : goal.invariant-loop-command
-invariant-loop-command l = IsUnguarded l.space × (l.space.room ≡ 1)
