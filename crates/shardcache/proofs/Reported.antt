@@ -18,12 +18,11 @@ use Rattle.cache_model.specs.Summary.{summary}
 use Rattle.cache_model.specs.Report.{IsReportOf, Occupancy, answers, journal_text, occupancy, report, report_of, text_lines}
 use Rattle.cache_model.specs.Unbroken.{IsUnbroken, is_unbroken}
 use Rattle.report_text.specs.Views.{journals_in, replies_in}
-use Rattle.report_text.specs.declared.shard_line.ShardLine.{ShardLine}
 use Rattle.shard_node.specs.Rans.{RanState}
 use Rattle.shardcache.specs.declared.settings.Settings.{Settings as Found}
 use Rattle.shardcache.specs.declared.settings.mode.Mode.TheVariants.{Run, Sim, Gen}
 use Rattle.shardcache.specs.Settings.{view}
-use Rattle.shardcache.specs.Table.{IsOutput, Reports}
+use Rattle.shardcache.specs.Table.{IsOutput, IsRecordOf, Reports}
 use Rattle.shardcache.specs.inside.Finished.{IsRunOf}
 use Rattle.shardcache.proofs.Unbroken.{key-unbroken, value-unbroken}
 
@@ -54,9 +53,9 @@ puts-hold trace formed = λ i d within is.
     (key-unbroken (get_or trace.operations i d).key (formed i d within).key, value-unbroken (get_or trace.operations i d).value (formed i d within).value)
 
 -- the report of the journals is legal
-pub reported : ReportLaws → (trace : Trace) (n pages : ℕ) (ran : RanState) (lines : List ShardLine) → All IsWellFormed trace.operations → IsRunOf trace n pages ran lines
+pub reported : ReportLaws → (trace : Trace) (n pages : ℕ) (ran : RanState) → All IsWellFormed trace.operations → IsRunOf trace n pages ran
     → IsReportOf trace n pages (report trace n pages (journals_in ran.journals)) (journals_in ran.journals)
-reported laws trace n pages ran lines formed run =
+reported laws trace n pages ran formed run =
     let journals = journals_in ran.journals in
     let list = answers trace n pages journals in
     let occupancies = map (occupancy trace n pages) (enumerate_from 0 journals) in
@@ -72,25 +71,38 @@ reported laws trace n pages ran lines formed run =
       text = refl;
     }
 
+-- the record is that of the run
+pub recorded : (found : Found) (trace : Trace) (ran : RanState) → IsRunOf trace found.shards found.pages ran → IsRecordOf (view found) trace ran
+recorded found trace ran run = record {
+  of_trace = run.of_run.of_trace;
+  of_shards = run.of_run.of_shards;
+  of_pages = run.of_run.of_pages;
+  journal_each = run.journal_each;
+  log_each = run.log_each;
+  line_each = run.line_each;
+  logged = run.logged;
+  occupied = run.occupied;
+}
+
 -- ---- by the mode
 
-pub of_reading : ReportLaws → (found : Found) (trace : Trace) (ran : RanState) (lines : List ShardLine) → All IsWellFormed trace.operations
-    → IsRunOf trace found.shards found.pages ran lines → (found.mode ≡ Run) ⊎ (found.mode ≡ Sim)
+pub of_reading : ReportLaws → (found : Found) (trace : Trace) (ran : RanState) → All IsWellFormed trace.operations
+    → IsRunOf trace found.shards found.pages ran → (found.mode ≡ Run) ⊎ (found.mode ≡ Sim)
     → IsOutput found.mode (view found) trace ran (report trace found.shards found.pages (journals_in ran.journals))
-of_reading laws found trace ran lines formed run mode = go mode
+of_reading laws found trace ran formed run mode = go mode
   where
     text : List ℕ
     text = report trace found.shards found.pages (journals_in ran.journals)
 
     reports : Reports (view found) trace ran text
-    reports = record { report = reported laws trace found.shards found.pages ran lines formed run; evicts = run.evicts }
+    reports = record { report = reported laws trace found.shards found.pages ran formed run; evicts = run.evicts }
 
     go : (found.mode ≡ Run) ⊎ (found.mode ≡ Sim) → IsOutput found.mode (view found) trace ran text
     go (inl is) = subst (λ m. IsOutput m (view found) trace ran text) (sym is) reports
     go (inr is) = subst (λ m. IsOutput m (view found) trace ran text) (sym is) reports
 
-pub of_making : (found : Found) (trace : Trace) (ran : RanState) (lines : List ShardLine) → IsRunOf trace found.shards found.pages ran lines → found.mode ≡ Gen
+pub of_making : (found : Found) (trace : Trace) (ran : RanState) → IsRunOf trace found.shards found.pages ran → found.mode ≡ Gen
     → IsOutput found.mode (view found) trace ran (summary trace found.shards found.pages (journals_in ran.journals))
-of_making found trace ran lines run is =
+of_making found trace ran run is =
     subst (λ m. IsOutput m (view found) trace ran (summary trace found.shards found.pages (journals_in ran.journals))) (sym is)
     (record { shards = run.journal_each; legal = run.legal; complete = run.complete; summary = refl })

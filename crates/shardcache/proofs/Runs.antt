@@ -1,9 +1,8 @@
 -- What a run came to, as the report wants it.
 use Rattle.std.proofs.Common.{◌≡◌, ℕ, ◌+◌, ◌<◌, ◌≤◌, List, [], ◌∷◌, ◌++◌, length, map, take, drop, get_or, Option, Some, arith, refl, sym, ap, subst, ◌∙◌}
-use Rattle.std.specs.List.{All, enumerate_from, slice_get, slice_index_or}
+use Rattle.std.specs.List.{All, slice_get, slice_index_or}
 use Rattle.std.specs.Option.{IsSome}
 use Rattle.std.proofs.lemmas.List.{length-map}
-use Rattle.std.proofs.lemmas.List.FromFn.{length-enumerate_from}
 use Rattle.std.proofs.lemmas.Option.{get_or_from_slice_get, slice_get-get_or, slice_get_within}
 use Rattle.trace_text.specs.Trace.{Trace}
 use Rattle.trace_text.specs.Parsed.{AreNumbered, IsWellFormed, Parsed, trace_in}
@@ -13,7 +12,7 @@ use Rattle.cache_model.specs.Bodies.{HasKeys}
 use Rattle.cache_model.specs.Legal.{command_of}
 use Rattle.cache_model.specs.Logged.{AreLogged}
 use Rattle.cache_model.specs.OwnParts.{HoldsReplies, part_reply, parts_of}
-use Rattle.cache_model.specs.Report.{answers, occupancy}
+use Rattle.cache_model.specs.Report.{answers}
 use Rattle.foreign_list.specs.Lists.{OwnedList}
 use Rattle.shard_rings.specs.Links.{LinkState, end_of}
 use Rattle.shard_node.specs.Nodes.{NodeState}
@@ -23,11 +22,8 @@ use Rattle.shard_node.specs.Turns.{IsDone, IsSameNode}
 use Rattle.shard_drive.specs.Drives.{AtEach}
 use Rattle.shard_node.specs.Links.{ring_traffic}
 use Rattle.shard_run.specs.Opening.{AreOpened}
-use Rattle.shard_run.specs.Running.{IsRun, WereDriven, journals_of, logs_of, told}
-use Rattle.shard_run.specs.declared.remains.Occupancy.{Occupancy}
-use Rattle.report_text.specs.Views.{occupancies_in, occupancy_in}
-use Rattle.report_text.specs.declared.shard_line.ShardLine.{ShardLine}
-use Rattle.shardcache.specs.inside.Finished.{IsRunOf, line_of}
+use Rattle.shard_run.specs.Running.{IsRun, WereDriven, journals_of, logs_of}
+use Rattle.shardcache.specs.inside.Finished.{IsRunOf}
 use Rattle.shardcache.proofs.Numbered.{command_at, numbered}
 
 -- the law of logs, as its function promises it
@@ -38,41 +34,26 @@ LogLaw = (trace : Trace) (n pages : ℕ) (journals : List (List Entry)) (logs : 
     → ((o : ℕ) (d : List (Option (ReplyKind × List ℕ))) → o < n → HoldsReplies trace n o (part_reply trace pages journals) (slice_index_or logs o d))
     → AreLogged trace n logs (answers trace n pages journals)
 
-map-map : {A B C : Type 0} (g : B → C) (f : A → B) (xs : List A) → map g (map f xs) ≡ map (λ x. g (f x)) xs
-map-map g f [] = refl
-map-map g f (x ∷ xs) = ap (λ ys. g (f x) ∷ ys) (map-map g f xs)
-
-pub run_of : LogLaw → (parsed : Parsed) (n pages : ℕ) (ran : RanState) (occupancies : List Occupancy) (lines : List ShardLine) → All IsWellFormed (trace_in parsed).operations
-    → AreNumbered parsed.commands → lines ≡ map line_of occupancies → length occupancies ≡ n → IsRun (trace_in parsed) n pages ran occupancies
-    → IsRunOf (trace_in parsed) n pages ran lines
-run_of law parsed n pages ran occupancies lines formed numbers are many run =
+pub run_of : LogLaw → (parsed : Parsed) (n pages : ℕ) (ran : RanState) → All IsWellFormed (trace_in parsed).operations → AreNumbered parsed.commands
+    → IsRun (trace_in parsed) n pages ran → IsRunOf (trace_in parsed) n pages ran
+run_of law parsed n pages ran formed numbers run =
     let trace = trace_in parsed in
     let journals = length-map ran.journals (λ journal. journal.entries) in
     let count = run.one_journal_each in
     record {
+      of_run = run.of_run;
       journal_each = run.one_journal_each;
       log_each = run.one_log_each;
-      line_each = ap length are ∙ length-map occupancies line_of ∙ many;
+      line_each = run.one_line_each;
       legal = λ s d below. run.legal s d (omega (arith, journals, count, below));
       complete = run.complete;
       logged = law trace n pages (journals_of ran) (logs_of ran) (journals ∙ count)
           (λ i d within put. record { some = (formed i d within).key_some; short = (formed i d within).key_most })
           (λ i d within. command_at trace.operations i d (numbered parsed.bytes parsed.commands numbers) within)
           run.replied run.logged;
-      occupied = ap occupancies_in are ∙ map-map occupancy_in line_of occupancies ∙ run.occupied;
+      occupied = run.occupied;
       evicts = λ one d. run.pressure one 0 d (omega (arith, journals, count, one));
     }
-
--- a run has an occupancy for each shard
-pub so-many : (trace : Trace) (n pages : ℕ) (ran : RanState) (occupancies : List Occupancy) → IsRun trace n pages ran occupancies → length occupancies ≡ n
-so-many trace n pages ran occupancies run =
-    let told_each = length-map occupancies told in
-    let same = ap length run.occupied in
-    let numbered_each = length-map (enumerate_from 0 (journals_of ran)) (occupancy trace n pages) in
-    let each = length-enumerate_from 0 (journals_of ran) in
-    let journals = length-map ran.journals (λ journal. journal.entries) in
-    let count = run.one_journal_each in
-    omega (arith, told_each, same, numbered_each, each, journals, count)
 
 -- The nodes of a run, before and after they were driven.
 

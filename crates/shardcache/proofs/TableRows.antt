@@ -70,8 +70,8 @@ pub follows_run : (found : Settings) (answered : Status) (ran : Option RanState)
     → Consumes before left taken → ((trace : Trace) → trace_for found bytes ≡ Ok trace → Means words taken left found (Ok trace))
     → ((number : ℕ) (cause : Cause) → trace_for found bytes ≡ Err (AtLine number cause) → Means words taken left found (Err (AtLine number cause)))
     → EndsRun found answered ran bytes before_sink after_sink → FollowsTable answered ran words before left before_sink after_sink
-follows_run found answered ran words before left before_sink after_sink taken bytes took means refused (inl (trace, is, run, has, text, output, written)) =
-    follows_output answered ran words before left before_sink after_sink taken text took (found, trace, run, has, means trace is, output) written
+follows_run found answered ran words before left before_sink after_sink taken bytes took means refused (inl (trace, is, run, has, recorded, text, output, written)) =
+    follows_output answered ran words before left before_sink after_sink taken text took (found, trace, run, has, means trace is, recorded, output) written
 follows_run found answered ran words before left before_sink after_sink taken bytes took means refused (inr (inl (number, cause, is, none, written))) =
     follows_ending answered status.Refused ran words before left before_sink after_sink taken (refusal_text (AtLine number cause)) none took
     (none, found, AtLine number cause, refused number cause is, refl) written

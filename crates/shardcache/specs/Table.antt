@@ -1,5 +1,6 @@
 -- The table of the top call: what a call may have written, by its status.
-use Rattle.std.specs.Prelude.{◌≡◌, ℕ, ◌+◌, ◌<◌, ◌++◌, List, [], length, codes, slice_index_or, Some, None, Result, Ok, Err, Option}
+use Rattle.std.specs.Prelude.{◌≡◌, ℕ, ◌+◌, ◌<◌, ◌++◌, List, [], length, map, codes, slice_index_or, Some, None, Result, Ok, Err, Option}
+use Rattle.std.specs.List.{enumerate_from}
 use Rattle.std.specs.Io.KnownBytes.{Appends, Consumes, IsAtEnd}
 use Rattle.layout.specs.Sizes.{dense}
 use Rattle.layout.specs.Sizes.{most_trace_bytes}
@@ -8,9 +9,10 @@ use Rattle.trace_text.specs.Trace.{Trace}
 use Rattle.cache_model.specs.declared.entry.Entry.{Entry}
 use Rattle.cache_model.specs.Row.{tight_floor}
 use Rattle.cache_model.specs.Legal.{EvictsAbove, IsComplete, IsLegal}
-use Rattle.cache_model.specs.Report.{line, IsReportOf}
+use Rattle.cache_model.specs.Logged.{AreLogged}
+use Rattle.cache_model.specs.Report.{answers, line, occupancy, IsReportOf}
 use Rattle.cache_model.specs.Summary.{summary as summary_of_run}
-use Rattle.report_text.specs.Views.{journals_in}
+use Rattle.report_text.specs.Views.{journals_in, occupancies_in, replies_in}
 use Rattle.made_trace.specs.Made.{made}
 use Rattle.shard_node.specs.Rans.{RanState}
 use Rattle.shardcache.specs.declared.settings.mode.Mode.{Mode}
@@ -40,6 +42,20 @@ abbrev pub IsRead : Mode → Result Trace Refusal → List ℕ → Option (List 
 IsRead Run meaning taken left = IsReadOut meaning taken left
 IsRead Sim meaning taken left = IsReadOut meaning taken left
 IsRead Gen meaning taken left = taken ≡ []
+
+-- The record is that of a run of this trace, on the shards and with the pages that the settings ask for. It has a journal, a log and a
+-- line of each shard: the logs have the answers, and the lines say what is in the caches to which the journals lead, and how many
+-- blocks were lent and came back.
+pub record IsRecordOf (settings : Settings) (trace : Trace) (ran : RanState) : Type 0 where
+  pub of_trace : ran.trace ≡ trace
+  pub of_shards : ran.shards ≡ settings.shards
+  pub of_pages : ran.pages ≡ settings.pages
+  pub journal_each : length ran.journals ≡ settings.shards
+  pub log_each : length ran.logs ≡ settings.shards
+  pub line_each : length ran.lines ≡ settings.shards
+  pub logged : AreLogged trace settings.shards (replies_in ran.logs) (answers trace settings.shards settings.pages (journals_in ran.journals))
+  pub occupied : occupancies_in ran.lines
+      ≡ map (occupancy trace settings.shards settings.pages) (enumerate_from 0 (journals_in ran.journals))
 
 -- The text is the report of the journals that the run left, and they are legal and complete. With one shard each eviction of its
 -- journal stands where the live bytes exceed what no lent block leaves, and a dense segment more.
@@ -79,7 +95,7 @@ Reads Gen = ⊥
 -- end; `left` is what the source has left.
 abbrev pub WritesAll : Status → List (List ℕ) → List ℕ → Option (List ℕ) → Option RanState → List ℕ → Type 0
 WritesAll status.Done words taken left ran text = (found : Settings) × (trace : Trace) × (run : RanState)
-    × (ran ≡ Some run) × Means words taken left found (Ok trace) × IsOutput found.mode found trace run text
+    × (ran ≡ Some run) × Means words taken left found (Ok trace) × IsRecordOf found trace run × IsOutput found.mode found trace run text
 WritesAll status.Usage words taken left ran text = (ran ≡ None) × (settings words ≡ None) × (taken ≡ []) × (text ≡ line (codes "usage"))
 WritesAll status.Refused words taken left ran text =
     (ran ≡ None) × (found : Settings) × (refusal : Refusal) × Means words taken left found (Err refusal) × (text ≡ refusal_text refusal)

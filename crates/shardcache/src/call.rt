@@ -13,7 +13,7 @@ ghost use Rattle.layout.specs.Sizes.{most_trace_bytes};
 ghost use Rattle.trace_text.specs.Reading.{AtLine, TooLong};
 ghost use Rattle.made_trace.specs.Made.{made};
 ghost use Rattle.shardcache.specs.Settings.{Settings as Wanted, most_made_commands, settings as settings_of, view};
-ghost use Rattle.shardcache.specs.Table.{FollowsTable, IsOutput, Reads, trace_bytes};
+ghost use Rattle.shardcache.specs.Table.{FollowsTable, IsOutput, IsRecordOf, Reads, trace_bytes};
 ghost use Rattle.shardcache.specs.TraceFor.{refusal_text, trace_for};
 ghost use Rattle.shardcache.specs.inside.Ending.{EndsOutput, EndsRun, EndsWith};
 ghost use Rattle.shardcache.specs.declared.settings.mode.Mode.{Mode as Modes};
@@ -27,7 +27,7 @@ use cache_model::{a_report_has_its_lines, answers_are_read_by_command, replies_h
 use layout::MOST_TRACE_BYTES;
 use made_trace::make_trace;
 use outside::{ReadStop, Sink, Source, read_all, write_all};
-use report_text::{ShardLine, write_report, write_summary};
+use report_text::{write_report, write_summary};
 use shard_node::{Gates, Ran};
 use std::alloc::Global;
 use std::sync::Wait;
@@ -60,15 +60,9 @@ fn refuse<K: Sink>(alloc: Global, sink: &mut K, line: u32, cause: Cause) -> Stat
 }
 
 /// Writes the report of what the shards did.
-fn report_run<K: Sink>(
-    sink: &mut K,
-    settings: Settings,
-    trace: &Trace,
-    ran: &Ran,
-    lines: &[ShardLine],
-) -> Status
+fn report_run<K: Sink>(sink: &mut K, settings: Settings, trace: &Trace, ran: &Ran) -> Status
     requires parsed_for { settings.shards ≡ trace.now.shards }
-    requires run { IsRunOf (trace_in trace.now) settings.shards settings.pages ran.now lines.now }
+    requires run { IsRunOf (trace_in trace.now) settings.shards settings.pages ran.now }
     ensures written { EndsOutput result (K.written sink.old) (K.written sink.new) (report (trace_in trace.now) settings.shards settings.pages (journals_in ran.now.journals)) }
     ensures fault { result ≡ Status.WriteFault → Rose (K.faults sink.old) (K.faults sink.new) }
 {
@@ -78,7 +72,7 @@ fn report_run<K: Sink>(
         settings.shards,
         ran.logs(),
         ran.journals(),
-        lines,
+        ran.lines(),
     ) {
         Ok(()) => Status::Done,
         Err(_) => Status::WriteFault,
@@ -86,15 +80,9 @@ fn report_run<K: Sink>(
 }
 
 /// Writes the summary of what the shards did.
-fn summarize_run<K: Sink>(
-    sink: &mut K,
-    settings: Settings,
-    trace: &Trace,
-    ran: &Ran,
-    lines: &[ShardLine],
-) -> Status
+fn summarize_run<K: Sink>(sink: &mut K, settings: Settings, trace: &Trace, ran: &Ran) -> Status
     requires parsed_for { settings.shards ≡ trace.now.shards }
-    requires run { IsRunOf (trace_in trace.now) settings.shards settings.pages ran.now lines.now }
+    requires run { IsRunOf (trace_in trace.now) settings.shards settings.pages ran.now }
     ensures written { EndsOutput result (K.written sink.old) (K.written sink.new) (summary (trace_in trace.now) settings.shards settings.pages (journals_in ran.now.journals)) }
     ensures fault { result ≡ Status.WriteFault → Rose (K.faults sink.old) (K.faults sink.new) }
 {
@@ -104,7 +92,7 @@ fn summarize_run<K: Sink>(
         settings.shards,
         ran.logs(),
         ran.journals(),
-        lines,
+        ran.lines(),
     ) {
         Ok(()) => Status::Done,
         Err(_) => Status::WriteFault,
@@ -112,15 +100,10 @@ fn summarize_run<K: Sink>(
 }
 
 /// Writes what the mode says of a run.
-fn write_output<K: Sink>(
-    sink: &mut K,
-    settings: Settings,
-    trace: &Trace,
-    ran: &Ran,
-    lines: &[ShardLine],
-) -> Status
+fn write_output<K: Sink>(sink: &mut K, settings: Settings, trace: &Trace, ran: &Ran) -> Status
     requires parsed_for { settings.shards ≡ trace.now.shards }
-    requires run { IsRunOf (trace_in trace.now) settings.shards settings.pages ran.now lines.now }
+    requires run { IsRunOf (trace_in trace.now) settings.shards settings.pages ran.now }
+    ensures record { IsRecordOf (view settings) (trace_in trace.now) ran.now }
     ensures written { (text : List ℕ) × IsOutput settings.mode (view settings) (trace_in trace.now) ran.now text
         × EndsOutput result (K.written sink.old) (K.written sink.new) text }
     ensures fault { result ≡ Status.WriteFault → Rose (K.faults sink.old) (K.faults sink.new) }
@@ -130,8 +113,8 @@ fn write_output<K: Sink>(
     a_report_has_its_lines();
     answers_are_read_by_command();
     match settings.mode {
-        Mode::Run | Mode::Sim => report_run(sink, settings, trace, ran, lines),
-        Mode::Gen => summarize_run(sink, settings, trace, ran, lines),
+        Mode::Run | Mode::Sim => report_run(sink, settings, trace, ran),
+        Mode::Gen => summarize_run(sink, settings, trace, ran),
     }
 }
 
@@ -173,9 +156,9 @@ where
             order_of(settings),
             gates,
         ) {
-            Ok(run) => Outcome {
-                status: write_output(sink, settings, &trace, &run.ran, run.lines.as_slice()),
-                ran: Some(run.ran),
+            Ok(ran) => Outcome {
+                status: write_output(sink, settings, &trace, &ran),
+                ran: Some(ran),
             },
             Err(_) => Outcome::without_run(Status::Memory),
         },
@@ -282,7 +265,7 @@ where
 ///
 /// | Status | What is written |
 /// |---|---|
-/// | `Done` | the report or the summary of legal and complete journals, which are those of `ran` |
+/// | `Done` | the report or the summary of legal and complete journals, which are those of `ran`, the record of a run of the trace |
 /// | `Usage` | `usage`, exactly where the words ask for nothing that the program does; nothing was read |
 /// | `Refused` | `refused line L CAUSE`, exactly where the bytes that were read or made are no trace |
 /// | `ReadFault` | `read fault`, only where the source failed |

@@ -1,5 +1,5 @@
 //! A run of a trace on all shards.
-ghost use Rattle.std.specs.Prelude.{◌≡◌, ℕ, ◌+◌, ◌<◌, ◌≤◌, List, [], length, map, vec_capacity, All, IfOk, IfErr};
+ghost use Rattle.std.specs.Prelude.{◌≡◌, ◌<◌, List, length, All, IfOk, IfErr};
 ghost use Rattle.layout.specs.Sizes.{ArePages};
 ghost use Rattle.trace_text.specs.Parsed.{trace_in};
 ghost use Rattle.foreign_list.specs.Lists.{OwnedList};
@@ -11,18 +11,17 @@ ghost use Rattle.shard_drive.specs.Drives.{AtEach};
 ghost use Rattle.shard_run.specs.Opening.{AreAtRest};
 ghost use Rattle.shard_run.specs.Remaining.{IsRoomFor};
 ghost use Rattle.shard_run.specs.Running.{WereDriven};
-ghost use Rattle.shardcache.specs.inside.Finished.{IsRunOf, line_of};
+ghost use Rattle.shardcache.specs.inside.Finished.{IsRunOf};
 
 #[cfg(test)]
 mod tests;
 
 use cache_model::logs_hold_the_answers;
 use foreign_list::{Foreign, OwnerSeat};
-use report_text::ShardLine;
 use shard_drive::{drive_numbered, drive_threads};
 use shard_node::{Gate, Gates, Node, Ran};
 use shard_rings::RingLink;
-use shard_run::{Ended, Occupancy, Remains, close_lists, finish_run, open_lists, open_nodes};
+use shard_run::{Ended, Remains, close_lists, finish_run, open_lists, open_nodes};
 use std::alloc::{AllocError, Global};
 use std::sync::Wait;
 use std::thread::Threads;
@@ -35,36 +34,6 @@ pub enum Order {
     Threads,
     /// One turn after the other on one thread, the next shard drawn from this number.
     Numbered(u32),
-}
-
-/// What the shards leave when every command is done.
-#[derive(Drop)]
-pub struct Run {
-    pub ran: Ran,
-    pub lines: Vec<ShardLine>,
-}
-
-/// The lines of the report that say what the shards came to. There is room for them.
-fn lines_of(occupancies: Vec<Occupancy>, mut lines: Vec<ShardLine>) -> Vec<ShardLine>
-    requires none { lines.items ≡ [] }
-    requires room { length occupancies.items ≤ vec_capacity lines }
-    ensures { result.items ≡ map line_of occupancies.items }
-{
-    for occupancy in occupancies {
-        lines.push(line_of(occupancy)).unwrap();
-    }
-    lines
-}
-
-fn line_of(occupancy: Occupancy) -> ShardLine
-    ensures { result ≡ line_of occupancy }
-{
-    ShardLine {
-        rows: occupancy.rows,
-        live: occupancy.live,
-        lent: occupancy.lent,
-        back: occupancy.back,
-    }
 }
 
 /// Drives the nodes of all shards until they are done.
@@ -89,26 +58,16 @@ fn end_run<'f, G: Gate + Drop>(
     trace: &Trace,
     nodes: Vec<Node<'f, RingLink<'f>, G>>,
     into: Remains<'f>,
-    lines: Vec<ShardLine>,
-) -> (Run, Vec<OwnerSeat>)
-    requires driven { (pages : ℕ) × (homes : List OwnedList) × WereDriven G.holds (trace_in trace.now) trace.now.shards pages homes nodes.items }
-    requires room { IsRoomFor trace.now.shards into }
-    requires none { lines.items ≡ [] }
-    requires lines { trace.now.shards ≤ vec_capacity lines }
-    ensures run { (pages : ℕ) (homes : List OwnedList) → WereDriven G.holds (trace_in trace.now) trace.now.shards pages homes nodes.entry.items
-        → IsRunOf (trace_in trace.now) trace.now.shards pages result.0.ran result.0.lines.items }
-    ensures seats { (pages : ℕ) (homes : List OwnedList) → WereDriven G.holds (trace_in trace.now) trace.now.shards pages homes nodes.entry.items
-        → AreAtRest trace.now.shards homes result.1.items }
+) -> Ended
+    requires driven { (homes : List OwnedList) × WereDriven G.holds (trace_in trace.now) trace.now.shards into.ran.pages homes nodes.items }
+    requires room { IsRoomFor (trace_in trace.now) trace.now.shards into.ran.pages into }
+    ensures run { IsRunOf (trace_in trace.now) trace.now.shards into.entry.ran.pages result.ran }
+    ensures seats { (homes : List OwnedList) → WereDriven G.holds (trace_in trace.now) trace.now.shards into.entry.ran.pages homes nodes.entry.items
+        → AreAtRest trace.now.shards homes result.seats.items }
 {
     trace.commands();
     logs_hold_the_answers();
-    let Ended {
-        ran,
-        occupancies,
-        seats,
-    } = finish_run(trace, nodes, into);
-    let lines = lines_of(occupancies, lines);
-    (Run { ran, lines }, seats)
+    finish_run(trace, nodes, into)
 }
 
 /// Runs a trace over these lists, whose seats are handed back.
@@ -125,27 +84,24 @@ fn run_over<'f, R, G>(
     gates: &G,
     homes: &'f [Foreign],
     seats: Vec<OwnerSeat>,
-) -> Result<(Run, Vec<OwnerSeat>), Vec<OwnerSeat>>
+) -> Result<Ended, Vec<OwnerSeat>>
 where
     R: Threads + Wait + Sync,
     G: Gates,
     requires parsed_for { shards ≡ trace.now.shards }
     requires pages { ArePages pages }
     requires seats { AreAtRest shards homes.now seats.items }
-    ensures run { IfOk result (λ did. IsRunOf (trace_in trace.now) shards pages did.0.ran did.0.lines.items) }
-    ensures rest { IfOk result (λ did. AreAtRest shards homes.now did.1.items) }
+    ensures run { IfOk result (λ ended. IsRunOf (trace_in trace.now) shards pages ended.ran) }
+    ensures seats { IfOk result (λ ended. AreAtRest shards homes.now ended.seats.items) }
     ensures refused { IfErr result (λ back. AreAtRest shards homes.now back.items) }
 {
     trace.commands();
-    let Ok(remains) = Remains::new(alloc, shards) else {
-        return Err(seats);
-    };
-    let Ok(lines) = Vec::with_capacity(alloc, shards as usize) else {
+    let Ok(remains) = Remains::new(alloc, trace, shards, pages) else {
         return Err(seats);
     };
     let mut nodes = open_nodes(alloc, trace, pages, homes, seats, gates)?;
     drive(rt, nodes.as_mut_slice(), order);
-    Ok(end_run(trace, nodes, remains, lines))
+    Ok(end_run(trace, nodes, remains))
 }
 
 /// Runs a trace on its shards, each of so many pages.
@@ -160,13 +116,13 @@ pub fn run_trace<R, G>(
     pages: u32,
     order: Order,
     gates: &G,
-) -> Result<Run, AllocError>
+) -> Result<Ran, AllocError>
 where
     R: Threads + Wait + Sync,
     G: Gates,
     requires parsed_for { shards ≡ trace.now.shards }
     requires pages { ArePages pages }
-    ensures { IfOk result (λ run. IsRunOf (trace_in trace.now) shards pages run.ran run.lines.items) }
+    ensures { IfOk result (λ ran. IsRunOf (trace_in trace.now) shards pages ran) }
 {
     let (homes, seats) = open_lists(alloc, shards)?;
     match run_over(
@@ -180,9 +136,9 @@ where
         homes.as_slice(),
         seats,
     ) {
-        Ok((run, seats)) => {
+        Ok(Ended { ran, seats }) => {
             close_lists(homes, seats);
-            Ok(run)
+            Ok(ran)
         }
         Err(seats) => {
             close_lists(homes, seats);

@@ -9,7 +9,7 @@ use Rattle.shard_node.specs.Rans.{RanState}
 use Rattle.shardcache.specs.declared.status.Status.{Status}
 use Rattle.shardcache.specs.declared.status.Status.TheVariants as status
 use Rattle.shardcache.specs.Settings.{Settings}
-use Rattle.shardcache.specs.Table.{IsOutput}
+use Rattle.shardcache.specs.Table.{IsOutput, IsRecordOf}
 use Rattle.shardcache.specs.TraceFor.{refusal_text, trace_for}
 
 -- A text was written to its end with this status; or the sink failed, and a front of it was written; or memory ran
@@ -28,7 +28,7 @@ EndsOutput answered before after text =
 abbrev pub EndsRun : Settings → Status → Option RanState → List ℕ → Option (List ℕ) → Option (List ℕ) → Type 0
 EndsRun settings answered ran bytes before after =
     ((trace : Trace) × (trace_for settings bytes ≡ Ok trace) × (run : RanState) × (ran ≡ Some run)
-    × (text : List ℕ) × IsOutput settings.mode settings trace run text × EndsOutput answered before after text)
+    × IsRecordOf settings trace run × (text : List ℕ) × IsOutput settings.mode settings trace run text × EndsOutput answered before after text)
     ⊎ (((number : ℕ) × (cause : Cause) × (trace_for settings bytes ≡ Err (AtLine number cause)) × (ran ≡ None)
     × EndsWith answered status.Refused before after (refusal_text (AtLine number cause)))
     ⊎ ((answered ≡ status.Memory) × (ran ≡ None) × Appends before after []))

@@ -4,12 +4,12 @@ ghost use Rattle.std.specs.Prelude.{◌≡◌, IfOk, IfSome};
 
 mod scheduled;
 
-use super::{Order, Run, run_trace};
+use super::{Order, run_trace};
 use crate::tests::plain::apply_to;
 use plain_cache::{Entry, Plain, ReplyKind, ReplyLog};
 use rand_core::utils::NextWord;
 use rand_pcg::Lcg64Xsh32;
-use shard_node::OpenGates;
+use shard_node::{OpenGates, Ran};
 use std::alloc::{AllocError, Global};
 use std::sync::Wait;
 use std::test::Fail;
@@ -162,10 +162,10 @@ fn is_the_same(
     shards: u32,
     shard: u32,
     firsts: &[u32],
-    run: &Run,
+    ran: &Ran,
 ) -> Result<bool, AllocError> {
-    let (journals, logs) = (run.ran.journals(), run.ran.logs());
-    let (Some(journal), Some(line)) = (journals.get(shard as usize), run.lines.get(shard as usize))
+    let (journals, logs, lines) = (ran.journals(), ran.logs(), ran.lines());
+    let (Some(journal), Some(line)) = (journals.get(shard as usize), lines.get(shard as usize))
     else {
         return Ok(false);
     };
@@ -185,10 +185,10 @@ fn is_the_same(
 }
 
 /// The same of every shard.
-fn are_the_same(alloc: Global, trace: &Trace, shards: u32, run: &Run) -> Result<bool, AllocError> {
+fn are_the_same(alloc: Global, trace: &Trace, shards: u32, ran: &Ran) -> Result<bool, AllocError> {
     let firsts = first_parts(alloc, trace, shards)?;
     for shard in 0..shards {
-        if !is_the_same(alloc, trace, shards, shard, firsts.as_slice(), run)? {
+        if !is_the_same(alloc, trace, shards, shard, firsts.as_slice(), ran)? {
             return Ok(false);
         }
     }
@@ -196,9 +196,9 @@ fn are_the_same(alloc: Global, trace: &Trace, shards: u32, run: &Run) -> Result<
 }
 
 /// How many rows were evicted: the entries of all journals that are none of a part done.
-fn evictions(run: &Run) -> usize {
+fn evictions(ran: &Ran) -> usize {
     let mut evicted = 0usize;
-    for journal in run.ran.journals() {
+    for journal in ran.journals() {
         for entry in journal.entries() {
             if matches!(entry, Entry::Evicted(_)) {
                 evicted = evicted.wrapping_add(1);
@@ -218,9 +218,9 @@ fn runs_the_same<R: Threads + Wait + Sync>(
 ) -> Result<bool, AllocError>
     requires { shards ≡ trace.now.shards }
 {
-    let run = run_trace(rt, alloc, trace, shards, PAGES, order, &OpenGates)?;
-    let (evicted, same) = (evictions(&run), are_the_same(alloc, trace, shards, &run));
-    drop(run);
+    let ran = run_trace(rt, alloc, trace, shards, PAGES, order, &OpenGates)?;
+    let (evicted, same) = (evictions(&ran), are_the_same(alloc, trace, shards, &ran));
+    drop(ran);
     Ok((shards > 1 || evicted > 500) && same?)
 }
 

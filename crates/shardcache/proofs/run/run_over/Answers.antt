@@ -16,19 +16,18 @@ drive-requires-clause-standing g c κs within =
 
 pub end_run-requires-clause-driven : goal.end_run-requires-clause-driven
 end_run-requires-clause-driven g c = (
-  c.args.pages,
   c.args.homes.now,
-  driven-after _ _ _ _ _ _ _ _ _ c.in_ok-nodes.ensures.opened c.as_mut_slice.ensures.value c.in_ok-nodes.nodes.ok.0 c.drive.auto.nodes c.drive.ensures.same c.drive.ensures.standing c.drive.ensures.done,
+  rw c.in-Ok.ensures.run.of_pages
+      (driven-after _ _ _ _ _ _ _ _ _ c.in_ok-nodes.ensures.opened c.as_mut_slice.ensures.value c.in_ok-nodes.nodes.ok.0 c.drive.auto.nodes c.drive.ensures.same c.drive.ensures.standing c.drive.ensures.done),
 )
 
 pub returns-clause-run : goal.returns-clause-run
 returns-clause-run g c =
-    let driven = driven-after _ _ _ _ _ _ _ _ _ c.in_ok-nodes.ensures.opened c.as_mut_slice.ensures.value c.in_ok-nodes.nodes.ok.0 c.drive.auto.nodes c.drive.ensures.same c.drive.ensures.standing c.drive.ensures.done in
-    subst (λ n. IsRunOf (trace_in c.args.trace.now) n c.args.pages c.end_run.result.0.ran c.end_run.result.0.lines.items) (sym c.requires.parsed_for)
-    (c.end_run.ensures.run c.args.pages c.args.homes.now driven)
+    subst (λ p. IsRunOf (trace_in c.args.trace.now) c.args.shards p c.end_run.result.ran) c.in-Ok.ensures.run.of_pages
+    (subst (λ n. IsRunOf (trace_in c.args.trace.now) n c.in-Ok.remains.ran.pages c.end_run.result.ran) (sym c.requires.parsed_for) c.end_run.ensures.run)
 
-pub returns-clause-rest : goal.returns-clause-rest
-returns-clause-rest g c =
+pub returns-clause-seats : goal.returns-clause-seats
+returns-clause-seats g c =
     let driven = driven-after _ _ _ _ _ _ _ _ _ c.in_ok-nodes.ensures.opened c.as_mut_slice.ensures.value c.in_ok-nodes.nodes.ok.0 c.drive.auto.nodes c.drive.ensures.same c.drive.ensures.standing c.drive.ensures.done in
-    subst (λ n. AreAtRest n c.args.homes.now c.end_run.result.1.items) (sym c.requires.parsed_for)
-    (c.end_run.ensures.seats c.args.pages c.args.homes.now driven)
+    subst (λ n. AreAtRest n c.args.homes.now c.end_run.result.seats.items) (sym c.requires.parsed_for)
+    (c.end_run.ensures.seats c.args.homes.now (rw c.in-Ok.ensures.run.of_pages driven))

@@ -11,12 +11,12 @@ ghost use Rattle.shard_run.specs.Opening.{AreAtRest};
 ghost use Rattle.shardcache.specs.inside.Finished.{IsRunOf};
 
 use super::PAGES;
-use crate::run::{Run, end_run};
+use crate::run::end_run;
 use foreign_list::{Foreign, OwnerSeat};
 use outside::MemorySink;
 use report_text::write_report;
 use shard_drive::drive_schedule;
-use shard_node::{Gate, Node, OpenGates};
+use shard_node::{Gate, Node, OpenGates, Ran};
 use shard_rings::RingLink;
 use shard_run::{Remains, open_lists, open_nodes};
 use std::alloc::{AllocError, Global};
@@ -59,14 +59,12 @@ fn run_by_schedule<'f>(
     trace: &'f Trace,
     homes: &'f [Foreign],
     seats: Vec<OwnerSeat>,
-) -> Option<Run>
+) -> Option<Ran>
     requires two { trace.now.shards ≡ 2 }
     requires seats { AreAtRest 2 homes.now seats.items }
-    ensures { IfSome result (λ run. IsRunOf (trace_in trace.now) 2 1280 run.ran run.lines.items) }
+    ensures { IfSome result (λ ran. IsRunOf (trace_in trace.now) 2 1280 ran) }
 {
-    trace.commands();
-    let remains = Remains::new(alloc, 2).ok()?;
-    let lines = Vec::with_capacity(alloc, 2).ok()?;
+    let remains = Remains::new(alloc, trace, 2, PAGES).ok()?;
     let Ok(mut nodes) = open_nodes(alloc, trace, PAGES, homes, seats, &OpenGates) else {
         return None;
     };
@@ -74,18 +72,17 @@ fn run_by_schedule<'f>(
         drop(nodes);
         return None;
     }
-    let (run, _) = end_run(trace, nodes, remains, lines);
-    Some(run)
+    Some(end_run(trace, nodes, remains).ran)
 }
 
 /// The report of a run of two shards.
-fn report_of(alloc: Global, trace: &Trace, run: &Run) -> Result<Vec<u8>, AllocError>
+fn report_of(alloc: Global, trace: &Trace, ran: &Ran) -> Result<Vec<u8>, AllocError>
     requires two { trace.now.shards ≡ 2 }
-    requires run { IsRunOf (trace_in trace.now) 2 1280 run.now.ran run.now.lines.items }
+    requires run { IsRunOf (trace_in trace.now) 2 1280 ran.now }
 {
     let mut sink = MemorySink::new(alloc, 4096)?;
-    let (logs, journals) = (run.ran.logs(), run.ran.journals());
-    let _ = write_report(&mut sink, trace, 2, logs, journals, run.lines.as_slice());
+    let (logs, journals, lines) = (ran.logs(), ran.journals(), ran.lines());
+    let _ = write_report(&mut sink, trace, 2, logs, journals, lines);
     Vec::from_slice(alloc, sink.bytes())
 }
 
@@ -97,9 +94,9 @@ fn report_by_schedule(alloc: Global, lines: &[u8]) -> Result<Vec<u8>, Fail>
     let trace = parse(alloc, bytes, 2).ok().ok_or("refused")?;
     let (homes, seats) = open_lists(alloc, 2)?;
     match run_by_schedule(alloc, &trace, homes.as_slice(), seats) {
-        Some(run) => {
-            let report = report_of(alloc, &trace, &run);
-            drop(run);
+        Some(ran) => {
+            let report = report_of(alloc, &trace, &ran);
+            drop(ran);
             Ok(report?)
         }
         None => Ok(Vec::new(alloc)),

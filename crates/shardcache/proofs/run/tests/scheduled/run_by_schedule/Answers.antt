@@ -12,15 +12,9 @@ follow-requires-clause-standing c =
     subst (All (InStanding ring_traffic)) (sym c.as_mut_slice.ensures.value)
     (all-standing (trace_in c.args.trace.now) c.args.trace.now.shards 1280 c.args.homes.now c.in-Ok.nodes.items c.in-Ok.ensures.opened)
 
-pub end_run-run-requires-clause-driven : goal.end_run-run-requires-clause-driven
-end_run-run-requires-clause-driven c = (
-  1280,
+pub end_run-requires-clause-driven : goal.end_run-requires-clause-driven
+end_run-requires-clause-driven c = (
   c.args.homes.now,
-  driven-after _ _ _ _ _ _ _ _ _ c.in-Ok.ensures.opened c.as_mut_slice.ensures.value c.in-Ok.nodes.ok.0 c.follow.auto.nodes c.follow.ensures.same c.follow.ensures.standing (c.follow.ensures.done c.if-not-follow.false),
+  rw c.in_ok-remains.ensures.run.of_pages
+      (driven-after _ _ _ _ _ _ _ _ _ c.in-Ok.ensures.opened c.as_mut_slice.ensures.value c.in-Ok.nodes.ok.0 c.follow.auto.nodes c.follow.ensures.same c.follow.ensures.standing (c.follow.ensures.done c.if-not-follow.false)),
 )
-
-pub returns : goal.returns
-returns c =
-    let driven = driven-after _ _ _ _ _ _ _ _ _ c.in-Ok.ensures.opened c.as_mut_slice.ensures.value c.in-Ok.nodes.ok.0 c.follow.auto.nodes c.follow.ensures.same c.follow.ensures.standing (c.follow.ensures.done c.if-not-follow.false) in
-    subst (λ n. IsRunOf (trace_in c.args.trace.now) n 1280 c.end_run-run.result.0.ran c.end_run-run.result.0.lines.items) c.requires.two
-    (c.end_run-run.ensures.run 1280 c.args.homes.now driven)
