@@ -1,5 +1,6 @@
 //! A node without peers, from its opening to its end.
 ghost use Rattle.std.specs.Prelude.{◌≡◌, [], IfSome};
+ghost use Rattle.trace_text.specs.Parsed.{trace_in};
 ghost use Rattle.foreign_list.specs.OwnerSeats.{IsAtRest};
 
 use super::trial::parsed;
@@ -26,7 +27,7 @@ fn play<'f, L: Link<'f> + Drop>(
     requires seat { IsAtRest home.now seat }
     requires one { trace.now.shards ≡ 1 }
     requires links { links.items ≡ [] }
-    requires ran { ran.old ≡ record { shards = 1; journals = []; logs = [] } }
+    requires ran { ran.old ≡ record { trace = trace_in trace.now; shards = 1; pages = 1280; journals = []; logs = []; lines = [] } }
 {
     let Ok(mut node) = Node::open(alloc, 0, 1, 1280, trace, home, seat, links, OpenGate) else {
         return false;
@@ -73,7 +74,7 @@ fn open_and_play(
     requires owner { home.now.owner ≡ 0 }
     requires seat { IsAtRest home.now seat }
     requires one { trace.now.shards ≡ 1 }
-    requires ran { ran.old ≡ record { shards = 1; journals = []; logs = [] } }
+    requires ran { ran.old ≡ record { trace = trace_in trace.now; shards = 1; pages = 1280; journals = []; logs = []; lines = [] } }
 {
     let links: Vec<MemoryLink<'_>> = Vec::new(alloc);
     if !again {
@@ -87,8 +88,8 @@ fn open_and_play(
 
 /// What the node of the only shard left of these lines. None where it did not get done.
 fn left_of(rt: &impl Abort, alloc: Global, lines: &[u8], again: bool) -> Result<Option<Ran>, Fail> {
-    let mut ran = Ran::new(alloc, 1)?;
     let trace = parsed(rt, alloc, lines, 1)?;
+    let mut ran = Ran::new(alloc, &trace, 1, 1280)?;
     let (home, seat) = Foreign::new(alloc, 0)?;
     if !open_and_play(alloc, &trace, &home, seat, again, &mut ran) {
         return Ok(None);

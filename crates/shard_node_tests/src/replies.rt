@@ -21,7 +21,9 @@ const NO_KIND: [u8; 16] = [99, 0, 0, 0, 1, 0, 0, 0, 0, 0, 0, 0, 0, 0, 0, 0];
 const OTHER: [u8; 16] = [17, 0, 0, 0, 3, 0, 0, 0, 0, 0, 0, 0, 0, 0, 0, 0];
 
 /// Sends a block that begins so to the node, which makes a turn with this answer. Whether that is so, and the block came home.
-fn turns<'f>(node: &mut Trial<'f>, lender: &mut Lender<'f>, front: &[u8], answer: Turn) -> bool {
+fn turns<'f>(node: &mut Trial<'f>, lender: &mut Lender<'f>, front: &[u8], answer: Turn) -> bool
+    ensures { node.new ≡ node.old }
+{
     let Some(block) = lender.block(front) else {
         return false;
     };
@@ -38,7 +40,9 @@ fn stray(found: u32) -> Turn {
 }
 
 /// Whether the next packet on the lane of requests is the block of a request. It goes home.
-fn asks<'f>(node: &mut Trial<'f>) -> bool {
+fn asks<'f>(node: &mut Trial<'f>) -> bool
+    ensures { node.new ≡ node.old }
+{
     match node.taken(Lane::Requests) {
         Some(Packet::Block(block)) => block.bytes().get(4) == Some(&1) && block.release().is_ok(),
         _ => false,
@@ -46,7 +50,9 @@ fn asks<'f>(node: &mut Trial<'f>) -> bool {
 }
 
 /// Whether a reply that nobody asked for waits, and is set aside once a reply is owed.
-fn comes_too_early<'f>(node: &mut Trial<'f>, lender: &mut Lender<'f>) -> bool {
+fn comes_too_early<'f>(node: &mut Trial<'f>, lender: &mut Lender<'f>) -> bool
+    ensures { node.new ≡ node.old }
+{
     let Some(block) = lender.block(&OTHER) else {
         return false;
     };
@@ -59,7 +65,9 @@ fn comes_too_early<'f>(node: &mut Trial<'f>, lender: &mut Lender<'f>) -> bool {
 }
 
 /// Turns the node on packets that it does not expect, before the right reply. True where it answers each as it should.
-fn play<'f>(node: &mut Trial<'f>, lender: &mut Lender<'f>) -> bool {
+fn play<'f>(node: &mut Trial<'f>, lender: &mut Lender<'f>) -> bool
+    ensures { node.new ≡ node.old }
+{
     comes_too_early(node, lender)
         && turns(node, lender, &OTHER, stray(3))
         && turns(node, lender, &NO_KIND, stray(1))
@@ -70,8 +78,20 @@ fn play<'f>(node: &mut Trial<'f>, lender: &mut Lender<'f>) -> bool {
         && ends(node)
 }
 
+/// Turns the node on the right reply alone, once it asked. True where it is done then.
+pub(super) fn play_right<'f>(node: &mut Trial<'f>, lender: &mut Lender<'f>) -> bool
+    ensures { node.new ≡ node.old }
+{
+    node.turn() == Turn::Moved
+        && asks(node)
+        && turns(node, lender, &STORED, Turn::Moved)
+        && ends(node)
+}
+
 /// Whether the node says Bye, and is done once Bye came.
-fn ends<'f>(node: &mut Trial<'f>) -> bool {
+fn ends<'f>(node: &mut Trial<'f>) -> bool
+    ensures { node.new ≡ node.old }
+{
     matches!(node.taken(Lane::Requests), Some(Packet::Bye))
         && node.offer(Lane::Requests, Packet::Bye)
         && node.turn() == Turn::Done
@@ -99,7 +119,7 @@ fn open_and_play<'f>(
     requires node { IsAtRest homes.0.now seats.0 }
     requires lender { IsAtRest homes.1.now seats.1 }
 {
-    let mut ran = Ran::new(alloc, 2)?;
+    let mut ran = Ran::new(alloc, trace, 2, 1280)?;
     let mut node = Trial::open(alloc, 0, trace, homes.0, seats.0)?;
     let mut lender = match Lender::open(alloc, 1, homes.1, seats.1) {
         Ok(lender) => lender,

@@ -1,9 +1,11 @@
 //! What the tests of nodes share: traces, a node of two shards with the peer's end of its link, and another shard's memory.
 ghost use Rattle.std.specs.Prelude.{◌≡◌, ◌<◌, IfOk, IfSome};
+ghost use Rattle.trace_text.specs.Parsed.{trace_in};
 ghost use Rattle.foreign_list.specs.OwnerSeats.{IsAtRest};
 ghost use Rattle.reclaim.specs.Spaces.{IsUnguarded};
 ghost use Rattle.shard_rings.specs.Mesh.{IsMesh};
 ghost use Rattle.shard_node.specs.Links.{IsUnused, ring_traffic};
+ghost use Rattle.shard_node.specs.Rans.{IsOfRun};
 
 use foreign_list::{Foreign, ForeignBlock, OwnerSeat};
 use reclaim::Space;
@@ -61,16 +63,17 @@ pub(super) struct Trial<'f> {
 }
 
 impl<'f> Model for Trial<'f> {
-    ghost use Rattle.std.specs.Prelude.{◌≡◌, ℕ};
+    ghost use Rattle.std.specs.Prelude.{◌≡◌};
+    ghost use Rattle.trace_text.specs.Trace.{Trace as Asked};
     ghost use Rattle.shard_node.specs.Links.{ring_traffic};
     ghost use Rattle.shard_node.specs.Standing.{InStanding};
 
-    // the number of its shard
-    ghost Value = { ℕ };
+    // the trace that it works on
+    ghost Value = { Asked };
 
-    ghost view = { λ t. t.shard };
+    ghost view = { λ t. t.node.trace };
 
-    ghost invariant = { λ t. InStanding ring_traffic t.node × (t.node.shard ≡ t.shard) × (t.node.shards ≡ 2) };
+    ghost invariant = { λ t. InStanding ring_traffic t.node × (t.node.shard ≡ t.shard) × (t.node.shards ≡ 2) × (t.node.pages ≡ 1280) };
 }
 
 impl<'f> Trial<'f> {
@@ -85,6 +88,7 @@ impl<'f> Trial<'f> {
         requires seat { IsAtRest home.now seat }
         requires two { trace.now.shards ≡ 2 }
         requires within { shard < 2 }
+        ensures { IfOk result (λ trial. trial ≡ trace_in trace.now) }
     {
         let (link, peer) = both_ends(alloc)?;
         let mut links = Vec::with_capacity(alloc, 1)?;
@@ -95,25 +99,31 @@ impl<'f> Trial<'f> {
         }
     }
 
-    pub(super) fn turn(&mut self) -> Turn {
+    pub(super) fn turn(&mut self) -> Turn
+        ensures { self.new ≡ self.old }
+    {
         self.node.turn()
     }
 
     /// Sends a packet to the node. False where the lane is full.
-    pub(super) fn offer(&mut self, lane: Lane, packet: Packet<'f>) -> bool {
+    pub(super) fn offer(&mut self, lane: Lane, packet: Packet<'f>) -> bool
+        ensures { self.new ≡ self.old }
+    {
         self.peer.send(lane, packet).is_ok()
     }
 
     /// The next packet that the node sent.
-    pub(super) fn taken(&mut self, lane: Lane) -> Option<Packet<'f>> {
+    pub(super) fn taken(&mut self, lane: Lane) -> Option<Packet<'f>>
+        ensures { self.new ≡ self.old }
+    {
         self.peer.receive(lane)
     }
 
     /// Finishes the node into the record of a run. False where it is not done, a block is not at home, or the record has not those
     /// of the shards below it.
     pub(super) fn finish(self, ran: &mut Ran) -> bool
-        requires { ran.old.shards ≡ 2 }
-        ensures { ran.new.shards ≡ 2 }
+        requires { IsOfRun self 2 1280 ran.old }
+        ensures { IsOfRun self.entry 2 1280 ran.new }
     {
         if !self.node.is_done() || ran.journals().len() != self.shard as usize {
             drop(self);

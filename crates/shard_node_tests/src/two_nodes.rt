@@ -1,6 +1,7 @@
 //! Two nodes that ask each other, in random orders of their turns and of what goes between them.
 ghost use Rattle.std.specs.Prelude.{◌≡◌};
 ghost use Rattle.foreign_list.specs.OwnerSeats.{IsAtRest};
+ghost use Rattle.shard_node.specs.Rans.{IsOfRun};
 
 use super::judged::{Left, are_right};
 use super::trial::{Trial, parsed};
@@ -20,7 +21,10 @@ const LINES: &[u8] =
     b"put a 1\nput b 2\nput b 3\nput c 4\nget b\nget a\nscan a 4\nscan b 9\nerase a\nget b\nput c 5\nput d 6\n";
 
 /// Carries the next packet on the lane from one node to the other. False where it does not fit.
-fn carry<'f>(from: &mut Trial<'f>, to: &mut Trial<'f>, word: u32) -> bool {
+fn carry<'f>(from: &mut Trial<'f>, to: &mut Trial<'f>, word: u32) -> bool
+    ensures from { from.new ≡ from.old }
+    ensures to { to.new ≡ to.old }
+{
     let lane = if word % 2 == 0 {
         Lane::Requests
     } else {
@@ -33,7 +37,9 @@ fn carry<'f>(from: &mut Trial<'f>, to: &mut Trial<'f>, word: u32) -> bool {
 }
 
 /// Turns a node, and tells whether it is done. False where it sets a packet aside.
-fn turn<'f>(node: &mut Trial<'f>, done: &mut bool) -> bool {
+fn turn<'f>(node: &mut Trial<'f>, done: &mut bool) -> bool
+    ensures { node.new ≡ node.old }
+{
     let turn = node.turn();
     *done = turn == Turn::Done;
     !matches!(turn, Turn::Stray { .. })
@@ -45,7 +51,10 @@ fn step<'f>(
     first: &mut Trial<'f>,
     second: &mut Trial<'f>,
     done: &mut (bool, bool),
-) -> bool {
+) -> bool
+    ensures first { first.new ≡ first.old }
+    ensures second { second.new ≡ second.old }
+{
     match word % 4 {
         0 => turn(first, &mut done.0),
         1 => turn(second, &mut done.1),
@@ -56,7 +65,10 @@ fn step<'f>(
 
 /// Turns two nodes and carries what they send, in an order that is drawn, until both are done. False where a packet does not fit, a
 /// packet is set aside, or they do not get done.
-fn play<'f>(words: &mut Lcg64Xsh32, first: &mut Trial<'f>, second: &mut Trial<'f>) -> bool {
+fn play<'f>(words: &mut Lcg64Xsh32, first: &mut Trial<'f>, second: &mut Trial<'f>) -> bool
+    ensures first { first.new ≡ first.old }
+    ensures second { second.new ≡ second.old }
+{
     let mut done = (false, false);
     for _ in 0..10_000 {
         if !step(words.next_word(), first, second, &mut done) {
@@ -95,7 +107,8 @@ fn play_two<'f>(
     mut second: Trial<'f>,
     ran: &mut Ran,
 ) -> bool
-    requires { ran.old.shards ≡ 2 }
+    requires first { IsOfRun first 2 1280 ran.old }
+    requires second { IsOfRun second 2 1280 ran.old }
 {
     let are_done = play(words, &mut first, &mut second);
     let is_first_finished = first.finish(ran);
@@ -116,7 +129,7 @@ fn play_once<'f>(
     requires first { IsAtRest homes.0.now seats.0 }
     requires second { IsAtRest homes.1.now seats.1 }
 {
-    let mut ran = Ran::new(alloc, 2)?;
+    let mut ran = Ran::new(alloc, trace, 2, 1280)?;
     let first = Trial::open(alloc, 0, trace, homes.0, seats.0)?;
     let second = match Trial::open(alloc, 1, trace, homes.1, seats.1) {
         Ok(second) => second,
