@@ -73,7 +73,8 @@ impl<'f> Model for Trial<'f> {
 
     ghost view = { λ t. t.node.trace };
 
-    ghost invariant = { λ t. InStanding ring_traffic t.node × (t.node.shard ≡ t.shard) × (t.node.shards ≡ 2) × (t.node.pages ≡ 1280) };
+    ghost invariant = { λ t. InStanding ring_traffic t.node × (t.node.shard ≡ t.shard) × (t.node.shards ≡ 2)
+        × (t.node.pages ≡ 1280) };
 }
 
 impl<'f> Trial<'f> {

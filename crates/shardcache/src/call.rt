@@ -63,7 +63,8 @@ fn refuse<K: Sink>(alloc: Global, sink: &mut K, line: u32, cause: Cause) -> Stat
 fn report_run<K: Sink>(sink: &mut K, settings: Settings, trace: &Trace, ran: &Ran) -> Status
     requires parsed_for { settings.shards ≡ trace.now.shards }
     requires run { IsRunOf (trace_in trace.now) settings.shards settings.pages ran.now }
-    ensures written { EndsOutput result (K.written sink.old) (K.written sink.new) (report (trace_in trace.now) settings.shards settings.pages (journals_in ran.now.journals)) }
+    ensures written { EndsOutput result (K.written sink.old) (K.written sink.new)
+        (report (trace_in trace.now) settings.shards settings.pages (journals_in ran.now.journals)) }
     ensures fault { result ≡ Status.WriteFault → Rose (K.faults sink.old) (K.faults sink.new) }
 {
     match write_report(
@@ -83,7 +84,8 @@ fn report_run<K: Sink>(sink: &mut K, settings: Settings, trace: &Trace, ran: &Ra
 fn summarize_run<K: Sink>(sink: &mut K, settings: Settings, trace: &Trace, ran: &Ran) -> Status
     requires parsed_for { settings.shards ≡ trace.now.shards }
     requires run { IsRunOf (trace_in trace.now) settings.shards settings.pages ran.now }
-    ensures written { EndsOutput result (K.written sink.old) (K.written sink.new) (summary (trace_in trace.now) settings.shards settings.pages (journals_in ran.now.journals)) }
+    ensures written { EndsOutput result (K.written sink.old) (K.written sink.new)
+        (summary (trace_in trace.now) settings.shards settings.pages (journals_in ran.now.journals)) }
     ensures fault { result ≡ Status.WriteFault → Rose (K.faults sink.old) (K.faults sink.new) }
 {
     match write_summary(
@@ -286,7 +288,8 @@ where
     S: Source,
     K: Sink,
     G: Gates,
-    ensures headline { FollowsTable result.status result.ran (map (λ word. string_bytes word) words.now) (S.left source.old) (S.left source.new) (K.written sink.old) (K.written sink.new) }
+    ensures headline { FollowsTable result.status result.ran (map (λ word. string_bytes word) words.now) (S.left source.old)
+        (S.left source.new) (K.written sink.old) (K.written sink.new) }
     ensures read_fault { result.status ≡ Status.ReadFault → Rose (S.faults source.old) (S.faults source.new) }
     ensures write_fault { result.status ≡ Status.WriteFault → Rose (K.faults sink.old) (K.faults sink.new) }
     ensures usage { settings_of (map (λ word. string_bytes word) words.now) ≡ None
@@ -294,11 +297,13 @@ where
 
     // Where no fault rose, a trace is run and what is no trace is refused, unless memory runs out.
     ensures accepted { (bytes : List ℕ) (wanted : Wanted) → S.left source.old ≡ Some bytes
-        → settings_of (map (λ word. string_bytes word) words.now) ≡ Some wanted → IsOk (trace_for wanted (trace_bytes wanted.mode wanted bytes))
+        → settings_of (map (λ word. string_bytes word) words.now) ≡ Some wanted
+        → IsOk (trace_for wanted (trace_bytes wanted.mode wanted bytes))
         → ¬ Rose (S.faults source.old) (S.faults source.new) → ¬ Rose (K.faults sink.old) (K.faults sink.new)
         → (result.status ≡ Status.Done) ⊎ (result.status ≡ Status.Memory) }
     ensures refused { (bytes : List ℕ) (wanted : Wanted) → S.left source.old ≡ Some bytes
-        → settings_of (map (λ word. string_bytes word) words.now) ≡ Some wanted → IsErr (trace_for wanted (trace_bytes wanted.mode wanted bytes))
+        → settings_of (map (λ word. string_bytes word) words.now) ≡ Some wanted
+        → IsErr (trace_for wanted (trace_bytes wanted.mode wanted bytes))
         → ¬ Rose (S.faults source.old) (S.faults source.new) → ¬ Rose (K.faults sink.old) (K.faults sink.new)
         → (result.status ≡ Status.Refused) ⊎ (result.status ≡ Status.Memory) }
 {

@@ -59,10 +59,12 @@ fn end_run<'f, G: Gate + Drop>(
     nodes: Vec<Node<'f, RingLink<'f>, G>>,
     into: Remains<'f>,
 ) -> Ended
-    requires driven { (homes : List OwnedList) × WereDriven G.holds (trace_in trace.now) trace.now.shards into.ran.pages homes nodes.items }
+    requires driven { (homes : List OwnedList)
+        × WereDriven G.holds (trace_in trace.now) trace.now.shards into.ran.pages homes nodes.items }
     requires room { IsRoomFor (trace_in trace.now) trace.now.shards into.ran.pages into }
     ensures run { IsRunOf (trace_in trace.now) trace.now.shards into.entry.ran.pages result.ran }
-    ensures seats { (homes : List OwnedList) → WereDriven G.holds (trace_in trace.now) trace.now.shards into.entry.ran.pages homes nodes.entry.items
+    ensures seats { (homes : List OwnedList)
+        → WereDriven G.holds (trace_in trace.now) trace.now.shards into.entry.ran.pages homes nodes.entry.items
         → AreAtRest trace.now.shards homes result.seats.items }
 {
     trace.commands();

@@ -44,7 +44,8 @@ fn found_keys<'b>(key: &[u8], count: u32, body: &'b [u8]) -> &'b [u8]
 
 /// The kind of a reply to a put: this one, where it can be.
 fn put_reply(kind: ReplyKind) -> ReplyKind
-    ensures { (reply : Reply) × ((result, []) ≡ spelled reply) × ((longest : ℕ) (key : List ℕ) (count : ℕ) → FitsKind CommandKind.Put longest key count reply) }
+    ensures { (reply : Reply) × ((result, []) ≡ spelled reply)
+        × ((longest : ℕ) (key : List ℕ) (count : ℕ) → FitsKind CommandKind.Put longest key count reply) }
 {
     match kind {
         ReplyKind::Replaced => ReplyKind::Replaced,
@@ -54,7 +55,8 @@ fn put_reply(kind: ReplyKind) -> ReplyKind
 
 /// The kind of a reply to an erase: this one, where it can be.
 fn erase_reply(kind: ReplyKind) -> ReplyKind
-    ensures { (reply : Reply) × ((result, []) ≡ spelled reply) × ((longest : ℕ) (key : List ℕ) (count : ℕ) → FitsKind CommandKind.Erase longest key count reply) }
+    ensures { (reply : Reply) × ((result, []) ≡ spelled reply)
+        × ((longest : ℕ) (key : List ℕ) (count : ℕ) → FitsKind CommandKind.Erase longest key count reply) }
 {
     match kind {
         ReplyKind::Erased => ReplyKind::Erased,
@@ -64,7 +66,8 @@ fn erase_reply(kind: ReplyKind) -> ReplyKind
 
 /// The reply to a get, where no value is longer than `longest`: this one where it can be, else that the key is missing.
 fn get_reply(longest: u32, kind: ReplyKind, body: &[u8]) -> (ReplyKind, &[u8])
-    ensures fits { (key : List ℕ) (count : ℕ) → (reply : Reply) × ((result.0, result.1.now) ≡ spelled reply) × FitsKind CommandKind.Get longest key count reply }
+    ensures fits { (key : List ℕ) (count : ℕ)
+        → (reply : Reply) × ((result.0, result.1.now) ≡ spelled reply) × FitsKind CommandKind.Get longest key count reply }
     ensures short { length result.1.now ≤ length body.now }
 {
     if kind == ReplyKind::Value && body.len() <= longest as usize {

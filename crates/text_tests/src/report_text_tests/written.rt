@@ -42,7 +42,8 @@ pub(super) fn writes(
     requires one_log_each { length run.now.logs.now ≡ run.now.shards }
     requires one_journal_each { length run.now.journals.now ≡ run.now.shards }
     requires one_line_each { length run.now.lines.now ≡ run.now.shards }
-    requires answered { (answers : List (ℕ × Reply)) × AreLogged (trace_in run.now.trace.now) run.now.shards (replies_in run.now.logs.now) answers }
+    requires answered { (answers : List (ℕ × Reply))
+        × AreLogged (trace_in run.now.trace.now) run.now.shards (replies_in run.now.logs.now) answers }
 {
     let mut sink = MemorySink::new(alloc, room)?;
     let met = match form {
