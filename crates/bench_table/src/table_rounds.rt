@@ -18,8 +18,7 @@ fn insert_row(table: &mut KeyTable, arena: &Arena, row: u32)
     let Err(spot) = table.find(arena, arena.key(row)) else {
         return;
     };
-    // a row that finds no slot is left out
-    table.insert(spot, row).ok();
+    let _taken = table.insert(spot, row); // a row that finds no slot is left out
 }
 
 /// Puts rows in, each at the place that a search gives.
