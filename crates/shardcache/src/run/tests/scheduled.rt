@@ -8,6 +8,7 @@ ghost use Rattle.shard_node.specs.Standing.{InStanding};
 ghost use Rattle.shard_node.specs.Turns.{IsDone, IsSameNode};
 ghost use Rattle.shard_drive.specs.Drives.{AtEach};
 ghost use Rattle.shard_run.specs.Opening.{AreAtRest};
+ghost use Rattle.shard_run.specs.Remaining.{IsRoomFor};
 ghost use Rattle.shardcache.specs.inside.Finished.{IsRunOf};
 
 use super::PAGES;
@@ -54,6 +55,29 @@ fn follow<'f, G: Gate + Drop>(nodes: &mut [Node<'f, RingLink<'f>, G>]) -> bool
 }
 
 /// What two shards leave that are driven so. None where they are not done, or not opened.
+fn run_into<'f>(
+    alloc: Global,
+    trace: &'f Trace,
+    homes: &'f [Foreign],
+    seats: Vec<OwnerSeat>,
+    remains: Remains<'f>,
+) -> Option<Ran>
+    requires two { trace.now.shards ≡ 2 }
+    requires seats { AreAtRest 2 homes.now seats.items }
+    requires room { IsRoomFor (trace_in trace.now) 2 1280 remains }
+    ensures { IfSome result (λ ran. IsRunOf (trace_in trace.now) 2 1280 ran) }
+{
+    let Ok(mut nodes) = open_nodes(alloc, trace, PAGES, homes, seats, &OpenGates) else {
+        return None;
+    };
+    if !follow(nodes.as_mut_slice()) {
+        drop(nodes);
+        return None;
+    }
+    Some(end_run(trace, nodes, remains).ran)
+}
+
+/// The same, with room for what they leave.
 fn run_by_schedule<'f>(
     alloc: Global,
     trace: &'f Trace,
@@ -64,15 +88,10 @@ fn run_by_schedule<'f>(
     requires seats { AreAtRest 2 homes.now seats.items }
     ensures { IfSome result (λ ran. IsRunOf (trace_in trace.now) 2 1280 ran) }
 {
-    let remains = Remains::new(alloc, trace, 2, PAGES).ok()?;
-    let Ok(mut nodes) = open_nodes(alloc, trace, PAGES, homes, seats, &OpenGates) else {
-        return None;
-    };
-    if !follow(nodes.as_mut_slice()) {
-        drop(nodes);
-        return None;
+    match Remains::new(alloc, trace, 2, PAGES) {
+        Ok(remains) => run_into(alloc, trace, homes, seats, remains),
+        Err(_) => None,
     }
-    Some(end_run(trace, nodes, remains).ran)
 }
 
 /// The report of a run of two shards.

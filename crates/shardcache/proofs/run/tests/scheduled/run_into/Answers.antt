@@ -3,9 +3,10 @@ use Rattle.std.specs.List.{All}
 use Rattle.trace_text.specs.Parsed.{trace_in}
 use Rattle.shard_node.specs.Standing.{InStanding}
 use Rattle.shard_node.specs.Links.{ring_traffic}
+use Rattle.shard_run.specs.Remaining.{IsRoomFor}
 use Rattle.shardcache.specs.inside.Finished.{IsRunOf}
 use Rattle.shardcache.proofs.Runs.{all-standing, driven-after}
-use Rattle.shardcache.proofs.run.tests.scheduled.run_by_schedule.Goals as goal
+use Rattle.shardcache.proofs.run.tests.scheduled.run_into.Goals as goal
 
 pub follow-requires-clause-standing : goal.follow-requires-clause-standing
 follow-requires-clause-standing c =
@@ -15,6 +16,16 @@ follow-requires-clause-standing c =
 pub end_run-requires-clause-driven : goal.end_run-requires-clause-driven
 end_run-requires-clause-driven c = (
   c.args.homes.now,
-  rw c.in_ok-remains.ensures.run.of_pages
+  rw c.requires.room.run.of_pages
       (driven-after _ _ _ _ _ _ _ _ _ c.in-Ok.ensures.opened c.as_mut_slice.ensures.value c.in-Ok.nodes.ok.0 c.follow.auto.nodes c.follow.ensures.same c.follow.ensures.standing (c.follow.ensures.done c.if-not-follow.false)),
 )
+
+pub end_run-requires-clause-room : goal.end_run-requires-clause-room
+end_run-requires-clause-room c =
+    subst (λ p. IsRoomFor (trace_in c.args.trace.now) c.args.trace.now.shards p c.args.remains) (sym c.requires.room.run.of_pages)
+    (subst (λ n. IsRoomFor (trace_in c.args.trace.now) n 1280 c.args.remains) (sym c.requires.two) c.requires.room)
+
+pub returns : goal.returns
+returns c =
+    subst (λ p. IsRunOf (trace_in c.args.trace.now) 2 p c.end_run.result.ran) c.requires.room.run.of_pages
+    (subst (λ n. IsRunOf (trace_in c.args.trace.now) n c.args.remains.ran.pages c.end_run.result.ran) c.requires.two c.end_run.ensures.run)
