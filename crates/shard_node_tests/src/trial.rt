@@ -126,6 +126,7 @@ impl<'f> Trial<'f> {
         requires { IsOfRun self 2 1280 ran.old }
         ensures { IsOfRun self.entry 2 1280 ran.new }
     {
+        self.node.facts();
         if !self.node.is_done() || ran.journals().len() != self.shard as usize {
             drop(self);
             return false;
