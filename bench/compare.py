@@ -16,8 +16,6 @@ import subprocess
 import sys
 import time
 
-import traces
-
 BENCH = os.path.dirname(os.path.abspath(__file__))
 OUT = f"{BENCH}/out"
 PROVED = f"{BENCH}/../crates/shardcache_main/out/shardcache_main"
@@ -34,7 +32,8 @@ def trace_of(name):
             with open(path, "wb") as file:
                 subprocess.run([f"{BENCH}/paths.py", "/usr", "/opt", "/var"], stdout=file, check=True)
         else:
-            traces.write(name, path)
+            # in a process of its own: what this one takes would be counted as each program's
+            subprocess.run([f"{BENCH}/traces.py", name, path], check=True)
     return path
 
 
