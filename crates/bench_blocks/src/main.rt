@@ -1,6 +1,6 @@
 //! Passes blocks to another thread and takes them back, to be timed beside an allocator of the system.
 //!
-//! The word is a number of blocks. The owner lends each with one of the 32 tickets and sends it over a ring, and another
+//! The word is a number of blocks. The owner lends each with a ticket and sends it over a ring, and another
 //! thread releases it; the owner takes back what came home where no ticket is left. The owner writes a block's first and last
 //! byte, and both look at them. It prints the blocks and how often these bytes were right; a script measures the time.
 #![tactic(auto)]

@@ -3,6 +3,7 @@ ghost use Rattle.std.specs.Prelude.{◌≡◌, ◌<◌, [], length};
 ghost use Rattle.foreign_list.specs.OwnerSeats.{IsSeatOf};
 
 use foreign_list::{Foreign, ForeignBlock, OwnerSeat, Released, Returned, Tally};
+use layout::TICKETS;
 use raw_range::Range;
 use rtrb::{Consumer, Producer, RingBuffer};
 use std::alloc::{AllocError, Global};
@@ -12,11 +13,9 @@ use std::thread::{self, Threads};
 /// Whose blocks they are.
 pub const OWNER: u32 = 3;
 
-pub const TICKETS: u32 = 32;
-
 // The owner looks for blocks that came home once half a ring is free: each look takes the head's cache line from those who
 // release.
-const HALF: usize = 16;
+const HALF: usize = TICKETS as usize / 2;
 
 /// How long a block is, in bytes.
 const LEN: u32 = 64;

@@ -2,8 +2,9 @@
 ghost use Rattle.std.specs.Prelude.{◌≡◌, []};
 ghost use Rattle.foreign_list.specs.OwnerSeats.{IsSeatOf};
 
-use crate::passing::{Marks, OWNER, TICKETS, give_back, lend_out, pass, pieces};
+use crate::passing::{Marks, OWNER, give_back, lend_out, pass, pieces};
 use foreign_list::{Foreign, OwnerSeat};
+use layout::TICKETS;
 use rtrb::RingBuffer;
 use std::alloc::{AllocError, Global};
 use std::sync::Wait;

@@ -2,7 +2,7 @@
 ghost use Rattle.std.specs.Prelude.{◌≡◌, ◌+◌, ◌<◌, length, All, IfSome};
 ghost use Rattle.foreign_list.specs.OwnerSeats.{IsAtRest};
 ghost use Rattle.shard_node.specs.Links.{IsUnused};
-ghost use Rattle.bench_turns.specs.Traffic.{memory_traffic};
+ghost use Rattle.shard_rings.specs.Links.{memory_traffic};
 
 use foreign_list::{Foreign, OwnerSeat};
 use layout::FEWEST_PAGES;

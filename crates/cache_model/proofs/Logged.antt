@@ -1,6 +1,6 @@
 -- Replies fit their commands, and logs that hold them hold the answers.
-use Rattle.std.proofs.Common.{◌≡◌, ℕ, ◌+◌, ◌<◌, ◌≤◌, ◌&&◌, suc, zero, Bool, true, false, leb, cond, List, [], ◌∷◌, length, map, filter, Option, Some, None, refl, subst, sym, ap, ◌∙◌, arith, get_or, zero-add}
-use Rattle.std.specs.List.{filter_map, range_with_len, slice_get, slice_index_or}
+use Rattle.std.proofs.Common.{◌≡◌, ℕ, ◌+◌, ◌≤◌, ◌&&◌, suc, zero, Bool, true, false, leb, cond, List, [], ◌∷◌, length, map, filter, Option, Some, None, refl, subst, sym, ap, ◌∙◌, arith, get_or, zero-add}
+use Rattle.std.specs.List.{filter_map, range_with_len, slice_get}
 use Rattle.std.specs.Option.{IsSome, option_and_then, option_map, unwrap_or}
 use Rattle.std.specs.Prelude.{All}
 use Rattle.std.proofs.lemmas.Bool.{and_parts, leb-true}
@@ -13,7 +13,6 @@ use Rattle.trace_text.specs.Operation.{Operation}
 use Rattle.trace_text.specs.Parts.{is_scan, longest_value, owner}
 use Rattle.trace_text.specs.Trace.{Trace}
 use Rattle.cache_model.specs.declared.entry.Entry.{Entry}
-use Rattle.cache_model.specs.declared.reply_kind.ReplyKind.{ReplyKind}
 use Rattle.cache_model.specs.Answer.{answer, answer_from, answer_kind}
 use Rattle.cache_model.specs.Apply.{Reply, Stored, Replaced, Missing, Erased, apply_kind, get_where, has, in_order, is_at_most, is_of, row_of, HasDistinctKeys}
 use Rattle.cache_model.specs.Bodies.{HasKeys}
@@ -21,8 +20,8 @@ use Rattle.cache_model.specs.Holds.{PutsHold}
 use Rattle.cache_model.specs.KeyBody.{IsKey}
 use Rattle.cache_model.specs.Legal.{command_of, reply_at}
 use Rattle.cache_model.specs.Fits.{Fits, FitsKind, HasFitting}
-use Rattle.cache_model.specs.Logged.{AreLogged}
-use Rattle.cache_model.specs.OwnParts.{HoldsReplies, part_reply, parts_of}
+use Rattle.cache_model.specs.Logged.{AreLogged, HoldTheReplies}
+use Rattle.cache_model.specs.OwnParts.{Log, part_reply, parts_of}
 use Rattle.cache_model.specs.Report.{answers}
 use Rattle.cache_model.specs.Row.{Row}
 use Rattle.cache_model.proofs.Along.{All-find, replied}
@@ -178,21 +177,17 @@ none-left ask (operation ∷ operations) some = go (ask operation) refl (All-hea
     go None e here rest = absurd (cc (e, here))
     go (Some reply) e here rest = rw e (ap (λ list. (operation.number, Some reply) ∷ list) rest)
 
-pub are-logged : (trace : Trace) (n pages : ℕ) (journals : List (List Entry)) (logs : List (List (Option (ReplyKind × List ℕ))))
-    → length journals ≡ n → HasKeys trace
-    → All (λ operation. command_of trace operation.number ≡ Some operation) trace.operations
-    → All (λ operation. All (λ part. IsSome (part_reply trace pages journals part)) (parts_of n operation)) trace.operations
-    → ((o : ℕ) (d : List (Option (ReplyKind × List ℕ))) → o < n → HoldsReplies trace n o (part_reply trace pages journals) (slice_index_or logs o d))
-    → AreLogged trace n logs (answers trace n pages journals)
-are-logged trace n pages journals logs many keyed commands replied logged = record {
+pub are-logged : (trace : Trace) (n pages : ℕ) (journals : List (List Entry)) (logs : List Log)
+    → HoldTheReplies trace n pages journals logs → AreLogged trace n logs (answers trace n pages journals)
+are-logged trace n pages journals logs held = record {
   replies = part_reply trace pages journals;
-  logged = logged;
+  logged = held.logged;
   fit = λ i d below j e within.
       let operation = get_or trace.operations i d in
       let number = of-command (is_scan operation.kind) n operation.number (owner operation.key n) j e within in
-      part-fits trace pages journals operation (get_or (parts_of n operation) j e) keyed (commands i d below) number (replied i d below j e within);
+      part-fits trace pages journals operation (get_or (parts_of n operation) j e) held.keys (held.commands i d below) number (held.replied i d below j e within);
   answered =
-      none-left (answer trace n pages journals) trace.operations (λ i d below. is-answered trace n pages journals _ (replied i d below))
+      none-left (answer trace n pages journals) trace.operations (λ i d below. is-answered trace n pages journals _ (held.replied i d below))
       ∙ each-same trace.operations;
 }
   where
@@ -200,4 +195,4 @@ are-logged trace n pages journals logs many keyed commands replied logged = reco
         ≡ map {B = ℕ × Option Reply} (λ operation. (operation.number, answer_from n operation (map (λ s. part_reply trace pages journals (operation.number, s)) (range_with_len 0 n)))) operations
     each-same [] = refl
     each-same (operation ∷ operations) =
-        rw (replies-are trace n pages journals operation.number many) (ap (λ rest. (operation.number, answer trace n pages journals operation) ∷ rest) (each-same operations))
+        rw (replies-are trace n pages journals operation.number held.one_journal_each) (ap (λ rest. (operation.number, answer trace n pages journals operation) ∷ rest) (each-same operations))

@@ -22,7 +22,7 @@ use Rattle.cache_model.specs.Answer.{answer_from, answer_kind, join, keys_in}
 use Rattle.cache_model.specs.Apply.{Reply, Keys}
 use Rattle.cache_model.specs.Fits.{Fits, HasFitting}
 use Rattle.cache_model.specs.Logged.{AreJoined, AreLogged, HasReplies, IsRead}
-use Rattle.cache_model.specs.OwnParts.{issued_parts, parts_before, parts_of}
+use Rattle.cache_model.specs.OwnParts.{issued_parts, parts_before, parts_of, Log}
 use Rattle.cache_model.specs.Spelled.{spelled}
 use Rattle.cache_model.proofs.OwnParts.{issued_parts-count}
 
@@ -98,9 +98,6 @@ these longest operation (Some reply ∷ asked) all =
 map-twice : {A B C : Type 0} (g : B → C) (f : A → B) (xs : List A) → map g (map f xs) ≡ map (λ x. g (f x)) xs
 map-twice g f [] = refl
 map-twice g f (x ∷ xs) = ap (λ ys. g (f x) ∷ ys) (map-twice g f xs)
-
-abbrev Log : Type 0
-Log = List (Option (ReplyKind × List ℕ))
 
 read_replies : (before own behind : List (ℕ × ℕ)) (asked : ℕ × ℕ → Option Reply) (log : Log) (first : ℕ) (replies : List Reply)
     → log ≡ map (λ part. option_map spelled (asked part)) (before ++ (own ++ behind)) → first ≡ length before

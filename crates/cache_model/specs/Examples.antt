@@ -1,6 +1,6 @@
 -- Examples on which the definitions are checked.
 use Rattle.std.specs.Prelude.{◌≡◌, ℕ, true, false, List, [], ◌∷◌, length, take, replicate, codes, Some, None}
-use Rattle.layout.specs.Sizes.{dense}
+use Rattle.layout.specs.Sizes.{dense, tickets}
 use Rattle.trace_text.specs.declared.command.Kind.{Kind}
 use Rattle.trace_text.specs.declared.command.Kind.TheVariants.{Put, Get, Erase, Scan}
 use Rattle.trace_text.specs.Operation.{Operation}
@@ -117,7 +117,7 @@ ten_rows bytes =
 
 pub record EvictionsAreRight : Type 0 where
   pub floors : (floor 1088 ≡ 0) × (floor 1120 ≡ dense) × (floor 1280 ≡ 712656) × (floor 8192 ≡ 26368272)
-  pub tight : tight_floor 1280 32 ≡ floor 1280
+  pub tight : tight_floor 1280 tickets ≡ floor 1280
   pub oldest : IsLegal puts 1088 (Done 1 ∷ Done 2 ∷ Evicted 1 ∷ [])
   pub another : IsLegal puts 1088 (Done 1 ∷ Done 2 ∷ Evicted 2 ∷ []) → ⊥
   pub gone : IsLegal puts 1088 (Done 1 ∷ Evicted 1 ∷ Evicted 1 ∷ []) → ⊥

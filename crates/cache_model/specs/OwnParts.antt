@@ -32,6 +32,10 @@ parts_before trace n o i = own_parts (trace_with (take i trace.operations)) n o
 abbrev pub part_reply : Trace → ℕ → List (List Entry) → ℕ × ℕ → Option Reply
 part_reply trace pages journals (i, s) = option_and_then (λ journal. reply_at trace pages journal i) (slice_get journals s)
 
--- the log of shard o holds these replies, each as its kind and its body
-abbrev pub HoldsReplies : Trace → ℕ → ℕ → (ℕ × ℕ → Option Reply) → List (Option (ReplyKind × List ℕ)) → Type 0
+-- a log has, for each part that a shard issued, the reply as its kind and its body
+abbrev pub Log : Type 0
+Log = List (Option (ReplyKind × List ℕ))
+
+-- the log of shard o holds these replies
+abbrev pub HoldsReplies : Trace → ℕ → ℕ → (ℕ × ℕ → Option Reply) → Log → Type 0
 HoldsReplies trace n o reply log = log ≡ map (λ part. option_map spelled (reply part)) (issued_parts trace n o)

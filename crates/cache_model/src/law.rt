@@ -1,5 +1,5 @@
 //! Laws of the definitions.
-ghost use Rattle.std.specs.Prelude.{◌≡◌, ◌==◌, ◌+◌, ◌-◌, ◌*◌, ◌<◌, ◌≤◌, if◌then◌else◌, ℕ, Bool, false, List, [], ◌∷◌, ◌++◌, length, map, take, filter, Option, Some, None, IsSome, All, Contains, IsPermutation, IsSorted, true};
+ghost use Rattle.std.specs.Prelude.{◌≡◌, ◌==◌, ◌+◌, ◌-◌, ◌*◌, ◌<◌, ◌≤◌, if◌then◌else◌, ℕ, Bool, false, List, [], ◌∷◌, ◌++◌, length, map, take, filter, Option, Some, None, All, Contains, IsPermutation, IsSorted, true};
 ghost use Rattle.trace_text.specs.Trace.{Trace};
 ghost use Rattle.cache_model.specs.declared.entry.Entry.{Entry as JournalEntry};
 ghost use Rattle.cache_model.specs.declared.entry.Entry.TheVariants.{Done, Evicted};
@@ -9,8 +9,7 @@ ghost use Rattle.cache_model.specs.Apply.{Reply, apply, has, in_order, row_of, w
 ghost use Rattle.cache_model.specs.Answer.{answer, answer_from};
 ghost use Rattle.cache_model.specs.Evictions.{Evicts};
 ghost use Rattle.cache_model.specs.Fits.{Fits};
-ghost use Rattle.cache_model.specs.Logged.{AreLogged, IsRead};
-ghost use Rattle.cache_model.specs.declared.reply_kind.ReplyKind.{ReplyKind};
+ghost use Rattle.cache_model.specs.Logged.{AreLogged, HoldTheReplies, IsReadInLogs};
 ghost use Rattle.cache_model.specs.Bodies.{HasKeys, HasShortKeys, most_of_body};
 ghost use Rattle.cache_model.specs.KeyBody.{AreKeys, IsKey};
 ghost use Rattle.cache_model.specs.Report.{HasNumbers, Occupancy, PrintsJournals, answers, answer_text, journal_text, occupancy_text, report_of, text_lines};
@@ -20,7 +19,7 @@ ghost use Rattle.std.specs.Cmp.Lexicographic.{slice_cmp};
 ghost use Rattle.std.specs.List.{last_or, list_any, slice_get, slice_index_or, enumerate_from};
 ghost use Rattle.std.specs.Option.{option_map};
 ghost use Rattle.std.specs.Ordering.{nat_cmp};
-ghost use Rattle.cache_model.specs.OwnParts.{HoldsReplies, issued_parts, part_reply, parts_before, parts_of};
+ghost use Rattle.cache_model.specs.OwnParts.{Log, issued_parts, parts_before, parts_of};
 ghost use Rattle.trace_text.specs.Parts.{is_scan, longest_value, origin, own_parts, parts};
 ghost use Rattle.cache_model.specs.Holds.{PutHolds, PutsHold, RowsHold, ReplyHolds};
 ghost use Rattle.trace_text.specs.Operation.{Operation};
@@ -177,14 +176,12 @@ pub fn parts_go_up_by_command()
 /// Each command has one answer, and it is read from the log of the command's origin, behind the parts that were issued
 /// before.
 pub fn answers_are_read_by_command()
-    ensures count { (trace : Trace) (n : ℕ) (logs : List (List (Option (ReplyKind × List ℕ)))) (answers : List (ℕ × Reply))
+    ensures count { (trace : Trace) (n : ℕ) (logs : List Log) (answers : List (ℕ × Reply))
         → AreLogged trace n logs answers → length answers ≡ length trace.operations }
-    ensures read { (trace : Trace) (n i : ℕ) (logs : List (List (Option (ReplyKind × List ℕ)))) (answers : List (ℕ × Reply))
-        (d : Operation) (e : List (Option (ReplyKind × List ℕ))) (f : ℕ × Reply)
+    ensures read { (trace : Trace) (n i : ℕ) (logs : List Log) (answers : List (ℕ × Reply))
+        (d : Operation) (e : Log) (f : ℕ × Reply)
         → AreLogged trace n logs answers → 1 ≤ n → i < length trace.operations
-        → IsRead (longest_value trace) n (slice_index_or trace.operations i d)
-        (slice_index_or logs (origin (slice_index_or trace.operations i d).number n) e)
-        (parts_before trace n (origin (slice_index_or trace.operations i d).number n) i) (slice_index_or answers i f) }
+        → IsReadInLogs trace n i (slice_index_or trace.operations i d) logs e (slice_index_or answers i f) }
 {}
 
 /// The reply to a part fits its command: on a cache whose rows have different keys, as long as a trace's keys are, and no
@@ -201,11 +198,6 @@ pub fn replies_fit_their_commands()
 
 /// Where the journals of n shards reply to each part, and the logs hold these replies, the logs hold the answers.
 pub fn logs_hold_the_answers()
-    ensures { (trace : Trace) (n pages : ℕ) (journals : List (List JournalEntry)) (logs : List (List (Option (ReplyKind × List ℕ))))
-        → length journals ≡ n → HasKeys trace
-        → All (λ operation. command_of trace operation.number ≡ Some operation) trace.operations
-        → All (λ operation. All (λ part. IsSome (part_reply trace pages journals part)) (parts_of n operation)) trace.operations
-        → ((o : ℕ) (d : List (Option (ReplyKind × List ℕ))) → o < n
-        → HoldsReplies trace n o (part_reply trace pages journals) (slice_index_or logs o d))
-        → AreLogged trace n logs (answers trace n pages journals) }
+    ensures { (trace : Trace) (n pages : ℕ) (journals : List (List JournalEntry)) (logs : List Log)
+        → HoldTheReplies trace n pages journals logs → AreLogged trace n logs (answers trace n pages journals) }
 {}

@@ -19,12 +19,18 @@ fn make_room(region: &mut Region, source: u32, size: u32)
     requires size { size ≤ sizes.greatest_object }
     requires counted { size ≤ live_bytes_at region.old source }
     requires room { HasRoomFor source region.old }
+
+    // There is room.
     ensures room { size ≤ left region.new }
+
+    // No object changes, and no closed segment is begun anew.
     ensures objects { Keeps region.old region.new }
     ensures closed { (n : ℕ) → IsClosed region.old n → IsClosed region.new n }
     ensures used { used_counts region.new ≡ used_counts region.old }
     ensures live { live_counts region.new ≡ live_counts region.old }
     ensures holds { HoldsTheSame region.old region.new }
+
+    // Either nothing happened, or the next segment was begun.
     ensures begun { ((shape region.new ≡ shape region.old) × (left region.new ≡ left region.old))
         ⊎ ((left region.old < size) × BeginsNext region.old region.new × (left region.new ≡ sizes.segment)) }
 {
@@ -42,13 +48,19 @@ fn take_out<M: Movers>(region: &mut Region, movers: &mut M, place: Place, kind: 
     requires counted { size ≤ live_bytes_at region.old place.segment }
     requires room { HasRoomFor place.segment region.old }
     requires fits { M.fits movers.old (live_at region.old) }
+
+    // The store is the same, and nothing else of the mover changed.
     ensures fits { M.fits movers.new (live_at region.new) }
     ensures store { (n : ℕ) → store_of M.bare (M.place_of movers.new) (live_at region.new) n ≡ store_of M.bare
         (M.place_of movers.old) (live_at region.old) n }
     ensures rest { M.rest movers.new ≡ M.rest movers.old }
+
+    // The object is gone from its place, and no other of a closed segment is.
     ensures dead { live_at region.new place ≡ None }
     ensures others { (p : Place) → p ≢ place → IsClosed region.old p.segment → IsSameAt M.bare region.old region.new p }
     ensures drained { IsDrained M.bare place.segment region.old region.new }
+
+    // Its bytes are not live there, and how much room is left.
     ensures live { live_bytes_at region.new place.segment + size ≡ live_bytes_at region.old place.segment }
     ensures took { TookOne size region.old region.new }
 {
@@ -62,10 +74,14 @@ pub(crate) fn drain<M: Movers>(region: &mut Region, movers: &mut M, source: u32)
     requires sparse { IsSparse region.old source }
     requires room { HasRoomFor source region.old }
     requires fits { M.fits movers.old (live_at region.old) }
+
+    // The store is the same, and nothing else of the mover changed.
     ensures fits { M.fits movers.new (live_at region.new) }
     ensures store { (n : ℕ) → store_of M.bare (M.place_of movers.new) (live_at region.new) n ≡ store_of M.bare
         (M.place_of movers.old) (live_at region.old) n }
     ensures rest { M.rest movers.new ≡ M.rest movers.old }
+
+    // The segment is emptied, and how much room is left.
     ensures dead { live_bytes_at region.new source ≡ 0 }
     ensures drained { IsDrained M.bare source region.old region.new }
     ensures took { Took source region.old region.new }

@@ -18,9 +18,13 @@ fn append_copy(region: &mut Region, from: Place, kind: u8, size: u32) -> Place
     requires kind { 1 ≤ kind }
     requires size { IsSize size }
     requires room { size ≤ left region.old }
+
+    // The copy, and where it stands.
     ensures copied { ChangesAt result (standing_at region.old from) region.old region.new }
     ensures unused { standing_at region.old result ≡ None }
     ensures segment { active_of region.old ≡ Some result.segment }
+
+    // Counted: its bytes are used and live. The segments are as they were.
     ensures used { used_counts region.new ≡ plus result.segment size (used_counts region.old) }
     ensures live { live_counts region.new ≡ plus result.segment size (live_counts region.old) }
     ensures used_total { used_total region.new ≡ used_total region.old + size }
@@ -48,13 +52,19 @@ pub(crate) fn move_object<M: Movers>(
     requires size { IsSize size }
     requires room { size ≤ left region.old }
     requires fits { M.fits movers.old (live_at region.old) }
+
+    // The store is the same, and nothing else of the mover changed.
     ensures fits { M.fits movers.new (live_at region.new) }
     ensures store { (n : ℕ) → store_of M.bare (M.place_of movers.new) (live_at region.new) n ≡ store_of M.bare
         (M.place_of movers.old) (live_at region.old) n }
     ensures rest { M.rest movers.new ≡ M.rest movers.old }
+
+    // The object is gone from its place, and no other of a closed segment is.
     ensures dead { live_at region.new from ≡ None }
     ensures others { (p : Place) → p ≢ from → IsClosed region.old p.segment → IsSameAt M.bare region.old region.new p }
     ensures drained { IsDrained M.bare from.segment region.old region.new }
+
+    // Its bytes are not live there, and how much room is left.
     ensures live { live_bytes_at region.new from.segment + size ≡ live_bytes_at region.old from.segment }
     ensures shape { shape region.new ≡ shape region.old }
     ensures left { left region.new + size ≡ left region.old }
@@ -71,7 +81,11 @@ fn tell<M: Movers>(region: &mut Region, movers: &mut M, kind: u8, from: Place, t
     requires fits { M.fits movers.old (less to (live_at region.old)) }
     ensures stands { (m : M) (live : Live) → M.fits m live
         → StandsFor M.bare (store_of M.bare (M.place_of m) live) (M.place_of m) live }
+
+    // What was named by the one place is named by the other.
     ensures names { (n : ℕ) → M.place_of movers.new n ≡ option_map (renamed from to) (M.place_of movers.old n) }
+
+    // The store is the same but for the one object, and nothing else of the mover changed.
     ensures fits { M.fits movers.new (less from (live_at region.new)) }
     ensures store { SameBut M.bare region.old region.new }
     ensures rest { M.rest movers.new ≡ M.rest movers.old }

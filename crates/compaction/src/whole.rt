@@ -20,13 +20,19 @@ use regions::{Movers, Region};
 pub fn pass<M: Movers>(region: &mut Region, movers: &mut M) -> Compacted
     requires fits { M.fits movers.old (live_at region.old) }
     requires free { 1 ≤ free_count region.old }
+
+    // What it answers, and when nothing changed.
     ensures guarded { result ≡ Compacted.Guarded ↔ 1 ≤ guards_of region.old }
     ensures unchanged { result ≡ Compacted.Guarded → (region.new ≡ region.old) × (movers.new ≡ movers.old) }
     ensures freed { result ≡ Compacted.Freed → 2 ≤ free_count region.new }
     ensures none { result ≡ Compacted.NoneSparse → IsCompacted region.new }
     ensures enough { guards_of region.old ≡ 0 → 2 ≤ free_count region.old
         → (result ≡ Compacted.Freed) × (region.new ≡ region.old) × (movers.new ≡ movers.old) }
+
+    // A segment is free.
     ensures free { 1 ≤ free_count region.new }
+
+    // The store is the same, and nothing else of the mover changed.
     ensures fits { M.fits movers.new (live_at region.new) }
     ensures store { (n : ℕ) → store_of M.bare (M.place_of movers.new) (live_at region.new) n ≡ store_of M.bare
         (M.place_of movers.old) (live_at region.old) n }
@@ -49,9 +55,15 @@ fn free_one<M: Movers>(region: &mut Region, movers: &mut M) -> bool
     requires guards { guards_of region.old ≡ 0 }
     requires free { free_count region.old ≡ 1 }
     requires fits { M.fits movers.old (live_at region.old) }
+
+    // Fewer bytes are used, or nothing is left to compact.
     ensures lower { result ≡ true → used_total region.new < used_total region.old }
     ensures none { result ≡ false → IsCompacted region.new }
+
+    // A segment is free.
     ensures free { 1 ≤ free_count region.new }
+
+    // The store is the same, and nothing else of the mover changed.
     ensures fits { M.fits movers.new (live_at region.new) }
     ensures store { (n : ℕ) → store_of M.bare (M.place_of movers.new) (live_at region.new) n ≡ store_of M.bare
         (M.place_of movers.old) (live_at region.old) n }

@@ -10,7 +10,6 @@ use std::alloc::{AllocError, Global};
 /// The core of this many tickets after these events, begun with all tickets idle. None exactly where
 /// some event is not possible when its turn comes.
 pub fn replay(alloc: Global, tickets: u32, events: &[Event]) -> Result<Option<Core>, AllocError>
-    requires { tickets ≤ 32 }
     ensures run { IfOk result (λ after. after ≡ run (start tickets) events.now) }
     ensures tickets { IfOk result (λ after. IfSome after (λ core. length core.states ≡ tickets)) }
 {

@@ -38,9 +38,8 @@ impl Model for Core {
 }
 
 impl Core {
-    /// A core with this many tickets, 32 at most, all of them idle. It takes all of its memory here.
+    /// A core with this many tickets, all of them idle. It takes all of its memory here.
     pub fn new(alloc: Global, tickets: u32) -> Result<Self, AllocError>
-        requires { tickets ≤ 32 }
         ensures { IfOk result (λ core. core ≡ start tickets) }
     {
         let count = tickets as usize;

@@ -1,6 +1,7 @@
 -- A list of numbers below n that has each at most once is no longer than n.
 use Rattle.std.proofs.Common.{◌≡◌, ℕ, zero, suc, ◌+◌, ◌<◌, ◌≤◌, List, [], ◌∷◌, length, refl, ◌∙◌, arith}
 use mathlib.Core.Logic.{dite}
+use Rattle.layout.specs.Sizes as sizes
 use native.Mathlib.Decide.{ℕ_discrete}
 use Rattle.foreign_list.specs.declared.views.Ledger.{Ledger}
 use Rattle.foreign_list.specs.declared.views.View.{View}
@@ -45,8 +46,8 @@ pub short : (n : ℕ) (xs : List ℕ) → ((t : ℕ) → times t xs ≤ 1) → (
 short n xs once low = let a = sum_times n xs low in let b = sum_most (λ t. times t xs) n once in omega arith
 
 module _ (ledger : Ledger) (listed : List ℕ) (views : List View) (once : IsOnce ledger listed views) where
-  pub list_short : length listed ≤ 32
-  list_short = short 32 listed (λ t. let m = most ledger listed views once t in omega arith) (λ t p. below ledger listed views once t (omega arith))
+  pub list_short : length listed ≤ sizes.tickets
+  list_short = short sizes.tickets listed (λ t. let m = most ledger listed views once t in omega arith) (λ t p. below ledger listed views once t (omega arith))
 
-  pub walk_short : length ledger.walk ≤ 32
-  walk_short = short 32 ledger.walk (λ t. let m = most ledger listed views once t in omega arith) (λ t p. below ledger listed views once t (omega arith))
+  pub walk_short : length ledger.walk ≤ sizes.tickets
+  walk_short = short sizes.tickets ledger.walk (λ t. let m = most ledger listed views once t in omega arith) (λ t p. below ledger listed views once t (omega arith))

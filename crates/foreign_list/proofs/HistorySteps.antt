@@ -2,6 +2,7 @@
 use Rattle.std.proofs.Common.{◌≡◌, ◌≢◌, ℕ, zero, suc, ◌+◌, ◌<◌, Bool, true, false, cond, nat_eq, List, [], ◌∷◌, ◌++◌, length, map, set, replicate, Option, Some, None, slice_get, sum_by, sym, refl, ap, ◌∙◌, subst, arith, length-set, ⊎_elim, eq-eqb, ne_eqb}
 use mathlib.Core.Option.{some, some-injective, some-ne-none}
 use mathlib.Core.Logic.{dite}
+use Rattle.layout.specs.Sizes as sizes
 use native.Mathlib.Decide.{ℕ_discrete}
 use lib.ListN.{get_elem?}
 use Rattle.std.specs.Option.{option_eq, option_and_then}
@@ -63,7 +64,7 @@ next ledger ledger' listed listed' views views' hist e c' goes shows grows = rec
     tickets = c';
     shows = shows;
     events = hist.events ++ e ∷ [];
-    ran = run_on (tickets.start 32) hist.tickets c' hist.events e hist.ran goes;
+    ran = run_on (tickets.start sizes.tickets) hist.tickets c' hist.events e hist.ran goes;
     counted = count_on ledger ledger' views views' hist.tickets c' hist.events e hist.counted grows;
   };
   step_is = goes;
@@ -265,7 +266,7 @@ module _ (ledger : Ledger) (listed words : List ℕ) (homes : Homes) (views : Li
       let after : Tickets = record { states = set c.states t core.Idle; listed = c.listed; walk = ledger.walk } in
       let walk_is : c.walk ≡ t ∷ ledger.walk = sh.walk_is ∙ ap (λ h. in_hand h ++ ledger.walk) has in
       let handed : hand_times t ledger.hand ≡ same t t = ap (hand_times t) has in let here = same_here t in let m = most ledger listed views r.once t in
-      let low32 : t < 32 = below ledger listed views r.once t (omega arith) in let n = sh.number in let low : t < length c.states = omega arith in
+      let low32 : t < sizes.tickets = below ledger listed views r.once t (omega arith) in let n = sh.number in let low : t < length c.states = omega arith in
       let other : (u : ℕ) → u ≢ t → slice_get (set c.states t core.Idle) u ≡ slice_get c.states u = λ u d. record_else c.states t u core.Idle d in
       let s = owner_spent (put_home t ledger) in let z : length c.walk ≡ suc (length ledger.walk) = ap length walk_is in
       next ledger (put_home t ledger) listed listed views (set views 0 (Owner (put_home t ledger))) hist event.Back after (ap (back c) walk_is) (record {
@@ -288,12 +289,12 @@ fresh_idle (suc n) (suc t) e = fresh_idle n t e
 
 pub begins : History idle_ledger [] (Owner idle_ledger ∷ [])
 begins = record {
-  tickets = tickets.start 32;
+  tickets = tickets.start sizes.tickets;
   shows = record {
     number = refl;
     listed_are = refl;
     walk_is = refl;
-    idle = λ t e. fresh_idle 32 t e;
+    idle = λ t e. fresh_idle sizes.tickets t e;
     passes = λ j e h. absurd (none_there' j e h);
     on_list = λ t p. absurd (omega arith);
     on_walk = λ t p. absurd (omega arith);

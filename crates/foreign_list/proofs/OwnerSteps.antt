@@ -3,6 +3,7 @@ use Rattle.std.proofs.Common.{◌≡◌, ◌≢◌, ℕ, zero, suc, ◌+◌, ◌
 use Rattle.std.proofs.Common.{length-set, get_or-set_other, get_or-set_same, lt-ltb, le-ltb}
 use mathlib.Core.Option.{some, none, some-ne-none}
 use mathlib.Core.Logic.{dite}
+use Rattle.layout.specs.Sizes as sizes
 use native.Mathlib.Decide.{ℕ_discrete, dec_le}
 use lib.ListN.{get_elem?}
 use Rattle.std.proofs.lemmas.Option.{slice_get_within}
@@ -60,7 +61,7 @@ empty_fresh zero t e = absurd (let h = slice_get_within {A = Option PieceId} [] 
 empty_fresh (suc n) zero e = refl
 empty_fresh (suc n) (suc t) e = empty_fresh n t e
 
-pub begins : Places idle_ledger [] (replicate 41 0) (map (λ (x : Option Lent). some x) (replicate 32 None)) (Owner idle_ledger ∷ [])
+pub begins : Places idle_ledger [] (replicate sizes.list_words 0) (map (λ (x : Option Lent). some x) (replicate sizes.tickets None)) (Owner idle_ledger ∷ [])
 begins = record {
   is_ledger = refl;
   word_count = refl;
@@ -68,20 +69,20 @@ begins = record {
   lent_count = refl;
   on_list = refl;
   on_walk = refl;
-  once = λ t. let f = idle_fresh 32 t in omega arith;
+  once = λ t. let f = idle_fresh sizes.tickets t in omega arith;
   each_view = λ j v e. each j v e;
-  each_idle = λ t e. empty_fresh 32 t e;
+  each_idle = λ t e. empty_fresh sizes.tickets t e;
   in_hand = tt;
   list_home = λ t p. absurd (omega arith);
   walk_home = λ t p. absurd (omega arith);
 }
   where
-    nowhere : (j : ℕ) (u : View) → j ≢ 0 → get_elem? (Owner idle_ledger ∷ []) j ≡ some u → Stands (replicate 41 0) (map (λ (x : Option Lent). some x) (replicate 32 None)) idle_ledger.lent j u
+    nowhere : (j : ℕ) (u : View) → j ≢ 0 → get_elem? (Owner idle_ledger ∷ []) j ≡ some u → Stands (replicate sizes.list_words 0) (map (λ (x : Option Lent). some x) (replicate sizes.tickets None)) idle_ledger.lent j u
     nowhere zero u n e = absurd (n refl)
     nowhere (suc j) u n e = absurd (some-ne-none u (sym e))
 
-    each : Each (Stands (replicate 41 0) (map (λ (x : Option Lent). some x) (replicate 32 None)) idle_ledger.lent) (Owner idle_ledger ∷ [])
-    each = each_set (Stands (replicate 41 0) (map (λ (x : Option Lent). some x) (replicate 32 None)) idle_ledger.lent) (Owner idle_ledger ∷ []) 0 (Owner idle_ledger) refl nowhere
+    each : Each (Stands (replicate sizes.list_words 0) (map (λ (x : Option Lent). some x) (replicate sizes.tickets None)) idle_ledger.lent) (Owner idle_ledger ∷ [])
+    each = each_set (Stands (replicate sizes.list_words 0) (map (λ (x : Option Lent). some x) (replicate sizes.tickets None)) idle_ledger.lent) (Owner idle_ledger ∷ []) 0 (Owner idle_ledger) refl nowhere
 
 module _ (ledger : Ledger) (listed words : List ℕ) (homes : Homes) (views : List View) (r : Places ledger listed words homes views) where
   abbrev all : ℕ → ℕ
@@ -148,7 +149,7 @@ module _ (ledger : Ledger) (listed words : List ℕ) (homes : Homes) (views : Li
         once = λ u. let o = r.once u in let a = sum_set (pass_times u) views 0 (Owner ledger) w r.is_ledger in
             let z : times u ledger.walk ≡ 0 = ap (times u) empty in omega arith;
         each_view = each_set (Stands (set words 0 0) homes ledger.lent) views 0 w refl
-            (λ j v _ e. view_kept words (set words 0 0) homes homes ledger.lent ledger.lent 32 j v (λ u _. others u)
+            (λ j v _ e. view_kept words (set words 0 0) homes homes ledger.lent ledger.lent sizes.tickets j v (λ u _. others u)
             (λ f is. nowhere j f (subst (λ x. get_elem? views j ≡ some x) is e)) (r.each_view j v e));
         each_idle = r.each_idle;
         in_hand = r.in_hand;
@@ -156,7 +157,7 @@ module _ (ledger : Ledger) (listed words : List ℕ) (homes : Homes) (views : Li
         walk_home = r.list_home;
       }
     where
-      nowhere : (j : ℕ) (f : Holder) → get_elem? views j ≡ some (Pass f) → f.ticket ≢ 32
+      nowhere : (j : ℕ) (f : Holder) → get_elem? views j ≡ some (Pass f) → f.ticket ≢ sizes.tickets
       nowhere j f e is = let a = sum_at (pass_times f.ticket) views j (Pass f) e in let s = same_here f.ticket in
           let b = below ledger listed views r.once f.ticket (omega arith) in absurd (omega arith)
 
@@ -171,7 +172,7 @@ module _ (ledger : Ledger) (listed words : List ℕ) (homes : Homes) (views : Li
   pub next_link : (t : ℕ) (left : List ℕ) → ledger.walk ≡ t ∷ left → word_at words (suc t) ≡ link_to left
   next_link t left is = chain_link words (word_at words (suc t)) left (first_chain t left is).1
 
-  pub next_low : (t : ℕ) (left : List ℕ) → ledger.walk ≡ t ∷ left → word_at words (suc t) ≤ 32
+  pub next_low : (t : ℕ) (left : List ℕ) → ledger.walk ≡ t ∷ left → word_at words (suc t) ≤ sizes.tickets
   next_low t left is = word_low ledger listed views r.once words (word_at words (suc t)) left (first_chain t left is).1
       (λ u p. below ledger listed views r.once u (let c : times u ledger.walk ≡ same u t + times u left = ap (times u) is in omega arith))
 
@@ -187,7 +188,7 @@ module _ (ledger : Ledger) (listed words : List ℕ) (homes : Homes) (views : Li
       let home : IsHome homes ledger.lent t = r.walk_home t (omega arith) in
       let others : Others words words homes (set homes t none) ledger.lent ledger.lent t =
       λ u n. record { next = refl; home = set_else homes t u none n; recorded = refl } in
-      let low : t < 32 = below ledger listed views r.once t (omega arith) in let count = r.slot_count in record {
+      let low : t < sizes.tickets = below ledger listed views r.once t (omega arith) in let count = r.slot_count in record {
         is_ledger = set_here views 0 w has_views;
         word_count = r.word_count;
         slot_count = length-set homes t none ∙ r.slot_count;

@@ -2,6 +2,7 @@
 use Rattle.std.proofs.Common.{◌≡◌, ℕ, suc, ◌+◌, ◌<◌, Bool, true, false, List, ◌∷◌, length, set, Some, sym, refl, ap, ◌∙◌, subst, arith, length-set, get_or-set_other, get_or-set_same}
 use mathlib.Core.Option.{some, none}
 use lib.ListN.{get_elem?}
+use Rattle.layout.specs.Sizes as sizes
 use Rattle.atomic_table.proofs.Lists.{set_else, set_here}
 use Rattle.raw_range.specs.Memory.{Lent}
 use Rattle.foreign_list.specs.declared.views.Holder.{Holder}
@@ -32,7 +33,7 @@ module _ (ledger : Ledger) (listed words : List ℕ) (homes : Homes) (views : Li
   off_walk : times t ledger.walk ≡ 0
   off_walk = (pass_alone ledger listed views r.once id e at).2
 
-  low : t < 32
+  low : t < sizes.tickets
   low = let a = sum_at (pass_times t) views id (Pass e) at in let s = same_here t in below ledger listed views r.once t (omega arith)
 
   slot_within : t < length homes

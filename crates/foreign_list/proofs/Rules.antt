@@ -1,6 +1,7 @@
 -- Each step is allowed: whatever the table is, it keeps the rule and tells what its play says.
 use Rattle.std.proofs.Common.{◌≡◌, ℕ, suc, ◌≤◌, eqb, true, false, List, [], ◌∷◌, ◌++◌, set, Option, Some, None, slice_get, sym, refl, ap, ◌∙◌, subst}
 use mathlib.Core.Option.{some-injective}
+use Rattle.layout.specs.Sizes as sizes
 use prog.Atomic.{either}
 use Rattle.raw_range.specs.Memory.{Lent}
 use Rattle.atomic_table.specs.Table.{Act, keeps, takes, gives, Valid, carried_after, stepped, Allows, Splits}
@@ -32,7 +33,7 @@ Goes s i x id c then =
     (w : View) × (a : Act (Option Lent)) × Valid s.homes c a × IsConsistent (stepped s i x id c w a) × then (word_at s.words i) (w, carried_after c a)
 
 -- the head is 0 or names a ticket
-head_low : (s : Table) (k : IsConsistent s) → head s ≤ 32
+head_low : (s : Table) (k : IsConsistent s) → head s ≤ sizes.tickets
 head_low s k = list_low k.ledger k.listed s.views k.places.once s.words (head s) k.places.on_list
 
 -- 2

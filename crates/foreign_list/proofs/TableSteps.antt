@@ -3,6 +3,7 @@ use Rattle.std.proofs.Common.{◌≡◌, ◌≢◌, ℕ, suc, true, false, List,
 use mathlib.Core.Option.{some, none}
 use lib.ListN.{get_elem?}
 use lib.Seq.{set-get_or}
+use Rattle.layout.specs.Sizes as sizes
 use Rattle.raw_range.specs.Memory.{Lent}
 use Rattle.foreign_core.specs.Tickets.{step}
 use Rattle.foreign_core.specs.declared.event.Event.{Event}
@@ -47,7 +48,7 @@ read words i homes views k = record {
 }
 
 -- the table that is made
-pub begins : IsConsistent (made (replicate 41 0) (map (λ (x : Option Lent). some x) (replicate 32 None)) (Owner idle_ledger ∷ []))
+pub begins : IsConsistent (made (replicate sizes.list_words 0) (map (λ (x : Option Lent). some x) (replicate sizes.tickets None)) (Owner idle_ledger ∷ []))
 begins = record { ledger = idle_ledger; listed = []; places = places.begins; changes = change.begins; history = history.begins }
 
 module _ (s : Table) (k : IsConsistent s) where

@@ -2,6 +2,7 @@
 use Rattle.std.specs.Prelude.{◌≡◌, ◌≢◌, ℕ, suc, true, false, List, [], ◌∷◌, ◌++◌, Option, Some, None, slice_get, slice_set}
 use mathlib.Core.Option.{some}
 use lib.ListN.{get_elem?}
+use Rattle.layout.specs.Sizes as sizes
 use Rattle.foreign_core.specs.Tickets.{Tickets, start, step}
 use Rattle.foreign_core.specs.Places.{InOneState}
 use Rattle.foreign_core.specs.Histories.{run}
@@ -28,9 +29,9 @@ Has s id view = get_elem? s.views id ≡ some view
 abbrev pub head : Table → ℕ
 head s = word_at s.words 0
 
--- the tickets on the list: the chain from the head, read at most 32 links far
+-- the tickets on the list: the chain from the head, read no further than there are tickets
 abbrev pub listed_in : Table → List ℕ
-listed_in s = chain 32 s.words (head s)
+listed_in s = chain sizes.tickets s.words (head s)
 
 -- The table shows tickets. Those on the list are the chain from the head, those walked are the one in the owner's hand and the
 -- chain from the walk's first, and each ticket's state is that of its place. Possible events led to them from all idle, the
@@ -39,12 +40,12 @@ listed_in s = chain 32 s.words (head s)
 pub record ShowsCore (s : Table) (tickets : Tickets) : Type 0 where
   pub ledger : Ledger
   pub is_ledger : Has s 0 (Owner ledger)
-  pub walk_is : chain 32 s.words (link_to ledger.walk) ≡ ledger.walk
+  pub walk_is : chain sizes.tickets s.words (link_to ledger.walk) ≡ ledger.walk
   pub shows : Shows ledger (listed_in s) s.views tickets
   pub events : List Event
-  pub ran : run (start 32) events ≡ Some tickets
+  pub ran : run (start sizes.tickets) events ≡ Some tickets
   pub counted : Counted ledger s.views tickets events
-  pub one_state : InOneState 32 tickets
+  pub one_state : InOneState sizes.tickets tickets
   pub one_pass : (i j : ℕ) (e f : Holder) → Has s i (Pass e) → Has s j (Pass f) → e.ticket ≡ f.ticket → i ≡ j
   pub is_lent : (id : ℕ) (e : Holder) → Has s id (Pass e) → slice_get ledger.lent e.ticket ≡ Some (Some e.piece_id)
 

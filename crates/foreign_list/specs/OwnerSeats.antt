@@ -1,5 +1,6 @@
 -- What the owner of a list knows of it.
 use Rattle.std.specs.Prelude.{◌≡◌, ℕ, suc, List, [], ◌∷◌, Option, Some, None, slice_get, slice_set, replicate, All, IsNone}
+use Rattle.layout.specs.Sizes as sizes
 use Rattle.foreign_list.specs.declared.piece_id.PieceId.{PieceId}
 use Rattle.raw_range.specs.Memory.{Lent}
 use Rattle.foreign_list.specs.Lists.{ListId, OwnedList}
@@ -31,9 +32,9 @@ IsIdle seat t = slice_get seat.lent t ≡ Some None
 abbrev pub IsLent : OwnerState → ℕ → PieceId → Type 0
 IsLent seat t piece_id = slice_get seat.lent t ≡ Some (Some piece_id)
 
--- 32 tickets, all of them idle
+-- all tickets are idle
 abbrev pub all_idle : ListId → OwnerState
-all_idle list = record { list = list; lent = replicate 32 None; walk = []; lends = 0; take_wholes = 0 }
+all_idle list = record { list = list; lent = replicate sizes.tickets None; walk = []; lends = 0; take_wholes = 0 }
 
 abbrev pub after_lend : OwnerState → ℕ → PieceId → OwnerState
 after_lend seat t piece_id = record seat { lent = slice_set seat.lent t (Some piece_id); lends = suc seat.lends }

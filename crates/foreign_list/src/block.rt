@@ -58,7 +58,7 @@ impl<'f> ForeignBlock<'f> {
         self.piece.owner()
     }
 
-    /// The ticket that it was lent with, below 32.
+    /// The ticket that it was lent with, below [`layout::TICKETS`].
     pub fn ticket(&self) -> u32
         ensures { result ≡ self.now.ticket }
     {

@@ -2,7 +2,7 @@
 use crate::list_table::ListTable;
 use std::marker::Model;
 
-/// The list of one owner, which blocks come home over. It has 32 tickets.
+/// The list of one owner, which blocks come home over.
 #[derive(Drop)]
 pub struct Foreign {
     pub(crate) table: ListTable,

@@ -1,10 +1,11 @@
 //! The list over which the blocks of one owner come home, from any thread: the foreign free list of Seastar's
 //! `core/memory.cc`, on atomic words.
 //!
-//! The owner lends a piece of its memory with one of 32 tickets, as a [`ForeignBlock`]. Whoever has the block, on any thread,
-//! reads and writes its bytes, and gives it back by [`ForeignBlock::release`]: a look at the list's head, a store of the link to
-//! it, and a compare-and-exchange of the head. The owner takes the whole list by one exchange ([`Foreign::take_whole`]), and then
-//! gives itself one block after the other, the newest first ([`Foreign::next_back`]). It is a Treiber stack that is drained whole.
+//! The owner lends a piece of its memory with one of [`layout::TICKETS`] tickets, as a [`ForeignBlock`]. Whoever has the block,
+//! on any thread, reads and writes its bytes, and gives it back by [`ForeignBlock::release`]: a look at the list's head, a store
+//! of the link to it, and a compare-and-exchange of the head. The owner takes the whole list by one exchange
+//! ([`Foreign::take_whole`]), and then gives itself one block after the other, the newest first ([`Foreign::next_back`]). It is a
+//! Treiber stack that is drained whole.
 //!
 //! # When a block comes home
 //! A won swing puts the block on the list, and its ticket is still not idle. It is idle once `next_back` gave the block to the

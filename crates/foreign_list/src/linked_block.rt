@@ -1,5 +1,6 @@
 //! A block on its way onto the list.
 ghost use Rattle.std.specs.Prelude.{◌≡◌, ◌≢◌, ◌≤◌, IfOk, IfErr};
+ghost use Rattle.layout.specs.Sizes as sizes;
 ghost use Rattle.foreign_list.specs.Blocks.{raced, spent};
 ghost use Rattle.foreign_list.specs.inside.Words.{ticket_of};
 
@@ -21,6 +22,7 @@ pub struct LinkedBlock<'f> {
 
 impl<'f> Model for LinkedBlock<'f> {
     ghost use Rattle.std.specs.Prelude.{◌≤◌, true};
+    ghost use Rattle.layout.specs.Sizes as sizes;
     ghost use Rattle.foreign_list.specs.Blocks.{Linked};
     ghost use Rattle.foreign_list.specs.declared.views.Stage.TheVariants as stage;
     ghost use Rattle.foreign_list.specs.inside.Words.{ticket_of};
@@ -30,12 +32,13 @@ impl<'f> Model for LinkedBlock<'f> {
 
     ghost view = { λ b. record { block = block_of (id_of b.list.now) b.pass b.piece b.ticket; expected = ticket_of b.head } };
 
-    ghost invariant = { λ b. (b.head ≤ 32) × IsConsistentPass (id_of b.list.now) b.pass b.piece b.ticket true (stage.Linked b.head) };
+    ghost invariant = { λ b. (b.head ≤ sizes.tickets)
+        × IsConsistentPass (id_of b.list.now) b.pass b.piece b.ticket true (stage.Linked b.head) };
 }
 
 // A word of the table as a ticket.
 fn named(word: u64) -> Option<u32>
-    requires { word ≤ 32 }
+    requires { word ≤ sizes.tickets }
     ensures { result ≡ ticket_of word }
 {
     if word == 0 {

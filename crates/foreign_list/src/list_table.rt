@@ -1,5 +1,6 @@
 //! The words and slots of a list, and the rule of their steps.
 ghost use Rattle.std.specs.Prelude.{◌≡◌};
+ghost use Rattle.layout.specs.Sizes as sizes;
 
 use crate::views::View;
 use atomic_table::{Seat, Table, TableRule};
@@ -22,11 +23,11 @@ impl TableRule<Option<Piece>, View, ()> for ListRule {
     ghost first = { λ _. Owner idle_ledger };
 }
 
-/// The words and slots of one list: the head, one next word and one slot for each of 32 tickets, and 8 words that stay 0.
+/// The words and slots of one list: the head, one next word and one slot for each ticket, and a cache line of words that stay 0.
 ///
-/// These 8 lie behind the others, and make a cache line of 64 bytes: so the words of two lists never share one.
+/// These lie behind the others: so the words of two lists never share a line.
 #[derive(Drop)]
 pub struct ListTable {
     pub(crate) table: Table<Option<Piece>, View, (), ListRule, Global>,
-    ghost counts: { (table.shared.table_id.words ≡ 41) × (table.shared.table_id.slots ≡ 32) },
+    ghost counts: { (table.shared.table_id.words ≡ sizes.list_words) × (table.shared.table_id.slots ≡ sizes.tickets) },
 }

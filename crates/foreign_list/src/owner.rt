@@ -7,6 +7,7 @@ use crate::block::ForeignBlock;
 use crate::foreign::Foreign;
 use crate::list_table::ListTable;
 use crate::owner_seat::{OwnerSeat, mark_idle, mark_lent};
+use layout::TICKETS;
 use raw_range::Piece;
 use std::alloc::{AllocError, Global};
 use std::marker::Brand;
@@ -19,7 +20,7 @@ pub struct Returned {
 }
 
 impl Foreign {
-    /// The list of this owner, with all 32 tickets idle, and the owner's seat at it.
+    /// The list of this owner, with all tickets idle, and the owner's seat at it.
     ///
     /// # Errors
     /// There is no memory.
@@ -33,7 +34,7 @@ impl Foreign {
             Foreign { table, owner },
             OwnerSeat {
                 seat,
-                idle: [true; 32],
+                idle: [true; TICKETS as usize],
                 first: 0,
             },
         ))

@@ -1,5 +1,6 @@
 //! The slot that a seat has taken, read and written.
 ghost use Rattle.std.specs.Prelude.{◌≡◌, ℕ, ◌≤◌, ◌<◌, List, [], ◌∷◌, Bool, true, false, Some, None};
+ghost use Rattle.layout.specs.Sizes as sizes;
 ghost use Rattle.raw_range.specs.Memory.{Lent};
 ghost use Rattle.foreign_list.specs.declared.views.View.TheVariants.{Pass};
 ghost use Rattle.foreign_list.specs.declared.views.Stage.TheVariants.{Carry, Looked};
@@ -18,7 +19,7 @@ impl ListTable {
         requires ticket { ticket ≡ (holder_of pass.old.me.0).ticket }
         requires slots { pass.old.me.1 ≡ slots_held has_slot ticket }
         ensures seat { SameSeat pass.old pass.new }
-        ensures low { result ≤ 32 }
+        ensures low { result ≤ sizes.tickets }
         ensures looked { pass.new.me ≡ (Pass (at_stage (holder_of pass.old.me.0) (Looked result)), (ticket, None) ∷ []) }
     {
         if has_slot {
@@ -64,7 +65,7 @@ impl ListTable {
     pub(crate) fn bring_home(&self, seat: &mut TableSeat, ticket: u32) -> (u64, Piece)
         requires seat { IsAt self.now seat.old × IsOwner seat.old.me.0 × (seat.old.me.1 ≡ []) }
         requires first { (left : List ℕ) × ((ledger_of seat.old.me.0).walk ≡ ticket ∷ left) }
-        requires hand { ((ledger_of seat.old.me.0).hand ≡ None) × (ticket < 32) }
+        requires hand { ((ledger_of seat.old.me.0).hand ≡ None) × (ticket < sizes.tickets) }
         ensures seat { SameSeat seat.old seat.new }
         ensures home { BroughtHome ticket (ledger_of seat.old.me.0) result.0 result.1 seat.new.me }
     {

@@ -1,5 +1,6 @@
 //! The nine kinds of step at the table.
 ghost use Rattle.std.specs.Prelude.{◌≡◌, ◌≢◌, ℕ, suc, ◌+◌, ◌<◌, ◌≤◌, List, [], ◌∷◌, true, false, length, Option, IfOk, Some, None, slice_get};
+ghost use Rattle.layout.specs.Sizes as sizes;
 ghost use Rattle.raw_range.specs.Memory.{Lent};
 ghost use Rattle.foreign_list.specs.Blocks.{piece_id_of};
 ghost use Rattle.foreign_list.specs.declared.views.View.TheVariants.{Owner, Pass, Spent};
@@ -12,6 +13,7 @@ ghost use Rattle.foreign_list.specs.inside.Seats.{IsAt, SameSeat};
 use crate::list_table::{ListTable, TableSeat};
 use crate::plays::{FirstLook, Home, Lend, Lending, Link, LookAgain, Swing, TakeWhole, Walk};
 use atomic_table::Table;
+use layout::{LIST_WORDS, TICKETS};
 use raw_range::Piece;
 use std::alloc::{AllocError, Global};
 
@@ -19,7 +21,7 @@ impl ListTable {
     pub(crate) fn new(alloc: Global) -> Result<(ListTable, TableSeat), AllocError>
         ensures { IfOk result (λ r. IsAt r.0 r.1 × (r.1.me ≡ (Owner idle_ledger, []))) }
     {
-        let (table, seat) = Table::vacant(alloc, &[0; 41], 32, &())?;
+        let (table, seat) = Table::vacant(alloc, &[0; LIST_WORDS], TICKETS as usize, &())?;
         Ok((ListTable { table }, seat))
     }
 
@@ -45,7 +47,7 @@ impl ListTable {
         requires seat { IsAt self.now pass.old × IsPass pass.old.me.0 }
         requires stage { ((holder_of pass.old.me.0).stage ≡ Carry) × ((holder_of pass.old.me.0).has_slot ≡ false) }
         ensures seat { SameSeat pass.old pass.new }
-        ensures low { result ≤ 32 }
+        ensures low { result ≤ sizes.tickets }
         ensures looked { pass.new.me ≡ (
           Pass (at_stage (holder_of pass.old.me.0) (Looked result)),
           ((holder_of pass.old.me.0).ticket, None) ∷ pass.old.me.1,
@@ -59,7 +61,7 @@ impl ListTable {
         requires seat { IsAt self.now pass.old × IsPass pass.old.me.0 }
         requires stage { ((holder_of pass.old.me.0).stage ≡ Carry) × ((holder_of pass.old.me.0).has_slot ≡ true) }
         ensures seat { SameSeat pass.old pass.new }
-        ensures low { result ≤ 32 }
+        ensures low { result ≤ sizes.tickets }
         ensures looked { pass.new.me ≡ (Pass (at_stage (holder_of pass.old.me.0) (Looked result)), pass.old.me.1) }
     {
         self.table.shared.load::<LookAgain>(pass, 0)
@@ -68,7 +70,7 @@ impl ListTable {
     // 4: the head that was seen becomes the ticket's next.
     pub(crate) fn link(&self, pass: &mut TableSeat, ticket: u32, head: u64)
         requires seat { IsAt self.now pass.old × IsPass pass.old.me.0 }
-        requires ticket { (ticket ≡ (holder_of pass.old.me.0).ticket) × (ticket < 32) }
+        requires ticket { (ticket ≡ (holder_of pass.old.me.0).ticket) × (ticket < sizes.tickets) }
         requires stage { (holder_of pass.old.me.0).stage ≡ Looked head }
         ensures seat { SameSeat pass.old pass.new }
         ensures linked { pass.new.me ≡ (Pass (at_stage (holder_of pass.old.me.0) (Linked head)), pass.old.me.1) }
@@ -81,12 +83,16 @@ impl ListTable {
     // 5 and 6: a swing, won or lost.
     pub(crate) fn swing(&self, pass: &mut TableSeat, ticket: u32, head: u64) -> u64
         requires seat { IsAt self.now pass.old × IsPass pass.old.me.0 }
-        requires ticket { (ticket ≡ (holder_of pass.old.me.0).ticket) × (ticket < 32) }
+        requires ticket { (ticket ≡ (holder_of pass.old.me.0).ticket) × (ticket < sizes.tickets) }
         requires stage { (holder_of pass.old.me.0).stage ≡ Linked head }
         requires piece { (piece : Lent) × (pass.old.me.1 ≡ (ticket, Some piece) ∷ [])
             × (piece_id_of piece ≡ (holder_of pass.old.me.0).piece_id) }
+
+        // The head that was found.
         ensures seat { SameSeat pass.old pass.new }
-        ensures low { result ≤ 32 }
+        ensures low { result ≤ sizes.tickets }
+
+        // Won where it is the head that was expected; else the pass carries the block again.
         ensures won { result ≡ head → pass.new.me ≡ (Spent, []) }
         ensures lost { result ≢ head → pass.new.me ≡ (Pass (sent_back (holder_of pass.old.me.0) result), pass.old.me.1) }
     {
@@ -109,7 +115,7 @@ impl ListTable {
     pub(crate) fn walk_on(&self, seat: &mut TableSeat, ticket: u32) -> u64
         requires seat { IsAt self.now seat.old × IsOwner seat.old.me.0 }
         requires first { (left : List ℕ) × ((ledger_of seat.old.me.0).walk ≡ ticket ∷ left) }
-        requires hand { ((ledger_of seat.old.me.0).hand ≡ None) × (ticket < 32) }
+        requires hand { ((ledger_of seat.old.me.0).hand ≡ None) × (ticket < sizes.tickets) }
         ensures seat { SameSeat seat.old seat.new }
         ensures walked { WalkedOn ticket (ledger_of seat.old.me.0) seat.old.me result seat.new.me }
     {
@@ -119,7 +125,7 @@ impl ListTable {
     // 9: the ticket in hand is idle. Its own word is read once more: no other thread writes that one now, as they do the head.
     pub(crate) fn put_home(&self, seat: &mut TableSeat, ticket: u32)
         requires seat { IsAt self.now seat.old × IsOwner seat.old.me.0 }
-        requires hand { ((ledger_of seat.old.me.0).hand ≡ Some ticket) × (ticket < 32) }
+        requires hand { ((ledger_of seat.old.me.0).hand ≡ Some ticket) × (ticket < sizes.tickets) }
         requires slot { seat.old.me.1 ≡ (ticket, None) ∷ [] }
         ensures seat { SameSeat seat.old seat.new }
         ensures idle { seat.new.me ≡ (Owner (put_home ticket (ledger_of seat.old.me.0)), []) }

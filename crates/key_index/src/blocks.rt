@@ -33,14 +33,17 @@ pub(crate) fn entry_at(blocks: &[Vec<Entry>], place: Place) -> Option<Entry>
 
 /// Puts an entry at a place of a block that has room.
 pub(crate) fn put(blocks: &mut Vec<Vec<Entry>>, place: Place, entry: Entry)
+    // There is space for an entry more.
     requires block { place.block < vec_len blocks.old }
     requires at { place.at ≤ length (entries_at blocks.old.items place.block) }
     requires room { length (entries_at blocks.old.items place.block) < 256 }
     requires are_blocks { All IsBlock blocks.old.items }
+    // One entry more, at the place.
     ensures entries { entries_of blocks.new.items ≡ entries_of (take place.block blocks.old.items)
         ++ (insert (entries_at blocks.old.items place.block) place.at entry ++ entries_of (drop (place.block + 1) blocks.old.items)) }
     ensures lens { lens_of blocks.new.items
         ≡ slice_set (lens_of blocks.old.items) place.block (length (entries_at blocks.old.items place.block) + 1) }
+    // The blocks stay as many, none too empty.
     ensures are_blocks { All IsBlock blocks.new.items }
     ensures dense { AreDense (lens_of blocks.old.items) → AreDense (lens_of blocks.new.items) }
     ensures len { vec_len blocks.new ≡ vec_len blocks.old }
@@ -52,20 +55,24 @@ pub(crate) fn put(blocks: &mut Vec<Vec<Entry>>, place: Place, entry: Entry)
 
 /// Cuts a full block in two.
 fn cut(blocks: &mut Vec<Vec<Entry>>, spare: &mut Vec<Vec<Entry>>, at: usize)
+    // A block to cut, and an empty one.
     requires block { at < vec_len blocks.old }
     requires full { length (entries_at blocks.old.items at) ≡ 256 }
     requires room { vec_len blocks.old < vec_capacity blocks.old }
     requires spare { 0 < vec_len spare.old }
     requires are_blocks { All IsBlock blocks.old.items }
     requires are_spare { All IsSpare spare.old.items }
+    // Its halves stand side by side.
     ensures before { entries_of (take at blocks.new.items) ≡ entries_of (take at blocks.old.items) }
     ensures upto { entries_of (take (at + 1) blocks.new.items) ≡ entries_of (take at blocks.old.items)
         ++ take 128 (entries_at blocks.old.items at) }
     ensures low { entries_at blocks.new.items at ≡ take 128 (entries_at blocks.old.items at) }
     ensures high { entries_at blocks.new.items (at + 1) ≡ drop 128 (entries_at blocks.old.items at) }
+    // Together the blocks hold the same.
     ensures entries { entries_of blocks.new.items ≡ entries_of blocks.old.items }
     ensures lens { lens_of blocks.new.items ≡ take at (lens_of blocks.old.items)
         ++ 128 ∷ 128 ∷ drop (at + 1) (lens_of blocks.old.items) }
+    // An empty one came into use.
     ensures are_blocks { All IsBlock blocks.new.items }
     ensures are_spare { All IsSpare spare.new.items }
     ensures more { vec_len blocks.new ≡ vec_len blocks.old + 1 }
@@ -86,6 +93,7 @@ pub(crate) fn split(
     spare: &mut Vec<Vec<Entry>>,
     place: Place,
 ) -> Place
+    // A block to cut, and an empty one.
     requires block { place.block < vec_len blocks.old }
     requires at { place.at ≤ 256 }
     requires full { length (entries_at blocks.old.items place.block) ≡ 256 }
@@ -93,13 +101,16 @@ pub(crate) fn split(
     requires spare { 0 < vec_len spare.old }
     requires are_blocks { All IsBlock blocks.old.items }
     requires are_spare { All IsSpare spare.old.items }
+    // Where the place is then.
     ensures block { result.block < vec_len blocks.new }
     ensures at { result.at ≤ 128 }
     ensures half { length (entries_at blocks.new.items result.block) ≡ 128 }
     ensures front { front blocks.new.items result.block result.at ≡ front blocks.old.items place.block place.at }
+    // Together the blocks hold the same.
     ensures entries { entries_of blocks.new.items ≡ entries_of blocks.old.items }
     ensures lens { lens_of blocks.new.items ≡ take place.block (lens_of blocks.old.items)
         ++ 128 ∷ 128 ∷ drop (place.block + 1) (lens_of blocks.old.items) }
+    // An empty one came into use.
     ensures are_blocks { All IsBlock blocks.new.items }
     ensures are_spare { All IsSpare spare.new.items }
     ensures more { vec_len blocks.new ≡ vec_len blocks.old + 1 }
@@ -124,6 +135,7 @@ pub(crate) fn make_room(
     spare: &mut Vec<Vec<Entry>>,
     place: Place,
 ) -> Place
+    // A place, and an empty block at hand.
     requires block { place.block < vec_len blocks.old }
     requires at { place.at ≤ length (entries_at blocks.old.items place.block) }
     requires room { vec_len blocks.old < vec_capacity blocks.old }
@@ -131,11 +143,14 @@ pub(crate) fn make_room(
     requires are_blocks { All IsBlock blocks.old.items }
     requires are_spare { All IsSpare spare.old.items }
     requires dense { AreDense (lens_of blocks.old.items) }
+    // Where the place is then.
     ensures block { result.block < vec_len blocks.new }
     ensures at { result.at ≤ length (entries_at blocks.new.items result.block) }
     ensures room { length (entries_at blocks.new.items result.block) < 256 }
     ensures front { front blocks.new.items result.block result.at ≡ front blocks.old.items place.block place.at }
+    // Together the blocks hold the same.
     ensures entries { entries_of blocks.new.items ≡ entries_of blocks.old.items }
+    // No block is too empty or lost.
     ensures are_blocks { All IsBlock blocks.new.items }
     ensures are_spare { All IsSpare spare.new.items }
     ensures dense { AreDense (lens_of blocks.new.items) }
@@ -152,13 +167,16 @@ pub(crate) fn make_room(
 
 /// Takes a block into use, for an entry.
 pub(crate) fn begin(blocks: &mut Vec<Vec<Entry>>, spare: &mut Vec<Vec<Entry>>, entry: Entry)
+    // No block is in use yet.
     requires empty { vec_len blocks.old ≡ 0 }
     requires room { 0 < vec_capacity blocks.old }
     requires spare { 0 < vec_len spare.old }
     requires are_spare { All IsSpare spare.old.items }
+    // A block holds the entry alone.
     ensures entries { entries_of blocks.new.items ≡ entry ∷ [] }
     ensures len { vec_len blocks.new ≡ 1 }
     ensures are_blocks { All IsBlock blocks.new.items }
+    // An empty one came into use.
     ensures are_spare { All IsSpare spare.new.items }
     ensures fewer { vec_len spare.new + 1 ≡ vec_len spare.old }
     ensures capacity { vec_capacity blocks.old ≤ vec_capacity blocks.new }
@@ -183,13 +201,17 @@ pub(crate) fn spare_blocks(alloc: Global, count: usize) -> Result<Vec<Vec<Entry>
 
 /// Reads the leads of a full block anew, where its keys share many more bytes than its entries skip.
 pub(crate) fn sharpen<K: Keys>(blocks: &mut Vec<Vec<Entry>>, keys: &K, at: usize)
+    // A block of keys that can be read.
     requires block { at < vec_len blocks.old }
     requires readable { All (λ entry. K.has_row keys.now entry.row) (entries_of blocks.old.items) }
     requires leads { All (IsLed (K.key_of keys.now)) (entries_of blocks.old.items) }
     requires are_blocks { All IsBlock blocks.old.items }
+    // The order is as it was.
     ensures rows { rows_of (entries_of blocks.new.items) ≡ rows_of (entries_of blocks.old.items) }
     ensures front { (j : ℕ) → front blocks.new.items at j ≡ front blocks.old.items at j }
+    // Beside each stand eight bytes of its key.
     ensures leads { All (IsLed (K.key_of keys.now)) (entries_of blocks.new.items) }
+    // The blocks are as long as before.
     ensures lens { lens_of blocks.new.items ≡ lens_of blocks.old.items }
     ensures are_blocks { All IsBlock blocks.new.items }
     ensures len { vec_len blocks.new ≡ vec_len blocks.old }
@@ -205,13 +227,16 @@ pub(crate) fn sharpen<K: Keys>(blocks: &mut Vec<Vec<Entry>>, keys: &K, at: usize
 
 /// Takes the entry at a place out of its block, and answers how many the block has then.
 fn drop_entry(blocks: &mut Vec<Vec<Entry>>, place: Place) -> usize
+    // A place where an entry stands.
     requires block { place.block < vec_len blocks.old }
     requires at { place.at < length (entries_at blocks.old.items place.block) }
     requires are_blocks { All IsBlock blocks.old.items }
+    // The entry is gone from its block.
     ensures left { result + 1 ≡ length (entries_at blocks.old.items place.block) }
     ensures entries { entries_of blocks.new.items ≡ entries_of (take place.block blocks.old.items)
         ++ (remove (entries_at blocks.old.items place.block) place.at ++ entries_of (drop (place.block + 1) blocks.old.items)) }
     ensures lens { lens_of blocks.new.items ≡ slice_set (lens_of blocks.old.items) place.block result }
+    // As many blocks, one of them perhaps empty.
     ensures fit { All IsFit blocks.new.items }
     ensures len { vec_len blocks.new ≡ vec_len blocks.old }
     ensures capacity { vec_capacity blocks.old ≤ vec_capacity blocks.new }
@@ -223,15 +248,18 @@ fn drop_entry(blocks: &mut Vec<Vec<Entry>>, place: Place) -> usize
 
 /// Joins a block and the block behind it.
 fn merge(blocks: &mut Vec<Vec<Entry>>, spare: &mut Vec<Vec<Entry>>, at: usize)
+    // Two neighbours that go into one.
     requires block { at + 1 < vec_len blocks.old }
     requires small { length (entries_at blocks.old.items at) + length (entries_at blocks.old.items (at + 1)) ≤ 256 }
     requires fit { All IsFit blocks.old.items }
     requires are_spare { All IsSpare spare.old.items }
     requires room { vec_len spare.old < vec_capacity spare.old }
+    // Together the blocks hold the same.
     ensures entries { entries_of blocks.new.items ≡ entries_of blocks.old.items }
     ensures lens { lens_of blocks.new.items ≡ take at (lens_of blocks.old.items)
         ++ (length (entries_at blocks.old.items at) + length (entries_at blocks.old.items (at + 1))) ∷ drop (at + 2)
         (lens_of blocks.old.items) }
+    // One block went out of use.
     ensures fit { All IsFit blocks.new.items }
     ensures are_spare { All IsSpare spare.new.items }
     ensures fewer { vec_len blocks.new + 1 ≡ vec_len blocks.old }
@@ -265,13 +293,16 @@ fn can_join(blocks: &[Vec<Entry>], at: usize) -> bool
 
 /// Takes a block that has no entry out of use.
 fn drop_block(blocks: &mut Vec<Vec<Entry>>, spare: &mut Vec<Vec<Entry>>, at: usize)
+    // A block without an entry.
     requires block { at < vec_len blocks.old }
     requires empty { length (entries_at blocks.old.items at) ≡ 0 }
     requires fit { All IsFit blocks.old.items }
     requires are_spare { All IsSpare spare.old.items }
     requires room { vec_len spare.old < vec_capacity spare.old }
+    // Together the others hold the same.
     ensures entries { entries_of blocks.new.items ≡ entries_of blocks.old.items }
     ensures lens { lens_of blocks.new.items ≡ remove (lens_of blocks.old.items) at }
+    // One block went out of use.
     ensures fit { All IsFit blocks.new.items }
     ensures are_spare { All IsSpare spare.new.items }
     ensures fewer { vec_len blocks.new + 1 ≡ vec_len blocks.old }
@@ -287,12 +318,15 @@ fn drop_block(blocks: &mut Vec<Vec<Entry>>, spare: &mut Vec<Vec<Entry>>, at: usi
 /// joined. Answers the block that is no longer
 /// in use.
 fn settle(blocks: &mut Vec<Vec<Entry>>, spare: &mut Vec<Vec<Entry>>, at: usize) -> Option<usize>
+    // A block with an entry fewer.
     requires block { at < vec_len blocks.old }
     requires fit { All IsFit blocks.old.items }
     requires are_spare { All IsSpare spare.old.items }
     requires room { vec_len spare.old < vec_capacity spare.old }
     requires lost { HasLost (lens_of blocks.old.items) at }
+    // Together the blocks hold the same.
     ensures entries { entries_of blocks.new.items ≡ entries_of blocks.old.items }
+    // No block is too empty or lost.
     ensures in_use { AreInUse blocks.new.items }
     ensures are_spare { All IsSpare spare.new.items }
     ensures total { vec_len blocks.new + vec_len spare.new ≡ vec_len blocks.old + vec_len spare.old }
@@ -328,14 +362,17 @@ pub(crate) fn take_out(
     spare: &mut Vec<Vec<Entry>>,
     place: Place,
 ) -> Option<usize>
+    // A place where an entry stands.
     requires block { place.block < vec_len blocks.old }
     requires at { place.at < length (entries_at blocks.old.items place.block) }
     requires are_blocks { All IsBlock blocks.old.items }
     requires are_spare { All IsSpare spare.old.items }
     requires dense { AreDense (lens_of blocks.old.items) }
     requires room { vec_len spare.old < vec_capacity spare.old }
+    // The entry is gone from its block.
     ensures entries { entries_of blocks.new.items ≡ entries_of (take place.block blocks.old.items)
         ++ (remove (entries_at blocks.old.items place.block) place.at ++ entries_of (drop (place.block + 1) blocks.old.items)) }
+    // No block is too empty or lost.
     ensures are_blocks { All IsBlock blocks.new.items }
     ensures are_spare { All IsSpare spare.new.items }
     ensures dense { AreDense (lens_of blocks.new.items) }

@@ -94,12 +94,19 @@ fn is_loose(slots: &Vec<RowAt>, home: usize, at: usize) -> bool
 /// Puts a row into the first slot that holds none from the slot of its tag on. False where 64 slots in a row would hold
 /// rows then, and the row is not put in.
 pub(crate) fn put(slots: &mut Vec<RowAt>, mask: u32, entry: RowAt) -> bool
+    // Slots that a search can rely on.
     requires probed { AreProbed mask slots.old.items }
     requires row { entry.row < 4294967295 }
+
+    // What the slots hold then.
     ensures probed { AreProbed mask slots.new.items }
     ensures rows { result ≡ true → AreSame (entry.row ∷ rows_of (held slots.old.items)) (rows_of (held slots.new.items)) }
+
+    // When it is not put in.
     ensures unchanged { result ≡ false → slots.new.items ≡ slots.old.items }
     ensures tight { result ≡ false → reach ≤ length (held slots.old.items) + 1 }
+
+    // No other row came in.
     ensures within { Within (entry ∷ slots.old.items) slots.new.items }
     ensures capacity { vec_capacity slots.old ≤ vec_capacity slots.new }
 {

@@ -35,15 +35,22 @@ pub(crate) fn widen(
     most: &mut u32,
     count: u32,
 ) -> u32
+    // Slots to double, and memory for them.
     requires probed { AreProbed mask slots.old.items }
     requires spare { spare.old.items ≡ [] }
     requires upto { mask ≤ most.old }
     requires room { most.old + 1 + reach ≤ vec_capacity spare.old }
+
+    // How many slots there are then.
     ensures probed { AreProbed result slots.new.items }
     ensures upto { result ≤ most.new }
     ensures most { most.new ≤ most.old }
+
+    // They hold the same, tag by tag.
     ensures rows { AreSame (rows_of (held slots.old.items)) (rows_of (held slots.new.items)) }
     ensures within { Within slots.old.items slots.new.items }
+
+    // Memory for the next doubling.
     ensures spare { spare.new.items ≡ [] }
     ensures capacity { (n : ℕ) → n ≤ vec_capacity slots.old → n ≤ vec_capacity spare.old
         → (n ≤ vec_capacity slots.new) × (n ≤ vec_capacity spare.new) }

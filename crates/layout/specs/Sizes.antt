@@ -82,6 +82,20 @@ tickets = 32
 abbrev pub request_tickets : ℕ
 request_tickets = 8
 
+-- the words of a cache line; the words of a list of tickets: its head, a link for each, and a line of words that stay 0
+abbrev pub line_words : ℕ
+line_words = 8
+
+abbrev pub list_words : ℕ
+list_words = 41
+
+-- the packets that the rings of the two lanes hold
+abbrev pub request_slots : ℕ
+request_slots = 4
+
+abbrev pub reply_slots : ℕ
+reply_slots = 8
+
 -- the most bytes of a trace
 abbrev pub most_trace_bytes : ℕ
 most_trace_bytes = 67108864

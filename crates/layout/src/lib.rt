@@ -4,7 +4,7 @@
 //! themselves are this project's. Each constant has a word of its own in `specs/Sizes.antt`, which contracts cite.
 #![tactic(auto)]
 
-ghost use Rattle.std.specs.Prelude.{◌≡◌, ℕ, ◌+◌, ◌*◌, ◌^◌};
+ghost use Rattle.std.specs.Prelude.{◌≡◌, ℕ, ◌+◌, ◌*◌, ◌^◌, ◌<◌};
 ghost use Rattle.layout.specs.Sizes as sizes;
 
 /// The bytes of a page.
@@ -70,6 +70,12 @@ pub const TICKETS: u32 = 32;
 /// Those among them that are lent for requests; the others are lent for replies.
 pub const REQUEST_TICKETS: u32 = 8;
 
+/// The words of a cache line, of 64 bits each.
+pub const LINE_WORDS: usize = 8;
+
+/// The words of a list over which blocks come home: its head, a link for each ticket, and a line of words that stay 0.
+pub const LIST_WORDS: usize = 1 + TICKETS as usize + LINE_WORDS;
+
 /// The packets that the ring of a lane of requests holds.
 pub const REQUEST_SLOTS: usize = 4;
 
@@ -86,5 +92,8 @@ pub fn sizes_hang_together()
     ensures dense { sizes.dense + sizes.greatest_object ≡ sizes.segment }
     ensures scan { sizes.scan_room ≡ sizes.message_header + sizes.most_keys * sizes.key_room }
     ensures request { sizes.greatest_request ≡ sizes.message_header + sizes.greatest_key + sizes.greatest_value }
+    ensures shares { sizes.request_tickets < sizes.tickets }
+    ensures fewest { sizes.segment_pages * (sizes.tickets + 2) < sizes.fewest_pages }
+    ensures list { sizes.list_words ≡ 1 + sizes.tickets + sizes.line_words }
     ensures row { sizes.greatest_object ≡ sizes.row_overhead + sizes.greatest_key + sizes.greatest_value }
 {}

@@ -124,12 +124,17 @@ impl LazyIndex {
     /// Puts a row in at the spot of its key, which no other row has. It waits for its place in the order, but where the
     /// table does not take it.
     pub fn insert<K: Keys>(&mut self, keys: &K, spot: Spot, row: u32)
+        // A row whose key is new here.
         requires lazy { IsLazyOf (K.has_row keys.now) (K.key_of keys.now) self.old }
         requires readable { K.has_row keys.now row }
         requires spot { IsSpotFor (K.key_of keys.now row) spot }
         requires absent { (n : ℕ) → Has self.old n → K.key_of keys.now n ≢ K.key_of keys.now row }
+
+        // The index can take it.
         requires number { row < self.old.room }
         requires room { length (rows_in self.old) < self.old.room }
+
+        // The index has it beside the others.
         ensures lazy { IsLazyOf (K.has_row keys.now) (K.key_of keys.now) self.new }
         ensures room { self.new.room ≡ self.old.room }
         ensures rows { AreSame (row ∷ rows_in self.old) (rows_in self.new) }

@@ -11,11 +11,17 @@ use key_index::{KeyIndex, Keys};
 /// Puts one of the rows that wait into the order. False where none waits.
 fn settle_one<K: Keys>(late: &mut Late, order: &mut KeyIndex, keys: &K) -> bool
     requires { CanSettle (K.has_row keys.now) (K.key_of keys.now) order.old late.old }
+
+    // The same rows; the order loses none.
     ensures settled { CanSettle (K.has_row keys.now) (K.key_of keys.now) order.new late.new }
     ensures all { (n : ℕ) → both order.new late.new n ≡ both order.old late.old n }
     ensures more { (n : ℕ) → times n order.old.rows ≤ times n order.new.rows }
+
+    // Both can take as many.
     ensures order_room { order.new.room ≡ order.old.room }
     ensures late_room { late.new.bound ≡ late.old.bound }
+
+    // How many wait then.
     ensures none { result ≡ false → late.new.numbers ≡ [] }
     ensures fewer { result ≡ true → length late.new.numbers + 1 ≡ length late.old.numbers }
 {

@@ -80,7 +80,9 @@ fn lend_all<'f>(
     share: Share,
     blocks: &mut Vec<ForeignBlock<'f>>,
 ) -> Result<(), AllocError>
-    ensures kept { (memory.new.blocks ≡ memory.old.blocks) × (memory.new.segments ≡ memory.old.segments) × (memory.new.list ≡ memory.old.list) }
+    ensures kept { (memory.new.blocks ≡ memory.old.blocks)
+        × (memory.new.segments ≡ memory.old.segments)
+        × (memory.new.list ≡ memory.old.list) }
 {
     for n in 1..33 {
         let Ok(block) = memory.give(500 * n, share) else {
@@ -104,7 +106,9 @@ fn release_half(blocks: &mut Vec<ForeignBlock<'_>>) {
 
 // Lends all blocks, and takes back one half and then the other. False where there is no memory, or a number is not right.
 fn come_home(memory: &mut ShardMemory<'_>, alloc: Global) -> bool
-    ensures kept { (memory.new.blocks ≡ memory.old.blocks) × (memory.new.segments ≡ memory.old.segments) × (memory.new.list ≡ memory.old.list) }
+    ensures kept { (memory.new.blocks ≡ memory.old.blocks)
+        × (memory.new.segments ≡ memory.old.segments)
+        × (memory.new.list ≡ memory.old.list) }
 {
     let mut blocks = Vec::new(alloc);
     if lend_all(memory, Share::Request, &mut blocks).is_err()

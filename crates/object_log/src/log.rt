@@ -15,14 +15,19 @@ const DEAD: u8 = 2;
 /// end now. Its content is zero. An end descriptor follows where it has room. With a `used` of 0 the bytes before do
 /// not matter.
 pub fn append(segment: &mut [u8], used: u32, kind: u8, size: u32) -> u32
+    // An object that has room behind the others.
     requires segment { length segment.old ≡ sizes.segment }
     requires objects { (used ≡ 0) ⊎ IsSegment segment.old used }
     requires kind { 1 ≤ kind }
     requires size { IsSize size }
     requires fits { used + size ≤ sizes.segment }
+
+    // Behind the others stands one more.
     ensures used { result ≡ used + size }
     ensures added { objects segment.new result ≡ objects segment.old used ++ live used kind size ∷ [] }
     ensures segment { IsSegment segment.new result }
+
+    // Its bytes are zero, the others stay.
     ensures content { content_at used size segment.new ≡ replicate (size - sizes.descriptor) 0 }
     ensures below { take used segment.new ≡ take used segment.old }
 {

@@ -56,7 +56,10 @@ impl Source for MemorySource {
     ghost faults = { λ s. s.faults };
 
     fn read(&mut self, into: &mut [u8]) -> Result<usize, Failed>
+        // Calls fail by their number.
         ensures failing { IsErr result ↔ Contains self.old.failing self.old.next_call }
+
+        // What it gives otherwise.
         ensures count { IfOk result (λ count. count ≡ min (min self.old.most (length into.old)) (length self.old.left)) }
         ensures end { IfOk result (λ count. count ≡ 0 → 0 < length into.old → self.new.left ≡ []) }
         ensures into { IfOk result (λ count. into.new ≡ take count self.old.left ++ drop count into.old) }
@@ -64,6 +67,8 @@ impl Source for MemorySource {
           left = drop count self.old.left;
           next_call = number_after self.old.next_call;
         }) }
+
+        // A call that fails takes nothing.
         ensures failed { OnErr result (self.new ≡ record self.old {
           next_call = number_after self.old.next_call;
           faults = number_after self.old.faults;

@@ -71,16 +71,23 @@ fn read_more<S: Source>(
     filled: usize,
     most: usize,
 ) -> Result<usize, ReadStop>
+    // Where the next bytes go.
     requires within { filled ≤ vec_len bytes.old }
     requires bound { vec_len bytes.old ≤ most }
     requires more { filled < most }
     requires small { most < 2 ^ 32 }
+
+    // The bytes before are kept.
     ensures front { take filled bytes.new.items ≡ take filled bytes.old.items }
     ensures stays { filled ≤ vec_len bytes.new }
     ensures bound { vec_len bytes.new ≤ most }
+
+    // What a read gives.
     ensures fits { IfOk result (λ count. filled + count ≤ vec_len bytes.new) }
     ensures next { IfOk result (λ count. Consumes (S.left source.old) (S.left source.new) (take count (drop filled bytes.new.items))) }
     ensures end { IfOk result (λ count. count ≡ 0 → IsAtEnd (S.left source.new)) }
+
+    // Why it gives none.
     ensures none_lost { OnErr result (Keeps (S.left source.old) (S.left source.new)) }
     ensures not_long { result ≢ Err ReadStop.TooLong }
     ensures fault { result ≡ Err ReadStop.Fault → Rose (S.faults source.old) (S.faults source.new) }
@@ -93,10 +100,14 @@ fn read_more<S: Source>(
 // One read into the part of `bytes` from `at` on.
 fn read_at<S: Source>(source: &mut S, bytes: &mut [u8], at: usize) -> Result<usize, Failed>
     requires { at < length bytes.old }
+
+    // What it reads stands behind the others.
     ensures front { take at bytes.new ≡ take at bytes.old }
     ensures fits { IfOk result (λ count. at + count ≤ length bytes.new) }
     ensures next { IfOk result (λ count. Consumes (S.left source.old) (S.left source.new) (take count (drop at bytes.new))) }
     ensures end { IfOk result (λ count. count ≡ 0 → IsAtEnd (S.left source.new)) }
+
+    // A failure takes nothing, and is counted.
     ensures none_lost { OnErr result (Keeps (S.left source.old) (S.left source.new)) }
     ensures failed { OnErr result (Rose (S.faults source.old) (S.faults source.new)) }
     ensures never_falls { S.faults source.old ≤ S.faults source.new }
@@ -107,12 +118,17 @@ fn read_at<S: Source>(source: &mut S, bytes: &mut [u8], at: usize) -> Result<usi
 // Makes room for a read of a piece after the first `filled` bytes, up to `most` bytes in all. The
 // memory doubles; the zeros reach only as far as the next read.
 fn make_room(bytes: &mut Vec<u8>, filled: usize, most: usize) -> Result<(), AllocError>
+    // Where the next bytes go.
     requires within { filled ≤ vec_len bytes.old }
     requires bound { vec_len bytes.old ≤ most }
     requires more { filled < most }
     requires small { most < 2 ^ 32 }
+
+    // The bytes before are kept.
     ensures front { take filled bytes.new.items ≡ take filled bytes.old.items }
     ensures stays { filled ≤ vec_len bytes.new }
+
+    // Behind them is place for more.
     ensures bound { vec_len bytes.new ≤ most }
     ensures room { OnOk result (filled < vec_len bytes.new) }
 {

@@ -100,10 +100,14 @@ fn is_last(rows: &[OwnedRow], put: u32) -> bool
 /// Takes away the row of a key, if there is one, and answers whether there was.
 fn drop_row(rows: &mut Vec<OwnedRow>, key: &[u8]) -> bool
     requires { HasDistinctKeys (map row_in rows.old.items) }
+
+    // No row has the key then.
     ensures found { result ≡ has key.now (map row_in rows.old.items) }
     ensures rows { map row_in rows.new.items ≡ without key.now (map row_in rows.old.items) }
     ensures absent { has key.now (map row_in rows.new.items) ≡ false }
     ensures distinct { HasDistinctKeys (map row_in rows.new.items) }
+
+    // The others stay, in the same memory.
     ensures small { All IsSmall rows.old.items → All IsSmall rows.new.items }
     ensures fewer { vec_len rows.new ≤ vec_len rows.old }
     ensures capacity { vec_capacity rows.new ≡ vec_capacity rows.old }

@@ -76,10 +76,13 @@ impl Range {
 
     /// A piece of `len` bytes, of which the first is the byte `at` of the range. It is apart from every other piece.
     pub fn take(&mut self, at: u32, len: u32) -> Piece
+        // Bytes of the range that no piece has.
         requires some { 0 < len }
         requires inside { at + len ≤ page * self.old.pages }
         requires disjoint { All (Disjoint (extent at len)) self.old.allocated }
         requires few { length self.old.allocated < most_pieces }
+
+        // Which bytes it gives.
         ensures piece { result ≡ record {
           home = self.old.home;
           owner = self.old.owner;
@@ -88,6 +91,8 @@ impl Range {
               (drop at self.old.bytes);
         } }
         ensures extent { extent_of result ≡ extent at len }
+
+        // All pieces lie apart still.
         ensures allocated { self.new ≡ with_allocated self.old (extent at len ∷ self.old.allocated) self.old.bytes }
         ensures blocks { AreDisjoint (page * self.new.pages) self.new.allocated }
     {

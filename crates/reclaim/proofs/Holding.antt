@@ -9,14 +9,14 @@ use Rattle.std.proofs.lemmas.List.Elements.{All-contains}
 use Rattle.layout.specs.Sizes.{page, segment_pages, ArePages}
 use Rattle.layout.specs.Extents.{Extent, extent, Disjoint, IsWithin, AreDisjoint}
 use Rattle.raw_range.specs.Memory.{Lent, extent_of, remove_extent}
-use Rattle.shard_memory.specs.Shards.{Shard, AreApart, ComeBack}
+use Rattle.shard_memory.specs.Shards.{MemoryState, AreApart, ComeBack}
 use Rattle.regions.specs.Segments.{SegmentState, RegionState, segment_at, with_segment, fresh}
 use Rattle.regions.specs.Shapes.{Identity, Slot, identity, slot_of, slots_of, shape, is_held, pieces, pieces_in, guards_of, held_count, free_count}
 use Rattle.cache_model.specs.Row.{Row}
-use Rattle.row_bytes.specs.Rows.{IsRow, row_in}
+use Rattle.row_bytes.specs.Rows.{IsRow, row_in, number_in}
 use Rattle.regions.specs.Contents.{Item, Standing, standing_at}
 use Rattle.regions.specs.declared.place.Place.{Place}
-use Rattle.row_cache.specs.Rows.{Stay, StandsAt, item_at}
+use Rattle.row_cache.specs.Rows.{IsSameRow, Stay, StandsAt}
 use Rattle.compaction.specs.Emptied.{HoldsTheSame}
 use Rattle.reclaim.specs.inside.Consistent.{IsOf, HoldsAll, IsMadeOf, IsConsistent}
 
@@ -37,7 +37,7 @@ further : (p q : Extent) (ps : List Extent) → Contains ps q → Contains (p �
 further p q ps h = (suc h.0, (let inside = h.1 in omega arith), h.2)
 
 -- a segment that was just given begins where no other one does
-module _ (old new : Shard) (given : Extent) (apart : AreApart new) (segments : new.segments ≡ given ∷ old.segments) where
+module _ (old new : MemoryState) (given : Extent) (apart : AreApart new) (segments : new.segments ≡ given ∷ old.segments) where
   pub still-contained : (p : Extent) → Contains old.segments p → Contains new.segments p
   still-contained p h = subst (λ xs. Contains xs p) (sym segments) (further given p old.segments h)
 
@@ -50,7 +50,7 @@ module _ (old new : Shard) (given : Extent) (apart : AreApart new) (segments : n
       elim two [ inl before ↦ omega (arith, before, same, here.0) | inr behind ↦ omega (arith, behind, same, within.0) ]
 
 -- the region has it besides
-module _ (old new : Shard) (piece : Lent) (home : (piece.home ≡ old.home) × (new.home ≡ old.home)) (apart : AreApart new) (segments : new.segments ≡ extent_of piece ∷ old.segments)
+module _ (old new : MemoryState) (piece : Lent) (home : (piece.home ≡ old.home) × (new.home ≡ old.home)) (apart : AreApart new) (segments : new.segments ≡ extent_of piece ∷ old.segments)
     (r : RegionState) (n : ℕ) (h : HoldsAll old r) where
   abbrev next : RegionState
   next = with_segment r n (Some (fresh piece))
@@ -85,14 +85,14 @@ module _ (old new : Shard) (piece : Lent) (home : (piece.home ≡ old.home) × (
   }
 
 -- the pieces are as they were
-pub holds-kept : (memory : Shard) (old new : RegionState) → pieces new ≡ pieces old → held_count new ≡ held_count old → HoldsAll memory old → HoldsAll memory new
+pub holds-kept : (memory : MemoryState) (old new : RegionState) → pieces new ≡ pieces old → held_count new ≡ held_count old → HoldsAll memory old → HoldsAll memory new
 holds-kept memory old new same held h = record {
   of = λ n q e. h.of n q (ap (λ ps. slice_get ps n) (sym same) ∙ e);
   apart = λ m n a b f g. h.apart m n a b (ap (λ ps. slice_get ps m) (sym same) ∙ f) (ap (λ ps. slice_get ps n) (sym same) ∙ g);
   count = held ∙ h.count;
 }
 
-pub made-kept : (shard pages standing : ℕ) (memory : Shard) (old new : RegionState) → pieces new ≡ pieces old → held_count new ≡ held_count old → (shape new).most ≡ (shape old).most → guards_of new ≡ guards_of old
+pub made-kept : (shard pages standing : ℕ) (memory : MemoryState) (old new : RegionState) → pieces new ≡ pieces old → held_count new ≡ held_count old → (shape new).most ≡ (shape old).most → guards_of new ≡ guards_of old
     → IsMadeOf shard pages standing memory old → IsMadeOf shard pages standing memory new
 made-kept shard pages standing memory old new same held most guards h = record {
   owner = h.owner;
@@ -105,7 +105,7 @@ made-kept shard pages standing memory old new same held most guards h = record {
 }
 
 -- the memory has the same pieces
-pub consistent-same : (shard pages standing : ℕ) (old new : Shard) (region : RegionState) → new.home ≡ old.home → new.owner ≡ old.owner → new.pages ≡ old.pages → new.blocks ≡ old.blocks → new.segments ≡ old.segments
+pub consistent-same : (shard pages standing : ℕ) (old new : MemoryState) (region : RegionState) → new.home ≡ old.home → new.owner ≡ old.owner → new.pages ≡ old.pages → new.blocks ≡ old.blocks → new.segments ≡ old.segments
     → IsConsistent shard pages standing old region → IsConsistent shard pages standing new region
 consistent-same shard pages standing old new region home owner size blocks segments h =
     let m = h.made in
@@ -127,16 +127,16 @@ consistent-same shard pages standing old new region home owner size blocks segme
       free = h.free;
     }
 
-pub consistent-came : (shard pages standing : ℕ) (old new : Shard) (count : ℕ) (region : RegionState) → ComeBack old new count → IsConsistent shard pages standing old region → IsConsistent shard pages standing new region
+pub consistent-came : (shard pages standing : ℕ) (old new : MemoryState) (count : ℕ) (region : RegionState) → ComeBack old new count → IsConsistent shard pages standing old region → IsConsistent shard pages standing new region
 consistent-came shard pages standing old new count region c h =
-    consistent-same shard pages standing old new region (ap (λ (s : Shard). s.home) c.same) (ap (λ (s : Shard). s.owner) c.same) (ap (λ (s : Shard). s.pages) c.same) (ap (λ (s : Shard). s.blocks) c.same) (ap (λ (s : Shard). s.segments) c.same) h
+    consistent-same shard pages standing old new region (ap (λ (s : MemoryState). s.home) c.same) (ap (λ (s : MemoryState). s.owner) c.same) (ap (λ (s : MemoryState). s.pages) c.same) (ap (λ (s : MemoryState). s.blocks) c.same) (ap (λ (s : MemoryState). s.segments) c.same) h
 
-pub consistent-trimmed : (shard pages standing : ℕ) (old new : Shard) (region : RegionState) → new ≡ record old { pages_out = new.pages_out; room = new.room } → IsConsistent shard pages standing old region → IsConsistent shard pages standing new region
+pub consistent-trimmed : (shard pages standing : ℕ) (old new : MemoryState) (region : RegionState) → new ≡ record old { pages_out = new.pages_out; room = new.room } → IsConsistent shard pages standing old region → IsConsistent shard pages standing new region
 consistent-trimmed shard pages standing old new region same h =
-    consistent-same shard pages standing old new region (ap (λ (s : Shard). s.home) same) (ap (λ (s : Shard). s.owner) same) (ap (λ (s : Shard). s.pages) same) (ap (λ (s : Shard). s.blocks) same) (ap (λ (s : Shard). s.segments) same) h
+    consistent-same shard pages standing old new region (ap (λ (s : MemoryState). s.home) same) (ap (λ (s : MemoryState). s.owner) same) (ap (λ (s : MemoryState). s.pages) same) (ap (λ (s : MemoryState). s.blocks) same) (ap (λ (s : MemoryState). s.segments) same) h
 
 -- another region holds the same
-pub consistent-held : (shard pages standing : ℕ) (memory : Shard) (old new : RegionState) → HoldsTheSame old new → 1 ≤ free_count new → IsConsistent shard pages standing memory old → IsConsistent shard pages standing memory new
+pub consistent-held : (shard pages standing : ℕ) (memory : MemoryState) (old new : RegionState) → HoldsTheSame old new → 1 ≤ free_count new → IsConsistent shard pages standing memory old → IsConsistent shard pages standing memory new
 consistent-held shard pages standing memory old new holds free h = record {
   made = made-kept shard pages standing memory old new holds.pieces holds.held holds.most holds.guards h.made;
   active = holds.active h.active;
@@ -144,7 +144,7 @@ consistent-held shard pages standing memory old new holds free h = record {
 }
 
 -- what holds for some owner, pages and guards holds for those that there are
-pub consistent-own : (shard pages standing : ℕ) (memory : Shard) (region : RegionState) → IsConsistent shard pages standing memory region → IsConsistent memory.owner memory.pages (guards_of region) memory region
+pub consistent-own : (shard pages standing : ℕ) (memory : MemoryState) (region : RegionState) → IsConsistent shard pages standing memory region → IsConsistent memory.owner memory.pages (guards_of region) memory region
 consistent-own shard pages standing memory region h =
     let m = h.made in
     record {
@@ -158,11 +158,16 @@ item-of : (o : Option Standing) (item : Item) → option_map (λ (s : Standing).
 item-of None item e = absurd (let clash : None ≡ Some item = e in cc)
 item-of (Some s) item e = (s, refl, (let some : Some s.item ≡ Some item = e in cc))
 
+row-of : (item now : Item) (row : Row) → (now ≡ item) ⊎ IsSameRow item now → IsRow item.content → row_in item.content ≡ row → IsRow now.content × (row_in now.content ≡ row)
+row-of item now row (inl same) is read = (subst (λ (i : Item). IsRow i.content) (sym same) is, ap (λ (i : Item). row_in i.content) same ∙ read)
+row-of item now row (inr same) is read = ((number_in item.content, row_in item.content, same.is), same.row ∙ read)
+
 pub rows-stay : (old new : RegionState) → Stay old new → (p : Place) (row : Row) → StandsAt old p row → StandsAt new p row
 rows-stay old new stay p row h =
-    let there : item_at new p ≡ Some h.0.item = stay p h.0.item (ap (option_map (λ (s : Standing). s.item)) h.1) in
-    let found = item-of (standing_at new p) h.0.item there in
-    (found.0, found.1, subst (λ (i : Item). IsRow i.content) (sym found.2) h.2, ap (λ (i : Item). row_in i.content) found.2 ∙ h.3)
+    let there = stay p h.0.item (ap (option_map (λ (s : Standing). s.item)) h.1) in
+    let found = item-of (standing_at new p) there.0 there.1 in
+    let is = row-of h.0.item there.0 row there.2 h.2 h.3 in
+    (found.0, found.1, subst (λ (i : Item). IsRow i.content) (sym found.2) is.0, ap (λ (i : Item). row_in i.content) found.2 ∙ is.1)
 
 -- a free segment that is taken out
 piece-in : (segments : List (Option SegmentState)) (n : ℕ) (piece : Lent) → slice_index_or segments n None ≡ Some (fresh piece) → slice_get (pieces_in (slots_of segments)) n ≡ Some (Some (identity piece))
@@ -199,7 +204,7 @@ none-counted p (suc k) off =
     let step = sum_by-cons (λ s. cond (p s) 1 0) None (nothing k) in let rest = none-counted p k off in
     let here = ap (λ (b : Bool). let n : ℕ = cond b 1 0 in n) off in omega (arith, step, rest, here)
 
-pub holds-none : (memory : Shard) (k : ℕ) (region : RegionState) → memory.segments ≡ [] → region.segments ≡ replicate k None → HoldsAll memory region
+pub holds-none : (memory : MemoryState) (k : ℕ) (region : RegionState) → memory.segments ≡ [] → region.segments ≡ replicate k None → HoldsAll memory region
 holds-none memory k region segments none = record {
   of = λ n q e. absurd (no-piece k n q (ap (λ xs. slice_get (pieces_in (slots_of xs)) n) (sym none) ∙ e));
   apart = λ m n a b e f same. absurd (no-piece k n b (ap (λ xs. slice_get (pieces_in (slots_of xs)) n) (sym none) ∙ f));
@@ -215,7 +220,7 @@ kept-at test q (p ∷ ps) (suc k) inside at is =
     elim (test p) as (λ b. Contains (cond b (p ∷ filter test ps) (filter test ps)) q) [ true ↦ further p q (filter test ps) rest | false ↦ rest ]
 
 -- a segment was given back
-module _ (old new : Shard) (home : new.home ≡ old.home) (piece : Lent) (segments : new.segments ≡ remove_extent (extent_of piece) old.segments) (one-less : length new.segments + 1 ≡ length old.segments)
+module _ (old new : MemoryState) (home : new.home ≡ old.home) (piece : Lent) (segments : new.segments ≡ remove_extent (extent_of piece) old.segments) (one-less : length new.segments + 1 ≡ length old.segments)
     (r next : RegionState) (n : ℕ) (there : slice_get (pieces r) n ≡ Some (Some (identity piece))) (without : pieces next ≡ slice_set (pieces r) n None) (held : held_count next + 1 ≡ held_count r) (h : HoldsAll old r) where
   held-still : (m : ℕ) (q : Identity) → slice_get (pieces next) m ≡ Some (Some q) → (m ≢ n) × (slice_get (pieces r) m ≡ Some (Some q))
   held-still m q e =

@@ -1,10 +1,11 @@
 -- Blocks that come home, one call after another.
 use Rattle.std.proofs.Common.{◌≡◌, inl, inr, ℕ, suc, ◌+◌, ◌<◌, ◌≤◌, ◌^◌, true, false, cond, List, [], ◌∷◌, length, refl, sym, ap, ◌∙◌, subst, arith}
 use Rattle.std.specs.Prelude.{Option, None, Some, slice_get, slice_set, is_some, All, IsNone, IfSome, IfNone, Result, Ok, Err, IfOk}
+use Rattle.std.proofs.lemmas.Bool.{cases_order}
 use Rattle.std.proofs.lemmas.List.Sums.{sum_by-cons}
 use Rattle.foreign_list.specs.declared.piece_id.PieceId.{PieceId}
 use Rattle.foreign_list.specs.Blocks.{Block}
-use Rattle.shard_memory.specs.Shards.{Shard, ComeBack}
+use Rattle.shard_memory.specs.Shards.{MemoryState, ComeBack}
 use Rattle.layout.specs.Counts.{raised}
 use Rattle.shard_memory.specs.Tickets.{Tickets, HasIdle, BecomeIdle, tickets_out}
 use Rattle.shard_memory.specs.declared.share.Share.{Share}
@@ -31,10 +32,10 @@ raised-both n a b = grind arith
 pub idle-stays : (old new : Tickets) (share : Share) → BecomeIdle old new → HasIdle old share → HasIdle new share
 idle-stays old new share become has = (has.0, has.1, elim (become has.0) [ inl same ↦ same ∙ has.2 | inr idle ↦ idle ])
 
-pub takes-none : (m : Shard) → m.backs < 2 ^ 64 → TakesHome m m
-takes-none m small = record { owner = refl; pages = refl; list = refl; home = record { count = 0; idle = λ t. inl refl; out = omega arith; backs = raised-none m.backs small }; lends = refl }
+pub takes-none : (m : MemoryState) → m.backs < 2 ^ 64 → TakesHome m m
+takes-none m small = record { owner = refl; pages = refl; list = refl; home = record { count = 0; idle = λ t. inl refl; out = omega arith; backs = raised-none m.backs small }; lends = refl; looks = omega arith }
 
-pub takes-both : (a b c : Shard) → TakesHome a b → TakesHome b c → TakesHome a c
+pub takes-both : (a b c : MemoryState) → TakesHome a b → TakesHome b c → TakesHome a c
 takes-both a b c first second = record {
   owner = second.owner ∙ first.owner;
   pages = second.pages ∙ first.pages;
@@ -46,9 +47,10 @@ takes-both a b c first second = record {
     backs = second.home.backs ∙ ap (λ n. raised n second.home.count) first.home.backs ∙ raised-both a.backs first.home.count second.home.count;
   };
   lends = second.lends ∙ first.lends;
+  looks = let f = first.looks in let s = second.looks in omega (arith, f, s);
 }
 
-pub takes-same : (a b c : Shard) → TakesHome a b → SameTickets b c → TakesHome a c
+pub takes-same : (a b c : MemoryState) → TakesHome a b → SameTickets b c → TakesHome a c
 takes-same a b c takes same = record {
   owner = same.owner ∙ takes.owner;
   pages = same.pages ∙ takes.pages;
@@ -60,15 +62,21 @@ takes-same a b c takes same = record {
     backs = same.backs ∙ takes.home.backs;
   };
   lends = same.lends ∙ takes.lends;
+  looks = let t = takes.looks in let s = same.looks in omega (arith, t, s);
 }
 
-pub came-back : (old new : Shard) (count : ℕ) → ComeBack old new count → TakesHome old new
+pub came-back : (old new : MemoryState) (count : ℕ) → ComeBack old new count → TakesHome old new
 came-back old new count c = record {
-  owner = ap (λ (m : Shard). m.owner) c.same;
-  pages = ap (λ (m : Shard). m.pages) c.same;
-  list = ap (λ (m : Shard). m.list) c.same;
+  owner = ap (λ (m : MemoryState). m.owner) c.same;
+  pages = ap (λ (m : MemoryState). m.pages) c.same;
+  list = ap (λ (m : MemoryState). m.list) c.same;
   home = record { count = count; idle = c.idle; out = c.out; backs = c.backs };
-  lends = ap (λ (m : Shard). m.lends) c.same;
+  lends = ap (λ (m : MemoryState). m.lends) c.same;
+  looks = elim (cases_order 0 (tickets_out old.lent)) [
+    | inl none ↦ (let e = c.not_taken (sym none) in omega (arith, e))
+    | inr (inl some) ↦ (let e = c.take_wholes some in omega (arith, e))
+    | inr (inr fell) ↦ absurd (omega (arith, fell))
+  ];
 }
 
 -- no more tickets are out than there are
@@ -77,7 +85,7 @@ out-bound [] = omega arith
 out-bound (None ∷ lent) = let rest = out-bound lent in let step = sum_by-cons (λ (t : Option PieceId). cond (is_some t) 1 0) None lent in omega (arith, rest, step)
 out-bound (Some p ∷ lent) = let rest = out-bound lent in let step = sum_by-cons (λ (t : Option PieceId). cond (is_some t) 1 0) (Some p) lent in omega (arith, rest, step)
 
-pub same-takes : (a b c : Shard) → SameTickets a b → TakesHome b c → TakesHome a c
+pub same-takes : (a b c : MemoryState) → SameTickets a b → TakesHome b c → TakesHome a c
 same-takes a b c same takes = record {
   owner = takes.owner ∙ same.owner;
   pages = takes.pages ∙ same.pages;
@@ -89,24 +97,26 @@ same-takes a b c same takes = record {
     backs = takes.home.backs ∙ ap (λ n. raised n takes.home.count) same.backs;
   };
   lends = takes.lends ∙ same.lends;
+  looks = let t = takes.looks in let s = same.looks in omega (arith, t, s);
 }
 
 -- `trim` lends nothing and takes nothing home
-pub trimmed-same : (old new : Shard) → new ≡ record old { pages_out = new.pages_out; room = new.room } → SameTickets old new
+pub trimmed-same : (old new : MemoryState) → new ≡ record old { pages_out = new.pages_out; room = new.room } → SameTickets old new
 trimmed-same old new same = record {
-  owner = ap (λ (m : Shard). m.owner) same;
-  pages = ap (λ (m : Shard). m.pages) same;
-  list = ap (λ (m : Shard). m.list) same;
-  lent = ap (λ (m : Shard). m.lent) same;
-  lends = ap (λ (m : Shard). m.lends) same;
-  backs = ap (λ (m : Shard). m.backs) same;
+  owner = ap (λ (m : MemoryState). m.owner) same;
+  pages = ap (λ (m : MemoryState). m.pages) same;
+  list = ap (λ (m : MemoryState). m.list) same;
+  lent = ap (λ (m : MemoryState). m.lent) same;
+  lends = ap (λ (m : MemoryState). m.lends) same;
+  backs = ap (λ (m : MemoryState). m.backs) same;
+  looks = ap (λ (m : MemoryState). m.take_wholes) same;
 }
 
 -- the block is given once more had come home
-pub after-home : (share : Share) (size : ℕ) (a b c : Shard) (block : Block) → TakesHome a b → GivesAfter share size b c block → GivesAfter share size a c block
+pub after-home : (share : Share) (size : ℕ) (a b c : MemoryState) (block : Block) → TakesHome a b → GivesAfter share size b c block → GivesAfter share size a c block
 after-home share size a b c block takes given = record { before = given.before; came = takes-both a b given.before takes given.came; gives = given.gives }
 
-pub after-same : (share : Share) (size : ℕ) (a b c : Shard) (block : Block) → SameTickets a b → GivesAfter share size b c block → GivesAfter share size a c block
+pub after-same : (share : Share) (size : ℕ) (a b c : MemoryState) (block : Block) → SameTickets a b → GivesAfter share size b c block → GivesAfter share size a c block
 after-same share size a b c block same given = record { before = given.before; came = same-takes a b given.before same given.came; gives = given.gives }
 
 -- no ticket is out where all are idle
@@ -133,10 +143,10 @@ if-none P Q (Some a) f h = h
 raised-small : (n by : ℕ) → raised n by < 2 ^ 64
 raised-small n by = grind arith
 
-pub takes-back : (a b : Shard) (old new : CacheState) → TakesHome a b → TakesBack (space_of a old) (space_of b new)
-takes-back a b old new takes = record { home = takes.home; lends = takes.lends }
+pub takes-back : (a b : MemoryState) (old new : CacheState) → TakesHome a b → TakesBack (space_of a old) (space_of b new)
+takes-back a b old new takes = record { home = takes.home; lends = takes.lends; looks = takes.looks }
 
-pub lends-block : (share : Share) (size : ℕ) (a b : Shard) (old new : CacheState) (block : Block) → GivesAfter share size a b block → LendsBlock share (space_of a old) (space_of b new) block
+pub lends-block : (share : Share) (size : ℕ) (a b : MemoryState) (old new : CacheState) (block : Block) → GivesAfter share size a b block → LendsBlock share (space_of a old) (space_of b new) block
 lends-block share size a b old new block given =
     let c = given.came in let g = given.gives in
     let small : given.before.backs < 2 ^ 64 = subst (λ n. n < 2 ^ 64) (sym c.home.backs) (raised-small a.backs c.home.count) in
@@ -148,6 +158,7 @@ lends-block share size a b old new block given =
       idle = g.idle;
       behind = record { count = 0; idle = λ t. inl (ap (λ (l : Tickets). slice_get l t) g.lent); out = let same = ap tickets_out g.lent in omega (arith, same); backs = g.backs ∙ raised-none given.before.backs small };
       lends = g.lends ∙ ap (λ n. raised n 1) c.lends;
+      looks = let before = c.looks in let same = g.looks in omega (arith, before, same);
       list = g.of_list ∙ ap (λ (l : OwnedList). l.id) c.list;
       owner = g.mine ∙ c.owner;
       fresh = g.fresh;
@@ -164,6 +175,7 @@ lends-written share old new block bytes same h = record {
   idle = h.idle;
   behind = subst (λ (n : ℕ). ComeHome (slice_set h.before block.ticket (Some (record { range = block.piece.home; owner = block.piece.owner; at = block.piece.at; len = n }))) new.lent h.backs new.backs) (sym same) h.behind;
   lends = h.lends;
+  looks = h.looks;
   list = h.list;
   owner = h.owner;
   fresh = h.fresh;

@@ -3,14 +3,14 @@ use Rattle.std.proofs.Common.{◌≡◌, ℕ, ◌+◌, ◌-◌, ◌*◌, ◌/◌
 use Rattle.layout.specs.Sizes.{dense, segment_pages, ArePages, tickets}
 use Rattle.regions.specs.Segments.{RegionState}
 use Rattle.regions.specs.Shapes.{held_count}
-use Rattle.shard_memory.specs.Shards.{Shard, IsCrowded}
+use Rattle.shard_memory.specs.Shards.{MemoryState, IsCrowded}
 use Rattle.shard_memory.specs.Tickets.{tickets_out}
 use Rattle.reclaim.specs.Works.{floor_of, pressure}
 use Rattle.reclaim.specs.inside.Consistent.{IsMadeOf}
 use Rattle.reclaim.specs.inside.Homecoming.{TakesHome}
 use Rattle.reclaim.proofs.Homecoming.{out-bound}
 
--- of so many pages, `segments` are segments, and the others of at least 32 each hold a lent block
+-- of so many pages, `segments` are segments, and the others of at least a segment each hold a lent block
 above : (pages segments out out_now live : ℕ) → ArePages pages → pages / segment_pages ≤ segments + out_now → out_now ≤ out → out ≤ tickets
     → (segments - 2) * (dense + 1) ≤ live → (pages / segment_pages - 2 - out) * dense < live
 above pages segments out out_now live are crowded fewer few most =
@@ -21,7 +21,7 @@ above-dense : (pages segments out out_now live : ℕ) → ArePages pages → pag
 above-dense pages segments out out_now live are crowded fewer few most =
     let least : 40 ≤ pages / segment_pages = omega (arith, are.0) in omega (arith, least, crowded, fewer, few, most)
 
-module _ (shard pages standing : ℕ) (old new : Shard) (region : RegionState) (live : ℕ) (made : IsMadeOf shard pages standing new region) (takes : TakesHome old new)
+module _ (shard pages standing : ℕ) (old new : MemoryState) (region : RegionState) (live : ℕ) (made : IsMadeOf shard pages standing new region) (takes : TakesHome old new)
     (crowded : IsCrowded new) (count : length old.lent ≡ tickets) where
   are : ArePages old.pages
   are = subst ArePages (sym made.size ∙ takes.pages) made.are_pages
@@ -43,12 +43,12 @@ module _ (shard pages standing : ℕ) (old new : Shard) (region : RegionState) (
   put-pressed most = above-dense old.pages (held_count region) (tickets_out old.lent) (tickets_out new.lent) live are filled fewer few most
 
 -- the bounds are no higher where more tickets are out
-pub floor-kept : (old new : Shard) (live : ℕ) → TakesHome old new → floor_of new.pages new.lent < live → floor_of old.pages old.lent < live
+pub floor-kept : (old new : MemoryState) (live : ℕ) → TakesHome old new → floor_of new.pages new.lent < live → floor_of old.pages old.lent < live
 floor-kept old new live takes more =
     let same = ap (λ k. k / segment_pages) takes.pages in let out = takes.home.out in
     let here : (new.pages / segment_pages - 2 - tickets_out new.lent) * dense < live = more in omega (arith, same, out, here)
 
-pub pressure-kept : (old new : Shard) (live : ℕ) → TakesHome old new → pressure new.pages new.lent < live → pressure old.pages old.lent < live
+pub pressure-kept : (old new : MemoryState) (live : ℕ) → TakesHome old new → pressure new.pages new.lent < live → pressure old.pages old.lent < live
 pressure-kept old new live takes more =
     let same = ap (λ k. k / segment_pages) takes.pages in let out = takes.home.out in
     let here : (new.pages / segment_pages - 2 - tickets_out new.lent) * dense + dense < live = more in omega (arith, same, out, here)

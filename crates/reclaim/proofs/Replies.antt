@@ -16,7 +16,7 @@ use Rattle.cache_model.specs.Evictions.{Evicts}
 use Rattle.cache_model.specs.Spelled.{spelled}
 use Rattle.foreign_list.specs.declared.piece_id.PieceId.{PieceId}
 use Rattle.run_log.specs.JournalState.{JournalState}
-use Rattle.shard_memory.specs.Shards.{Shard}
+use Rattle.shard_memory.specs.Shards.{MemoryState}
 use Rattle.shard_memory.specs.Tickets.{Tickets, tickets_out}
 use Rattle.shard_memory.specs.declared.share.Share.{Share}
 use Rattle.shard_rings.specs.Reply.{HoldsReply, IsSendable, key_count}
@@ -140,7 +140,7 @@ out-set (x ∷ lent) (suc t) p =
     let old = sum_by-cons (λ (o : Option PieceId). cond (is_some o) 1 0) x lent in let new = sum_by-cons (λ (o : Option PieceId). cond (is_some o) 1 0) x (slice_set lent t p) in
     let rest = out-set lent t p in omega (arith, old, new, rest)
 
-pub floor-below : (share : Share) (size : ℕ) (old mid : Shard) (block : Block) → GivesAfter share size old mid block → ArePages old.pages → length old.lent ≡ tickets
+pub floor-below : (share : Share) (size : ℕ) (old mid : MemoryState) (block : Block) → GivesAfter share size old mid block → ArePages old.pages → length old.lent ≡ tickets
     → floor_of old.pages old.lent ≤ pressure mid.pages mid.lent
 floor-below share size old mid block given are count =
     let g = given.gives in let pages = g.pages ∙ given.came.pages in let few = out-bound old.lent in let came = given.came.home.out in

@@ -27,6 +27,7 @@ pub record ComeHome (lent now : Tickets) (counted counted_now : ℕ) : Type 0 wh
 pub record TakesBack (old new : SpaceState) : Type 0 where
   pub home : ComeHome old.lent new.lent old.backs new.backs
   pub lends : new.lends ≡ old.lends
+  pub looks : old.looks ≤ new.looks
 
 -- where a block was out, the list was looked at once
 abbrev pub LooksOnce : SpaceState → SpaceState → Type 0
@@ -42,6 +43,7 @@ pub record LendsBlock (share : Share) (old new : SpaceState) (block : Block) : T
   pub idle : IsIdle before block.ticket
   pub behind : ComeHome (slice_set before block.ticket (Some (piece_id_of block.piece))) new.lent backs new.backs
   pub lends : new.lends ≡ raised old.lends 1
+  pub looks : old.looks ≤ new.looks
   pub list : block.list ≡ old.list.id
   pub owner : block.piece.owner ≡ old.shard
   pub fresh : block.seen ≡ 0

@@ -13,7 +13,7 @@ use Rattle.shard_memory.specs.Tickets.{Tickets}
 pub record SpaceState : Type 0 where
   -- the number of the shard
   pub shard : ℕ
-  -- its pages, of 4,096 bytes
+  -- its pages
   pub pages : ℕ
   -- how many rows have room in the tables
   pub room : ℕ

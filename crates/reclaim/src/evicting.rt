@@ -5,7 +5,7 @@ ghost use Rattle.layout.specs.Sizes.{greatest_object};
 ghost use Rattle.cache_model.specs.declared.entry.Entry.{Entry as Entries};
 ghost use Rattle.cache_model.specs.Row.{live};
 ghost use Rattle.cache_model.specs.Legal.{is_of_put};
-ghost use Rattle.shard_memory.specs.Shards.{Shard};
+ghost use Rattle.shard_memory.specs.Shards.{MemoryState};
 ghost use Rattle.regions.specs.Counts.{left};
 ghost use Rattle.row_cache.specs.Rows.{rows_of};
 ghost use Rattle.reclaim.specs.Works.{Records, pressure};
@@ -21,20 +21,27 @@ use shard_memory::ShardMemory;
 
 // Makes room for an object of so many bytes in the active segment. Where there is none otherwise, the rows that were used
 // longest ago go, one by one.
-pub(crate) fn find_room(
+pub(crate) fn make_room_evicting(
     memory: &mut ShardMemory<'_>,
     cache: &mut RowCache,
     size: u32,
     journal: &mut Journal,
 )
+    // Unguarded, with an entry for each row.
     requires size { size ≤ greatest_object }
     requires consistent { IsConsistent memory.old.owner memory.old.pages 0 memory.old cache.old.region }
     requires spare { length (rows_of cache.old) ≤ journal.old.spare }
+
+    // The active segment has so much left.
     ensures room { size ≤ left cache.new.region }
+
+    // Which rows went, and what was written down.
     ensures evicted { HasEvicted (pressure memory.old.pages memory.old.lent) (rows_of cache.old)
         (rows_of cache.new) journal.old journal.new }
     ensures spare { journal.new.spare + length (rows_of cache.old) ≡ journal.old.spare + length (rows_of cache.new) }
     ensures fewer { (rows_of cache.new ≡ rows_of cache.old) ⊎ (length (rows_of cache.new) < cache.new.room) }
+
+    // Memory and cache go together, nothing was lent.
     ensures consistent { IsConsistent memory.old.owner memory.old.pages 0 memory.new cache.new.region }
     ensures taken { TakesHome memory.old memory.new }
     ensures tables { cache.new.room ≡ cache.old.room }
@@ -55,7 +62,7 @@ pub(crate) fn evict(cache: &mut RowCache, journal: &mut Journal)
         × Records journal.old journal.new (Entries.Evicted put ∷ []) }
     ensures rows { rows_of cache.new ≡ take (length (rows_of cache.old) - 1) (rows_of cache.old) }
     ensures one_less { length (rows_of cache.new) + 1 ≡ length (rows_of cache.old) }
-    ensures consistent { (shard pages guards : ℕ) (memory : Shard) → IsConsistent shard pages guards memory cache.old.region
+    ensures consistent { (shard pages guards : ℕ) (memory : MemoryState) → IsConsistent shard pages guards memory cache.old.region
         → IsConsistent shard pages guards memory cache.new.region }
     ensures tables { cache.new.room ≡ cache.old.room }
 {

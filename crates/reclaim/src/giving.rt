@@ -3,7 +3,7 @@ ghost use Rattle.std.specs.Prelude.{◌≡◌, ◌≢◌, ℕ, ◌+◌, ◌<◌,
 ghost use Rattle.layout.specs.Sizes.{greatest_block};
 ghost use Rattle.cache_model.specs.Row.{live};
 ghost use Rattle.shard_memory.specs.Room.{LacksBlock, HasAllRoom, IsTrimmed};
-ghost use Rattle.shard_memory.specs.Shards.{Shard, IsCrowded};
+ghost use Rattle.shard_memory.specs.Shards.{MemoryState, IsCrowded};
 ghost use Rattle.shard_memory.specs.Tickets.{HasIdle};
 ghost use Rattle.shard_memory.specs.Refusals.{RefusesFor};
 ghost use Rattle.regions.specs.Segments.{RegionState};
@@ -35,41 +35,59 @@ pub(crate) fn find_block<'f>(
     share: Share,
     journal: &mut Journal,
 ) -> ForeignBlock<'f>
+    // A block that may be lent.
     requires some { 1 ≤ size }
     requires most { size ≤ greatest_block }
     requires idle { HasIdle memory.old.lent share }
+
+    // Unguarded, with an entry for each row.
     requires consistent { IsConsistent memory.old.owner memory.old.pages 0 memory.old cache.old.region }
     requires spare { length (rows_of cache.old) ≤ journal.old.spare }
+
+    // A block is lent, others may come home.
     ensures given { GivesAfter share size memory.old memory.new result }
+
+    // Which rows went, and what was written down.
     ensures evicted { HasEvicted (floor_of memory.old.pages memory.old.lent) (rows_of cache.old)
         (rows_of cache.new) journal.old journal.new }
     ensures spare { journal.new.spare + length (rows_of cache.old) ≡ journal.old.spare + length (rows_of cache.new) }
+
+    // Memory and cache go together still.
     ensures consistent { IsConsistent memory.old.owner memory.old.pages 0 memory.new cache.new.region }
     ensures tables { cache.new.room ≡ cache.old.room }
 {
     evictions_are_counted();
-    let mut found = find_room_for(memory, cache, size, share);
+    let mut found = give_unevicted(memory, cache, size, share);
     while found.is_none() {
         evict(cache, journal);
-        found = find_room_for(memory, cache, size, share);
+        found = give_unevicted(memory, cache, size, share);
     }
     found.unwrap()
 }
 
 // Gives a block without an eviction. None where nothing is left but to evict.
-fn find_room_for<'f>(
+fn give_unevicted<'f>(
     memory: &mut ShardMemory<'f>,
     cache: &mut RowCache,
     size: u32,
     share: Share,
 ) -> Option<ForeignBlock<'f>>
+    // A block that may be lent.
     requires some { 1 ≤ size }
     requires most { size ≤ greatest_block }
     requires idle { HasIdle memory.old.lent share }
+
+    // No guard stands.
     requires consistent { IsConsistent memory.old.owner memory.old.pages 0 memory.old cache.old.region }
+
+    // A block is lent, others may come home.
     ensures given { IfSome result (GivesAfter share size memory.old memory.new) }
+
+    // Else more is live than the floor.
     ensures taken { IfNone result (TakesHome memory.old memory.new) }
     ensures pressed { IfNone result (floor_of memory.old.pages memory.old.lent < live (rows_of cache.new)) }
+
+    // No row went, whatever moved.
     ensures consistent { IsConsistent memory.old.owner memory.old.pages 0 memory.new cache.new.region }
     ensures rows { rows_of cache.new ≡ rows_of cache.old }
     ensures tables { cache.new.room ≡ cache.old.room }
@@ -93,13 +111,22 @@ fn give_compacted<'f>(
     size: u32,
     share: Share,
 ) -> Option<ForeignBlock<'f>>
+    // A block that may be lent.
     requires some { 1 ≤ size }
     requires most { size ≤ greatest_block }
     requires idle { HasIdle memory.old.lent share }
+
+    // No guard stands.
     requires consistent { IsConsistent memory.old.owner memory.old.pages 0 memory.old cache.old.region }
+
+    // A block is lent, others may come home.
     ensures given { IfSome result (GivesAfter share size memory.old memory.new) }
+
+    // Else nothing is left to compact.
     ensures unchanged { IfNone result (memory.new ≡ memory.old) }
     ensures compacted { IfNone result (IsCompacted cache.new.region) }
+
+    // No row went, whatever moved.
     ensures consistent { IsConsistent memory.old.owner memory.old.pages 0 memory.new cache.new.region }
     ensures rows { rows_of cache.new ≡ rows_of cache.old }
     ensures tables { cache.new.room ≡ cache.old.room }
@@ -118,17 +145,26 @@ pub(crate) fn give_now<'f>(
     size: u32,
     share: Share,
 ) -> Result<ForeignBlock<'f>, GiveRefusal>
+    // Of any size, guarded or not.
     requires some { 1 ≤ size }
     requires whole { IsWhole memory.old cache.old }
+
+    // No row moves or goes.
     ensures same { IsSameSpace (space_of memory.old cache.old) (space_of memory.new cache.new) }
     ensures rows { rows_of cache.new ≡ rows_of cache.old }
     ensures stay { RowsStay (space_of memory.old cache.old) (space_of memory.new cache.new) }
+
+    // Why none is given.
     ensures refused { IfErr result (RefusesNow (space_of memory.old cache.old) (space_of memory.new cache.new) size share) }
     ensures unchanged { IfErr result (λ refusal. refusal ≢ GiveRefusal.NoSpan → (memory.new ≡ memory.old) ×
         (cache.new ≡ cache.old)) }
+
+    // What is lent, and how room was made.
     ensures in_turn { IfOk result (λ _. GivesNow size share (space_of memory.old cache.old) (space_of memory.new cache.new)) }
     ensures lends { IfOk result (LendsBlock share (space_of memory.old cache.old) (space_of memory.new cache.new)) }
     ensures zeros { IfOk result (λ block. block.piece.bytes ≡ replicate size 0) }
+
+    // Memory and cache go together still.
     ensures whole { IsWhole memory.new cache.new }
 {
     give_or_refuse(memory, cache, size, share)
@@ -141,13 +177,20 @@ fn give_or_refuse<'f>(
     size: u32,
     share: Share,
 ) -> Result<ForeignBlock<'f>, GiveRefusal>
+    // Of any size, guarded or not.
     requires some { 1 ≤ size }
     requires consistent { (guards : ℕ) × IsConsistent memory.old.owner memory.old.pages guards memory.old cache.old.region }
+
+    // What is lent, and how room was made.
     ensures given { IfOk result (GivesAfter share size memory.old memory.new) }
     ensures in_turn { IfOk result (λ _. GivesNow size share (space_of memory.old cache.old) (space_of memory.new cache.new)) }
+
+    // Why none is given.
     ensures refused { IfErr result (RefusesAfter memory.old memory.new cache.new.region size share) }
     ensures unchanged { IfErr result (λ refusal. refusal ≢ GiveRefusal.NoSpan → memory.new ≡ memory.old) }
     ensures kept { IfErr result (λ _. cache.new ≡ cache.old) }
+
+    // No row moves or goes.
     ensures consistent { (shard pages guards : ℕ) → IsConsistent shard pages guards memory.old cache.old.region
         → IsConsistent shard pages guards memory.new cache.new.region }
     ensures stay { Stay cache.old.region cache.new.region }
@@ -170,12 +213,21 @@ fn give_uncompacted<'f>(
     size: u32,
     share: Share,
 ) -> Option<ForeignBlock<'f>>
+    // A block that may be lent.
     requires some { 1 ≤ size }
     requires most { size ≤ greatest_block }
     requires idle { HasIdle memory.old.lent share }
+
+    // Guards may stand.
     requires consistent { (guards : ℕ) × IsConsistent memory.old.owner memory.old.pages guards memory.old cache.old.region }
+
+    // A block is lent, others may come home.
     ensures given { IfSome result (GivesAfter share size memory.old memory.new) }
+
+    // Else the memory is crowded.
     ensures none { IfNone result (TakesHome memory.old memory.new × IsCrowded memory.new) }
+
+    // No row went.
     ensures consistent { (shard pages guards : ℕ) → IsConsistent shard pages guards memory.old cache.old.region
         → IsConsistent shard pages guards memory.new cache.new.region }
     ensures rows { rows_of cache.new ≡ rows_of cache.old }
@@ -194,15 +246,24 @@ fn give_squeezed<'f>(
     size: u32,
     share: Share,
 ) -> Option<ForeignBlock<'f>>
+    // A block that may be lent.
     requires some { 1 ≤ size }
     requires most { size ≤ greatest_block }
     requires idle { HasIdle memory.old.lent share }
+
+    // Guards may stand.
     requires consistent { (guards : ℕ) × IsConsistent memory.old.owner memory.old.pages guards memory.old cache.old.region }
+
+    // What is lent, and how room was made.
     ensures given { IfSome result (GivesAfter share size memory.old memory.new) }
     ensures once { TakesOnce memory.old memory.new }
     ensures handed { HandsBack cache.old.region cache.new.region }
+
+    // Why none is given.
     ensures none { IfNone result (RefusesAfter memory.old memory.new cache.new.region size share GiveRefusal.NoSpan) }
     ensures unchanged { IfNone result (cache.new ≡ cache.old) }
+
+    // No row moves or goes.
     ensures consistent { (shard pages guards : ℕ) → IsConsistent shard pages guards memory.old cache.old.region
         → IsConsistent shard pages guards memory.new cache.new.region }
     ensures stay { Stay cache.old.region cache.new.region }
@@ -222,13 +283,20 @@ fn give_trimmed<'f>(
     size: u32,
     share: Share,
 ) -> Option<ForeignBlock<'f>>
+    // A block that may be lent.
     requires some { 1 ≤ size }
     requires most { size ≤ greatest_block }
     requires idle { HasIdle memory.old.lent share }
+
+    // Blocks may come home before one is lent.
     ensures given { IfSome result (GivesAfter share size memory.old memory.new) }
     ensures taken { IfNone result (TakesHome memory.old memory.new) }
     ensures once { TakesOnce memory.old memory.new }
+
+    // Else no room is left, with pools trimmed.
     ensures none { IfNone result (LacksBlock memory.new.room size × IsTrimmed memory.new.room × IsCrowded memory.new) }
+
+    // Memory and cache go together still.
     ensures consistent { (shard pages guards : ℕ) (region : RegionState) → IsConsistent shard pages guards memory.old region
         → IsConsistent shard pages guards memory.new region }
 {
@@ -248,15 +316,24 @@ fn give_freed<'f>(
     size: u32,
     share: Share,
 ) -> Option<ForeignBlock<'f>>
+    // A block that may be lent.
     requires some { 1 ≤ size }
     requires most { size ≤ greatest_block }
     requires idle { HasIdle memory.old.lent share }
+
+    // Guards may stand.
     requires consistent { (guards : ℕ) × IsConsistent memory.old.owner memory.old.pages guards memory.old cache.old.region }
+
+    // A segment may go for the block.
     ensures given { IfSome result (GivesAfter share size memory.old memory.new) }
     ensures looks { memory.new.take_wholes ≡ memory.old.take_wholes }
     ensures handed { HandsBack cache.old.region cache.new.region }
+
+    // Else one segment is free at most.
     ensures none { IfNone result (free_count cache.new.region ≤ 1) }
     ensures unchanged { IfNone result ((memory.new ≡ memory.old) × (cache.new ≡ cache.old)) }
+
+    // No row moves or goes.
     ensures consistent { (shard pages guards : ℕ) → IsConsistent shard pages guards memory.old cache.old.region
         → IsConsistent shard pages guards memory.new cache.new.region }
     ensures stay { Stay cache.old.region cache.new.region }
@@ -293,12 +370,18 @@ fn give_at_once<'f>(
     share: Share,
 ) -> Result<ForeignBlock<'f>, GiveRefusal>
     requires { 1 ≤ size }
+
+    // What is lent of what is free.
     ensures given { IfOk result (GivesAfter share size memory.old memory.new) }
     ensures able { IfOk result (λ _. (size ≤ greatest_block) × HasIdle memory.old.lent share × ¬ LacksBlock memory.old.room size) }
     ensures looks { memory.new.take_wholes ≡ memory.old.take_wholes }
+
+    // Why none is given.
     ensures refused { IfErr result (RefusesFor memory.old share size) }
     ensures crowded { IfErr result (λ refusal. refusal ≡ GiveRefusal.NoSpan → IsTrimmed memory.old.room → IsCrowded memory.old) }
     ensures unchanged { IfErr result (λ _. memory.new ≡ memory.old) }
+
+    // Memory and cache go together still.
     ensures consistent { (shard pages guards : ℕ) (region : RegionState) → IsConsistent shard pages guards memory.old region
         → IsConsistent shard pages guards memory.new region }
 {

@@ -2,7 +2,7 @@
 ghost use Rattle.std.specs.Prelude.{◌≡◌, ℕ, ◌<◌, ◌≤◌, true, false, IsSome};
 ghost use Rattle.layout.specs.Sizes.{greatest_object};
 ghost use Rattle.cache_model.specs.Row.{live};
-ghost use Rattle.shard_memory.specs.Shards.{Shard, IsCrowded};
+ghost use Rattle.shard_memory.specs.Shards.{MemoryState, IsCrowded};
 ghost use Rattle.regions.specs.Shapes.{active_of, free_count};
 ghost use Rattle.regions.specs.Counts.{left};
 ghost use Rattle.compaction.specs.Sparse.{IsCompacted};
@@ -19,10 +19,15 @@ use shard_memory::ShardMemory;
 // Makes room for an object of so many bytes in the active segment, without an eviction. False where nothing is left but to
 // evict.
 pub(crate) fn make_room(memory: &mut ShardMemory<'_>, cache: &mut RowCache, size: u32) -> bool
+    // An object of any size, and no guard.
     requires size { size ≤ greatest_object }
     requires consistent { IsConsistent memory.old.owner memory.old.pages 0 memory.old cache.old.region }
+
+    // What each answer means.
     ensures room { result ≡ true → size ≤ left cache.new.region }
     ensures pressed { result ≡ false → pressure memory.old.pages memory.old.lent < live (rows_of cache.new) }
+
+    // No row went, and nothing was lent.
     ensures consistent { IsConsistent memory.old.owner memory.old.pages 0 memory.new cache.new.region }
     ensures taken { TakesHome memory.old memory.new }
     ensures rows { rows_of cache.new ≡ rows_of cache.old }
@@ -45,9 +50,13 @@ pub(crate) fn make_room(memory: &mut ShardMemory<'_>, cache: &mut RowCache, size
 // compaction frees it. False where none of these can be had.
 fn free_second(memory: &mut ShardMemory<'_>, cache: &mut RowCache) -> bool
     requires consistent { IsConsistent memory.old.owner memory.old.pages 0 memory.old cache.old.region }
+
+    // What each answer means.
     ensures freed { result ≡ true → 2 ≤ free_count cache.new.region }
     ensures crowded { result ≡ false → IsCrowded memory.new }
     ensures compacted { result ≡ false → IsCompacted cache.new.region }
+
+    // No row went, and nothing was lent.
     ensures consistent { IsConsistent memory.old.owner memory.old.pages 0 memory.new cache.new.region }
     ensures taken { TakesHome memory.old memory.new }
     ensures rows { rows_of cache.new ≡ rows_of cache.old }
@@ -68,7 +77,7 @@ fn begin_next(cache: &mut RowCache, size: u32)
     requires active { IsSome (active_of cache.old.region) }
     requires free { 2 ≤ free_count cache.old.region }
     ensures room { size ≤ left cache.new.region }
-    ensures consistent { (shard pages guards : ℕ) (memory : Shard) → IsConsistent shard pages guards memory cache.old.region
+    ensures consistent { (shard pages guards : ℕ) (memory : MemoryState) → IsConsistent shard pages guards memory cache.old.region
         → IsConsistent shard pages guards memory cache.new.region }
     ensures rows { rows_of cache.new ≡ rows_of cache.old }
     ensures tables { cache.new.room ≡ cache.old.room }

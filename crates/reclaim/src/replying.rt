@@ -6,8 +6,8 @@ ghost use Rattle.cache_model.specs.declared.entry.Entry.{Entry as Entries};
 ghost use Rattle.cache_model.specs.Apply as apply;
 ghost use Rattle.cache_model.specs.Apply.{Reply};
 ghost use Rattle.cache_model.specs.Spelled.{spelled};
-ghost use Rattle.shard_memory.specs.Shards.{Shard};
-ghost use Rattle.regions.specs.Shapes.{guards_of};
+ghost use Rattle.shard_memory.specs.Shards.{MemoryState};
+ghost use Rattle.regions.specs.Shapes.{guards_of, shape};
 ghost use Rattle.row_cache.specs.Rows.{rows_of};
 ghost use Rattle.shard_rings.specs.Ask.{asked, IsAskable};
 ghost use Rattle.shard_rings.specs.Reply.{HoldsReply};
@@ -17,7 +17,7 @@ ghost use Rattle.reclaim.specs.inside.Consistent.{IsConsistent};
 ghost use Rattle.reclaim.specs.inside.Homecoming.{TakesHome};
 ghost use Rattle.reclaim.specs.inside.Replied.{HasReplied, HasRoomFor, IsBare};
 
-use crate::storing::put_row;
+use crate::storing::put_evicting;
 use cache_model::{Entry, ReplyKind, evictions_are_counted};
 use layout::{KEY_ROOM, MESSAGE_HEADER};
 use row_bytes::a_row_is_read_as_it_is_written;
@@ -62,14 +62,21 @@ pub(crate) fn reply(
     into: &mut [u8],
     journal: &mut Journal,
 )
+    // What is asked, with no guard standing.
     requires askable { IsAskable (asked ask.now) }
     requires consistent { IsConsistent memory.old.owner memory.old.pages 0 memory.old cache.old.region }
+
+    // Nothing it writes lacks space.
     requires tables { ask.now.kind ≡ Kinds.Put
         → (apply.has ask.now.key.now (rows_of cache.old) ≡ true) ⊎ (length (rows_of cache.old) < cache.old.room) }
     requires spare { length (rows_of cache.old) + 1 ≤ journal.old.spare }
     requires room { HasRoomFor (asked ask.now) (rows_of cache.old) (length into.old) }
+
+    // What it does, answers and writes down.
     ensures replied { HasReplied (pressure memory.old.pages memory.old.lent) (asked ask.now) (rows_of cache.old)
         (rows_of cache.new) journal.old journal.new into.new }
+
+    // Memory and cache go together, nothing was lent.
     ensures consistent { IsConsistent memory.old.owner memory.old.pages 0 memory.new cache.new.region }
     ensures taken { TakesHome memory.old memory.new }
     ensures tables { cache.new.room ≡ cache.old.room }
@@ -92,19 +99,26 @@ fn reply_put(
     into: &mut [u8],
     journal: &mut Journal,
 )
+    // A put, with no guard standing.
     requires kind { ask.now.kind ≡ Kinds.Put }
     requires askable { IsAskable (asked ask.now) }
     requires consistent { IsConsistent memory.old.owner memory.old.pages 0 memory.old cache.old.region }
+
+    // Nothing it writes lacks space.
     requires tables { (apply.has ask.now.key.now (rows_of cache.old) ≡ true) ⊎ (length (rows_of cache.old) < cache.old.room) }
     requires spare { length (rows_of cache.old) + 1 ≤ journal.old.spare }
     requires room { message_header ≤ length into.old }
+
+    // What it does, answers and writes down.
     ensures replied { HasReplied (pressure memory.old.pages memory.old.lent) (asked ask.now) (rows_of cache.old)
         (rows_of cache.new) journal.old journal.new into.new }
+
+    // Memory and cache go together, nothing was lent.
     ensures consistent { IsConsistent memory.old.owner memory.old.pages 0 memory.new cache.new.region }
     ensures taken { TakesHome memory.old memory.new }
     ensures tables { cache.new.room ≡ cache.old.room }
 {
-    match put_row(memory, cache, ask, journal) {
+    match put_evicting(memory, cache, ask, journal) {
         Put::Stored => write_bare(ReplyKind::Stored, ask.number, into),
         Put::Replaced => write_bare(ReplyKind::Replaced, ask.number, into),
     }
@@ -112,14 +126,20 @@ fn reply_put(
 
 // Looks a row up, under a guard: it is found again, since the making of the block may have moved it, or made it go.
 fn reply_get(cache: &mut RowCache, ask: &Ask<'_>, into: &mut [u8], journal: &mut Journal)
+    // A get, and space for its value.
     requires kind { ask.now.kind ≡ Kinds.Get }
     requires spare { 1 ≤ journal.old.spare }
     requires guards { guards_of cache.old.region ≡ 0 }
     requires room { HasRoomFor (asked ask.now) (rows_of cache.old) (length into.old) }
+
+    // What it does, answers and writes down.
     ensures rows { rows_of cache.new ≡ (apply.apply (asked ask.now) (rows_of cache.old)).0 }
     ensures holds { HoldsReply into.new ask.now.number (apply.apply (asked ask.now) (rows_of cache.old)).1 }
     ensures recorded { Records journal.old journal.new (Entries.Done ask.now.number ∷ []) }
-    ensures region { cache.new.region ≡ cache.old.region }
+
+    // Nothing in the segments changed but links.
+    ensures consistent { (shard pages guards : ℕ) (memory : MemoryState) → IsConsistent shard pages guards memory cache.old.region
+        → IsConsistent shard pages guards memory cache.new.region }
     ensures tables { cache.new.room ≡ cache.old.room }
 {
     journal.add(Entry::Done(ask.number));
@@ -134,7 +154,7 @@ fn copy_value(cache: &mut RowCache, ask: &Ask<'_>, into: &mut [u8])
     requires room { HasRoomFor (asked ask.now) (rows_of cache.old) (length into.old) }
     ensures rows { rows_of cache.new ≡ (apply.apply (asked ask.now) (rows_of cache.old)).0 }
     ensures holds { HoldsReply into.new ask.now.number (apply.apply (asked ask.now) (rows_of cache.old)).1 }
-    ensures region { cache.new.region ≡ cache.old.region }
+    ensures shape { shape cache.new.region ≡ shape cache.old.region }
     ensures tables { cache.new.room ≡ cache.old.room }
 {
     match cache.get(ask.key) {
@@ -145,13 +165,18 @@ fn copy_value(cache: &mut RowCache, ask: &Ask<'_>, into: &mut [u8])
 
 // Removes a row.
 fn reply_erase(cache: &mut RowCache, ask: &Ask<'_>, into: &mut [u8], journal: &mut Journal)
+    // An erase, and space for its answer.
     requires kind { ask.now.kind ≡ Kinds.Erase }
     requires spare { 1 ≤ journal.old.spare }
     requires room { message_header ≤ length into.old }
+
+    // What it does, answers and writes down.
     ensures rows { rows_of cache.new ≡ (apply.apply (asked ask.now) (rows_of cache.old)).0 }
     ensures holds { HoldsReply into.new ask.now.number (apply.apply (asked ask.now) (rows_of cache.old)).1 }
     ensures recorded { Records journal.old journal.new (Entries.Done ask.now.number ∷ []) }
-    ensures consistent { (shard pages guards : ℕ) (memory : Shard) → IsConsistent shard pages guards memory cache.old.region
+
+    // Memory and cache go together still.
+    ensures consistent { (shard pages guards : ℕ) (memory : MemoryState) → IsConsistent shard pages guards memory cache.old.region
         → IsConsistent shard pages guards memory cache.new.region }
     ensures tables { cache.new.room ≡ cache.old.room }
 {

@@ -19,7 +19,7 @@ mod lending;
 mod messages;
 
 use crate::segments::{begin, give_back};
-use crate::storing::put_row;
+use crate::storing::put_evicting;
 use cache_model::Entry;
 use foreign_list::{Foreign, OwnerSeat};
 use layout::SEGMENT_PAGES;
@@ -50,7 +50,7 @@ impl<'f> Model for Space<'f> {
 }
 
 impl<'f> Space<'f> {
-    /// The space of a shard of so many pages of 4,096 bytes, with room for so many rows, fewer than 4,294,967,295, and none in it,
+    /// The space of a shard of so many pages, with room for so many rows, fewer than 4,294,967,295, and none in it,
     /// whose lent blocks come home over this list. Two segments go to the cache, one of them active.
     ///
     /// # Errors
@@ -63,13 +63,20 @@ impl<'f> Space<'f> {
         home: &'f Foreign,
         seat: OwnerSeat,
     ) -> Result<Space<'f>, OwnerSeat>
+        // What it is opened with.
         requires pages { sizes.ArePages pages }
         requires rows { rows < 2 ^ 32 - 1 }
         requires owner { home.now.owner ≡ shard }
         requires seat { IsAtRest home.now seat }
+
+        // Without memory the seat comes back.
         ensures refused { IfErr result (λ back. back ≡ seat) }
+
+        // It is this shard's, and empty.
         ensures numbers { IfOk result (λ space. (space.shard ≡ shard) × (space.pages ≡ pages) × (space.room ≡ rows)) }
         ensures rows { IfOk result (λ space. space.rows ≡ []) }
+
+        // Nothing is lent, and no guard stands.
         ensures list { IfOk result (λ space. space.list ≡ home.now) }
         ensures lent { IfOk result (λ space. (space.lent ≡ seat.lent) × (space.lends ≡ 0) × (space.backs ≡ 0)) }
         ensures idle { IfOk result (λ space. tickets_out space.lent ≡ 0) }
@@ -95,18 +102,26 @@ impl<'f> Space<'f> {
         ensures stored { StoresUnderPressure (asked ask.now) (reply_of result) self.old self.new journal.old journal.new }
         ensures taken { TakesBack self.old self.new }
     {
-        put_row(&mut self.memory, &mut self.cache, ask, journal)
+        put_evicting(&mut self.memory, &mut self.cache, ask, journal)
     }
 
     /// Removes the row of a key. False where no row has the key.
     pub fn erase_here(&mut self, ask: &Ask<'_>, journal: &mut Journal) -> bool
+        // An erase, with no guard standing.
         requires kind { ask.now.kind ≡ Kinds.Erase }
         requires unguarded { IsUnguarded self.old }
         requires spare { 1 ≤ journal.old.spare }
+
+        // No row has the key then.
         ensures found { result ≡ apply.has ask.now.key.now self.old.rows }
         ensures rows { self.new.rows ≡ apply.without ask.now.key.now self.old.rows }
+
+        // Nothing else has changed.
         ensures same { IsSameSpace self.old self.new }
-        ensures tickets { (self.new.lent ≡ self.old.lent) × (self.new.lends ≡ self.old.lends) × (self.new.backs ≡ self.old.backs) }
+        ensures tickets { (self.new.lent ≡ self.old.lent) × (self.new.lends ≡ self.old.lends) × (self.new.backs ≡ self.old.backs)
+            × (self.new.looks ≡ self.old.looks) }
+
+        // It is written down.
         ensures recorded { Records journal.old journal.new (Entries.Done ask.now.number ∷ []) }
     {
         journal.add(Entry::Done(ask.number));
@@ -117,15 +132,22 @@ impl<'f> Space<'f> {
     /// `into`: each behind its length in two bytes, low byte first. The bytes behind them stay. `into` has room for so many
     /// keys of the greatest length.
     pub fn scan_here(&mut self, ask: &Ask<'_>, into: &mut [u8], journal: &mut Journal) -> Scanned
+        // A scan, with no guard standing.
         requires kind { ask.now.kind ≡ Kinds.Scan }
         requires askable { IsAskable (asked ask.now) }
         requires unguarded { IsUnguarded self.old }
+
+        // Nothing it writes lacks space.
         requires room { sizes.key_room * ask.now.count ≤ length into.old }
         requires spare { 1 ≤ journal.old.spare }
+
+        // What it writes, and where.
         ensures count { result.keys ≡ length (apply.scanned ask.now.key.now ask.now.count self.old.rows) }
         ensures keys { AreKeys (take result.bytes into.new) (apply.scanned ask.now.key.now ask.now.count self.old.rows) }
         ensures within { result.bytes ≤ length into.old }
         ensures behind { drop result.bytes into.new ≡ drop result.bytes into.old }
+
+        // Else only the journal changes.
         ensures unchanged { self.new ≡ self.old }
         ensures recorded { Records journal.old journal.new (Entries.Done ask.now.number ∷ []) }
     {

@@ -4,6 +4,7 @@ use Rattle.std.specs.Prelude.{Option, None, Some, IsSome, slice_index, slice_set
 use Rattle.std.proofs.lemmas.Bool.{cases_eq, cases_Bool, ne_eqb, eqb-true}
 use Rattle.std.proofs.lemmas.List.{get_or-set_same, get_or-set_other, length-set}
 use Rattle.std.proofs.Math.Seq.{map-set_same}
+use Rattle.std.proofs.lemmas.Option.{same_Some}
 use Rattle.layout.specs.Sizes.{dense, greatest_object}
 use Rattle.regions.specs.Shapes.{Slot, slot_at, is_free, is_held, is_begun, is_active, is_closed}
 use Rattle.regions.specs.Counts.{plus, left_of}
@@ -150,9 +151,6 @@ module _ (most : ℕ) (active : Option ℕ) (held free : List Bool) (al : ℕ) (
         active_live = c.active_live;
       }
 
-some-is : (m n : ℕ) → Some m ≡ Some n → m ≡ n
-some-is m n e = (let both : Some m ≡ Some n = e in cc)
-
 module _ (most : ℕ) (active : Option ℕ) (held free : List Bool) (al : ℕ) (table : List ℕ) (slots : List (Option Slot)) (used live : List ℕ) (c : IsConsistent most active held free al table slots used live) where
   -- an object of the active segment is new
   pub placed : (n k : ℕ) → active ≡ Some n → length used ≡ length slots → length live ≡ length slots → IsConsistent most active held free (al + k) table slots (plus n k used) (plus n k live)
@@ -167,7 +165,7 @@ module _ (most : ℕ) (active : Option ℕ) (held free : List Bool) (al : ℕ) (
       relived most active held free al table slots (plus n k used) live d n (al + k) table (plus n k live) begun c.tabled
       (λ m far. get_or-set_other live n m (slice_index live n + k) 0 far) (λ m far. refl)
       (c.table n (let l = c.long in omega (arith, inside, l)) ∙ ap (λ b. cond b (slice_index live n) not_closed) open-now ∙ sym (ap (λ b. cond b (slice_index (plus n k live) n) not_closed) open-now))
-      (λ m e. (let one : m ≡ n = some-is m n (sym e ∙ now) in ap (λ x. x + k) (c.active_live n now) ∙ sym here ∙ ap (slice_index (plus n k live)) (sym one)))
+      (λ m e. (let one : m ≡ n = same_Some m n (sym e ∙ now) in ap (λ x. x + k) (c.active_live n now) ∙ sym here ∙ ap (slice_index (plus n k live)) (sym one)))
 
   -- what the active or a closed segment must have for an object to die
   pub enough-active : (n k : ℕ) → k ≤ slice_index live n → is_active active n ≡ true → k ≤ al
@@ -192,7 +190,7 @@ module _ (most : ℕ) (active : Option ℕ) (held free : List Bool) (al : ℕ) (
             subst (λ b. IsConsistent most active held free (cond b (al - k) al) (cond b table (slice_set table n (slice_index table n - k))) slots used live') (sym e)
             (relived most active held free al table slots used live c n (al - k) table live' begun c.tabled others (λ m far. refl)
             (c.table n (omega (arith, inside, l)) ∙ ap (λ b. cond b (slice_index live n) not_closed) open-now ∙ sym (ap (λ b. cond b (slice_index live' n) not_closed) open-now))
-            (λ m f. (let one : m ≡ n = some-is m n (sym f ∙ now) in omega (arith, was, less) ∙ ap (slice_index live') (sym one))))
+            (λ m f. (let one : m ≡ n = same_Some m n (sym f ∙ now) in omega (arith, was, less) ∙ ap (slice_index live') (sym one))))
         | inr e ↦
             let closed = begun-closed active slots n begun e in
             let it : slice_index table n ≡ slice_index live n = c.table n (omega (arith, inside, l)) ∙ ap (λ b. cond b (slice_index live n) not_closed) closed in
@@ -219,7 +217,7 @@ module _ (most : ℕ) (active : Option ℕ) (held free : List Bool) (al : ℕ) (
         few = c.few;
         held = c.held ∙ sym (map-set_same is_held slots n (Some b) None (sym (free-held (slot_at slots n) was)));
         free = ap (slice_set free n) (sym now) ∙ follows is_free free slots n (Some b) c.free;
-        active = λ m e. (let same : m ≡ n = sym (some-is n m e) in subst (λ k. is_begun (slot_at (slice_set slots n (Some b)) k) ≡ true) (sym same) begun);
+        active = λ m e. (let same : m ≡ n = sym (same_Some n m e) in subst (λ k. is_begun (slot_at (slice_set slots n (Some b)) k) ≡ true) (sym same) begun);
         empty = λ m e.
             elim (cases_eq m n) [
               | inl same ↦ absurd (let clash : true ≡ false = sym begun ∙ subst (λ k. is_begun (slot_at (slice_set slots n (Some b)) k) ≡ false) same e in cc)
@@ -254,7 +252,7 @@ module _ (most : ℕ) (active : Option ℕ) (held free : List Bool) (al : ℕ) (
                         ∙ ap (λ x. cond x (slice_index live m) not_closed) (closed-unless active slots m unlike ∙ sym (shut m far))
                   ]
             ];
-        active_live = λ m e. (let same : m ≡ n = sym (some-is n m e) in sym ((c.empty m (subst (λ k. is_begun (slot_at slots k) ≡ false) (sym same) unbegun)).1));
+        active_live = λ m e. (let same : m ≡ n = sym (same_Some n m e) in sym ((c.empty m (subst (λ k. is_begun (slot_at slots k) ≡ false) (sym same) unbegun)).1));
       }
 
   -- a closed segment without a live byte is free

@@ -83,8 +83,12 @@ impl Region {
     pub fn add_segment(&mut self, piece: Piece)
         requires room { held_count self.old < (shape self.old).most }
         requires segment { length piece.bytes ≡ sizes.segment }
+
+        // Its objects, none, stand beside those that were there.
         ensures added { (n : ℕ) × IsLeastUnused self.old n × (self.new ≡ with_segment self.old n (Some (fresh piece))) }
         ensures objects { Keeps self.old self.new }
+
+        // Counted: one segment more, and no object.
         ensures held { held_count self.new ≡ held_count self.old + 1 }
         ensures free { free_count self.new ≡ free_count self.old + 1 }
         ensures counts { (used_counts self.new ≡ used_counts self.old) × (live_counts self.new ≡ live_counts self.old) }
@@ -98,11 +102,16 @@ impl Region {
 
     /// Takes the free segment with the greatest number out. None where at most one segment is free.
     pub fn take_free(&mut self) -> Option<Piece>
+        // None where at most one is free, and then nothing changed.
         ensures none { IsNone result ↔ free_count self.old ≤ 1 }
         ensures unchanged { IsNone result → self.new ≡ self.old }
+
+        // Where a piece is given, its segment is gone.
         ensures taken { IfSome result (λ piece. (n : ℕ) × IsGreatestFree self.old n × (segment_at self.old n ≡ Some (fresh piece))
             × (self.new ≡ with_segment self.old n None)) }
         ensures objects { Keeps self.old self.new }
+
+        // Counted: one segment fewer, and no object.
         ensures held { IsSome result → held_count self.new + 1 ≡ held_count self.old }
         ensures free { IsSome result → free_count self.new + 1 ≡ free_count self.old }
         ensures counts { (used_counts self.new ≡ used_counts self.old) × (live_counts self.new ≡ live_counts self.old) }
@@ -122,11 +131,17 @@ impl Region {
     pub fn next_active(&mut self)
         requires free { 1 ≤ free_count self.old }
         requires full { IsSome (active_of self.old) → left self.old < sizes.greatest_object }
+
+        // Which segment is active, and which are closed.
         ensures activated { (n : ℕ) × IsLeastFree self.old n × (shape self.new ≡ activated n (shape self.old)) }
         ensures closed { (n : ℕ) → IsClosed self.old n ⊎ (active_of self.old ≡ Some n) → IsClosed self.new n }
+
+        // No object and no piece changes, and the active segment is empty.
         ensures objects { Keeps self.old self.new }
         ensures pieces { pieces self.new ≡ pieces self.old }
         ensures left { left self.new ≡ sizes.segment }
+
+        // Counted: one free segment fewer.
         ensures held { held_count self.new ≡ held_count self.old }
         ensures free { free_count self.new + 1 ≡ free_count self.old }
         ensures counts { (used_counts self.new ≡ used_counts self.old) × (live_counts self.new ≡ live_counts self.old) }
@@ -149,12 +164,18 @@ impl Region {
         requires active { IsSome (active_of self.old) }
         requires kind { 1 ≤ kind }
         requires size { IsSize size }
+
+        // Refused exactly where it has too little room, and then nothing changed.
         ensures full { IsErr result ↔ left self.old < size }
         ensures unchanged { IfErr result (λ _. self.new ≡ self.old) }
+
+        // Where the object stands, and that it is the only change.
         ensures segment { IfOk result (λ place. active_of self.old ≡ Some place.segment) }
         ensures offset { IfOk result (λ place. place.at ≡ used_at self.old place.segment) }
         ensures unused { IfOk result (λ place. standing_at self.old place ≡ None) }
         ensures added { IfOk result (λ place. ChangesAt place (Some (zeros kind size)) self.old self.new) }
+
+        // Counted: its bytes are used and live. The segments are as they were.
         ensures used { IfOk result (λ place. used_counts self.new ≡ plus place.segment size (used_counts self.old)) }
         ensures live { IfOk result (λ place. live_counts self.new ≡ plus place.segment size (live_counts self.old)) }
         ensures used_total { IfOk result (λ _. used_total self.new ≡ used_total self.old + size) }
@@ -191,12 +212,18 @@ impl Region {
     /// The content of the live object at the place, for writing, without its descriptor.
     pub fn bytes_mut(&mut self, place: Place) -> &mut [u8]
         requires { IsSome (live_at self.old place) }
+
+        // The content, lent.
         ensures* lends { sem 𝓛 (LendsContent self.entry place result) }
         ensures value { option_map (λ s. s.item.content) (standing_at self.old place) ≡ Some result.now }
+
+        // Whatever is written, only this object changes.
         ensures left { (ws : List ℕ) → length ws ≡ length result.now
             → ChangesAt place (option_map (with_bytes ws) (standing_at self.old place)) self.old (with_content self.old place ws) }
         ensures fitted { (ws : List ℕ) → ChangesAt place (option_map (rewritten ws) (standing_at self.old place)) self.old
             (with_content self.old place ws) }
+
+        // Counts and segments are as they were.
         ensures used { (ws : List ℕ) → used_counts (with_content self.old place ws) ≡ used_counts self.old }
         ensures live { (ws : List ℕ) → live_counts (with_content self.old place ws) ≡ live_counts self.old }
         ensures live_total { (ws : List ℕ) → live_total (with_content self.old place ws) ≡ live_total self.old }
@@ -210,8 +237,12 @@ impl Region {
         requires from { IsSome (live_at self.old from) }
         requires to { IsSome (live_at self.old to) }
         requires size { option_map size_of (live_at self.old from) ≡ option_map size_of (live_at self.old to) }
+
+        // Only the object at `to` changes.
         ensures copied { IfSome (live_at self.old from)
             (λ i. ChangesAt to (option_map (with_bytes i.content) (standing_at self.old to)) self.old self.new) }
+
+        // Counts and segments are as they were.
         ensures used { used_counts self.new ≡ used_counts self.old }
         ensures live { live_counts self.new ≡ live_counts self.old }
         ensures live_total { live_total self.new ≡ live_total self.old }
@@ -244,11 +275,17 @@ impl Region {
     /// segment is held.
     pub fn give_up(&mut self) -> Option<Piece>
         requires { guards_of self.old ≡ 0 }
+
+        // None where no segment is held; else its piece.
         ensures none { IsNone result ↔ held_count self.old ≡ 0 }
         ensures emptied { IsNone result → self.new ≡ all_emptied self.old }
         ensures given { IfSome result (λ piece. (n : ℕ) × IsGreatestHeld self.old n ×
             (segment_at (all_emptied self.old) n ≡ Some (fresh piece)) × (self.new ≡ with_segment (all_emptied self.old) n None)) }
+
+        // No object is left.
         ensures objects { (p : Place) → standing_at self.new p ≡ None }
+
+        // Counted: each segment is free, and no byte is used.
         ensures held { IsSome result → held_count self.new + 1 ≡ held_count self.old }
         ensures free { free_count self.new ≡ held_count self.new }
         ensures used { used_counts self.new ≡ replicate (shape self.old).most 0 }

@@ -104,11 +104,15 @@ impl Segment {
         requires kind { 1 ≤ kind }
         requires size { IsSize size }
         requires fits { self.old.used + size ≤ sizes.segment }
+
+        // So many bytes more are used and live.
         ensures at { result ≡ self.old.used }
         ensures slot { slot_of self.new ≡ slot_of self.old }
         ensures used { self.new.used ≡ self.old.used + size }
         ensures live { live_in (Some self.new) ≡ live_in (Some self.old) + size }
         ensures inside { live_in (Some self.new) ≤ sizes.segment }
+
+        // It stands where nothing stood, and is the only change.
         ensures unused { standing_in (Some self.old) result ≡ None }
         ensures added { ChangesIn result (Some (zeros kind size)) (Some self.old) (Some self.new) }
     {
@@ -135,7 +139,8 @@ impl Segment {
     // What the object's descriptor stands in front of.
     pub(crate) fn content(&self, at: u32) -> &[u8]
         requires { IsSome (standing_in (Some self.now) at) }
-        ensures { option_map (λ s. s.item.content) (standing_in (Some self.now) at) ≡ Some result.now }
+        ensures content { option_map (λ s. s.item.content) (standing_in (Some self.now) at) ≡ Some result.now }
+        ensures inside { at < sizes.segment }
     {
         let bytes = self.piece.bytes();
         let (start, len) = content_extent(bytes, at);
@@ -192,14 +197,22 @@ impl Segment {
     pub(crate) fn next_live(&self, from: u32) -> Option<(u32, u8, u32)>
         requires begun { self.now.free ≡ false }
         requires start { (from ≡ 0) ⊎ starts_in (Some self.now) from }
+
+        // Nothing lives before the object that is found, or up to the end where none is.
         ensures none { IsNone result → none_lives_in (Some self.now) from self.now.used }
         ensures skipped { IfSome result (λ f. (from ≤ f.0) × none_lives_in (Some self.now) from f.0) }
+
+        // The object.
         ensures found { IfSome result (λ f. IsLiveAt (item_if_live (standing_in (Some self.now) f.0)) f.1 f.2) }
         ensures size { IfSome result (λ f. (1 ≤ f.1) × IsSize f.2) }
         ensures within { IfSome result (λ f. f.0 + f.2 ≤ self.now.used) }
         ensures inside { IfSome result (λ f. f.0 + f.2 ≤ sizes.segment) }
+
+        // Where the search goes on: nothing stands between.
         ensures next { IfSome result (λ f. starts_in (Some self.now) (f.0 + f.2)) }
         ensures between { IfSome result (λ f. (a : ℕ) → f.0 < a → a < f.0 + f.2 → standing_in (Some self.now) a ≡ None) }
+
+        // What the search says of the live bytes.
         ensures counted { IfSome result (λ f. f.2 ≤ live_in (Some self.now)) }
         ensures dead { IsNone result → none_lives_in (Some self.now) 0 from → live_in (Some self.now) ≡ 0 }
     {

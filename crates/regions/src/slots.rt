@@ -40,9 +40,13 @@ pub(crate) fn copy_into(target: &mut Segment, slots: &[Option<Segment>], from: P
     requires to { IsSome (item_if_live (standing_in (Some target.old) to.at)) }
     requires size { option_map size_of (item_if_live (standing_with slots.now to.segment target.old from))
         ≡ option_map size_of (item_if_live (standing_in (Some target.old) to.at)) }
+
+    // The segment is as full as it was.
     ensures slot { slot_of target.new ≡ slot_of target.old }
     ensures used { target.new.used ≡ target.old.used }
     ensures live { live_in (Some target.new) ≡ live_in (Some target.old) }
+
+    // Only the object at `to` changes.
     ensures copied { IfSome (item_if_live (standing_with slots.now to.segment target.old from))
         (λ i. ChangesIn to.at (option_map (with_bytes i.content) (standing_in (Some target.old) to.at)) (Some target.old)
         (Some target.new)) }

@@ -1,5 +1,5 @@
 -- The answer to one command, as its replies stand in a log.
-use Rattle.std.proofs.Common.{◌≡◌, ◌⊎◌, ℕ, ◌+◌, ◌<◌, ◌≤◌, Bool, true, false, List, [], ◌∷◌, length, map, get_or, Option, Some, inl, inr, refl, subst, sym, ap, ◌∙◌, arith}
+use Rattle.std.proofs.Common.{◌≡◌, ◌⊎◌, ℕ, ◌+◌, ◌<◌, ◌≤◌, Bool, true, false, List, [], ◌∷◌, length, map, get_or, Some, inl, inr, refl, subst, sym, ap, ◌∙◌, arith}
 use Rattle.std.specs.List.{slice_get}
 use Rattle.std.specs.Prelude.{All}
 use Rattle.std.proofs.lemmas.List.{get_or-map, length-map}
@@ -15,6 +15,7 @@ use Rattle.cache_model.specs.Fits.{Fits, FitsKind}
 use Rattle.cache_model.specs.KeyBody.{IsKey}
 use Rattle.cache_model.specs.Logged.{AreJoined, HasReplies, IsRead}
 use Rattle.cache_model.specs.Spelled.{spelled}
+use Rattle.cache_model.specs.OwnParts.{Log}
 use Rattle.report_text.specs.inside.Found.{HasFound}
 use Rattle.report_text.specs.inside.Spells.{HasLegalKeys}
 
@@ -57,9 +58,6 @@ of-scan kinds.Scan longest key count Missing scan fits = absurd fits
 of-scan kinds.Scan longest key count Erased scan fits = absurd fits
 
 -- ---- an answer that is one reply
-
-abbrev Log : Type 0
-Log = List (Option (ReplyKind × List ℕ))
 
 -- the answer is spelled there
 pub record IsAt (log : Log) (first : ℕ) (answer : Reply) : Type 0 where

@@ -1,14 +1,14 @@
 -- The keys of a body as they are added to those that were found, one behind another.
-use Rattle.std.proofs.Common.{◌≡◌, ℕ, ◌+◌, ◌-◌, ◌*◌, ◌≤◌, ◌<◌, List, [], ◌∷◌, ◌++◌, length, map, take, get_or, Option, Some, arith, refl, sym, ap, ◌∙◌, append_assoc, append-nil, length-append}
+use Rattle.std.proofs.Common.{◌≡◌, ℕ, ◌+◌, ◌-◌, ◌*◌, ◌≤◌, ◌<◌, List, [], ◌∷◌, ◌++◌, length, map, take, get_or, Some, arith, refl, sym, ap, ◌∙◌, append_assoc, append-nil, length-append}
 use Rattle.std.specs.List.{flat_map, slice_get}
 use Rattle.std.specs.Prelude.{All}
 use Rattle.std.proofs.lemmas.List.{flat_map_more, length-map, map-append, take-map, take_all, take_more}
 use denote.Ref.{Bor}
-use Rattle.cache_model.specs.declared.reply_kind.ReplyKind.{ReplyKind}
 use Rattle.cache_model.specs.Answer.{join}
 use Rattle.cache_model.specs.Apply.{Keys, in_order}
 use Rattle.cache_model.specs.KeyBody.{AreKeys, IsKey}
 use Rattle.cache_model.specs.Spelled.{spelled}
+use Rattle.cache_model.specs.OwnParts.{Log}
 use Rattle.report_text.specs.inside.Found.{HasFound}
 use Rattle.report_text.proofs.Keys.{Cuts}
 
@@ -51,9 +51,6 @@ pub gathered_all : (old found : List (Bor (List ℕ))) (rest : List ℕ) (keys :
 gathered_all old found rest keys p none = sym (append-nil (texts found)) ∙ ap (λ list. texts found ++ list) (sym (none p.others p.are)) ∙ p.all
 
 -- ---- one shard's keys after another's
-
-abbrev Log : Type 0
-Log = List (Option (ReplyKind × List ℕ))
 
 -- the keys of one shard, in its reply
 pub record AreFoundAt (log : Log) (part : ℕ) (keys : List (List ℕ)) : Type 0 where

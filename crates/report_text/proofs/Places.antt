@@ -1,5 +1,5 @@
 -- The places of the next parts, from one command to the next.
-use Rattle.std.proofs.Common.{◌≡◌, ℕ, ◌+◌, ◌*◌, ◌^◌, ◌<◌, ◌≤◌, ◌≢◌, Bool, true, false, eqb, cond, List, length, map, set, get_or, Option, refl, sym, ap, ◌∙◌, subst, arith, get_or-set_same, get_or-set_other}
+use Rattle.std.proofs.Common.{◌≡◌, ℕ, ◌+◌, ◌*◌, ◌^◌, ◌<◌, ◌≤◌, ◌≢◌, Bool, true, false, eqb, cond, List, length, map, set, get_or, refl, sym, ap, ◌∙◌, subst, arith, get_or-set_same, get_or-set_other}
 use Rattle.std.proofs.lemmas.Bool.{eqb-true}
 use Rattle.std.proofs.lemmas.Bool.Decides.{nat_tests}
 use Rattle.std.proofs.lemmas.List.{get_or-map, length-map}
@@ -9,10 +9,9 @@ use Rattle.trace_text.specs.Operation.{Operation, operation}
 use Rattle.trace_text.specs.Parsed.{Parsed, trace_in}
 use Rattle.trace_text.specs.Parts.{is_scan, longest_value, origin}
 use Rattle.trace_text.specs.Trace.{Trace}
-use Rattle.cache_model.specs.declared.reply_kind.ReplyKind.{ReplyKind}
 use Rattle.cache_model.specs.Apply.{Reply}
 use Rattle.cache_model.specs.Logged.{AreLogged, IsRead}
-use Rattle.cache_model.specs.OwnParts.{parts_before}
+use Rattle.cache_model.specs.OwnParts.{parts_before, Log}
 use Rattle.run_log.specs.Replies.{Replies}
 use Rattle.report_text.specs.inside.Places.{ArePlaces}
 use Rattle.report_text.specs.Views.{replies_in}
@@ -26,9 +25,6 @@ GoUp = (trace : Trace) (n o i : ℕ) (d : Operation) → i < length trace.operat
 
 abbrev pub AreFew : Type 0
 AreFew = (trace : Trace) (n o i : ℕ) → 1 ≤ n → parts_before trace n o i ≤ i * n
-
-abbrev Log : Type 0
-Log = List (Option (ReplyKind × List ℕ))
 
 abbrev pub AreReadBack : Type 0
 AreReadBack = (trace : Trace) (n i : ℕ) (logs : List Log) (answers : List (ℕ × Reply)) (d : Operation) (e : Log) (f : ℕ × Reply)

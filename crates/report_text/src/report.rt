@@ -50,11 +50,15 @@ pub fn write_report<K: Sink>(
     requires one_journal_each { length journals.now ≡ shards }
     requires one_line_each { length lines.now ≡ shards }
     requires answered { (answers : List (ℕ × Reply)) × AreLogged (trace_in trace.now) shards (replies_in logs.now) answers }
+
+    // The whole report, or a front of it.
     ensures written { OnOk result ((answers : List (ℕ × Reply)) → AreLogged (trace_in trace.now) shards (replies_in logs.now) answers
         → Appends (K.written sink.old) (K.written sink.new) (report_of answers (journals_in journals.now) (occupancies_in lines.now))) }
     ensures front { OnErr result ((answers : List (ℕ × Reply)) → AreLogged (trace_in trace.now) shards (replies_in logs.now) answers
         → AppendsFront (K.written sink.old) (K.written sink.new)
         (report_of answers (journals_in journals.now) (occupancies_in lines.now))) }
+
+    // It fails only where the sink does.
     ensures failed { OnErr result (Rose (K.faults sink.old) (K.faults sink.new)) }
     ensures never_falls { K.faults sink.old ≤ K.faults sink.new }
 {

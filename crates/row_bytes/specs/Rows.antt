@@ -3,18 +3,28 @@ use Rattle.std.specs.Prelude.{◌≡◌, ℕ, ◌+◌, ◌-◌, ◌<◌, ◌≤�
 use Rattle.byteorder.specs.Endian.{little_number, little_bytes}
 use Rattle.layout.specs.Sizes.{descriptor, greatest_key, greatest_value}
 use Rattle.cache_model.specs.Row.{Row, size}
+use Rattle.row_bytes.specs.declared.links.Links.{Links}
 
 -- the bytes of the header, in front of the key
 abbrev pub header : ℕ
 header = 32
 
--- The content of an object that holds a row: the row number and the number of the put in four bytes each, the lengths of
--- the key and the value in two each, 20 zero bytes (of which 16 are kept for links), the key, the value, and zero bytes
--- up to the size. The lowest byte of a number stands first.
-abbrev pub row_bytes : ℕ → Row → List ℕ
-row_bytes number row =
-    little_bytes 4 number ++ little_bytes 4 row.number ++ little_bytes 2 (length row.key) ++ little_bytes 2 (length row.value)
-    ++ replicate 20 0 ++ row.key ++ row.value
+-- the link of a row that has none
+abbrev pub no_link : ℕ
+no_link = 18446744073709551615
+
+-- The header: the row number and the number of the put in four bytes each, the lengths of the key and the value in two
+-- each, four zero bytes, and the links to the next more recently and the next less recently used row in eight each. The
+-- lowest byte of a number stands first.
+abbrev pub header_bytes : ℕ → ℕ → ℕ → ℕ → Links → List ℕ
+header_bytes number put key_length value_length links =
+    little_bytes 4 number ++ little_bytes 4 put ++ little_bytes 2 key_length ++ little_bytes 2 value_length
+    ++ replicate 4 0 ++ little_bytes 8 links.newer ++ little_bytes 8 links.older
+
+-- The content of an object that holds a row: the header, the key, the value, and zero bytes up to the size.
+abbrev pub row_bytes : ℕ → Links → Row → List ℕ
+row_bytes number links row =
+    header_bytes number row.number (length row.key) (length row.value) links ++ row.key ++ row.value
     ++ replicate (size row.key row.value - (descriptor + header + length row.key + length row.value)) 0
 
 -- what such a content says, field by field
@@ -29,6 +39,15 @@ key_length_in content = little_number 2 (drop 8 content)
 
 abbrev pub value_length_in : List ℕ → ℕ
 value_length_in content = little_number 2 (drop 10 content)
+
+abbrev pub newer_in : List ℕ → ℕ
+newer_in content = little_number 8 (drop 16 content)
+
+abbrev pub older_in : List ℕ → ℕ
+older_in content = little_number 8 (drop 24 content)
+
+abbrev pub links_in : List ℕ → Links
+links_in content = record { newer = newer_in content; older = older_in content }
 
 abbrev pub key_in : List ℕ → List ℕ
 key_in content = take (key_length_in content) (drop header content)
@@ -47,11 +66,22 @@ pub record IsStorable (row : Row) : Type 0 where
   pub short_value : length row.value ≤ greatest_value
   pub put : row.number < 2 ^ 32
 
--- a row with a number stands in the content
+-- links that have room in their eight bytes
+pub record AreLinks (links : Links) : Type 0 where
+  pub newer : links.newer < 2 ^ 64
+  pub older : links.older < 2 ^ 64
+
+-- a row with a number stands in the content, with some links
 pub record HoldsRow (content : List ℕ) (number : ℕ) (row : Row) : Type 0 where
   pub storable : IsStorable row
   pub small : number < 2 ^ 32
-  pub bytes : content ≡ row_bytes number row
+  pub links : Links
+  pub are_links : AreLinks links
+  pub bytes : content ≡ row_bytes number links row
+
+-- a content with zero bytes for its links
+abbrev pub without_links : List ℕ → List ℕ
+without_links content = take 16 content ++ replicate 16 0 ++ drop header content
 
 -- some row stands in the content
 abbrev pub IsRow : List ℕ → Type 0

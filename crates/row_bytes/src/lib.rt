@@ -1,13 +1,16 @@
-//! A row in the content of a segment's object: a header of 32 bytes, the key, the value, and zero bytes up to the size.
+//! A row in the content of a segment's object: a header of 32 bytes, the key, the value, and zero bytes up to the size. The
+//! header ends with two links to other rows; which rows these are is not said here.
 //!
 //! The layout is this project's. What the bytes mean is `specs/Rows.antt`, in both directions: the bytes of a row, and
 //! the row that bytes are read as.
 #![tactic(auto)]
 
 mod law;
+mod links;
 mod reading;
 mod writing;
 
 pub use law::a_row_is_read_as_it_is_written;
+pub use links::{Links, NO_LINK, newer_in, older_in, set_newer, set_older};
 pub use reading::{key_in, number_in, put_in, value_in};
 pub use writing::{row_size, write_row};

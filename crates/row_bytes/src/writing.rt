@@ -1,10 +1,10 @@
 //! A row written into the content of its object.
 ghost use Rattle.std.specs.Prelude.{◌≡◌, ◌+◌, ◌<◌, ◌≤◌, ◌^◌, ◌++◌, drop, length, replicate};
-ghost use Rattle.byteorder.specs.Endian.{little_bytes};
 ghost use Rattle.layout.specs.Sizes.{descriptor, greatest_key, greatest_value};
 ghost use Rattle.cache_model.specs.Row.{size};
 ghost use Rattle.row_bytes.specs.Rows as rows;
 
+use crate::links::Links;
 use crate::reading::HEADER;
 use layout::DESCRIPTOR;
 
@@ -17,22 +17,27 @@ pub fn row_size(key: &[u8], value: &[u8]) -> u32
     (DESCRIPTOR + HEADER as u32 + key.len() as u32 + value.len() as u32).div_ceil(8) * 8
 }
 
-/// Writes a row into the content of a new object, all of whose bytes are 0.
-pub fn write_row(content: &mut [u8], number: u32, put: u32, key: &[u8], value: &[u8])
+/// Writes a row with its links into the content of a new object, all of whose bytes are 0.
+pub fn write_row(content: &mut [u8], number: u32, put: u32, links: Links, key: &[u8], value: &[u8])
     requires some_key { 1 ≤ length key.now }
     requires short_key { length key.now ≤ greatest_key }
     requires short_value { length value.now ≤ greatest_value }
     requires size { length content.old + descriptor ≡ size key.now value.now }
     requires zero { content.old ≡ replicate (length content.old) 0 }
+    ensures bytes { content.new ≡ rows.row_bytes number links (record { key = key.now; value = value.now; number = put }) }
     ensures holds { rows.HoldsRow content.new number (record { key = key.now; value = value.now; number = put }) }
     ensures read { rows.row_in content.new ≡ record { key = key.now; value = value.now; number = put } }
     ensures number { rows.number_in content.new ≡ number }
+    ensures links { rows.links_in content.new ≡ links }
 {
     let (header, behind) = content.split_at_mut(HEADER);
-    write_front(
-        header,
-        &header_of(number, put, key.len() as u16, value.len() as u16),
-    );
+    header.copy_from_slice(header_of(
+        number,
+        put,
+        key.len() as u16,
+        value.len() as u16,
+        links,
+    ).as_slice());
     let (key_part, behind) = behind.split_at_mut(key.len());
     key_part.copy_from_slice(key);
     write_front(behind, value);
@@ -46,13 +51,19 @@ fn write_front(text: &mut [u8], bytes: &[u8])
     text[..bytes.len()].copy_from_slice(bytes);
 }
 
-/// The bytes of a header that are not 0: the first 12.
-fn header_of(number: u32, put: u32, key_len: u16, value_len: u16) -> [u8; 12]
-    ensures { result ≡ little_bytes 4 number ++ little_bytes 4 put ++ little_bytes 2 key_len ++ little_bytes 2 value_len }
+/// The bytes of a header.
+fn header_of(number: u32, put: u32, key_len: u16, value_len: u16, links: Links) -> [u8; 32]
+    ensures bytes { result ≡ rows.header_bytes number put key_len value_len links }
+    ensures fit { rows.AreLinks links }
 {
     let [n0, n1, n2, n3] = number.to_le_bytes();
     let [p0, p1, p2, p3] = put.to_le_bytes();
     let [k0, k1] = key_len.to_le_bytes();
     let [v0, v1] = value_len.to_le_bytes();
-    [n0, n1, n2, n3, p0, p1, p2, p3, k0, k1, v0, v1]
+    let [a0, a1, a2, a3, a4, a5, a6, a7] = links.newer.to_le_bytes();
+    let [b0, b1, b2, b3, b4, b5, b6, b7] = links.older.to_le_bytes();
+    [
+        n0, n1, n2, n3, p0, p1, p2, p3, k0, k1, v0, v1, 0, 0, 0, 0, a0, a1, a2, a3, a4, a5, a6, a7,
+        b0, b1, b2, b3, b4, b5, b6, b7,
+    ]
 }

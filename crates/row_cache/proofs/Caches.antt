@@ -1,6 +1,7 @@
 -- What holds of a cache, where a row comes, goes, or is another.
-use Rattle.std.proofs.Common.{◌≡◌, ℕ, ◌+◌, ◌*◌, ◌^◌, ◌<◌, ◌≤◌, List, [], ◌∷◌, map, Option, Some, None, refl, sym, ap, subst, ◌∙◌, arith}
+use Rattle.std.proofs.Common.{◌≡◌, ℕ, ◌+◌, ◌*◌, ◌^◌, ◌<◌, ◌≤◌, inl, List, [], ◌∷◌, length, map, Option, Some, None, refl, sym, ap, subst, ◌∙◌, arith}
 use Rattle.std.specs.Prelude.{slice_get, slice_set, option_map, IfSome}
+use Rattle.std.proofs.lemmas.List.{length-map}
 use Rattle.std.proofs.lemmas.List.Sums.{sum_by-cons}
 use Rattle.cache_model.specs.Row.{Row, size, live}
 use Rattle.common_lemmas.specs.Lists.{times, delete}
@@ -10,12 +11,18 @@ use Rattle.regions.specs.Counts.{live_total}
 use Rattle.regions.specs.Contents.{Item, Standing, Keeps, item_if_live, live_at, standing_at, size_of}
 use Rattle.regions.specs.Stores.{Live}
 use Rattle.regions.specs.declared.place.Place.{Place}
-use Rattle.row_cache.specs.Rows.{row_at, rows_at, Stay}
+use Rattle.row_bytes.specs.Rows.{row_in}
+use Rattle.row_cache.specs.Links.{follow}
+use Rattle.row_cache.specs.Rows.{AreRelinked, content_at, row_at, row_there, rows_at, Stay}
 use Rattle.row_cache.specs.inside.Tables.{TableState, AreTablesOf, IsListed, IsRowOf, Drops, HoldsARow, PlacesRow, SwapsRow, AddsRow, ReplacesRow, next_number, placed}
 use Rattle.row_cache.specs.declared.cache.storing.NewRow.{NewRow}
 use Rattle.row_cache.specs.inside.NewRows.{IsStored}
-use Rattle.row_cache.specs.inside.Consistent.{IsConsistent, rows_in, rows_with}
-use Rattle.row_cache.proofs.Listed.{map_same, live_without, live_at_most}
+use Rattle.row_cache.specs.inside.Chained.{IsLinked, place_in}
+use Rattle.row_cache.specs.inside.Consistent.{IsConsistent, IsCounted, rows_in, rows_with}
+use Rattle.row_cache.proofs.Joined.{followed}
+use Rattle.row_cache.proofs.Numbered.{place_is}
+use Rattle.row_cache.proofs.Relinked.{relinked_lives, relinked_total, same_rows}
+use Rattle.row_cache.proofs.Listed.{listed_here, listed_later, map_same, live_without, live_at_most}
 use Rattle.row_cache.proofs.States.{row_is, some_none, other_stays, still_listed, replaced_rows, replaced_others, added_here, added_others}
 
 -- ---- where no object changes
@@ -23,7 +30,7 @@ use Rattle.row_cache.proofs.States.{row_is, some_none, other_stays, still_listed
 same_live : (r s : RegionState) → Keeps r s → live_at s ≡ live_at r
 same_live r s keeps = λ i p. item_if_live (keeps p i)
 
-pub consistent_kept : (t : TableState) (r s : RegionState) (bytes : ℕ) → IsConsistent t r bytes → Keeps r s → live_total s ≡ live_total r → IsConsistent t s bytes
+pub consistent_kept : (t : TableState) (r s : RegionState) (bytes : ℕ) → IsCounted t r bytes → Keeps r s → live_total s ≡ live_total r → IsCounted t s bytes
 consistent_kept t r s bytes c keeps total =
     let same = same_live r s keeps in
     record {
@@ -36,7 +43,7 @@ pub keeps_same : (r s : RegionState) (guards : ℕ) → s ≡ record r { guards 
 keeps_same r s guards e = λ p. ap (λ (x : RegionState). standing_at x p) e
 
 pub stays_kept : (r s : RegionState) → Keeps r s → Stay r s
-stays_kept r s keeps = λ p i e. ap (option_map (λ (x : Standing). x.item)) (keeps p) ∙ e
+stays_kept r s keeps = λ p i e. (i, ap (option_map (λ (x : Standing). x.item)) (keeps p) ∙ e, inl refl)
 
 -- ---- the sizes of rows
 
@@ -49,7 +56,7 @@ size_small item n row is = (let k = is.holds.storable.short_key in let v = is.ho
 pub item_small : (item : Item) (n : ℕ) (row : Row) → IsRowOf item n row → size_of item ≤ 13000
 item_small item n row is = (let s = size_small item n row is in let e = is.size in omega (arith, s, e))
 
-pub bytes_small : (t : TableState) (r : RegionState) (bytes : ℕ) → IsConsistent t r bytes → bytes ≤ 13000 * 2 ^ 32
+pub bytes_small : (t : TableState) (r : RegionState) (bytes : ℕ) → IsCounted t r bytes → bytes ≤ 13000 * 2 ^ 32
 bytes_small t r bytes c =
     let a = c.tables.numbers in
     let row = row_at (live_at r) t.places in
@@ -58,7 +65,7 @@ bytes_small t r bytes c =
     omega (arith, most, count, few, small, counted, sizes)
 
 -- the bytes of a row more are counted
-pub counts_more : (t : TableState) (r : RegionState) (bytes more : ℕ) (row : NewRow) → IsConsistent t r bytes → IsStored row → more ≡ size row.key.now row.value.now → bytes + more < 2 ^ 64
+pub counts_more : (t : TableState) (r : RegionState) (bytes more : ℕ) (row : NewRow) → IsCounted t r bytes → IsStored row → more ≡ size row.key.now row.value.now → bytes + more < 2 ^ 64
 counts_more t r bytes more row c is e =
     let small = bytes_small t r bytes c in let key = is.short_key in let value = is.short_value in
     omega (arith, small, key, value, e)
@@ -75,8 +82,8 @@ rows_added t u there place row old new r recency places =
     ∙ (ap (λ (x : Row). x ∷ rows_at new ps t.recency) (added_here t there place row old new r).1
     ∙ ap (λ (xs : List Row). row ∷ xs) (map_same (row_at new ps) (row_at old t.places) t.recency (λ m l. (added_others t there place row old new r m l).1))))
 
-pub consistent_added : (t u : TableState) (r s : RegionState) (bytes more : ℕ) (row : Row) → IsConsistent t r bytes → AreTablesOf u (live_at s)
-    → rows_in u s ≡ row ∷ rows_in t r → live_total s ≡ live_total r + size row.key row.value → more ≡ bytes + size row.key row.value → IsConsistent u s more
+pub consistent_added : (t u : TableState) (r s : RegionState) (bytes more : ℕ) (row : Row) → IsCounted t r bytes → AreTablesOf u (live_at s)
+    → rows_in u s ≡ row ∷ rows_in t r → live_total s ≡ live_total r + size row.key row.value → more ≡ bytes + size row.key row.value → IsCounted u s more
 consistent_added t u r s bytes more row c tables rows total is =
     let counted = c.counted in let sizes = c.sizes in
     let all = sum_by-cons (λ (x : Row). size x.key x.value) row (rows_in t r) in
@@ -115,7 +122,7 @@ rows_replaced t u n to row old new r listed recency places =
     (λ m l. (let w = still_listed t n m r.tables.numbers listed l in (replaced_others t n to row old new r listed m w.0 w.1).1)))))
 
 -- the sizes of the rows that are left, and of the one that was
-pub sizes_without : (t : TableState) (r : RegionState) (bytes n : ℕ) (c : IsConsistent t r bytes) (listed : IsListed t n)
+pub sizes_without : (t : TableState) (r : RegionState) (bytes n : ℕ) (c : IsCounted t r bytes) (listed : IsListed t n)
     → live_total r ≡ size_of (c.tables.rows n listed).item + live (rows_with t r (delete n t.recency))
 sizes_without t r bytes n c listed =
     let h = c.tables.rows n listed in let row = row_at (live_at r) t.places in
@@ -124,9 +131,9 @@ sizes_without t r bytes n c listed =
     let sizes = c.sizes in
     omega (arith, whole, is, sizes)
 
-pub consistent_replaced : (t u : TableState) (r s : RegionState) (bytes more n : ℕ) (row : Row) (c : IsConsistent t r bytes) (listed : IsListed t n) → AreTablesOf u (live_at s)
+pub consistent_replaced : (t u : TableState) (r s : RegionState) (bytes more n : ℕ) (row : Row) (c : IsCounted t r bytes) (listed : IsListed t n) → AreTablesOf u (live_at s)
     → rows_in u s ≡ row ∷ rows_with t r (delete n t.recency) → live_total s + size_of (c.tables.rows n listed).item ≡ live_total r + size row.key row.value
-    → more + size_of (c.tables.rows n listed).item ≡ bytes + size row.key row.value → IsConsistent u s more
+    → more + size_of (c.tables.rows n listed).item ≡ bytes + size row.key row.value → IsCounted u s more
 consistent_replaced t u r s bytes more n row c listed tables rows total is =
     let counted = c.counted in let old = sizes_without t r bytes n c listed in
     let all = sum_by-cons (λ (x : Row). size x.key x.value) row (rows_with t r (delete n t.recency)) in
@@ -143,9 +150,9 @@ rows_dropped t u r s n p are listed here drops recency places =
     ∙ map_same (row_at (live_at s) t.places) (row_at (live_at r) t.places) (delete n t.recency)
     (λ m l. (let w = still_listed t n m are.numbers listed l in (other_stays t (live_at r) (live_at s) n p are listed here drops m w.0 w.1).1)))
 
-pub consistent_dropped : (t u : TableState) (r s : RegionState) (bytes fewer n : ℕ) (c : IsConsistent t r bytes) (listed : IsListed t n) → AreTablesOf u (live_at s)
+pub consistent_dropped : (t u : TableState) (r s : RegionState) (bytes fewer n : ℕ) (c : IsCounted t r bytes) (listed : IsListed t n) → AreTablesOf u (live_at s)
     → rows_in u s ≡ rows_with t r (delete n t.recency) → live_total s + size_of (c.tables.rows n listed).item ≡ live_total r
-    → fewer + size_of (c.tables.rows n listed).item ≡ bytes → IsConsistent u s fewer
+    → fewer + size_of (c.tables.rows n listed).item ≡ bytes → IsCounted u s fewer
 consistent_dropped t u r s bytes fewer n c listed tables rows total is =
     let counted = c.counted in let old = sizes_without t r bytes n c listed in
     let now : live (rows_in u s) ≡ live (rows_with t r (delete n t.recency)) = ap live rows in
@@ -162,7 +169,7 @@ none_live t l are empty None p e = refl
 none_live t l are empty (Some i) p e =
     absurd (let w = are.every p i e in let none : times w.0 t.recency ≡ 0 = ap (λ ns. times w.0 ns) empty in let listed = w.1 in omega (arith, none, listed))
 
-pub consistent_emptied : (t : TableState) (r s : RegionState) (bytes : ℕ) → IsConsistent t r bytes → t.recency ≡ [] → ((p : Place) → standing_at s p ≡ None) → live_total s ≡ 0 → IsConsistent t s bytes
+pub consistent_emptied : (t : TableState) (r s : RegionState) (bytes : ℕ) → IsCounted t r bytes → t.recency ≡ [] → ((p : Place) → standing_at s p ≡ None) → live_total s ≡ 0 → IsCounted t s bytes
 consistent_emptied t r s bytes c empty gone total =
     let was : (p : Place) → live_at r p ≡ None = λ p. none_live t (live_at r) c.tables empty (live_at r p) p refl in
     let same : live_at s ≡ live_at r = λ i p. (ap item_if_live (gone p) ∙ sym (was p)) i in
@@ -176,3 +183,50 @@ consistent_emptied t r s bytes c empty gone total =
 
 pub no_numbers : (t : TableState) (r : RegionState) → rows_in t r ≡ [] → t.recency ≡ []
 no_numbers t r e = mapped_none (row_at (live_at r) t.places) t.recency e
+
+-- ---- other links
+
+pub relinked_rows : (r s : RegionState) (places : List Place) (ns : List ℕ) → AreRelinked r s → rows_at (live_at s) places ns ≡ rows_at (live_at r) places ns
+relinked_rows r s places ns a = ap (λ (f : ℕ → Row). map f ns) (same_rows (live_at r) (live_at s) places (relinked_lives r s a))
+
+pub counted_relinked : (t u : TableState) (r s : RegionState) (bytes : ℕ) → IsCounted t r bytes → AreRelinked r s → AreTablesOf u (live_at s) → u.recency ≡ t.recency → u.places ≡ t.places
+    → IsCounted u s bytes
+counted_relinked t u r s bytes c a tables recency places =
+    let total = relinked_total r s a in
+    record {
+      tables = tables;
+      counted = c.counted ∙ sym total;
+      sizes = ap live (ap (λ ns. rows_at (live_at s) u.places ns) recency ∙ (ap (λ (ps : List Place). rows_at (live_at s) ps t.recency) places ∙ relinked_rows r s t.places t.recency a)) ∙ (c.sizes ∙ sym total);
+    }
+
+pub rows_relinked : (t u : TableState) (r s : RegionState) (ns : List ℕ) → AreRelinked r s → u.places ≡ t.places → rows_with u s ns ≡ rows_with t r ns
+rows_relinked t u r s ns a places = ap (λ (ps : List Place). rows_at (live_at s) ps ns) places ∙ relinked_rows r s t.places ns a
+
+-- ---- what a reader sees
+
+same_reads : (f : Place → Row) (g : ℕ → Place) (h : ℕ → Row) (ns : List ℕ) → ((n : ℕ) → 1 ≤ times n ns → f (g n) ≡ h n) → map f (map g ns) ≡ map h ns
+same_reads f g h [] same = refl
+same_reads f g h (n ∷ ns) same =
+    ap (λ (x : Row). x ∷ map f (map g ns)) (same n (listed_here n ns)) ∙ ap (λ (xs : List Row). h n ∷ xs) (same_reads f g h ns (λ m l. same m (listed_later m n ns l)))
+
+pub rows_read : (t : TableState) (r : RegionState) (bytes : ℕ) → IsConsistent t r bytes → map (row_there (live_at r)) (follow (length t.places) (live_at r) t.ends.front) ≡ rows_in t r
+rows_read t r bytes c =
+    let l = live_at r in let ps = map (place_in t.places) t.recency in
+    let count = c.counted.tables.numbers.count in
+    let long : length ps ≡ length t.recency = length-map t.recency (place_in t.places) in
+    ap (λ o. map (row_there l) (follow (length t.places) l o)) c.chain.front
+    ∙ (ap (map (row_there l)) (followed (length t.places) l None ps (omega (arith, count, long)) c.chain.linked c.chain.room)
+    ∙ same_reads (row_there l) (place_in t.places) (row_at l t.places) t.recency (λ n listed.
+    (let h = c.counted.tables.rows n listed in
+    ap (row_there l) (place_is t.places n h.place h.placed) ∙ sym (ap (λ o. row_in (content_at l o)) h.placed))))
+
+-- the same where no object changes
+pub kept_reads : (r s : RegionState) (k : ℕ) (front : Option Place) → Keeps r s
+    → map (row_there (live_at s)) (follow k (live_at s) front) ≡ map (row_there (live_at r)) (follow k (live_at r) front)
+kept_reads r s k front keeps = ap (λ (l : Live). map (row_there l) (follow k l front)) (same_live r s keeps)
+
+pub kept_chain : (t : TableState) (r s : RegionState) → IsLinked t (live_at r) → Keeps r s → IsLinked t (live_at s)
+kept_chain t r s c keeps = subst (λ (l : Live). IsLinked t l) (sym (same_live r s keeps)) c
+
+pub cache_kept : (t : TableState) (r s : RegionState) (bytes : ℕ) → IsConsistent t r bytes → Keeps r s → live_total s ≡ live_total r → IsConsistent t s bytes
+cache_kept t r s bytes c keeps total = record { counted = consistent_kept t r s bytes c.counted keeps total; chain = kept_chain t r s c.chain keeps }

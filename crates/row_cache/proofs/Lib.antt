@@ -9,3 +9,11 @@ pub mod Placed
 pub mod Ordered
 pub mod Written
 pub mod GivenUp
+pub mod Slots
+pub mod Chains
+pub mod Relinked
+pub mod Joined
+pub mod Kept
+pub mod Numbered
+pub mod Renamed
+pub mod Referred

@@ -7,20 +7,23 @@ use Rattle.std.specs.List.{last_or, sum}
 use Rattle.std.specs.Prelude.{slice_get, IsSome, option_map}
 use Rattle.cache_model.specs.Row.{Row, live, size}
 use Rattle.cache_model.specs.Legal.{is_of_put}
-use Rattle.row_bytes.specs.Rows.{IsRow, row_in}
+use Rattle.row_bytes.specs.Rows.{HoldsRow, IsRow, row_in, without_links}
 use Rattle.common_lemmas.specs.Lists.{times, delete}
 use Rattle.regions.specs.Segments.{RegionState, SegmentState}
 use Rattle.regions.specs.Counts.{live_total, live_in}
 use Rattle.regions.specs.Contents.{Item, Standing, item_if_live, if_live, live_at, standing_at, standing_in}
 use Rattle.regions.specs.Stores.{Live, store_of, found}
 use Rattle.regions.specs.declared.place.Place.{Place}
-use Rattle.row_cache.specs.Rows.{row_at, rows_at, StandsAt}
+use Rattle.row_cache.specs.Rows.{AreRelinked, row_at, rows_at, StandsAt}
+use Rattle.row_cache.specs.inside.Moved.{bare}
 use Rattle.row_cache.specs.inside.Tables.{TableState, AreTablesOf, IsListed, HasRow, IsLast, place_of}
-use Rattle.row_cache.specs.inside.Consistent.{IsConsistent, rows_in, rows_with}
+use Rattle.row_cache.specs.inside.Consistent.{IsCounted, rows_in, rows_with}
 use Rattle.row_cache.proofs.Listed.{map_same, live_without, last_row, delete_last}
 use Rattle.row_cache.proofs.Numbers.{once}
 use Rattle.row_cache.proofs.States.{row_is, some_same}
 use Rattle.row_cache.proofs.Moving.{listed_place}
+use Rattle.row_cache.proofs.Relinked.{relinked_total}
+use Rattle.row_cache.proofs.Caches.{relinked_rows}
 
 abbrev none_of_type : (A : Type 0) → Option A
 none_of_type A = None
@@ -55,36 +58,43 @@ row_stands r places n h p there =
 
 -- ---- rows that were moved
 
-stored_item : (t : TableState) (l : Live) (are : AreTablesOf t l) (n : ℕ) (listed : IsListed t n) → store_of (λ (i : Item). i) (place_of t) l n ≡ Some (are.rows n listed).item
+stored_item : (t : TableState) (l : Live) (are : AreTablesOf t l) (n : ℕ) (listed : IsListed t n) → store_of bare (place_of t) l n ≡ Some (bare (are.rows n listed).item)
 stored_item t l are n listed =
     let h = are.rows n listed in
-    ap (found (λ (i : Item). i) l) (listed_place t n listed ∙ h.placed) ∙ ap (option_map (λ (i : Item). i)) h.is_live
+    ap (found bare l) (listed_place t n listed ∙ h.placed) ∙ ap (option_map bare) h.is_live
 
 pub rows_moved : (t u : TableState) (l m : Live) → AreTablesOf t l → AreTablesOf u m → u.recency ≡ t.recency
-    → ((n : ℕ) → store_of (λ (i : Item). i) (place_of u) m n ≡ store_of (λ (i : Item). i) (place_of t) l n)
+    → ((n : ℕ) → store_of bare (place_of u) m n ≡ store_of bare (place_of t) l n)
+    → ((content : List ℕ) (number : ℕ) (row : Row) → HoldsRow content number row → row_in (without_links content) ≡ row)
     → rows_at m u.places u.recency ≡ rows_at l t.places t.recency
-rows_moved t u l m are now recency same =
+rows_moved t u l m are now recency same read =
     ap (λ ns. rows_at m u.places ns) recency
     ∙ map_same (row_at m u.places) (row_at l t.places) t.recency (λ n listed.
     (let k : IsListed u n = subst (λ ns. 1 ≤ times n ns) (sym recency) listed in
     let a = are.rows n listed in let b = now.rows n k in
-    let items : b.item ≡ a.item = some_same (stored_item u m now n k) (same n ∙ stored_item t l are n listed) in
-    row_is m u.places n b ∙ (sym b.is_row.read ∙ (ap (λ (i : Item). row_in i.content) items ∙ (a.is_row.read ∙ sym (row_is l t.places n a))))))
+    let items : bare b.item ≡ bare a.item = some_same (stored_item u m now n k) (same n ∙ stored_item t l are n listed) in
+    row_is m u.places n b ∙ (sym (read b.item.content n b.row b.is_row.holds) ∙ (ap (λ (i : Item). row_in i.content) items ∙ (read a.item.content n a.row a.is_row.holds ∙ sym (row_is l t.places n a))))))
 
-pub consistent_moved : (t u : TableState) (r s : RegionState) (bytes : ℕ) → IsConsistent t r bytes → AreTablesOf u (live_at s) → rows_in u s ≡ rows_in t r → live_total s ≡ live_total r → IsConsistent u s bytes
+pub consistent_moved : (t u : TableState) (r s : RegionState) (bytes : ℕ) → IsCounted t r bytes → AreTablesOf u (live_at s) → rows_in u s ≡ rows_in t r → live_total s ≡ live_total r → IsCounted u s bytes
 consistent_moved t u r s bytes c tables rows total = record { tables = tables; counted = c.counted ∙ sym total; sizes = ap live rows ∙ (c.sizes ∙ sym total) }
 
 -- ---- a row is used
 
-abbrev pub touched : TableState → ℕ → TableState
-touched t n = record t { recency = n ∷ delete n t.recency }
+pub rows_touched : (t u : TableState) (r s : RegionState) (n : ℕ) → AreRelinked r s → u.recency ≡ n ∷ delete n t.recency → u.places ≡ t.places
+    → rows_in u s ≡ row_at (live_at r) t.places n ∷ rows_with t r (delete n t.recency)
+rows_touched t u r s n a recency places =
+    ap (λ ns. rows_at (live_at s) u.places ns) recency
+    ∙ (ap (λ (ps : List Place). rows_at (live_at s) ps (n ∷ delete n t.recency)) places ∙ relinked_rows r s t.places (n ∷ delete n t.recency) a)
 
-pub consistent_touched : (t : TableState) (r : RegionState) (bytes n : ℕ) → IsConsistent t r bytes → AreTablesOf (touched t n) (live_at r) → IsListed t n → IsConsistent (touched t n) r bytes
-consistent_touched t r bytes n c tables listed =
+pub consistent_touched : (t u : TableState) (r s : RegionState) (bytes n : ℕ) → IsCounted t r bytes → AreTablesOf u (live_at s) → IsListed t n → AreRelinked r s
+    → u.recency ≡ n ∷ delete n t.recency → u.places ≡ t.places → IsCounted u s bytes
+consistent_touched t u r s bytes n c tables listed a recency places =
     let row = row_at (live_at r) t.places in
     let first = sum_by-cons (λ (x : Row). size x.key x.value) (row n) (rows_at (live_at r) t.places (delete n t.recency)) in
     let whole = live_without row n t.recency listed in let sizes = c.sizes in
-    record { tables = tables; counted = c.counted; sizes = omega (arith, first, whole, sizes) }
+    let now : live (rows_in u s) ≡ live (row n ∷ rows_with t r (delete n t.recency)) = ap live (rows_touched t u r s n a recency places) in
+    let total = relinked_total r s a in
+    record { tables = tables; counted = c.counted ∙ sym total; sizes = omega (arith, first, whole, sizes, now, total) }
 
 -- ---- the row that was used longest ago
 
@@ -113,7 +123,7 @@ none_live zero = refl
 none_live (suc n) = let e = sum_by-cons (λ (x : ℕ). x) 0 (map live_in (replicate n (none_of_type SegmentState))) in let ih = none_live n in omega (arith, e, ih)
 
 pub consistent_new : (t : TableState) (r : RegionState) (n : ℕ) → r ≡ record { most = n; guards = 0; active = None; segments = replicate n None } → t.recency ≡ []
-    → ((live : Live) → ((p : Place) → live p ≡ None) → AreTablesOf t live) → IsConsistent t r 0
+    → ((live : Live) → ((p : Place) → live p ≡ None) → AreTablesOf t live) → IsCounted t r 0
 consistent_new t r n is none tables =
     let total : live_total r ≡ 0 = ap live_total is ∙ none_live n in
     record {

@@ -9,6 +9,7 @@ use Rattle.regions.specs.Contents.{Item}
 use Rattle.regions.specs.Stores.{Live, StandsFor, store_of, found, is_place, less, renamed}
 use Rattle.regions.specs.declared.place.Place.{Place}
 use Rattle.row_cache.specs.inside.Tables.{IsRowOf, TableState, AreTablesOf, IsListed, ReplacesRow, place_of}
+use Rattle.row_cache.specs.inside.Moved.{bare}
 use Rattle.row_cache.proofs.Numbers.{listed_below}
 use Rattle.row_cache.proofs.States.{row_is, some_same, some_none, same_number, got_set, got_past_set}
 
@@ -20,20 +21,20 @@ listed_place t n h = elim (leb_tells 1 (times n t.recency)) [ inl k ↦ ap (λ b
 place_listed : (t : TableState) (n : ℕ) (p : Place) → place_of t n ≡ Some p → IsListed t n
 place_listed t n p e = elim (leb_tells 1 (times n t.recency)) [ inl k ↦ k.1 | inr k ↦ some_none e (ap (λ b. cond b (slice_get t.places n) None) k.0) ]
 
-pub tables_stand : (t : TableState) (live : Live) → AreTablesOf t live → StandsFor (λ (i : Item). i) (store_of (λ (i : Item). i) (place_of t) live) (place_of t) live
+pub tables_stand : (t : TableState) (live : Live) → AreTablesOf t live → StandsFor bare (store_of bare (place_of t) live) (place_of t) live
 tables_stand t live are =
     let at : (n : ℕ) (l : IsListed t n) → place_of t n ≡ Some (are.rows n l).place = λ n l. listed_place t n l ∙ (are.rows n l).placed in
     record {
       placed = λ n i e. elim (leb_tells 1 (times n t.recency)) [
-        | inl k ↦ (let h = are.rows n k.1 in (h.place, at n k.1, sym (ap (found (λ (x : Item). x) live) (at n k.1)) ∙ e))
-        | inr k ↦ some_none e (ap (λ b. found (λ (x : Item). x) live (cond b (slice_get t.places n) None)) k.0)
+        | inl k ↦ (let h = are.rows n k.1 in (h.place, at n k.1, sym (ap (found bare live) (at n k.1)) ∙ e))
+        | inr k ↦ some_none e (ap (λ b. found bare live (cond b (slice_get t.places n) None)) k.0)
       ];
       known = λ n p e. (let l = place_listed t n p e in let h = are.rows n l in
-          subst (λ o. IsSome (found (λ (x : Item). x) live o)) (sym (at n l)) (subst (λ o. IsSome (option_map (λ (x : Item). x) o)) (sym h.is_live) refl));
+          subst (λ o. IsSome (found bare live o)) (sym (at n l)) (subst (λ o. IsSome (option_map bare o)) (sym h.is_live) refl));
       apart = λ m n p em en. (let lm = place_listed t m p em in let ln = place_listed t n p en in
           same_number live t.places m n (are.rows m lm) (are.rows n ln) (some_same (at m lm) em ∙ sym (some_same (at n ln) en)));
       every = λ p i e. (let w = are.every p i e in let n = w.0 in let there : place_of t n ≡ Some p = listed_place t n w.1 ∙ w.2 in
-          (n, there, ap (found (λ (x : Item). x) live) there ∙ ap (option_map (λ (x : Item). x)) e));
+          (n, there, ap (found bare live) there ∙ ap (option_map bare) e));
     }
 
 -- ---- one row is moved
@@ -41,7 +42,7 @@ tables_stand t live are =
 abbrev at_fields : ℕ → ℕ → Place
 at_fields s a = record { segment = s; at = a }
 
-place_tells : (p q : Place) → ((is_place p q ≡ true) × (p ≡ q)) ⊎ ((is_place p q ≡ false) × (p ≢ q))
+pub place_tells : (p q : Place) → ((is_place p q ≡ true) × (p ≡ q)) ⊎ ((is_place p q ≡ false) × (p ≢ q))
 place_tells p q = elim (eqb_tells p.segment q.segment) [
   | inl a ↦
       elim (eqb_tells p.at q.at) [
@@ -51,16 +52,16 @@ place_tells p q = elim (eqb_tells p.segment q.segment) [
   | inr a ↦ inr (ap (λ x. x && (p.at == q.at)) a.0, λ e. a.1 (ap (λ (x : Place). x.segment) e))
 ]
 
-less_here : (p : Place) (live : Live) → less p live p ≡ None
+pub less_here : (p : Place) (live : Live) → less p live p ≡ None
 less_here p live = elim (place_tells p p) [ inl h ↦ ap (λ b. cond b None (live p)) h.0 | inr h ↦ absurd (h.1 refl) ]
 
-less_past : (p q : Place) (live : Live) → p ≢ q → less p live q ≡ live q
+pub less_past : (p q : Place) (live : Live) → p ≢ q → less p live q ≡ live q
 less_past p q live far = elim (place_tells p q) [ inl h ↦ absurd (far h.1) | inr h ↦ ap (λ b. cond b None (live q)) h.0 ]
 
-renamed_here : (from to : Place) → renamed from to from ≡ to
+pub renamed_here : (from to : Place) → renamed from to from ≡ to
 renamed_here from to = elim (place_tells from from) [ inl h ↦ ap (λ b. cond b to from) h.0 | inr h ↦ absurd (h.1 refl) ]
 
-renamed_past : (from to p : Place) → from ≢ p → renamed from to p ≡ p
+pub renamed_past : (from to p : Place) → from ≢ p → renamed from to p ≡ p
 renamed_past from to p far = elim (place_tells from p) [ inl h ↦ absurd (far h.1) | inr h ↦ ap (λ b. cond b to p) h.0 ]
 
 -- the row that is moved

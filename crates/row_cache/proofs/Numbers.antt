@@ -3,8 +3,7 @@ use Rattle.std.proofs.Common.{◌≡◌, ℕ, suc, ◌+◌, ◌-◌, ◌<◌, �
 use Rattle.std.specs.Prelude.{nat_lt, slice_get, slice_set, All}
 use Rattle.std.proofs.lemmas.Bool.{cases_eq}
 use Rattle.std.proofs.lemmas.Bool.Decides.{leb_tells}
-use Rattle.std.proofs.lemmas.List.{length-set, get_or-set_same}
-use Rattle.index_lists.specs.Lists.{Lists, with_list, list_at}
+use Rattle.std.proofs.lemmas.List.{length-set}
 use Rattle.std.specs.List.{last_or, AllByRecursion}
 use Rattle.std.proofs.lemmas.List.Sorted.{length_permutation}
 use Rattle.std.proofs.lemmas.List.Elements.{All-from_recursion}
@@ -244,11 +243,6 @@ numbers_added t u p a room same_room recency places freed index_room put =
           ]);
       index_count = omega (arith, index_rows, indexes, row_count);
     }
-
--- the one list of an `IndexLists`, once it is another
-pub one_set : (s u : Lists) (ns : List ℕ) → length s.lists ≡ 1 → u ≡ with_list s 0 ns → (u.indices ≡ s.indices) × ((length u.lists ≡ 1) × (list_at u 0 ≡ ns))
-one_set s u ns one e =
-    (ap (λ (l : Lists). l.indices) e, (ap (λ (l : Lists). length l.lists) e ∙ (length-set s.lists 0 ns ∙ one), ap (λ (l : Lists). list_at l 0) e ∙ get_or-set_same s.lists 0 ns [] (omega (arith, one))))
 
 -- ---- what the calls ask of the next number
 

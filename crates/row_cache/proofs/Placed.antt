@@ -1,5 +1,5 @@
 -- A row is written into a new object.
-use Rattle.std.proofs.Common.{◌≡◌, ℕ, ◌+◌, ◌-◌, ◌≤◌, inl, inr, List, length, replicate, Option, Some, None, sym, ap, ◌∙◌, arith}
+use Rattle.std.proofs.Common.{◌≡◌, ℕ, ◌+◌, ◌-◌, ◌≤◌, inl, inr, List, length, replicate, Option, Some, None, refl, sym, ap, ◌∙◌, arith}
 use Rattle.std.specs.Prelude.{option_map, slice_index}
 use Rattle.std.proofs.lemmas.Bool.Decides.{leb_tells}
 use Rattle.std.proofs.lemmas.List.{get_or-set_same, length-replicate, set_past}
@@ -8,7 +8,7 @@ use Rattle.layout.specs.Sizes.{descriptor, segment}
 use Rattle.regions.specs.Segments.{RegionState}
 use Rattle.regions.specs.Shapes.{active_of}
 use Rattle.regions.specs.Counts.{left, left_of, plus, used_counts}
-use Rattle.regions.specs.Contents.{Item, Standing, ChangesAt, item_if_live, live_at, standing_at, with_bytes, zeros}
+use Rattle.regions.specs.Contents.{Item, Standing, ChangesAt, dead, item_if_live, live_at, standing_at, with_bytes, zeros}
 use Rattle.regions.specs.declared.place.Place.{Place}
 use Rattle.row_cache.specs.Rows.{item_at, Stay}
 use Rattle.row_cache.specs.inside.Tables.{Adds}
@@ -28,7 +28,7 @@ object_added r m s p kind size ws first unused second = record {
 pub object_stays : (r m s : RegionState) (p : Place) (a b : Option Standing) → ChangesAt p a r m → standing_at r p ≡ None → ChangesAt p b m s → Stay r s
 object_stays r m s p a b first unused second = λ q i e. elim (place_cases q p) [
   | inl same ↦ some_none (sym (ap (λ y. item_at r y) same) ∙ e) (ap (option_map (λ (x : Standing). x.item)) unused)
-  | inr far ↦ ap (option_map (λ (x : Standing). x.item)) (second.others q far ∙ first.others q far) ∙ e
+  | inr far ↦ (i, ap (option_map (λ (x : Standing). x.item)) (second.others q far ∙ first.others q far) ∙ e, inl refl)
 ]
 
 -- the new content has the length of the zeros that it is written over
@@ -57,4 +57,16 @@ left_added r m s n size active same used kept total some room =
     omega (arith, was, now, e)
 
 pub stays_same : (r s : RegionState) → s ≡ r → Stay r s
-stays_same r s same = λ p i e. ap (λ (y : RegionState). item_at y p) same ∙ e
+stays_same r s same = λ p i e. (i, ap (λ (y : RegionState). item_at y p) same ∙ e, inl refl)
+
+-- a live object that is dead from now on stays
+item_dead : (o : Option Standing) → option_map (λ (x : Standing). x.item) (option_map dead o) ≡ option_map (λ (x : Standing). x.item) o
+item_dead None = refl
+item_dead (Some s) = refl
+
+pub killed_stays : (r s : RegionState) (p : Place) → ChangesAt p (option_map dead (standing_at r p)) r s → Stay r s
+killed_stays r s p change = λ q i e. elim (place_cases q p) [
+  | inl same ↦
+      (i, ap (λ x. item_at s x) same ∙ (ap (option_map (λ (x : Standing). x.item)) change.here ∙ (item_dead (standing_at r p) ∙ (sym (ap (λ x. item_at r x) same) ∙ e))), inl refl)
+  | inr far ↦ (i, ap (option_map (λ (x : Standing). x.item)) (change.others q far) ∙ e, inl refl)
+]

@@ -20,7 +20,8 @@ use Rattle.regions.specs.Segments.{RegionState}
 use Rattle.regions.specs.Contents.{Item, Standing, standing_at, live_at, item_if_live, if_live}
 use Rattle.regions.specs.Stores.{Live}
 use Rattle.regions.specs.declared.place.Place.{Place}
-use Rattle.row_cache.specs.Rows.{content_of, content_at, row_at, key_at}
+use Rattle.row_cache.specs.Links.{content_of}
+use Rattle.row_cache.specs.Rows.{content_at, row_at, key_at}
 use Rattle.row_cache.specs.inside.Tables.{TableState, AreNumbers, AreTablesOf, IsListed, HasRow, Drops, AddsRow, ReplacesRow, next_number, placed}
 use Rattle.row_cache.proofs.Listed.{Apart, listed_here, listed_later, listed_apart}
 use Rattle.row_cache.proofs.Numbers.{listed_below, gone_after, next_absent, next_at_most}
@@ -239,7 +240,7 @@ tables_replaced t u n to row old new r listed numbers recency places index moved
 
 -- ---- a new row
 
-placed_others : (places : List Place) (n m : ℕ) (p : Place) → m ≢ n → m < length places → slice_get (placed n p places) m ≡ slice_get places m
+pub placed_others : (places : List Place) (n m : ℕ) (p : Place) → m ≢ n → m < length places → slice_get (placed n p places) m ≡ slice_get places m
 placed_others places n m p far h = elim (leb_tells (suc n) (length places)) [
   | inl k ↦ ap (λ b. slice_get (cond b (slice_set places n p) (places ++ p ∷ [])) m) k.0 ∙ got_past_set places n m p far
   | inr k ↦
@@ -248,7 +249,7 @@ placed_others places n m p far h = elim (leb_tells (suc n) (length places)) [
       ∙ (slice_get-get_or (places ++ p ∷ []) m p (omega (arith, len, h)) ∙ (ap (λ x. Some x) (get_or_append_left places (p ∷ []) p m h) ∙ sym (slice_get-get_or places m p h))))
 ]
 
-placed_here : (t : TableState) (p : Place) → AreNumbers t → slice_get (placed (next_number t) p t.places) (next_number t) ≡ Some p
+pub placed_here : (t : TableState) (p : Place) → AreNumbers t → slice_get (placed (next_number t) p t.places) (next_number t) ≡ Some p
 placed_here t p a = elim (leb_tells (suc (next_number t)) (length t.places)) [
   | inl k ↦ ap (λ b. slice_get (cond b (slice_set t.places (next_number t) p) (t.places ++ p ∷ [])) (next_number t)) k.0 ∙ got_set t.places (next_number t) p k.1
   | inr k ↦

@@ -1,27 +1,26 @@
 -- The rows that a row cache means, read off the bytes of its segments.
-use Rattle.std.specs.Prelude.{◌≡◌, ℕ, List, [], Option, None, Some, slice_get, map, option_map}
+use Rattle.std.specs.Prelude.{◌≡◌, ◌⊎◌, ℕ, List, [], length, Option, None, Some, slice_get, map, option_map}
 use Rattle.cache_model.specs.Row.{Row}
 use Rattle.cache_model.specs.Apply.{Reply, Stored, Replaced}
 use Rattle.row_cache.specs.declared.put.Put.{Put}
 use Rattle.row_cache.specs.declared.put.Put.TheVariants as puts
-use Rattle.row_bytes.specs.Rows.{row_in, IsRow}
+use Rattle.row_bytes.specs.Rows.{row_in, number_in, HoldsRow, IsRow}
 use Rattle.regions.specs.Segments.{RegionState}
 use Rattle.regions.specs.Contents.{Item, Standing, standing_at, live_at}
+use Rattle.regions.specs.Shapes.{shape}
+use Rattle.regions.specs.Counts.{used_counts, live_counts}
 use Rattle.regions.specs.Stores.{Live}
 use Rattle.regions.specs.declared.place.Place.{Place}
+use Rattle.row_cache.specs.Links.{content_of, follow}
 
--- a row cache: for how many rows it has room, the numbers of its rows, the one used last in front, the places of rows by
--- number, and the segments in which they stand
+-- a row cache: for how many rows it has room, the places of the row used last and of the one used longest ago, the places of
+-- rows by number, and the segments in which they stand
 pub record CacheState : Type 0 where
   pub room : ℕ
-  pub recency : List ℕ
+  pub front : Option Place
+  pub last : Option Place
   pub places : List Place
   pub region : RegionState
-
--- the content of the live object at a place, and no byte where there is none
-abbrev pub content_of : Option Item → List ℕ
-content_of None = []
-content_of (Some item) = item.content
 
 abbrev pub content_at : Live → Option Place → List ℕ
 content_at live None = []
@@ -37,17 +36,46 @@ key_at live places n = (row_at live places n).key
 abbrev pub rows_at : Live → List Place → List ℕ → List Row
 rows_at live places numbers = map (row_at live places) numbers
 
--- the rows of a cache, the one used last in front
+-- the row at a place
+abbrev pub row_there : Live → Place → Row
+row_there live p = row_in (content_of (live p))
+
+-- the rows of a cache, the one used last in front: the links lead from it to the others
 abbrev pub rows_of : CacheState → List Row
-rows_of c = rows_at (live_at c.region) c.places c.recency
+rows_of c = map (row_there (live_at c.region)) (follow (length c.places) (live_at c.region) c.front)
 
 -- the object at a place, live or dead
 abbrev pub item_at : RegionState → Place → Option Item
 item_at r p = option_map (λ (s : Standing). s.item) (standing_at r p)
 
--- the objects that stood stand with their kind and content
+-- the objects are the same row, with whatever links
+pub record IsSameRow (old new : Item) : Type 0 where
+  pub kind : new.kind ≡ old.kind
+  pub number : number_in new.content ≡ number_in old.content
+  pub row : row_in new.content ≡ row_in old.content
+  pub was : HoldsRow old.content (number_in old.content) (row_in old.content)
+  pub is : HoldsRow new.content (number_in old.content) (row_in old.content)
+
+-- the objects that stood stand with their kind and content, but for the links of a row
 abbrev pub Stay : RegionState → RegionState → Type 0
-Stay old new = (p : Place) (item : Item) → item_at old p ≡ Some item → item_at new p ≡ Some item
+Stay old new = (p : Place) (item : Item) → item_at old p ≡ Some item
+    → (now : Item) × (item_at new p ≡ Some now) × ((now ≡ item) ⊎ IsSameRow item now)
+
+-- the same row stands there, live as it was or dead
+pub record HasOtherLinks (old new : Option Standing) : Type 0 where
+  pub before : Standing
+  pub after : Standing
+  pub was : old ≡ Some before
+  pub is : new ≡ Some after
+  pub live : after.live ≡ before.live
+  pub same : IsSameRow before.item after.item
+
+-- nothing changed but links of rows
+pub record AreRelinked (old new : RegionState) : Type 0 where
+  pub objects : (p : Place) → (standing_at new p ≡ standing_at old p) ⊎ HasOtherLinks (standing_at old p) (standing_at new p)
+  pub used : used_counts new ≡ used_counts old
+  pub live : live_counts new ≡ live_counts old
+  pub shape : shape new ≡ shape old
 
 -- the reply of a put
 abbrev pub reply_of : Put → Reply

@@ -1,5 +1,7 @@
 -- What only the private parts of a row cache cite.
 pub mod Tables
+pub mod Chained
+pub mod Moved
 pub mod Sought
 pub mod Consistent
 pub mod NewRows

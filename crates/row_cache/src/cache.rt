@@ -37,7 +37,13 @@ impl Model for RowCache {
 
     ghost Value = { CacheState };
 
-    ghost view = { λ c. record { room = c.tables.room; recency = c.tables.recency; places = c.tables.places; region = c.region } };
+    ghost view = { λ c. record {
+      room = c.tables.room;
+      front = c.tables.ends.front;
+      last = c.tables.ends.last;
+      places = c.tables.places;
+      region = c.region;
+    } };
 
     ghost invariant = { λ c. IsConsistent c.tables c.region c.live };
 }
@@ -123,7 +129,7 @@ impl RowCache {
         ensures left { left self.new.region ≡ left self.old.region }
         ensures stay { Stay self.old.region self.new.region }
     {
-        let row = self.tables.last()?;
+        let row = self.tables.last(&self.region)?;
         let put = self.tables.put_of(&self.region, row);
         let found = self.tables.row_at(&self.region, row);
         drop_row(&mut self.region, &mut self.tables, &mut self.live, found);

@@ -1,12 +1,16 @@
 //! The rows of one shard's cache, in segments that compaction moves.
 //!
 //! A row is an object of a [`regions::Region`]; its bytes are those of `row_bytes`. Rows have numbers. The tables of a
-//! cache tell the place of each, the order of their keys and the order of their use, and are the mover of its region: what
-//! ScyllaDB's row cache has in its migrators. What a cache means is a list of rows ([`specs/Rows.antt`]), read off the
-//! bytes of its segments; no clause on a list of rows speaks of segments.
+//! cache tell the place of each and the order of their keys, and are the mover of its region: what ScyllaDB's row cache has
+//! in its migrators. The order of their use stands in the rows themselves: each has links to the one that was used next
+//! after it and to the one that was used next before it, and the tables keep the two ends. What a cache means is a list of
+//! rows ([`specs/Rows.antt`]), read off the bytes of its segments; no clause on a list of rows speaks of segments.
 #![tactic(auto)]
 
 mod cache;
+mod ends;
+mod links;
+mod order;
 mod put;
 mod row_keys;
 mod scanned;

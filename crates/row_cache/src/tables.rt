@@ -1,64 +1,67 @@
 //! Where rows stand, and in which order they were used.
 ghost use Rattle.std.specs.Prelude.{◌≡◌, ◌≢◌, ◌+◌, ◌<◌, ◌≤◌, ℕ, [], ◌∷◌, length, Some, None, slice_get, slice_set, IfOk, IfSome, MatchOption, MatchResult, All, vec_len, vec_capacity, List, ◌-◌, ◌^◌, take, map, filter};
 ghost use Rattle.std.specs.List.{last_or};
+ghost use Rattle.layout.specs.Sizes as sizes;
 ghost use Rattle.cache_model.specs.Row.{Row};
 ghost use Rattle.cache_model.specs.Apply.{in_order, is_at_most};
 ghost use Rattle.cache_model.specs.KeyBody.{IsKey};
 ghost use Rattle.common_lemmas.specs.Lists.{delete, times};
-ghost use Rattle.index_lists.specs.Lists.{list_at, with_list};
 ghost use Rattle.key_table.specs.Table.{AreSame};
 ghost use Rattle.lazy_index.specs.Lazy.{Has, IsKeyed, IsStanding, IsThere, rows_in};
 ghost use Rattle.regions.specs.Contents.{Item, live_at};
 ghost use Rattle.regions.specs.Stores.{Live};
 ghost use Rattle.row_bytes.specs.Rows.{number_in};
-ghost use Rattle.row_cache.specs.Rows.{key_at, row_at, rows_at};
+ghost use Rattle.row_cache.specs.Links as links;
+ghost use Rattle.row_cache.specs.Rows.{key_at, row_at, rows_at, AreRelinked};
 ghost use Rattle.row_cache.specs.inside.Sought.{IsFound, IsMissing};
+ghost use Rattle.row_cache.specs.inside.Chained as chained;
 ghost use Rattle.row_cache.specs.inside.Tables as tables;
 
+use crate::ends::Ends;
+use crate::links::segment_fits;
+use crate::order::Order;
 use crate::row_keys::{RowKeys, content_of};
 use cache_model::sorted_keys_are_in_order;
-use index_lists::IndexLists;
 use lazy_index::{LazyIndex, RowAt, Rows, Spot, Standing};
 use regions::{Movers, Place, Region};
 use row_bytes::{key_in, number_in, put_in};
 use std::alloc::{AllocError, Global};
 use std::marker::Model;
 
-// The one list of numbers: the recency of the rows.
-const RECENCY: u32 = 0;
-
 // The tables of a row cache: the mover of its region.
 #[derive(Drop)]
 pub(crate) struct Tables {
-    recency: IndexLists,
+    order: Order,
+    ends: Ends,
     places: Vec<Place>,
     freed: Vec<u32>,
     index: LazyIndex,
 }
 
 impl Model for Tables {
-    ghost use Rattle.std.specs.Prelude.{◌≡◌, ◌≤◌, length, vec_capacity, slice_index_or, []};
+    ghost use Rattle.std.specs.Prelude.{◌≤◌, vec_capacity};
     ghost use Rattle.row_cache.specs.inside.Tables.{TableState, AreNumbers};
 
     ghost Value = { TableState };
 
     ghost view = { λ t. record {
-      room = t.recency.indices;
-      recency = slice_index_or t.recency.lists 0 [];
+      room = t.index.room;
+      recency = t.order.rows;
+      ends = t.ends;
       places = t.places.items;
       freed = t.freed.items;
       index = t.index;
     } };
 
     ghost invariant = { λ t. AreNumbers (record {
-      room = t.recency.indices;
-      recency = slice_index_or t.recency.lists 0 [];
+      room = t.index.room;
+      recency = t.order.rows;
+      ends = t.ends;
       places = t.places.items;
       freed = t.freed.items;
       index = t.index;
     })
-        × (length t.recency.lists ≡ 1) × (t.recency.indices ≤ vec_capacity t.places)
-        × (t.recency.indices ≤ vec_capacity t.freed) };
+        × (t.index.room ≤ vec_capacity t.places) × (t.index.room ≤ vec_capacity t.freed) };
 }
 
 impl Tables {
@@ -67,9 +70,14 @@ impl Tables {
         requires { room < 2 ^ 32 - 1 }
         ensures empty { IfOk result (λ t. (t.room ≡ room) × (t.recency ≡ []) × (t.places ≡ []) × (t.freed ≡ [])) }
         ensures none { IfOk result (λ t. (live : Live) → ((p : Place) → live p ≡ None) → tables.AreTablesOf t live) }
+        ensures linked { IfOk result (λ t. (live : Live) → chained.IsLinked t live) }
     {
         Ok(Tables {
-            recency: IndexLists::new(alloc, room, 1)?,
+            order: Order::empty(),
+            ends: Ends {
+                front: None,
+                last: None,
+            },
             places: Vec::with_capacity(alloc, room as usize)?,
             freed: Vec::with_capacity(alloc, room as usize)?,
             index: LazyIndex::new(alloc, room)?,
@@ -80,15 +88,19 @@ impl Tables {
     pub(crate) fn len(&self) -> u32
         ensures { result ≡ length self.now.recency }
     {
-        self.recency.len(RECENCY)
+        self.places.len() as u32 - self.freed.len() as u32
     }
 
     // The row that was used longest ago.
-    #[tactic(auto, using(crate::proofs::Listed::last_is))]
-    pub(crate) fn last(&self) -> Option<u32>
+    pub(crate) fn last(&self, region: &Region) -> Option<u32>
+        requires tables { tables.AreTablesOf self.now (live_at region.now) }
+        requires linked { chained.IsLinked self.now (live_at region.now) }
         ensures { MatchOption result (self.now.recency ≡ []) (λ n. tables.IsLast n self.now.recency) }
     {
-        self.recency.back(RECENCY)
+        match self.ends.last {
+            Some(place) => Some(number_at(region, place)),
+            None => None,
+        }
     }
 
     // Where a row stands.
@@ -118,27 +130,50 @@ impl Tables {
     }
 
     // The row is the one used last.
-    pub(crate) fn touch(&mut self, number: u32)
-        requires { tables.IsListed self.old number }
-        ensures state { self.new ≡ record self.old { recency = number ∷ delete number self.old.recency } }
-        ensures tables { (live : Live) → tables.AreTablesOf self.old live → tables.AreTablesOf self.new live }
+    pub(crate) fn touch(&mut self, region: &mut Region, number: u32)
+        requires tables { tables.AreTablesOf self.old (live_at region.old) }
+        requires linked { chained.IsLinked self.old (live_at region.old) }
+        requires listed { tables.IsListed self.old number }
+        ensures state { self.new ≡ record self.old { recency = number ∷ delete number self.old.recency; ends = self.new.ends } }
+        ensures tables { tables.AreTablesOf self.new (live_at region.new) }
+        ensures linked { chained.IsLinked self.new (live_at region.new) }
+        ensures same { AreRelinked region.old region.new }
     {
-        self.recency.remove(RECENCY, number);
-        self.recency.push_front(RECENCY, number);
+        let place = self.place(number);
+        self.ends.bring_front(region, place);
+        self.order = self.order.without(&number).with_front(&number);
     }
 
-    // The row stands elsewhere, and is the one used last.
-    pub(crate) fn replace(&mut self, number: u32, place: Place)
-        requires { tables.IsListed self.old number }
-        ensures state { self.new ≡ record self.old {
-          recency = number ∷ delete number self.old.recency;
-          places = slice_set self.old.places number place;
-        } }
-        ensures tables { (row : Row) (old new : Live) → tables.ReplacesRow self.old number place row old new
-            → tables.AreTablesOf self.new new }
+    // The row of a number is no longer in the chain. Its object may be killed.
+    pub(crate) fn unlink(&mut self, region: &mut Region, number: u32)
+        requires tables { tables.AreTablesOf self.old (live_at region.old) }
+        requires linked { chained.IsLinked self.old (live_at region.old) }
+        requires listed { tables.IsListed self.old number }
+        ensures state { self.new ≡ record self.old { ends = self.new.ends } }
+        ensures tables { tables.AreTablesOf self.new (live_at region.new) }
+        ensures linked { chained.IsLinkedBut number self.new (live_at region.new) }
+        ensures same { AreRelinked region.old region.new }
+    {
+        let place = self.place(number);
+        self.ends.unlink(region, place);
+    }
+
+    // The row, which is not in the chain, stands elsewhere, and is the one used last.
+    pub(crate) fn replace(&mut self, region: &mut Region, number: u32, place: Place)
+        requires listed { tables.IsListed self.old number }
+        requires replaces { tables.ReplacesSomeRow self.old number place (live_at region.old) }
+        requires room { links.HasRoom place }
+        requires linked { chained.IsLinkedBut number self.old (live_at region.old) }
+        ensures recency { self.new.recency ≡ number ∷ delete number self.old.recency }
+        ensures places { self.new.places ≡ slice_set self.old.places number place }
+        ensures room { self.new.room ≡ self.old.room }
+        ensures tables { tables.AreTablesOf self.new (live_at region.new) }
+        ensures linked { chained.IsLinked self.new (live_at region.new) }
+        ensures same { AreRelinked region.old region.new }
     {
         self.put_at(number, place);
-        self.touch(number);
+        self.ends.push_front(region, place);
+        self.order = self.order.without(&number).with_front(&number);
     }
 
     // The row of a number stands at the place. The index is one of its keys there, too.
@@ -153,10 +188,27 @@ impl Tables {
     }
 
     // A new row, with the next number, stands at the place.
-    pub(crate) fn insert(&mut self, region: &Region, at: Spot, place: Place)
+    pub(crate) fn insert(&mut self, region: &mut Region, at: Spot, place: Place)
+        requires room { length self.old.recency < self.old.room }
+        requires adds { tables.AddsNewRow self.old at place (live_at region.old) }
+        requires linked { chained.IsLinkedBeside place self.old (live_at region.old) }
+        ensures room { self.new.room ≡ self.old.room }
+        ensures recency { self.new.recency ≡ tables.next_number self.old ∷ self.old.recency }
+        ensures places { self.new.places ≡ tables.placed (tables.next_number self.old) place self.old.places }
+        ensures tables { tables.AreTablesOf self.new (live_at region.new) }
+        ensures linked { chained.IsLinked self.new (live_at region.new) }
+        ensures same { AreRelinked region.old region.new }
+    {
+        self.enter(region, at, place);
+        self.ends.push_front(region, place);
+    }
+
+    // The same, but that the row is not in the chain.
+    fn enter(&mut self, region: &Region, at: Spot, place: Place)
         requires room { length self.old.recency < self.old.room }
         requires adds { tables.AddsNewRow self.old at place (live_at region.now) }
         ensures room { self.new.room ≡ self.old.room }
+        ensures ends { self.new.ends ≡ self.old.ends }
         ensures recency { self.new.recency ≡ tables.next_number self.old ∷ self.old.recency }
         ensures places { self.new.places ≡ tables.placed (tables.next_number self.old) place self.old.places }
         ensures tables { tables.AreTablesOf self.new (live_at region.now) }
@@ -168,21 +220,24 @@ impl Tables {
             places: self.places.as_slice(),
         };
         self.index.insert(&keys, at, number);
-        self.recency.push_front(RECENCY, number);
+        self.order = self.order.with_front(&number);
     }
 
-    // Takes a row out, and gives its number back. Its object is to be killed.
+    // Takes a row out, and gives its number back. Its object is to be killed, and it is in the chain no more.
     pub(crate) fn remove(&mut self, standing: Standing)
         requires at { IsStanding self.old.index standing }
         requires listed { tables.IsListed self.old standing.found.row }
         ensures recency { self.new.recency ≡ delete standing.found.row self.old.recency }
         ensures places { self.new.places ≡ self.old.places }
+        ensures ends { self.new.ends ≡ self.old.ends }
         ensures room { self.new.room ≡ self.old.room }
         ensures tables { (place : Place) (old new : Live) → tables.AreTablesOf self.old old
             → slice_get self.old.places standing.found.row ≡ Some place → tables.Drops place old new
             → tables.AreTablesOf self.new new }
     {
-        unlist(&mut self.recency, &mut self.index, standing);
+        self.index.remove(standing);
+        self.index.law();
+        self.order = self.order.without(&standing.found.row);
         self.freed.push(standing.found.row).unwrap();
     }
 
@@ -191,6 +246,7 @@ impl Tables {
         requires { tables.AreTablesOf self.old (live_at region.now) }
         ensures tables { tables.AreTablesOf self.new (live_at region.now) }
         ensures recency { self.new.recency ≡ self.old.recency }
+        ensures ends { self.new.ends ≡ self.old.ends }
         ensures places { self.new.places ≡ self.old.places }
         ensures room { self.new.room ≡ self.old.room }
         ensures settled { self.new.index.late ≡ [] }
@@ -282,48 +338,37 @@ fn give_number(places: &mut Vec<Place>, freed: &mut Vec<u32>, place: Place) -> u
     number
 }
 
-// Takes a row out of the index and the recency.
-fn unlist(recency: &mut IndexLists, index: &mut LazyIndex, standing: Standing)
-    requires list { length recency.old.lists ≡ 1 }
-    requires listed { 1 ≤ times standing.found.row (list_at recency.old 0) }
-    requires at { IsStanding index.old standing }
-    ensures recency { recency.new ≡ with_list recency.old 0 (delete standing.found.row (list_at recency.old 0)) }
-    ensures rows { AreSame (rows_in index.old) (standing.found.row ∷ rows_in index.new) }
-    ensures keyed { (before after : ℕ → List ℕ) → IsKeyed before index.old
-        → ((n : ℕ) → Has index.new n → after n ≡ before n) → IsKeyed after index.new }
-    ensures room { index.new.room ≡ index.old.room }
-{
-    index.remove(standing);
-    index.law();
-    recency.remove(RECENCY, standing.found.row);
-}
-
 // The number of the row that stands at a place.
 fn number_at(region: &Region, place: Place) -> u32
     requires { tables.HoldsARow (live_at region.now place) }
-    ensures { IfSome (live_at region.now place) (λ item. result ≡ number_in item.content) }
+    ensures number { IfSome (live_at region.now place) (λ item. result ≡ number_in item.content) }
+    ensures inside { place.at < sizes.segment }
 {
     number_in(region.bytes(place))
 }
 
 impl Movers for Tables {
-    ghost use Rattle.std.specs.Prelude.{[]};
+    ghost use Rattle.std.specs.Prelude.{[], None};
+    ghost use Rattle.row_cache.specs.inside.Chained as chained;
+    ghost use Rattle.row_cache.specs.inside.Moved as moves;
     ghost use Rattle.row_cache.specs.inside.Tables as tables;
 
-    ghost fits = { tables.AreTablesOf };
+    ghost fits = { λ t live. tables.AreTablesOf t live × chained.IsLinked t live };
 
     ghost place_of = { tables.place_of };
 
-    ghost bare = { λ item. item };
+    ghost bare = { moves.bare };
 
-    ghost references = { λ _. [] };
+    ghost references = { moves.references };
 
     ghost Rest = { tables.TableState };
 
-    ghost rest = { λ t. record t { places = [] } };
+    ghost rest = { λ t. record t { places = []; ends = record { front = None; last = None } } };
 
-    fn moved(&mut self, store: &mut Region, _kind: u8, _from: Place, to: Place) {
+    fn moved(&mut self, store: &mut Region, _kind: u8, from: Place, to: Place) {
+        segment_fits(to);
         let number = number_at(store, to);
         self.put_at(number, to);
+        self.ends.relocate(store, from, to);
     }
 }

@@ -1,14 +1,20 @@
 //! Tests of `row_bytes`: a row's bytes field by field, rows read again, and sizes.
-use row_bytes::{key_in, number_in, put_in, row_size, value_in, write_row};
+use row_bytes::{
+    Links, NO_LINK, key_in, newer_in, number_in, older_in, put_in, row_size, value_in, write_row,
+};
 use std::test::Fail;
 
 #[test]
 fn a_row_is_laid_out_field_by_field(rt: HostRuntime) -> Result<(), Fail> {
     let mut content = [0; 40];
-    write_row(&mut content, 0, 1, b"a", b"abc");
+    let links = Links {
+        newer: 0x0000_0002_0000_0030,
+        older: NO_LINK,
+    };
+    write_row(&mut content, 0, 1, links, b"a", b"abc");
     let wanted = [
-        0, 0, 0, 0, 1, 0, 0, 0, 1, 0, 3, 0, 0, 0, 0, 0, 0, 0, 0, 0, 0, 0, 0, 0, 0, 0, 0, 0, 0, 0,
-        0, 0, 0x61, 0x61, 0x62, 0x63, 0, 0, 0, 0,
+        0, 0, 0, 0, 1, 0, 0, 0, 1, 0, 3, 0, 0, 0, 0, 0, 0x30, 0, 0, 0, 2, 0, 0, 0, 0xff, 0xff,
+        0xff, 0xff, 0xff, 0xff, 0xff, 0xff, 0x61, 0x61, 0x62, 0x63, 0, 0, 0, 0,
     ];
     assert!(rt; content == wanted);
     Ok(())
@@ -17,9 +23,11 @@ fn a_row_is_laid_out_field_by_field(rt: HostRuntime) -> Result<(), Fail> {
 #[test]
 fn a_row_is_read_again(rt: HostRuntime) -> Result<(), Fail> {
     let mut content = [0; 40];
-    write_row(&mut content, 7, 300, b"key", b"v");
+    let links = Links { newer: 1, older: 2 };
+    write_row(&mut content, 7, 300, links, b"key", b"v");
     assert!(rt; number_in(&content) == 7 && put_in(&content) == 300);
     assert!(rt; key_in(&content) == b"key".as_slice() && value_in(&content) == b"v".as_slice());
+    assert!(rt; newer_in(&content) == 1 && older_in(&content) == 2);
     Ok(())
 }
 

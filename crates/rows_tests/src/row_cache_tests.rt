@@ -1,6 +1,7 @@
 //! Tests of `row_cache`: rows are stored, read, replaced and go in the order of their use.
 mod calls;
 mod first_row;
+mod links;
 mod list;
 mod moved;
 mod one_tag;

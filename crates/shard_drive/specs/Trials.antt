@@ -4,8 +4,8 @@ use Rattle.std.specs.List.{slice_index_or}
 use Rattle.std.specs.declared.alloc.Global.{Global}
 use Rattle.foreign_list.specs.Lists.{OwnedList}
 use Rattle.foreign_list.specs.OwnerSeats.{OwnerState, IsAtRest}
-use Rattle.shard_rings.specs.Links.{LinkState}
-use Rattle.shard_node.specs.Links.{IsUnused, ring_traffic}
+use Rattle.shard_rings.specs.Links.{LinkState, traffic_of}
+use Rattle.shard_node.specs.Links.{IsUnused}
 
 -- list k is that of shard k, and seat k its owner's, at rest
 pub record IsReady (k : ℕ) (home : OwnedList) (seat : OwnerState) : Type 0 where
@@ -18,4 +18,4 @@ AreReady homes seats = (k : ℕ) (d : OwnedList) (e : OwnerState) → k < length
 -- a link to each of the others of n shards, on which nothing was sent
 pub record AreUnused (n : ℕ) (own : Vec LinkState Global) : Type 0 where
   pub one_each : length own.items + 1 ≡ n
-  pub unused : All (IsUnused ring_traffic) own.items
+  pub unused : All (IsUnused traffic_of) own.items

@@ -1,6 +1,5 @@
 //! Driving in an order that is drawn from a number.
 ghost use Rattle.std.specs.Prelude.{◌≡◌, ◌<◌, ◌%◌, length, All};
-ghost use Rattle.shard_node.specs.Nodes.{traffic_by};
 ghost use Rattle.shard_node.specs.Standing.{InStanding};
 ghost use Rattle.shard_node.specs.Turns.{IsDone, IsSameNode};
 ghost use Rattle.shard_drive.specs.Drives.{AtEach};
@@ -24,9 +23,9 @@ pub fn drive_numbered<'f, R: Wait, L: Link<'f> + Drop, G: Gate + Drop>(
     number: u32,
 )
     requires some { 0 < length nodes.old }
-    requires standing { All (InStanding (traffic_by L.sent L.received L.full L.empty)) nodes.old }
-    ensures standing { All (InStanding (traffic_by L.sent L.received L.full L.empty)) nodes.new }
-    ensures done { All (IsDone (traffic_by L.sent L.received L.full L.empty) G.holds) nodes.new }
+    requires standing { All (InStanding L.traffic) nodes.old }
+    ensures standing { All (InStanding L.traffic) nodes.new }
+    ensures done { All (IsDone L.traffic G.holds) nodes.new }
     ensures same { AtEach (λ _. IsSameNode L.end) nodes.old nodes.new }
     ensures turns { FollowsWords (λ node. node.turns) number nodes.old nodes.new }
 {

@@ -2,7 +2,6 @@
 ghost use Rattle.std.specs.Prelude.{◌≡◌, ℕ, ◌<◌, ◌≤◌, length, slice_set, true, All};
 ghost use Rattle.std.specs.List.{slice_index_or};
 ghost use Rattle.layout.specs.Counts.{counted, greatest_count};
-ghost use Rattle.shard_node.specs.Nodes.{traffic_by};
 ghost use Rattle.shard_node.specs.Standing.{InStanding};
 ghost use Rattle.shard_node.specs.Turns.{IsDone};
 ghost use Rattle.shard_drive.specs.Lasting.{Lasting, lasting_of};
@@ -40,9 +39,9 @@ pub(crate) trait Driven {
 }
 
 impl<'f, L: Link<'f> + Drop, G: Gate + Drop> Driven for Node<'f, L, G> {
-    ghost stands = { λ node. InStanding (traffic_by L.sent L.received L.full L.empty) node };
+    ghost stands = { λ node. InStanding L.traffic node };
 
-    ghost is_done = { λ node. IsDone (traffic_by L.sent L.received L.full L.empty) G.holds node };
+    ghost is_done = { λ node. IsDone L.traffic G.holds node };
 
     ghost lasting = { λ node. lasting_of L.end node };
 

@@ -1,6 +1,5 @@
 //! Driving by a schedule.
 ghost use Rattle.std.specs.Prelude.{◌≡◌, ◌<◌, length, All};
-ghost use Rattle.shard_node.specs.Nodes.{traffic_by};
 ghost use Rattle.shard_node.specs.Standing.{InStanding};
 ghost use Rattle.shard_node.specs.Turns.{IsSameNode};
 ghost use Rattle.shard_drive.specs.Drives.{AtEach, Follows};
@@ -15,9 +14,7 @@ pub fn drive_schedule<'f, L: Link<'f> + Drop, G: Gate + Drop>(
     schedule: &[u32],
 )
     requires { All (λ k. k < length nodes.old) schedule.now }
-    ensures standing { AtEach (λ _ a b. InStanding (traffic_by L.sent L.received L.full L.empty) a → InStanding
-        (traffic_by L.sent L.received L.full L.empty) b)
-        nodes.old nodes.new }
+    ensures standing { AtEach (λ _ a b. InStanding L.traffic a → InStanding L.traffic b) nodes.old nodes.new }
     ensures same { AtEach (λ _. IsSameNode L.end) nodes.old nodes.new }
     ensures turns { Follows (λ node. node.turns) schedule.now nodes.old nodes.new }
 {

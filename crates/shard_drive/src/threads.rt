@@ -1,9 +1,8 @@
 //! Driving on threads.
 ghost use Rattle.std.specs.Prelude.{◌≡◌, ◌<◌, All};
-ghost use Rattle.shard_rings.specs.Links.{end_of};
+ghost use Rattle.shard_rings.specs.Links.{end_of, traffic_of};
 ghost use Rattle.shard_node.specs.Standing.{InStanding};
 ghost use Rattle.shard_node.specs.Turns.{IsDone, IsSameNode};
-ghost use Rattle.shard_node.specs.Links.{ring_traffic};
 ghost use Rattle.shard_drive.specs.Drives.{AtEach};
 
 use crate::driven::{Driven, have_finished};
@@ -24,9 +23,9 @@ pub fn drive_threads<'f, R, G>(rt: &R, nodes: &mut [Node<'f, RingLink<'f>, G>])
 where
     R: Threads + Wait + Sync,
     G: Gate + Send + Drop,
-    requires { All (InStanding ring_traffic) nodes.old }
-    ensures standing { All (InStanding ring_traffic) nodes.new }
-    ensures done { All (IsDone ring_traffic G.holds) nodes.new }
+    requires { All (InStanding traffic_of) nodes.old }
+    ensures standing { All (InStanding traffic_of) nodes.new }
+    ensures done { All (IsDone traffic_of G.holds) nodes.new }
     ensures same { AtEach (λ _. IsSameNode end_of) nodes.old nodes.new }
 {
     let threads = nodes.len().max(1);

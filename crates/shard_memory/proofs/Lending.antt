@@ -6,6 +6,7 @@ use Rattle.std.proofs.lemmas.Option.{none-some, same_Some}
 use Rattle.std.proofs.lemmas.List.Elements.{All-tail, All-head, All-contains}
 use denote.RawPtr.{Ptr}
 use Rattle.layout.specs.Extents.{Extent, Disjoint, IsWithin, AreDisjoint}
+use Rattle.layout.specs.Sizes.{tickets}
 use Rattle.raw_range.specs.Memory.{remove_extent}
 use Rattle.foreign_list.specs.declared.piece_id.PieceId.{PieceId}
 use Rattle.shard_memory.specs.Tickets.{Tickets, IsIdle, IsLentWith}
@@ -200,7 +201,7 @@ block_of_either lent home owner size blocks e was disjoint has = by (is_lent_at 
 
 -- ---- nothing is given yet
 
-pub lent_none : (lent : Tickets) (home : Ptr) (owner : ℕ) → length lent ≡ 32 → All IsNone lent → AreLent lent home owner []
+pub lent_none : (lent : Tickets) (home : Ptr) (owner : ℕ) → length lent ≡ tickets → All IsNone lent → AreLent lent home owner []
 lent_none lent home owner count idle = record {
   count = count;
   pieces = λ u b is. absurd (all_idle_out lent u b idle is);

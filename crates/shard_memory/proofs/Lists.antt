@@ -12,6 +12,7 @@ use Rattle.common_lemmas.proofs.Counts.{times_here, times_there, length_below}
 use Rattle.layout.specs.Extents.{Extent, Disjoint, IsWithin, AreDisjoint}
 use Rattle.raw_range.specs.Memory.{remove_extent}
 use Rattle.shard_memory.specs.inside.Parts.{is_segment, is_block, segments_of, blocks_of}
+use Rattle.shard_memory.specs.inside.Pieces.{most_out}
 
 pub has_first : (p : Extent) (ps : List Extent) → Contains (p ∷ ps) p
 has_first p ps = Contains-append_left (p ∷ []) ps p (Contains-push [] p)
@@ -146,7 +147,7 @@ few_segments n size ps blocks small =
     omega (arith, low, len)
 
 -- with so few pages there is room for one more piece
-pub few_pieces : (pages : ℕ) (allocated : List Extent) → pages ≤ 65536 → AreDisjoint (4096 * pages) allocated → length (blocks_of allocated) ≤ 1056 → length allocated < 4096
+pub few_pieces : (pages : ℕ) (allocated : List Extent) → pages ≤ 65536 → AreDisjoint (4096 * pages) allocated → length (blocks_of allocated) ≤ most_out → length allocated < 4096
 few_pieces pages allocated most blocks few =
     let segs = few_segments 2048 (4096 * pages) allocated blocks (omega (arith, most)) in
     let both = both_kinds allocated in

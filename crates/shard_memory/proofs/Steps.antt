@@ -13,6 +13,7 @@ use Rattle.common_lemmas.proofs.Options.{some_is}
 use Rattle.small_pools.specs.Classes.{size_of, order_of, IsClass, IsLeastClass}
 use Rattle.small_pools.specs.Objects.{Objects, IsHeld, AreHeldIn, AreObjects, HoldsFor, Trims}
 use Rattle.shard_memory.specs.inside.Parts.{IsConsistent, IsSegmentAt, IsBlockAt, is_segment, is_block, blocks_of, segments_of}
+use Rattle.shard_memory.specs.inside.Pieces.{most_out}
 use Rattle.shard_memory.proofs.Lists.{has_first, has_later, has_cases, kept, still_has, same_place, fewer_blocks, passes, len_of, segment_is, kept_by, block_is}
 
 -- a piece that is allocated lies in an allocated span
@@ -299,7 +300,8 @@ one_more : (p : Extent) (allocated : List Extent) → length (blocks_of (p ∷ a
 one_more p allocated = elim (is_segment p) as (λ b. length (cond (not b) (p ∷ filter is_block allocated) (filter is_block allocated)) ≤ length (filter is_block allocated) + 1) [ true ↦ omega arith | false ↦ omega arith ]
 
 pub gave_block : (n : ℕ) (allocated : List Extent) (spans spans' : Layout) (pools pools' : Objects) (at class len : ℕ) → IsConsistent n allocated spans pools → map.get pools.allocated at ≡ None → pools'.allocated ≡ map.insert pools.allocated at (size_of class)
-    → pools'.pages ≡ pools.pages → HoldsFor pools pools' spans spans' class → AreHeldIn pools' spans' → AreObjects pools' → Divides spans' → IsCoalesced spans' → IsLeastClass len class → length (blocks_of allocated) < 1056 → AreDisjoint (4096 * n) (extent at len ∷ allocated)
+    → pools'.pages ≡ pools.pages → HoldsFor pools pools' spans spans' class → AreHeldIn pools' spans' → AreObjects pools' → Divides spans' → IsCoalesced spans'
+    → IsLeastClass len class → length (blocks_of allocated) < most_out → AreDisjoint (4096 * n) (extent at len ∷ allocated)
     → IsConsistent n (extent at len ∷ allocated) spans' pools'
 gave_block n allocated spans spans' pools pools' at class len h free e pages holds held objects divided coalesced least few blocks =
     let p = extent at len in
@@ -342,7 +344,7 @@ all_free n m allocated spans pools e most whole none spans_pages no_spans pools_
       whole = ap (λ z. z % 32) e ∙ whole;
       same = spans_pages ∙ sym e;
       blocks = subst (AreDisjoint (4096 * m)) (sym none) (λ i d w. absurd (omega (arith, w)), λ i j d l w. absurd (omega (arith, w)));
-      few = subst (λ o. length (blocks_of o) ≤ 1056) (sym none) (omega arith);
+      few = subst (λ o. length (blocks_of o) ≤ most_out) (sym none) (omega arith);
       pieces = λ q has. absurd (let h : Contains [] q = subst (λ o. Contains o q) none has in let l = h.1 in omega (arith, l));
       spans_allocated = λ g k o. absurd (empty_at spans.allocated g k no_spans o);
       objects_allocated = λ a size o. absurd (empty_at pools.allocated a size no_allocated o);

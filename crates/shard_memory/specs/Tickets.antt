@@ -1,5 +1,5 @@
 -- The tickets with which blocks are lent, and their shares.
-use Rattle.std.specs.Prelude.{◌≡◌, ℕ, ◌+◌, ◌-◌, ◌<◌, ◌≤◌, ◌⊎◌, List, Option, Some, None, is_some, count_by, slice_get}
+use Rattle.std.specs.Prelude.{◌≡◌, ℕ, ◌<◌, ◌≤◌, ◌⊎◌, List, Option, Some, None, is_some, count_by, slice_get}
 use Rattle.layout.specs.Sizes.{request_tickets, tickets}
 use Rattle.foreign_list.specs.declared.piece_id.PieceId.{PieceId}
 use Rattle.shard_memory.specs.declared.share.Share.{Share}

@@ -1,10 +1,10 @@
-//! The memory of one shard, after Seastar's `core/memory.cc`: one range of pages, from which blocks of up to four
-//! pages and segments of 128 KiB are given and to which they are given back.
+//! The memory of one shard, after Seastar's `core/memory.cc`: one range of pages, from which blocks of up to
+//! [`layout::GREATEST_BLOCK`] bytes and segments are given and to which they are given back.
 //!
-//! A block comes from the pool of its size class, a segment is a span of 32 pages. Pools take their memory in spans
-//! of the same pages, and keep a span until `trim` finds no object of it allocated.
+//! A block comes from the pool of its size class, a segment is a span of [`layout::SEGMENT_PAGES`] pages. Pools take their memory
+//! in spans of the same pages, and keep a span until `trim` finds no object of it allocated.
 //!
-//! Some blocks stay with the shard. The others are lent, each with one of the 32 tickets of the shard's list: they may go to any
+//! Some blocks stay with the shard. The others are lent, each with a ticket of the shard's list: they may go to any
 //! thread, are released there, and are free once the shard takes them back.
 #![tactic(auto)]
 

@@ -10,7 +10,7 @@ ghost use Rattle.shard_memory.specs.Room.{LacksBlock, LacksSegment, IsTrimmed, K
 ghost use Rattle.layout.specs.Counts.{raised};
 ghost use Rattle.shard_memory.specs.Tickets.{first_ticket, end_ticket, HasIdle, IsLeastIdle, tickets_out};
 ghost use Rattle.shard_memory.specs.Shards.{
-  Shard,
+  MemoryState,
   most_blocks,
   longest_span,
   AreApart,
@@ -49,12 +49,12 @@ pub struct ShardMemory<'f> {
 }
 
 impl<'f> Model for ShardMemory<'f> {
-    ghost use Rattle.shard_memory.specs.Shards.{Shard, shard_code};
+    ghost use Rattle.shard_memory.specs.Shards.{MemoryState, shard_code};
     ghost use Rattle.layout.specs.Counts.{raised};
     ghost use Rattle.shard_memory.specs.Tickets.{tickets_out};
     ghost use Rattle.shard_memory.specs.inside.Lending.{staying, IsLending};
 
-    ghost Value = { Shard };
+    ghost Value = { MemoryState };
 
     ghost coded = { shard_code };
 
@@ -78,7 +78,7 @@ impl<'f> Model for ShardMemory<'f> {
 }
 
 impl<'f> ShardMemory<'f> {
-    /// The memory of a shard of so many pages of 4,096 bytes, all of it free, whose lent blocks come home over this list.
+    /// The memory of a shard of so many pages, all of it free, whose lent blocks come home over this list.
     ///
     /// # Errors
     /// Want of memory; then the seat is handed back.
@@ -93,6 +93,7 @@ impl<'f> ShardMemory<'f> {
         requires owner { home.now.owner ≡ shard }
         requires seat { IsAtRest home.now seat }
         ensures refused { IfErr result (λ back. back ≡ seat) }
+        // Else all of it is free.
         ensures numbers { IfOk result (λ memory. (memory.owner ≡ shard) × (memory.pages ≡ pages)) }
         ensures list { IfOk result (λ memory. memory.list ≡ home.now) }
         ensures blocks { IfOk result (λ memory. (memory.blocks ≡ []) × (memory.objects ≡ map.empty)) }
@@ -119,15 +120,17 @@ impl<'f> ShardMemory<'f> {
 
     /// What holds of the memory at each time.
     ///
-    /// Where `trim` would give nothing back, each block, lent or not, keeps at most 16 pages out beside the segments' own, and want
-    /// of room for a segment says that segments and blocks are together at least a 32nd of the pages.
+    /// Where `trim` would give nothing back, each block, lent or not, keeps at most a pool's longest span out beside the segments'
+    /// own pages, and want of room for a segment says that segments and blocks are together as many as the pages make segments.
     pub fn facts(&self)
+        // No two pieces meet, all are this shard's.
         ensures owner { self.now.owner ≡ self.now.list.owner }
         ensures apart { AreApart self.now }
         ensures range { AreOfRange self.now }
         ensures kinds { (piece : Lent) → IsSegmentOf self.now piece → ¬ IsBlockOf self.now piece }
         ensures objects { Blocks (page * self.now.pages) (map.get self.now.objects) }
         ensures of_blocks { HaveObjects self.now }
+        // How many there are, and how counted.
         ensures segments { segment_pages * length self.now.segments ≤ self.now.pages }
         ensures few { length self.now.blocks ≤ most_blocks }
         ensures tickets { length self.now.lent ≡ tickets }
@@ -149,10 +152,12 @@ impl<'f> ShardMemory<'f> {
     /// size's class nor the pages have room, in this order.
     pub fn give(&mut self, size: u32, share: Share) -> Result<ForeignBlock<'f>, GiveRefusal>
         requires { 1 ≤ size }
+        // When it is given, and when not.
         ensures refused { IfErr result (RefusesFor self.old share size) }
         ensures room { IfOk result (λ _. (size ≤ greatest_block) × ¬ LacksBlock self.old.room size) }
         ensures crowded { IfErr result (λ refusal. refusal ≡ GiveRefusal.NoSpan → IsTrimmed self.old.room → IsCrowded self.old) }
         ensures unchanged { IfErr result (λ _. self.new ≡ self.old) }
+        // What is given, and all that changed.
         ensures ticket { IfOk result (λ block. IsLeastIdle self.old.lent share block.ticket) }
         ensures fresh { IfOk result (λ block. IsFresh self.old.list.id block.ticket block.piece block) }
         ensures mine { IfOk result (λ block. (block.piece.home ≡ self.old.home) × (block.piece.owner ≡ self.old.owner)) }
@@ -235,6 +240,7 @@ impl<'f> ShardMemory<'f> {
         ensures room { IfOk result (λ _. (size ≤ greatest_block) × ¬ LacksBlock self.old.room size) }
         ensures crowded { IfErr result (λ refusal. refusal ≡ GiveRefusal.NoSpan → IsTrimmed self.old.room → IsCrowded self.old) }
         ensures unchanged { IfErr result (λ _. self.new ≡ self.old) }
+        // What is given, and all that changed.
         ensures mine { IfOk result (λ piece. (piece.home ≡ self.old.home) × (piece.owner ≡ self.old.owner)) }
         ensures given { IfOk result (IsBlockOf self.new) }
         ensures zeros { IfOk result (λ piece. piece.bytes ≡ replicate size 0) }
@@ -255,6 +261,7 @@ impl<'f> ShardMemory<'f> {
     /// Takes a block of `give_here` back.
     pub fn back_here(&mut self, piece: Piece)
         requires { IsBlockOf self.old piece }
+        // All that changed, and what can be given.
         ensures blocks { self.new.blocks ≡ remove_extent (extent_of piece) self.old.blocks }
         ensures one_less { length self.new.blocks + 1 ≡ length self.old.blocks }
         ensures objects { self.new.objects ≡ map.remove self.old.objects piece.at }
@@ -282,6 +289,7 @@ impl<'f> ShardMemory<'f> {
         ensures none { IsNone result ↔ LacksSegment self.old.room }
         ensures unchanged { IfNone result (self.new ≡ self.old) }
         ensures crowded { IfNone result (IsTrimmed self.old.room → IsCrowded self.old) }
+        // What is given, and all that changed.
         ensures mine { IfSome result (λ piece. (piece.home ≡ self.old.home) × (piece.owner ≡ self.old.owner)) }
         ensures given { IfSome result (IsSegmentOf self.new) }
         ensures whole { IfSome result (λ piece. (length piece.bytes ≡ segment) × (piece.at % segment ≡ 0)) }
@@ -357,6 +365,7 @@ fn take_all(home: &Foreign, seat: &mut OwnerSeat, own: &mut PieceAllocator) -> u
     requires seat { IsSeatOf home.now seat.old }
     requires walk { seat.old.walk ≡ [] }
     requires lent { AreLent seat.old.lent own.old.home own.old.owner own.old.blocks }
+    // The same afterwards, with all blocks back.
     ensures seat { IsSeatOf home.now seat.new }
     ensures walk { seat.new.walk ≡ [] }
     ensures lent { AreLent seat.new.lent own.new.home own.new.owner own.new.blocks }
@@ -375,6 +384,7 @@ fn take_all(home: &Foreign, seat: &mut OwnerSeat, own: &mut PieceAllocator) -> u
 fn put_next(home: &Foreign, seat: &mut OwnerSeat, own: &mut PieceAllocator) -> bool
     requires seat { IsSeatOf home.now seat.old }
     requires lent { AreLent seat.old.lent own.old.home own.old.owner own.old.blocks }
+    // The same afterwards, the next block back.
     ensures seat { IsSeatOf home.now seat.new }
     ensures walk { length seat.new.walk + cond result 1 0 ≡ length seat.old.walk }
     ensures last { result ≡ false → seat.new.walk ≡ [] }

@@ -102,17 +102,22 @@ impl PieceAllocator {
 
     // What holds at each time.
     pub(crate) fn facts(&self)
+        // No two pieces meet, all within the pages.
         ensures blocks { AreDisjoint (page * self.now.pages) self.now.blocks }
         ensures segments { AreDisjoint (page * self.now.pages) self.now.segments }
         ensures apart { (block segment : Extent) → Contains self.now.blocks block → Contains self.now.segments segment
             → Disjoint block segment }
         ensures kinds { (piece : Lent) → IsOneOf self.now.home self.now.segments piece
             → ¬ IsOneOf self.now.home self.now.blocks piece }
+
+        // Each block has its object.
         ensures objects { Blocks (page * self.now.pages) (map.get self.now.objects) }
         ensures of_blocks { (block : Extent) → Contains self.now.blocks block
             → (class : ℕ) × IsLeastClass block.len class × (map.get self.now.objects block.start ≡ Some (size_of class)) }
         ensures of_objects { (at size : ℕ) → map.get self.now.objects at ≡ Some size
             → (len : ℕ) × Contains self.now.blocks (extent at len) }
+
+        // How many pages they take.
         ensures least { segment_pages * length self.now.segments ≤ self.now.pages }
         ensures pages_out { (segment_pages * length self.now.segments ≤ self.now.pages_out) × (self.now.pages_out ≤ self.now.pages) }
         ensures trimmed { IsTrimmed self.now.room
@@ -125,20 +130,29 @@ impl PieceAllocator {
 
     // Gives a block of so many bytes, all of them 0.
     pub(crate) fn give_block(&mut self, size: u32) -> Result<Piece, GiveRefusal>
+        // There may be one more.
         requires some { 1 ≤ size }
         requires few { length self.old.blocks < most_out }
+
+        // When it is given, and when not.
         ensures refused { IfErr result (RefusesHere self.old.room size) }
         ensures room { IfOk result (λ _. (size ≤ greatest_block) × ¬ LacksBlock self.old.room size) }
         ensures crowded { IfErr result (λ refusal. refusal ≡ GiveRefusal.NoSpan → IsTrimmed self.old.room → FillPages self.old.pages
             (length self.old.segments) (length self.old.blocks)) }
         ensures unchanged { IfErr result (λ _. self.new ≡ self.old) }
+
+        // The block, apart from the others.
         ensures mine { IfOk result (λ piece. (piece.home ≡ self.old.home) × (piece.owner ≡ self.old.owner)) }
         ensures given { IfOk result (IsOneOf self.new.home self.new.blocks) }
         ensures zeros { IfOk result (λ piece. piece.bytes ≡ replicate size 0) }
         ensures blocks { IfOk result (λ piece. self.new.blocks ≡ extent_of piece ∷ self.old.blocks) }
         ensures disjoint { IfOk result (λ _. AreDisjoint (page * self.new.pages) self.new.blocks) }
+
+        // What pages and pools gave for it.
         ensures least { IfOk result (λ piece. SetsAside self.old.objects self.new.objects size piece.at) }
         ensures pages_out { IfOk result (λ _. TakesPages self.old.pages_out self.new.pages_out size) }
+
+        // What stands as before.
         ensures segments { self.new.segments ≡ self.old.segments }
         ensures trimmed { IsTrimmed self.old.room → IsTrimmed self.new.room }
         ensures same { (self.new.home ≡ self.old.home) × (self.new.owner ≡ self.old.owner) × (self.new.pages ≡ self.old.pages) }
@@ -154,14 +168,22 @@ impl PieceAllocator {
     // Takes a block back.
     pub(crate) fn put_block(&mut self, piece: Piece)
         requires { IsOneOf self.old.home self.old.blocks piece }
+
+        // The block and its object are gone.
         ensures blocks { self.new.blocks ≡ remove_extent (extent_of piece) self.old.blocks }
         ensures one_less { length self.new.blocks + 1 ≡ length self.old.blocks }
         ensures disjoint { AreDisjoint (page * self.old.pages) self.old.blocks }
         ensures objects { self.new.objects ≡ map.remove self.old.objects piece.at }
+
+        // The pages are given as before.
         ensures segments { self.new.segments ≡ self.old.segments }
         ensures spans { (self.new.pages_out ≡ self.old.pages_out) × (self.new.room.segment ≡ self.old.room.segment) }
+
+        // What can be given again.
         ensures kept { KeepsRoom self.old.room self.new.room }
         ensures room { ¬ LacksBlock self.new.room (length piece.bytes) }
+
+        // Nothing else has changed.
         ensures same { (self.new.home ≡ self.old.home) × (self.new.owner ≡ self.old.owner) × (self.new.pages ≡ self.old.pages) }
     {
         put_object(&mut self.pools, &piece);
@@ -179,18 +201,25 @@ impl PieceAllocator {
     }
 
     pub(crate) fn give_segment(&mut self) -> Option<Piece>
+        // When it gives nothing.
         ensures none { IsNone result ↔ LacksSegment self.old.room }
         ensures unchanged { IfNone result (self.new ≡ self.old) }
         ensures crowded { IfNone result (IsTrimmed self.old.room → FillPages self.old.pages (length self.old.segments)
             (length self.old.blocks)) }
+
+        // The segment, at a multiple of its bytes.
         ensures mine { IfSome result (λ piece. (piece.home ≡ self.old.home) × (piece.owner ≡ self.old.owner)) }
         ensures given { IfSome result (IsOneOf self.new.home self.new.segments) }
         ensures whole { IfSome result (λ piece. (length piece.bytes ≡ segment) × (piece.at % segment ≡ 0)) }
+
+        // What is out then.
         ensures segments { IfSome result (λ piece. self.new.segments ≡ extent_of piece ∷ self.old.segments) }
         ensures one_more { IfSome result (λ _. length self.new.segments ≡ length self.old.segments + 1) }
         ensures blocks { (self.new.blocks ≡ self.old.blocks) × (self.new.objects ≡ self.old.objects) }
         ensures pages_out { IfSome result (λ _. self.new.pages_out ≡ self.old.pages_out + segment_pages) }
         ensures trimmed { self.new.room.trimmed ≡ self.old.room.trimmed }
+
+        // Nothing else has changed.
         ensures same { (self.new.home ≡ self.old.home) × (self.new.owner ≡ self.old.owner) × (self.new.pages ≡ self.old.pages) }
     {
         let Some(first) = self.spans.take(SEGMENT_ORDER) else {
@@ -201,12 +230,18 @@ impl PieceAllocator {
 
     pub(crate) fn put_segment(&mut self, piece: Piece)
         requires { IsOneOf self.old.home self.old.segments piece }
+
+        // What is out then.
         ensures segments { self.new.segments ≡ remove_extent (extent_of piece) self.old.segments }
         ensures one_less { length self.new.segments + 1 ≡ length self.old.segments }
         ensures blocks { (self.new.blocks ≡ self.old.blocks) × (self.new.objects ≡ self.old.objects) }
         ensures pages_out { self.new.pages_out + segment_pages ≡ self.old.pages_out }
+
+        // What can be given again.
         ensures room { HasAllRoom self.new.room }
         ensures trimmed { self.new.room.trimmed ≡ self.old.room.trimmed }
+
+        // Nothing else has changed.
         ensures same { (self.new.home ≡ self.old.home) × (self.new.owner ≡ self.old.owner) × (self.new.pages ≡ self.old.pages) }
     {
         put_span(&mut self.spans, &piece);
@@ -251,13 +286,18 @@ fn put_object(pools: &mut Pools, block: &Piece)
 
 /// The segment that begins at a page.
 fn segment_at(range: &mut Range, first: u32) -> Piece
+    // No piece has any of its bytes.
     requires inside { page * first + segment ≤ page * range.old.pages }
     requires pages { range.old.pages ≤ most_pages }
     requires disjoint { All (Disjoint (extent (page * first) segment)) range.old.allocated }
     requires few { length range.old.allocated < most_pieces }
+
+    // Which piece it is.
     ensures home { result.home ≡ range.old.home }
     ensures owner { result.owner ≡ range.old.owner }
     ensures extent { extent_of result ≡ extent (page * first) segment }
+
+    // All pieces lie apart still.
     ensures allocated { range.new ≡ with_allocated range.old (extent (page * first) segment ∷ range.old.allocated) range.old.bytes }
     ensures blocks { AreDisjoint (page * range.new.pages) range.new.allocated }
 {

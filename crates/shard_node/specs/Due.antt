@@ -1,14 +1,13 @@
 -- What two shards have to say to each other over a link, and which packets are the ones that were expected.
-use Rattle.std.specs.Prelude.{◌≡◌, ℕ, ◌+◌, ◌==◌, ◌&&◌, Bool, nat_le, true, false, List, [], ◌∷◌, ◌++◌, length, map, filter, fold, take, drop, if◌then◌else◌, Option, Some, None, ◌⊎◌}
+use Rattle.std.specs.Prelude.{◌≡◌, ℕ, ◌+◌, ◌==◌, ◌&&◌, Bool, true, false, List, [], ◌∷◌, ◌++◌, map, filter, fold, drop, if◌then◌else◌, Option, Some, None, ◌⊎◌}
 use Rattle.std.specs.List.{slice_get}
-use Rattle.std.specs.Int.{w32, from_le_bytes}
 use Rattle.std.specs.Str.{bytes_eq}
-use Rattle.layout.specs.Sizes.{message_header}
 use Rattle.trace_text.specs.Operation.{Operation}
 use Rattle.trace_text.specs.Parts.{has_part, longest_value, origin}
 use Rattle.trace_text.specs.Trace.{Trace}
 use Rattle.cache_model.specs.Apply.{Reply}
 use Rattle.cache_model.specs.Fits.{Fits}
+use Rattle.shard_rings.specs.Number.{message_number}
 use Rattle.shard_rings.specs.Reply.{HoldsReply}
 use Rattle.shard_rings.specs.Request.{request}
 use Rattle.shard_rings.specs.declared.link.Packet.{Packet}
@@ -76,7 +75,7 @@ Takes trace operations (packet ∷ packets) replies =
 -- the number of a command stands in the bytes 4 to 7 of its messages; Bye and a block without a whole header have the number 0
 abbrev pub number_said : Option (List ℕ) → ℕ
 number_said None = 0
-number_said (Some bytes) = if nat_le message_header (length bytes) then from_le_bytes w32 (take 4 (drop 4 bytes)) else 0
+number_said (Some bytes) = message_number bytes
 
 abbrev pub number_in : Packet → ℕ
 number_in packet = number_said (said packet)

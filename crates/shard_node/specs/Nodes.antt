@@ -6,21 +6,9 @@ use Rattle.trace_text.specs.Trace.{Trace}
 use Rattle.run_log.specs.JournalState.{JournalState}
 use Rattle.run_log.specs.Replies.{Replies}
 use Rattle.foreign_list.specs.Blocks.{Block}
-use Rattle.shard_rings.specs.declared.link.Packet.{Packet}
 use Rattle.shard_rings.specs.Lanes.{Lanes}
 use Rattle.reclaim.specs.Spaces.{SpaceState}
 use Rattle.shard_node.specs.declared.waiting.Waiting.{Waiting}
-
--- what went over a link, and how often a lane of it was full or empty
-pub record Traffic : Type 0 where
-  pub sent : Lanes (List Packet)
-  pub received : Lanes (List Packet)
-  pub full : Lanes ℕ
-  pub empty : Lanes ℕ
-
--- what the members of a kind of link tell of one
-abbrev pub traffic_by : {L : Type 0} → (L → Lanes (List Packet)) → (L → Lanes (List Packet)) → (L → Lanes ℕ) → (L → Lanes ℕ) → L → Traffic
-traffic_by sent received full empty link = record { sent = sent link; received = received link; full = full link; empty = empty link }
 
 -- the shards of n other than s, in rising order
 abbrev pub others : ℕ → ℕ → List ℕ

@@ -8,8 +8,8 @@ use Rattle.cache_model.specs.Legal.{IsComplete, IsLegal, cache_after}
 use Rattle.cache_model.specs.OwnParts.{HoldsReplies, part_reply, parts_of}
 use Rattle.cache_model.specs.Report.{lent}
 use Rattle.layout.specs.Counts.{raised}
-use Rattle.shard_rings.specs.Lanes.{ArePrefixes}
-use Rattle.shard_node.specs.Nodes.{NodeState, PeerState, Traffic, others}
+use Rattle.shard_rings.specs.Lanes.{ArePrefixes, Traffic}
+use Rattle.shard_node.specs.Nodes.{NodeState, PeerState, others}
 use Rattle.shard_node.specs.Standing.{InStanding}
 use Rattle.shard_node.specs.Turns.{IsDone}
 

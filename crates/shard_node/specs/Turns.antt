@@ -1,5 +1,5 @@
 -- What a turn answers, and exactly when.
-use Rattle.std.specs.Prelude.{◌≡◌, ◌≢◌, ℕ, ◌-◌, ◌<◌, ◌⊎◌, false, List, [], ◌∷◌, ◌++◌, length, map, All, Option, Some, None, IsSome}
+use Rattle.std.specs.Prelude.{◌≡◌, ◌≢◌, ℕ, ◌-◌, ◌<◌, ◌⊎◌, false, List, ◌∷◌, ◌++◌, length, map, All, Option, Some, None, IsSome}
 use Rattle.std.specs.List.{slice_get}
 use Rattle.trace_text.specs.Operation.{Operation}
 use Rattle.cache_model.specs.Apply.{Reply}
@@ -10,14 +10,14 @@ use Rattle.shard_memory.specs.Tickets.{HasIdle, tickets_out}
 use Rattle.shard_memory.specs.declared.share.Share.TheVariants.{Request, Reply as ReplyShare}
 use Rattle.layout.specs.Counts.{Rose}
 use Rattle.reclaim.specs.Lending.{LooksOnce}
-use Rattle.shard_rings.specs.Lanes.{on}
+use Rattle.shard_rings.specs.Lanes.{on, Traffic}
 use Rattle.shard_rings.specs.declared.link.Lane.{Lane}
 use Rattle.shard_rings.specs.declared.link.Lane.TheVariants.{Requests, Replies}
 use Rattle.shard_rings.specs.declared.link.Packet.{Packet}
-use Rattle.shard_node.specs.declared.aside.Aside.{Aside}
+use Rattle.shard_node.specs.declared.stray_packet.StrayPacket.{StrayPacket}
 use Rattle.shard_node.specs.declared.turn.Turn.{Turn}
 use Rattle.shard_node.specs.declared.turn.Turn.TheVariants.{Moved, Idle, Done, Stray}
-use Rattle.shard_node.specs.Nodes.{NodeState, PeerState, Traffic}
+use Rattle.shard_node.specs.Nodes.{NodeState, PeerState}
 use Rattle.shard_node.specs.declared.waiting.Waiting.{Waiting}
 use Rattle.shard_node.specs.Due.{AnswersNot, Takes, due, is_next, number_in, number_said, operations_for, requests_taken, said}
 
@@ -62,43 +62,43 @@ module _ {L G : Type 0} (traffic : L → Traffic) (holds : G → ℕ) where
 
   -- the packet comes from shard `peer` behind these others of the lane, and is not the one that is expected once they were gone
   -- through in order
-  abbrev pub IsAside : Lane → NodeState L G → ℕ → List Packet → Packet → Aside → Type 0
-  IsAside Replies node peer before packet aside = (replies : List Reply)
+  abbrev pub IsStray : Lane → NodeState L G → ℕ → List Packet → Packet → StrayPacket → Type 0
+  IsStray Replies node peer before packet stray = (replies : List Reply)
       × Takes node.trace (operations_for node.trace node.shards node.shard peer) before replies
       × AnswersNot node.trace (slice_get (operations_for node.trace node.shards node.shard peer) (length replies)) packet
-      × (aside ≡ record { peer = peer; expected = expected_number (slice_get (operations_for node.trace node.shards node.shard peer) (length replies)); found = number_in packet })
-  IsAside Requests node peer before packet aside =
+      × (stray ≡ record { peer = peer; expected = expected_number (slice_get (operations_for node.trace node.shards node.shard peer) (length replies)); found = number_in packet })
+  IsStray Requests node peer before packet stray =
       (is_next (due node.trace node.shards peer node.shard) (requests_taken (due node.trace node.shards peer node.shard) before) packet ≡ false)
-      × (aside ≡ record {
+      × (stray ≡ record {
         peer = peer;
         expected = expected_said (slice_get (due node.trace node.shards peer node.shard) (requests_taken (due node.trace node.shards peer node.shard) before));
         found = number_in packet;
       })
 
   -- so it is with a packet of the turn: of the peer at place k, and with m others of the turn before it on its lane
-  abbrev pub HasAside : Lane → NodeState L G → NodeState L G → ℕ → ℕ → Aside → Type 0
-  HasAside lane old new k m aside = (a b : PeerState L) × (before behind : List Packet) × (packet : Packet)
+  abbrev pub HasStray : Lane → NodeState L G → NodeState L G → ℕ → ℕ → StrayPacket → Type 0
+  HasStray lane old new k m stray = (a b : PeerState L) × (before behind : List Packet) × (packet : Packet)
       × (slice_get old.peers k ≡ Some a) × (slice_get new.peers k ≡ Some b) × (length before ≡ m)
       × (on lane (traffic b.link).received ≡ on lane (traffic a.link).received ++ before ++ packet ∷ behind)
-      × IsAside lane old a.shard (on lane (traffic a.link).received ++ before) packet aside
+      × IsStray lane old a.shard (on lane (traffic a.link).received ++ before) packet stray
 
   abbrev pub HasNone : Lane → NodeState L G → NodeState L G → ℕ → ℕ → Type 0
-  HasNone lane old new k m = (aside : Aside) → HasAside lane old new k m aside → ⊥
+  HasNone lane old new k m = (stray : StrayPacket) → HasStray lane old new k m stray → ⊥
 
   -- on the lanes of one kind the peers are served in rising order, and the packets of each in the order in which they came
-  abbrev pub IsFirstOf : Lane → NodeState L G → NodeState L G → Aside → Type 0
-  IsFirstOf lane old new aside = (k m : ℕ) × HasAside lane old new k m aside
+  abbrev pub IsFirstOf : Lane → NodeState L G → NodeState L G → StrayPacket → Type 0
+  IsFirstOf lane old new stray = (k m : ℕ) × HasStray lane old new k m stray
       × ((j i : ℕ) → (j < k) ⊎ ((j ≡ k) × (i < m)) → HasNone lane old new j i)
 
   abbrev pub NoneOf : Lane → NodeState L G → NodeState L G → Type 0
   NoneOf lane old new = (k m : ℕ) → HasNone lane old new k m
 
   -- the first packet of the turn that was not the expected one: all lanes of replies come before the lanes of requests
-  abbrev pub IsFirstAside : NodeState L G → NodeState L G → Aside → Type 0
-  IsFirstAside old new aside = IsFirstOf Replies old new aside ⊎ (IsFirstOf Requests old new aside × NoneOf Replies old new)
+  abbrev pub IsFirstStray : NodeState L G → NodeState L G → StrayPacket → Type 0
+  IsFirstStray old new stray = IsFirstOf Replies old new stray ⊎ (IsFirstOf Requests old new stray × NoneOf Replies old new)
 
-  abbrev pub NoneAside : NodeState L G → NodeState L G → Type 0
-  NoneAside old new = (lane : Lane) → NoneOf lane old new
+  abbrev pub NoneStray : NodeState L G → NodeState L G → Type 0
+  NoneStray old new = (lane : Lane) → NoneOf lane old new
 
   -- Moved.
 
@@ -181,16 +181,17 @@ module _ {L G : Type 0} (traffic : L → Traffic) (holds : G → ℕ) where
     pub request : (waiting : Waiting) (k : ℕ) → (old.request ≡ Some waiting) ⊎ (new.request ≡ Some waiting)
         → AtPlace old.peers new.peers k (λ a b. a.shard ≡ waiting.peer → IsFull Requests a b)
     pub own : IsEmpty new.request → IsHeldBack old new
-    -- where a block was out, the list was looked at once for those that came home; for the room of a request that was made in this
-    -- turn it may have been looked at again
-    pub looked : new.request ≡ old.request → LooksOnce old.space new.space
+    -- where a block was out, the list was looked at for those that came home: once, but that it may have been looked at again for
+    -- the room of a request that was made in this turn
+    pub looked : 0 < tickets_out old.space.lent → old.space.looks < new.space.looks
+    pub looked_once : new.request ≡ old.request → LooksOnce old.space new.space
 
   -- The answer of a turn.
   abbrev pub IsAnswer : Turn → NodeState L G → NodeState L G → Type 0
   IsAnswer Done old new = IsDone new
-  IsAnswer (Stray peer expected found) old new = (IsDone new → ⊥) × IsFirstAside old new (record { peer = peer; expected = expected; found = found })
-  IsAnswer Moved old new = (IsDone new → ⊥) × NoneAside old new × HasCause old new
-  IsAnswer Idle old new = (IsDone new → ⊥) × NoneAside old new × IsIdle old new
+  IsAnswer (Stray peer expected found) old new = (IsDone new → ⊥) × IsFirstStray old new (record { peer = peer; expected = expected; found = found })
+  IsAnswer Moved old new = (IsDone new → ⊥) × NoneStray old new × HasCause old new
+  IsAnswer Idle old new = (IsDone new → ⊥) × NoneStray old new × IsIdle old new
 
 -- What no turn changes.
 pub record IsSameNode {L G E : Type 0} (end : L → E) (old new : NodeState L G) : Type 0 where

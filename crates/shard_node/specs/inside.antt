@@ -17,3 +17,4 @@ pub mod Opening
 pub mod Nodes
 pub mod Moves
 pub mod Seen
+pub mod TurnSteps

@@ -4,12 +4,11 @@ ghost use Rattle.cache_model.specs.Apply.{Reply};
 ghost use Rattle.cache_model.specs.Fits.{Fits};
 ghost use Rattle.shard_rings.specs.Ask.{asked};
 ghost use Rattle.shard_rings.specs.Reply.{IsSendable, IsViewOf};
-ghost use Rattle.shard_node.specs.inside.Fitting.{can_have, BodyFits};
+ghost use Rattle.shard_node.specs.inside.Fitting.{BodyFits};
 
 use crate::rising::rise;
 use cache_model::ReplyKind;
 use shard_rings::{Ask, ReplyView};
-use trace_text::Kind;
 
 /// Whether the command can have the reply, where no value is longer than `longest`.
 pub(crate) fn fits(view: &ReplyView<'_>, ask: &Ask<'_>, longest: u32) -> bool
@@ -17,19 +16,7 @@ pub(crate) fn fits(view: &ReplyView<'_>, ask: &Ask<'_>, longest: u32) -> bool
     requires short { length view.now.body.now < 2 ^ 32 }
     ensures { (reply : Reply) → IsSendable reply → IsViewOf view.now reply → (IsTrue result ↔ Fits longest (asked ask.now) reply) }
 {
-    can_have(ask.kind, view.kind) && body_fits(view, ask, longest)
-}
-
-fn can_have(kind: Kind, reply: ReplyKind) -> bool
-    ensures { result ≡ can_have kind reply }
-{
-    match (kind, reply) {
-        (Kind::Put, ReplyKind::Stored | ReplyKind::Replaced) => true,
-        (Kind::Get, ReplyKind::Value | ReplyKind::Missing) => true,
-        (Kind::Erase, ReplyKind::Erased | ReplyKind::Missing) => true,
-        (Kind::Scan, ReplyKind::Keys) => true,
-        _ => false,
-    }
+    view.kind.can_answer(ask.kind) && body_fits(view, ask, longest)
 }
 
 fn body_fits(view: &ReplyView<'_>, ask: &Ask<'_>, longest: u32) -> bool

@@ -1,7 +1,8 @@
 //! What nodes that are done say together.
 ghost use Rattle.std.specs.Prelude.{ℕ, ◌≤◌, List};
 ghost use Rattle.trace_text.specs.Parsed.{AreNumbered, Parsed, trace_in};
-ghost use Rattle.shard_node.specs.Nodes.{NodeState, Traffic};
+ghost use Rattle.shard_rings.specs.Lanes.{Traffic};
+ghost use Rattle.shard_node.specs.Nodes.{NodeState};
 ghost use Rattle.shard_node.specs.Together.{Agree, AreTogether};
 
 use cache_model::{a_journal_goes_on, issued_parts_are_counted};

@@ -9,13 +9,11 @@
 //! What the nodes of a run say together, once all of them are done, is a law: [`done_nodes_agree`].
 #![tactic(auto)]
 
-mod aside;
 mod expected;
 mod fitting;
 mod gate;
 mod law;
 mod node;
-mod number;
 mod own;
 mod parts;
 mod peer;
@@ -29,6 +27,7 @@ mod rising;
 mod seen;
 mod send;
 mod shard;
+mod stray_packet;
 mod trace_mark;
 mod turn;
 mod waiting;

@@ -6,7 +6,7 @@ ghost use Rattle.foreign_list.specs.OwnerSeats.{IsAtRest};
 ghost use Rattle.shard_memory.specs.Tickets.{tickets_out};
 ghost use Rattle.layout.specs.Counts.{counted};
 ghost use Rattle.reclaim.specs.Spaces.{IsUnguarded};
-ghost use Rattle.shard_node.specs.Nodes.{others, traffic_by};
+ghost use Rattle.shard_node.specs.Nodes.{others};
 ghost use Rattle.shard_node.specs.Standing.{InStanding};
 ghost use Rattle.shard_node.specs.Links.{IsUnused};
 ghost use Rattle.shard_node.specs.Rans.{line_of};
@@ -72,19 +72,28 @@ impl<'f, L: Link<'f> + Drop, G: Gate + Drop> Node<'f, L, G> {
         links: Vec<L>,
         gate: G,
     ) -> Result<Node<'f, L, G>, NodeRefusal<L>>
+        // What it is opened with.
         requires pages { ArePages pages }
         requires owner { home.now.owner ≡ shard }
         requires seat { IsAtRest home.now seat }
         requires parsed_for { shards ≡ trace.now.shards }
         requires within { shard < shards }
         requires links { length links.items + 1 ≡ shards }
-        requires unused { All (IsUnused (traffic_by L.sent L.received L.full L.empty)) links.items }
+        requires unused { All (IsUnused L.traffic) links.items }
+
+        // Without memory, seat and links come back.
         ensures refused { IfErr result (λ refusal. (refusal.seat ≡ seat) × (refusal.links ≡ links)) }
-        ensures standing { IfOk result (λ node. InStanding (traffic_by L.sent L.received L.full L.empty) node) }
+
+        // Which node it is.
+        ensures standing { IfOk result (λ node. InStanding L.traffic node) }
         ensures numbers { IfOk result (λ node. (node.shard ≡ shard) × (node.shards ≡ shards) × (node.pages ≡ pages)) }
         ensures trace { IfOk result (λ node. node.trace ≡ trace_in trace.now) }
+
+        // No block is out.
         ensures list { IfOk result (λ node. node.space.list ≡ home.now) }
         ensures lent { IfOk result (λ node. tickets_out node.space.lent ≡ 0) }
+
+        // How it stands before the first turn.
         ensures links { IfOk result (λ node. map (λ peer. peer.link) node.peers ≡ links.items) }
         ensures peers { IfOk result (λ node. map (λ peer. peer.shard) node.peers ≡ others shards shard) }
         ensures gate { IfOk result (λ node. node.gate ≡ gate) }
@@ -101,25 +110,21 @@ impl<'f, L: Link<'f> + Drop, G: Gate + Drop> Node<'f, L, G> {
 
     /// One turn. It waits for nobody, and takes no memory. A node that is done makes no step.
     pub fn turn(&mut self) -> Turn
-        ensures standing { InStanding (traffic_by L.sent L.received L.full L.empty) self.old
-            → InStanding (traffic_by L.sent L.received L.full L.empty) self.new }
+        ensures standing { InStanding L.traffic self.old → InStanding L.traffic self.new }
         ensures same { IsSameNode L.end self.old self.new }
         ensures turns { self.new.turns ≡ counted self.old.turns }
-        ensures done { InStanding (traffic_by L.sent L.received L.full L.empty) self.old
-            → ((result ≡ Turns.Done) ↔ IsDone (traffic_by L.sent L.received L.full L.empty) G.holds self.new) }
-        ensures rests { InStanding (traffic_by L.sent L.received L.full L.empty) self.old
-            → IsDone (traffic_by L.sent L.received L.full L.empty) G.holds self.old
+        ensures done { InStanding L.traffic self.old → ((result ≡ Turns.Done) ↔ IsDone L.traffic G.holds self.new) }
+        ensures rests { InStanding L.traffic self.old
+            → IsDone L.traffic G.holds self.old
             → self.new ≡ record self.old { turns = self.new.turns } }
-        ensures answer { InStanding (traffic_by L.sent L.received L.full L.empty) self.old
-            → IsAnswer (traffic_by L.sent L.received L.full L.empty) G.holds result self.old self.new }
+        ensures answer { InStanding L.traffic self.old → IsAnswer L.traffic G.holds result self.old self.new }
     {
         self.shard.turn()
     }
 
     /// Whether it is done, so that a turn would make no step.
     pub fn is_done(&self) -> bool
-        ensures { InStanding (traffic_by L.sent L.received L.full L.empty) self.now
-            → (IsTrue result ↔ IsDone (traffic_by L.sent L.received L.full L.empty) G.holds self.now) }
+        ensures { InStanding L.traffic self.now → (IsTrue result ↔ IsDone L.traffic G.holds self.now) }
     {
         self.shard.is_done()
     }
@@ -145,17 +150,24 @@ impl<'f, L: Link<'f> + Drop, G: Gate + Drop> Node<'f, L, G> {
     /// Ends a node that is done: its journal, its log and the line of its space go to the record of its run, which has those of all
     /// shards below its own.
     pub fn finish(self, into: &mut Ran) -> Finished<'f, L>
-        requires done { IsDone (traffic_by L.sent L.received L.full L.empty) G.holds self }
+        // It is the next one of its run.
+        requires done { IsDone L.traffic G.holds self }
         requires trace { into.old.trace ≡ self.trace }
         requires shards { into.old.shards ≡ self.shards }
         requires pages { into.old.pages ≡ self.pages }
         requires place { length into.old.journals ≡ self.shard }
+
+        // What it adds to the record.
         ensures journals { into.new.journals ≡ into.old.journals ++ self.entry.journal ∷ [] }
         ensures logs { into.new.logs ≡ into.old.logs ++ self.entry.log ∷ [] }
         ensures lines { into.new.lines ≡ into.old.lines ++ line_of self.entry.space ∷ [] }
+
+        // The record is of the same run.
         ensures trace { into.new.trace ≡ into.old.trace }
         ensures shards { into.new.shards ≡ into.old.shards }
         ensures pages { into.new.pages ≡ into.old.pages }
+
+        // What is left of the node.
         ensures space { result.space ≡ self.entry.space }
         ensures links { result.links.items ≡ map (λ peer. peer.link) self.entry.peers }
         ensures idle { tickets_out result.space.lent ≡ 0 }

@@ -153,14 +153,19 @@ fn first_part(trace: &Trace, shards: u32, at: usize) -> Part
 
 /// The part that the shard issues next.
 fn part_after(trace: &Trace, shards: u32, shard: u32, part: Part) -> Part
+    // A part that the shard issues.
     requires parsed_for { shards ≡ trace.now.shards }
     requires origin { part.at % shards ≡ shard }
     requires within { part.at < length trace.now.commands }
     requires to { part.to < shards }
+
+    // One of its parts, or the end.
     ensures origin { result.at % shards ≡ shard }
     ensures below { result.to < shards }
     ensures does { (d : Operation) → result.at < length trace.now.commands
         → has_part shards result.to (slice_index_or (trace_in trace.now).operations result.at d) ≡ true }
+
+    // None stands between them.
     ensures next { part_at trace.now shards shard result.to result.at ≡ part_at trace.now shards shard part.to part.at + 1 }
 {
     shards_take_turns(trace);

@@ -25,14 +25,19 @@ pub(crate) fn do_part(
     journal: &mut Journal,
     log: &mut ReplyLog,
 )
+    // What is asked, with no guard standing.
     requires askable { IsAskable (asked ask.now) }
     requires unguarded { guards_of space.old.region ≡ 0 }
+
+    // Nothing it writes lacks space.
     requires tables { ask.now.kind ≡ kinds.Put
         → (has ask.now.key.now space.old.rows ≡ true) ⊎ (length space.old.rows < space.old.room) }
     requires spare { length space.old.rows + 1 ≤ journal.old.spare }
     requires buffer { length keys.old ≡ key_room * most_keys }
     requires unanswered { slice_get log.old.replies part ≡ Some None }
     requires fits { length (spelled (apply (asked ask.now) space.old.rows).1).1 ≤ log.old.room }
+
+    // What it does, answers and writes down.
     ensures { DoesPart part (asked ask.now) space.old space.new journal.old journal.new log.old log.new }
 {
     match ask.kind {
@@ -120,13 +125,18 @@ fn do_scan(
     journal: &mut Journal,
     log: &mut ReplyLog,
 )
+    // A scan, with no guard standing.
     requires kind { ask.now.kind ≡ kinds.Scan }
     requires askable { IsAskable (asked ask.now) }
     requires unguarded { guards_of space.old.region ≡ 0 }
+
+    // Nothing it writes lacks space.
     requires spare { 1 ≤ journal.old.spare }
     requires buffer { key_room * ask.now.count ≤ length keys.old }
     requires unanswered { slice_get log.old.replies part ≡ Some None }
     requires fits { length (spelled (apply (asked ask.now) space.old.rows).1).1 ≤ log.old.room }
+
+    // What it does, answers and writes down.
     ensures { DoesPart part (asked ask.now) space.old space.new journal.old journal.new log.old log.new }
 {
     space.facts();

@@ -1,6 +1,5 @@
 //! The steps of a turn that deal with one peer and nothing else.
 ghost use Rattle.std.specs.Prelude.{◌<◌, ◌↔◌, IsTrue};
-ghost use Rattle.shard_node.specs.Nodes.{traffic_by};
 ghost use Rattle.shard_node.specs.inside.Moves.{packets, packets_by_all};
 ghost use Rattle.shard_node.specs.inside.Peers.{held, held_by_all, Each, HoldsOther, SaysBye, SendsReply, TriesHeld};
 ghost use Rattle.shard_node.specs.inside.Releases.{held_count, Releases, TriesBoth};
@@ -40,18 +39,16 @@ impl<'f, L: Drop> Peer<'f, L> {
 impl<'f, L: Link<'f> + Drop> Peer<'f, L> {
     /// Sends the reply that waits. True where it was sent.
     pub(crate) fn send_reply(&mut self) -> bool
-        ensures sends { SendsReply (traffic_by L.sent L.received L.full L.empty) L.end self.old self.new }
-        ensures sent { IsTrue result ↔ (packets (traffic_by L.sent L.received L.full L.empty self.old.link) < packets
-            (traffic_by L.sent L.received L.full L.empty self.new.link)) }
+        ensures sends { SendsReply L.traffic L.end self.old self.new }
+        ensures sent { IsTrue result ↔ (packets (L.traffic self.old.link) < packets (L.traffic self.new.link)) }
     {
         send_held(&mut self.link, Lane::Replies, &mut self.reply)
     }
 
     /// Says Bye, where it was not said. True where it was sent.
     pub(crate) fn say_bye(&mut self) -> bool
-        ensures says { SaysBye (traffic_by L.sent L.received L.full L.empty) L.end self.old self.new }
-        ensures sent { IsTrue result ↔ (packets (traffic_by L.sent L.received L.full L.empty self.old.link) < packets
-            (traffic_by L.sent L.received L.full L.empty self.new.link)) }
+        ensures says { SaysBye L.traffic L.end self.old self.new }
+        ensures sent { IsTrue result ↔ (packets (L.traffic self.old.link) < packets (L.traffic self.new.link)) }
     {
         if self.has_sent_bye {
             return false;
@@ -63,9 +60,8 @@ impl<'f, L: Link<'f> + Drop> Peer<'f, L> {
 
 /// Says Bye to each peer that was not told, on the lane of requests: no more of these come. True where it was sent to one.
 pub(crate) fn say_byes<'f, L: Link<'f> + Drop>(peers: &mut [Peer<'f, L>]) -> bool
-    ensures each { Each (SaysBye (traffic_by L.sent L.received L.full L.empty) L.end) peers.old peers.new }
-    ensures sent { IsTrue result ↔ (packets_by_all (traffic_by L.sent L.received L.full L.empty) peers.old < packets_by_all
-        (traffic_by L.sent L.received L.full L.empty) peers.new) }
+    ensures each { Each (SaysBye L.traffic L.end) peers.old peers.new }
+    ensures sent { IsTrue result ↔ (packets_by_all L.traffic peers.old < packets_by_all L.traffic peers.new) }
 {
     let mut moved = false;
     for peer in peers.iter_mut() {
@@ -76,9 +72,8 @@ pub(crate) fn say_byes<'f, L: Link<'f> + Drop>(peers: &mut [Peer<'f, L>]) -> boo
 
 /// Sends each reply that waits. True where one was sent.
 pub(crate) fn send_replies<'f, L: Link<'f> + Drop>(peers: &mut [Peer<'f, L>]) -> bool
-    ensures each { Each (SendsReply (traffic_by L.sent L.received L.full L.empty) L.end) peers.old peers.new }
-    ensures sent { IsTrue result ↔ (packets_by_all (traffic_by L.sent L.received L.full L.empty) peers.old < packets_by_all
-        (traffic_by L.sent L.received L.full L.empty) peers.new) }
+    ensures each { Each (SendsReply L.traffic L.end) peers.old peers.new }
+    ensures sent { IsTrue result ↔ (packets_by_all L.traffic peers.old < packets_by_all L.traffic peers.new) }
 {
     let mut moved = false;
     for peer in peers.iter_mut() {

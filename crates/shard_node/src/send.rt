@@ -1,6 +1,5 @@
 //! How blocks go to other shards.
 ghost use Rattle.std.specs.Prelude.{◌≡◌, ◌↔◌, Some, false, IsTrue, IsSome, IsNone};
-ghost use Rattle.shard_node.specs.Nodes.{traffic_by};
 ghost use Rattle.shard_node.specs.inside.Sends.{SendsHeld, TriesBye};
 
 use foreign_list::ForeignBlock;
@@ -12,8 +11,7 @@ pub(crate) fn send<'f, L: Link<'f>>(
     lane: Lane,
     block: ForeignBlock<'f>,
 ) -> Option<ForeignBlock<'f>>
-    ensures sends { SendsHeld lane (Some block.entry) result (traffic_by L.sent L.received L.full L.empty link.old)
-        (traffic_by L.sent L.received L.full L.empty link.new) }
+    ensures sends { SendsHeld lane (Some block.entry) result (L.traffic link.old) (L.traffic link.new) }
     ensures same_end { L.end link.new ≡ L.end link.old }
 {
     match link.send(lane, Packet::Block(block)) {
@@ -29,8 +27,7 @@ pub(crate) fn send_held<'f, L: Link<'f>>(
     lane: Lane,
     held: &mut Option<ForeignBlock<'f>>,
 ) -> bool
-    ensures sends { SendsHeld lane held.old held.new (traffic_by L.sent L.received L.full L.empty link.old)
-        (traffic_by L.sent L.received L.full L.empty link.new) }
+    ensures sends { SendsHeld lane held.old held.new (L.traffic link.old) (L.traffic link.new) }
     ensures sent { IsTrue result ↔ IsSome held.old × IsNone held.new }
     ensures same_end { L.end link.new ≡ L.end link.old }
 {
@@ -43,8 +40,7 @@ pub(crate) fn send_held<'f, L: Link<'f>>(
 
 /// Sends Bye on the lane of requests. False where it is refused.
 pub(crate) fn send_bye<'f, L: Link<'f>>(link: &mut L) -> bool
-    ensures sends { TriesBye false result (traffic_by L.sent L.received L.full L.empty link.old)
-        (traffic_by L.sent L.received L.full L.empty link.new) }
+    ensures sends { TriesBye false result (L.traffic link.old) (L.traffic link.new) }
     ensures same_end { L.end link.new ≡ L.end link.old }
 {
     link.send(Lane::Requests, Packet::Bye).is_ok()

@@ -1,11 +1,10 @@
 //! A shard at work: what a node holds, and the steps of its turn.
 ghost use Rattle.std.specs.Prelude.{◌≡◌, ◌+◌, ◌<◌, ◌↔◌, length, true, false, IsTrue};
-ghost use Rattle.reclaim.specs.Lending.{LooksOnce};
-ghost use Rattle.shard_node.specs.Nodes.{traffic_by};
 ghost use Rattle.shard_rings.specs.declared.link.Lane.{Lane as AnyLane};
 ghost use Rattle.shard_node.specs.inside.Moves.{packets_of, ByeWaits, Frees, Goes, HeldUp, NonePassed, RacesAll, ReceivesNone, ReplyWaits};
 ghost use Rattle.shard_node.specs.inside.Shards.{node_state, IsConsistent};
 ghost use Rattle.shard_node.specs.inside.Steps.{IsStep};
+ghost use Rattle.shard_node.specs.inside.TurnSteps.{ComesHome};
 
 mod beginning;
 mod ending;
@@ -56,13 +55,8 @@ pub struct Shard<'f, L: Drop, G: Drop> {
 impl<'f, L: Link<'f> + Drop, G: Gate + Drop> Shard<'f, L, G> {
     /// Takes back the blocks that came home.
     pub(crate) fn take_back(&mut self)
-        requires consistent { IsConsistent self.old }
-        ensures step { IsStep (traffic_by L.sent L.received L.full L.empty) L.end self.old self.new }
-        ensures received { (lane : AnyLane)
-            → ReceivesNone (traffic_by L.sent L.received L.full L.empty) lane (node_state self.old) (node_state self.new) }
-        ensures goes { Goes (traffic_by L.sent L.received L.full L.empty) (node_state self.old) (node_state self.new) }
-        ensures same { node_state self.new ≡ record (node_state self.old) { space = (node_state self.new).space } }
-        ensures looked { LooksOnce self.old.space self.new.space }
+        requires { IsConsistent self.old }
+        ensures { ComesHome L.traffic L.end self.old self.new }
     {
         self.space.facts();
         self.space.take_back();
@@ -72,14 +66,11 @@ impl<'f, L: Link<'f> + Drop, G: Gate + Drop> Shard<'f, L, G> {
     /// Tries each block that waits to be released once. True where one was.
     pub(crate) fn release_held(&mut self) -> bool
         requires consistent { IsConsistent self.old }
-        ensures step { IsStep (traffic_by L.sent L.received L.full L.empty) L.end self.old self.new }
-        ensures received { (lane : AnyLane)
-            → ReceivesNone (traffic_by L.sent L.received L.full L.empty) lane (node_state self.old) (node_state self.new) }
-        ensures goes { Goes (traffic_by L.sent L.received L.full L.empty) (node_state self.old) (node_state self.new) }
-        ensures released { result ≡ true
-            → Frees (traffic_by L.sent L.received L.full L.empty) G.holds (node_state self.old) (node_state self.new) }
-        ensures raced { result ≡ false → RacesAll (traffic_by L.sent L.received L.full L.empty) G.holds (node_state self.old)
-            (node_state self.new) }
+        ensures step { IsStep L.traffic L.end self.old self.new }
+        ensures received { (lane : AnyLane) → ReceivesNone L.traffic lane (node_state self.old) (node_state self.new) }
+        ensures goes { Goes L.traffic (node_state self.old) (node_state self.new) }
+        ensures released { result ≡ true → Frees L.traffic G.holds (node_state self.old) (node_state self.new) }
+        ensures raced { result ≡ false → RacesAll L.traffic G.holds (node_state self.old) (node_state self.new) }
     {
         release_all(self.peers.as_mut_slice(), &mut self.tally)
     }
@@ -87,15 +78,13 @@ impl<'f, L: Link<'f> + Drop, G: Gate + Drop> Shard<'f, L, G> {
     /// Sends each reply that waits. True where one was sent.
     pub(crate) fn send_replies(&mut self) -> bool
         requires consistent { IsConsistent self.old }
-        ensures step { IsStep (traffic_by L.sent L.received L.full L.empty) L.end self.old self.new }
-        ensures received { (lane : AnyLane)
-            → ReceivesNone (traffic_by L.sent L.received L.full L.empty) lane (node_state self.old) (node_state self.new) }
-        ensures goes { Goes (traffic_by L.sent L.received L.full L.empty) (node_state self.old) (node_state self.new) }
-        ensures sent { IsTrue result ↔ (packets_of (traffic_by L.sent L.received L.full L.empty) (node_state self.old) < packets_of
-            (traffic_by L.sent L.received L.full L.empty) (node_state self.new)) }
-        ensures held_up { NonePassed (traffic_by L.sent L.received L.full L.empty) (node_state self.old) (node_state self.new)
-            → HeldUp (traffic_by L.sent L.received L.full L.empty) (λ k. ReplyWaits
-            (traffic_by L.sent L.received L.full L.empty)) (node_state self.old) (node_state self.new) }
+        ensures step { IsStep L.traffic L.end self.old self.new }
+        ensures received { (lane : AnyLane) → ReceivesNone L.traffic lane (node_state self.old) (node_state self.new) }
+        ensures goes { Goes L.traffic (node_state self.old) (node_state self.new) }
+        ensures sent { IsTrue result ↔ (packets_of L.traffic (node_state self.old) < packets_of L.traffic (node_state self.new)) }
+        ensures held_up { NonePassed L.traffic (node_state self.old) (node_state self.new)
+            → HeldUp L.traffic (λ k. ReplyWaits
+            L.traffic) (node_state self.old) (node_state self.new) }
     {
         send_replies(self.peers.as_mut_slice())
     }
@@ -103,14 +92,12 @@ impl<'f, L: Link<'f> + Drop, G: Gate + Drop> Shard<'f, L, G> {
     /// Says Bye to each peer that was not told, where all own parts were begun and none waits. True where it was sent to one.
     pub(crate) fn say_byes(&mut self) -> bool
         requires consistent { IsConsistent self.old }
-        ensures step { IsStep (traffic_by L.sent L.received L.full L.empty) L.end self.old self.new }
-        ensures received { (lane : AnyLane)
-            → ReceivesNone (traffic_by L.sent L.received L.full L.empty) lane (node_state self.old) (node_state self.new) }
-        ensures goes { Goes (traffic_by L.sent L.received L.full L.empty) (node_state self.old) (node_state self.new) }
-        ensures sent { IsTrue result ↔ (packets_of (traffic_by L.sent L.received L.full L.empty) (node_state self.old) < packets_of
-            (traffic_by L.sent L.received L.full L.empty) (node_state self.new)) }
-        ensures held_up { NonePassed (traffic_by L.sent L.received L.full L.empty) (node_state self.old) (node_state self.new)
-            → HeldUp (traffic_by L.sent L.received L.full L.empty) (λ k. ByeWaits (traffic_by L.sent L.received L.full L.empty) G.holds
+        ensures step { IsStep L.traffic L.end self.old self.new }
+        ensures received { (lane : AnyLane) → ReceivesNone L.traffic lane (node_state self.old) (node_state self.new) }
+        ensures goes { Goes L.traffic (node_state self.old) (node_state self.new) }
+        ensures sent { IsTrue result ↔ (packets_of L.traffic (node_state self.old) < packets_of L.traffic (node_state self.new)) }
+        ensures held_up { NonePassed L.traffic (node_state self.old) (node_state self.new)
+            → HeldUp L.traffic (λ k. ByeWaits L.traffic G.holds
             (node_state self.old)) (node_state self.old) (node_state self.new) }
     {
         issued_parts_are_counted();

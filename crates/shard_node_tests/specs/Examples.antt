@@ -7,10 +7,10 @@ use Rattle.cache_model.specs.declared.entry.Entry.TheVariants.{Done}
 use Rattle.cache_model.specs.Examples.{put_b}
 use Rattle.foreign_list.specs.Blocks.{Block}
 use Rattle.reclaim.specs.Spaces.{SpaceState}
-use Rattle.shard_rings.specs.Lanes.{each_lane}
+use Rattle.shard_rings.specs.Lanes.{each_lane, Traffic}
 use Rattle.shard_rings.specs.declared.link.Packet.{Packet}
 use Rattle.shard_rings.specs.declared.link.Packet.TheVariants.{Block as InBlock, Bye}
-use Rattle.shard_node.specs.Nodes.{NodeState, Traffic}
+use Rattle.shard_node.specs.Nodes.{NodeState}
 use Rattle.shard_node.specs.Due.{due, is_next, number_in, requests_taken}
 use Rattle.shard_node.specs.Standing.{InStanding}
 use Rattle.shard_node.specs.Turns.{IsAnswer, IsDone, expected_said}

@@ -8,11 +8,11 @@ use Rattle.cache_model.specs.Examples.{put_b}
 use Rattle.cache_model.specs.Spelled.{spelled}
 use Rattle.foreign_list.specs.Blocks.{Block}
 use Rattle.reclaim.specs.Spaces.{SpaceState}
-use Rattle.shard_rings.specs.Lanes.{each_lane}
+use Rattle.shard_rings.specs.Lanes.{each_lane, Traffic}
 use Rattle.shard_rings.specs.declared.link.Packet.{Packet}
 use Rattle.shard_rings.specs.declared.link.Packet.TheVariants.{Bye}
 use Rattle.shard_node_tests.specs.Examples.{at_owner, packet, put_reply, put_request}
-use Rattle.shard_node.specs.Nodes.{NodeState, PeerState, Traffic}
+use Rattle.shard_node.specs.Nodes.{NodeState, PeerState}
 use Rattle.shard_node.specs.Together.{Agree, AreTogether}
 
 -- what shard 0 keeps of shard 1 at the end: the put was asked of it, it replied, and both said Bye

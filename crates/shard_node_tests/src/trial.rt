@@ -2,9 +2,10 @@
 ghost use Rattle.std.specs.Prelude.{◌≡◌, ◌<◌, IfOk, IfSome};
 ghost use Rattle.trace_text.specs.Parsed.{trace_in};
 ghost use Rattle.foreign_list.specs.OwnerSeats.{IsAtRest};
+ghost use Rattle.shard_rings.specs.Links.{traffic_of};
 ghost use Rattle.reclaim.specs.Spaces.{IsUnguarded};
 ghost use Rattle.shard_rings.specs.Mesh.{IsMesh};
-ghost use Rattle.shard_node.specs.Links.{IsUnused, ring_traffic};
+ghost use Rattle.shard_node.specs.Links.{IsUnused};
 ghost use Rattle.shard_node.specs.Rans.{IsOfRun};
 
 use foreign_list::{Foreign, ForeignBlock, OwnerSeat};
@@ -33,7 +34,7 @@ pub(super) fn parsed(
 
 /// The last end of the last shard that is left.
 fn last_end<'f>(shards: &mut Vec<Vec<RingLink<'f>>>) -> Option<RingLink<'f>>
-    ensures { IsMesh shards.old.items → IfSome result (λ end. IsUnused ring_traffic end) }
+    ensures { IsMesh shards.old.items → IfSome result (λ end. IsUnused traffic_of end) }
 {
     let Some(mut ends) = shards.pop() else {
         return None;
@@ -45,7 +46,7 @@ fn last_end<'f>(shards: &mut Vec<Vec<RingLink<'f>>>) -> Option<RingLink<'f>>
 
 /// The two ends of a link, on which nothing was sent.
 fn both_ends<'f>(alloc: Global) -> Result<(RingLink<'f>, RingLink<'f>), Fail>
-    ensures { IfOk result (λ ends. IsUnused ring_traffic ends.0) }
+    ensures { IfOk result (λ ends. IsUnused traffic_of ends.0) }
 {
     let mut shards = ring_links(alloc, 2)?;
     match (last_end(&mut shards), last_end(&mut shards)) {
@@ -65,7 +66,7 @@ pub(super) struct Trial<'f> {
 impl<'f> Model for Trial<'f> {
     ghost use Rattle.std.specs.Prelude.{◌≡◌};
     ghost use Rattle.trace_text.specs.Trace.{Trace as Asked};
-    ghost use Rattle.shard_node.specs.Links.{ring_traffic};
+    ghost use Rattle.shard_rings.specs.Links.{traffic_of};
     ghost use Rattle.shard_node.specs.Standing.{InStanding};
 
     // the trace that it works on
@@ -73,7 +74,7 @@ impl<'f> Model for Trial<'f> {
 
     ghost view = { λ t. t.node.trace };
 
-    ghost invariant = { λ t. InStanding ring_traffic t.node × (t.node.shard ≡ t.shard) × (t.node.shards ≡ 2)
+    ghost invariant = { λ t. InStanding traffic_of t.node × (t.node.shard ≡ t.shard) × (t.node.shards ≡ 2)
         × (t.node.pages ≡ 1280) };
 }
 

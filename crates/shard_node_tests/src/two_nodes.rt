@@ -36,7 +36,7 @@ fn carry<'f>(from: &mut Trial<'f>, to: &mut Trial<'f>, word: u32) -> bool
     }
 }
 
-/// Turns a node, and tells whether it is done. False where it sets a packet aside.
+/// Turns a node, and tells whether it is done. False where it sets a packet stray.
 fn turn<'f>(node: &mut Trial<'f>, done: &mut bool) -> bool
     ensures { node.new ≡ node.old }
 {

@@ -53,6 +53,9 @@ keys_in count body (Keys ks) can is keys = record { keys = ks; counted = keys; a
 pub keys_of : (count : ℕ) (body : List ℕ) → IsBody kinds.Keys count body → HasKeys body count
 keys_of count body b = keys_in count body b.reply b.sendable b.spelled b.keys
 
+-- when some bytes are a body
+pub ruleset bodies = (value_is, value_of, keys_are, keys_of)
+
 -- ---- how long they are
 
 keys_length : (keys : List (List ℕ)) → All IsKey keys → length (flat_map key_field keys) ≤ 258 * length keys

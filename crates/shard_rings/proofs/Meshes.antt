@@ -1,21 +1,17 @@
 -- A shard that meets each one of a mesh is one more of it.
 use Rattle.std.proofs.Common.{◌≡◌, ℕ, zero, suc, ◌+◌, ◌<◌, ◌≤◌, ◌⊎◌, inl, inr, List, [], ◌∷◌, ◌++◌, length, take, drop, get_or, set, Some, slice_get, refl, sym, ap, subst, ◌∙◌, arith, length-append}
-use Rattle.std.specs.Option.{unwrap_or}
 use Rattle.std.specs.Prelude.{Vec}
 use Rattle.std.specs.declared.alloc.Global.{Global}
 use Rattle.std.proofs.Math.Seq.{take-append_seam}
-use Rattle.std.proofs.lemmas.Option.{slice_get_within}
+use Rattle.std.proofs.lemmas.Option.{slice_get_within, same_Some}
 use Rattle.shard_rings.specs.Lanes.{ArePair}
 use Rattle.shard_rings.specs.Links.{LinkState, IsUnused, end_of}
 use Rattle.shard_rings.specs.Mesh.{Ends, IsEnd, IsMesh}
 use Rattle.shard_rings.specs.inside.Meeting.{Meets, AllMeet}
 
-some_same : {X : Type 0} (x y : X) → Some x ≡ Some y → x ≡ y
-some_same x y e = ap (λ o. unwrap_or o x) e
-
 -- an element of a list with one more at its end is one of the list, or that one
 before_or_last : {X : Type 0} (xs : List X) (x y : X) (k : ℕ) → slice_get (xs ++ x ∷ []) k ≡ Some y → (slice_get xs k ≡ Some y) ⊎ ((k ≡ length xs) × (x ≡ y))
-before_or_last [] x y zero e = inr (refl, some_same x y e)
+before_or_last [] x y zero e = inr (refl, same_Some x y e)
 before_or_last [] x y (suc k) e = absurd (let w = slice_get_within (x ∷ []) (suc k) y e in omega (arith, w))
 before_or_last (z ∷ xs) x y zero e = inl e
 before_or_last (z ∷ xs) x y (suc k) e = elim (before_or_last xs x y k e) [ inl l ↦ inl l | inr r ↦ inr (ap suc r.0, r.1) ]
@@ -39,7 +35,7 @@ record MetAt (olds : Ends) (others : List LinkState) (a : ℕ) (new : Vec LinkSt
 met_at : (olds news : Ends) (others : List LinkState) (a : ℕ) (new : Vec LinkState Global) → AllMeet olds news others → slice_get news a ≡ Some new → MetAt olds others a new
 met_at [] [] [] a v h e = absurd (let w = slice_get_within [] a v e in omega (arith, w))
 met_at (old ∷ olds) (new ∷ news) (other ∷ others) zero v h e =
-    record { old = old; other = other; old_at = refl; other_at = refl; meets = subst (λ u. Meets old u other) (some_same new v e) h.0 }
+    record { old = old; other = other; old_at = refl; other_at = refl; meets = subst (λ u. Meets old u other) (same_Some new v e) h.0 }
 met_at (old ∷ olds) (new ∷ news) (other ∷ others) (suc a) v h e =
     let m = met_at olds news others a v h.1 e in
     record { old = m.old; other = m.other; old_at = m.old_at; other_at = m.other_at; meets = m.meets }
@@ -50,7 +46,7 @@ met_at (old ∷ olds) (new ∷ news) [] a v h e = absurd h
 
 others_unused : (olds news : Ends) (others : List LinkState) (k : ℕ) (x : LinkState) → AllMeet olds news others → slice_get others k ≡ Some x → IsUnused x
 others_unused [] [] [] k x h e = absurd (let w = slice_get_within [] k x e in omega (arith, w))
-others_unused (old ∷ olds) (new ∷ news) (other ∷ others) zero x h e = subst (λ y. IsUnused y) (some_same other x e) h.0.other_unused
+others_unused (old ∷ olds) (new ∷ news) (other ∷ others) zero x h e = subst (λ y. IsUnused y) (same_Some other x e) h.0.other_unused
 others_unused (old ∷ olds) (new ∷ news) (other ∷ others) (suc k) x h e = others_unused olds news others k x h.1 e
 others_unused [] [] (other ∷ others) k x h e = absurd h
 others_unused [] (new ∷ news) others k x h e = absurd h
@@ -130,7 +126,7 @@ more_pairs olds news own h all a c x y le here there =
           | inl t ↦ absurd (let w = slice_get_within news (c + 1) there.own t in let e = n.last in omega (arith, w, e, l0))
           | inr r ↦ (
               let is : Some y ≡ Some n.other = sym there.end_at ∙ subst (λ (v : Vec LinkState Global). slice_get v.items a ≡ Some n.other) r.1 n.other_at in
-              subst (λ z. ArePair (end_of x) (end_of z)) (sym (some_same y n.other is)) n.pair)
+              subst (λ z. ArePair (end_of x) (end_of z)) (sym (same_Some y n.other is)) n.pair)
         ]
       ]
       | inr r ↦ absurd (

@@ -26,6 +26,13 @@ abbrev pub adds : Lane → Packet → Lanes (List Packet) → Lanes (List Packet
 adds Requests packet lists = record lists { requests = lists.requests ++ packet ∷ [] }
 adds Replies packet lists = record lists { replies = lists.replies ++ packet ∷ [] }
 
+-- what went over a link, and how often a send was refused and nothing was there to receive
+pub record Traffic : Type 0 where
+  pub sent : Lanes (List Packet)
+  pub received : Lanes (List Packet)
+  pub full : Lanes ℕ
+  pub empty : Lanes ℕ
+
 -- on each lane the one is a prefix of the other
 abbrev pub ArePrefixes : Lanes (List Packet) → Lanes (List Packet) → Type 0
 ArePrefixes a b = IsPrefix a.requests b.requests × IsPrefix a.replies b.replies

@@ -2,6 +2,7 @@ pub mod Ask
 pub mod Lanes
 pub mod Links
 pub mod Mesh
+pub mod Number
 pub mod Reply
 pub mod Request
 pub mod inside

@@ -3,7 +3,7 @@ use Rattle.std.specs.Prelude.{◌≡◌, ℕ, List, [], Option, Result, OnOk, On
 use Rattle.shard_rings.specs.declared.link.Packet.{Packet}
 use Rattle.shard_rings.specs.declared.link.Lane.{Lane}
 use Rattle.layout.specs.Counts.{Rose}
-use Rattle.shard_rings.specs.Lanes.{Lanes, NoneFell, RingId, LinkEnd, adds, counts, each_lane, on}
+use Rattle.shard_rings.specs.Lanes.{Lanes, NoneFell, RingId, LinkEnd, Traffic, adds, counts, each_lane, on}
 
 -- the sending ends of two rings: what was sent, and how many sends were refused
 pub record Outgoing : Type 0 where
@@ -48,6 +48,9 @@ pub record LinkState : Type 0 where
 abbrev pub end_of : LinkState → LinkEnd
 end_of link = record { out = link.out.rings; into = link.into.rings }
 
+abbrev pub traffic_of : LinkState → Traffic
+traffic_of link = record { sent = link.out.sent; received = link.into.received; full = link.out.full; empty = link.into.empty }
+
 -- nothing was sent or received, or tried
 abbrev pub none_sent : Lanes RingId → Outgoing
 none_sent rings = record { rings = rings; sent = each_lane []; full = each_lane 0 }
@@ -59,7 +62,10 @@ abbrev pub IsUnused : LinkState → Type 0
 IsUnused link = (link.out ≡ none_sent link.out.rings) × (link.into ≡ none_received link.into.rings)
 
 -- A link with the other end of its pair: what was offered to the node, and what was taken of what it sent.
-pub record MemoryState : Type 0 where
+pub record MemoryLinkState : Type 0 where
   pub link : LinkState
   pub offered : Outgoing
   pub taken : Incoming
+
+abbrev pub memory_traffic : MemoryLinkState → Traffic
+memory_traffic link = traffic_of link.link

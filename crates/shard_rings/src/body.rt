@@ -6,7 +6,7 @@ use cache_model::ReplyKind;
 use layout::{GREATEST_KEY, GREATEST_VALUE};
 
 /// Whether the body is that of a reply of this kind, with so many keys.
-#[tactic(auto, using(crate::proofs::Bodies::value_is, crate::proofs::Bodies::value_of, crate::proofs::Bodies::keys_are, crate::proofs::Bodies::keys_of))]
+#[tactic(auto, using(crate::proofs::Bodies::bodies))]
 pub(crate) fn is_body(kind: ReplyKind, keys: u32, body: &[u8]) -> bool
     requires { keys < 2 ^ 16 }
     ensures { IsTrue result ↔ IsBody kind keys body.now }

@@ -1,7 +1,8 @@
-//! The header of a reply.
+//! The header of a message.
 ghost use Rattle.std.specs.Prelude.{length, ◌≡◌, ◌≢◌, ◌<◌, ◌^◌, IfSome, IfNone};
 ghost use Rattle.layout.specs.Sizes.{message_header};
 ghost use Rattle.cache_model.specs.declared.reply_kind.ReplyKind.{ReplyKind};
+ghost use Rattle.shard_rings.specs.Number.{message_number};
 ghost use Rattle.shard_rings.specs.Reply.{reply_byte, reply_header};
 ghost use Rattle.shard_rings.specs.inside.Head.{IsHeadOf};
 
@@ -87,4 +88,14 @@ fn byte_of(kind: ReplyKind) -> u8
         ReplyKind::Erased => 21,
         ReplyKind::Keys => 22,
     }
+}
+
+/// The number of the command that a message is of, as its header has it; 0 where the bytes hold no whole header.
+pub fn message_number(bytes: &[u8]) -> u32
+    ensures { result ≡ message_number bytes.now }
+{
+    if bytes.len() < HEADER {
+        return 0;
+    }
+    u32::from_le_bytes([bytes[4], bytes[5], bytes[6], bytes[7]])
 }

@@ -23,6 +23,7 @@ mod ring_link;
 mod writing;
 
 pub use ask::Ask;
+pub use head::message_number;
 pub use law::{a_message_is_one_reply, commands_can_be_asked, replies_can_be_sent};
 pub use link::{Lane, Link, Packet};
 pub use memory_link::MemoryLink;

@@ -12,7 +12,7 @@ use std::marker::Model;
 
 /// A node's end with the peer's end beside it. What the node sends is taken from it, and what it will receive is offered.
 ///
-/// Each lane is a ring of the size that it has between two threads: 4 requests or 8 replies.
+/// Each lane is a ring of the size that it has between two threads, [`layout::REQUEST_SLOTS`] or [`layout::REPLY_SLOTS`].
 #[derive(Drop)]
 pub struct MemoryLink<'f> {
     out: SendingEnds<'f>,
@@ -24,9 +24,9 @@ pub struct MemoryLink<'f> {
 
 impl<'f> Model for MemoryLink<'f> {
     ghost use Rattle.std.specs.Prelude.{◌≡◌};
-    ghost use Rattle.shard_rings.specs.Links.{MemoryState};
+    ghost use Rattle.shard_rings.specs.Links.{MemoryLinkState};
 
-    ghost Value = { MemoryState };
+    ghost Value = { MemoryLinkState };
 
     ghost view = { λ l. record { link = record { out = l.out; into = l.into }; offered = l.offered; taken = l.taken } };
 
@@ -89,28 +89,29 @@ impl<'f> MemoryLink<'f> {
 }
 
 impl<'f> Link<'f> for MemoryLink<'f> {
-    ghost use Rattle.shard_rings.specs.Links.{end_of};
+    ghost use Rattle.shard_rings.specs.Links.{end_of, memory_traffic};
 
     ghost end = { λ l. end_of l.link };
 
-    ghost sent = { λ l. l.link.out.sent };
-
-    ghost received = { λ l. l.link.into.received };
-
-    ghost full = { λ l. l.link.out.full };
-
-    ghost empty = { λ l. l.link.into.empty };
+    ghost traffic = { λ l. memory_traffic l };
 
     fn send(&mut self, lane: Lane, packet: Packet<'f>) -> Result<(), Packet<'f>>
+        // The packet went over its lane.
         ensures same_end { end_of self.new.link ≡ end_of self.old.link }
         ensures sent { OnOk result (self.new.link.out.sent ≡ adds lane packet.entry self.old.link.out.sent) }
+
+        // Or there was no slot for it.
         ensures back { IfErr result (λ back. back ≡ packet.entry) }
         ensures not_sent { OnErr result (self.new.link.out.sent ≡ self.old.link.out.sent) }
         ensures full { OnErr result (Rose (on lane self.old.link.out.full) (on lane self.new.link.out.full)) }
+
+        // How often there was none.
         ensures never_falls { NoneFell self.old.link.out.full self.new.link.out.full
             × NoneFell self.old.link.into.empty self.new.link.into.empty }
         ensures counted { OnErr result (self.new.link.out.full ≡ counts lane self.old.link.out.full) }
         ensures not_counted { OnOk result (self.new.link.out.full ≡ self.old.link.out.full) }
+
+        // The other way nothing happened.
         ensures received { self.new.link.into.received ≡ self.old.link.into.received }
         ensures into { self.new.link.into ≡ self.old.link.into }
         ensures peer { (self.new.offered ≡ self.old.offered) × (self.new.taken ≡ self.old.taken) }
@@ -119,16 +120,25 @@ impl<'f> Link<'f> for MemoryLink<'f> {
     }
 
     fn receive(&mut self, lane: Lane) -> Option<Packet<'f>>
+        // A packet came over the lane.
         ensures same_end { end_of self.new.link ≡ end_of self.old.link }
         ensures received { IfSome result (λ packet. self.new.link.into.received ≡ adds lane packet self.old.link.into.received) }
+
+        // Or there was none.
         ensures not_received { IfNone result (self.new.link.into.received ≡ self.old.link.into.received) }
         ensures empty { IfNone result (Rose (on lane self.old.link.into.empty) (on lane self.new.link.into.empty)) }
+
+        // How often nothing was there.
         ensures never_falls { NoneFell self.old.link.out.full self.new.link.out.full
             × NoneFell self.old.link.into.empty self.new.link.into.empty }
         ensures counted { IfNone result (self.new.link.into.empty ≡ counts lane self.old.link.into.empty) }
         ensures not_counted { OnSome result (self.new.link.into.empty ≡ self.old.link.into.empty) }
+
+        // What came is what the peer sent.
         ensures holds_none { IsNone result ↔ (on lane self.old.link.into.received ≡ on lane self.old.offered.sent) }
         ensures prefix { IsPrefix (on lane self.new.link.into.received) (on lane self.old.offered.sent) }
+
+        // The other way nothing happened.
         ensures sent { self.new.link.out.sent ≡ self.old.link.out.sent }
         ensures out { self.new.link.out ≡ self.old.link.out }
         ensures peer { (self.new.offered ≡ self.old.offered) × (self.new.taken ≡ self.old.taken) }

@@ -133,10 +133,14 @@ impl<'f> ReceivingEnd<'f> {
     /// The next packet: with the other end of the ring beside it, none exactly where none is there.
     pub(crate) fn pop_beside(&mut self, sending: &mut SendingEnd<'f>) -> Option<Packet<'f>>
         requires { sending.old.ring ≡ self.old.ring }
+
+        // A packet came, or the call is counted.
         ensures some { IfSome result (λ packet. self.new ≡ record self.old { received = self.old.received ++ packet ∷ [] }) }
         ensures none { IfNone result (self.new ≡ record self.old { empty = counted self.old.empty }) }
         ensures rose { IfNone result (Rose self.old.empty self.new.empty) }
         ensures never_falls { self.old.empty ≤ self.new.empty }
+
+        // What came was sent at the other end.
         ensures sending { sending.new ≡ sending.old }
         ensures holds_none { IsNone result ↔ (self.old.received ≡ sending.old.sent) }
         ensures prefix { IsPrefix self.new.received sending.old.sent }

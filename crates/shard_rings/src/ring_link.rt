@@ -43,17 +43,11 @@ impl<'f> RingLink<'f> {
 }
 
 impl<'f> Link<'f> for RingLink<'f> {
-    ghost use Rattle.shard_rings.specs.Links.{end_of};
+    ghost use Rattle.shard_rings.specs.Links.{end_of, traffic_of};
 
     ghost end = { λ l. end_of l };
 
-    ghost sent = { λ l. l.out.sent };
-
-    ghost received = { λ l. l.into.received };
-
-    ghost full = { λ l. l.out.full };
-
-    ghost empty = { λ l. l.into.empty };
+    ghost traffic = { λ l. traffic_of l };
 
     fn send(&mut self, lane: Lane, packet: Packet<'f>) -> Result<(), Packet<'f>> {
         self.out.push(lane, packet)

@@ -3,24 +3,23 @@ use Rattle.std.proofs.Common.{◌≡◌, ℕ, ◌+◌, ◌<◌, ◌⊎◌, inl, 
 use Rattle.std.specs.Prelude.{Vec}
 use Rattle.std.specs.declared.alloc.Global.{Global}
 use Rattle.std.proofs.lemmas.List.{length-map}
-use Rattle.std.proofs.lemmas.Option.{slice_get-get_or, slice_get_within}
+use Rattle.std.proofs.lemmas.Option.{slice_get-get_or, slice_get_within, same_Some}
 use Rattle.trace_text.specs.Trace.{Trace}
 use Rattle.foreign_list.specs.Lists.{OwnedList}
 use Rattle.foreign_list.specs.OwnerSeats.{IsAtRest}
 use Rattle.shard_rings.specs.Lanes.{ArePair, ArePrefixes}
-use Rattle.shard_rings.specs.Links.{LinkState, end_of}
+use Rattle.shard_rings.specs.Links.{LinkState, end_of, traffic_of}
 use Rattle.shard_rings.specs.Mesh.{Ends, IsEnd}
 use Rattle.shard_node.specs.Nodes.{NodeState, PeerState, others}
 use Rattle.shard_node.specs.Standing.{InStanding}
 use Rattle.shard_node.specs.Together.{AreTogether, IsDoneNode, IsPeer}
 use Rattle.shard_node.specs.Turns.{IsDone, IsSameNode}
 use Rattle.shard_run.specs.Closing.{ArePaired, WereExchanged}
-use Rattle.shard_node.specs.Links.{ring_traffic}
 use Rattle.shard_run.specs.Opening.{AreAtRest, IsLinkOf, IsOpened, links_of}
 use Rattle.shard_run.specs.Remaining.{AllCanFinish, AllHaveFacts, AreLeftBy}
 use Rattle.shard_run.specs.Running.{WereDriven}
 use Rattle.shard_run.specs.declared.remains.Remains.{Remains}
-use Rattle.shard_run.proofs.Getting.{same_thing, something_at, unmapped, mapped, across, all_at}
+use Rattle.shard_run.proofs.Getting.{something_at, unmapped, mapped, across, all_at}
 use Rattle.shard_run.proofs.Others.{so_many_others, place_of_other}
 
 module _ {G : Type 0} (holds : G → ℕ) (trace : Trace) (n pages : ℕ) (homes : List OwnedList) (nodes : List (NodeState LinkState G)) (d : WereDriven holds trace n pages homes nodes) where
@@ -61,7 +60,7 @@ module _ {G : Type 0} (holds : G → ℕ) (trace : Trace) (n pages : ℕ) (homes
         shards = was.kept.shards ∙ was.as_opened.shards ∙ sym as_many;
         room = was.kept.pages ∙ was.as_opened.room;
         work = was.kept.trace ∙ was.as_opened.work;
-        done = all_at (IsDone ring_traffic holds) nodes s node d.done at;
+        done = all_at (IsDone traffic_of holds) nodes s node d.done at;
       }
 
   -- a link is the end that it was
@@ -145,7 +144,7 @@ module _ {G : Type 0} (holds : G → ℕ) (trace : Trace) (n pages : ℕ) (homes
         }
 
     met : AllHaveFacts nodes → WereExchanged links → (a b : ℕ) (p q : PeerState LinkState) → IsPeer nodes a b p → IsPeer nodes b a q
-        → ArePrefixes (ring_traffic p.link).received (ring_traffic q.link).sent
+        → ArePrefixes (traffic_of p.link).received (traffic_of q.link).sent
     met facts exchanged a b p q here there =
         let near = placed facts a b p here in
         let far = placed facts b a q there in
@@ -170,7 +169,7 @@ module _ {G : Type 0} (holds : G → ℕ) (trace : Trace) (n pages : ℕ) (homes
           ]
         ]
 
-    done_node : AllHaveFacts nodes → (s : ℕ) (node : NodeState LinkState G) → slice_get nodes s ≡ Some node → IsDoneNode ring_traffic holds trace n pages s node
+    done_node : AllHaveFacts nodes → (s : ℕ) (node : NodeState LinkState G) → slice_get nodes s ≡ Some node → IsDoneNode traffic_of holds trace n pages s node
     done_node facts s node at =
         let was = was_opened s node at in
         record {
@@ -179,12 +178,12 @@ module _ {G : Type 0} (holds : G → ℕ) (trace : Trace) (n pages : ℕ) (homes
           of_pages = was.kept.pages ∙ was.as_opened.room;
           of_trace = was.kept.trace ∙ was.as_opened.work;
           peers = (facts s node at).peers ∙ (ap (λ m. others m node.shard) (was.kept.shards ∙ was.as_opened.shards) ∙ ap (others n) (was.kept.shard ∙ was.as_opened.number));
-          standing = all_at (InStanding ring_traffic) nodes s node d.standing at;
-          done = all_at (IsDone ring_traffic holds) nodes s node d.done at;
+          standing = all_at (InStanding traffic_of) nodes s node d.standing at;
+          done = all_at (IsDone traffic_of holds) nodes s node d.done at;
           counted = (facts s node at).counted;
         }
 
-    pub together : AllHaveFacts nodes → WereExchanged links → AreTogether ring_traffic holds trace n pages nodes
+    pub together : AllHaveFacts nodes → WereExchanged links → AreTogether traffic_of holds trace n pages nodes
     together facts exchanged = record { count = as_many; each = done_node facts; met = met facts exchanged }
 
   -- the seats are those of the lists of the run
@@ -198,6 +197,6 @@ module _ {G : Type 0} (holds : G → ℕ) (trace : Trace) (n pages : ℕ) (homes
         let many = as_many in
         let node = something_at nodes s (omega (arith, w, lists, many)) in
         let was = was_opened s node.0 node.1 in
-        let same : was.home ≡ home = same_thing was.home home (sym was.home_at ∙ at) in
+        let same : was.home ≡ home = same_Some was.home home (sym was.home_at ∙ at) in
         subst (λ l. IsAtRest l seat) (was.kept.home ∙ (was.as_opened.list ∙ same)) (left.seats s node.0 seat node.1 there);
   }

@@ -2,19 +2,18 @@
 use Rattle.std.proofs.Common.{◌≡◌, ℕ, ◌+◌, ◌<◌, inl, inr, List, [], ◌∷◌, ◌++◌, length, Some, slice_get, sym, ap, subst, ◌∙◌, arith, length-append, append_assoc, append-nil}
 use Rattle.std.specs.Prelude.{map}
 use Rattle.std.proofs.lemmas.List.{map-append}
-use Rattle.std.proofs.lemmas.Option.{slice_get_within}
+use Rattle.std.proofs.lemmas.Option.{slice_get_within, same_Some}
 use Rattle.trace_text.specs.Trace.{Trace}
 use Rattle.foreign_list.specs.OwnerSeats.{OwnerState, IsAtRest}
-use Rattle.shard_rings.specs.Links.{LinkState}
+use Rattle.shard_rings.specs.Links.{LinkState, traffic_of}
 use Rattle.shard_node.specs.Nodes.{NodeState}
 use Rattle.shard_node.specs.Rans.{IsOfRun, line_of}
 use Rattle.shard_node.specs.Turns.{IsDone}
-use Rattle.shard_node.specs.Links.{ring_traffic}
 use Rattle.shard_run.specs.Opening.{links_of}
 use Rattle.shard_run.specs.Remaining.{AllCanFinish, AllHaveFacts, AreLeftBy, CanFinish, HasFacts, IsRoomFor}
 use Rattle.shard_run.specs.inside.Finishing.{HasFinished, Leaves}
 use Rattle.shard_run.specs.declared.remains.Remains.{Remains}
-use Rattle.shard_run.proofs.Getting.{same_thing, get_front, get_between, before_or_last, get_last}
+use Rattle.shard_run.proofs.Getting.{get_front, get_between, before_or_last, get_last}
 
 module _ {G : Type 0} (trace : Trace) (pages : ℕ) where
   -- the nodes before these have finished
@@ -54,7 +53,7 @@ module _ {G : Type 0} (trace : Trace) (pages : ℕ) where
     can_finish : CanFinish holds trace (length nodes) pages (length h.gone) node
     can_finish = all (length h.gone) node (subst (λ l. slice_get l (length h.gone) ≡ Some node) (sym (h.split ∙ ap (λ l. h.gone ++ l) e)) (get_between h.gone node others))
 
-    pub next_is_done : IsDone ring_traffic holds node
+    pub next_is_done : IsDone traffic_of holds node
     next_is_done = can_finish.done
 
     pub next_within : node.shard < node.shards
@@ -114,7 +113,7 @@ module _ {G : Type 0} (trace : Trace) (pages : ℕ) where
                   let q = last.0 in
                   let end : s ≡ length old.seats.items = omega (arith, q, count) in
                   let same : l.seat ≡ seat =
-                  same_thing l.seat seat (sym (get_last old.seats.items l.seat) ∙ subst (λ j. slice_get (old.seats.items ++ l.seat ∷ []) j ≡ Some seat) end here) in
+                  same_Some l.seat seat (sym (get_last old.seats.items l.seat) ∙ subst (λ j. slice_get (old.seats.items ++ l.seat ∷ []) j ≡ Some seat) end here) in
                   subst (λ o. IsAtRest one.space.list o) same (subst (λ (d : NodeState LinkState G). IsAtRest d.space.list l.seat) last.1 l.at_rest))
             ]
 

@@ -2,11 +2,8 @@
 use Rattle.std.proofs.Common.{◌≡◌, ℕ, zero, suc, ◌<◌, ◌⊎◌, inl, inr, List, [], ◌∷◌, ◌++◌, length, map, take, set, get_or, Some, slice_get, refl, ap, subst, ◌∙◌, arith}
 use Rattle.std.specs.Prelude.{Result, Ok, Err, OnErr, is_ok, if◌then◌else◌}
 use Rattle.std.specs.List.{All, insert}
-use Rattle.std.specs.Option.{option_map, unwrap_or}
-use Rattle.std.proofs.lemmas.Option.{get_or_from_slice_get, slice_get-get_or, slice_get-map, slice_get_within}
-
-pub same_thing : {X : Type 0} (x y : X) → Some x ≡ Some y → x ≡ y
-same_thing x y e = ap (λ o. unwrap_or o x) e
+use Rattle.std.specs.Option.{option_map}
+use Rattle.std.proofs.lemmas.Option.{get_or_from_slice_get, slice_get-get_or, slice_get-map, slice_get_within, same_Some}
 
 pub get_set_same : {X : Type 0} (xs : List X) (i : ℕ) (x : X) → i < length xs → slice_get (set xs i x) i ≡ Some x
 get_set_same [] i x h = absurd (omega arith)
@@ -32,7 +29,7 @@ get_front (z ∷ zs) ys (suc i) h = get_front zs ys i (omega arith)
 
 -- an element of a list with one more at its end is one of the list, or that one
 pub before_or_last : {X : Type 0} (xs : List X) (x y : X) (i : ℕ) → slice_get (xs ++ x ∷ []) i ≡ Some y → (slice_get xs i ≡ Some y) ⊎ ((i ≡ length xs) × (x ≡ y))
-before_or_last [] x y zero e = inr (refl, same_thing x y e)
+before_or_last [] x y zero e = inr (refl, same_Some x y e)
 before_or_last [] x y (suc i) e = absurd (let w = slice_get_within (x ∷ []) (suc i) y e in omega (arith, w))
 before_or_last (z ∷ zs) x y zero e = inl e
 before_or_last (z ∷ zs) x y (suc i) e = elim (before_or_last zs x y i e) [ inl l ↦ inl l | inr r ↦ inr (ap suc r.0, r.1) ]
@@ -73,7 +70,7 @@ on_error (Err e) P p = p
 -- what stands at a place of a list that was mapped
 pub unmapped : {X Y : Type 0} (f : X → Y) (xs : List X) (k : ℕ) (y : Y) → slice_get (map f xs) k ≡ Some y → (x : X) × (slice_get xs k ≡ Some x) × (f x ≡ y)
 unmapped f [] k y at = absurd (let w = slice_get_within [] k y at in omega (arith, w))
-unmapped f (x ∷ xs) zero y at = (x, refl, same_thing (f x) y at)
+unmapped f (x ∷ xs) zero y at = (x, refl, same_Some (f x) y at)
 unmapped f (x ∷ xs) (suc k) y at = unmapped f xs k y at
 
 pub mapped : {X Y : Type 0} (f : X → Y) (xs : List X) (k : ℕ) (x : X) → slice_get xs k ≡ Some x → slice_get (map f xs) k ≡ Some (f x)

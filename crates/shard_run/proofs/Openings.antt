@@ -2,7 +2,7 @@
 use Rattle.std.proofs.Common.{◌≡◌, ℕ, zero, suc, ◌+◌, ◌-◌, inl, inr, List, [], ◌∷◌, ◌++◌, length, Some, slice_get, sym, ap, subst, ◌∙◌, arith, length-append, append_assoc, append-nil}
 use Rattle.std.specs.Prelude.{Vec}
 use Rattle.std.specs.declared.alloc.Global.{Global}
-use Rattle.std.proofs.lemmas.Option.{slice_get_within}
+use Rattle.std.proofs.lemmas.Option.{slice_get_within, same_Some}
 use Rattle.trace_text.specs.Trace.{Trace}
 use Rattle.foreign_list.specs.Lists.{OwnedList}
 use Rattle.foreign_list.specs.OwnerSeats.{OwnerState, IsAtRest}
@@ -12,7 +12,7 @@ use Rattle.shard_node.specs.Nodes.{NodeState}
 use Rattle.shard_run.specs.Opening.{AreAtRest, AreLists, AreOpened, AreSeatsOf, IsLinkOf, IsOpened, links_of}
 use Rattle.shard_run.specs.inside.Opening.{AreLeft, GivesBack, OpensLast}
 use Rattle.common_lemmas.proofs.Orders.{lt_or_ge}
-use Rattle.shard_run.proofs.Getting.{same_thing, get_in_front, get_front, get_between, before_or_last, get_last, something_at}
+use Rattle.shard_run.proofs.Getting.{get_in_front, get_front, get_between, before_or_last, get_last, something_at}
 
 pub seats_of_front : (homes : List OwnedList) (seats fewer : List OwnerState) (seat : OwnerState) → AreSeatsOf homes seats → seats ≡ fewer ++ seat ∷ [] → AreSeatsOf homes fewer
 seats_of_front homes seats fewer seat h pop s home one at there = h s home one at (subst (λ l. slice_get l s ≡ Some one) (sym pop) (get_in_front fewer (seat ∷ []) s one there))
@@ -80,7 +80,7 @@ module _ {G : Type 0} (trace : Trace) (n pages : ℕ) (homes : List OwnedList) (
           → IsOpened trace n pages (length later_seats + k) home node
       opened_at zero home node at there =
           let first_place : length later_seats + 0 ≡ length later_seats = omega arith in
-          let same : o.node ≡ node = same_thing o.node node (subst (λ l. slice_get l 0 ≡ Some node) o.more there) in
+          let same : o.node ≡ node = same_Some o.node node (subst (λ l. slice_get l 0 ≡ Some node) o.more there) in
           subst (λ j. IsOpened trace n pages j home node) (sym first_place)
           (subst (λ d. IsOpened trace n pages (length later_seats) home d) same (o.opened home (subst (λ j. slice_get homes j ≡ Some home) first_place at)))
       opened_at (suc k) home node at there =
@@ -92,8 +92,8 @@ module _ {G : Type 0} (trace : Trace) (n pages : ℕ) (homes : List OwnedList) (
           → links_of node ≡ row.items
       linked_at zero row node at there =
           let first_place : length later_seats + 0 ≡ length fewer = omega (arith, same_count) in
-          let same : o.node ≡ node = same_thing o.node node (subst (λ l. slice_get l 0 ≡ Some node) o.more there) in
-          let own_same : own ≡ row = same_thing own row (sym (next_links left fewer own seats nodes h pop).1 ∙ subst (λ j. slice_get mesh j ≡ Some row) first_place at) in
+          let same : o.node ≡ node = same_Some o.node node (subst (λ l. slice_get l 0 ≡ Some node) o.more there) in
+          let own_same : own ≡ row = same_Some own row (sym (next_links left fewer own seats nodes h pop).1 ∙ subst (λ j. slice_get mesh j ≡ Some row) first_place at) in
           subst (λ d. links_of d ≡ row.items) same (o.links_here ∙ ap (λ (v : Vec LinkState Global). v.items) own_same)
       linked_at (suc k) row node at there =
           let place : length later_seats + suc k ≡ length seats + k = omega (arith, fewer_seats) in
@@ -177,7 +177,7 @@ module _ {G : Type 0} where
         | inr r ↦ (
             let q = r.0 in
             let place : length old + k ≡ length now = omega (arith, q, count) in
-            let same : seat ≡ other = same_thing seat other (sym (get_last now seat) ∙ subst (λ j. slice_get (now ++ seat ∷ []) j ≡ Some other) place there) in
+            let same : seat ≡ other = same_Some seat other (sym (get_last now seat) ∙ subst (λ j. slice_get (now ++ seat ∷ []) j ≡ Some other) place there) in
             subst (λ o. IsAtRest one.space.list o) same (subst (λ (d : NodeState LinkState G). IsAtRest d.space.list seat) r.1 at_rest))
       ];
     };
@@ -202,7 +202,7 @@ module _ {G : Type 0} (n : ℕ) (homes : List OwnedList) where
       at_rest_at s home seat at there = elim (lt_or_ge s (length seats)) [
         | inl lt ↦ (
             let was = something_at seats s lt in
-            let same : was.0 ≡ seat = same_thing was.0 seat (sym (back.kept s was.0 was.1) ∙ there) in
+            let same : was.0 ≡ seat = same_Some was.0 seat (sym (back.kept s was.0 was.1) ∙ there) in
             subst (λ o. IsAtRest home o) same (left.seated s home was.0 at was.1))
         | inr ge ↦ (
             let k = s - length seats in

@@ -3,9 +3,8 @@ use Rattle.std.proofs.Common.{◌≡◌, ◌≢◌, ℕ, zero, suc, ◌+◌, ◌
 use Rattle.std.specs.List.{filter, range_with_len}
 use Rattle.std.proofs.lemmas.Bool.{cases_eq}
 use Rattle.std.proofs.lemmas.Bool.Decides.{nat_tests}
-use Rattle.std.proofs.lemmas.Option.{slice_get_within}
+use Rattle.std.proofs.lemmas.Option.{slice_get_within, same_Some}
 use Rattle.shard_node.specs.Nodes.{others}
-use Rattle.shard_run.proofs.Getting.{same_thing}
 
 stays : (q s : ℕ) → q ≢ s → not (q == s) ≡ true
 stays q s other = grind (arith, nat_tests)
@@ -33,7 +32,7 @@ above_count a (suc k) s above =
 above_at : (a k s j q : ℕ) → s < a → slice_get (those_from a k s) j ≡ Some q → q ≡ a + j
 above_at a zero s j q above at = absurd (let w = slice_get_within [] j q at in omega (arith, w))
 above_at a (suc k) s zero q above at =
-    let first = same_thing a q (subst (λ l. slice_get l 0 ≡ Some q) (those_stay a k s (λ same. absurd (omega (arith, same, above)))) at) in
+    let first = same_Some a q (subst (λ l. slice_get l 0 ≡ Some q) (those_stay a k s (λ same. absurd (omega (arith, same, above)))) at) in
     omega (arith, first)
 above_at a (suc k) s (suc j) q above at =
     let next = above_at (a + 1) k s j q (omega (arith, above)) (subst (λ l. slice_get l (suc j) ≡ Some q) (those_stay a k s (λ same. absurd (omega (arith, same, above)))) at) in
@@ -61,7 +60,7 @@ place_from a (suc k) s j q from at = elim (cases_eq a s) [
   where
     later : (i : ℕ) → a < s → slice_get (a ∷ those_from (a + 1) k s) i ≡ Some q
         → ((i : ℕ) → slice_get (those_from (a + 1) k s) i ≡ Some q → ((q < s) × (q ≡ a + 1 + i)) ⊎ ((s < q) × (q ≡ a + 1 + i + 1))) → ((q < s) × (q ≡ a + i)) ⊎ ((s < q) × (q ≡ a + i + 1))
-    later zero less here rest = inl (let is = same_thing a q here in (omega (arith, is, less), omega (arith, is)))
+    later zero less here rest = inl (let is = same_Some a q here in (omega (arith, is, less), omega (arith, is)))
     later (suc i) less here rest = elim (rest i here) [
       | inl low ↦ inl (low.0, let e = low.1 in omega (arith, e))
       | inr high ↦ inr (high.0, let e = high.1 in omega (arith, e))

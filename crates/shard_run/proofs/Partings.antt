@@ -5,12 +5,12 @@ use Rattle.std.specs.declared.alloc.Global.{Global}
 use Rattle.std.proofs.Math.Seq.{take-append_seam, take-length}
 use Rattle.std.proofs.lemmas.Bool.{cases_eq}
 use Rattle.std.proofs.lemmas.List.{length-take-le, take-take}
-use Rattle.std.proofs.lemmas.Option.{slice_get_within, slice_get-get_or}
+use Rattle.std.proofs.lemmas.Option.{slice_get_within, slice_get-get_or, same_Some}
 use Rattle.shard_rings.specs.Links.{LinkState}
 use Rattle.shard_rings.specs.Mesh.{Ends, IsEnd}
 use Rattle.shard_run.specs.Closing.{ArePaired, Exchanged, WereExchanged}
 use Rattle.shard_run.specs.inside.Parting.{AllPaired, AllPart, EndsWithPairOf, Parts}
-use Rattle.shard_run.proofs.Getting.{same_thing, get_set_same, get_set_other, get_in_front, get_last, get_taken, something_at}
+use Rattle.shard_run.proofs.Getting.{get_set_same, get_set_other, get_in_front, get_last, get_taken, something_at}
 
 -- ---- one shard parts from the others, from the last of them on
 
@@ -79,9 +79,9 @@ one_parted olds news others left fewer new d x h e pop parts = record {
     here : (a : ℕ) → a ≡ length fewer → (old now : Vec LinkState Global) (other : LinkState) → slice_get olds a ≡ Some old
         → slice_get (set news (length fewer) new) a ≡ Some now → slice_get others a ≡ Some other → Parts old.items now.items other
     here a q old now other at there end =
-        let olds_same : get_or news (length fewer) d ≡ old = same_thing _ _ (sym was ∙ subst (λ k. slice_get olds k ≡ Some old) q at) in
-        let news_same : new ≡ now = same_thing _ _ (sym (get_set_same news (length fewer) new below) ∙ subst (λ k. slice_get (set news (length fewer) new) k ≡ Some now) q there) in
-        let others_same : x ≡ other = same_thing _ _ (sym last ∙ subst (λ k. slice_get others k ≡ Some other) q end) in
+        let olds_same : get_or news (length fewer) d ≡ old = same_Some _ _ (sym was ∙ subst (λ k. slice_get olds k ≡ Some old) q at) in
+        let news_same : new ≡ now = same_Some _ _ (sym (get_set_same news (length fewer) new below) ∙ subst (λ k. slice_get (set news (length fewer) new) k ≡ Some now) q there) in
+        let others_same : x ≡ other = same_Some _ _ (sym last ∙ subst (λ k. slice_get others k ≡ Some other) q end) in
         subst (λ (o : Vec LinkState Global). Parts o.items now.items other) olds_same
         (subst (λ (o : Vec LinkState Global). Parts (get_or news (length fewer) d).items o.items other) news_same
         (subst (λ o. Parts (get_or news (length fewer) d).items new.items o) others_same parts))
@@ -153,7 +153,7 @@ module _ (all now rest : Ends) (own : Vec LinkState Global) (h : IsClosedTo all 
   -- and the other way round
   front_end : (a : ℕ) (row : Vec LinkState Global) (k : ℕ) (x : LinkState) → IsFront a row → k < length rest → IsEnd all a k x → slice_get row.items k ≡ Some x
   front_end a row k x f lt e =
-      let same : e.own ≡ f.whole = same_thing _ _ (sym e.own_at ∙ f.whole_at) in
+      let same : e.own ≡ f.whole = same_Some _ _ (sym e.own_at ∙ f.whole_at) in
       let at : slice_get f.whole.items k ≡ Some x = subst (λ (v : Vec LinkState Global). slice_get v.items k ≡ Some x) same e.end_at in
       subst (λ l. slice_get l k ≡ Some x) (sym f.front) (get_taken f.whole.items (length rest) k lt ∙ at)
 
@@ -219,8 +219,8 @@ module _ (all now rest : Ends) (own : Vec LinkState Global) (h : IsClosedTo all 
         let last : slice_get was.old.items c ≡ Some was.parts_here.end =
         subst (λ l. slice_get l c ≡ Some was.parts_here.end) (sym was.parts_here.fewer)
         (subst (λ j. slice_get (row.0.items ++ was.parts_here.end ∷ []) j ≡ Some was.parts_here.end) (sym k) (get_last row.0.items was.parts_here.end)) in
-        subst (λ z. Exchanged z y) (same_thing _ _ (sym last ∙ x_at))
-        (subst (λ z. Exchanged was.parts_here.end z) (same_thing _ _ (sym was.other_at ∙ y_at)) was.parts_here.exchanged)
+        subst (λ z. Exchanged z y) (same_Some _ _ (sym last ∙ x_at))
+        (subst (λ z. Exchanged was.parts_here.end z) (same_Some _ _ (sym was.other_at ∙ y_at)) was.parts_here.exchanged)
 
     pub one_closed : IsClosedTo all news
     one_closed = record {

@@ -15,12 +15,11 @@ use Rattle.cache_model.specs.Row.{live, tight_floor}
 use Rattle.foreign_list.specs.Lists.{OwnedList}
 use Rattle.run_log.specs.JournalState.{JournalState}
 use Rattle.run_log.specs.ShardLines.{occupancies_in, occupancy_in}
-use Rattle.shard_rings.specs.Links.{LinkState}
+use Rattle.shard_rings.specs.Links.{LinkState, traffic_of}
 use Rattle.shard_node.specs.Nodes.{NodeState}
 use Rattle.shard_node.specs.Rans.{IsOfRun, line_of}
 use Rattle.shard_node.specs.Standing.{InStanding}
 use Rattle.shard_node.specs.Together.{Agree, journals_of as journals_by, logs_of as logs_by}
-use Rattle.shard_node.specs.Links.{ring_traffic}
 use Rattle.shard_run.specs.Remaining.{AreLeftBy}
 use Rattle.shard_run.specs.Running.{IsRun, WereDriven, journals_of, logs_of}
 use Rattle.shard_run.specs.declared.remains.Remains.{Remains}
@@ -52,13 +51,13 @@ module _ {G : Type 0} (holds : G → ℕ) (trace : Trace) (n pages : ℕ) (homes
   pressure one = subst (λ l. All (EvictsAbove trace pages (tight_floor pages 0 + dense)) l) (sym same_journals)
       (all_mapped (EvictsAbove trace pages (tight_floor pages 0 + dense)) (λ node. node.journal.entries) nodes (λ s node at.
       let was = was_opened holds trace n pages homes nodes d s node at in
-      let stands = all_at (InStanding ring_traffic) nodes s node d.standing at in
+      let stands = all_at (InStanding traffic_of) nodes s node d.standing at in
       let evicts = stands.journal.pressure (was.kept.shards ∙ was.as_opened.shards ∙ one) in
       let room : node.pages ≡ pages = was.kept.pages ∙ was.as_opened.room in
       subst (λ p. EvictsAbove trace p (tight_floor p 0 + dense) node.journal.entries) room
       (subst (λ t. EvictsAbove t node.pages (tight_floor node.pages 0 + dense) node.journal.entries) (was.kept.trace ∙ was.as_opened.work) evicts)))
 
-  module _ (agree : Agree ring_traffic trace n pages nodes) (few : n ≤ most_shards) (short : length trace.operations ≤ most_commands) where
+  module _ (agree : Agree traffic_of trace n pages nodes) (few : n ≤ most_shards) (short : length trace.operations ≤ most_commands) where
     occupied_at : (s : ℕ) (node : NodeState LinkState G) → slice_get nodes s ≡ Some node → occupancy_in (line_of node.space) ≡ occupancy trace n pages (0 + s, node.journal.entries)
     occupied_at s node at =
         let blocks = agree.occupied s node at in

@@ -4,7 +4,7 @@ use Rattle.std.proofs.lemmas.Option.{slice_get_within}
 use Rattle.foreign_list.specs.Lists.{OwnedList}
 use Rattle.foreign_list.specs.OwnerSeats.{OwnerState, IsAtRest}
 use Rattle.shard_run.specs.Opening.{AreAtRest}
-use Rattle.shard_run.proofs.Getting.{before_or_last, get_in_front, get_last, same_thing}
+use Rattle.shard_run.proofs.Getting.{before_or_last, get_in_front, get_last}
 
 pub none_there : AreAtRest 0 [] []
 none_there = record {

@@ -4,9 +4,8 @@ use Rattle.trace_text.specs.Trace.{Trace}
 use Rattle.foreign_list.specs.Lists.{OwnedList}
 use Rattle.foreign_list.specs.OwnerSeats.{OwnerState, IsAtRest}
 use Rattle.shard_rings.specs.Lanes.{ArePair}
-use Rattle.shard_rings.specs.Links.{LinkState, end_of}
+use Rattle.shard_rings.specs.Links.{LinkState, end_of, traffic_of}
 use Rattle.shard_node.specs.Nodes.{NodeState, others}
-use Rattle.shard_node.specs.Links.{ring_traffic}
 use Rattle.shard_node.specs.Standing.{InStanding}
 
 -- there are n lists, and list s is that of shard s
@@ -49,7 +48,7 @@ module _ {G : Type 0} where
       pub list : node.space.list ≡ home
       -- its peers are the other shards, in rising order
       pub peers : map (λ peer. peer.shard) node.peers ≡ others n s
-      pub standing : InStanding ring_traffic node
+      pub standing : InStanding traffic_of node
       pub unturned : node.turns ≡ 0
 
     -- node s is that of shard s, and its blocks come home over list s

@@ -2,11 +2,10 @@
 use Rattle.std.specs.Prelude.{◌≡◌, ℕ, ◌^◌, ◌<◌, ◌≤◌, List, [], length, map, vec_capacity, Some, slice_get}
 use Rattle.trace_text.specs.Trace.{Trace}
 use Rattle.foreign_list.specs.OwnerSeats.{OwnerState, IsAtRest}
-use Rattle.shard_rings.specs.Links.{LinkState}
+use Rattle.shard_rings.specs.Links.{LinkState, traffic_of}
 use Rattle.shard_node.specs.Nodes.{NodeState, others}
 use Rattle.shard_node.specs.Rans.{IsOfRun, line_of}
 use Rattle.shard_node.specs.Turns.{IsDone}
-use Rattle.shard_node.specs.Links.{ring_traffic}
 use Rattle.shard_run.specs.Opening.{links_of}
 use Rattle.shard_run.specs.declared.remains.Remains.{Remains}
 
@@ -28,7 +27,7 @@ module _ {G : Type 0} where
     pub shards : node.shards ≡ n
     pub room : node.pages ≡ pages
     pub work : node.trace ≡ trace
-    pub done : IsDone ring_traffic holds node
+    pub done : IsDone traffic_of holds node
 
   -- so each of them, of as many shards as there are nodes
   abbrev pub AllCanFinish : (G → ℕ) → Trace → ℕ → List (NodeState LinkState G) → Type 0

@@ -11,12 +11,11 @@ use Rattle.cache_model.specs.Report.{occupancy}
 use Rattle.cache_model.specs.Row.{tight_floor}
 use Rattle.foreign_list.specs.Lists.{OwnedList}
 use Rattle.run_log.specs.ShardLines.{occupancies_in}
-use Rattle.shard_rings.specs.Links.{LinkState, end_of}
+use Rattle.shard_rings.specs.Links.{LinkState, end_of, traffic_of}
 use Rattle.shard_node.specs.Nodes.{NodeState}
 use Rattle.shard_node.specs.Rans.{IsOfRun, RanState}
 use Rattle.shard_node.specs.Standing.{InStanding}
 use Rattle.shard_node.specs.Turns.{IsDone, IsSameNode}
-use Rattle.shard_node.specs.Links.{ring_traffic}
 use Rattle.shard_run.specs.Opening.{AreOpened}
 
 -- The nodes were opened for this run, and turns alone changed them since: each is the node that was opened in its place. Now they
@@ -26,8 +25,8 @@ pub record WereDriven {G : Type 0} (holds : G → ℕ) (trace : Trace) (n pages 
   pub are_opened : AreOpened trace n pages homes opened
   pub count : length nodes ≡ length opened
   pub same : (s : ℕ) (old new : NodeState LinkState G) → slice_get opened s ≡ Some old → slice_get nodes s ≡ Some new → IsSameNode end_of old new
-  pub standing : All (InStanding ring_traffic) nodes
-  pub done : All (IsDone ring_traffic holds) nodes
+  pub standing : All (InStanding traffic_of) nodes
+  pub done : All (IsDone traffic_of holds) nodes
 
 -- the journals and the logs of a run, in the order of its shards
 abbrev pub journals_of : RanState → List (List Entry)

@@ -1,7 +1,7 @@
 //! The end of the nodes of all shards.
 ghost use Rattle.std.specs.Prelude.{◌+◌, ◌<◌, length};
+ghost use Rattle.shard_rings.specs.Links.{traffic_of};
 ghost use Rattle.shard_node.specs.Turns.{IsDone};
-ghost use Rattle.shard_node.specs.Links.{ring_traffic};
 ghost use Rattle.shard_node.specs.Rans.{IsOfRun};
 ghost use Rattle.shard_run.specs.Remaining.{AllCanFinish, AllHaveFacts, AreLeftBy, HasFacts, IsRoomFor};
 ghost use Rattle.shard_run.specs.inside.Finishing.{HasFinished, Leaves};
@@ -29,7 +29,7 @@ pub fn finish_nodes<'f, G: Gate + Drop>(
 
 /// Finishes the next node.
 fn finish_one<'f, G: Gate + Drop>(node: Node<'f, RingLink<'f>, G>, into: &mut Remains<'f>)
-    requires done { IsDone ring_traffic G.holds node }
+    requires done { IsDone traffic_of G.holds node }
     requires within { node.shard < node.shards }
     requires so_far { HasFinished node.trace node.shards node.pages node.shard into.old }
     ensures facts { HasFacts node.entry }

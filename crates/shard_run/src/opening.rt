@@ -71,15 +71,22 @@ fn open_all<'f, G: Gates>(
     seats: &mut Vec<OwnerSeat>,
     nodes: &mut Vec<Node<'f, RingLink<'f>, G::Made>>,
 ) -> Result<(), AllocError>
+    // What all shards share.
     requires pages { ArePages pages }
     requires parsed_for { shards ≡ trace.now.shards }
+
+    // What each shard starts with.
     requires lists { AreLists shards homes.now }
     requires one_each { length seats.old.items ≡ shards }
     requires seats { AreSeatsOf homes.now seats.old.items }
     requires links { length links.items ≡ shards }
     requires mesh { IsMesh links.items }
+
+    // No node yet, and space for all.
     requires none { nodes.old.items ≡ [] }
     requires room { shards ≤ vec_capacity nodes.old }
+
+    // All nodes, or as far as it came.
     ensures opened { OnOk result (AreOpened (trace_in trace.now) trace.now.shards pages homes.now nodes.new.items) }
     ensures refused { OnErr result (AreLeft trace.now.shards homes.now seats.new.items nodes.new.items) }
     ensures room { shards ≤ vec_capacity seats.new }
@@ -102,19 +109,26 @@ fn open_last<'f, G: Gates>(
     seats: &mut Vec<OwnerSeat>,
     nodes: &mut Vec<Node<'f, RingLink<'f>, G::Made>>,
 ) -> Result<(), AllocError>
+    // What all shards share.
     requires pages { ArePages pages }
     requires parsed_for { shards ≡ trace.now.shards }
     requires lists { AreLists shards homes.now }
+
+    // What the last of them starts with.
     requires some { 0 < length seats.old.items }
     requires within { length seats.old.items + length nodes.old.items ≡ shards }
     requires seats { AreSeatsOf homes.now seats.old.items }
     requires links { length links.items + 1 ≡ shards }
     requires unused { AreUnused links.items }
     requires room { shards ≤ vec_capacity nodes.old }
+
+    // One node more, or nothing changed.
     ensures opened { OnOk result
         (OpensLast
         (trace_in trace.now) shards pages homes.now links.entry.items seats.old.items seats.new.items nodes.old.items nodes.new.items) }
     ensures refused { OnErr result ((seats.new.items ≡ seats.old.items) × (nodes.new.items ≡ nodes.old.items)) }
+
+    // The memory of both is kept.
     ensures seats_room { vec_capacity seats.old ≤ vec_capacity seats.new }
     ensures nodes_room { vec_capacity nodes.old ≤ vec_capacity nodes.new }
 {

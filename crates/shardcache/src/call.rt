@@ -237,13 +237,18 @@ where
     R: Threads + Wait + Sync,
     K: Sink,
     G: Gates,
+    // Settings that ask for a made trace.
     requires mode { settings.mode ≡ Modes.Gen }
     requires commands { settings.commands ≤ most_made_commands }
     requires some { 1 ≤ settings.shards }
     requires most { settings.shards ≤ most_shards }
     requires pages { ArePages settings.pages }
+
+    // What is written and left, by status.
     ensures table { (words : List (List ℕ)) (source : Option (List ℕ)) → settings_of words ≡ Some (view settings)
         → FollowsTable result.status result.ran words source source (K.written sink.old) (K.written sink.new) }
+
+    // Only the sink can fail.
     ensures no_read_fault { result.status ≢ Status.ReadFault }
     ensures write_fault { result.status ≡ Status.WriteFault → Rose (K.faults sink.old) (K.faults sink.new) }
 {

@@ -3,10 +3,9 @@ ghost use Rattle.std.specs.Prelude.{◌≡◌, ◌<◌, List, length, All, IfOk,
 ghost use Rattle.layout.specs.Sizes.{ArePages};
 ghost use Rattle.trace_text.specs.Parsed.{trace_in};
 ghost use Rattle.foreign_list.specs.Lists.{OwnedList};
-ghost use Rattle.shard_rings.specs.Links.{end_of};
+ghost use Rattle.shard_rings.specs.Links.{end_of, traffic_of};
 ghost use Rattle.shard_node.specs.Standing.{InStanding};
 ghost use Rattle.shard_node.specs.Turns.{IsDone, IsSameNode};
-ghost use Rattle.shard_node.specs.Links.{ring_traffic};
 ghost use Rattle.shard_drive.specs.Drives.{AtEach};
 ghost use Rattle.shard_run.specs.Opening.{AreAtRest};
 ghost use Rattle.shard_run.specs.Remaining.{IsRoomFor};
@@ -42,9 +41,9 @@ where
     R: Threads + Wait + Sync,
     G: Gate + Send + Drop,
     requires some { 0 < length nodes.old }
-    requires standing { All (InStanding ring_traffic) nodes.old }
-    ensures standing { All (InStanding ring_traffic) nodes.new }
-    ensures done { All (IsDone ring_traffic G.holds) nodes.new }
+    requires standing { All (InStanding traffic_of) nodes.old }
+    ensures standing { All (InStanding traffic_of) nodes.new }
+    ensures done { All (IsDone traffic_of G.holds) nodes.new }
     ensures same { AtEach (λ _. IsSameNode end_of) nodes.old nodes.new }
 {
     match order {

@@ -103,7 +103,8 @@ fn a_trace_is_run_and_reported(rt: HostRuntime) -> Result<(), Fail> {
         ),
         (
             b"put a 1\nput a 2\nget a\nerase a\nerase a\nget a\n",
-            b"1 stored\n2 replaced\n3 value 2\n4 erased\n5 missing\n6 missing\njournal 0 1 2 3 4 5 6\nshard 0 rows 0 live 0 lent 0 back 0\n",
+            b"1 stored\n2 replaced\n3 value 2\n4 erased\n5 missing\n6 missing\njournal 0 1 2 3 4 5 6\n\
+            shard 0 rows 0 live 0 lent 0 back 0\n",
         ),
         (
             b"put user:42 {\"name\":\"Ada Byron\",\"tier\":2}\nget user:42\nget user:43\n",

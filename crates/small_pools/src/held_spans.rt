@@ -129,13 +129,19 @@ impl HeldSpans {
     pub fn take(&mut self, spans: &mut Spans, class: u8) -> Option<u32>
         requires class { class < 37 }
         requires held { AreHeldIn self.old spans.old }
+
+        // None exactly where neither the pools nor the pages have one, and then nothing changed.
         ensures none { IsNone result ↔ LacksObject self.old spans.old class }
         ensures unchanged { IfNone result ((self.new ≡ self.old) × (spans.new ≡ spans.old)) }
+
+        // The object, and the span that it comes from.
         ensures was_free { IfSome result (λ place. map.get self.old.allocated place ≡ None) }
         ensures allocated { IfSome result (λ place. self.new.allocated ≡ map.insert self.old.allocated place (size_of class)) }
         ensures spans { IfSome result (λ _. HoldsFor self.old self.new spans.old spans.new class) }
         ensures come { IfSome result (λ _. (first held : ℕ) → IsHeld self.new first held → IsHeld self.old first held
             ⊎ HasObject self.new first held) }
+
+        // What holds of the pools and of the pages at each time.
         ensures pages { self.new.pages ≡ self.old.pages }
         ensures held { AreHeldIn self.new spans.new }
         ensures objects { AreObjects self.new }
@@ -172,10 +178,16 @@ impl HeldSpans {
         requires objects { AreObjects self.old }
         requires divided { Divides spans.old }
         requires coalesced { IsCoalesced spans.old }
+
+        // The span goes where it has no allocated object. What could be taken still can.
         ensures used { (class : ℕ) → IsHeld self.new first class → HasObject self.new first class }
         ensures trims { Trims self.old self.new spans.old spans.new }
         ensures room { KeepsRoom self.old self.new spans.old spans.new }
+
+        // Nothing changes where each held span has one.
         ensures unchanged { AreUsed self.old → (self.new ≡ self.old) × (spans.new ≡ spans.old) }
+
+        // What holds of the pools and of the pages at each time.
         ensures held { AreHeldIn self.new spans.new }
         ensures objects { AreObjects self.new }
         ensures divided { Divides spans.new }
@@ -209,14 +221,20 @@ impl HeldSpans {
     fn span_with_room(&mut self, spans: &mut Spans, class: u8) -> Option<u32>
         requires class { class < 37 }
         requires held { AreHeldIn self.old spans.old }
+
+        // None exactly where neither the pools nor the pages have one, and then nothing changed.
         ensures none { IsNone result ↔ LacksObject self.old spans.old class }
         ensures unchanged { IfNone result ((self.new ≡ self.old) × (spans.new ≡ spans.old)) }
+
+        // The span, and what was allocated.
         ensures found { IfSome result (λ first. IsHeld self.new first class) }
         ensures come { IfSome result (λ first. (other held : ℕ) → IsHeld self.new other held → (other ≡ first)
             ⊎ IsHeld self.old other held) }
         ensures room { IfSome result (λ first. HasRoom self.new first class) }
         ensures allocated { self.new.allocated ≡ self.old.allocated }
         ensures spans { IfSome result (λ _. HoldsFor self.old self.new spans.old spans.new class) }
+
+        // What holds of the pools and of the pages at each time.
         ensures pages { self.new.pages ≡ self.old.pages }
         ensures held { AreHeldIn self.new spans.new }
         ensures objects { AreObjects self.new }

@@ -24,9 +24,13 @@ pub fn relist(lists: &mut IndexLists, index: u32, from: Option<u32>, to: Option<
     requires from { IfSome from (λ list. list < length lists.old.lists) }
     requires to { IfSome to (λ list. list < length lists.old.lists) }
     requires stands { (list : ℕ) → list < length lists.old.lists → times index (list_at lists.old list) ≡ stands_on from list }
+
+    // The index stands on the other list, and no other index moves.
     ensures stands { (list : ℕ) → list < length lists.new.lists → times index (list_at lists.new list) ≡ stands_on to list }
     ensures others { (list other : ℕ) → other ≢ index
         → times other (list_at lists.new list) ≡ times other (list_at lists.old list) }
+
+    // There are as many indices and lists.
     ensures indices { lists.new.indices ≡ lists.old.indices }
     ensures lists { length lists.new.lists ≡ length lists.old.lists }
 {

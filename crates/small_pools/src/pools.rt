@@ -66,11 +66,17 @@ impl Pools {
     pub fn take(&mut self, spans: &mut Spans, class: u8) -> Option<u32>
         requires class { class < 37 }
         requires held { AreHeldIn self.old spans.old }
+
+        // None exactly where neither the pools nor the pages have one, and then nothing changed.
         ensures none { IsNone result ↔ LacksObject self.old spans.old class }
         ensures unchanged { IfNone result ((self.new ≡ self.old) × (spans.new ≡ spans.old)) }
+
+        // The object, and the span that it comes from.
         ensures was_free { IfSome result (λ place. map.get self.old.allocated place ≡ None) }
         ensures allocated { IfSome result (λ place. self.new.allocated ≡ map.insert self.old.allocated place (size_of class)) }
         ensures spans { IfSome result (λ _. HoldsFor self.old self.new spans.old spans.new class) }
+
+        // What holds of the pools and of the pages at each time.
         ensures pages { self.new.pages ≡ self.old.pages }
         ensures held { AreHeldIn self.new spans.new }
         ensures objects { AreObjects self.new }
@@ -98,10 +104,16 @@ impl Pools {
     /// since the last call.
     pub fn trim(&mut self, spans: &mut Spans)
         requires { AreHeldIn self.old spans.old }
+
+        // Each span that is held has an allocated object. What could be taken still can.
         ensures used { AreUsed self.new }
         ensures trims { Trims self.old self.new spans.old spans.new }
         ensures room { KeepsRoom self.old self.new spans.old spans.new }
+
+        // Nothing changes where it was so before.
         ensures unchanged { AreUsed self.old → (self.new ≡ self.old) × (spans.new ≡ spans.old) }
+
+        // What holds of the pools and of the pages at each time.
         ensures held { AreHeldIn self.new spans.new }
         ensures objects { AreObjects self.new }
         ensures divided { Divides spans.new }
@@ -115,11 +127,17 @@ impl Pools {
 fn trim_marked(held: &mut HeldSpans, marks: &mut NumberSet, spans: &mut Spans)
     requires marked { AreMarked held.old marks.old }
     requires held { AreHeldIn held.old spans.old }
+
+    // Each span that is held has an allocated object. What could be taken still can.
     ensures marked { AreMarked held.new marks.new }
     ensures used { AreUsed held.new }
     ensures trims { Trims held.old held.new spans.old spans.new }
     ensures room { KeepsRoom held.old held.new spans.old spans.new }
+
+    // Nothing changes where it was so before.
     ensures unchanged { AreUsed held.old → (held.new ≡ held.old) × (spans.new ≡ spans.old) }
+
+    // What holds of the pools and of the pages at each time.
     ensures held { AreHeldIn held.new spans.new }
     ensures objects { AreObjects held.new }
     ensures divided { Divides spans.new }

@@ -193,12 +193,21 @@ allocated_coalesced states states' x b lower upper k low up others ends = maps_s
         let nx : q ≢ x = (λ e. elim ends [ inl p ↦ nl (e ∙ sym p.0) | inr p ↦ nu (e ∙ sym p.1) ]) in
         get_past_remove (map.remove (allocated_of states) x) b q nb ∙ get_past_remove (allocated_of states) x q nx
 
--- the pages after two buddies coalesced, and the value that callers see
-pub pair_coalesced : (pages : ℕ) (states : List PageState) (lists : Lists) (free x k other lower upper : ℕ) (s : Layout) → IsConsistent pages states lists free → k < 16
-    → IsAllocated (layout_of pages states lists) x k → IsAllocated (layout_of pages states lists) (buddy x k) k → other ≡ buddy x k → lower ≡ min x other → upper ≡ max x other → layout_of pages states lists ≡ s
-    → (lower < pages) × (upper < pages) × (lower ≡ span_start x (k + 1)) × IsConsistent pages (set (set states upper Inside) lower (Allocated (k + 1))) lists free
-    × (layout_of pages (set (set states upper Inside) lower (Allocated (k + 1))) lists ≡ record s { allocated = map.insert (map.remove (map.remove s.allocated x) (buddy x k)) lower (k + 1) })
-pair_coalesced pages states lists free x k other lower upper s h small ox ob oe le ue view =
+-- the pages after two allocated buddies coalesced, and the value that callers see
+pub record PairCoalesced (pages : ℕ) (states : List PageState) (lists : Lists) (free x k lower upper : ℕ) (s : Layout) : Type 0 where
+  pub lower_in : lower < pages
+  pub upper_in : upper < pages
+  pub first : lower ≡ span_start x (k + 1)
+  pub consistent : IsConsistent pages (set (set states upper Inside) lower (Allocated (k + 1))) lists free
+  pub view : layout_of pages (set (set states upper Inside) lower (Allocated (k + 1))) lists
+      ≡ record s { allocated = map.insert (map.remove (map.remove s.allocated x) (buddy x k)) lower (k + 1) }
+
+pub pair_coalesced : {pages : ℕ} {states : List PageState} {lists : Lists} {free x k other lower upper : ℕ} {s : Layout} → IsConsistent pages states lists free → k < 16
+    → IsAllocated s x k → IsAllocated s (buddy x k) k → other ≡ buddy x k → lower ≡ min x other → upper ≡ max x other → layout_of pages states lists ≡ s
+    → PairCoalesced pages states lists free x k lower upper s
+pair_coalesced {pages} {states} {lists} {free} {x} {k} {other} {lower} {upper} {s} h small seen_x seen_b oe le ue view =
+    let ox : IsAllocated (layout_of pages states lists) x k = subst (λ l. IsAllocated l x k) (sym view) seen_x in
+    let ob : IsAllocated (layout_of pages states lists) (buddy x k) k = subst (λ l. IsAllocated l (buddy x k) k) (sym view) seen_b in
     let sx = state_allocated pages states lists x k ox in
     let sb = state_allocated pages states lists (buddy x k) k ob in
     let aligned = (h.cut.spans x k (ap order_of sx)).aligned in
@@ -215,15 +224,15 @@ pair_coalesced pages states lists free x k other lower upper s h small ox ob oe 
     let apart : lower ≢ upper = (λ e. absurd (omega arith)) in
     let mid_len : length (set states upper Inside) ≡ length states = length-set states upper Inside in
     let now : state_at states' lower ≡ Allocated (k + 1) = state_same (set states upper Inside) lower lower (Allocated (k + 1)) (omega arith) refl in
-    let now_u : state_at states' upper ≡ Inside = state_other (set states upper Inside) lower upper (Allocated (k + 1)) (λ e. apart (sym e)) ∙ state_same states upper upper Inside (omega arith) refl in (
-      omega arith,
-      omega arith,
-      low ∙ ends.2,
-      subst (λ u. IsConsistent pages (set (set states u Inside) lower (Allocated (k + 1))) lists free) (sym step) after.1,
-      ap (λ o. let r : Layout = record { pages = pages; free = lists.lists; allocated = o } in r)
+    let now_u : state_at states' upper ≡ Inside = state_other (set states upper Inside) lower upper (Allocated (k + 1)) (λ e. apart (sym e)) ∙ state_same states upper upper Inside (omega arith) refl in record {
+      lower_in = omega arith;
+      upper_in = omega arith;
+      first = low ∙ ends.2;
+      consistent = subst (λ u. IsConsistent pages (set (set states u Inside) lower (Allocated (k + 1))) lists free) (sym step) after.1;
+      view = ap (λ o. let r : Layout = record { pages = pages; free = lists.lists; allocated = o } in r)
           (allocated_coalesced states states' x (buddy x k) lower upper (k + 1) now now_u (λ y nl nu. state_other (set states upper Inside) lower y (Allocated (k + 1)) nl ∙ state_other states upper y Inside nu) which)
-          ∙ ap (λ (t : Layout). let r : Layout = record t { allocated = map.insert (map.remove (map.remove t.allocated x) (buddy x k)) lower (k + 1) } in r) view,
-    )
+          ∙ ap (λ (t : Layout). let r : Layout = record t { allocated = map.insert (map.remove (map.remove t.allocated x) (buddy x k)) lower (k + 1) } in r) view;
+    }
 
 -- a buddy is allocated and the two coalesce
 pub coalesced_once : (allocated : map.FinMap nat_cmp ℕ) (x b k to n : ℕ) → map.get allocated b ≡ None → map.insert (map.remove (map.remove (map.insert allocated b k) x) b) to n ≡ map.insert (map.remove allocated x) to n

@@ -88,9 +88,13 @@ impl Spans {
         requires whole { pages % 32 ≡ 0 }
         requires least { 1280 ≤ pages }
         requires most { pages ≤ 65536 }
+
+        // All pages are free, in the greatest spans that fit.
         ensures pages { IfOk result (λ spans. spans.pages ≡ pages) }
         ensures none_allocated { IfOk result (λ spans. spans.allocated ≡ map.empty) }
         ensures greatest { IfOk result (λ spans. (first order : ℕ) → IsFree spans first order → IsGreatest pages first order) }
+
+        // What holds of the spans at each time.
         ensures divided { IfOk result Divides }
         ensures coalesced { IfOk result IsCoalesced }
     {
@@ -114,12 +118,18 @@ impl Spans {
     /// Allocates a span of the order, and answers its first page.
     pub fn take(&mut self, order: u8) -> Option<u32>
         requires { order ≤ 16 }
+
+        // None exactly where no span of the order or a greater one is free, and then nothing changed.
         ensures none { IsNone result ↔ HasNone self.old order }
         ensures unchanged { IfNone result (self.new ≡ self.old) }
         ensures blocked { IfNone result (IsBlocked self.old order) }
+
+        // The span, and what it was cut from.
         ensures was_free { IfSome result (λ first. map.get self.old.allocated first ≡ None) }
         ensures allocated { IfSome result (λ first. self.new.allocated ≡ map.insert self.old.allocated first order) }
         ensures free { IfSome result (TakesFrom self.old self.new order) }
+
+        // What holds of the spans at each time.
         ensures pages { self.new.pages ≡ self.old.pages }
         ensures divided { Divides self.new }
         ensures coalesced { IsCoalesced self.new }
@@ -268,12 +278,16 @@ impl Spans {
         requires order { order < 16 }
         requires allocated { IsAllocated self.old first order }
         requires buddy { IsFree self.old (buddy first order) order }
+
+        // The span that the two become. The buddy was free.
         ensures first { result ≡ span_start first (order + 1) }
         ensures moves { self.new ≡ record self.old {
           free = slice_set self.old.free order (delete (buddy first order) (free_at self.old order));
           allocated = map.insert (map.remove self.old.allocated first) result (order + 1);
         } }
         ensures was_free { map.get self.old.allocated (buddy first order) ≡ None }
+
+        // What holds of the spans at each time.
         ensures divided { Divides self.new }
         ensures coalesced { IsCoalesced self.new }
     {

@@ -16,7 +16,8 @@ fn sum_of(text: &[u8]) -> u64 {
 #[test]
 fn a_number_makes_these_lines(rt: HostRuntime) -> Result<(), Fail> {
     let wanted =
-        b"put k5975 bcdefghijklmnopqrstuvwxyzabcdefghijklmnopqrstuvwxyzabcdefghijklmnopqrstuvwxyzabcdefghijklmnopqrstuvwx\nget k19141\nget k15411\nscan k7242 16\nerase k7687\nget k16141\n";
+        b"put k5975 bcdefghijklmnopqrstuvwxyzabcdefghijklmnopqrstuvwxyzabcdefghijklmnopqrstuvwxyzabcdefghijklmnopqrstuvwx\n\
+        get k19141\nget k15411\nscan k7242 16\nerase k7687\nget k16141\n";
     assert!(rt; make_trace(rt.alloc(), 21_317, 6)?.as_slice() == wanted.as_slice());
     Ok(())
 }

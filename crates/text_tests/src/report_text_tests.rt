@@ -331,8 +331,9 @@ fn a_summary_counts_answers_and_evictions(rt: HostRuntime) -> Result<(), Fail> {
         lent: 3,
         back: 2,
     };
-    let text =
-        b"commands 7\nstored 1 replaced 1 values 1 missing 2 erased 1 scans 1\nevictions 2\nshard 0 rows 5 live 240 lent 3 back 2\n".as_slice();
+    let text = b"commands 7\nstored 1 replaced 1 values 1 missing 2 erased 1 scans 1\nevictions 2\n\
+        shard 0 rows 5 live 240 lent 3 back 2\n"
+        .as_slice();
     for (room, want) in [(1000, Ok(())), (30, Err(Failed))] {
         let text = &text[..room.min(text.len())];
         let is_written = writes_of_one(

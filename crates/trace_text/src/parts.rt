@@ -69,8 +69,12 @@ impl Trace {
     pub fn needs(&self, shard: u32, shards: u32) -> Needs
         requires below { shard < shards }
         requires parsed_for { shards ≡ self.now.shards }
+
+        // The counts are those of the commands of the trace.
         ensures issued { result.own_parts ≡ issued (trace_in self.now) shards shard }
         ensures done_here { result.here_parts ≡ done_at (trace_in self.now) shards shard }
+
+        // Each as its definition says.
         ensures own_parts { result.own_parts ≡ own_parts (trace_in self.now) shards shard }
         ensures here_parts { result.here_parts ≡ here_parts (trace_in self.now) shards shard }
         ensures here_puts { result.here_puts ≡ here_puts (trace_in self.now) shards shard }

@@ -32,12 +32,17 @@ impl Model for Trace {
 impl Trace {
     /// The commands, in order.
     pub fn commands(&self) -> &[Command]
+        // The commands, as they are read off the bytes.
         ensures value { result.now ≡ self.now.commands }
         ensures read { trace_of self.now.bytes self.now.shards ≡ Ok (trace_in self.now) }
+
+        // What the reading checked.
         ensures numbered { AreNumbered result.now }
         ensures well_formed { All IsWellFormed (trace_in self.now).operations }
         ensures lie { All (LiesWithin self.now.bytes) result.now }
         ensures few { length result.now ≤ most_commands }
+
+        // The limits of a trace.
         ensures room { replies_room (trace_in self.now) self.now.shards ≤ most_replies }
         ensures some_shards { 1 ≤ self.now.shards }
         ensures most_shards { self.now.shards ≤ most_shards }

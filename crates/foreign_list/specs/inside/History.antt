@@ -2,6 +2,7 @@
 use Rattle.std.specs.Prelude.{◌≡◌, ℕ, ◌+◌, ◌<◌, List, [], ◌∷◌, ◌++◌, length, Option, Some, None, slice_get, sum_by}
 use mathlib.Core.Option.{some}
 use lib.ListN.{get_elem?}
+use Rattle.layout.specs.Sizes as sizes
 use Rattle.foreign_core.specs.Tickets.{Tickets, start, state_of, step}
 use Rattle.foreign_core.specs.Histories.{run}
 use Rattle.foreign_core.specs.declared.event.Event.{Event}
@@ -28,7 +29,7 @@ in_hand (Some t) = t ∷ []
 
 -- the state of each ticket is that of the place where it is
 pub record Shows (ledger : Ledger) (listed : List ℕ) (views : List View) (c : Tickets) : Type 0 where
-  pub number : length c.states ≡ 32
+  pub number : length c.states ≡ sizes.tickets
   pub listed_are : c.listed ≡ listed
   pub walk_is : c.walk ≡ in_hand ledger.hand ++ ledger.walk
   pub idle : (t : ℕ) → slice_get ledger.lent t ≡ Some None → state_of c t ≡ Some core.Idle
@@ -61,7 +62,7 @@ pub record History (ledger : Ledger) (listed : List ℕ) (views : List View) : T
   pub tickets : Tickets
   pub shows : Shows ledger listed views tickets
   pub events : List Event
-  pub ran : run (start 32) events ≡ Some tickets
+  pub ran : run (start sizes.tickets) events ≡ Some tickets
   pub counted : Counted ledger views tickets events
 
 -- the event leads on

@@ -2,6 +2,7 @@
 use Rattle.std.specs.Prelude.{◌≡◌, ℕ, suc, ◌+◌, ◌<◌, cond, nat_lt, true, false, Bool, List, length, Option, Some, None, slice_get, sum_by}
 use mathlib.Core.Option.{some, none}
 use lib.ListN.{get_elem?}
+use Rattle.layout.specs.Sizes as sizes
 use Rattle.raw_range.specs.Memory.{Lent}
 use Rattle.foreign_list.specs.declared.piece_id.PieceId.{PieceId}
 use Rattle.foreign_list.specs.declared.views.Holder.{Holder}
@@ -60,13 +61,13 @@ AreHome homes lent ts = (t : ℕ) → 0 < times t ts → (piece_id : PieceId) ×
 -- each ticket stands once in the five kinds of places together, and no other number does
 abbrev pub IsOnce : Ledger → List ℕ → List View → Type 0
 IsOnce ledger listed views =
-    (t : ℕ) → idle_times t ledger.lent + hand_times t ledger.hand + times t ledger.walk + times t listed + sum_by (pass_times t) views ≡ cond (nat_lt t 32) 1 0
+    (t : ℕ) → idle_times t ledger.lent + hand_times t ledger.hand + times t ledger.walk + times t listed + sum_by (pass_times t) views ≡ cond (nat_lt t sizes.tickets) 1 0
 
 pub record Places (ledger : Ledger) (listed words : List ℕ) (homes : Homes) (views : List View) : Type 0 where
   pub is_ledger : get_elem? views 0 ≡ some (Owner ledger)
-  pub word_count : length words ≡ 41
-  pub slot_count : length homes ≡ 32
-  pub lent_count : length ledger.lent ≡ 32
+  pub word_count : length words ≡ sizes.list_words
+  pub slot_count : length homes ≡ sizes.tickets
+  pub lent_count : length ledger.lent ≡ sizes.tickets
   pub on_list : IsChain words (word_at words 0) listed
   pub on_walk : IsChain words (link_to ledger.walk) ledger.walk
   pub once : IsOnce ledger listed views

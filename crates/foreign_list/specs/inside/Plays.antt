@@ -1,5 +1,6 @@
 -- What each step at the table tells the seat that makes it.
 use Rattle.std.specs.Prelude.{◌≡◌, ◌≢◌, ◌≤◌, ℕ, List, [], ◌∷◌, Option, Some, None, slice_get}
+use Rattle.layout.specs.Sizes as sizes
 use Rattle.raw_range.specs.Memory.{Lent}
 use Rattle.atomic_table.specs.Table.{Me, rest}
 use Rattle.foreign_list.specs.declared.views.Holder.{Holder}
@@ -24,17 +25,17 @@ of_pass then Spent m found n = Unit {0}
 
 -- the first look takes the slot, which is empty
 abbrev pub first_look : Holder → SeatState → ℕ → SeatState → Type 0
-first_look e m found n = (n.0 ≡ Pass (at_stage e (Looked found))) × (n.1 ≡ (e.ticket, None) ∷ m.1) × (found ≤ 32)
+first_look e m found n = (n.0 ≡ Pass (at_stage e (Looked found))) × (n.1 ≡ (e.ticket, None) ∷ m.1) × (found ≤ sizes.tickets)
 
 abbrev pub look_again : Holder → SeatState → ℕ → SeatState → Type 0
-look_again e m found n = (n.0 ≡ Pass (at_stage e (Looked found))) × (n.1 ≡ m.1) × (found ≤ 32)
+look_again e m found n = (n.0 ≡ Pass (at_stage e (Looked found))) × (n.1 ≡ m.1) × (found ≤ sizes.tickets)
 
 abbrev pub link : Holder → SeatState → ℕ → SeatState → Type 0
 link e m stored n = (n.0 ≡ Pass (at_stage e (Linked stored))) × (n.1 ≡ m.1)
 
 -- won where the head is as expected: the pass is spent and its slot is back. Else it carries again
 pub record Swung (expected : ℕ) (e : Holder) (m : SeatState) (found : ℕ) (n : SeatState) : Type 0 where
-  pub low : found ≤ 32
+  pub low : found ≤ sizes.tickets
   pub won : found ≡ expected → (n.0 ≡ Spent) × (n.1 ≡ rest m.1)
   pub lost : found ≢ expected → (n.0 ≡ Pass (sent_back e found)) × (n.1 ≡ m.1)
 
@@ -47,7 +48,7 @@ of_owner then Spent m found n = Unit {0}
 
 -- these tickets were on the list, and are the walk now
 pub record TookWhole (d : Ledger) (m : SeatState) (found : ℕ) (n : SeatState) : Type 0 where
-  pub low : found ≤ 32
+  pub low : found ≤ sizes.tickets
   pub listed : List ℕ
   pub first : found ≡ link_to listed
   pub after : n.0 ≡ Owner (took_whole listed d)
@@ -55,7 +56,7 @@ pub record TookWhole (d : Ledger) (m : SeatState) (found : ℕ) (n : SeatState) 
 
 -- the ticket t comes in hand with its piece, and these tickets are left of the walk
 pub record WalkedOn (t : ℕ) (d : Ledger) (m : SeatState) (found : ℕ) (n : SeatState) : Type 0 where
-  pub low : found ≤ 32
+  pub low : found ≤ sizes.tickets
   pub left : List ℕ
   pub walk : d.walk ≡ t ∷ left
   pub first : found ≡ link_to left
@@ -66,7 +67,7 @@ pub record WalkedOn (t : ℕ) (d : Ledger) (m : SeatState) (found : ℕ) (n : Se
 
 -- the same, and then the ticket is idle and its piece is the caller's
 pub record BroughtHome (t : ℕ) (d : Ledger) (found : ℕ) (piece : Lent) (n : SeatState) : Type 0 where
-  pub low : found ≤ 32
+  pub low : found ≤ sizes.tickets
   pub left : List ℕ
   pub walk : d.walk ≡ t ∷ left
   pub first : found ≡ link_to left

@@ -1,5 +1,6 @@
 -- What a block, a linked block and the owner's seat keep of their seats at the table.
 use Rattle.std.specs.Prelude.{◌≡◌, ◌≤◌, ◌<◌, ℕ, Bool, true, false, List, [], ◌∷◌, length, map, Option, Some, None}
+use Rattle.layout.specs.Sizes as sizes
 use Rattle.raw_range.specs.Memory.{Lent}
 use Rattle.atomic_table.specs.declared.shared.Seat.{Seat}
 use Rattle.atomic_table.specs.Seated.{TableId}
@@ -35,7 +36,7 @@ pub record IsConsistentPass (id : TableId) (pass : TableSeat) (piece : Lent) (ti
   pub is_pass : IsPass pass.me.0
   pub stage_is : (holder_of pass.me.0).stage ≡ stage
   pub ticket_is : ticket ≡ (holder_of pass.me.0).ticket
-  pub low : ticket < 32
+  pub low : ticket < sizes.tickets
   pub has_slot_is : (holder_of pass.me.0).has_slot ≡ has_slot
   pub piece_is : piece_id_of piece ≡ (holder_of pass.me.0).piece_id
   pub slots : pass.me.1 ≡ slots_held has_slot ticket
@@ -55,8 +56,8 @@ pub record IsConsistentSeat (seat : TableSeat) (idle : List Bool) (first : ℕ) 
   pub slots : seat.me.1 ≡ []
   pub hand : (ledger_of seat.me.0).hand ≡ None
   pub first_is : first ≡ link_to (ledger_of seat.me.0).walk
-  pub low : first ≤ 32
-  pub count : length idle ≡ 32
+  pub low : first ≤ sizes.tickets
+  pub count : length idle ≡ sizes.tickets
   pub idle_are : idle ≡ map is_idle (ledger_of seat.me.0).lent
 
 -- what the owner knows

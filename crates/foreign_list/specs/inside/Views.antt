@@ -1,5 +1,6 @@
 -- What the seats at the table know, and what each step makes of it.
 use Rattle.std.specs.Prelude.{◌≡◌, ℕ, suc, ◌+◌, true, false, List, [], ◌∷◌, Option, Some, None, slice_get, slice_set, replicate, sum_by}
+use Rattle.layout.specs.Sizes as sizes
 use denote.RawPtr.{null_ptr}
 use Rattle.foreign_list.specs.declared.piece_id.PieceId.{PieceId}
 use Rattle.foreign_list.specs.declared.views.Holder.{Holder}
@@ -72,7 +73,7 @@ abbrev pub sent_back : Holder → ℕ → Holder
 sent_back e found = record { stage = Carry; ticket = e.ticket; piece_id = e.piece_id; has_slot = true; seen = suc e.seen; met = found }
 
 abbrev pub idle_ledger : Ledger
-idle_ledger = record { lent = replicate 32 None; walk = []; hand = None; lends = 0; take_wholes = 0; changes = 0 }
+idle_ledger = record { lent = replicate sizes.tickets None; walk = []; hand = None; lends = 0; take_wholes = 0; changes = 0 }
 
 abbrev pub lent_out : ℕ → PieceId → Ledger → Ledger
 lent_out t piece_id d = record { lent = slice_set d.lent t (Some piece_id); walk = d.walk; hand = d.hand; lends = suc d.lends; take_wholes = d.take_wholes; changes = d.changes }

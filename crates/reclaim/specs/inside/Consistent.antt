@@ -2,25 +2,25 @@
 use Rattle.std.specs.Prelude.{◌≡◌, ℕ, ◌/◌, ◌≤◌, [], length, Some, slice_get, IsSome, Contains}
 use Rattle.layout.specs.Sizes.{segment_pages, ArePages}
 use Rattle.layout.specs.Extents.{extent}
-use Rattle.shard_memory.specs.Shards.{Shard}
+use Rattle.shard_memory.specs.Shards.{MemoryState}
 use Rattle.regions.specs.Segments.{RegionState}
 use Rattle.row_cache.specs.Rows.{CacheState, rows_of}
 use Rattle.reclaim.specs.Spaces.{SpaceState}
 use Rattle.regions.specs.Shapes.{Identity, shape, pieces, active_of, guards_of, held_count, free_count}
 
 -- the piece is a segment of the memory
-pub record IsOf (memory : Shard) (piece : Identity) : Type 0 where
+pub record IsOf (memory : MemoryState) (piece : Identity) : Type 0 where
   pub home : piece.home ≡ memory.home
   pub segment : Contains memory.segments (extent piece.at piece.length)
 
 -- the region holds each segment of the memory, once
-pub record HoldsAll (memory : Shard) (region : RegionState) : Type 0 where
+pub record HoldsAll (memory : MemoryState) (region : RegionState) : Type 0 where
   pub of : (n : ℕ) (piece : Identity) → slice_get (pieces region) n ≡ Some (Some piece) → IsOf memory piece
   pub apart : (m n : ℕ) (a b : Identity) → slice_get (pieces region) m ≡ Some (Some a) → slice_get (pieces region) n ≡ Some (Some b) → a.at ≡ b.at → m ≡ n
   pub count : held_count region ≡ length memory.segments
 
 -- The region is made of the segments of the shard's memory, of which no block stays with the shard. So many guards stand.
-pub record IsMadeOf (shard pages standing : ℕ) (memory : Shard) (region : RegionState) : Type 0 where
+pub record IsMadeOf (shard pages standing : ℕ) (memory : MemoryState) (region : RegionState) : Type 0 where
   pub owner : memory.owner ≡ shard
   pub size : memory.pages ≡ pages
   pub are_pages : ArePages pages
@@ -30,13 +30,13 @@ pub record IsMadeOf (shard pages standing : ℕ) (memory : Shard) (region : Regi
   pub guards : guards_of region ≡ standing
 
 -- besides, a segment is active, and one is free
-pub record IsConsistent (shard pages standing : ℕ) (memory : Shard) (region : RegionState) : Type 0 where
+pub record IsConsistent (shard pages standing : ℕ) (memory : MemoryState) (region : RegionState) : Type 0 where
   pub made : IsMadeOf shard pages standing memory region
   pub active : IsSome (active_of region)
   pub free : 1 ≤ free_count region
 
 -- what callers see of both
-abbrev pub space_of : Shard → CacheState → SpaceState
+abbrev pub space_of : MemoryState → CacheState → SpaceState
 space_of memory cache = record {
   shard = memory.owner;
   pages = memory.pages;
@@ -52,5 +52,5 @@ space_of memory cache = record {
 }
 
 -- so they are, for the shard that it is, with the guards that stand
-abbrev pub IsWhole : Shard → CacheState → Type 0
+abbrev pub IsWhole : MemoryState → CacheState → Type 0
 IsWhole memory cache = IsConsistent memory.owner memory.pages (guards_of cache.region) memory cache.region

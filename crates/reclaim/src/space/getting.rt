@@ -4,6 +4,7 @@ ghost use Rattle.trace_text.specs.declared.command.Kind.{Kind as Kinds};
 ghost use Rattle.cache_model.specs.declared.entry.Entry.{Entry as Entries};
 ghost use Rattle.cache_model.specs.Row.{Row};
 ghost use Rattle.cache_model.specs.Apply as apply;
+ghost use Rattle.row_cache.specs.Rows.{AreRelinked};
 ghost use Rattle.reclaim.specs.Spaces.{with_rows, IsUnguarded};
 ghost use Rattle.reclaim.specs.Works.{Records};
 
@@ -23,7 +24,9 @@ impl<'f> Space<'f> {
         requires spare { 1 ≤ journal.old.spare }
         ensures value { MatchOption result (apply.row_of ask.now.key.now self.old.rows ≡ None)
             (λ value. (row : Row) × (apply.row_of ask.now.key.now self.old.rows ≡ Some row) × (value.now ≡ row.value)) }
-        ensures* after { sem 𝓛 (EndsAs self.entry (λ s. s ≡ with_rows self.old (apply.get ask.now.key.now self.old.rows).0)) }
+        ensures* after { sem 𝓛 (EndsAs self.entry (λ s. (s ≡ record (with_rows self.old (apply.get ask.now.key.now self.old.rows).0) {
+          region = s.region;
+        }) × AreRelinked self.old.region s.region)) }
         ensures recorded { Records journal.old journal.new (Entries.Done ask.now.number ∷ []) }
     {
         journal.add(Entry::Done(ask.number));

@@ -37,11 +37,17 @@ impl<'f> Space<'f> {
     /// begins; then nothing changed. `NoSpan` where there is no room after that, with the pools trimmed and one segment free at most.
     pub fn give_now(&mut self, size: u32, share: Share) -> Result<ForeignBlock<'f>, GiveRefusal>
         requires { 1 ≤ size }
+
+        // No row moves or goes.
         ensures same { IsSameSpace self.old self.new }
         ensures rows { self.new.rows ≡ self.old.rows }
         ensures stay { RowsStay self.old self.new }
+
+        // Why none is given.
         ensures refused { IfErr result (RefusesNow self.old self.new size share) }
         ensures unchanged { IfErr result (λ refusal. refusal ≢ GiveRefusal.NoSpan → self.new ≡ self.old) }
+
+        // What is lent, and how room was made.
         ensures in_turn { IfOk result (λ _. GivesNow size share self.old self.new) }
         ensures lends { IfOk result (LendsBlock share self.old self.new) }
         ensures zeros { IfOk result (λ block. block.piece.bytes ≡ replicate size 0) }

@@ -34,13 +34,20 @@ impl<'f> Space<'f> {
         ask: &Ask<'_>,
         journal: &mut Journal,
     ) -> Result<ForeignBlock<'f>, NoTicket>
+        // A request, for which any row may go.
         requires askable { IsAskable (asked ask.now) }
         requires unguarded { IsUnguarded self.old }
         requires spare { length self.old.rows ≤ journal.old.spare }
+
+        // Without an idle ticket nothing happens.
         ensures none { IsErr result ↔ ¬ HasIdle self.old.lent Shares.Request }
         ensures unchanged { IfErr result (λ _. (self.new ≡ self.old) × (journal.new ≡ journal.old)) }
+
+        // What is lent.
         ensures bytes { IfOk result (λ block. block.piece.bytes ≡ request (asked ask.now)) }
         ensures lends { IfOk result (LendsBlock Shares.Request self.old self.new) }
+
+        // Rows that went are written down.
         ensures evicted { IfOk result (λ _. EvictsForBlock self.old self.new journal.old journal.new) }
     {
         if !self.memory.is_idle(Share::Request) {
@@ -66,15 +73,24 @@ impl<'f> Space<'f> {
         ask: &Ask<'_>,
         journal: &mut Journal,
     ) -> Result<ForeignBlock<'f>, NoTicket>
+        // What is asked, with no guard standing.
         requires askable { IsAskable (asked ask.now) }
         requires unguarded { IsUnguarded self.old }
+
+        // Nothing it writes lacks space.
         requires room { ask.now.kind ≡ Kinds.Put
             → (apply.has ask.now.key.now self.old.rows ≡ true) ⊎ (length self.old.rows < self.old.room) }
         requires spare { length self.old.rows + 1 ≤ journal.old.spare }
+
+        // Without an idle ticket nothing happens.
         ensures none { IsErr result ↔ ¬ HasIdle self.old.lent Shares.Reply }
         ensures unchanged { IfErr result (λ _. (self.new ≡ self.old) × (journal.new ≡ journal.old)) }
+
+        // What it does, answers and writes down.
         ensures replied { IfOk result (λ block. (answer : Reply) × HoldsReply block.piece.bytes ask.now.number answer
             × DoesAbove (floor_of self.old.pages self.old.lent) (asked ask.now) answer self.old self.new journal.old journal.new) }
+
+        // What is lent.
         ensures lends { IfOk result (LendsBlock Shares.Reply self.old self.new) }
         ensures size { IfOk result (λ block. length block.piece.bytes ≡ message_header + body_size ask.now.kind (asked ask.now)
             (apply.row_of ask.now.key.now self.old.rows)) }

@@ -56,15 +56,23 @@ impl Region {
     pub fn next_live(&self, segment: u32, from: u32) -> Option<(u32, u8, u32)>
         requires closed { IsClosed self.now segment }
         requires start { (from ≡ 0) ⊎ IsStart self.now segment from }
+
+        // Nothing lives before the object that is found, or up to the end where none is.
         ensures none { IsNone result → NoneLives self.now segment from (used_at self.now segment) }
         ensures skipped { IfSome result (λ f. (from ≤ f.0) × NoneLives self.now segment from f.0) }
+
+        // The object.
         ensures found { IfSome result (λ f. IsLiveAt (live_at self.now (record { segment = segment; at = f.0 })) f.1 f.2) }
         ensures size { IfSome result (λ f. (1 ≤ f.1) × IsSize f.2) }
         ensures within { IfSome result (λ f. f.0 + f.2 ≤ used_at self.now segment) }
         ensures inside { IfSome result (λ f. f.0 + f.2 ≤ sizes.segment) }
+
+        // Where the search goes on: nothing stands between.
         ensures next { IfSome result (λ f. IsStart self.now segment (f.0 + f.2)) }
         ensures between { IfSome result (λ f. (a : ℕ) → f.0 < a → a < f.0 + f.2 → standing_at self.now
             (record { segment = segment; at = a }) ≡ None) }
+
+        // What the search says of the live bytes.
         ensures counted { IfSome result (λ f. f.2 ≤ live_bytes_at self.now segment) }
         ensures dead { IsNone result → NoneLives self.now segment 0 from → live_bytes_at self.now segment ≡ 0 }
     {
@@ -94,14 +102,20 @@ impl Region {
         requires closed { IsClosed self.old segment }
         requires dead { live_bytes_at self.old segment ≡ 0 }
         requires guards { guards_of self.old ≡ 0 }
+
+        // The segment is free, and its bytes are gained.
         ensures freed { self.new ≡ with_segment self.old segment (option_map emptied (segment_at self.old segment)) }
         ensures gained { sizes.dense < used_at self.old segment }
         ensures shape { shape self.new ≡ freed segment (shape self.old) }
         ensures is_free { IsFree self.new segment }
+
+        // The others stay as they are, and each live object.
         ensures closed { (n : ℕ) → n ≢ segment → IsClosed self.old n → IsClosed self.new n }
         ensures store { (p : Place) → live_at self.new p ≡ live_at self.old p }
         ensures pieces { pieces self.new ≡ pieces self.old }
         ensures left { left self.new ≡ left self.old }
+
+        // Counted: one free segment more, and its bytes are not used.
         ensures held { held_count self.new ≡ held_count self.old }
         ensures free { free_count self.new ≡ free_count self.old + 1 }
         ensures used { used_counts self.new ≡ slice_set (used_counts self.old) segment 0 }

@@ -1,5 +1,6 @@
 //! What a region tells of itself.
-ghost use Rattle.std.specs.Prelude.{◌≡◌, ◌⊎◌, ◌-◌, ◌≤◌, Some, option_map, IsSome};
+ghost use Rattle.std.specs.Prelude.{◌≡◌, ◌⊎◌, ◌-◌, ◌<◌, ◌≤◌, Some, option_map, IsSome};
+ghost use Rattle.layout.specs.Sizes as sizes;
 ghost use Rattle.regions.specs.declared.place.Place.{Place};
 ghost use Rattle.regions.specs.Shapes.{shape, guards_of, free_count, IsHeld};
 ghost use Rattle.regions.specs.Counts.{live_bytes_at, left};
@@ -22,7 +23,8 @@ impl Region {
     /// The content of the live object at the place, without its descriptor. Under a guard it may be dead.
     pub fn bytes(&self, place: Place) -> &[u8]
         requires { IsSome (live_at self.now place) ⊎ ((1 ≤ guards_of self.now) × IsSome (standing_at self.now place)) }
-        ensures { option_map (λ s. s.item.content) (standing_at self.now place) ≡ Some result.now }
+        ensures content { option_map (λ s. s.item.content) (standing_at self.now place) ≡ Some result.now }
+        ensures inside { place.at < sizes.segment }
     {
         segment_in(&self.slots[place.segment as usize]).content(place.at)
     }

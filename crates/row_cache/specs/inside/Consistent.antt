@@ -6,6 +6,7 @@ use Rattle.regions.specs.Counts.{live_total}
 use Rattle.regions.specs.Contents.{live_at}
 use Rattle.row_cache.specs.Rows.{rows_at}
 use Rattle.row_cache.specs.inside.Tables.{TableState, AreTablesOf}
+use Rattle.row_cache.specs.inside.Chained.{IsLinked}
 
 -- the rows of these numbers, and all rows, the one used last in front
 abbrev pub rows_with : TableState → RegionState → List ℕ → List Row
@@ -14,7 +15,13 @@ rows_with t r numbers = rows_at (live_at r) t.places numbers
 abbrev pub rows_in : TableState → RegionState → List Row
 rows_in t r = rows_with t r t.recency
 
-pub record IsConsistent (t : TableState) (r : RegionState) (bytes : ℕ) : Type 0 where
+-- the tables are those of the live objects, whose bytes are so many
+pub record IsCounted (t : TableState) (r : RegionState) (bytes : ℕ) : Type 0 where
   pub tables : AreTablesOf t (live_at r)
   pub counted : bytes ≡ live_total r
   pub sizes : live (rows_in t r) ≡ live_total r
+
+-- besides, the rows of the tables are linked in the order of their use, each of them once
+pub record IsConsistent (t : TableState) (r : RegionState) (bytes : ℕ) : Type 0 where
+  pub counted : IsCounted t r bytes
+  pub chain : IsLinked t (live_at r)

@@ -11,12 +11,14 @@ use Rattle.regions.specs.Contents.{Item, size_of}
 use Rattle.regions.specs.Stores.{Live}
 use Rattle.regions.specs.declared.place.Place.{Place}
 use Rattle.row_cache.specs.Rows.{key_at}
+use Rattle.row_cache.specs.declared.ends.Ends.{Ends}
 
--- the numbers of the rows, the one used last in front, their places by number, the numbers that were given back, the last
--- one behind, and the index of the keys
+-- the numbers of the rows, the one used last in front, which only contracts know, the ends of their chain, their places by
+-- number, the numbers that were given back, the last one behind, and the index of the keys
 pub record TableState : Type 0 where
   pub room : ℕ
   pub recency : List ℕ
+  pub ends : Ends
   pub places : List Place
   pub freed : List ℕ
   pub index : Lazy
@@ -146,3 +148,9 @@ pub record ReplacesRow (t : TableState) (n : ℕ) (to : Place) (row : Row) (old 
   pub was : slice_get t.places n ≡ Some from
   pub replaces : Replaces from to item old new
   pub key : key_at old t.places n ≡ row.key
+
+-- so they are for some row and some live objects before
+pub record ReplacesSomeRow (t : TableState) (n : ℕ) (to : Place) (new : Live) : Type 0 where
+  pub row : Row
+  pub old : Live
+  pub replaces : ReplacesRow t n to row old new

@@ -11,6 +11,7 @@ ghost use Rattle.row_cache.specs.Rows.{rows_of, Stay};
 use super::RowCache;
 use compaction::{Compacted, pass};
 use raw_range::Piece;
+use row_bytes::a_row_is_read_as_it_is_written;
 
 impl RowCache {
     /// The piece becomes a free segment, with the least number that no segment has.
@@ -72,6 +73,7 @@ impl RowCache {
         ensures free { 1 ≤ free_count self.new.region }
         ensures holds { HoldsTheSame self.old.region self.new.region }
     {
+        a_row_is_read_as_it_is_written();
         pass(&mut self.region, &mut self.tables)
     }
 

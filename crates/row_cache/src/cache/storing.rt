@@ -9,20 +9,28 @@ ghost use Rattle.lazy_index.specs.Lazy.{IsThere};
 ghost use Rattle.regions.specs.Shapes.{shape, active_of};
 ghost use Rattle.regions.specs.Counts.{left, live_total};
 ghost use Rattle.regions.specs.Contents.{Item, live_at, size_of};
+ghost use Rattle.row_cache.specs.Links.{HasRoom};
 ghost use Rattle.row_cache.specs.Rows.{key_at, reply_of, Stay};
 ghost use Rattle.row_cache.specs.inside.Tables.{Drops, HoldsARow, IsListed, PlacesRow, SwapsRow};
 ghost use Rattle.row_cache.specs.inside.Consistent.{IsConsistent, rows_in, rows_with};
 ghost use Rattle.row_cache.specs.inside.NewRows.{row_of, IsStored};
 
+use crate::links::segment_fits;
 use crate::put::Put;
 use crate::tables::Tables;
 use layout::DESCRIPTOR;
 use lazy_index::{RowAt, Spot};
 use regions::{NeedSegment, Place, Region};
-use row_bytes::{row_size, write_row};
+use row_bytes::{Links, NO_LINK, row_size, write_row};
 
 // The kind of an object that holds a row.
 const ROW: u8 = 1;
+
+// The links of a row that is not in the chain yet.
+const UNLINKED: Links = Links {
+    newer: NO_LINK,
+    older: NO_LINK,
+};
 
 // A row as it comes: a key, its value and the number of the put.
 #[derive(Clone, Copy)]
@@ -120,9 +128,16 @@ fn replace_row(
     ensures left { IfOk result (λ _. left region.new + size row.entry.key.now row.entry.value.now ≡ left region.old) }
     ensures stay { Stay region.old region.new }
 {
-    let (place, bytes) = swap_row(region, number, row, tables.place(number))?;
-    tables.replace(number, place);
-    *live = *live + u64::from(row_size(row.key, row.value)) - u64::from(bytes);
+    let size = row_size(row.key, row.value);
+    if region.left() < size {
+        return Err(NeedSegment);
+    }
+    tables.unlink(region, number);
+    let Ok((place, bytes)) = swap_row(region, number, row, tables.place(number)) else {
+        unreachable!()
+    };
+    tables.replace(region, number, place);
+    *live = *live + u64::from(size) - u64::from(bytes);
     Ok(())
 }
 
@@ -139,6 +154,7 @@ pub(super) fn drop_row(region: &mut Region, tables: &mut Tables, live: &mut u64,
     ensures stay { Stay region.old region.new }
 {
     let standing = tables.standing(region, found);
+    tables.unlink(region, found.row);
     let size = kill_row(region, tables.place(found.row));
     tables.remove(standing);
     *live -= u64::from(size);
@@ -158,6 +174,7 @@ fn swap_row(
     requires old { HoldsARow (live_at region.old old) }
     ensures full { IsErr result ↔ left region.old < size row.entry.key.now row.entry.value.now }
     ensures unchanged { IfErr result (λ _. region.new ≡ region.old) }
+    ensures room { IfOk result (λ did. HasRoom did.0) }
     ensures swapped { IfOk result (λ did. SwapsRow old did.0 number (row_of row.entry) (live_at region.old) (live_at region.new)) }
     ensures bytes { IfOk result (λ did. IfSome (live_at region.old old) (λ item. did.1 ≡ size_of item)) }
     ensures live { IfOk result (λ did. live_total region.new + did.1
@@ -171,12 +188,13 @@ fn swap_row(
     Ok((place, bytes))
 }
 
-// Places a row as a new object.
+// Places a row as a new object, with no links.
 fn place_row(region: &mut Region, number: u32, row: NewRow<'_>) -> Result<Place, NeedSegment>
     requires row { IsStored row }
     requires active { IsSome (active_of region.old) }
     ensures full { IsErr result ↔ left region.old < size row.entry.key.now row.entry.value.now }
     ensures unchanged { IfErr result (λ _. region.new ≡ region.old) }
+    ensures room { IfOk result HasRoom }
     ensures added { IfOk result (λ place. PlacesRow place number (row_of row.entry) (live_at region.old) (live_at region.new)) }
     ensures rows { IfOk result (λ _. (q : Place) → HoldsARow (live_at region.old q) → live_at region.new q ≡ live_at region.old q) }
     ensures shape { shape region.new ≡ shape region.old }
@@ -185,7 +203,15 @@ fn place_row(region: &mut Region, number: u32, row: NewRow<'_>) -> Result<Place,
     ensures stay { Stay region.old region.new }
 {
     let place = region.place(ROW, row_size(row.key, row.value))?;
-    write_row(region.bytes_mut(place), number, row.put, row.key, row.value);
+    segment_fits(place);
+    write_row(
+        region.bytes_mut(place),
+        number,
+        row.put,
+        UNLINKED,
+        row.key,
+        row.value,
+    );
     Ok(place)
 }
 

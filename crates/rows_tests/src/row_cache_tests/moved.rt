@@ -44,7 +44,8 @@ fn odd_rows_stand(alloc: Global, trial: &Trial) -> Result<bool, AllocError> {
     Ok(true)
 }
 
-fn erase_row(alloc: Global, trial: &mut Trial, byte: u8) -> Result<bool, AllocError> {
+/// Erases the row of the greatest size of this byte.
+pub(crate) fn erase_row(alloc: Global, trial: &mut Trial, byte: u8) -> Result<bool, AllocError> {
     let key = Vec::from_elem(alloc, byte, 256)?;
     Ok(trial.erase(&key))
 }

@@ -20,7 +20,8 @@ pub(crate) struct Trial {
 }
 
 fn is_row(key: &[u8], value: &[u8]) -> bool
-    ensures { result ≡ true → (1 ≤ length key.now) × (length key.now ≤ sizes.greatest_key) × (length value.now ≤ sizes.greatest_value) }
+    ensures { result ≡ true
+        → (1 ≤ length key.now) × (length key.now ≤ sizes.greatest_key) × (length value.now ≤ sizes.greatest_value) }
 {
     !key.is_empty() && key.len() <= GREATEST_KEY && value.len() <= GREATEST_VALUE
 }

@@ -2,7 +2,7 @@
 ghost use Rattle.std.specs.Prelude.{◌≤◌, length, All};
 ghost use Rattle.trace_text.specs.Parts.{most_shards};
 ghost use Rattle.layout.specs.Sizes.{most_trace_bytes};
-ghost use Rattle.shard_node.specs.Links.{ring_traffic};
+ghost use Rattle.shard_rings.specs.Links.{traffic_of};
 ghost use Rattle.shard_node.specs.Standing.{InStanding};
 
 use super::opening::{lists, open_nodes, trace_for};
@@ -46,7 +46,7 @@ fn drive<'f, R: Threads + Wait + Sync, G: Gate + Send + Drop>(
     way: Way,
 )
     requires several { 2 ≤ length nodes.old }
-    requires standing { All (InStanding ring_traffic) nodes.old }
+    requires standing { All (InStanding traffic_of) nodes.old }
 {
     match way {
         Way::Schedule => {

@@ -3,7 +3,8 @@ ghost use Rattle.std.specs.Prelude.{◌≡◌, ◌+◌, ◌<◌, ◌≤◌, [], 
 ghost use Rattle.foreign_list.specs.OwnerSeats.{IsAtRest};
 ghost use Rattle.trace_text.specs.Parts.{most_shards};
 ghost use Rattle.layout.specs.Sizes.{most_trace_bytes};
-ghost use Rattle.shard_node.specs.Links.{IsUnused, ring_traffic};
+ghost use Rattle.shard_rings.specs.Links.{traffic_of};
+ghost use Rattle.shard_node.specs.Links.{IsUnused};
 ghost use Rattle.shard_node.specs.Standing.{InStanding};
 ghost use Rattle.shard_drive.specs.Trials.{AreReady, AreUnused};
 
@@ -70,8 +71,8 @@ fn open_node<'f, G: Gate + Drop>(
     requires parsed_for { shards ≡ trace.now.shards }
     requires within { shard < shards }
     requires links { length links.items + 1 ≡ shards }
-    requires unused { All (IsUnused ring_traffic) links.items }
-    ensures { IfOk result (InStanding ring_traffic) }
+    requires unused { All (IsUnused traffic_of) links.items }
+    ensures { IfOk result (InStanding traffic_of) }
 {
     match Node::open(
         alloc,
@@ -103,7 +104,7 @@ pub fn open_nodes<'f, S: Gates>(
     requires seats { length seats.items ≡ shards }
     requires ready { AreReady homes.now seats.items }
     ensures count { IfOk result (λ nodes. length nodes.items ≡ shards) }
-    ensures standing { IfOk result (λ nodes. All (InStanding ring_traffic) nodes.items) }
+    ensures standing { IfOk result (λ nodes. All (InStanding traffic_of) nodes.items) }
 {
     let mut links = links_of(alloc, shards)?;
     let mut nodes = Vec::new(alloc);
@@ -132,6 +133,7 @@ fn open_all<'f, S: Gates>(
     links: &mut Vec<Vec<RingLink<'f>>>,
     nodes: &mut Vec<Node<'f, RingLink<'f>, S::Made>>,
 ) -> Result<(), AllocError>
+    // What each shard starts with.
     requires parsed_for { shards ≡ trace.now.shards }
     requires homes { length homes.now ≡ shards }
     requires seats { length seats.old.items ≡ shards }
@@ -139,8 +141,10 @@ fn open_all<'f, S: Gates>(
     requires links { length links.old.items ≡ shards }
     requires unused { All (AreUnused shards) links.old.items }
     requires none { nodes.old.items ≡ [] }
+
+    // One node for each of them.
     ensures count { OnOk result (length nodes.new.items ≡ shards) }
-    ensures standing { OnOk result (All (InStanding ring_traffic) nodes.new.items) }
+    ensures standing { OnOk result (All (InStanding traffic_of) nodes.new.items) }
 {
     while let Some(seat) = seats.pop() {
         let shard = seats.len();

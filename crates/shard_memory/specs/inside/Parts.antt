@@ -22,7 +22,7 @@ segments_of allocated = filter is_segment allocated
 abbrev pub blocks_of : List Extent → List Extent
 blocks_of allocated = filter is_block allocated
 
--- a segment is an allocated span of 32 pages
+-- a segment is an allocated span of its order
 abbrev pub IsSegmentAt : Layout → Extent → Type 0
 IsSegmentAt spans p = (p.len ≡ segment) × ((first : ℕ) × (p.start ≡ page * first) × IsAllocated spans first segment_order)
 

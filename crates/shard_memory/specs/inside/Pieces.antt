@@ -1,11 +1,13 @@
 -- What the pages and pools of one shard gave, whoever has it: its blocks, lent or not, and its segments.
-use Rattle.std.specs.Prelude.{ℕ, List, refl}
+use Rattle.std.specs.Prelude.{ℕ, ◌+◌, List, refl}
 use Rattle.std.specs.Ordering.{nat_cmp}
 use Rattle.std.specs.FinMap as map
 use Rattle.std.specs.Coded.{Coded, code_by, coded×, coded_list, coded_ℕ}
 use denote.RawPtr.{Ptr, coded_ptr}
 use Rattle.layout.specs.Extents.{Extent, extent_code}
+use Rattle.layout.specs.Sizes.{tickets}
 use Rattle.shard_memory.specs.Room.{Room, room_code}
+use Rattle.shard_memory.specs.Shards.{most_blocks}
 
 -- the fields are those of a shard, but that blocks are all that are out, the last one in front
 pub record Pieces : Type 0 where
@@ -28,4 +30,4 @@ pieces_code =
 
 -- the most blocks at once: those that stay, and one with each ticket
 abbrev pub most_out : ℕ
-most_out = 1056
+most_out = most_blocks + tickets

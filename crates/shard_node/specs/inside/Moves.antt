@@ -5,17 +5,17 @@ use Rattle.cache_model.specs.Legal.{done}
 use Rattle.shard_memory.specs.Tickets.{HasIdle, Tickets}
 use Rattle.shard_memory.specs.declared.share.Share.TheVariants.{Reply as ReplyShare}
 use Rattle.layout.specs.Counts.{Rose}
-use Rattle.shard_rings.specs.Lanes.{NoneFell, on}
+use Rattle.shard_rings.specs.Lanes.{NoneFell, on, Traffic}
 use Rattle.shard_rings.specs.declared.link.Lane.{Lane}
 use Rattle.shard_rings.specs.declared.link.Packet.{Packet}
-use Rattle.shard_node.specs.declared.aside.Aside.{Aside}
-use Rattle.shard_node.specs.declared.aside.Tried.{Tried}
+use Rattle.shard_node.specs.declared.stray_packet.StrayPacket.{StrayPacket}
+use Rattle.shard_node.specs.declared.stray_packet.Tried.{Tried}
 use Rattle.shard_node.specs.declared.peer.Peer.{Peer}
-use Rattle.shard_node.specs.declared.aside.Tried.TheVariants.{Nothing, Expected, Other}
-use Rattle.shard_node.specs.Nodes.{NodeState, PeerState, Traffic}
+use Rattle.shard_node.specs.declared.stray_packet.Tried.TheVariants.{Nothing, Expected, Other}
+use Rattle.shard_node.specs.Nodes.{NodeState, PeerState}
 use Rattle.shard_node.specs.declared.waiting.Waiting.{Waiting}
 use Rattle.shard_node.specs.Standing.{InStanding}
-use Rattle.shard_node.specs.Turns.{ForSome, HasBegunAll, HasReleased, IsAside, IsEmpty, IsFirstAside, IsHeldBack, NoneAside, Raced}
+use Rattle.shard_node.specs.Turns.{ForSome, HasBegunAll, HasReleased, IsStray, IsEmpty, IsFirstStray, IsHeldBack, NoneStray, Raced}
 use Rattle.shard_node.specs.inside.Releases.{CountsOn}
 
 -- two lists are as long, and so with the two elements at each place
@@ -82,6 +82,7 @@ module _ {L G : Type 0} (traffic : L → Traffic) where
     pub peers : Pairs (λ k. GoesOn traffic) old.peers new.peers
     pub done : done_in old ≤ done_in new
     pub backs : old.space.backs ≤ new.space.backs
+    pub looks : old.space.looks ≤ new.space.looks
     pub tally : (more : ℕ) × CountsOn more old.tally new.tally
 
   -- Where no packet went over a link, nothing was done, the space and the own parts are as they were, no block that waits was
@@ -129,19 +130,19 @@ module _ {L G : Type 0} (traffic : L → Traffic) (holds : G → ℕ) where
     pub more : ℕ
     pub counts : CountsOn (1 + more) old.tally new.tally
 
--- Says k aside: at place k this packet was set aside.
+-- Says k stray: at place k this packet was set aside.
 
 -- what one try of a lane says of its place
-abbrev pub TriedSays : (Aside → Type 0) → Tried → Type 0
-TriedSays Says (Other aside) = Says aside
-TriedSays Says Nothing = (aside : Aside) → Says aside → ⊥
-TriedSays Says Expected = (aside : Aside) → Says aside → ⊥
+abbrev pub TriedSays : (StrayPacket → Type 0) → Tried → Type 0
+TriedSays Says (Other stray) = Says stray
+TriedSays Says Nothing = (stray : StrayPacket) → Says stray → ⊥
+TriedSays Says Expected = (stray : StrayPacket) → Says stray → ⊥
 
 -- what was told before stays; where nothing was, the first that is said of the places is told
-abbrev pub Tells : (ℕ → Aside → Type 0) → Option Aside → Option Aside → Type 0
+abbrev pub Tells : (ℕ → StrayPacket → Type 0) → Option StrayPacket → Option StrayPacket → Type 0
 Tells Says (Some before) now = now ≡ Some before
-Tells Says None None = (k : ℕ) (aside : Aside) → Says k aside → ⊥
-Tells Says None (Some aside) = (k : ℕ) × Says k aside × ((j : ℕ) → j < k → (other : Aside) → Says j other → ⊥)
+Tells Says None None = (k : ℕ) (stray : StrayPacket) → Says k stray → ⊥
+Tells Says None (Some stray) = (k : ℕ) × Says k stray × ((j : ℕ) → j < k → (other : StrayPacket) → Says j other → ⊥)
 
 module _ {L G : Type 0} (traffic : L → Traffic) where
   -- each peer is the one that it was, and nothing was received of it on the lane
@@ -154,13 +155,13 @@ module _ {L G : Type 0} (traffic : L → Traffic) where
 
 module _ {L G : Type 0} (traffic : L → Traffic) (holds : G → ℕ) where
   -- one packet was received of the peer at place k, and set aside
-  abbrev pub SetsOneAside : Lane → NodeState L G → NodeState L G → ℕ → Aside → Type 0
-  SetsOneAside lane old new k aside = (a b : PeerState L) × (packet : Packet)
+  abbrev pub ReceivesOneStray : Lane → NodeState L G → NodeState L G → ℕ → StrayPacket → Type 0
+  ReceivesOneStray lane old new k stray = (a b : PeerState L) × (packet : Packet)
       × (slice_get old.peers k ≡ Some a) × (slice_get new.peers k ≡ Some b)
       × (on lane (traffic b.link).received ≡ on lane (traffic a.link).received ++ packet ∷ [])
-      × IsAside traffic holds lane old a.shard (on lane (traffic a.link).received) packet aside
+      × IsStray traffic holds lane old a.shard (on lane (traffic a.link).received) packet stray
 
   -- what a turn tells of the packets that were not expected
-  abbrev pub TellsFirst : Option Aside → NodeState L G → NodeState L G → Type 0
-  TellsFirst None old new = NoneAside traffic holds old new
-  TellsFirst (Some aside) old new = IsFirstAside traffic holds old new aside
+  abbrev pub TellsFirst : Option StrayPacket → NodeState L G → NodeState L G → Type 0
+  TellsFirst None old new = NoneStray traffic holds old new
+  TellsFirst (Some stray) old new = IsFirstStray traffic holds old new stray

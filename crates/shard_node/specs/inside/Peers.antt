@@ -1,10 +1,10 @@
 -- What callers see of a peer, and what a step of a turn does to one.
 use Rattle.std.specs.Prelude.{◌≡◌, ℕ, ◌<◌, List, Option, length, slice_index_or, sum_by}
 use Rattle.foreign_list.specs.Blocks.{Block}
-use Rattle.shard_rings.specs.Lanes.{Lanes, LinkEnd}
+use Rattle.shard_rings.specs.Lanes.{Lanes, LinkEnd, Traffic}
 use Rattle.shard_rings.specs.declared.link.Lane.TheVariants.{Replies}
 use Rattle.shard_node.specs.declared.peer.Peer.{Peer}
-use Rattle.shard_node.specs.Nodes.{Keeping, PeerState, Traffic}
+use Rattle.shard_node.specs.Nodes.{Keeping, PeerState}
 use Rattle.shard_node.specs.inside.Releases.{TriesBoth, held_count}
 use Rattle.shard_node.specs.inside.Sends.{SendsHeld, TriesBye}
 

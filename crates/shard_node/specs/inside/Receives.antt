@@ -8,16 +8,15 @@ use Rattle.cache_model.specs.Spelled.{spelled}
 use Rattle.foreign_list.specs.Blocks.{Block}
 use Rattle.run_log.specs.Replies.{Replies}
 use Rattle.layout.specs.Counts.{Rose}
-use Rattle.shard_rings.specs.Lanes.{LinkEnd, NoneFell, adds, on}
+use Rattle.shard_rings.specs.Lanes.{LinkEnd, NoneFell, adds, on, Traffic}
 use Rattle.shard_rings.specs.declared.link.Lane.{Lane}
 use Rattle.shard_rings.specs.declared.link.Lane.TheVariants as lanes
 use Rattle.shard_rings.specs.declared.link.Packet.{Packet}
 use Rattle.shard_rings.specs.declared.link.Packet.TheVariants.{Block as InBlock, Bye}
-use Rattle.shard_node.specs.declared.aside.Aside.{Aside}
-use Rattle.shard_node.specs.declared.aside.Tried.{Tried}
-use Rattle.shard_node.specs.declared.aside.Tried.TheVariants.{Nothing, Expected, Other}
+use Rattle.shard_node.specs.declared.stray_packet.StrayPacket.{StrayPacket}
+use Rattle.shard_node.specs.declared.stray_packet.Tried.{Tried}
+use Rattle.shard_node.specs.declared.stray_packet.Tried.TheVariants.{Nothing, Expected, Other}
 use Rattle.shard_node.specs.declared.peer.Peer.{Peer}
-use Rattle.shard_node.specs.Nodes.{Traffic}
 use Rattle.shard_node.specs.Due.{Answers, AnswersNot, number_in}
 use Rattle.shard_node.specs.Turns.{expected_number, IsEmpty}
 use Rattle.shard_node.specs.inside.Releases.{Tries}
@@ -49,17 +48,17 @@ module _ {L : Type 0} where
     pub owed : new.owed + 1 ≡ old.owed
 
   -- another packet is set aside
-  pub record IsNoReply (packet : Packet) (old new : Peer L) (log logged : Replies) (set_aside : Aside) : Type 0 where
+  pub record IsNoReply (packet : Packet) (old new : Peer L) (log logged : Replies) (set_aside : StrayPacket) : Type 0 where
     pub none : AnswersNot (trace_in old.answers.trace) (next_answer old) packet
     pub not_logged : logged ≡ log
     pub answers : new.answers ≡ old.answers
     pub owed : new.owed ≡ old.owed
-    pub aside : set_aside ≡ record { peer = old.shard; expected = expected_number (next_answer old); found = number_in packet }
+    pub stray : set_aside ≡ record { peer = old.shard; expected = expected_number (next_answer old); found = number_in packet }
 
   abbrev pub EndsReply : Packet → Peer L → Peer L → Replies → Replies → Tried → Type 0
   EndsReply packet old new log logged Nothing = ⊥
   EndsReply packet old new log logged Expected = IsReply packet old new log logged
-  EndsReply packet old new log logged (Other aside) = IsNoReply packet old new log logged aside
+  EndsReply packet old new log logged (Other stray) = IsNoReply packet old new log logged stray
 
   -- the peer owes a reply, and none waits to be released
   abbrev pub OwesReply : Peer L → Type 0

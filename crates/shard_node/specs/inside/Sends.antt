@@ -2,12 +2,11 @@
 use Rattle.std.specs.Prelude.{◌≡◌, Bool, true, false, Option, Some, None}
 use Rattle.foreign_list.specs.Blocks.{Block}
 use Rattle.layout.specs.Counts.{Rose}
-use Rattle.shard_rings.specs.Lanes.{NoneFell, adds, on}
+use Rattle.shard_rings.specs.Lanes.{NoneFell, adds, on, Traffic}
 use Rattle.shard_rings.specs.declared.link.Lane.{Lane}
 use Rattle.shard_rings.specs.declared.link.Lane.TheVariants.{Requests}
 use Rattle.shard_rings.specs.declared.link.Packet.{Packet}
 use Rattle.shard_rings.specs.declared.link.Packet.TheVariants.{Block as InBlock, Bye}
-use Rattle.shard_node.specs.Nodes.{Traffic}
 
 -- the packet is behind those that were sent on the lane
 pub record IsSent (lane : Lane) (packet : Packet) (old new : Traffic) : Type 0 where

@@ -7,7 +7,7 @@ use Rattle.cache_model.specs.Apply.{Reply}
 use Rattle.foreign_list.specs.Blocks.{Block}
 use Rattle.run_log.specs.JournalState.{JournalState}
 use Rattle.shard_memory.specs.declared.share.Share.TheVariants as shares
-use Rattle.shard_rings.specs.Lanes.{LinkEnd}
+use Rattle.shard_rings.specs.Lanes.{LinkEnd, Traffic}
 use Rattle.shard_rings.specs.Reply.{HoldsReply}
 use Rattle.shard_rings.specs.Request.{request}
 use Rattle.shard_rings.specs.declared.link.Lane.TheVariants as lanes
@@ -15,11 +15,10 @@ use Rattle.shard_rings.specs.declared.link.Packet.{Packet}
 use Rattle.reclaim.specs.Spaces.{SpaceState}
 use Rattle.reclaim.specs.Lending.{LendsBlock}
 use Rattle.reclaim.specs.Works.{DoesAbove, floor_of}
-use Rattle.shard_node.specs.declared.aside.Aside.{Aside}
-use Rattle.shard_node.specs.declared.aside.Tried.{Tried}
-use Rattle.shard_node.specs.declared.aside.Tried.TheVariants.{Nothing, Expected, Other}
+use Rattle.shard_node.specs.declared.stray_packet.StrayPacket.{StrayPacket}
+use Rattle.shard_node.specs.declared.stray_packet.Tried.{Tried}
+use Rattle.shard_node.specs.declared.stray_packet.Tried.TheVariants.{Nothing, Expected, Other}
 use Rattle.shard_node.specs.declared.peer.Peer.{Peer}
-use Rattle.shard_node.specs.Nodes.{Traffic}
 use Rattle.shard_node.specs.Due.{is_same, number_in, number_said, said}
 use Rattle.shard_node.specs.Turns.{IsEmpty}
 use Rattle.shard_node.specs.inside.Receives.{Came, TakesNone, block_of, next_ask}
@@ -58,20 +57,20 @@ module _ {L : Type 0} where
   EndsExpected None old new space space' journal journal' = HearsBye old new space space' journal journal'
 
   -- another packet is set aside
-  pub record IsNoRequest (packet : Packet) (old new : Peer L) (space space' : SpaceState) (journal journal' : JournalState) (set_aside : Aside) : Type 0 where
+  pub record IsNoRequest (packet : Packet) (old new : Peer L) (space space' : SpaceState) (journal journal' : JournalState) (set_aside : StrayPacket) : Type 0 where
     pub other : is_same (due_next old) (said packet) ≡ false
     pub asks : new.asks ≡ old.asks
     pub heard : new.has_heard_bye ≡ old.has_heard_bye
     pub reply : new.reply ≡ old.reply
     pub same_space : space' ≡ space
     pub same_journal : journal' ≡ journal
-    pub aside : set_aside ≡ record { peer = old.shard; expected = number_said (due_next old); found = number_in packet }
+    pub stray : set_aside ≡ record { peer = old.shard; expected = number_said (due_next old); found = number_in packet }
 
   abbrev pub EndsRequest : Packet → Peer L → Peer L → SpaceState → SpaceState → JournalState → JournalState → Tried → Type 0
   EndsRequest packet old new space space' journal journal' Nothing = ⊥
   EndsRequest packet old new space space' journal journal' Expected =
       (is_same (due_next old) (said packet) ≡ true) × EndsExpected (next_ask old) old new space space' journal journal'
-  EndsRequest packet old new space space' journal journal' (Other aside) = IsNoRequest packet old new space space' journal journal' aside
+  EndsRequest packet old new space space' journal journal' (Other stray) = IsNoRequest packet old new space space' journal journal' stray
 
   -- more requests may come, no block of theirs waits to be released, and no reply waits to be sent
   pub record MayAsk (peer : Peer L) : Type 0 where

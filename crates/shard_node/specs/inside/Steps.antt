@@ -1,8 +1,7 @@
 -- A step of a turn.
 use Rattle.std.specs.Prelude.{◌≡◌}
-use Rattle.shard_rings.specs.Lanes.{LinkEnd}
+use Rattle.shard_rings.specs.Lanes.{LinkEnd, Traffic}
 use Rattle.shard_node.specs.declared.shard.Shard.{Shard}
-use Rattle.shard_node.specs.Nodes.{Traffic}
 use Rattle.shard_node.specs.Standing.{InStanding}
 use Rattle.shard_node.specs.Turns.{IsSameNode}
 use Rattle.shard_node.specs.inside.Shards.{node_state, IsConsistent}

@@ -1,7 +1,7 @@
 //! The step that goes on with the shard's own parts.
 ghost use Rattle.std.specs.Prelude.{◌≡◌, ◌≢◌, ◌↔◌, ℕ, ◌<◌, false, Contains, Some, None, IsTrue};
 ghost use Rattle.std.specs.List.{slice_get};
-ghost use Rattle.shard_node.specs.Nodes.{others, traffic_by};
+ghost use Rattle.shard_node.specs.Nodes.{others};
 ghost use Rattle.shard_node.specs.inside.Own.{IsFirstPart, own_log};
 ghost use Rattle.shard_memory.specs.Tickets.{HasIdle};
 ghost use Rattle.shard_memory.specs.declared.share.Share.{Share as Shares};
@@ -31,13 +31,11 @@ impl<'f, L: Link<'f> + Drop, G: Gate + Drop> Shard<'f, L, G> {
     /// where a request was sent or a part was done.
     pub(crate) fn go_on(&mut self) -> bool
         requires consistent { IsConsistent self.old }
-        ensures step { IsStep (traffic_by L.sent L.received L.full L.empty) L.end self.old self.new }
-        ensures received { (lane : AnyLane)
-            → ReceivesNone (traffic_by L.sent L.received L.full L.empty) lane (node_state self.old) (node_state self.new) }
-        ensures goes { Goes (traffic_by L.sent L.received L.full L.empty) (node_state self.old) (node_state self.new) }
-        ensures moved { IsTrue result ↔ Rises (traffic_by L.sent L.received L.full L.empty) (node_state self.old) (node_state self.new) }
-        ensures held_back { result ≡ false
-            → HoldsBack (traffic_by L.sent L.received L.full L.empty) G.holds (node_state self.old) (node_state self.new) }
+        ensures step { IsStep L.traffic L.end self.old self.new }
+        ensures received { (lane : AnyLane) → ReceivesNone L.traffic lane (node_state self.old) (node_state self.new) }
+        ensures goes { Goes L.traffic (node_state self.old) (node_state self.new) }
+        ensures moved { IsTrue result ↔ Rises L.traffic (node_state self.old) (node_state self.new) }
+        ensures held_back { result ≡ false → HoldsBack L.traffic G.holds (node_state self.old) (node_state self.new) }
     {
         if self.request.is_some() {
             self.send_request()
@@ -49,15 +47,14 @@ impl<'f, L: Link<'f> + Drop, G: Gate + Drop> Shard<'f, L, G> {
     /// Sends the request that waits, if one does. True where it was sent.
     fn send_request(&mut self) -> bool
         requires consistent { IsConsistent self.old }
-        ensures step { IsStep (traffic_by L.sent L.received L.full L.empty) L.end self.old self.new }
-        ensures received { (lane : AnyLane)
-            → ReceivesNone (traffic_by L.sent L.received L.full L.empty) lane (node_state self.old) (node_state self.new) }
-        ensures goes { Goes (traffic_by L.sent L.received L.full L.empty) (node_state self.old) (node_state self.new) }
-        ensures moved { IsTrue result ↔ Rises (traffic_by L.sent L.received L.full L.empty) (node_state self.old) (node_state self.new) }
+        ensures step { IsStep L.traffic L.end self.old self.new }
+        ensures received { (lane : AnyLane) → ReceivesNone L.traffic lane (node_state self.old) (node_state self.new) }
+        ensures goes { Goes L.traffic (node_state self.old) (node_state self.new) }
+        ensures moved { IsTrue result ↔ Rises L.traffic (node_state self.old) (node_state self.new) }
         ensures held_up { result ≡ false
-            → HeldUp (traffic_by L.sent L.received L.full L.empty)
+            → HeldUp L.traffic
             (λ k a b. (waiting : IsWaiting) → self.old.request ≡ Some waiting → a.shard ≡ waiting.peer
-            → Rose (L.full a.link).requests (L.full b.link).requests) (node_state self.old) (node_state self.new) }
+            → Rose (L.traffic a.link).full.requests (L.traffic b.link).full.requests) (node_state self.old) (node_state self.new) }
     {
         let Some(Waiting { peer, block }) = self.request.take() else {
             return false;
@@ -83,13 +80,11 @@ impl<'f, L: Link<'f> + Drop, G: Gate + Drop> Shard<'f, L, G> {
     fn begin(&mut self) -> bool
         requires consistent { IsConsistent self.old }
         requires idle { self.old.request ≡ None }
-        ensures step { IsStep (traffic_by L.sent L.received L.full L.empty) L.end self.old self.new }
-        ensures received { (lane : AnyLane)
-            → ReceivesNone (traffic_by L.sent L.received L.full L.empty) lane (node_state self.old) (node_state self.new) }
-        ensures goes { Goes (traffic_by L.sent L.received L.full L.empty) (node_state self.old) (node_state self.new) }
-        ensures moved { IsTrue result ↔ Rises (traffic_by L.sent L.received L.full L.empty) (node_state self.old) (node_state self.new) }
-        ensures held_back { result ≡ false
-            → HoldsBack (traffic_by L.sent L.received L.full L.empty) G.holds (node_state self.old) (node_state self.new) }
+        ensures step { IsStep L.traffic L.end self.old self.new }
+        ensures received { (lane : AnyLane) → ReceivesNone L.traffic lane (node_state self.old) (node_state self.new) }
+        ensures goes { Goes L.traffic (node_state self.old) (node_state self.new) }
+        ensures moved { IsTrue result ↔ Rises L.traffic (node_state self.old) (node_state self.new) }
+        ensures held_back { result ≡ false → HoldsBack L.traffic G.holds (node_state self.old) (node_state self.new) }
     {
         let Some((command, doer)) = self.own.next() else {
             return false;
@@ -123,11 +118,10 @@ impl<'f, L: Link<'f> + Drop, G: Gate + Drop> Shard<'f, L, G> {
     fn do_here(&mut self) -> bool
         requires consistent { IsConsistent self.old }
         requires next { (i : ℕ) × (slice_get (issued_by self.old) self.old.own.begun ≡ Some (i, self.old.shard)) }
-        ensures step { IsStep (traffic_by L.sent L.received L.full L.empty) L.end self.old self.new }
-        ensures received { (lane : AnyLane)
-            → ReceivesNone (traffic_by L.sent L.received L.full L.empty) lane (node_state self.old) (node_state self.new) }
-        ensures goes { Goes (traffic_by L.sent L.received L.full L.empty) (node_state self.old) (node_state self.new) }
-        ensures moved { IsTrue result ↔ Rises (traffic_by L.sent L.received L.full L.empty) (node_state self.old) (node_state self.new) }
+        ensures step { IsStep L.traffic L.end self.old self.new }
+        ensures received { (lane : AnyLane) → ReceivesNone L.traffic lane (node_state self.old) (node_state self.new) }
+        ensures goes { Goes L.traffic (node_state self.old) (node_state self.new) }
+        ensures moved { IsTrue result ↔ Rises L.traffic (node_state self.old) (node_state self.new) }
         ensures done { IsTrue result }
     {
         a_journal_goes_on();
@@ -152,6 +146,7 @@ impl<'f, L: Link<'f> + Drop, G: Gate + Drop> Shard<'f, L, G> {
 
     /// Makes the request of the next own part, which waits to be sent.
     fn ask(&mut self, command: &Command, doer: u32)
+        // What is due to a peer.
         requires consistent { IsConsistent self.old }
         requires idle { self.old.request ≡ None }
         requires of_trace { Contains self.old.trace.now.commands command.now }
@@ -159,15 +154,19 @@ impl<'f, L: Link<'f> + Drop, G: Gate + Drop> Shard<'f, L, G> {
         requires other { doer ≢ self.old.shard }
         requires below { doer < self.old.shards }
         requires ticket { HasIdle self.old.space.lent Shares.Request }
-        ensures step { IsStep (traffic_by L.sent L.received L.full L.empty) L.end self.old self.new }
-        ensures received { (lane : AnyLane)
-            → ReceivesNone (traffic_by L.sent L.received L.full L.empty) lane (node_state self.old) (node_state self.new) }
-        ensures goes { Goes (traffic_by L.sent L.received L.full L.empty) (node_state self.old) (node_state self.new) }
+
+        // Nothing passes over a link.
+        ensures step { IsStep L.traffic L.end self.old self.new }
+        ensures received { (lane : AnyLane) → ReceivesNone L.traffic lane (node_state self.old) (node_state self.new) }
+        ensures goes { Goes L.traffic (node_state self.old) (node_state self.new) }
         ensures peers { (node_state self.new).peers ≡ (node_state self.old).peers }
-        ensures done { done_in (traffic_by L.sent L.received L.full L.empty) (node_state self.new)
-            ≡ done_in (traffic_by L.sent L.received L.full L.empty) (node_state self.old) }
+        ensures done { done_in L.traffic (node_state self.new) ≡ done_in L.traffic (node_state self.old) }
+
+        // The request is made.
         ensures waits { (waiting : IsWaiting) × (self.new.request ≡ Some waiting) }
-        ensures idle { InStanding (traffic_by L.sent L.received L.full L.empty) (node_state self.old)
+
+        // Tickets of replies are as they were.
+        ensures idle { InStanding L.traffic (node_state self.old)
             → self.new.space.backs ≡ self.old.space.backs
             → HasIdle self.new.space.lent Shares.Reply → HasIdle self.old.space.lent Shares.Reply }
     {

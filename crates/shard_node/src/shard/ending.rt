@@ -1,6 +1,5 @@
 //! When a shard is done.
 ghost use Rattle.std.specs.Prelude.{◌↔◌, All, IsTrue};
-ghost use Rattle.shard_node.specs.Nodes.{traffic_by};
 ghost use Rattle.shard_node.specs.Standing.{InStanding};
 ghost use Rattle.shard_node.specs.Turns.{IsDone};
 ghost use Rattle.shard_node.specs.inside.Endings.{HasEnded, IsAtEnd};
@@ -16,8 +15,8 @@ impl<'f, L: Link<'f> + Drop, G: Gate + Drop> Shard<'f, L, G> {
     /// Whether all own parts are answered, each peer's Bye came and the own ones went, nothing waits, and all blocks are back.
     pub(crate) fn is_done(&self) -> bool
         requires consistent { IsConsistent self.now }
-        ensures { InStanding (traffic_by L.sent L.received L.full L.empty) (node_state self.now)
-            → (IsTrue result ↔ IsDone (traffic_by L.sent L.received L.full L.empty) G.holds (node_state self.now)) }
+        ensures { InStanding L.traffic (node_state self.now)
+            → (IsTrue result ↔ IsDone L.traffic G.holds (node_state self.now)) }
     {
         a_journal_goes_on();
         issued_parts_are_counted();

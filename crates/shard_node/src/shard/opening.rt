@@ -6,7 +6,7 @@ ghost use Rattle.trace_text.specs.Parsed.{trace_in};
 ghost use Rattle.trace_text.specs.Parts.{here_parts, here_puts, own_parts, reply_bytes, most_shards};
 ghost use Rattle.foreign_list.specs.OwnerSeats.{IsAtRest};
 ghost use Rattle.shard_memory.specs.Tickets.{tickets_out};
-ghost use Rattle.shard_node.specs.Nodes.{others, traffic_by};
+ghost use Rattle.shard_node.specs.Nodes.{others};
 ghost use Rattle.shard_node.specs.Standing.{InStanding};
 ghost use Rattle.shard_node.specs.Links.{IsUnused};
 ghost use Rattle.shard_node.specs.inside.Opening.{IsNewPeer};
@@ -114,11 +114,14 @@ fn peers_over<'f, L: Drop>(
     links: Vec<L>,
     mut peers: Vec<Peer<'f, L>>,
 ) -> Vec<Peer<'f, L>>
+    // One link for each other shard.
     requires parsed_for { shards ≡ trace.now.shards }
     requires within { shard < shards }
     requires links { length links.items + 1 ≡ shards }
     requires none { peers.items ≡ [] }
     requires room { shards ≤ vec_capacity peers + 1 }
+
+    // A peer over each, in rising order.
     ensures links { map (λ peer. peer.link) result.items ≡ links.items }
     ensures numbers { map (λ peer. peer.shard) result.items ≡ others shards shard }
     ensures new { All (IsNewPeer trace.now shards shard) result.items }
@@ -149,20 +152,29 @@ impl<'f, L: Link<'f> + Drop, G: Gate + Drop> Shard<'f, L, G> {
         links: Vec<L>,
         gate: G,
     ) -> Result<Shard<'f, L, G>, NodeRefusal<L>>
+        // What it is opened with.
         requires pages { ArePages pages }
         requires owner { home.now.owner ≡ shard }
         requires seat { IsAtRest home.now seat }
         requires parsed_for { shards ≡ trace.now.shards }
         requires within { shard < shards }
         requires links { length links.items + 1 ≡ shards }
-        requires unused { All (IsUnused (traffic_by L.sent L.received L.full L.empty)) links.items }
+        requires unused { All (IsUnused L.traffic) links.items }
+
+        // Without memory, seat and links come back.
         ensures refused { IfErr result (λ refusal. (refusal.seat ≡ seat) × (refusal.links ≡ links)) }
+
+        // Which shard it is.
         ensures consistent { IfOk result IsConsistent }
-        ensures standing { IfOk result (λ s. InStanding (traffic_by L.sent L.received L.full L.empty) (node_state s)) }
+        ensures standing { IfOk result (λ s. InStanding L.traffic (node_state s)) }
         ensures numbers { IfOk result (λ s. (s.shard ≡ shard) × (s.shards ≡ shards) × (s.pages ≡ pages)) }
         ensures trace { IfOk result (λ s. s.trace.now ≡ trace.now) }
+
+        // No block is out.
         ensures list { IfOk result (λ s. s.space.list ≡ home.now) }
         ensures lent { IfOk result (λ s. tickets_out s.space.lent ≡ 0) }
+
+        // How it stands before the first turn.
         ensures links { IfOk result (λ s. map (λ peer. peer.link) s.peers.items ≡ links.items) }
         ensures peers { IfOk result (λ s. map (λ peer. peer.shard) s.peers.items ≡ others shards shard) }
         ensures gate { IfOk result (λ s. s.gate ≡ gate) }

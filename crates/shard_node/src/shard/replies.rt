@@ -6,47 +6,51 @@ ghost use Rattle.trace_text.specs.Parsed.{trace_in};
 ghost use Rattle.trace_text.specs.Parts.{longest_value};
 ghost use Rattle.cache_model.specs.Bodies.{most_of_body};
 ghost use Rattle.shard_rings.specs.declared.link.Packet.TheVariants.{Block as InBlock};
-ghost use Rattle.shard_node.specs.declared.aside.Tried.{Tried as Tries};
-ghost use Rattle.shard_node.specs.Nodes.{traffic_by};
+ghost use Rattle.shard_node.specs.declared.stray_packet.Tried.{Tried as Tries};
 ghost use Rattle.shard_rings.specs.declared.link.Lane.TheVariants.{Replies, Requests};
 ghost use Rattle.shard_node.specs.Standing.{InStanding};
 ghost use Rattle.shard_node.specs.Turns.{expected_number};
-ghost use Rattle.shard_node.specs.inside.Moves.{packets_of, Goes, HeldUp, NonePassed, ReceivesNone, ReceivesOne, ReplyLacks, SetsOneAside, Tells, TriedSays};
+ghost use Rattle.shard_node.specs.inside.Moves.{packets_of, Goes, HeldUp, NonePassed, ReceivesNone, ReceivesOne, ReplyLacks, ReceivesOneStray, Tells, TriedSays};
 ghost use Rattle.shard_node.specs.inside.Seen.{has_come};
 ghost use Rattle.shard_node.specs.inside.Receives.{EndsReply, OwesReply, TriesReply, next_answer};
 ghost use Rattle.shard_node.specs.inside.Shards.{IsConsistent, node_state};
 ghost use Rattle.shard_node.specs.inside.Steps.{IsStep};
 
 use super::Shard;
-use crate::aside::{Aside, Tried};
 use crate::expected::expected_reply;
 use crate::gate::Gate;
-use crate::number::number_in;
 use crate::peer::Peer;
 use crate::release::release;
 use crate::seen::Seen;
+use crate::stray_packet::{StrayPacket, Tried};
 use foreign_list::{ForeignBlock, Tally};
 use run_log::ReplyLog;
-use shard_rings::{Ask, Lane, Link, Packet};
+use shard_rings::{Ask, Lane, Link, Packet, message_number};
 use trace_text::Trace;
 
 impl<'f, L: Link<'f> + Drop, G: Gate + Drop> Shard<'f, L, G> {
     /// Receives one packet of each peer that owes a reply, and none of whose replies waits to be released.
     pub(crate) fn take_replies(&mut self, seen: &mut Seen)
         requires consistent { IsConsistent self.old }
-        ensures step { IsStep (traffic_by L.sent L.received L.full L.empty) L.end self.old self.new }
-        ensures requests { ReceivesNone (traffic_by L.sent L.received L.full L.empty) Requests (node_state self.old) (node_state self.new) }
-        ensures one { ReceivesOne (traffic_by L.sent L.received L.full L.empty) Replies (node_state self.old) (node_state self.new) }
-        ensures goes { Goes (traffic_by L.sent L.received L.full L.empty) (node_state self.old) (node_state self.new) }
+
+        // At most one reply comes of each.
+        ensures step { IsStep L.traffic L.end self.old self.new }
+        ensures requests { ReceivesNone L.traffic Requests (node_state self.old) (node_state self.new) }
+        ensures one { ReceivesOne L.traffic Replies (node_state self.old) (node_state self.new) }
+        ensures goes { Goes L.traffic (node_state self.old) (node_state self.new) }
+
+        // What came, or why nothing did.
         ensures moved { IsTrue seen.new.moved ↔
-            (IsTrue seen.old.moved ⊎ (packets_of (traffic_by L.sent L.received L.full L.empty) (node_state self.old) < packets_of
-            (traffic_by L.sent L.received L.full L.empty) (node_state self.new))) }
-        ensures held_up { NonePassed (traffic_by L.sent L.received L.full L.empty) (node_state self.old) (node_state self.new)
-            → HeldUp (traffic_by L.sent L.received L.full L.empty) (λ k. ReplyLacks
-            (traffic_by L.sent L.received L.full L.empty)) (node_state self.old) (node_state self.new) }
-        ensures tells { InStanding (traffic_by L.sent L.received L.full L.empty) (node_state self.old)
-            → Tells (SetsOneAside (traffic_by L.sent L.received L.full L.empty) G.holds Replies (node_state self.old)
-            (node_state self.new)) seen.old.aside seen.new.aside }
+            (IsTrue seen.old.moved ⊎ (packets_of L.traffic (node_state self.old) < packets_of
+            L.traffic (node_state self.new))) }
+        ensures held_up { NonePassed L.traffic (node_state self.old) (node_state self.new)
+            → HeldUp L.traffic (λ k. ReplyLacks
+            L.traffic) (node_state self.old) (node_state self.new) }
+
+        // The first packet that was not expected.
+        ensures tells { InStanding L.traffic (node_state self.old)
+            → Tells (ReceivesOneStray L.traffic G.holds Replies (node_state self.old)
+            (node_state self.new)) seen.old.stray seen.new.stray }
     {
         let mut at = 0;
         while at < self.peers.len() {
@@ -56,23 +60,32 @@ impl<'f, L: Link<'f> + Drop, G: Gate + Drop> Shard<'f, L, G> {
     }
 
     fn take_reply(&mut self, at: usize) -> Tried
+        // A peer by its place.
         requires consistent { IsConsistent self.old }
         requires peer { at < length self.old.peers.items }
-        ensures step { IsStep (traffic_by L.sent L.received L.full L.empty) L.end self.old self.new }
-        ensures requests { ReceivesNone (traffic_by L.sent L.received L.full L.empty) Requests (node_state self.old) (node_state self.new) }
-        ensures one { ReceivesOne (traffic_by L.sent L.received L.full L.empty) Replies (node_state self.old) (node_state self.new) }
-        ensures goes { Goes (traffic_by L.sent L.received L.full L.empty) (node_state self.old) (node_state self.new) }
+
+        // At most one reply comes of it.
+        ensures step { IsStep L.traffic L.end self.old self.new }
+        ensures requests { ReceivesNone L.traffic Requests (node_state self.old) (node_state self.new) }
+        ensures one { ReceivesOne L.traffic Replies (node_state self.old) (node_state self.new) }
+        ensures goes { Goes L.traffic (node_state self.old) (node_state self.new) }
+
+        // What came, or why nothing did.
         ensures moved { IsTrue (has_come result) ↔
-            (packets_of (traffic_by L.sent L.received L.full L.empty) (node_state self.old) < packets_of
-            (traffic_by L.sent L.received L.full L.empty) (node_state self.new)) }
-        ensures held_up { NonePassed (traffic_by L.sent L.received L.full L.empty) (node_state self.old) (node_state self.new)
-            → HeldUp (traffic_by L.sent L.received L.full L.empty) (λ k a b. k ≡ at
-            → ReplyLacks (traffic_by L.sent L.received L.full L.empty) a b) (node_state self.old) (node_state self.new) }
+            (packets_of L.traffic (node_state self.old) < packets_of
+            L.traffic (node_state self.new)) }
+        ensures held_up { NonePassed L.traffic (node_state self.old) (node_state self.new)
+            → HeldUp L.traffic (λ k a b. k ≡ at
+            → ReplyLacks L.traffic a b) (node_state self.old) (node_state self.new) }
+
+        // Nothing happened to the other peers.
         ensures others { (k : ℕ) → k ≢ at → slice_get (node_state self.new).peers k ≡ slice_get (node_state self.old).peers k }
-        ensures tells { InStanding (traffic_by L.sent L.received L.full L.empty) (node_state self.old)
-            → TriedSays (SetsOneAside (traffic_by L.sent L.received L.full L.empty) G.holds Replies (node_state self.old)
-            (node_state self.new) at) result }
         ensures peers { length self.new.peers.items ≡ length self.old.peers.items }
+
+        // Whether the packet was expected.
+        ensures tells { InStanding L.traffic (node_state self.old)
+            → TriedSays (ReceivesOneStray L.traffic G.holds Replies (node_state self.old)
+            (node_state self.new) at) result }
     {
         let (trace, longest) = (self.trace, self.longest);
         let peer = &mut self.peers[at];
@@ -106,8 +119,7 @@ impl<'f, L: Link<'f> + Drop> Peer<'f, L> {
         requires open { (d : Operation) → next_answer self.old ≡ Some d
             → slice_get log.old.replies self.old.answers.part ≡ Some None }
         requires room { (d : Operation) → next_answer self.old ≡ Some d → most_of_body longest d ≤ log.old.room }
-        ensures { TriesReply
-            (traffic_by L.sent L.received L.full L.empty) L.end self.old self.new log.old log.new tally.old tally.new result }
+        ensures { TriesReply L.traffic L.end self.old self.new log.old log.new tally.old tally.new result }
     {
         match self.link.receive(Lane::Replies) {
             None => Tried::Nothing,
@@ -141,11 +153,11 @@ impl<'f, L: Drop> Peer<'f, L> {
     {
         let bytes = block.bytes();
         let Some(command) = self.answers.first() else {
-            return self.unexpected_reply(number_in(bytes));
+            return self.unexpected_reply(message_number(bytes));
         };
         let ask = Ask::of(trace, command);
         let Some(view) = expected_reply(bytes, &ask, longest) else {
-            return self.unexpected_reply(number_in(bytes));
+            return self.unexpected_reply(message_number(bytes));
         };
         log.record(self.answers.part(), view.kind, view.body);
         self.answers.pass();
@@ -165,7 +177,7 @@ impl<'f, L: Drop> Peer<'f, L> {
             Some(command) => command.number,
             None => 0,
         };
-        Tried::Other(Aside {
+        Tried::Other(StrayPacket {
             peer: self.shard,
             expected,
             found,

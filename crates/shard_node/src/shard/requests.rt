@@ -7,14 +7,13 @@ ghost use Rattle.shard_memory.specs.declared.share.Share.{Share as Shares};
 ghost use Rattle.shard_rings.specs.declared.link.Packet.TheVariants.{Block as InBlock, Bye};
 ghost use Rattle.reclaim.specs.Spaces.{IsUnguarded, SpaceState};
 ghost use Rattle.run_log.specs.JournalState.{JournalState};
-ghost use Rattle.shard_node.specs.declared.aside.Tried.{Tried as Tries};
-ghost use Rattle.shard_node.specs.Nodes.{traffic_by};
+ghost use Rattle.shard_node.specs.declared.stray_packet.Tried.{Tried as Tries};
 ghost use Rattle.std.specs.List.{slice_get};
 ghost use Rattle.shard_rings.specs.declared.link.Lane.{Lane as AnyLane};
 ghost use Rattle.shard_rings.specs.declared.link.Lane.TheVariants.{Replies, Requests};
 ghost use Rattle.shard_node.specs.Due.{number_said};
 ghost use Rattle.shard_node.specs.Standing.{InStanding};
-ghost use Rattle.shard_node.specs.inside.Moves.{packets_of, Goes, HeldUp, NonePassed, ReceivesNone, ReceivesOne, RequestLacks, SetsOneAside, Tells, TriedSays};
+ghost use Rattle.shard_node.specs.inside.Moves.{packets_of, Goes, HeldUp, NonePassed, ReceivesNone, ReceivesOne, RequestLacks, ReceivesOneStray, Tells, TriedSays};
 ghost use Rattle.shard_node.specs.inside.Seen.{has_come};
 ghost use Rattle.shard_node.specs.inside.Receives.{next_ask};
 ghost use Rattle.shard_node.specs.inside.Serves.{EndsRequest, MayAsk, TriesRequest, due_next};
@@ -22,12 +21,11 @@ ghost use Rattle.shard_node.specs.inside.Shards.{IsConsistent, node_state};
 ghost use Rattle.shard_node.specs.inside.Steps.{IsStep};
 
 use super::Shard;
-use crate::aside::{Aside, Tried};
 use crate::gate::Gate;
-use crate::number::number_in;
 use crate::peer::Peer;
 use crate::release::release;
 use crate::seen::Seen;
+use crate::stray_packet::{StrayPacket, Tried};
 use cache_model::{
     a_journal_goes_on, evictions_are_counted, evictions_in_turn_are_legal,
     replies_hold_what_was_put,
@@ -36,26 +34,32 @@ use foreign_list::{ForeignBlock, Tally};
 use reclaim::Space;
 use run_log::Journal;
 use shard_memory::Share;
-use shard_rings::{Ask, Lane, Link, Packet, is_request};
+use shard_rings::{Ask, Lane, Link, Packet, is_request, message_number};
 use trace_text::Trace;
 
 impl<'f, L: Link<'f> + Drop, G: Gate + Drop> Shard<'f, L, G> {
     /// Receives one packet of each peer that may ask, does what it asks, and sends the reply.
     pub(crate) fn serve(&mut self, seen: &mut Seen)
         requires consistent { IsConsistent self.old }
-        ensures step { IsStep (traffic_by L.sent L.received L.full L.empty) L.end self.old self.new }
-        ensures replies { ReceivesNone (traffic_by L.sent L.received L.full L.empty) Replies (node_state self.old) (node_state self.new) }
-        ensures one { ReceivesOne (traffic_by L.sent L.received L.full L.empty) Requests (node_state self.old) (node_state self.new) }
-        ensures goes { Goes (traffic_by L.sent L.received L.full L.empty) (node_state self.old) (node_state self.new) }
+
+        // At most one request comes of each.
+        ensures step { IsStep L.traffic L.end self.old self.new }
+        ensures replies { ReceivesNone L.traffic Replies (node_state self.old) (node_state self.new) }
+        ensures one { ReceivesOne L.traffic Requests (node_state self.old) (node_state self.new) }
+        ensures goes { Goes L.traffic (node_state self.old) (node_state self.new) }
+
+        // What came, or why nothing did.
         ensures moved { IsTrue seen.new.moved ↔
-            (IsTrue seen.old.moved ⊎ (packets_of (traffic_by L.sent L.received L.full L.empty) (node_state self.old) < packets_of
-            (traffic_by L.sent L.received L.full L.empty) (node_state self.new))) }
-        ensures held_up { NonePassed (traffic_by L.sent L.received L.full L.empty) (node_state self.old) (node_state self.new)
-            → HeldUp (traffic_by L.sent L.received L.full L.empty) (λ k. RequestLacks (traffic_by L.sent L.received L.full L.empty)
+            (IsTrue seen.old.moved ⊎ (packets_of L.traffic (node_state self.old) < packets_of
+            L.traffic (node_state self.new))) }
+        ensures held_up { NonePassed L.traffic (node_state self.old) (node_state self.new)
+            → HeldUp L.traffic (λ k. RequestLacks L.traffic
             (node_state self.old).space.lent) (node_state self.old) (node_state self.new) }
-        ensures tells { InStanding (traffic_by L.sent L.received L.full L.empty) (node_state self.old)
-            → Tells (SetsOneAside (traffic_by L.sent L.received L.full L.empty) G.holds Requests (node_state self.old)
-            (node_state self.new)) seen.old.aside seen.new.aside }
+
+        // The first packet that was not expected.
+        ensures tells { InStanding L.traffic (node_state self.old)
+            → Tells (ReceivesOneStray L.traffic G.holds Requests (node_state self.old)
+            (node_state self.new)) seen.old.stray seen.new.stray }
     {
         let mut at = 0;
         while at < self.peers.len() {
@@ -65,24 +69,33 @@ impl<'f, L: Link<'f> + Drop, G: Gate + Drop> Shard<'f, L, G> {
     }
 
     fn serve_peer(&mut self, at: usize) -> Tried
+        // A peer by its place.
         requires consistent { IsConsistent self.old }
         requires peer { at < length self.old.peers.items }
-        ensures step { IsStep (traffic_by L.sent L.received L.full L.empty) L.end self.old self.new }
-        ensures replies { ReceivesNone (traffic_by L.sent L.received L.full L.empty) Replies (node_state self.old) (node_state self.new) }
-        ensures one { ReceivesOne (traffic_by L.sent L.received L.full L.empty) Requests (node_state self.old) (node_state self.new) }
-        ensures goes { Goes (traffic_by L.sent L.received L.full L.empty) (node_state self.old) (node_state self.new) }
+
+        // At most one request comes of it.
+        ensures step { IsStep L.traffic L.end self.old self.new }
+        ensures replies { ReceivesNone L.traffic Replies (node_state self.old) (node_state self.new) }
+        ensures one { ReceivesOne L.traffic Requests (node_state self.old) (node_state self.new) }
+        ensures goes { Goes L.traffic (node_state self.old) (node_state self.new) }
+
+        // What came, or why nothing did.
         ensures moved { IsTrue (has_come result) ↔
-            (packets_of (traffic_by L.sent L.received L.full L.empty) (node_state self.old) < packets_of
-            (traffic_by L.sent L.received L.full L.empty) (node_state self.new)) }
-        ensures held_up { NonePassed (traffic_by L.sent L.received L.full L.empty) (node_state self.old) (node_state self.new)
-            → HeldUp (traffic_by L.sent L.received L.full L.empty) (λ k a b. k ≡ at
-            → RequestLacks (traffic_by L.sent L.received L.full L.empty)
+            (packets_of L.traffic (node_state self.old) < packets_of
+            L.traffic (node_state self.new)) }
+        ensures held_up { NonePassed L.traffic (node_state self.old) (node_state self.new)
+            → HeldUp L.traffic (λ k a b. k ≡ at
+            → RequestLacks L.traffic
             (node_state self.old).space.lent a b) (node_state self.old) (node_state self.new) }
+
+        // Nothing happened to the other peers.
         ensures others { (k : ℕ) → k ≢ at → slice_get (node_state self.new).peers k ≡ slice_get (node_state self.old).peers k }
-        ensures tells { InStanding (traffic_by L.sent L.received L.full L.empty) (node_state self.old)
-            → TriedSays (SetsOneAside (traffic_by L.sent L.received L.full L.empty) G.holds Requests (node_state self.old)
-            (node_state self.new) at) result }
         ensures peers { length self.new.peers.items ≡ length self.old.peers.items }
+
+        // Whether the packet was expected.
+        ensures tells { InStanding L.traffic (node_state self.old)
+            → TriedSays (ReceivesOneStray L.traffic G.holds Requests (node_state self.old)
+            (node_state self.new) at) result }
     {
         match self.take_request(at) {
             Tried::Expected => {
@@ -95,24 +108,33 @@ impl<'f, L: Link<'f> + Drop, G: Gate + Drop> Shard<'f, L, G> {
 
     /// Receives a packet of a peer, where it may ask and a ticket for its reply is idle, and does what it asks.
     fn take_request(&mut self, at: usize) -> Tried
+        // A peer by its place.
         requires consistent { IsConsistent self.old }
         requires peer { at < length self.old.peers.items }
-        ensures step { IsStep (traffic_by L.sent L.received L.full L.empty) L.end self.old self.new }
-        ensures replies { ReceivesNone (traffic_by L.sent L.received L.full L.empty) Replies (node_state self.old) (node_state self.new) }
-        ensures one { ReceivesOne (traffic_by L.sent L.received L.full L.empty) Requests (node_state self.old) (node_state self.new) }
-        ensures goes { Goes (traffic_by L.sent L.received L.full L.empty) (node_state self.old) (node_state self.new) }
+
+        // At most one request comes of it.
+        ensures step { IsStep L.traffic L.end self.old self.new }
+        ensures replies { ReceivesNone L.traffic Replies (node_state self.old) (node_state self.new) }
+        ensures one { ReceivesOne L.traffic Requests (node_state self.old) (node_state self.new) }
+        ensures goes { Goes L.traffic (node_state self.old) (node_state self.new) }
+
+        // What came, or why nothing did.
         ensures moved { IsTrue (has_come result) ↔
-            (packets_of (traffic_by L.sent L.received L.full L.empty) (node_state self.old) < packets_of
-            (traffic_by L.sent L.received L.full L.empty) (node_state self.new)) }
-        ensures held_up { NonePassed (traffic_by L.sent L.received L.full L.empty) (node_state self.old) (node_state self.new)
-            → HeldUp (traffic_by L.sent L.received L.full L.empty) (λ k a b. k ≡ at
-            → RequestLacks (traffic_by L.sent L.received L.full L.empty)
+            (packets_of L.traffic (node_state self.old) < packets_of
+            L.traffic (node_state self.new)) }
+        ensures held_up { NonePassed L.traffic (node_state self.old) (node_state self.new)
+            → HeldUp L.traffic (λ k a b. k ≡ at
+            → RequestLacks L.traffic
             (node_state self.old).space.lent a b) (node_state self.old) (node_state self.new) }
+
+        // Nothing happened to the other peers.
         ensures others { (k : ℕ) → k ≢ at → slice_get (node_state self.new).peers k ≡ slice_get (node_state self.old).peers k }
-        ensures tells { InStanding (traffic_by L.sent L.received L.full L.empty) (node_state self.old)
-            → TriedSays (SetsOneAside (traffic_by L.sent L.received L.full L.empty) G.holds Requests (node_state self.old)
-            (node_state self.new) at) result }
         ensures peers { length self.new.peers.items ≡ length self.old.peers.items }
+
+        // Whether the packet was expected.
+        ensures tells { InStanding L.traffic (node_state self.old)
+            → TriedSays (ReceivesOneStray L.traffic G.holds Requests (node_state self.old)
+            (node_state self.new) at) result }
     {
         if !self.space.is_idle(Share::Reply) || !self.peers[at].may_ask() {
             return Tried::Nothing;
@@ -134,10 +156,9 @@ impl<'f, L: Link<'f> + Drop, G: Gate + Drop> Shard<'f, L, G> {
     fn send_reply(&mut self, at: usize)
         requires consistent { IsConsistent self.old }
         requires peer { at < length self.old.peers.items }
-        ensures step { IsStep (traffic_by L.sent L.received L.full L.empty) L.end self.old self.new }
-        ensures received { (lane : AnyLane)
-            → ReceivesNone (traffic_by L.sent L.received L.full L.empty) lane (node_state self.old) (node_state self.new) }
-        ensures goes { Goes (traffic_by L.sent L.received L.full L.empty) (node_state self.old) (node_state self.new) }
+        ensures step { IsStep L.traffic L.end self.old self.new }
+        ensures received { (lane : AnyLane) → ReceivesNone L.traffic lane (node_state self.old) (node_state self.new) }
+        ensures goes { Goes L.traffic (node_state self.old) (node_state self.new) }
         ensures others { (k : ℕ) → k ≢ at → slice_get (node_state self.new).peers k ≡ slice_get (node_state self.old).peers k }
         ensures peers { length self.new.peers.items ≡ length self.old.peers.items }
     {
@@ -170,7 +191,7 @@ impl<'f, L: Link<'f> + Drop> Peer<'f, L> {
             → length space.old.rows < space.old.room }
         requires spare { (d : Operation) → next_ask self.old ≡ Some d → length space.old.rows + 1 ≤ journal.old.spare }
         ensures { TriesRequest
-            (traffic_by L.sent L.received L.full L.empty) L.end self.old self.new space.old space.new journal.old journal.new tally.old tally.new result }
+            L.traffic L.end self.old self.new space.old space.new journal.old journal.new tally.old tally.new result }
     {
         match self.link.receive(Lane::Requests) {
             None => Tried::Nothing,
@@ -216,11 +237,11 @@ impl<'f, L: Drop> Peer<'f, L> {
     {
         let bytes = block.bytes();
         let Some(command) = self.asks.first() else {
-            return self.unexpected_request(number_in(bytes));
+            return self.unexpected_request(message_number(bytes));
         };
         let ask = Ask::of(trace, command);
         if !is_request(&ask, bytes) {
-            return self.unexpected_request(number_in(bytes));
+            return self.unexpected_request(message_number(bytes));
         }
         self.reply = space.reply_block(&ask, journal).ok();
         self.asks.pass();
@@ -231,7 +252,7 @@ impl<'f, L: Drop> Peer<'f, L> {
     fn unexpected_request(&self, found: u32) -> Tried
         ensures { result ≡ Tries.Other (record { peer = self.now.shard; expected = number_said (due_next self.now); found = found }) }
     {
-        Tried::Other(Aside {
+        Tried::Other(StrayPacket {
             peer: self.shard,
             expected: self.asks.number(),
             found,

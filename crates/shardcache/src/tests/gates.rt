@@ -81,7 +81,9 @@ fn two_shards_meet_at_their_gates(rt: HostRuntime) -> Result<(), Fail> {
         &door,
     )?;
     let report =
-        b"1 stored\n2 stored\njournal 0 1\njournal 1 2\nshard 0 rows 1 live 48 lent 0 back 0\nshard 1 rows 1 live 48 lent 0 back 0\n".as_slice();
+        b"1 stored\n2 stored\njournal 0 1\njournal 1 2\nshard 0 rows 1 live 48 lent 0 back 0\n\
+        shard 1 rows 1 live 48 lent 0 back 0\n"
+            .as_slice();
     assert!(rt; status == Status::Done && text.as_slice() == report);
     let asked = (
         meeting.first.load(Ordering::SeqCst),

@@ -101,11 +101,14 @@ fn two_shards_are_reported_and_summed_up(rt: HostRuntime) -> Result<(), Fail> {
     for (form, text) in [
         (
             Form::Report,
-            "1 stored\n2 missing\n3 stored\n4 missing\n5 stored\n6 missing\n7 keys a b c\njournal 0 1 5 7\njournal 1 2 4 3 6 7\nshard 0 rows 2 live 96 lent 2 back 2\nshard 1 rows 1 live 48 lent 2 back 2\n",
+            "1 stored\n2 missing\n3 stored\n4 missing\n5 stored\n6 missing\n7 keys a b c\n\
+            journal 0 1 5 7\njournal 1 2 4 3 6 7\nshard 0 rows 2 live 96 lent 2 back 2\n\
+            shard 1 rows 1 live 48 lent 2 back 2\n",
         ),
         (
             Form::Summary,
-            "commands 7\nstored 3 replaced 0 values 0 missing 3 erased 0 scans 1\nevictions 0\nshard 0 rows 2 live 96 lent 2 back 2\nshard 1 rows 1 live 48 lent 2 back 2\n",
+            "commands 7\nstored 3 replaced 0 values 0 missing 3 erased 0 scans 1\nevictions 0\n\
+            shard 0 rows 2 live 96 lent 2 back 2\nshard 1 rows 1 live 48 lent 2 back 2\n",
         ),
     ] {
         let is_written = writes_of_two(&rt, rt.alloc(), form, text)?;

@@ -1,5 +1,6 @@
 use Rattle.std.proofs.Common.{◌≡◌, ℕ, suc, List, [], ◌∷◌, Some, None, slice_get, sym, subst}
 use mathlib.Core.Logic.{dite}
+use Rattle.layout.specs.Sizes as sizes
 use native.Mathlib.Decide.{ℕ_discrete}
 use Rattle.atomic_table.specs.Table.{stepped, keeps, takes, gives}
 use Rattle.foreign_core.specs.Tickets.{step}
@@ -23,10 +24,10 @@ use Rattle.foreign_list.proofs.law.law_of_the_list.Goals as goal
 
 -- the chain from the head, as the words give it
 on_list : (s : Table) (k : IsConsistent s) → listed_in s ≡ k.listed
-on_list s k = chain_is 32 s.words (word_at s.words 0) k.listed (list_short k.ledger k.listed s.views k.places.once) k.places.on_list
+on_list s k = chain_is sizes.tickets s.words (word_at s.words 0) k.listed (list_short k.ledger k.listed s.views k.places.once) k.places.on_list
 
-on_walk : (s : Table) (k : IsConsistent s) → chain 32 s.words (link_to k.ledger.walk) ≡ k.ledger.walk
-on_walk s k = chain_is 32 s.words (link_to k.ledger.walk) k.ledger.walk (walk_short k.ledger k.listed s.views k.places.once) k.places.on_walk
+on_walk : (s : Table) (k : IsConsistent s) → chain sizes.tickets s.words (link_to k.ledger.walk) ≡ k.ledger.walk
+on_walk s k = chain_is sizes.tickets s.words (link_to k.ledger.walk) k.ledger.walk (walk_short k.ledger k.listed s.views k.places.once) k.places.on_walk
 
 one_pass : (s : Table) (k : IsConsistent s) (i j : ℕ) (e f : Holder) → laws.Has s i (Pass e) → laws.Has s j (Pass f) → e.ticket ≡ f.ticket → i ≡ j
 one_pass s k i j e f at_e at_f same = dite (ℕ_discrete i j) (λ here. here)
@@ -72,7 +73,7 @@ returns c = record {
       counted = k.history.counted;
       one_pass = λ i j e f at_e at_f same. one_pass s k i j e f at_e at_f same;
       is_lent = λ id e at. (k.places.each_view id (Pass e) at).recorded;
-      one_state = c.law_of_histories.ensures.one_state 32 k.history.events k.history.tickets k.history.ran;
+      one_state = c.law_of_histories.ensures.one_state sizes.tickets k.history.events k.history.tickets k.history.ran;
     },
   );
   events = each_step;

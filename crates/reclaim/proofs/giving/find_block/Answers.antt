@@ -12,15 +12,15 @@ use Rattle.reclaim.proofs.Homecoming.{after-home, some-map, if-none, none-known,
 use Rattle.reclaim.proofs.Pressure.{floor-kept}
 use Rattle.reclaim.proofs.giving.find_block.Goals as goal
 
-pub find_room_for-found-requires-in-loop-share-clause-consistent : goal.find_room_for-found-requires-in-loop-share-clause-consistent
-find_room_for-found-requires-in-loop-share-clause-consistent c =
+pub give_unevicted-found-requires-in-loop-share-clause-consistent : goal.give_unevicted-found-requires-in-loop-share-clause-consistent
+give_unevicted-found-requires-in-loop-share-clause-consistent c =
     let l = c.loop-share in let i = l.invariant in let m = i.consistent.made in let region = l.cache.region in
     c.evict.ensures.consistent l.memory.owner l.memory.pages 0 l.memory
     (subst (λ (k : ℕ). IsConsistent l.memory.owner k 0 l.memory region) (sym m.size) (subst (λ (k : ℕ). IsConsistent k c.args.memory.now.pages 0 l.memory region) (sym m.owner) i.consistent))
 
 pub loop-share-preserved : goal.loop-share-preserved
 loop-share-preserved c =
-    let l = c.loop-share in let i = l.invariant in let e = c.evict.ensures in let one = e.evicted in let found = c.find_room_for-found-in-loop-share in
+    let l = c.loop-share in let i = l.invariant in let e = c.evict.ensures in let one = e.evicted in let found = c.give_unevicted-found-in-loop-share in
     let share = c.args.share in let size = c.args.size in let old = c.args.memory.now in let mid = l.memory in let new = found.new.memory in
     let none = c.is_none.ensures ∙ ap not c.loop-share-test.true in
     let takes : TakesHome old mid = none-known (TakesHome old mid) l.found none i.taken in

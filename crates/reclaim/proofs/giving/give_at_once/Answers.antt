@@ -1,5 +1,5 @@
 use Rattle.std.proofs.Common.{ap}
-use Rattle.shard_memory.specs.Shards.{Shard}
+use Rattle.shard_memory.specs.Shards.{MemoryState}
 use Rattle.reclaim.proofs.Holding.{consistent-same}
 use Rattle.reclaim.proofs.Homecoming.{takes-none}
 use Rattle.reclaim.proofs.giving.give_at_once.Goals as goal
@@ -11,14 +11,15 @@ returns-clause-given c =
       before = c.args.memory.now;
       came = takes-none c.args.memory.now c.facts.ensures.backs;
       gives = record {
-        owner = ap (λ (s : Shard). s.owner) e.same;
-        pages = ap (λ (s : Shard). s.pages) e.same;
-        list = ap (λ (s : Shard). s.list) e.same;
+        owner = ap (λ (s : MemoryState). s.owner) e.same;
+        pages = ap (λ (s : MemoryState). s.pages) e.same;
+        list = ap (λ (s : MemoryState). s.list) e.same;
         of_share = e.ticket.of_share;
         idle = e.ticket.idle;
         lent = e.lent;
         lends = e.lends;
-        backs = ap (λ (s : Shard). s.backs) e.same;
+        backs = ap (λ (s : MemoryState). s.backs) e.same;
+        looks = ap (λ (s : MemoryState). s.take_wholes) e.same;
         of_list = e.fresh.list_is;
         mine = e.mine.1;
         fresh = e.fresh.none_seen;
@@ -29,4 +30,4 @@ returns-clause-given c =
 pub returns-clause-consistent : goal.returns-clause-consistent
 returns-clause-consistent c shard pages standing region h =
     let same = c.in_ok-block.ensures.same in
-    consistent-same shard pages standing c.args.memory.now c.give.new.self region (ap (λ (s : Shard). s.home) same) (ap (λ (s : Shard). s.owner) same) (ap (λ (s : Shard). s.pages) same) (ap (λ (s : Shard). s.blocks) same) (ap (λ (s : Shard). s.segments) same) h
+    consistent-same shard pages standing c.args.memory.now c.give.new.self region (ap (λ (s : MemoryState). s.home) same) (ap (λ (s : MemoryState). s.owner) same) (ap (λ (s : MemoryState). s.pages) same) (ap (λ (s : MemoryState). s.blocks) same) (ap (λ (s : MemoryState). s.segments) same) h

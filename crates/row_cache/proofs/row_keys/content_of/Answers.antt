@@ -10,7 +10,7 @@ pub returns : goal.returns
 returns c =
     let r = c.args.region.now in let places = c.args.places.now in let n = c.args.number in let h = c.requires in let bytes = c.bytes.result.now in
     let same : bytes ≡ h.item.content = row_content r places n h bytes
-    (subst (λ p. option_map (λ (s : Standing). s.item.content) (standing_at r p) ≡ Some bytes) (get_or_from_slice_get places n h.place (record { segment = 0; at = 0 }) h.placed) c.bytes.ensures) in
+    (subst (λ p. option_map (λ (s : Standing). s.item.content) (standing_at r p) ≡ Some bytes) (get_or_from_slice_get places n h.place (record { segment = 0; at = 0 }) h.placed) c.bytes.ensures.content) in
     record {
       row = subst (λ b. IsRow b) (sym same) (n, h.row, h.is_row.holds);
       read = ap row_in same ∙ (h.is_row.read ∙ sym (row_is (live_at r) places n h));

@@ -2,7 +2,7 @@ use Rattle.std.proofs.Common.{◌≡◌, ◌<◌, ◌^◌, length, ap, subst, sy
 use Rattle.cache_model.specs.Apply.{Reply}
 use Rattle.cache_model.specs.Fits.{Fits}
 use Rattle.shard_rings.specs.Ask.{asked}
-use Rattle.shard_node.proofs.BodyLengths.{sendable_short}
+use Rattle.shard_node.proofs.Replies.BodyLengths.{sendable_short}
 use Rattle.shard_node.proofs.expected.expected_reply.Goals as goal
 
 pub fits-requires-clause-short : goal.fits-requires-clause-short

@@ -1,6 +1,6 @@
 use Rattle.trace_text.specs.Parsed.{trace_in}
-use Rattle.shard_node.proofs.Places.{numbered}
-use Rattle.shard_node.proofs.Together.{agree}
+use Rattle.shard_node.proofs.Cursors.Places.{numbered}
+use Rattle.shard_node.proofs.Together.AllDone.{agree}
 use Rattle.shard_node.proofs.law.done_nodes_agree.Goals as goal
 
 pub returns : goal.returns

@@ -1,6 +1,6 @@
 use Rattle.std.proofs.Common.{◌≡◌, true, false, ◌%◌, sym, ap, ◌∙◌}
-use Rattle.shard_node.proofs.OwnNext.{part-next, scan-of}
-use Rattle.shard_node.proofs.Places.{no_command, round}
+use Rattle.shard_node.proofs.OwnParts.OwnNext.{part-next, scan-of}
+use Rattle.shard_node.proofs.Cursors.Places.{no_command, round}
 use Rattle.shard_node.proofs.own.part_after.Goals as goal
 use Rattle.shard_node.proofs.own.part_after.Goals.{else-is_scan-via-then-is_scan+else-part-shards, else-is_scan-via-else-is_scan}
 

@@ -1,5 +1,5 @@
 -- The keys are copied into the log.
-use Rattle.shard_node.proofs.QuietParts.{is_scan, quiet_does, same_but_rows}
+use Rattle.shard_node.proofs.OwnParts.QuietParts.{is_scan, quiet_does, same_but_rows}
 use Rattle.shard_node.proofs.parts.do_scan.Goals as goal
 
 pub returns : goal.returns

@@ -1,7 +1,7 @@
 use Rattle.std.proofs.Common.{◌<◌, length, arith, true≢false, sym}
 use Rattle.shard_node.specs.inside.Peers.{TriesHeld}
-use Rattle.shard_node.proofs.Each.{fewer_by_all, once_begins, once_next, release_next}
-use Rattle.shard_node.proofs.Frees.{or_falls}
+use Rattle.shard_node.proofs.Turning.Each.{fewer_by_all, once_begins, once_next, release_next}
+use Rattle.shard_node.proofs.Turning.Frees.{or_falls}
 use Rattle.shard_node.proofs.peer_steps.release_all.Goals as goal
 
 pub loop-peer-init : goal.loop-peer-init

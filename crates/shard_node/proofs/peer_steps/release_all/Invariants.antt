@@ -1,7 +1,7 @@
 use Rattle.std.proofs.Common.{◌<◌, ◌↔◌, IsTrue}
 use Rattle.shard_node.specs.inside.Peers.{held_by_all, TriesHeld}
 use Rattle.shard_node.specs.inside.Releases.{Releases}
-use Rattle.shard_node.proofs.Each.{ChangesOnce}
+use Rattle.shard_node.proofs.Turning.Each.{ChangesOnce}
 use Rattle.shard_node.proofs.peer_steps.release_all.Given as goal
 
 abbrev pub invariant-loop-peer : goal.invariant-loop-peer

@@ -1,7 +1,6 @@
 use Rattle.std.proofs.Common.{◌<◌, length, arith, true≢false, sym}
-use Rattle.shard_node.specs.Nodes.{traffic_by}
-use Rattle.shard_node.proofs.Each.{once_begins, once_next, sent_next}
-use Rattle.shard_node.proofs.PeerGoes.{bye_goes}
+use Rattle.shard_node.proofs.Turning.Each.{once_begins, once_next, sent_next}
+use Rattle.shard_node.proofs.Turning.PeerGoes.{bye_goes}
 use Rattle.shard_node.proofs.peer_steps.say_byes.Goals as goal
 
 pub loop-peer-init : goal.loop-peer-init
@@ -13,7 +12,7 @@ loop-peer-init g c = record {
 
 pub loop-peer-preserved : goal.loop-peer-preserved
 loop-peer-preserved g c =
-    let traffic = traffic_by g.L.Link.sent g.L.Link.received g.L.Link.full g.L.Link.empty in
+    let traffic = g.L.Link.traffic in
     let test = c.loop-peer-test.true in
     let same = c.loop-peer.auto.peers in
     let within : c.loop-peer.peer-index < length c.loop-peer.peers = omega (arith, test, same) in

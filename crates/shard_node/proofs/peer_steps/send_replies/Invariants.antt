@@ -1,13 +1,12 @@
 use Rattle.std.proofs.Common.{◌<◌, ◌≤◌, ◌↔◌, IsTrue}
-use Rattle.shard_node.specs.Nodes.{traffic_by}
 use Rattle.shard_node.specs.inside.Moves.{packets_by_all}
 use Rattle.shard_node.specs.inside.Peers.{SendsReply}
-use Rattle.shard_node.proofs.Each.{ChangesOnce}
+use Rattle.shard_node.proofs.Turning.Each.{ChangesOnce}
 use Rattle.shard_node.proofs.peer_steps.send_replies.Given as goal
 
 abbrev pub invariant-loop-peer : goal.invariant-loop-peer
 invariant-loop-peer g l = record {
-  each : ChangesOnce (SendsReply (traffic_by g.L.Link.sent g.L.Link.received g.L.Link.full g.L.Link.empty) g.L.Link.end) l.initial.peers l.peers l.peer-index;
-  sent : IsTrue l.moved ↔ (packets_by_all (traffic_by g.L.Link.sent g.L.Link.received g.L.Link.full g.L.Link.empty) l.initial.peers < packets_by_all (traffic_by g.L.Link.sent g.L.Link.received g.L.Link.full g.L.Link.empty) l.peers);
-  low : packets_by_all (traffic_by g.L.Link.sent g.L.Link.received g.L.Link.full g.L.Link.empty) l.initial.peers ≤ packets_by_all (traffic_by g.L.Link.sent g.L.Link.received g.L.Link.full g.L.Link.empty) l.peers;
+  each : ChangesOnce (SendsReply g.L.Link.traffic g.L.Link.end) l.initial.peers l.peers l.peer-index;
+  sent : IsTrue l.moved ↔ (packets_by_all g.L.Link.traffic l.initial.peers < packets_by_all g.L.Link.traffic l.peers);
+  low : packets_by_all g.L.Link.traffic l.initial.peers ≤ packets_by_all g.L.Link.traffic l.peers;
 }

@@ -1,5 +1,5 @@
 use Rattle.std.proofs.Common.{arith}
-use Rattle.shard_node.proofs.PartsBefore.{few-before, next-of-it, none-first}
+use Rattle.shard_node.proofs.OwnParts.PartsBefore.{few-before, next-of-it, none-first}
 use Rattle.shard_node.proofs.place.shards_take_turns.Goals as goal
 
 pub returns-clause-first : goal.returns-clause-first

@@ -3,8 +3,8 @@ use Rattle.std.proofs.lemmas.List.{get_or_default}
 use Rattle.trace_text.specs.Parsed.{trace_in}
 use Rattle.cache_model.specs.OwnParts.{parts_before}
 use Rattle.shard_node.specs.inside.Rest.{left_from}
-use Rattle.shard_node.proofs.PartsBefore.{parts-behind}
-use Rattle.shard_node.proofs.Places.{from-places, next-round, no_command, round}
+use Rattle.shard_node.proofs.OwnParts.PartsBefore.{parts-behind}
+use Rattle.shard_node.proofs.Cursors.Places.{from-places, next-round, no_command, round}
 use Rattle.shard_node.proofs.rest.find.Goals as goal
 
 pub has_part-requires-clause-of_trace : goal.has_part-requires-clause-of_trace

@@ -7,10 +7,11 @@ use Rattle.std.proofs.lemmas.List.Elements.{All-cons, All-head, All-nil, All-rep
 use Rattle.cache_model.specs.declared.entry.Entry.TheVariants.{Done}
 use Rattle.cache_model.specs.Apply.{Stored}
 use Rattle.foreign_list.specs.Blocks.{Block}
+use Rattle.shard_rings.specs.Lanes.{Traffic}
 use Rattle.reclaim.specs.Spaces.{SpaceState}
 use Rattle.shard_rings.specs.Reply.{HoldsReply}
 use Rattle.shard_rings.specs.declared.link.Packet.TheVariants.{Bye}
-use Rattle.shard_node.specs.Nodes.{NodeState, Traffic}
+use Rattle.shard_node.specs.Nodes.{NodeState}
 use Rattle.shard_node_tests.specs.Examples.{at_owner, packet, put_reply, put_request, of_number_3}
 use Rattle.shard_node.specs.Standing.{InStanding, AsksInOrder, ServesInOrder, RepliesInOrder, LogsWhatCame, SendsEachRequest, SendsEachReply, KnowsItsPlace}
 use Rattle.shard_node.specs.Turns.{HasParted, IsDone}

@@ -5,15 +5,15 @@ use Rattle.std.proofs.lemmas.List.Elements.{All-head}
 use Rattle.foreign_list.specs.Blocks.{Block}
 use Rattle.reclaim.specs.Spaces.{SpaceState}
 use Rattle.shard_rings.specs.declared.link.Packet.{Packet}
-use Rattle.shard_rings.specs.Lanes.{each_lane, on}
+use Rattle.shard_rings.specs.Lanes.{each_lane, on, Traffic}
 use Rattle.shard_rings.specs.declared.link.Lane.{Lane}
 use Rattle.shard_rings.specs.declared.link.Lane.TheVariants.{Requests, Replies}
-use Rattle.shard_node.specs.Nodes.{NodeState, PeerState, Traffic}
+use Rattle.shard_node.specs.Nodes.{NodeState, PeerState}
 use Rattle.cache_model.specs.Examples.{put_b}
 use Rattle.shard_node_tests.specs.Examples.{at_start, packet, put_request, of_number_3, to_the_owner}
-use Rattle.shard_node.specs.declared.aside.Aside.{Aside}
+use Rattle.shard_node.specs.declared.stray_packet.StrayPacket.{StrayPacket}
 use Rattle.shard_node.specs.Due.{is_next, number_in}
-use Rattle.shard_node.specs.Turns.{IsAside, HasAside, HasNone, HasParted, IsDone, IsFirstAside}
+use Rattle.shard_node.specs.Turns.{IsStray, HasStray, HasNone, HasParted, IsDone, IsFirstStray}
 use Rattle.shard_node_tests.proofs.examples.stray.Goals as goal
 
 abbrev link_is : Traffic → Traffic
@@ -49,49 +49,49 @@ head-is x [] y behind e = (refl, cc)
 head-is x (z ∷ zs) y behind e = absurd (not-longer zs y behind (cc))
 
 -- what is told of a packet of the first peer
-record Told (lane : Lane) (node : NodeState Traffic (Unit {0})) (m : ℕ) (aside : Aside) (a b : PeerState Traffic) : Type 0 where
+record Told (lane : Lane) (node : NodeState Traffic (Unit {0})) (m : ℕ) (stray : StrayPacket) (a b : PeerState Traffic) : Type 0 where
   before : List Packet
   behind : List Packet
   packet : Packet
   many : length before ≡ m
   came : on lane b.link.received ≡ on lane a.link.received ++ before ++ packet ∷ behind
-  is : IsAside link_is holds lane node a.shard (on lane a.link.received ++ before) packet aside
+  is : IsStray link_is holds lane node a.shard (on lane a.link.received ++ before) packet stray
 
-at-first : (lane : Lane) (space : SpaceState) (before after : List Packet) (m : ℕ) (aside : Aside)
-    → HasAside link_is holds lane (at_start space before) (at_start space after) 0 m aside
-    → Told lane (at_start space before) m aside (peer_with before) (peer_with after)
-at-first lane space before after m aside has =
-    subst (λ b. Told lane (at_start space before) m aside (peer_with before) b) (some-is _ _ has.6)
-    (subst (λ a. Told lane (at_start space before) m aside a has.1) (some-is _ _ has.5)
+at-first : (lane : Lane) (space : SpaceState) (before after : List Packet) (m : ℕ) (stray : StrayPacket)
+    → HasStray link_is holds lane (at_start space before) (at_start space after) 0 m stray
+    → Told lane (at_start space before) m stray (peer_with before) (peer_with after)
+at-first lane space before after m stray has =
+    subst (λ b. Told lane (at_start space before) m stray (peer_with before) b) (some-is _ _ has.6)
+    (subst (λ a. Told lane (at_start space before) m stray a has.1) (some-is _ _ has.5)
     (record { before = has.2; behind = has.3; packet = has.4; many = has.7; came = has.8; is = has.9 }))
 
 -- nothing came on the lane of replies
 quiet : (space : SpaceState) (before after : List Packet) (j i : ℕ) → HasNone link_is holds Replies (at_start space before) (at_start space after) j i
-quiet space before after zero i aside has = let told = at-first Replies space before after i aside has in not-longer told.before told.packet told.behind told.came
-quiet space before after (suc j) i aside has = none-is has.0 has.5
+quiet space before after zero i stray has = let told = at-first Replies space before after i stray has in not-longer told.before told.packet told.behind told.came
+quiet space before after (suc j) i stray has = none-is has.0 has.5
 
 -- what came on that of requests
-came : (space : SpaceState) (after : Packet) (j i : ℕ) (aside : Aside) → HasAside link_is holds Requests (at_start space []) (at_start space (after ∷ [])) j i aside
-    → (is_next to_the_owner 0 after ≡ false) × (aside ≡ record { peer = 0; expected = 1; found = number_in after })
-came space after zero i aside has =
-    let told = at-first Requests space [] (after ∷ []) i aside has in
+came : (space : SpaceState) (after : Packet) (j i : ℕ) (stray : StrayPacket) → HasStray link_is holds Requests (at_start space []) (at_start space (after ∷ [])) j i stray
+    → (is_next to_the_owner 0 after ≡ false) × (stray ≡ record { peer = 0; expected = 1; found = number_in after })
+came space after zero i stray has =
+    let told = at-first Requests space [] (after ∷ []) i stray has in
     let same = head-is after told.before told.packet told.behind told.came in
-    let is : IsAside link_is holds Requests (at_start space []) 0 [] after aside =
-    (subst (λ p. IsAside link_is holds Requests (at_start space []) 0 [] p aside) same.1
-    (subst (λ (ps : List Packet). IsAside link_is holds Requests (at_start space []) 0 ps told.packet aside) same.0 told.is)) in
+    let is : IsStray link_is holds Requests (at_start space []) 0 [] after stray =
+    (subst (λ p. IsStray link_is holds Requests (at_start space []) 0 [] p stray) same.1
+    (subst (λ (ps : List Packet). IsStray link_is holds Requests (at_start space []) 0 ps told.packet stray) same.0 told.is)) in
     is
-came space after (suc j) i aside has = absurd (none-is has.0 has.5)
+came space after (suc j) i stray has = absurd (none-is has.0 has.5)
 
-silent : (space : SpaceState) (j i : ℕ) (aside : Aside) → HasAside link_is holds Requests (at_start space []) (at_start space []) j i aside → ⊥
-silent space zero i aside has = let told = at-first Requests space [] [] i aside has in not-longer told.before told.packet told.behind told.came
-silent space (suc j) i aside has = none-is has.0 has.5
+silent : (space : SpaceState) (j i : ℕ) (stray : StrayPacket) → HasStray link_is holds Requests (at_start space []) (at_start space []) j i stray → ⊥
+silent space zero i stray has = let told = at-first Requests space [] [] i stray has in not-longer told.before told.packet told.behind told.came
+silent space (suc j) i stray has = none-is has.0 has.5
 
-stray : (block : Block) (space : SpaceState) → HasAside link_is holds Requests (at_start space []) (at_start space (packet block of_number_3 ∷ [])) 0 0 (record { peer = 0; expected = 1; found = 3 })
+stray : (block : Block) (space : SpaceState) → HasStray link_is holds Requests (at_start space []) (at_start space (packet block of_number_3 ∷ [])) 0 0 (record { peer = 0; expected = 1; found = 3 })
 stray block space = (peer_with [], peer_with (packet block of_number_3 ∷ []), [], [], packet block of_number_3, refl, refl, refl, refl, (refl, refl))
 
 -- behind the request that is expected
 hidden : (block : Block) (space : SpaceState)
-    → HasAside link_is holds Requests (at_start space []) (at_start space (packet block put_request ∷ packet block of_number_3 ∷ [])) 0 1 (record { peer = 0; expected = 0; found = 3 })
+    → HasStray link_is holds Requests (at_start space []) (at_start space (packet block put_request ∷ packet block of_number_3 ∷ [])) 0 1 (record { peer = 0; expected = 0; found = 3 })
 hidden block space = (
   peer_with [],
   peer_with (packet block put_request ∷ packet block of_number_3 ∷ []),
@@ -107,17 +107,17 @@ hidden block space = (
 
 first-taken : (block : Block) (space : SpaceState) (j i : ℕ) → (j < 0) ⊎ ((j ≡ 0) × (i < 1))
     → HasNone link_is holds Requests (at_start space []) (at_start space (packet block put_request ∷ packet block of_number_3 ∷ [])) j i
-first-taken block space zero i before aside has =
+first-taken block space zero i before stray has =
     let both = packet block put_request ∷ packet block of_number_3 ∷ [] in
-    let told = at-first Requests space [] both i aside has in
+    let told = at-first Requests space [] both i stray has in
     let none : told.before ≡ [] = nil_from_length told.before (let many = told.many in elim before [ inl less ↦ absurd (omega (arith, less)) | inr one ↦ omega (arith, one, many) ]) in
     let here : both ≡ told.packet ∷ told.behind = told.came ∙ ap (λ (ps : List Packet). ps ++ told.packet ∷ told.behind) none in
     let same : told.packet ≡ packet block put_request = cc in
-    let is : IsAside link_is holds Requests (at_start space []) 0 [] (packet block put_request) aside =
-    (subst (λ p. IsAside link_is holds Requests (at_start space []) 0 [] p aside) same
-    (subst (λ (ps : List Packet). IsAside link_is holds Requests (at_start space []) 0 ps told.packet aside) none told.is)) in
+    let is : IsStray link_is holds Requests (at_start space []) 0 [] (packet block put_request) stray =
+    (subst (λ p. IsStray link_is holds Requests (at_start space []) 0 [] p stray) same
+    (subst (λ (ps : List Packet). IsStray link_is holds Requests (at_start space []) 0 ps told.packet stray) none told.is)) in
     true-false is.0
-first-taken block space (suc j) i before aside has = none-is has.0 has.5
+first-taken block space (suc j) i before stray has = none-is has.0 has.5
 
 nothing-said : ◌≡◌ {A = List (Option (List ℕ))} [] (None ∷ []) → ⊥
 nothing-said e = cc
@@ -125,8 +125,8 @@ nothing-said e = cc
 not-done : (space : SpaceState) (after : List Packet) → IsDone link_is holds (at_start space after) → ⊥
 not-done space after done = let heard = (All-head (HasParted link_is holds (at_start space after)) (peer_with after) [] done.parted).told in nothing-said heard
 
-two-three : (x : Aside) → x ≡ record { peer = 0; expected = 1; found = 3 } → x ≡ record { peer = 0; expected = 1; found = 2 } → ⊥
-two-three x e f = let n : 3 ≡ 2 = ap (λ (a : Aside). a.found) (sym e ∙ f) in omega (arith, n)
+two-three : (x : StrayPacket) → x ≡ record { peer = 0; expected = 1; found = 3 } → x ≡ record { peer = 0; expected = 1; found = 2 } → ⊥
+two-three x e f = let n : 3 ≡ 2 = ap (λ (a : StrayPacket). a.found) (sym e ∙ f) in omega (arith, n)
 
 pub returns : goal.returns
 returns c block space = record {

@@ -9,11 +9,11 @@ use Rattle.cache_model.specs.Apply.{Stored}
 use Rattle.cache_model.specs.Examples.{put_b}
 use Rattle.foreign_list.specs.Blocks.{Block}
 use Rattle.reclaim.specs.Spaces.{SpaceState}
-use Rattle.shard_rings.specs.Lanes.{ArePrefixes}
+use Rattle.shard_rings.specs.Lanes.{ArePrefixes, Traffic}
 use Rattle.shard_rings.specs.Reply.{HoldsReply}
 use Rattle.shard_rings.specs.declared.link.Packet.{Packet}
 use Rattle.shard_rings.specs.declared.link.Packet.TheVariants.{Bye}
-use Rattle.shard_node.specs.Nodes.{NodeState, PeerState, Traffic}
+use Rattle.shard_node.specs.Nodes.{NodeState, PeerState}
 use Rattle.shard_node_tests.specs.Examples.{at_owner, packet, put_reply, put_request}
 use Rattle.shard_node.specs.Standing.{InStanding, AsksInOrder, ServesInOrder, RepliesInOrder, LogsWhatCame, SendsEachRequest, SendsEachReply, KnowsItsPlace}
 use Rattle.shard_node.specs.Together.{IsDoneNode, IsPeer}

@@ -3,7 +3,7 @@ use Rattle.std.proofs.lemmas.List.{length-map}
 use Rattle.trace_text.specs.Operation.{operation}
 use Rattle.trace_text.specs.Parsed.{trace_in}
 use Rattle.trace_text.specs.Reading.{most_commands}
-use Rattle.shard_node.specs.Links.{ring_traffic}
+use Rattle.shard_rings.specs.Links.{traffic_of}
 use Rattle.shard_node.specs.Rans.{IsOfRun}
 use Rattle.shard_run.specs.Remaining.{AllCanFinish, IsRoomFor}
 use Rattle.shard_run.proofs.Driven.{as_many, can_finish, paired, seats_back, together}
@@ -38,7 +38,7 @@ returns-clause-run g c =
     let left = c.finish_nodes-ran.ensures.left in
     let nodes = c.args.nodes.items in
     let met = together g.G.Gate.holds (trace_in trace) trace.shards pages homes nodes driven.1 c.finish_nodes-ran.result.links.items left.links c.finish_nodes-ran.ensures.facts c.close_links.ensures in
-    let agree = c.done_nodes_agree.ensures ring_traffic g.G.Gate.holds trace trace.shards pages nodes c.facts_of.ensures.numbered c.facts_of.ensures.some_shards met in
+    let agree = c.done_nodes_agree.ensures traffic_of g.G.Gate.holds trace trace.shards pages nodes c.facts_of.ensures.numbered c.facts_of.ensures.some_shards met in
     let of_run = subst (λ t. IsOfRun t (length nodes) pages c.finish_nodes-ran.result.ran) c.requires.room.run.of_trace c.finish_nodes-ran.ensures.run in
     let short = subst (λ k. k ≤ most_commands) (sym (length-map trace.commands (operation trace.bytes))) c.facts_of.ensures.few in
     is_run g.G.Gate.holds (trace_in trace) trace.shards pages homes nodes driven.1 c.finish_nodes-ran.result left of_run agree c.facts_of.ensures.most_shards short

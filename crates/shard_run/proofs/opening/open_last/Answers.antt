@@ -1,8 +1,8 @@
 use Rattle.std.proofs.Common.{◌≡◌, ◌∷◌, [], ◌++◌, Some, slice_get, refl, sym, ap, subst, ◌∙◌, arith, length, length-append, get_or}
 use Rattle.std.specs.Option.{option_to_list}
-use Rattle.std.proofs.lemmas.Option.{slice_get-get_or}
+use Rattle.std.proofs.lemmas.Option.{slice_get-get_or, same_Some}
 use Rattle.shard_node.specs.Nodes.{others}
-use Rattle.shard_run.proofs.Getting.{inserted, same_thing}
+use Rattle.shard_run.proofs.Getting.{inserted}
 use Rattle.shard_run.proofs.Openings.{last_seat}
 use Rattle.shard_run.proofs.opening.open_last.Goals as goal
 
@@ -57,7 +57,7 @@ returns-in-Ok-clause-opened g c =
       opened = λ home at.
           let home_at : slice_get c.args.homes.now c.len-shard.result ≡ Some c.index-homes-shard.result =
           slice_get-get_or c.args.homes.now c.len-shard.result c.index-homes-shard.result (omega (arith, place, count, within, lists)) ∙ ap Some (sym c.index-homes-shard.is) in
-          let same : c.index-homes-shard.result ≡ home = same_thing _ _ (sym home_at ∙ subst (λ j. slice_get c.args.homes.now j ≡ Some home) (sym place) at) in
+          let same : c.index-homes-shard.result ≡ home = same_Some _ _ (sym home_at ∙ subst (λ j. slice_get c.args.homes.now j ≡ Some home) (sym place) at) in
           record {
             number = opened.numbers.0 ∙ place;
             shards = opened.numbers.1;

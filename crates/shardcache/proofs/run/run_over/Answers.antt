@@ -2,8 +2,8 @@
 use Rattle.std.proofs.Common.{sym, subst}
 use Rattle.std.specs.List.{All}
 use Rattle.trace_text.specs.Parsed.{trace_in}
+use Rattle.shard_rings.specs.Links.{traffic_of}
 use Rattle.shard_node.specs.Standing.{InStanding}
-use Rattle.shard_node.specs.Links.{ring_traffic}
 use Rattle.shard_run.specs.Opening.{AreAtRest}
 use Rattle.shardcache.specs.inside.Finished.{IsRunOf}
 use Rattle.shardcache.proofs.Runs.{all-standing, driven-after}
@@ -11,7 +11,7 @@ use Rattle.shardcache.proofs.run.run_over.Goals as goal
 
 pub drive-requires-clause-standing : goal.drive-requires-clause-standing
 drive-requires-clause-standing g c κs within =
-    subst (All (InStanding ring_traffic)) (sym c.as_mut_slice.ensures.value)
+    subst (All (InStanding traffic_of)) (sym c.as_mut_slice.ensures.value)
     (all-standing (trace_in c.args.trace.now) c.args.trace.now.shards c.args.pages c.args.homes.now c.in_ok-nodes.nodes.items c.in_ok-nodes.ensures.opened)
 
 pub end_run-requires-clause-driven : goal.end_run-requires-clause-driven

@@ -2,8 +2,7 @@
 ghost use Rattle.std.specs.Prelude.{◌≡◌, ◌≤◌, length, true, All, IfSome};
 ghost use Rattle.layout.specs.Sizes.{most_trace_bytes};
 ghost use Rattle.trace_text.specs.Parsed.{trace_in};
-ghost use Rattle.shard_rings.specs.Links.{end_of};
-ghost use Rattle.shard_node.specs.Links.{ring_traffic};
+ghost use Rattle.shard_rings.specs.Links.{end_of, traffic_of};
 ghost use Rattle.shard_node.specs.Standing.{InStanding};
 ghost use Rattle.shard_node.specs.Turns.{IsDone, IsSameNode};
 ghost use Rattle.shard_drive.specs.Drives.{AtEach};
@@ -31,8 +30,8 @@ const SCHEDULE: [u32; 40] = [
 ];
 
 fn are_done<'f, G: Gate + Drop>(nodes: &[Node<'f, RingLink<'f>, G>]) -> bool
-    requires { All (InStanding ring_traffic) nodes.now }
-    ensures { result ≡ true → All (IsDone ring_traffic G.holds) nodes.now }
+    requires { All (InStanding traffic_of) nodes.now }
+    ensures { result ≡ true → All (IsDone traffic_of G.holds) nodes.now }
 {
     for node in nodes {
         if !node.is_done() {
@@ -45,9 +44,9 @@ fn are_done<'f, G: Gate + Drop>(nodes: &[Node<'f, RingLink<'f>, G>]) -> bool
 /// Drives two nodes by the schedule, and answers whether they are done then.
 fn follow<'f, G: Gate + Drop>(nodes: &mut [Node<'f, RingLink<'f>, G>]) -> bool
     requires two { length nodes.old ≡ 2 }
-    requires standing { All (InStanding ring_traffic) nodes.old }
-    ensures standing { All (InStanding ring_traffic) nodes.new }
-    ensures done { result ≡ true → All (IsDone ring_traffic G.holds) nodes.new }
+    requires standing { All (InStanding traffic_of) nodes.old }
+    ensures standing { All (InStanding traffic_of) nodes.new }
+    ensures done { result ≡ true → All (IsDone traffic_of G.holds) nodes.new }
     ensures same { AtEach (λ _. IsSameNode end_of) nodes.old nodes.new }
 {
     drive_schedule(nodes, &SCHEDULE);

@@ -10,17 +10,17 @@ use Rattle.reclaim.specs.contracts.space.Space.{the_view}
 use Rattle.reclaim.proofs.Evictions.{stored}
 use Rattle.reclaim.proofs.space.Space.put.Goals as goal
 
-pub put_row-requires-clause-spare : goal.put_row-requires-clause-spare
-put_row-requires-clause-spare c =
+pub put_evicting-requires-clause-spare : goal.put_evicting-requires-clause-spare
+put_evicting-requires-clause-spare c =
     let spare = c.requires.spare in let same = ap (λ (s : SpaceState). length s.rows) c.self.view_is in omega (arith, spare, same)
 
 pub returns-clause-stored : goal.returns-clause-stored
 returns-clause-stored c =
-    let operation = asked c.args.ask.now in let reply = reply_of c.put_row.result in let e = c.put_row.ensures in
+    let operation = asked c.args.ask.now in let reply = reply_of c.put_evicting.result in let e = c.put_evicting.ensures in
     let old = the_view (record { mir = named 1; lft = [] }) c.self.inside in
-    let new = the_view (record { mir = named 1; lft = [] }) (record { memory = c.put_row.new.memory; cache = c.put_row.new.cache }) in
-    subst (λ (s : SpaceState). StoresUnderPressure operation reply s new c.args.journal.now c.put_row.new.journal) c.self.view_is
-    (stored (pressure old.pages old.lent) operation reply old new c.args.journal.now c.put_row.new.journal e.stored (record {
+    let new = the_view (record { mir = named 1; lft = [] }) (record { memory = c.put_evicting.new.memory; cache = c.put_evicting.new.cache }) in
+    subst (λ (s : SpaceState). StoresUnderPressure operation reply s new c.args.journal.now c.put_evicting.new.journal) c.self.view_is
+    (stored (pressure old.pages old.lent) operation reply old new c.args.journal.now c.put_evicting.new.journal e.stored (record {
       shard = e.taken.owner;
       pages = e.taken.pages;
       room = e.tables;

@@ -12,4 +12,4 @@ returns-clause-copied c =
     let ws = c.overwrite.new.content in let xs = c.content.result.now in let e = c.content_mut.ensures in
     let all = subst (λ s. ChangesIn at s (Some old) (Some (segment_with at ws old))) (whole-content (standing_in (Some old) at) c.content_mut.result.now ws e.value c.overwrite.auto.content) (e.written ws) in
     if-some (item_if_live source) (λ i. i.content ≡ xs) (λ i. ChangesIn at (option_map (with_bytes i.content) (standing_in (Some old) at)) (Some old) (Some (segment_with at ws old)))
-    (λ i same. subst (λ b. ChangesIn at (option_map (with_bytes b) (standing_in (Some old) at)) (Some old) (Some (segment_with at ws old))) (c.overwrite.ensures ∙ sym same) all) (live-content source xs c.content.ensures)
+    (λ i same. subst (λ b. ChangesIn at (option_map (with_bytes b) (standing_in (Some old) at)) (Some old) (Some (segment_with at ws old))) (c.overwrite.ensures ∙ sym same) all) (live-content source xs c.content.ensures.content)

@@ -1,16 +1,32 @@
-use Rattle.std.proofs.Common.{ap, ◌∙◌}
+use Rattle.std.proofs.Common.{◌≡◌, sym, ap, ◌∙◌}
 use Rattle.regions.specs.Contents.{live_at}
 use Rattle.row_cache.specs.Rows.{rows_of}
+use Rattle.row_cache.specs.inside.Consistent.{IsConsistent, rows_in}
 use Rattle.row_cache.specs.inside.Tables.{TableState}
+use Rattle.row_cache.proofs.Caches.{rows_read}
 use Rattle.row_cache.proofs.Looked.{rows_moved, consistent_moved}
 use Rattle.row_cache.proofs.cache.RowCache.compact.Goals as goal
+
+pub pass-requires-clause-fits : goal.pass-requires-clause-fits
+pass-requires-clause-fits c = (c.self.invariant.counted.tables, c.self.invariant.chain)
 
 pub invariant_of-self : goal.invariant_of-self
 invariant_of-self c =
     let t = c.self.inside.tables in let u = c.pass.new.movers in let r = c.self.inside.region in let s = c.pass.new.region in let e = c.pass.ensures in let i = c.self.invariant in
-    consistent_moved t u r s c.self.inside.live i e.fits (rows_moved t u (live_at r) (live_at s) i.tables e.fits (ap (λ (x : TableState). x.recency) e.rest) e.store) e.holds.live_total
+    record {
+      counted = consistent_moved t u r s c.self.inside.live i.counted e.fits.0
+          (rows_moved t u (live_at r) (live_at s) i.counted.tables e.fits.0 (ap (λ (x : TableState). x.recency) e.rest) e.store c.a_row_is_read_as_it_is_written.ensures.others) e.holds.live_total;
+      chain = e.fits.1;
+    }
 
 pub returns-clause-rows : goal.returns-clause-rows
 returns-clause-rows c =
-    let t = c.self.inside.tables in let u = c.pass.new.movers in let r = c.self.inside.region in let s = c.pass.new.region in let e = c.pass.ensures in let i = c.self.invariant in
-    rows_moved t u (live_at r) (live_at s) i.tables e.fits (ap (λ (x : TableState). x.recency) e.rest) e.store ∙ ap rows_of c.self.view_is
+    let t = c.self.inside.tables in let r = c.self.inside.region in
+    let was : rows_in t r ≡ rows_of c.args.self.now = sym (rows_read t r c.self.inside.live c.self.invariant) ∙ ap rows_of c.self.view_is in
+    let u = c.pass.new.movers in let s = c.pass.new.region in let e = c.pass.ensures in let i = c.self.invariant in
+    let rows = rows_moved t u (live_at r) (live_at s) i.counted.tables e.fits.0 (ap (λ (x : TableState). x.recency) e.rest) e.store c.a_row_is_read_as_it_is_written.ensures.others in
+    let now : IsConsistent u s c.self.inside.live = record {
+      counted = consistent_moved t u r s c.self.inside.live i.counted e.fits.0 rows e.holds.live_total;
+      chain = e.fits.1;
+    } in
+    rows_read u s c.self.inside.live now ∙ (rows ∙ was)

@@ -1,13 +1,18 @@
-use Rattle.std.proofs.Common.{◌-◌, subst}
+use Rattle.std.proofs.Common.{◌-◌, length, ap, subst, ◌∙◌}
 use Rattle.regions.specs.Shapes.{guards_of}
-use Rattle.row_cache.specs.Rows.{CacheState, Stay}
-use Rattle.row_cache.proofs.Caches.{consistent_kept, keeps_same, stays_kept}
+use Rattle.row_cache.specs.Rows.{CacheState, rows_of, Stay}
+use Rattle.row_cache.proofs.Caches.{cache_kept, keeps_same, kept_reads, stays_kept}
 use Rattle.row_cache.proofs.cache.RowCache.unguard.Goals as goal
 
 pub invariant_of-self : goal.invariant_of-self
 invariant_of-self c =
     let r = c.self.inside.region in let s = c.unguard.new.self in
-    consistent_kept c.self.inside.tables r s c.self.inside.live c.self.invariant (keeps_same r s (guards_of r - 1) c.unguard.ensures.guards) c.unguard.ensures.live_total
+    cache_kept c.self.inside.tables r s c.self.inside.live c.self.invariant (keeps_same r s (guards_of r - 1) c.unguard.ensures.guards) c.unguard.ensures.live_total
+
+pub returns-clause-rows : goal.returns-clause-rows
+returns-clause-rows c =
+    let t = c.self.inside.tables in let r = c.self.inside.region in let s = c.unguard.new.self in
+    kept_reads r s (length t.places) t.ends.front (keeps_same r s (guards_of r - 1) c.unguard.ensures.guards) ∙ ap rows_of c.self.view_is
 
 pub returns-clause-stay : goal.returns-clause-stay
 returns-clause-stay c =

@@ -1,40 +1,74 @@
 use Rattle.std.proofs.Common.{◌≡◌, ◌∷◌, List, Some, None, sym, ap, subst, ◌∙◌}
-use Rattle.std.specs.Prelude.{slice_get}
 use Rattle.cache_model.specs.Row.{Row}
 use Rattle.cache_model.specs.Apply as apply
 use Rattle.regions.specs.Contents.{live_at}
-use Rattle.row_cache.specs.Rows.{CacheState, rows_of, row_at}
-use Rattle.row_cache.specs.inside.Tables.{TableState, AreTablesOf}
+use Rattle.row_cache.specs.Rows.{AreRelinked, CacheState, rows_of, row_at, StandsAt}
+use Rattle.row_cache.specs.inside.Tables.{TableState, IsListed}
 use Rattle.row_cache.specs.inside.Consistent.{IsConsistent, rows_in}
-use Rattle.row_cache.proofs.Looked.{row_stands, consistent_touched}
+use Rattle.row_cache.proofs.Caches.{rows_read}
+use Rattle.common_lemmas.specs.Lists.{delete}
+use Rattle.row_cache.proofs.Listed.{listed_here}
+use Rattle.row_cache.proofs.Looked.{row_stands, consistent_touched, rows_touched}
+use Rattle.row_cache.proofs.Relinked.{relinked_lives, relinked_same, same_rows}
 use Rattle.row_cache.proofs.cache.RowCache.use_row.Goals as goal
+
+pub search-requires : goal.search-requires
+search-requires c = c.self.invariant.counted.tables
+
+pub touch-requires-clause-tables : goal.touch-requires-clause-tables
+touch-requires-clause-tables c = c.self.invariant.counted.tables
 
 pub returns-in_default-clause-found : goal.returns-in_default-clause-found
 returns-in_default-clause-found c =
-    subst (λ (x : CacheState). apply.row_of c.args.key.now (rows_of x) ≡ None) c.self.view_is c.in_default.ensures.row
+    let t = c.self.inside.tables in let r = c.self.inside.region in
+    let was : rows_in t r ≡ rows_of c.args.self.now = sym (rows_read t r c.self.inside.live c.self.invariant) ∙ ap rows_of c.self.view_is in
+    subst (λ (x : List Row). apply.row_of c.args.key.now x ≡ None) was c.in_default.ensures.row
 
 pub returns-in_default-clause-rows : goal.returns-in_default-clause-rows
 returns-in_default-clause-rows c =
     let t = c.self.inside.tables in let r = c.self.inside.region in
-    subst (λ (x : CacheState). rows_of x ≡ (apply.get c.args.key.now (rows_of x)).0) c.self.view_is (sym (ap (λ o. (apply.get_where o c.args.key.now (rows_in t r)).0) c.in_default.ensures.row))
+    let was : rows_in t r ≡ rows_of c.args.self.now = sym (rows_read t r c.self.inside.live c.self.invariant) ∙ ap rows_of c.self.view_is in
+    subst (λ (x : List Row). x ≡ (apply.get c.args.key.now x).0) was (sym (ap (λ o. (apply.get_where o c.args.key.now (rows_in t r)).0) c.in_default.ensures.row))
+
+pub returns-in_default-clause-region : goal.returns-in_default-clause-region
+returns-in_default-clause-region c = relinked_same c.args.self.now.region
 
 pub invariant_of-self : goal.invariant_of-self
 invariant_of-self c =
-    let t = c.self.inside.tables in let r = c.self.inside.region in
-    subst (λ (x : TableState). IsConsistent x r c.self.inside.live) (sym c.touch.ensures.state) (consistent_touched t r c.self.inside.live c.in-Ok.found.row c.self.invariant
-    (subst (λ (x : TableState). AreTablesOf x (live_at r)) c.touch.ensures.state (c.touch.ensures.tables (live_at r) c.self.invariant.tables)) c.in-Ok.ensures.listed)
+    let t = c.self.inside.tables in let r = c.self.inside.region in let e = c.touch.ensures in
+    record {
+      counted = consistent_touched t c.touch.new.self r c.touch.new.region c.self.inside.live c.in-Ok.found.row c.self.invariant.counted e.tables c.in-Ok.ensures.listed e.same
+          (ap (λ (x : TableState). x.recency) e.state) (ap (λ (x : TableState). x.places) e.state);
+      chain = e.linked;
+    }
 
 pub returns-clause-found : goal.returns-clause-found
 returns-clause-found c =
-    let t = c.self.inside.tables in let r = c.self.inside.region in let n = c.in-Ok.found.row in
+    let t = c.self.inside.tables in let r = c.self.inside.region in
+    let was : rows_in t r ≡ rows_of c.args.self.now = sym (rows_read t r c.self.inside.live c.self.invariant) ∙ ap rows_of c.self.view_is in
+    let n = c.in-Ok.found.row in let u = c.touch.new.self in let s = c.touch.new.region in
     let row = row_at (live_at r) t.places n in
-    let v = row_stands r t.places n (c.self.invariant.tables.rows n c.in-Ok.ensures.listed) c.place.result (sym (ap (λ (x : TableState). slice_get x.places n) c.touch.ensures.state) ∙ c.place.ensures) in
-    (row, subst (λ (x : CacheState). apply.row_of c.args.key.now (rows_of x) ≡ Some row) c.self.view_is c.in-Ok.ensures.row, v.0, v.1)
+    let places = ap (λ (x : TableState). x.places) c.touch.ensures.state in
+    let listed : IsListed u n = subst (λ (x : TableState). IsListed x n) (sym c.touch.ensures.state) (listed_here n (delete n t.recency)) in
+    let v = row_stands s u.places n (c.touch.ensures.tables.rows n listed) c.place.result c.place.ensures in
+    let same : row_at (live_at s) u.places n ≡ row = ap (λ ps. row_at (live_at s) ps n) places ∙ ap (λ f. f n) (same_rows (live_at r) (live_at s) t.places (relinked_lives r s c.touch.ensures.same)) in
+    (row, subst (λ (x : List Row). apply.row_of c.args.key.now x ≡ Some row) was c.in-Ok.ensures.row, subst (λ (x : Row). StandsAt s c.place.result x) same v.0, v.1)
 
 pub returns-clause-rows : goal.returns-clause-rows
 returns-clause-rows c =
-    let t = c.self.inside.tables in let r = c.self.inside.region in let n = c.in-Ok.found.row in
+    let t = c.self.inside.tables in let r = c.self.inside.region in
+    let was : rows_in t r ≡ rows_of c.args.self.now = sym (rows_read t r c.self.inside.live c.self.invariant) ∙ ap rows_of c.self.view_is in
+    let n = c.in-Ok.found.row in let u = c.touch.new.self in let s = c.touch.new.region in let e = c.touch.ensures in
     let row = row_at (live_at r) t.places n in
-    ap (λ (x : TableState). rows_in x r) c.touch.ensures.state
+    let i : IsConsistent u s c.self.inside.live = record {
+      counted = consistent_touched t u r s c.self.inside.live n c.self.invariant.counted e.tables c.in-Ok.ensures.listed e.same
+          (ap (λ (x : TableState). x.recency) e.state) (ap (λ (x : TableState). x.places) e.state);
+      chain = e.linked;
+    } in
+    rows_read u s c.self.inside.live i
+    ∙ (rows_touched t u r s n e.same (ap (λ (x : TableState). x.recency) e.state) (ap (λ (x : TableState). x.places) e.state)
     ∙ (sym (ap (λ o. (apply.get_where o c.args.key.now (rows_in t r)).0) c.in-Ok.ensures.row ∙ ap (λ (rs : List Row). row ∷ rs) c.in-Ok.ensures.without)
-    ∙ ap (λ (x : CacheState). (apply.get c.args.key.now (rows_of x)).0) c.self.view_is)
+    ∙ ap (λ (x : List Row). (apply.get c.args.key.now x).0) was))
+
+pub returns-clause-region : goal.returns-clause-region
+returns-clause-region c = subst (λ (x : CacheState). AreRelinked x.region c.touch.new.region) c.self.view_is c.touch.ensures.same

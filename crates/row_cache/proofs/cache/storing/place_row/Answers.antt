@@ -1,7 +1,9 @@
-use Rattle.std.proofs.Common.{◌≡◌, ◌+◌, ◌≤◌, false, true, inl, inr, length, refl, sym, ap, ◌∙◌, arith}
+use Rattle.std.proofs.Common.{◌≡◌, ◌+◌, ◌-◌, ◌≤◌, false, true, inl, inr, length, refl, sym, ap, ◌∙◌, arith}
 use Rattle.std.proofs.lemmas.Bool.Decides.{leb_tells}
 use Rattle.regions.specs.Shapes.{Shape}
-use Rattle.regions.specs.Counts.{left}
+use Rattle.std.specs.Prelude.{slice_index}
+use Rattle.layout.specs.Sizes.{segment}
+use Rattle.regions.specs.Counts.{left, left_of, used_counts}
 use Rattle.regions.specs.Lends.{with_content}
 use Rattle.regions.specs.Contents.{live_at}
 use Rattle.row_cache.specs.inside.NewRows.{row_of}
@@ -39,3 +41,11 @@ pub returns-clause-stay : goal.returns-clause-stay
 returns-clause-stay c =
     let ws = c.write_row.new.content in let p = c.in_ok-place.place in let e = c.in_ok-place.ensures in
     object_stays c.args.region.now c.place.new.self (with_content c.place.new.self p ws) p _ _ e.added e.unused (c.bytes_mut.ensures.left ws c.write_row.auto.content)
+
+pub returns-clause-room : goal.returns-clause-room
+returns-clause-room c =
+    let e = c.in_ok-place.ensures in let used = used_counts c.args.region.now in
+    let room : c.row_size.result ≤ left c.args.region.now = elim (leb_tells c.row_size.result (left c.args.region.now)) [ inl h ↦ h.1 | inr h ↦ absurd (let clash : false ≡ true = e.full.1 h.1 in cc) ] in
+    let is : left c.args.region.now ≡ segment - slice_index used c.in_ok-place.place.segment = ap (left_of used) e.segment in
+    let whole = c.row_size.ensures in let at = e.offset in
+    (c.segment_fits.ensures, omega (arith, room, is, whole, at))

@@ -1,14 +1,17 @@
-use Rattle.std.proofs.Common.{◌+◌, subst, ◌∙◌, arith}
+use Rattle.std.proofs.Common.{◌+◌, map, subst, ◌∙◌, arith}
 use Rattle.cache_model.specs.Row.{Row}
 use Rattle.regions.specs.Contents.{live_at}
 use Rattle.row_cache.specs.inside.Tables.{AddsRow, IsRowOf}
 use Rattle.row_cache.specs.inside.NewRows.{row_of}
-use Rattle.row_cache.proofs.Caches.{counts_more, rows_added, consistent_added}
+use Rattle.row_cache.specs.inside.Chained.{place_in}
+use Rattle.row_cache.proofs.Kept.{chain_on, lacks_dead, same_of_rows}
+use Rattle.row_cache.proofs.Relinked.{relinked_left, relinked_stay, relinked_total, stay_again}
+use Rattle.row_cache.proofs.Caches.{counts_more, relinked_rows, rows_added, consistent_added}
 use Rattle.row_cache.proofs.cache.storing.store_row.Goals as goal
 
 pub overflow_add-live : goal.overflow_add-live
 overflow_add-live c =
-    let less = counts_more c.args.tables.now c.args.region.now c.args.live.now c.from.result c.args.row c.requires.consistent c.requires.row (c.from.ensures ∙ c.row_size.ensures) in omega (arith, less)
+    let less = counts_more c.args.tables.now c.args.region.now c.args.live.now c.from.result c.args.row c.requires.consistent.counted c.requires.row (c.from.ensures ∙ c.row_size.ensures) in omega (arith, less)
 
 pub insert-requires-clause-adds : goal.insert-requires-clause-adds
 insert-requires-clause-adds c =
@@ -17,7 +20,7 @@ insert-requires-clause-adds c =
       row = row;
       old = live_at c.args.region.now;
       adds = record {
-        tables = c.requires.consistent.tables;
+        tables = c.requires.consistent.counted.tables;
         item = added.item;
         is_row = subst (λ n. IsRowOf added.item n row) c.next_number.ensures added.is_row;
         adds = added.adds;
@@ -26,21 +29,43 @@ insert-requires-clause-adds c =
       };
     }
 
+pub insert-requires-clause-linked : goal.insert-requires-clause-linked
+insert-requires-clause-linked c =
+    let t = c.args.tables.now in let l = live_at c.args.region.now in let m = live_at c.place_row.new.region in let e = c.in_ok-place.ensures in
+    let chain = c.requires.consistent.chain in let ps = map (place_in t.places) t.recency in
+    (chain_on l m t.ends ps (same_of_rows l m ps e.rows chain.rows) chain, e.room, lacks_dead l c.in_ok-place.place ps (e.added.adds).absent chain.rows)
+
 pub returns-clause-rows : goal.returns-clause-rows
 returns-clause-rows c =
     let t = c.args.tables.now in let r = c.args.region.now in let s = c.place_row.new.region in let added = c.in_ok-place.ensures.added in let row : Row = row_of c.args.row in
     let adds : AddsRow t c.args.at c.in_ok-place.place row (live_at r) (live_at s) = record {
-      tables = c.requires.consistent.tables;
+      tables = c.requires.consistent.counted.tables;
       item = added.item;
       is_row = subst (λ n. IsRowOf added.item n row) c.next_number.ensures added.is_row;
       adds = added.adds;
       absent = c.requires.absent;
       at = c.requires.at;
     } in
-    rows_added t c.insert.new.self c.args.at c.in_ok-place.place row (live_at r) (live_at s) adds c.insert.ensures.recency c.insert.ensures.places
+    let u = c.insert.new.self in
+    relinked_rows s c.insert.new.region u.places u.recency c.insert.ensures.same
+    ∙ rows_added t u c.args.at c.in_ok-place.place row (live_at r) (live_at s) adds c.insert.ensures.recency c.insert.ensures.places
 
 pub returns-clause-consistent : goal.returns-clause-consistent
 returns-clause-consistent c =
-    let total = c.in_ok-place.ensures.live in let whole = c.row_size.ensures in let from = c.from.ensures in let row : Row = row_of c.args.row in
-    consistent_added c.args.tables.now c.insert.new.self c.args.region.now c.place_row.new.region c.args.live.now (c.args.live.now + c.from.result) row c.requires.consistent
-    c.insert.ensures.tables (returns-clause-rows c) total (omega (arith, whole, from))
+    let total = c.in_ok-place.ensures.live in let whole = c.row_size.ensures in let from = c.from.ensures in let row : Row = row_of c.args.row in let e = c.insert.ensures in
+    let more = relinked_total c.place_row.new.region c.insert.new.region e.same in
+    record {
+      counted = consistent_added c.args.tables.now c.insert.new.self c.args.region.now c.insert.new.region c.args.live.now (c.args.live.now + c.from.result) row c.requires.consistent.counted
+          e.tables (returns-clause-rows c) (more ∙ total) (omega (arith, whole, from));
+      chain = e.linked;
+    }
+
+pub returns-clause-shape : goal.returns-clause-shape
+returns-clause-shape c = c.insert.ensures.same.shape ∙ c.in_ok-place.ensures.shape
+
+pub returns-clause-left : goal.returns-clause-left
+returns-clause-left c = (let same = relinked_left c.place_row.new.region c.insert.new.region c.insert.ensures.same in let e = c.in_ok-place.ensures.left in omega (arith, same, e))
+
+pub returns-clause-stay : goal.returns-clause-stay
+returns-clause-stay c =
+    stay_again c.args.region.now c.place_row.new.region c.insert.new.region c.in_ok-place.ensures.stay (relinked_stay c.place_row.new.region c.insert.new.region c.insert.ensures.same)

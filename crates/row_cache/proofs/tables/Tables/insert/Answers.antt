@@ -1,114 +1,48 @@
-use Rattle.std.proofs.Common.{◌≡◌, ◌≢◌, ◌<◌, ◌∷◌, length, sym, ap, subst, ◌∙◌, arith}
-use Rattle.index_lists.specs.Lists.{list_at}
-use Rattle.common_lemmas.specs.Lists.{times}
-use Rattle.key_table.specs.Table.{AreSame, IsSpotFor}
-use Rattle.lazy_index.specs.Lazy.{rows_in, IsKeyed, IsLazyOf}
+use Rattle.std.proofs.Common.{◌∷◌, map, refl, sym, ap, subst, ◌∙◌}
 use Rattle.regions.specs.Contents.{live_at}
-use Rattle.row_cache.specs.Rows.{key_at}
+use Rattle.row_cache.specs.inside.Chained as chained
 use Rattle.row_cache.specs.inside.Tables as tables
 use Rattle.row_cache.specs.contracts.tables.Tables.{the_view}
-use Rattle.row_cache.proofs.Numbers.{all_freed_below, next_below_room, next_absent, numbers_added, one_set}
-use Rattle.row_cache.proofs.States.{added_absent, added_here, added_lazy, added_spot, tables_added}
+use Rattle.row_cache.proofs.Numbers.{numbers_kept}
+use Rattle.row_cache.proofs.Numbered.{added_front}
+use Rattle.row_cache.proofs.Relinked.{relinked_lives, tables_relived}
+use Rattle.row_cache.proofs.States.{tables_kept}
 use Rattle.row_cache.proofs.tables.Tables.insert.Goals as goal
 
-pub give_number-number-requires-clause-given : goal.give_number-number-requires-clause-given
-give_number-number-requires-clause-given c = let t : tables.TableState = the_view c.self.inside in all_freed_below t c.self.invariant.0
+pub push_front-requires-clause-row : goal.push_front-requires-clause-row
+push_front-requires-clause-row c =
+    let a = c.requires.adds in record { item = a.adds.item; is = a.adds.adds.here; number = tables.next_number c.args.self.now; row = a.row; is_row = a.adds.is_row }
 
-pub insert-requires-clause-lazy : goal.insert-requires-clause-lazy
-insert-requires-clause-lazy c =
-    let t : tables.TableState = the_view c.self.inside in let g = c.give_number-number in
-    let live = live_at c.args.region.now in
-    let a = c.requires.adds in
-    let r : tables.AddsRow t c.args.at c.args.place a.row a.old live = subst (λ s. tables.AddsRow s c.args.at c.args.place a.row a.old live) (sym c.self.view_is) a.adds in
-    let places = c.as_slice.ensures.value ∙ (g.ensures.places ∙ ap (λ n. tables.placed n c.args.place t.places) g.ensures.number) in
-    subst (λ ps. IsLazyOf (tables.HasRow live ps) (key_at live ps) t.index) (sym places) (added_lazy t c.args.at c.args.place a.row a.old live r c.law.ensures.moved)
+pub push_front-requires-clause-room : goal.push_front-requires-clause-room
+push_front-requires-clause-room c = c.requires.linked.1
 
-pub insert-requires-clause-readable : goal.insert-requires-clause-readable
-insert-requires-clause-readable c =
-    let t : tables.TableState = the_view c.self.inside in let g = c.give_number-number in
-    let live = live_at c.args.region.now in
-    let a = c.requires.adds in
-    let r : tables.AddsRow t c.args.at c.args.place a.row a.old live = subst (λ s. tables.AddsRow s c.args.at c.args.place a.row a.old live) (sym c.self.view_is) a.adds in
-    let is = g.ensures.number in
-    let places = c.as_slice.ensures.value ∙ (g.ensures.places ∙ ap (λ n. tables.placed n c.args.place t.places) is) in
-    subst (λ ps. tables.HasRow live ps g.result) (sym places)
-    (subst (λ n. tables.HasRow live (tables.placed (tables.next_number t) c.args.place t.places) n) (sym is) (added_here t c.args.at c.args.place a.row a.old live r).0)
-
-pub insert-requires-clause-spot : goal.insert-requires-clause-spot
-insert-requires-clause-spot c =
-    let t : tables.TableState = the_view c.self.inside in let g = c.give_number-number in
-    let live = live_at c.args.region.now in
-    let a = c.requires.adds in
-    let r : tables.AddsRow t c.args.at c.args.place a.row a.old live = subst (λ s. tables.AddsRow s c.args.at c.args.place a.row a.old live) (sym c.self.view_is) a.adds in
-    let is = g.ensures.number in
-    let places = c.as_slice.ensures.value ∙ (g.ensures.places ∙ ap (λ n. tables.placed n c.args.place t.places) is) in
-    subst (λ ps. IsSpotFor (key_at live ps g.result) c.args.at) (sym places)
-    (subst (λ n. IsSpotFor (key_at live (tables.placed (tables.next_number t) c.args.place t.places) n) c.args.at) (sym is) (added_spot t c.args.at c.args.place a.row a.old live r))
-
-pub insert-requires-clause-absent : goal.insert-requires-clause-absent
-insert-requires-clause-absent c m h =
-    let t : tables.TableState = the_view c.self.inside in let g = c.give_number-number in
-    let live = live_at c.args.region.now in
-    let a = c.requires.adds in
-    let r : tables.AddsRow t c.args.at c.args.place a.row a.old live = subst (λ s. tables.AddsRow s c.args.at c.args.place a.row a.old live) (sym c.self.view_is) a.adds in
-    let is = g.ensures.number in
-    let places = c.as_slice.ensures.value ∙ (g.ensures.places ∙ ap (λ n. tables.placed n c.args.place t.places) is) in
-    let all = tables.placed (tables.next_number t) c.args.place t.places in
-    subst (λ ps. key_at live ps m ≢ key_at live ps g.result) (sym places)
-    (subst (λ n. key_at live all m ≢ key_at live all n) (sym is) (added_absent t c.args.at c.args.place a.row a.old live r m h))
-
-pub insert-requires-clause-number : goal.insert-requires-clause-number
-insert-requires-clause-number c =
-    let t : tables.TableState = the_view c.self.inside in
-    let below = next_below_room t c.self.invariant.0 (subst (λ (s : tables.TableState). length s.recency < s.room) (sym c.self.view_is) c.requires.room) in
-    let same = c.self.invariant.0.room in
-    let is = c.give_number-number.ensures.number in
-    omega (arith, below, same, is)
-
-pub insert-requires-clause-room : goal.insert-requires-clause-room
-insert-requires-clause-room c =
-    let t : tables.TableState = the_view c.self.inside in
-    let few : length t.recency < t.room = subst (λ (s : tables.TableState). length s.recency < s.room) (sym c.self.view_is) c.requires.room in
-    let same = c.self.invariant.0.room in
-    let count = c.self.invariant.0.index_count in
-    omega (arith, few, same, count)
-
-pub push_front-requires-clause-index : goal.push_front-requires-clause-index
-push_front-requires-clause-index c =
-    let t : tables.TableState = the_view c.self.inside in
-    subst (λ n. n < t.room) (sym c.give_number-number.ensures.number) (next_below_room t c.self.invariant.0 (subst (λ (s : tables.TableState). length s.recency < s.room) (sym c.self.view_is) c.requires.room))
-
-pub push_front-requires-clause-absent : goal.push_front-requires-clause-absent
-push_front-requires-clause-absent c = λ k h.
-    let t : tables.TableState = the_view c.self.inside in let one = c.self.invariant.1 in
-    let first : k ≡ 0 = omega (arith, h, one) in
-    subst (λ j. times c.give_number-number.result (list_at c.self.inside.recency j) ≡ 0) (sym first)
-    (subst (λ n. times n t.recency ≡ 0) (sym c.give_number-number.ensures.number) (next_absent t c.self.invariant.0))
+pub push_front-requires-clause-chain : goal.push_front-requires-clause-chain
+push_front-requires-clause-chain c =
+    let t = c.args.self.now in let live = live_at c.args.region.now in let ps = map (chained.place_in t.places) t.recency in
+    let same = ap (λ (x : tables.TableState). x.ends) c.self.view_is ∙ c.enter.ensures.ends in
+    (ps, subst (λ e. chained.IsChain live e ps) (sym same) c.requires.linked.0, c.requires.linked.2)
 
 pub invariant_of-self : goal.invariant_of-self
 invariant_of-self c =
-    let i = c.self.invariant in let t : tables.TableState = the_view c.self.inside in let g = c.give_number-number in
-    let is = g.ensures.number in
-    let set = one_set c.self.inside.recency c.push_front.new.self (g.result ∷ t.recency) i.1 c.push_front.ensures in
-    let u : tables.TableState = record { room = c.push_front.new.self.indices; recency = list_at c.push_front.new.self 0; places = g.new.places.items; freed = g.new.freed.items; index = c.insert.new.self } in
-    let places = i.2 in let frees = i.3 in let cap = g.ensures.capacity.0 in let cap_freed = g.ensures.capacity.1 in let same = set.0 in (
-      numbers_added t u c.args.place i.0 (subst (λ (s : tables.TableState). length s.recency < s.room) (sym c.self.view_is) c.requires.room) set.0
-          (set.1.1 ∙ ap (λ n. n ∷ t.recency) is) (g.ensures.places ∙ ap (λ n. tables.placed n c.args.place t.places) is) g.ensures.freed c.insert.ensures.room
-          (subst (λ n. AreSame (n ∷ rows_in t.index) (rows_in c.insert.new.self)) is c.insert.ensures.rows),
-      set.1.0,
-      omega (arith, places, cap, same),
-      omega (arith, frees, cap_freed, same),
-    )
+    let i = c.self.invariant in let x : tables.TableState = the_view c.self.inside in
+    let u : tables.TableState = record x { ends = c.push_front.new.self } in
+    (numbers_kept x u i.0 refl refl refl refl (λ m. refl) refl, i.1, i.2)
 
 pub returns-clause-tables : goal.returns-clause-tables
 returns-clause-tables c =
-    let i = c.self.invariant in let t : tables.TableState = the_view c.self.inside in let g = c.give_number-number in
-    let live = live_at c.args.region.now in
-    let a = c.requires.adds in
-    let r : tables.AddsRow t c.args.at c.args.place a.row a.old live = subst (λ s. tables.AddsRow s c.args.at c.args.place a.row a.old live) (sym c.self.view_is) a.adds in
-    let is = g.ensures.number in
-    let places = g.ensures.places ∙ ap (λ n. tables.placed n c.args.place t.places) is in
-    let set = one_set c.self.inside.recency c.push_front.new.self (g.result ∷ t.recency) i.1 c.push_front.ensures in
-    let u : tables.TableState = record { room = c.push_front.new.self.indices; recency = list_at c.push_front.new.self 0; places = g.new.places.items; freed = g.new.freed.items; index = c.insert.new.self } in
-    tables_added t u c.args.at c.args.place a.row a.old live r (invariant_of-self c).0 (set.1.1 ∙ ap (λ n. n ∷ t.recency) is) places
-    (subst (λ ps. IsKeyed (key_at live ps) c.insert.new.self) (c.as_slice.ensures.value ∙ places) c.insert.ensures.lazy.keyed)
+    let x : tables.TableState = the_view c.self.inside in let r = c.args.region.now in let s = c.push_front.new.region in
+    let u : tables.TableState = record x { ends = c.push_front.new.self } in
+    let are : tables.AreTablesOf x (live_at r) = subst (λ y. tables.AreTablesOf y (live_at r)) (sym c.self.view_is) c.enter.ensures.tables in
+    tables_kept x u (live_at s) (tables_relived x (live_at r) (live_at s) (relinked_lives r s c.push_front.ensures.same) are) (invariant_of-self c).0 (λ m. refl) refl refl
+
+pub returns-clause-linked : goal.returns-clause-linked
+returns-clause-linked c =
+    let t = c.args.self.now in let live = live_at c.args.region.now in let s = live_at c.push_front.new.region in let ends = c.push_front.new.self in let a = c.requires.adds in
+    let x : tables.TableState = the_view c.self.inside in let ps = map (chained.place_in t.places) t.recency in
+    let same = ap (λ (y : tables.TableState). y.ends) c.self.view_is ∙ c.enter.ensures.ends in
+    let chain = subst (λ e. chained.IsChain live e ps) (sym same) c.requires.linked.0 in
+    let places = ap (λ (y : tables.TableState). y.places) c.self.view_is ∙ c.enter.ensures.places in
+    let recency = ap (λ (y : tables.TableState). y.recency) c.self.view_is ∙ c.enter.ensures.recency in
+    let front = added_front t c.args.at c.args.place a.row a.old live s ends a.adds (c.push_front.ensures.chain ps chain c.requires.linked.2) in
+    subst (λ ns. chained.IsChain s ends (map (chained.place_in x.places) ns)) (sym recency)
+    (subst (λ ps. chained.IsChain s ends (map (chained.place_in ps) (tables.next_number t ∷ t.recency))) (sym places) front)

@@ -1,4 +1,4 @@
-use Rattle.std.proofs.Common.{refl, sym, subst}
+use Rattle.std.proofs.Common.{refl, sym, subst, arith}
 use Rattle.lazy_index.specs.Lazy.{IsKeyed}
 use Rattle.regions.specs.Contents.{live_at}
 use Rattle.row_cache.specs.Rows.{key_at}
@@ -10,8 +10,8 @@ use Rattle.row_cache.proofs.tables.Tables.settle.Goals as goal
 pub invariant_of-self : goal.invariant_of-self
 invariant_of-self c =
     let i = c.self.invariant in let t : tables.TableState = the_view c.self.inside in
-    let u : tables.TableState = record t { index = c.settle.new.self } in
-    (numbers_settled t u i.0 refl refl refl refl c.settle.ensures.room c.settle.ensures.rows, i.1, i.2, i.3)
+    let u : tables.TableState = record t { room = c.settle.new.self.room; index = c.settle.new.self } in
+    (numbers_settled t u i.0 c.settle.ensures.room refl refl refl c.settle.ensures.room c.settle.ensures.rows, omega (arith, i.1, c.settle.ensures.room), omega (arith, i.2, c.settle.ensures.room))
 
 pub returns-clause-tables : goal.returns-clause-tables
 returns-clause-tables c =

@@ -1,8 +1,8 @@
 use Rattle.std.proofs.Common.{◌≡◌, ◌++◌, ◌∷◌, [], length, length-append, All, arith, ap, sym, subst}
 use Rattle.std.specs.Option.{option_to_list}
 use Rattle.std.proofs.lemmas.List.Elements.{All-cons, All-pop}
+use Rattle.shard_rings.specs.Links.{traffic_of}
 use Rattle.shard_node.specs.Standing.{InStanding}
-use Rattle.shard_node.specs.Links.{ring_traffic}
 use Rattle.shard_drive.specs.Trials.{AreReady, AreUnused}
 use Rattle.shard_drive.proofs.Trials.{one-less, ready-less}
 use Rattle.shard_drive.proofs.tests.opening.open_all.Goals as goal
@@ -22,5 +22,5 @@ loop-seat-preserved g c =
       links = omega (arith, ap length fewer, length-append seats (c.in-Some.seat ∷ []), less, so_far.links);
       unused = (All-pop (AreUnused c.args.shards) c.loop-seat.links.items links c.pop-in-Some.result fewer_links so_far.unused).0;
       ready = ready-less c.args.homes.now seats c.in-Some.seat (subst (λ ss. AreReady c.args.homes.now ss) fewer so_far.ready);
-      standing = subst (λ ns. All (InStanding ring_traffic) ns) (sym more) (All-cons (InStanding ring_traffic) c.in_ok-node.node nodes c.in_ok-node.ensures so_far.standing);
+      standing = subst (λ ns. All (InStanding traffic_of) ns) (sym more) (All-cons (InStanding traffic_of) c.in_ok-node.node nodes c.in_ok-node.ensures so_far.standing);
     }

@@ -1,7 +1,7 @@
 use Rattle.std.proofs.Common.{◌≡◌, ◌+◌, length, vec_len}
 use Rattle.std.specs.List.{All}
+use Rattle.shard_rings.specs.Links.{traffic_of}
 use Rattle.shard_node.specs.Standing.{InStanding}
-use Rattle.shard_node.specs.Links.{ring_traffic}
 use Rattle.shard_drive.specs.Trials.{AreReady, AreUnused}
 use Rattle.shard_drive.proofs.tests.opening.open_all.Given as goal
 
@@ -11,7 +11,7 @@ invariant-loop-seat g l = record {
   links : length l.links.items ≡ length l.seats.items;
   unused : All (AreUnused l.shards) l.links.items;
   ready : AreReady l.homes l.seats.items;
-  standing : All (InStanding ring_traffic) l.nodes.items;
+  standing : All (InStanding traffic_of) l.nodes.items;
 }
 
 abbrev pub decreases-loop-seat : goal.decreases-loop-seat

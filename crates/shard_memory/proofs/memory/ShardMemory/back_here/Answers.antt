@@ -2,19 +2,19 @@ use Rattle.std.proofs.Common.{◌+◌, ◌*◌, List, length, sym, ap, subst, �
 use Rattle.layout.specs.Sizes.{page}
 use Rattle.layout.specs.Extents.{Extent}
 use Rattle.raw_range.specs.Memory.{extent_of, remove_extent}
-use Rattle.shard_memory.specs.Shards.{Shard, IsBlockOf}
+use Rattle.shard_memory.specs.Shards.{MemoryState, IsBlockOf}
 use Rattle.shard_memory.specs.inside.Lending.{staying}
 use Rattle.shard_memory.proofs.Lending.{less_staying, staying_block, one_less, back_one, same_lent}
 use Rattle.shard_memory.proofs.memory.ShardMemory.back_here.Goals as goal
 
 pub put_block-requires : goal.put_block-requires
 put_block-requires c =
-    let r = subst (λ (s : Shard). IsBlockOf s c.args.piece) (sym c.self.view_is) c.requires in
+    let r = subst (λ (s : MemoryState). IsBlockOf s c.args.piece) (sym c.self.view_is) c.requires in
     (r.0, staying_block c.self.inside.seat.lent (extent_of c.args.piece) c.self.inside.own.blocks r.1)
 
 pub invariant_of-self : goal.invariant_of-self
 invariant_of-self c =
-    let r = subst (λ (s : Shard). IsBlockOf s c.args.piece) (sym c.self.view_is) c.requires in
+    let r = subst (λ (s : MemoryState). IsBlockOf s c.args.piece) (sym c.self.view_is) c.requires in
     let was = c.self.invariant in
     let same = c.put_block.ensures.same in record {
       seat_of = was.seat_of;
@@ -29,10 +29,10 @@ invariant_of-self c =
 pub returns-clause-blocks : goal.returns-clause-blocks
 returns-clause-blocks c =
     ap (staying c.self.inside.seat.lent) c.put_block.ensures.blocks ∙ less_staying c.self.inside.seat.lent (extent_of c.args.piece) c.self.inside.own.blocks
-    ∙ ap (λ (s : Shard). remove_extent (extent_of c.args.piece) s.blocks) c.self.view_is
+    ∙ ap (λ (s : MemoryState). remove_extent (extent_of c.args.piece) s.blocks) c.self.view_is
 
 pub returns-clause-one_less : goal.returns-clause-one_less
 returns-clause-one_less c =
-    let r = subst (λ (s : Shard). IsBlockOf s c.args.piece) (sym c.self.view_is) c.requires in
+    let r = subst (λ (s : MemoryState). IsBlockOf s c.args.piece) (sym c.self.view_is) c.requires in
     ap (λ (xs : List Extent). length (staying c.self.inside.seat.lent xs) + 1) c.put_block.ensures.blocks
-    ∙ one_less c.self.inside.seat.lent (page * c.self.inside.own.pages) (extent_of c.args.piece) c.self.inside.own.blocks c.put_block.ensures.disjoint r.1 ∙ ap (λ (s : Shard). length s.blocks) c.self.view_is
+    ∙ one_less c.self.inside.seat.lent (page * c.self.inside.own.pages) (extent_of c.args.piece) c.self.inside.own.blocks c.put_block.ensures.disjoint r.1 ∙ ap (λ (s : MemoryState). length s.blocks) c.self.view_is

@@ -4,7 +4,7 @@ use Rattle.std.proofs.lemmas.List.Elements.{All-contains}
 use Rattle.layout.specs.Sizes.{page}
 use Rattle.layout.specs.Extents.{extent, IsWithin}
 use Rattle.raw_range.specs.Memory.{Lent, extent_of}
-use Rattle.shard_memory.specs.Shards.{Shard, AreApart, HaveObjects, IsBlockOf, IsSegmentOf, lent_extent}
+use Rattle.shard_memory.specs.Shards.{MemoryState, AreApart, HaveObjects, IsBlockOf, IsSegmentOf, lent_extent}
 use Rattle.shard_memory.proofs.Lists.{disjoint_still}
 use Rattle.shard_memory.proofs.Lending.{stays, staying_block, apart_from_lent, lent_apart, block_of_either}
 use Rattle.shard_memory.proofs.memory.ShardMemory.facts.Goals as goal
@@ -28,7 +28,7 @@ returns-clause-apart c =
 
 pub returns-clause-kinds : goal.returns-clause-kinds
 returns-clause-kinds c =
-    subst (λ (s : Shard). (piece : Lent) → IsSegmentOf s piece → ¬ IsBlockOf s piece) c.self.view_is
+    subst (λ (s : MemoryState). (piece : Lent) → IsSegmentOf s piece → ¬ IsBlockOf s piece) c.self.view_is
     (λ piece segment block. c.facts.ensures.kinds piece segment (block.0, staying_block c.self.inside.seat.lent (extent_of piece) c.self.inside.own.blocks block.1))
 
 pub returns-clause-of_blocks : goal.returns-clause-of_blocks

@@ -4,7 +4,7 @@ use Rattle.layout.specs.Extents.{Extent, AreDisjoint}
 use Rattle.foreign_list.specs.OwnerSeats.{OwnerState}
 use Rattle.foreign_list.specs.Blocks.{piece_id_of}
 use Rattle.shard_memory.specs.Tickets.{Tickets, tickets_out}
-use Rattle.shard_memory.specs.Shards.{Shard}
+use Rattle.shard_memory.specs.Shards.{MemoryState}
 use Rattle.shard_memory.specs.inside.Lending.{AreLent, staying}
 use Rattle.shard_memory.proofs.Tickets.{fewer_out, out_set}
 use Rattle.shard_memory.proofs.Lending.{still_staying, lent_one, same_lent}
@@ -41,14 +41,14 @@ pub returns-clause-out : goal.returns-clause-out
 returns-clause-out c =
     let more = out_set c.self.inside.seat.lent c.in-Some.ticket None (Some (piece_id_of c.in_ok-piece.piece)) c.in-Some.ensures.some.idle in
     let new = ap (λ (s : OwnerState). tickets_out s.lent) c.lend.ensures.lent in
-    let old = ap (λ (s : Shard). tickets_out s.lent) c.self.view_is in
+    let old = ap (λ (s : MemoryState). tickets_out s.lent) c.self.view_is in
     omega (arith, more, new, old)
 
 pub returns-clause-lends : goal.returns-clause-lends
 returns-clause-lends c =
     let more = out_set c.self.inside.seat.lent c.in-Some.ticket None (Some (piece_id_of c.in_ok-piece.piece)) c.in-Some.ensures.some.idle in
     let new = ap (λ (s : OwnerState). tickets_out s.lent) c.lend.ensures.lent in
-    let old = ap (λ (s : Shard). s.lends) c.self.view_is in
+    let old = ap (λ (s : MemoryState). s.lends) c.self.view_is in
     omega (arith, more, new, old)
 
 pub returns-clause-same : goal.returns-clause-same
@@ -64,17 +64,17 @@ returns-clause-same c =
     let wholes = ap (λ (s : OwnerState). s.take_wholes) c.lend.ensures.lent in
     let was = c.self.view_is in
     λ i. record {
-      home = (same.0 ∙ ap (λ (s : Shard). s.home) was) i;
-      owner = (same.1 ∙ ap (λ (s : Shard). s.owner) was) i;
-      pages = (same.2 ∙ ap (λ (s : Shard). s.pages) was) i;
-      blocks = (stay ∙ ap (λ (s : Shard). s.blocks) was) i;
+      home = (same.0 ∙ ap (λ (s : MemoryState). s.home) was) i;
+      owner = (same.1 ∙ ap (λ (s : MemoryState). s.owner) was) i;
+      pages = (same.2 ∙ ap (λ (s : MemoryState). s.pages) was) i;
+      blocks = (stay ∙ ap (λ (s : MemoryState). s.blocks) was) i;
       objects = c.give_block.new.self.objects;
-      segments = (segments ∙ ap (λ (s : Shard). s.segments) was) i;
+      segments = (segments ∙ ap (λ (s : MemoryState). s.segments) was) i;
       pages_out = c.give_block.new.self.pages_out;
       room = c.give_block.new.self.room;
-      list = ap (λ (s : Shard). s.list) was i;
+      list = ap (λ (s : MemoryState). s.list) was i;
       lent = c.lend.new.seat.lent;
       lends = min (c.self.inside.back + tickets_out c.lend.new.seat.lent) (2 ^ 64 - 1);
-      backs = ap (λ (s : Shard). s.backs) was i;
-      take_wholes = (wholes ∙ ap (λ (s : Shard). s.take_wholes) was) i;
+      backs = ap (λ (s : MemoryState). s.backs) was i;
+      take_wholes = (wholes ∙ ap (λ (s : MemoryState). s.take_wholes) was) i;
     }

@@ -5,7 +5,7 @@ use Rattle.layout.specs.Extents.{Extent, AreDisjoint}
 use Rattle.raw_range.specs.Memory.{Lent, extent_of}
 use Rattle.shard_memory.specs.declared.give_refusal.GiveRefusal.{GiveRefusal}
 use Rattle.shard_memory.specs.Tickets.{Tickets}
-use Rattle.shard_memory.specs.Shards.{Shard, IsOneOf}
+use Rattle.shard_memory.specs.Shards.{MemoryState, IsOneOf}
 use Rattle.shard_memory.specs.inside.Pieces.{Pieces}
 use Rattle.shard_memory.specs.inside.Lending.{AreLent, staying}
 use Rattle.shard_memory.proofs.Lists.{has_first}
@@ -16,7 +16,7 @@ pub invariant_of-self : goal.invariant_of-self
 invariant_of-self c =
     let was = c.self.invariant in
     let same = c.give_block.ensures.same in
-    let few = subst (λ (s : Shard). length s.blocks < 1024) (sym c.self.view_is) c.requires.few in record {
+    let few = subst (λ (s : MemoryState). length s.blocks < 1024) (sym c.self.view_is) c.requires.few in record {
       seat_of = was.seat_of;
       walk = was.walk;
       owner = same.1 ∙ was.owner;
@@ -40,7 +40,7 @@ shows (Err e) lent old new was blocks disjoint = tt
 
 pub returns-clause-blocks : goal.returns-clause-blocks
 returns-clause-blocks c =
-    subst (λ (s : Shard). IfOk c.give_block.result (λ piece. staying c.self.inside.seat.lent c.give_block.new.self.blocks ≡ extent_of piece ∷ s.blocks)) c.self.view_is
+    subst (λ (s : MemoryState). IfOk c.give_block.result (λ piece. staying c.self.inside.seat.lent c.give_block.new.self.blocks ≡ extent_of piece ∷ s.blocks)) c.self.view_is
     (shows c.give_block.result c.self.inside.seat.lent c.self.inside.own c.give_block.new.self c.self.invariant.lent c.give_block.ensures.blocks c.give_block.ensures.disjoint)
 
 pub returns-clause-given : goal.returns-clause-given

@@ -1,6 +1,6 @@
 use Rattle.std.proofs.Common.{◌≡◌, ℕ, Bool, true, false, Option, Some, None, IfSome, IfNone, IsTrue, is_some, ◌↔◌, refl, sym, subst}
 use Rattle.shard_memory.specs.Tickets.{Tickets, HasIdle, IsLeastIdle}
-use Rattle.shard_memory.specs.Shards.{Shard}
+use Rattle.shard_memory.specs.Shards.{MemoryState}
 use Rattle.shard_memory.specs.declared.share.Share.{Share}
 use Rattle.shard_memory.proofs.memory.ShardMemory.is_idle.Goals as goal
 
@@ -10,6 +10,6 @@ told lent share (Some t) none some = (λ _. (t, some.of_share, some.idle), λ _.
 
 pub returns : goal.returns
 returns c =
-    subst (λ (s : Shard). IsTrue c.is_some.result ↔ HasIdle s.lent c.args.share) c.self.view_is
+    subst (λ (s : MemoryState). IsTrue c.is_some.result ↔ HasIdle s.lent c.args.share) c.self.view_is
     (subst (λ (b : Bool). b ≡ true ↔ HasIdle c.self.inside.seat.lent c.args.share) (sym c.is_some.ensures)
     (told c.self.inside.seat.lent c.args.share c.first_idle.result c.first_idle.ensures.none c.first_idle.ensures.some))

@@ -10,7 +10,7 @@ use Rattle.layout.specs.Extents.{Extent, extent, Disjoint, AreDisjoint}
 use Rattle.raw_range.specs.Memory.{Memory, Lent, extent_of}
 use Rattle.shard_memory.specs.Shards.{FillPages}
 use Rattle.shard_memory.specs.Room.{LacksBlock, IsTrimmed}
-use Rattle.shard_memory.specs.inside.Pieces.{Pieces}
+use Rattle.shard_memory.specs.inside.Pieces.{Pieces, most_out}
 use Rattle.shard_memory.specs.inside.Parts.{IsConsistent, is_block, blocks_of, segments_of}
 use Rattle.shard_memory.proofs.Lists.{all_of, few_pieces, has_first, kept_by, block_is, block_added, block_leaves_segments, disjoint_still}
 use Rattle.shard_memory.proofs.Counts.{crowded}
@@ -39,7 +39,7 @@ invariant_of-self-2 c = (
   subst (λ (m : Memory). IsConsistent m.pages m.allocated c.take.new.spans c.take.new.self) (sym c.take-2.ensures.allocated)
       (gave_block c.self.inside.range.pages c.self.inside.range.allocated c.self.inside.spans c.take.new.spans c.self.inside.pools c.take.new.self c.in-Some.place c.in_ok-class.class c.args.size c.self.invariant.1 c.in-Some.ensures.was_free
       c.in-Some.ensures.allocated c.in-Some.ensures.pages c.in-Some.ensures.spans c.in-Some.ensures.held c.in-Some.ensures.objects c.in-Some.ensures.divided c.in-Some.ensures.coalesced c.in_ok-class.ensures.least
-      (subst (λ (s : Pieces). length s.blocks < 1056) (sym c.self.view_is) c.requires.few)
+      (subst (λ (s : Pieces). length s.blocks < most_out) (sym c.self.view_is) c.requires.few)
       (subst (λ (m : Memory). AreDisjoint (4096 * m.pages) m.allocated) c.take-2.ensures.allocated c.take-2.ensures.blocks)),
 )
 

@@ -1,5 +1,5 @@
 use Rattle.std.proofs.Common.{sym, ◌∙◌}
-use Rattle.shard_node.proofs.SeenPeers.{of-peers}
+use Rattle.shard_node.proofs.Standing.SeenPeers.{of-peers}
 use Rattle.shard_node.proofs.node.Node.abandon.Goals as goal
 
 pub returns-clause-links : goal.returns-clause-links

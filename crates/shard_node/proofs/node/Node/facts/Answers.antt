@@ -1,5 +1,5 @@
 use Rattle.std.proofs.Common.{◌∙◌}
-use Rattle.shard_node.proofs.SeenPeers.{of-peers}
+use Rattle.shard_node.proofs.Standing.SeenPeers.{of-peers}
 use Rattle.shard_node.proofs.node.Node.facts.Goals as goal
 
 pub returns-clause-peers : goal.returns-clause-peers

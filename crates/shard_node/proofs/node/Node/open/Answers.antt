@@ -1,6 +1,6 @@
 use Rattle.std.proofs.Common.{◌≡◌, length, rules, arith, ap, ◌∙◌}
 use Rattle.std.proofs.lemmas.List.{length-map}
-use Rattle.shard_node.proofs.SeenPeers.{of-peers}
+use Rattle.shard_node.proofs.Standing.SeenPeers.{of-peers}
 use Rattle.shard_node.proofs.node.Node.open.Goals as goal
 
 pub invariant_of-result : goal.invariant_of-result

@@ -1,6 +1,6 @@
 use Rattle.std.proofs.Common.{arith}
-use Rattle.shard_node.proofs.IssuedParts.{few-parts}
-use Rattle.shard_node.proofs.OwnNext.{at-shards, begun-within}
+use Rattle.shard_node.proofs.OwnParts.IssuedParts.{few-parts}
+use Rattle.shard_node.proofs.OwnParts.OwnNext.{at-shards, begun-within}
 use Rattle.shard_node.proofs.own.Own.facts.Goals as goal
 
 pub returns-clause-begun : goal.returns-clause-begun

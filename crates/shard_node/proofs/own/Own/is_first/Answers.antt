@@ -1,6 +1,6 @@
 use Rattle.std.proofs.Common.{refl, sym, ◌∙◌}
-use Rattle.shard_node.proofs.OwnNext.{at-shards, first-of-other, first-of-scan, none-behind, scan-of}
-use Rattle.shard_node.proofs.Places.{no_command}
+use Rattle.shard_node.proofs.OwnParts.OwnNext.{at-shards, first-of-other, first-of-scan, none-behind, scan-of}
+use Rattle.shard_node.proofs.Cursors.Places.{no_command}
 use Rattle.shard_node.proofs.own.Own.is_first.Goals as goal
 use Rattle.shard_node.proofs.own.Own.is_first.Goals.{else-self-commands-via-then-self-commands+else-is_scan, else-self-commands-via-else-self-commands}
 

@@ -2,8 +2,8 @@ use Rattle.std.proofs.Common.{Some, sym, ap, ◌∙◌}
 use Rattle.std.proofs.lemmas.List.{get_or_default}
 use Rattle.trace_text.specs.Operation.{Operation}
 use Rattle.trace_text.specs.Parts.{has_part}
-use Rattle.shard_node.proofs.OwnNext.{all-begun, at-shards, next-in-log}
-use Rattle.shard_node.proofs.Places.{no_command, no_operation, operation-at}
+use Rattle.shard_node.proofs.OwnParts.OwnNext.{all-begun, at-shards, next-in-log}
+use Rattle.shard_node.proofs.Cursors.Places.{no_command, no_operation, operation-at}
 use Rattle.shard_node.proofs.own.Own.next.Goals as goal
 
 pub returns-then-self-commands-clause-some : goal.returns-then-self-commands-clause-some

@@ -1,5 +1,5 @@
 use Rattle.std.proofs.Common.{arith}
-use Rattle.shard_node.proofs.OwnNext.{at-shards, few-begun, some-left}
+use Rattle.shard_node.proofs.OwnParts.OwnNext.{at-shards, few-begun, some-left}
 use Rattle.shard_node.proofs.own.Own.pass.Goals as goal
 
 pub part_after-self-inside-requires-clause-within : goal.part_after-self-inside-requires-clause-within

@@ -8,8 +8,8 @@ use Rattle.trace_text.specs.Parts.{is_put}
 use Rattle.shard_rings.specs.Ask.{asked}
 use Rattle.shard_rings.specs.Request.{request}
 use Rattle.shard_rings.specs.declared.link.Packet.TheVariants.{Block as InBlock}
-use Rattle.shard_node.proofs.NextAsk.{answered, next-is, same-due, set-aside}
-use Rattle.shard_node.proofs.OwnLog.{operation-there}
+use Rattle.shard_node.proofs.Requests.NextAsk.{answered, next-is, same-due, set-stray}
+use Rattle.shard_node.proofs.OwnParts.OwnLog.{operation-there}
 use Rattle.shard_node.proofs.peer.Peer.answer.Goals as goal
 
 pub returns-then-not-is_request-clause-ends : goal.returns-then-not-is_request-clause-ends
@@ -19,7 +19,7 @@ returns-then-not-is_request-clause-ends g c =
     let is : old.asks.left ≡ operation c.args.trace.now.bytes command ∷ drop 1 old.asks.left =
     c.in-Some.ensures.some ∙ ap (λ (t : Parsed). operation t.bytes command ∷ drop 1 old.asks.left) c.requires.trace in
     let other : bytes_eq c.args.block.now.piece.bytes (request (asked c.of-ask.result)) ≡ false = cc in
-    set-aside (InBlock c.args.block.now) old c.args.space.now c.args.journal.now _ _ c.unexpected_request-then-not-is_request.ensures (cc)
+    set-stray (InBlock c.args.block.now) old c.args.space.now c.args.journal.now _ _ c.unexpected_request-then-not-is_request.ensures (cc)
     (same-due old _ (asked c.of-ask.result) c.args.block.now.piece.bytes is c.of-ask.ensures.asked ∙ other)
 
 pub reply_block-requires-clause-room : goal.reply_block-requires-clause-room
@@ -47,5 +47,18 @@ returns-clause-ends g c =
     let there : Contains (trace_in old.asks.trace).operations (operation c.args.trace.now.bytes command) =
     subst (λ (t : Parsed). Contains (trace_in old.asks.trace).operations (operation t.bytes command)) c.requires.trace (operation-there old.asks.trace command c.in-Some.ensures.of_trace) in
     answered old _ c.args.block.now (operation c.args.trace.now.bytes command) (asked c.of-ask.result) c.reply_block.result c.args.space.now c.reply_block.new.self c.args.journal.now
-    c.reply_block.new.journal is (cc) there c.of-ask.ensures.asked c.of-ask.ensures.same c.requires.idle c.reply_block.ensures.none.0 c.reply_block.ensures.replied c.reply_block.ensures.lends
-    c.ok.ensures.value c.pass.ensures.left c.pass.ensures.trace c.pass.ensures.origin c.pass.ensures.shard refl
+    c.reply_block.new.journal is (cc) (record {
+      of_trace = there;
+      line = c.of-ask.ensures.asked;
+      same = c.of-ask.ensures.same;
+      idle = c.requires.idle;
+      none = c.reply_block.ensures.none.0;
+      replied = c.reply_block.ensures.replied;
+      lends = c.reply_block.ensures.lends;
+      reply = c.ok.ensures.value;
+      left = c.pass.ensures.left;
+      trace = c.pass.ensures.trace;
+      origin = c.pass.ensures.origin;
+      shard = c.pass.ensures.shard;
+      heard = refl;
+    })

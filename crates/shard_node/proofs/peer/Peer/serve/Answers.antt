@@ -4,7 +4,7 @@ use Rattle.shard_rings.specs.Lanes.{NoneFell, adds}
 use Rattle.shard_rings.specs.declared.link.Lane.TheVariants.{Requests}
 use Rattle.shard_rings.specs.declared.link.Packet.TheVariants.{Bye}
 use Rattle.shard_node.specs.declared.peer.Peer.{Peer}
-use Rattle.shard_node.proofs.NextAsk.{relinked}
+use Rattle.shard_node.proofs.Requests.NextAsk.{relinked}
 use Rattle.shard_node.proofs.peer.Peer.serve.Goals as goal
 
 pub returns-in-Some-Bye : goal.returns-in-Some-Bye
@@ -17,10 +17,10 @@ returns-in-Some-Bye g c =
     inr (record {
       packet = Bye;
       came = record {
-        received = ap g.L.Link.received (sym link) ∙ (c.in-Some-Bye.ensures.received ∙ ap (λ packet. adds Requests packet (g.L.Link.received old.link)) c.in-Some-Bye.field-0-is);
-        sent = ap g.L.Link.sent (sym link) ∙ c.in-Some-Bye.ensures.sent;
-        full = subst (λ l. NoneFell (g.L.Link.full old.link) (g.L.Link.full l)) link c.in-Some-Bye.ensures.never_falls.0;
-        empty = subst (λ l. NoneFell (g.L.Link.empty old.link) (g.L.Link.empty l)) link c.in-Some-Bye.ensures.never_falls.1;
+        received = ap (λ l. (g.L.Link.traffic l).received) (sym link) ∙ (c.in-Some-Bye.ensures.received ∙ ap (λ packet. adds Requests packet (g.L.Link.traffic old.link).received) c.in-Some-Bye.field-0-is);
+        sent = ap (λ l. (g.L.Link.traffic l).sent) (sym link) ∙ c.in-Some-Bye.ensures.sent;
+        full = subst (λ l. NoneFell (g.L.Link.traffic old.link).full (g.L.Link.traffic l).full) link c.in-Some-Bye.ensures.never_falls.0;
+        empty = subst (λ l. NoneFell (g.L.Link.traffic old.link).empty (g.L.Link.traffic l).empty) link c.in-Some-Bye.ensures.never_falls.1;
         same_end = ap g.L.Link.end (sym link) ∙ c.in-Some-Bye.ensures.same_end;
       };
       tries = (held ∙ c.requires.may.released, refl);

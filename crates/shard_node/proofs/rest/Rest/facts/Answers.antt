@@ -1,5 +1,5 @@
-use Rattle.shard_node.proofs.IssuedParts.{few-parts}
-use Rattle.shard_node.proofs.Rests.{count-left, few-left, in-log, last-left}
+use Rattle.shard_node.proofs.OwnParts.IssuedParts.{few-parts}
+use Rattle.shard_node.proofs.Cursors.Rests.{count-left, few-left, in-log, last-left}
 use Rattle.shard_node.proofs.rest.Rest.facts.Goals as goal
 
 pub returns-clause-in_log : goal.returns-clause-in_log

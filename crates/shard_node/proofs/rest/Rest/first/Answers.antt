@@ -1,5 +1,5 @@
 use Rattle.std.proofs.lemmas.List.{get_or_default}
-use Rattle.shard_node.proofs.Places.{first-left, no_command, no_operation}
+use Rattle.shard_node.proofs.Cursors.Places.{first-left, no_command, no_operation}
 use Rattle.shard_node.proofs.rest.Rest.first.Goals as goal
 
 pub returns-then-self-commands-clause-some : goal.returns-then-self-commands-clause-some

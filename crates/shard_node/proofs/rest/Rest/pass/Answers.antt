@@ -3,7 +3,7 @@ use Rattle.trace_text.specs.Parsed.{trace_in}
 use Rattle.cache_model.specs.OwnParts.{issued_parts}
 use Rattle.shard_node.specs.Due.{operations_for}
 use Rattle.shard_node.specs.inside.Rest.{RestState, all_of, log_of}
-use Rattle.shard_node.proofs.Counts.{longer_front, some_dropped}
+use Rattle.shard_node.proofs.OwnParts.Counts.{longer_front, some_dropped}
 use Rattle.shard_node.proofs.rest.Rest.pass.Goals as goal
 
 pub returns-clause-rises : goal.returns-clause-rises

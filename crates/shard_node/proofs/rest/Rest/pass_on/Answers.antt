@@ -1,8 +1,8 @@
 use Rattle.std.proofs.Common.{suc, arith, ap, sym, ◌∙◌, ◌<◌, ◌%◌, length}
 use Rattle.trace_text.specs.Parsed.{trace_in}
 use Rattle.cache_model.specs.OwnParts.{parts_before}
-use Rattle.shard_node.proofs.PartsBefore.{parts-behind}
-use Rattle.shard_node.proofs.Places.{after-first, no_command, no_operation, round}
+use Rattle.shard_node.proofs.OwnParts.PartsBefore.{parts-behind}
+use Rattle.shard_node.proofs.Cursors.Places.{after-first, no_command, no_operation, round}
 use Rattle.shard_node.proofs.rest.Rest.pass_on.Goals as goal
 
 pub find-self-inside-requires-clause-origin : goal.find-self-inside-requires-clause-origin

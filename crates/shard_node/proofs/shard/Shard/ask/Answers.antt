@@ -5,18 +5,17 @@ use Rattle.trace_text.specs.Operation.{operation}
 use Rattle.trace_text.specs.Parsed.{AreNumbered}
 use Rattle.shard_memory.specs.Tickets.{tickets_out}
 use Rattle.shard_rings.specs.Ask.{asked}
-use Rattle.shard_node.specs.Nodes.{traffic_by}
-use Rattle.shard_node.proofs.Askable.{same_request}
-use Rattle.shard_node.proofs.RequestBegun.{request_begun}
-use Rattle.shard_node.proofs.PeerPairs.{pairs_same}
+use Rattle.shard_node.proofs.Requests.Askable.{same_request}
+use Rattle.shard_node.proofs.Requests.RequestBegun.{request_begun}
+use Rattle.shard_node.proofs.Standing.PeerPairs.{pairs_same}
 use Rattle.cache_model.specs.Legal.{done}
 use Rattle.shard_memory.specs.declared.share.Share.{Share as Shares}
-use Rattle.shard_node.proofs.Growth.{done-evicted}
-use Rattle.shard_node.proofs.PeerGoes.{goes_same}
-use Rattle.shard_node.proofs.StepGoes.{lends_more, no_more, stays_goes}
+use Rattle.shard_node.proofs.OwnParts.Growth.{done-evicted}
+use Rattle.shard_node.proofs.Turning.PeerGoes.{goes_same}
+use Rattle.shard_node.proofs.Turning.StepGoes.{lends_more, no_more, stays_goes}
 use Rattle.shard_node.specs.inside.Moves.{Goes}
 use Rattle.shard_node.specs.inside.Shards.{node_state}
-use Rattle.shard_node.proofs.TicketsBefore.{few_lent, tickets_before}
+use Rattle.shard_node.proofs.Requests.TicketsBefore.{few_lent, tickets_before}
 use Rattle.shard_node.proofs.shard.Shard.ask.Goals as goal
 
 pub returns-in-Ok : goal.returns-in-Ok
@@ -25,11 +24,11 @@ returns-in-Ok g c =
     let command = c.args.command.now in
     let lent : tickets_out self.space.lent ≤ tickets =
     (let all = count_by-le-length is_some self.space.lent in let many = c.facts.ensures.tickets in omega (arith, all, many)) in
-    let traffic = traffic_by g.L.Link.sent g.L.Link.received g.L.Link.full g.L.Link.empty in
+    let traffic = g.L.Link.traffic in
     let none : length (done c.request_block.new.journal.entries) ≡ length (done self.journal.entries) =
     ap (λ entries. length (done entries)) c.in-Ok.ensures.evicted.recorded.entries ∙ ap length (done-evicted self.journal.entries c.in-Ok.ensures.evicted.evicted) in
     record {
-      step = request_begun (traffic_by g.L.Link.sent g.L.Link.received g.L.Link.full g.L.Link.empty) g.L.Link.end
+      step = request_begun g.L.Link.traffic g.L.Link.end
           (record {
             leads = c.a_journal_goes_on.ensures.leads;
             replied = c.a_journal_goes_on.ensures.replied;
@@ -60,6 +59,7 @@ returns-in-Ok g c =
         peers = pairs_same _ _ (λ k a. goes_same traffic a);
         done = omega (arith, none);
         backs = lends_more Shares.Request self.space c.request_block.new.self c.in-Ok.block c.facts.ensures.backs c.in-Ok.ensures.lends;
+        looks = c.in-Ok.ensures.lends.looks;
         tally = no_more self.tally;
       };
       peers = refl;
@@ -82,7 +82,7 @@ returns-in_default-clause-idle g c = absurd (c.in_default.ensures.none.0 refl c.
 
 pub returns-in_default-clause-goes : goal.returns-in_default-clause-goes
 returns-in_default-clause-goes g c =
-    let traffic = traffic_by g.L.Link.sent g.L.Link.received g.L.Link.full g.L.Link.empty in
+    let traffic = g.L.Link.traffic in
     let node = node_state c.args.self.now in
     let same = c.in_default.ensures.unchanged in
     subst (λ s. Goes traffic node (record node { space = s; journal = c.request_block.new.journal })) (sym same.0)

@@ -1,10 +1,9 @@
 use Rattle.std.proofs.Common.{subst, IsTrue, sym, true≢false, Some, refl, ap, ◌∙◌}
-use Rattle.shard_node.specs.Nodes.{traffic_by}
-use Rattle.shard_node.proofs.AsksGate.{asked_back, gate_back, now_below, now_consistent, now_goes, now_idle, now_next, now_received, now_so, now_stepped, now_still, now_there}
+use Rattle.shard_node.proofs.Turning.AsksGate.{asked_back, gate_back, now_below, now_consistent, now_goes, now_idle, now_next, now_received, now_so, now_stepped, now_still, now_there}
 use Rattle.shard_node.specs.inside.Shards.{node_state}
-use Rattle.shard_node.proofs.Joins.{steps_join}
-use Rattle.shard_node.proofs.TellsAsides.{none_join}
-use Rattle.shard_node.proofs.StepGoes.{all_go, still_so}
+use Rattle.shard_node.proofs.Turning.Joins.{steps_join}
+use Rattle.shard_node.proofs.Turning.TellsStrays.{none_join}
+use Rattle.shard_node.proofs.Turning.StepGoes.{all_go, still_so}
 use Rattle.shard_memory.specs.Tickets.{HasIdle}
 use Rattle.shard_memory.specs.declared.share.Share.TheVariants.{Request}
 use Rattle.shard_node.proofs.shard.Shard.begin.Goals.{else-doer-self-via-then-doer-self+else-not-is_idle, else-doer-self-via-else-doer-self}
@@ -12,7 +11,7 @@ use Rattle.shard_node.proofs.shard.Shard.begin.Goals as goal
 
 pub returns-then-not-passes_gate : goal.returns-then-not-passes_gate
 returns-then-not-passes_gate g c =
-    let traffic = traffic_by g.L.Link.sent g.L.Link.received g.L.Link.full g.L.Link.empty in
+    let traffic = g.L.Link.traffic in
     record {
       step = now_stepped c.args.self.now c.passes_gate.new.self c.passes_gate.ensures.same c.requires.consistent traffic g.L.Link.end;
       received = now_received c.args.self.now c.passes_gate.new.self c.passes_gate.ensures.same c.requires.consistent traffic;
@@ -73,7 +72,7 @@ pub returns-then-doer-self-2 : goal.returns-then-doer-self-2
 returns-then-doer-self-2 g c =
     let self = c.args.self.now in
     let now = c.passes_gate.new.self in
-    let traffic = traffic_by g.L.Link.sent g.L.Link.received g.L.Link.full g.L.Link.empty in
+    let traffic = g.L.Link.traffic in
     let end = g.L.Link.end in
     let first = now_stepped self now c.passes_gate.ensures.same c.requires.consistent traffic end in
     record {
@@ -89,7 +88,7 @@ pub returns-else-doer-self-2 : goal.returns-else-doer-self-2
 returns-else-doer-self-2 g c =
     let self = c.args.self.now in
     let now = c.passes_gate.new.self in
-    let traffic = traffic_by g.L.Link.sent g.L.Link.received g.L.Link.full g.L.Link.empty in
+    let traffic = g.L.Link.traffic in
     let end = g.L.Link.end in
     let first = now_stepped self now c.passes_gate.ensures.same c.requires.consistent traffic end in
     let second = steps_join traffic end now c.ask.new.self c.send_request.new.self c.ask.ensures.step c.send_request.ensures.step in

@@ -8,26 +8,25 @@ use Rattle.trace_text.specs.Parsed.{AreNumbered, Parsed}
 use Rattle.cache_model.specs.Spelled.{spelled}
 use Rattle.shard_memory.specs.Tickets.{tickets_out}
 use Rattle.shard_rings.specs.Ask.{asked}
-use Rattle.shard_node.specs.Nodes.{traffic_by}
 use Rattle.shard_node.specs.inside.Parts.{DoesPart}
-use Rattle.shard_node.proofs.Askable.{part_of_operation}
-use Rattle.shard_node.proofs.OwnDone.{own_done, own_fits}
-use Rattle.shard_node.proofs.OwnLog.{next-is-left, operation-there}
-use Rattle.shard_node.proofs.PeerPairs.{pairs_same}
+use Rattle.shard_node.proofs.Requests.Askable.{part_of_operation}
+use Rattle.shard_node.proofs.OwnParts.OwnDone.{own_done, own_fits}
+use Rattle.shard_node.proofs.OwnParts.OwnLog.{next-is-left, operation-there}
+use Rattle.shard_node.proofs.Standing.PeerPairs.{pairs_same}
 use Rattle.std.proofs.lemmas.List.{length-append}
 use Rattle.cache_model.specs.Legal.{done}
-use Rattle.shard_node.proofs.Growth.{done-more}
-use Rattle.shard_node.proofs.PeerGoes.{goes_same}
-use Rattle.shard_node.proofs.StepGoes.{home_more, no_more}
+use Rattle.shard_node.proofs.OwnParts.Growth.{done-more}
+use Rattle.shard_node.proofs.Turning.PeerGoes.{goes_same}
+use Rattle.shard_node.proofs.Turning.StepGoes.{home_more, no_more}
 use Rattle.std.specs.List.{slice_get}
 use Rattle.trace_text.specs.Operation.{Operation}
 use Rattle.trace_text.specs.Parsed.{trace_in}
-use Rattle.shard_node.proofs.BegunParts.{operation-of}
-use Rattle.shard_node.proofs.Served.{get_dropped}
+use Rattle.shard_node.proofs.OwnParts.BegunParts.{operation-of}
 use Rattle.shard_node.specs.Due.{operations_for}
 use Rattle.shard_node.specs.inside.Shards.{issued_by}
-use Rattle.shard_node.proofs.LogPlaces.{place_at}
+use Rattle.shard_node.proofs.OwnParts.LogPlaces.{place_at}
 use Rattle.shard_node.proofs.shard.Shard.do_here.Goals as goal
+use Rattle.shard_node.proofs.Replies.Logged.{get_first}
 
 no_operation : (o : Operation) → None ≡ Some o → ⊥
 no_operation o e = cc
@@ -63,12 +62,12 @@ returns g c =
     (part_of_operation (asked c.of-ask.result) op c.of-ask.ensures.asked c.of-ask.ensures.same c.begun-part.result self.space c.do_part.new.space self.journal c.do_part.new.journal self.log c.do_part.new.log c.do_part.ensures) in
     let out : tickets_out self.space.lent ≤ tickets =
     (let all = count_by-le-length is_some self.space.lent in let many = c.facts.ensures.tickets in omega (arith, all, many)) in
-    let traffic = traffic_by g.L.Link.sent g.L.Link.received g.L.Link.full g.L.Link.empty in
+    let traffic = g.L.Link.traffic in
     let works = c.do_part.ensures.works in
     let more : length (done c.do_part.new.journal.entries) ≡ length (done self.journal.entries) + 1 =
     ap (λ entries. length (done entries)) works.recorded.entries ∙ (ap length (done-more self.journal.entries works.evicted _) ∙ length-append (done self.journal.entries) _) in
     record {
-      step = own_done (traffic_by g.L.Link.sent g.L.Link.received g.L.Link.full g.L.Link.empty) g.L.Link.end
+      step = own_done g.L.Link.traffic g.L.Link.end
           (record {
             leads = c.a_journal_goes_on.ensures.leads;
             replied = c.a_journal_goes_on.ensures.replied;
@@ -102,6 +101,7 @@ returns g c =
         peers = pairs_same _ _ (λ k a. goes_same traffic a);
         done = omega (arith, more);
         backs = home_more self.space.lent c.do_part.new.space.lent self.space.backs c.do_part.new.space.backs c.facts.ensures.backs c.do_part.ensures.came.home;
+        looks = c.do_part.ensures.came.looks;
         tally = no_more self.tally;
       };
       moved = (λ is. inr (omega (arith, more)), λ so. refl);
@@ -114,5 +114,5 @@ returns-in_default-clause-done g c =
     let x = c.requires.consistent in
     let of = operation-of c.issued_parts_are_counted.ensures.peer (trace_in self.trace.now) self.shards self.shard self.shard self.own.begun c.requires.next.0 x.within c.requires.next.1 in
     let none : slice_get self.here.left 0 ≡ None = ap (λ l. slice_get l 0) c.in_default.ensures.none in
-    let some : slice_get self.here.left 0 ≡ Some of.0 = ap (λ l. slice_get l 0) x.own.here ∙ (get_dropped (operations_for (trace_in self.trace.now) self.shards self.shard self.shard) (place_at self.shard (issued_by self) self.own.begun) ∙ of.1) in
+    let some : slice_get self.here.left 0 ≡ Some of.0 = ap (λ l. slice_get l 0) x.own.here ∙ (get_first (operations_for (trace_in self.trace.now) self.shards self.shard self.shard) (place_at self.shard (issued_by self) self.own.begun) ∙ of.1) in
     absurd (no_operation of.0 (sym none ∙ some))

@@ -1,7 +1,7 @@
 use Rattle.std.proofs.Common.{true≢false, not, All, sym, ap, subst, ◌∙◌}
 use Rattle.std.proofs.lemmas.Bool.{eqb-true}
 use Rattle.shard_node.specs.inside.Endings.{HasEnded}
-use Rattle.shard_node.proofs.Byes.{is_none_so}
+use Rattle.shard_node.proofs.Standing.Byes.{is_none_so}
 use Rattle.shard_node.proofs.shard.Shard.is_at_end.Goals as goal
 use Rattle.shard_node.proofs.shard.Shard.is_at_end.Goals.{then-is_none, else-is_none, then-are_all_begun, else-are_all_begun}
 

@@ -1,12 +1,11 @@
 use Rattle.std.proofs.Common.{subst}
 use Rattle.trace_text.specs.Parsed.{AreNumbered}
-use Rattle.shard_node.specs.Nodes.{traffic_by}
-use Rattle.shard_node.proofs.Ends.{done-is-end, end-is-done}
+use Rattle.shard_node.proofs.Standing.Ends.{done-is-end, end-is-done}
 use Rattle.shard_node.proofs.shard.Shard.is_done.Goals as goal
 
 pub returns : goal.returns
 returns g c stands =
-    let traffic = traffic_by g.L.Link.sent g.L.Link.received g.L.Link.full g.L.Link.empty in
+    let traffic = g.L.Link.traffic in
     let shard = c.args.self.now in
     let x = c.requires.consistent in
     let law = c.issued_parts_are_counted.ensures.peer in

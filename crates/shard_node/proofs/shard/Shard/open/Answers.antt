@@ -1,10 +1,9 @@
 use Rattle.std.proofs.Common.{◌∙◌, None, refl}
 use Rattle.shard_node.specs.declared.shard.Shard.{Shard}
-use Rattle.shard_node.specs.Nodes.{traffic_by}
 use Rattle.shard_node.specs.Links.{IsUnused}
-use Rattle.shard_node.proofs.Opened.{IsOpened, opens-consistent}
-use Rattle.shard_node.proofs.OpenedPeers.{all-of}
-use Rattle.shard_node.proofs.OpenedStands.{opens-standing}
+use Rattle.shard_node.proofs.Standing.Opened.{IsOpened, opens-consistent}
+use Rattle.shard_node.proofs.Standing.OpenedPeers.{all-of}
+use Rattle.shard_node.proofs.Standing.OpenedStands.{opens-standing}
 use Rattle.shard_node.proofs.shard.Shard.open.Given.{Over}
 use Rattle.shard_node.proofs.shard.Shard.open.Goals as goal
 
@@ -28,7 +27,7 @@ made g c = record {
   turns = 0;
 }
 
-opened : (g : Over) (c : goal.After-new-2 g) → IsOpened (traffic_by g.L.Link.sent g.L.Link.received g.L.Link.full g.L.Link.empty) (made g c)
+opened : (g : Over) (c : goal.After-new-2 g) → IsOpened g.L.Link.traffic (made g c)
 opened g c = record {
   parsed_for = c.requires.parsed_for;
   within = c.requires.within;
@@ -46,7 +45,7 @@ opened g c = record {
   keys = c.in-Ok.ensures.keys;
   numbers = c.peers_over.ensures.numbers;
   new = c.peers_over.ensures.new;
-  unused = all-of (IsUnused (traffic_by g.L.Link.sent g.L.Link.received g.L.Link.full g.L.Link.empty)) (λ peer. peer.link) c.peers_over.result.items c.args.links.items c.peers_over.ensures.links c.requires.unused;
+  unused = all-of (IsUnused g.L.Link.traffic) (λ peer. peer.link) c.peers_over.result.items c.args.links.items c.peers_over.ensures.links c.requires.unused;
   own_trace = c.of.ensures.trace;
   own_shard = c.of.ensures.shard;
   begun = c.of.ensures.begun;
@@ -60,8 +59,8 @@ opened g c = record {
 
 pub returns-clause-consistent : goal.returns-clause-consistent
 returns-clause-consistent g c =
-    opens-consistent (traffic_by g.L.Link.sent g.L.Link.received g.L.Link.full g.L.Link.empty) (made g c) (opened g c) c.issued_parts_are_counted.ensures.count c.issued_parts_are_counted.ensures.peer c.commands.ensures.well_formed
+    opens-consistent g.L.Link.traffic (made g c) (opened g c) c.issued_parts_are_counted.ensures.count c.issued_parts_are_counted.ensures.peer c.commands.ensures.well_formed
 
 pub returns-clause-standing : goal.returns-clause-standing
 returns-clause-standing g c =
-    opens-standing (traffic_by g.L.Link.sent g.L.Link.received g.L.Link.full g.L.Link.empty) (made g c) (opened g c) c.issued_parts_are_counted.ensures.count c.issued_parts_are_counted.ensures.peer c.commands.ensures.well_formed
+    opens-standing g.L.Link.traffic (made g c) (opened g c) c.issued_parts_are_counted.ensures.count c.issued_parts_are_counted.ensures.peer c.commands.ensures.well_formed

@@ -4,19 +4,18 @@ use Rattle.std.specs.Vec.{with_items}
 use Rattle.std.proofs.lemmas.List.{with_items_is}
 use Rattle.shard_node.specs.inside.Peers.{Each, HoldsOther, held_by_all}
 use Rattle.shard_node.specs.inside.Releases.{Releases}
-use Rattle.shard_node.specs.Nodes.{traffic_by}
 use Rattle.shard_node.specs.inside.Peers.{peer_state}
-use Rattle.shard_node.proofs.PeerPairs.{seen_pairs}
-use Rattle.shard_node.proofs.Steps.{releases}
+use Rattle.shard_node.proofs.Standing.PeerPairs.{seen_pairs}
+use Rattle.shard_node.proofs.Turning.Steps.{releases}
 use Rattle.shard_node.specs.inside.Peers.{TriesHeld}
 use Rattle.shard_node.specs.inside.Shards.{node_state}
-use Rattle.shard_node.proofs.Frees.{frees, not_less, races}
-use Rattle.shard_node.proofs.PeerGoes.{released_same, releases_goes}
+use Rattle.shard_node.proofs.Turning.Frees.{frees, not_less, races}
+use Rattle.shard_node.proofs.Turning.PeerGoes.{released_same, releases_goes}
 use Rattle.shard_node.proofs.shard.Shard.release_held.Goals as goal
 
 pub returns : goal.returns
 returns g c =
-    let traffic = traffic_by g.L.Link.sent g.L.Link.received g.L.Link.full g.L.Link.empty in
+    let traffic = g.L.Link.traffic in
     let peers = c.release_all.new.peers in
     let items = (with_items c.args.self.now.peers peers).items in
     let is : items ≡ peers = with_items_is c.args.self.now.peers peers (c.release_all.auto.peers ∙ c.as_mut_slice.ensures.len) in
@@ -27,7 +26,7 @@ returns g c =
     subst (λ ps. Releases (held_by_all c.args.self.now.peers.items) (held_by_all ps) c.args.self.now.tally c.release_all.new.tally) (sym is)
     (subst (λ ps. Releases (held_by_all ps) (held_by_all peers) c.args.self.now.tally c.release_all.new.tally) old c.release_all.ensures.releases) in
     record {
-      step = releases (traffic_by g.L.Link.sent g.L.Link.received g.L.Link.full g.L.Link.empty) g.L.Link.end c.args.self.now (with_items c.args.self.now.peers peers) c.release_all.new.tally
+      step = releases g.L.Link.traffic g.L.Link.end c.args.self.now (with_items c.args.self.now.peers peers) c.release_all.new.tally
           (ap length is ∙ (c.release_all.auto.peers ∙ ap length old))
           (subst (Each HoldsOther c.args.self.now.peers.items) (sym is) (subst (λ ps. Each HoldsOther ps peers) old (λ k d below. (c.release_all.ensures.each k d below).same)))
           (subst (λ ps. Releases (held_by_all c.args.self.now.peers.items) (held_by_all ps) c.args.self.now.tally c.release_all.new.tally) (sym is)
@@ -44,6 +43,7 @@ returns g c =
             releases_goes traffic _ _ e.before e.after e.same e.tries);
         done = omega arith;
         backs = omega arith;
+        looks = omega arith;
         tally = (freed.released, freed.counts);
       };
       released = λ so. frees traffic g.G.Gate.holds (node_state c.args.self.now) _ c.args.self.now.peers.items items refl refl (ap length is ∙ (c.release_all.auto.peers ∙ ap length old)) freed

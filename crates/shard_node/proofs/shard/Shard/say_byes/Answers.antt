@@ -2,21 +2,20 @@ use Rattle.std.proofs.Common.{refl, ◌≡◌, ◌<◌, ◌↔◌, IsTrue, arith
 use Rattle.shard_rings.specs.Lanes.{on}
 use Rattle.std.specs.Vec.{with_items}
 use Rattle.std.proofs.lemmas.List.{with_items_is}
-use Rattle.shard_node.specs.Nodes.{traffic_by}
 use Rattle.shard_node.specs.inside.Own.{own_log}
 use Rattle.shard_node.specs.inside.Peers.{Each, SaysBye}
 use Rattle.shard_node.specs.inside.Peers.{peer_state}
-use Rattle.shard_node.proofs.PeerPairs.{seen_pairs}
-use Rattle.shard_node.proofs.Byes.{bye_received, is_none_so, says_byes, same_own_log}
+use Rattle.shard_node.proofs.Standing.PeerPairs.{seen_pairs}
+use Rattle.shard_node.proofs.Standing.Byes.{bye_received, is_none_so, says_byes, same_own_log}
 use Rattle.shard_node.specs.inside.Moves.{packets_by_all}
-use Rattle.shard_node.proofs.PeerGoes.{bye_goes}
-use Rattle.shard_node.proofs.HeldUps.{bye_waits}
-use Rattle.shard_node.proofs.StepGoes.{all_none, all_so, no_more}
+use Rattle.shard_node.proofs.Turning.PeerGoes.{bye_goes}
+use Rattle.shard_node.proofs.Turning.HeldUps.{bye_waits}
+use Rattle.shard_node.proofs.Turning.StepGoes.{all_none, all_so, no_more}
 use Rattle.shard_node.proofs.shard.Shard.say_byes.Goals as goal
 
 pub returns-then-is_none-2 : goal.returns-then-is_none-2
 returns-then-is_none-2 g c =
-    let traffic = traffic_by g.L.Link.sent g.L.Link.received g.L.Link.full g.L.Link.empty in
+    let traffic = g.L.Link.traffic in
     let shard = c.args.self.now in
     let x = c.requires.consistent in
     let peers = c.say_byes.new.peers in
@@ -25,10 +24,10 @@ returns-then-is_none-2 g c =
     let says : Each (SaysBye traffic g.L.Link.end) shard.peers.items (with_items shard.peers peers).items =
     subst (Each (SaysBye traffic g.L.Link.end) shard.peers.items) (sym is) (subst (λ ps. Each (SaysBye traffic g.L.Link.end) ps peers) old c.say_byes.ensures.each) in
     record {
-      step = says_byes (traffic_by g.L.Link.sent g.L.Link.received g.L.Link.full g.L.Link.empty) g.L.Link.end c.issued_parts_are_counted.ensures.peer shard (with_items shard.peers peers)
+      step = says_byes g.L.Link.traffic g.L.Link.end c.issued_parts_are_counted.ensures.peer shard (with_items shard.peers peers)
           (ap length is ∙ (c.say_byes.auto.peers ∙ ap length old))
-          (subst (Each (SaysBye (traffic_by g.L.Link.sent g.L.Link.received g.L.Link.full g.L.Link.empty) g.L.Link.end) shard.peers.items) (sym is)
-          (subst (λ ps. Each (SaysBye (traffic_by g.L.Link.sent g.L.Link.received g.L.Link.full g.L.Link.empty) g.L.Link.end) ps peers) old c.say_byes.ensures.each))
+          (subst (Each (SaysBye g.L.Link.traffic g.L.Link.end) shard.peers.items) (sym is)
+          (subst (λ ps. Each (SaysBye g.L.Link.traffic g.L.Link.end) ps peers) old c.say_byes.ensures.each))
           (is_none_so shard.request c.if-is_none.ensures)
           (subst (λ r. IfNone r (shard.own.begun ≡ length (own_log shard.own))) (is_none_so c.next.result c.if-is_none-2.ensures) c.next.ensures.none ∙ ap length (same_own_log shard x))
           x;
@@ -44,6 +43,7 @@ returns-then-is_none-2 g c =
             (subst (λ ps. Each (SaysBye traffic g.L.Link.end) ps peers) old c.say_byes.ensures.each) k d below));
         done = omega arith;
         backs = omega arith;
+        looks = omega arith;
         tally = no_more shard.tally;
       };
       sent = all_so traffic _ shard.peers.items (with_items shard.peers peers).items

@@ -3,20 +3,19 @@ use Rattle.shard_rings.specs.Lanes.{on}
 use Rattle.std.specs.Vec.{with_items}
 use Rattle.std.proofs.lemmas.List.{with_items_is}
 use Rattle.shard_node.specs.inside.Peers.{Each, SendsReply}
-use Rattle.shard_node.specs.Nodes.{traffic_by}
 use Rattle.shard_node.specs.inside.Peers.{peer_state}
-use Rattle.shard_node.proofs.PeerPairs.{seen_pairs}
-use Rattle.shard_node.proofs.Sends.{keeps_replies}
-use Rattle.shard_node.proofs.Steps.{sends_replies}
+use Rattle.shard_node.proofs.Standing.PeerPairs.{seen_pairs}
+use Rattle.shard_node.proofs.Replies.Sends.{keeps_replies}
+use Rattle.shard_node.proofs.Turning.Steps.{sends_replies}
 use Rattle.shard_node.specs.inside.Moves.{packets_by_all}
-use Rattle.shard_node.proofs.PeerGoes.{reply_goes}
-use Rattle.shard_node.proofs.HeldUps.{reply_waits}
-use Rattle.shard_node.proofs.StepGoes.{all_none, all_so, no_more}
+use Rattle.shard_node.proofs.Turning.PeerGoes.{reply_goes}
+use Rattle.shard_node.proofs.Turning.HeldUps.{reply_waits}
+use Rattle.shard_node.proofs.Turning.StepGoes.{all_none, all_so, no_more}
 use Rattle.shard_node.proofs.shard.Shard.send_replies.Goals as goal
 
 pub returns : goal.returns
 returns g c =
-    let traffic = traffic_by g.L.Link.sent g.L.Link.received g.L.Link.full g.L.Link.empty in
+    let traffic = g.L.Link.traffic in
     let peers = c.send_replies.new.peers in
     let items = (with_items c.args.self.now.peers peers).items in
     let is : items ≡ peers = with_items_is c.args.self.now.peers peers (c.send_replies.auto.peers ∙ c.as_mut_slice.ensures.len) in
@@ -24,10 +23,10 @@ returns g c =
     let sends : Each (SendsReply traffic g.L.Link.end) c.args.self.now.peers.items items =
     subst (Each (SendsReply traffic g.L.Link.end) c.args.self.now.peers.items) (sym is) (subst (λ ps. Each (SendsReply traffic g.L.Link.end) ps peers) old c.send_replies.ensures.each) in
     record {
-      step = sends_replies (traffic_by g.L.Link.sent g.L.Link.received g.L.Link.full g.L.Link.empty) g.L.Link.end c.args.self.now (with_items c.args.self.now.peers peers)
+      step = sends_replies g.L.Link.traffic g.L.Link.end c.args.self.now (with_items c.args.self.now.peers peers)
           (ap length is ∙ (c.send_replies.auto.peers ∙ ap length old))
-          (subst (Each (SendsReply (traffic_by g.L.Link.sent g.L.Link.received g.L.Link.full g.L.Link.empty) g.L.Link.end) c.args.self.now.peers.items) (sym is)
-          (subst (λ ps. Each (SendsReply (traffic_by g.L.Link.sent g.L.Link.received g.L.Link.full g.L.Link.empty) g.L.Link.end) ps peers) old c.send_replies.ensures.each))
+          (subst (Each (SendsReply g.L.Link.traffic g.L.Link.end) c.args.self.now.peers.items) (sym is)
+          (subst (λ ps. Each (SendsReply g.L.Link.traffic g.L.Link.end) ps peers) old c.send_replies.ensures.each))
           c.requires.consistent;
       received = λ lane. seen_pairs peer_state _ c.args.self.now.peers.items items (ap length is ∙ (c.send_replies.auto.peers ∙ ap length old))
           (λ k d below.
@@ -41,6 +40,7 @@ returns g c =
             (subst (λ ps. Each (SendsReply traffic g.L.Link.end) ps peers) old c.send_replies.ensures.each) k d below));
         done = omega arith;
         backs = omega arith;
+        looks = omega arith;
         tally = no_more c.args.self.now.tally;
       };
       sent = all_so traffic _ c.args.self.now.peers.items items

@@ -3,17 +3,16 @@ use Rattle.std.specs.Vec.{with_item}
 use Rattle.trace_text.specs.Parsed.{trace_in}
 use Rattle.shard_rings.specs.Lanes.{on}
 use Rattle.shard_node.specs.Due.{operations_for}
-use Rattle.shard_node.specs.Nodes.{traffic_by}
 use Rattle.shard_node.specs.inside.Peers.{peer_state}
 use Rattle.shard_node.specs.inside.Shards.{HasCursors}
 use Rattle.shard_node.specs.inside.Steps.{IsStep}
-use Rattle.shard_node.proofs.PeerPairs.{one_pair, one_pair_in}
-use Rattle.shard_node.proofs.SendsRequest.{at_place, few_owed, goes_elsewhere, request_sent, request_waits}
-use Rattle.shard_node.proofs.TakesReplies.{same_all}
+use Rattle.shard_node.proofs.Standing.PeerPairs.{one_pair, one_pair_in}
+use Rattle.shard_node.proofs.Requests.SendsRequest.{at_place, few_owed, goes_elsewhere, request_sent, request_waits}
+use Rattle.shard_node.proofs.Replies.TakesReplies.{same_all}
 use Rattle.shard_rings.specs.declared.link.Lane.TheVariants.{Requests}
-use Rattle.shard_node.proofs.Packets.{packets_same, packets_sent}
-use Rattle.shard_node.proofs.PeerGoes.{asked_goes, goes_same, refused_goes}
-use Rattle.shard_node.proofs.StepGoes.{never_so, no_more, one_so}
+use Rattle.shard_node.proofs.Turning.Packets.{packets_same, packets_sent}
+use Rattle.shard_node.proofs.Turning.PeerGoes.{asked_goes, goes_same, refused_goes}
+use Rattle.shard_node.proofs.Turning.StepGoes.{never_so, no_more, one_so}
 use Rattle.shard_node.specs.declared.waiting.Waiting.{Waiting}
 use Rattle.shard_node.proofs.shard.Shard.send_request.Goals as goal
 
@@ -38,7 +37,7 @@ pub returns-in-Some-send : goal.returns-in-Some-send
 returns-in-Some-send g c =
     let self = c.args.self.now in
     let x = c.requires.consistent in
-    let traffic = traffic_by g.L.Link.sent g.L.Link.received g.L.Link.full g.L.Link.empty in
+    let traffic = g.L.Link.traffic in
     let old = c.index_mut-asked.result.now in
     let waiting = c.in-Some.field-0 in
     let here = sym c.index_mut-asked.ensures.value in
@@ -55,6 +54,7 @@ returns-in-Some-send g c =
             (refused_goes traffic g.L.Link.end old c.send.new.link c.in-Some-send.ensures.sends.1);
         done = omega arith;
         backs = omega arith;
+        looks = omega arith;
         tally = no_more self.tally;
       };
       moved = never_so traffic (IsTrue false) self.peers.items c.place_of-at.result old (record old { link = c.send.new.link }) at.0 here (self.journal.entries)
@@ -75,7 +75,7 @@ pub returns-in-None : goal.returns-in-None
 returns-in-None g c =
     let self = c.args.self.now in
     let x = c.requires.consistent in
-    let traffic = traffic_by g.L.Link.sent g.L.Link.received g.L.Link.full g.L.Link.empty in
+    let traffic = g.L.Link.traffic in
     let old = c.index_mut-asked.result.now in
     let waiting = c.in-Some.field-0 in
     let here = sym c.index_mut-asked.ensures.value in
@@ -93,6 +93,7 @@ returns-in-None g c =
             (asked_goes traffic g.L.Link.end old c.send.new.link (old.owed + 1) _ c.in-None.ensures.sends);
         done = omega arith;
         backs = omega arith;
+        looks = omega arith;
         tally = no_more self.tally;
       };
       moved = (

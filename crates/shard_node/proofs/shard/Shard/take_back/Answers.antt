@@ -1,23 +1,23 @@
 use Rattle.std.proofs.Common.{arith, refl}
-use Rattle.shard_node.specs.Nodes.{traffic_by}
-use Rattle.shard_node.proofs.PeerGoes.{goes_same}
-use Rattle.shard_node.proofs.PeerPairs.{pairs_same}
-use Rattle.shard_node.proofs.StepGoes.{home_more, no_more}
-use Rattle.shard_node.proofs.Steps.{takes_back}
+use Rattle.shard_node.proofs.Turning.PeerGoes.{goes_same}
+use Rattle.shard_node.proofs.Standing.PeerPairs.{pairs_same}
+use Rattle.shard_node.proofs.Turning.StepGoes.{home_more, no_more}
+use Rattle.shard_node.proofs.Turning.Steps.{takes_back}
 use Rattle.shard_node.proofs.shard.Shard.take_back.Goals as goal
 
 pub returns : goal.returns
 returns g c =
-    let traffic = traffic_by g.L.Link.sent g.L.Link.received g.L.Link.full g.L.Link.empty in
+    let traffic = g.L.Link.traffic in
     let self = c.args.self.now in
     let space = c.take_back.new.self in
     record {
-      step = takes_back traffic g.L.Link.end self space c.take_back.ensures.same c.facts-2.ensures.lends c.requires.consistent;
+      step = takes_back traffic g.L.Link.end self space c.take_back.ensures.same c.facts-2.ensures.lends c.requires;
       received = λ lane. pairs_same _ _ (λ k a. (refl, refl));
       goes = record {
         peers = pairs_same _ _ (λ k a. goes_same traffic a);
         done = omega arith;
         backs = home_more self.space.lent space.lent self.space.backs space.backs c.facts.ensures.backs c.take_back.ensures.taken.home;
+        looks = c.take_back.ensures.taken.looks;
         tally = no_more self.tally;
       };
       same = refl;

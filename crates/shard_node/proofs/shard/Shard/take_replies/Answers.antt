@@ -1,21 +1,20 @@
 use Rattle.std.specs.Prelude.{◌⊎◌}
 use Rattle.std.proofs.Common.{◌<◌, ◌↔◌, IsTrue, inl, inr, arith, refl, sym, subst, ◌∙◌}
 use Rattle.shard_rings.specs.declared.link.Lane.TheVariants.{Replies, Requests}
-use Rattle.shard_node.specs.Nodes.{traffic_by}
-use Rattle.shard_node.specs.inside.Moves.{ReplyLacks, SetsOneAside, Tells, packets_of}
+use Rattle.shard_node.specs.inside.Moves.{ReplyLacks, ReceivesOneStray, Tells, packets_of}
 use Rattle.shard_node.specs.inside.Shards.{node_state}
-use Rattle.shard_node.proofs.Joins.{no_step, steps_join}
-use Rattle.shard_node.proofs.TellsAsides.{none_here, none_join, one_here, one_next, task_of, told_next, told_start}
+use Rattle.shard_node.proofs.Turning.Joins.{no_step, steps_join}
+use Rattle.shard_node.proofs.Turning.TellsStrays.{none_here, none_join, one_here, one_next, task_of, told_next, told_start}
 use Rattle.shard_node.specs.inside.Seen.{has_come}
-use Rattle.shard_node.proofs.StepGoes.{all_go, packets_rise, stays_goes, tries_so_far}
+use Rattle.shard_node.proofs.Turning.StepGoes.{all_go, packets_rise, stays_goes, tries_so_far}
 use Rattle.std.proofs.lemmas.List.{length-map}
 use Rattle.shard_node.specs.inside.Peers.{peer_state}
-use Rattle.shard_node.proofs.HeldUps.{held_next, held_start, reply_lacks_lasts}
+use Rattle.shard_node.proofs.Turning.HeldUps.{held_next, held_start, reply_lacks_lasts}
 use Rattle.shard_node.proofs.shard.Shard.take_replies.Goals as goal
 
 pub loop-at-init : goal.loop-at-init
 loop-at-init g c =
-    let traffic = traffic_by g.L.Link.sent g.L.Link.received g.L.Link.full g.L.Link.empty in
+    let traffic = g.L.Link.traffic in
     let self = c.args.self.now in
     record {
       step = no_step traffic g.L.Link.end self c.requires.consistent;
@@ -25,12 +24,12 @@ loop-at-init g c =
       moved = (λ is. inl is, λ so. elim so [ inl before ↦ before | inr less ↦ absurd (omega (arith, less)) ]);
       held_up = λ quiet. held_start traffic _ (node_state self) (λ k p below. absurd (omega (arith, below)));
       later = λ k from. refl;
-      tells = λ stands. told_start traffic g.G.Gate.holds Replies (node_state self) c.args.seen.now.aside;
+      tells = λ stands. told_start traffic g.G.Gate.holds Replies (node_state self) c.args.seen.now.stray;
     }
 
 pub loop-at-preserved : goal.loop-at-preserved
 loop-at-preserved g c =
-    let traffic = traffic_by g.L.Link.sent g.L.Link.received g.L.Link.full g.L.Link.empty in
+    let traffic = g.L.Link.traffic in
     let first = c.args.self.now in
     let old = c.loop-at.self in
     let new = c.take_reply.new.self in
@@ -51,8 +50,8 @@ loop-at-preserved g c =
           (so_far.held_up (omega (arith, quiet, high))) (c.take_reply.ensures.held_up (omega (arith, quiet, low)));
       later = λ k from. c.take_reply.ensures.others k (λ e. omega (arith, e, from)) ∙ so_far.later k (omega (arith, from));
       tells = λ stands.
-          subst (Tells (SetsOneAside traffic g.G.Gate.holds Replies (node_state first) (node_state new)) c.args.seen.now.aside) (sym c.note_try.ensures.aside)
-          (told_next traffic g.G.Gate.holds Replies (node_state first) (node_state old) (node_state new) at c.take_reply.result c.args.seen.now.aside c.loop-at.seen.aside
+          subst (Tells (ReceivesOneStray traffic g.G.Gate.holds Replies (node_state first) (node_state new)) c.args.seen.now.stray) (sym c.note_try.ensures.stray)
+          (told_next traffic g.G.Gate.holds Replies (node_state first) (node_state old) (node_state new) at c.take_reply.result c.args.seen.now.stray c.loop-at.seen.stray
           (task_of traffic g.G.Gate.holds g.L.Link.end (node_state first) (node_state old) so_far.step.same)
           c.take_reply.ensures.others so_far.later (c.take_reply.ensures.tells (so_far.step.standing stands)) (so_far.tells stands));
     }

@@ -1,19 +1,18 @@
 -- A packet of a peer is received and done.
 use Rattle.std.proofs.Common.{ap, arith, inl, length, ◌≡◌, get_or, refl, sym, subst, ◌∙◌}
 use Rattle.shard_node.specs.inside.Peers.{peer_state}
-use Rattle.shard_node.proofs.AsidesCame.{one_request, request_alone, request_tells}
-use Rattle.shard_node.proofs.PeerPairs.{one_pair, seen_there, set_elsewhere, set_seen}
+use Rattle.shard_node.proofs.Turning.StraysCame.{one_request, request_alone, request_tells}
+use Rattle.shard_node.proofs.Standing.PeerPairs.{one_pair, seen_there, set_elsewhere, set_seen}
 use Rattle.std.proofs.lemmas.List.{get_or_default}
 use Rattle.trace_text.specs.Parsed.{AreNumbered}
 use Rattle.shard_node.specs.declared.peer.Peer.{Peer}
-use Rattle.shard_node.specs.Nodes.{traffic_by}
 use Rattle.shard_node.specs.inside.Serves.{MayAsk}
 use Rattle.std.specs.Vec.{with_item}
 use Rattle.shard_node.specs.inside.Shards.{HasCursors, node_state}
-use Rattle.shard_node.proofs.ServesOne.{puts_room, serves_one, spare_room}
-use Rattle.shard_node.proofs.PeerGoes.{goes_same, served_goes, served_more}
-use Rattle.shard_node.proofs.HeldUps.{served_none}
-use Rattle.shard_node.proofs.StepGoes.{one_none, one_so, served_rises, served_tally}
+use Rattle.shard_node.proofs.Requests.ServesOne.{puts_room, serves_one, spare_room}
+use Rattle.shard_node.proofs.Turning.PeerGoes.{goes_same, served_goes, served_more}
+use Rattle.shard_node.proofs.Turning.HeldUps.{served_none}
+use Rattle.shard_node.proofs.Turning.StepGoes.{one_none, one_so, served_rises, served_tally}
 use Rattle.cache_model.specs.Legal.{done}
 use Rattle.shard_node.proofs.shard.Shard.take_request.Goals as goal
 
@@ -21,7 +20,7 @@ pub serve-tried-requires : goal.serve-tried-requires
 serve-tried-requires g c =
     let self = c.args.self.now in
     let old : Peer g.row.L.Denot = c.index_mut.result.now in
-    let traffic = traffic_by g.L.Link.sent g.L.Link.received g.L.Link.full g.L.Link.empty in
+    let traffic = g.L.Link.traffic in
     let x = c.requires.consistent in
     let within = c.requires.peer in
     let here : (d : Peer g.row.L.Denot) → get_or self.peers.items c.args.at d ≡ old = λ d. get_or_default self.peers.items c.args.at d old within ∙ sym c.index_mut.ensures.value in
@@ -48,7 +47,7 @@ returns-clause-step g c =
     let within = c.requires.peer in
     let here : (d : Peer g.row.L.Denot) → get_or self.peers.items c.args.at d ≡ old = λ d. get_or_default self.peers.items c.args.at d old within ∙ sym c.index_mut.ensures.value in
     let may : MayAsk old = subst (λ (p : Peer g.row.L.Denot). MayAsk p) (c.index.ensures ∙ here c.index.result.now) (c.may_ask.ensures.0 c.if-not-may_ask.false) in
-    serves_one (traffic_by g.L.Link.sent g.L.Link.received g.L.Link.full g.L.Link.empty) g.L.Link.end self c.args.at old c.serve-tried.new.self within here c.requires.consistent
+    serves_one g.L.Link.traffic g.L.Link.end self c.args.at old c.serve-tried.new.self within here c.requires.consistent
     (record {
       leads = c.a_journal_goes_on.ensures.leads;
       replied = c.a_journal_goes_on.ensures.replied;
@@ -64,14 +63,14 @@ pub returns-clause-replies : goal.returns-clause-replies
 returns-clause-replies g c =
     let self = c.args.self.now in
     let old : Peer g.row.L.Denot = c.index_mut.result.now in
-    let traffic = traffic_by g.L.Link.sent g.L.Link.received g.L.Link.full g.L.Link.empty in
+    let traffic = g.L.Link.traffic in
     one_pair peer_state _ self.peers.items c.args.at old c.serve-tried.new.self c.requires.peer (sym c.index_mut.ensures.value) (λ k a apart. (refl, refl))
     (request_alone traffic g.L.Link.end g.G.Gate.holds _ _ _ _ _ _ _ _ _ c.serve-tried.ensures)
 
 pub returns-clause-one : goal.returns-clause-one
 returns-clause-one g c =
     one_pair peer_state _ c.args.self.now.peers.items c.args.at c.index_mut.result.now c.serve-tried.new.self c.requires.peer (sym c.index_mut.ensures.value) (λ k a apart. omega arith)
-    (one_request (traffic_by g.L.Link.sent g.L.Link.received g.L.Link.full g.L.Link.empty) g.L.Link.end g.G.Gate.holds _ _ _ _ _ _ _ _ _ c.serve-tried.ensures)
+    (one_request g.L.Link.traffic g.L.Link.end g.G.Gate.holds _ _ _ _ _ _ _ _ _ c.serve-tried.ensures)
 
 pub returns-clause-others : goal.returns-clause-others
 returns-clause-others g c k apart = set_elsewhere peer_state c.args.self.now.peers.items c.args.at c.serve-tried.new.self k apart
@@ -80,7 +79,7 @@ pub returns-clause-tells : goal.returns-clause-tells
 returns-clause-tells g c stands =
     let self = c.args.self.now in
     let old : Peer g.row.L.Denot = c.index_mut.result.now in
-    let traffic = traffic_by g.L.Link.sent g.L.Link.received g.L.Link.full g.L.Link.empty in
+    let traffic = g.L.Link.traffic in
     let here : (d : Peer g.row.L.Denot) → get_or self.peers.items c.args.at d ≡ old = λ d. get_or_default self.peers.items c.args.at d old c.requires.peer ∙ sym c.index_mut.ensures.value in
     let may : MayAsk old = subst (λ (p : Peer g.row.L.Denot). MayAsk p) (c.index.ensures ∙ here c.index.result.now) (c.may_ask.ensures.0 c.if-not-may_ask.false) in
     request_tells traffic g.L.Link.end g.G.Gate.holds self
@@ -92,26 +91,27 @@ returns-clause-tells g c stands =
 pub returns-clause-goes : goal.returns-clause-goes
 returns-clause-goes g c =
     let self = c.args.self.now in
-    let traffic = traffic_by g.L.Link.sent g.L.Link.received g.L.Link.full g.L.Link.empty in
+    let traffic = g.L.Link.traffic in
     let rises = served_rises traffic g.L.Link.end _ _ _ _ _ _ _ _ _ c.facts.ensures.backs c.serve-tried.ensures in
     record {
       peers = one_pair peer_state _ self.peers.items c.args.at c.index_mut.result.now c.serve-tried.new.self c.requires.peer (sym c.index_mut.ensures.value) (λ k a apart. goes_same traffic (peer_state a))
           (served_goes traffic g.L.Link.end _ _ _ _ _ _ _ _ _ c.serve-tried.ensures);
-      done = rises.1;
+      done = rises.2;
       backs = rises.0;
+      looks = rises.1;
       tally = served_tally traffic g.L.Link.end _ _ _ _ _ _ _ _ _ c.serve-tried.ensures;
     }
 
 pub returns-clause-moved : goal.returns-clause-moved
 returns-clause-moved g c =
-    let traffic = traffic_by g.L.Link.sent g.L.Link.received g.L.Link.full g.L.Link.empty in
+    let traffic = g.L.Link.traffic in
     one_so traffic _ c.args.self.now.peers.items c.args.at c.index_mut.result.now c.serve-tried.new.self c.requires.peer (sym c.index_mut.ensures.value)
     (served_more traffic g.L.Link.end _ _ _ _ _ _ _ _ _ c.serve-tried.ensures)
 
 pub returns-clause-held_up : goal.returns-clause-held_up
 returns-clause-held_up g c quiet =
     let self = c.args.self.now in
-    let traffic = traffic_by g.L.Link.sent g.L.Link.received g.L.Link.full g.L.Link.empty in
+    let traffic = g.L.Link.traffic in
     let old = c.index_mut.result.now in
     let here = sym c.index_mut.ensures.value in
     let n = served_none traffic g.L.Link.end _ _ _ _ _ _ _ _ _ c.serve-tried.ensures (one_none traffic self.peers.items c.args.at old c.serve-tried.new.self c.requires.peer here quiet) in

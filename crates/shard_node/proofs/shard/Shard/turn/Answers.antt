@@ -1,14 +1,13 @@
 use Rattle.std.proofs.Common.{refl, sym, subst, ◌∙◌, true≢false}
 use Rattle.shard_node.specs.Turns.{IsAnswer}
 use Rattle.shard_node.specs.inside.Shards.{node_state}
-use Rattle.shard_node.specs.Nodes.{traffic_by}
-use Rattle.shard_node.proofs.Steps.{counted_done, counted_stands, turn_counted}
-use Rattle.shard_node.proofs.TurnTold.{answers, never_done}
+use Rattle.shard_node.proofs.Turning.Steps.{counted_done, counted_stands, turn_counted}
+use Rattle.shard_node.proofs.Turning.TurnTold.{answers, never_done}
 use Rattle.shard_node.proofs.shard.Shard.turn.Goals as goal
 
 pub returns-then-is_done : goal.returns-then-is_done
 returns-then-is_done g c =
-    let traffic = traffic_by g.L.Link.sent g.L.Link.received g.L.Link.full g.L.Link.empty in
+    let traffic = g.L.Link.traffic in
     let shard = c.args.self.now in
     let turns = c.saturating_add-self.result in
     record {
@@ -23,47 +22,47 @@ returns-then-is_done g c =
 
 pub returns-then-is_done-2-clause-standing : goal.returns-then-is_done-2-clause-standing
 returns-then-is_done-2-clause-standing g c stands =
-    let traffic = traffic_by g.L.Link.sent g.L.Link.received g.L.Link.full g.L.Link.empty in
+    let traffic = g.L.Link.traffic in
     c.make_steps-seen.ensures.step.standing (counted_stands traffic g.L.Link.end c.args.self.now c.saturating_add-self.result stands)
 
 pub returns-then-is_done-2-clause-done : goal.returns-then-is_done-2-clause-done
 returns-then-is_done-2-clause-done g c stands =
-    let traffic = traffic_by g.L.Link.sent g.L.Link.received g.L.Link.full g.L.Link.empty in
+    let traffic = g.L.Link.traffic in
     let later = c.make_steps-seen.ensures.step.standing (counted_stands traffic g.L.Link.end c.args.self.now c.saturating_add-self.result stands) in
     (λ e. (c.is_done-2.ensures later).0 c.if-is_done-2.true, λ d. refl)
 
 pub returns-then-is_done-2-clause-rests : goal.returns-then-is_done-2-clause-rests
 returns-then-is_done-2-clause-rests g c stands done =
-    let traffic = traffic_by g.L.Link.sent g.L.Link.received g.L.Link.full g.L.Link.empty in
+    let traffic = g.L.Link.traffic in
     let turns = c.saturating_add-self.result in
     absurd (true≢false (sym ((c.is_done.ensures (counted_stands traffic g.L.Link.end c.args.self.now turns stands)).1 (counted_done traffic g.L.Link.end c.args.self.now turns done)) ∙ c.if-is_done.false))
 
 pub returns-else-is_done-2-clause-standing : goal.returns-else-is_done-2-clause-standing
 returns-else-is_done-2-clause-standing g c stands =
-    let traffic = traffic_by g.L.Link.sent g.L.Link.received g.L.Link.full g.L.Link.empty in
+    let traffic = g.L.Link.traffic in
     c.make_steps-seen.ensures.step.standing (counted_stands traffic g.L.Link.end c.args.self.now c.saturating_add-self.result stands)
 
 pub returns-else-is_done-2-clause-done : goal.returns-else-is_done-2-clause-done
 returns-else-is_done-2-clause-done g c stands =
-    let traffic = traffic_by g.L.Link.sent g.L.Link.received g.L.Link.full g.L.Link.empty in
+    let traffic = g.L.Link.traffic in
     let later = c.make_steps-seen.ensures.step.standing (counted_stands traffic g.L.Link.end c.args.self.now c.saturating_add-self.result stands) in
-    (λ e. absurd (never_done c.make_steps-seen.result.aside c.make_steps-seen.result.moved (sym c.turn.ensures ∙ e)), λ d. absurd (true≢false (sym ((c.is_done-2.ensures later).1 d) ∙ c.if-is_done-2.false)))
+    (λ e. absurd (never_done c.make_steps-seen.result.stray c.make_steps-seen.result.moved (sym c.turn.ensures ∙ e)), λ d. absurd (true≢false (sym ((c.is_done-2.ensures later).1 d) ∙ c.if-is_done-2.false)))
 
 pub returns-else-is_done-2-clause-rests : goal.returns-else-is_done-2-clause-rests
 returns-else-is_done-2-clause-rests g c stands done =
-    let traffic = traffic_by g.L.Link.sent g.L.Link.received g.L.Link.full g.L.Link.empty in
+    let traffic = g.L.Link.traffic in
     let turns = c.saturating_add-self.result in
     absurd (true≢false (sym ((c.is_done.ensures (counted_stands traffic g.L.Link.end c.args.self.now turns stands)).1 (counted_done traffic g.L.Link.end c.args.self.now turns done)) ∙ c.if-is_done.false))
 
 pub returns-then-is_done-2-clause-answer : goal.returns-then-is_done-2-clause-answer
 returns-then-is_done-2-clause-answer g c stands =
-    let traffic = traffic_by g.L.Link.sent g.L.Link.received g.L.Link.full g.L.Link.empty in
+    let traffic = g.L.Link.traffic in
     let later = c.make_steps-seen.ensures.step.standing (counted_stands traffic g.L.Link.end c.args.self.now c.saturating_add-self.result stands) in
     (c.is_done-2.ensures later).0 c.if-is_done-2.true
 
 pub returns-else-is_done-2-clause-answer : goal.returns-else-is_done-2-clause-answer
 returns-else-is_done-2-clause-answer g c stands =
-    let traffic = traffic_by g.L.Link.sent g.L.Link.received g.L.Link.full g.L.Link.empty in
+    let traffic = g.L.Link.traffic in
     let holds = g.G.Gate.holds in
     let shard = c.args.self.now in
     let new = node_state c.make_steps-seen.new.self in
@@ -71,6 +70,6 @@ returns-else-is_done-2-clause-answer g c stands =
     let counted = counted_stands traffic g.L.Link.end shard c.saturating_add-self.result stands in
     let later = seen.ensures.step.standing counted in
     subst (λ t. IsAnswer traffic holds t (node_state shard) new) (sym c.turn.ensures)
-    (answers traffic holds seen.result.aside seen.result.moved (node_state shard) c.saturating_add-self.result new
+    (answers traffic holds seen.result.stray seen.result.moved (node_state shard) c.saturating_add-self.result new
     (λ d. absurd (true≢false (sym ((c.is_done-2.ensures later).1 d) ∙ c.if-is_done-2.false)))
     (seen.ensures.told counted) (seen.ensures.caused counted) (seen.ensures.held_up counted))

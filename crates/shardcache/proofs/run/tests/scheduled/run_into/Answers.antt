@@ -1,8 +1,8 @@
 use Rattle.std.proofs.Common.{subst, sym}
 use Rattle.std.specs.List.{All}
 use Rattle.trace_text.specs.Parsed.{trace_in}
+use Rattle.shard_rings.specs.Links.{traffic_of}
 use Rattle.shard_node.specs.Standing.{InStanding}
-use Rattle.shard_node.specs.Links.{ring_traffic}
 use Rattle.shard_run.specs.Remaining.{IsRoomFor}
 use Rattle.shardcache.specs.inside.Finished.{IsRunOf}
 use Rattle.shardcache.proofs.Runs.{all-standing, driven-after}
@@ -10,7 +10,7 @@ use Rattle.shardcache.proofs.run.tests.scheduled.run_into.Goals as goal
 
 pub follow-requires-clause-standing : goal.follow-requires-clause-standing
 follow-requires-clause-standing c =
-    subst (All (InStanding ring_traffic)) (sym c.as_mut_slice.ensures.value)
+    subst (All (InStanding traffic_of)) (sym c.as_mut_slice.ensures.value)
     (all-standing (trace_in c.args.trace.now) c.args.trace.now.shards 1280 c.args.homes.now c.in-Ok.nodes.items c.in-Ok.ensures.opened)
 
 pub end_run-requires-clause-driven : goal.end_run-requires-clause-driven

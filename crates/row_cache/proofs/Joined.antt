@@ -1,0 +1,148 @@
+-- The ends of a chain and the links of its rows, where two rows are linked to one another.
+use Rattle.std.proofs.Common.{◌≡◌, ◌≢◌, ℕ, zero, suc, ◌+◌, ◌*◌, ◌/◌, ◌%◌, ◌≤◌, inl, inr, true, false, cond, List, [], ◌∷◌, ◌++◌, length, Option, Some, None, refl, sym, ap, subst, ◌∙◌, arith}
+use Rattle.std.specs.List.{last_or}
+use Rattle.std.specs.Option.{option_eq}
+use Rattle.std.proofs.lemmas.Bool.Decides.{eqb_tells}
+use Rattle.row_bytes.specs.Rows.{newer_in, older_in, no_link}
+use Rattle.regions.specs.Stores.{Live, is_place}
+use Rattle.regions.specs.declared.place.Place.{Place}
+use Rattle.row_cache.specs.Links.{AreLinked, HasRoom, HaveRoom, Lacks, content_of, first_or, follow, led_to, link_to, newer_at, older_at, place_of_link}
+use Rattle.row_cache.specs.declared.ends.Ends.{Ends}
+use Rattle.row_cache.specs.inside.Tables.{HoldsARow}
+use Rattle.row_cache.specs.inside.Chained.{HoldRows, IsChain, JoinsLinks, LinksBefore, LinksBehind}
+use Rattle.row_cache.proofs.States.{place_cases}
+use Rattle.row_cache.proofs.Moving.{place_tells}
+use Rattle.row_cache.proofs.Chains.{some_is, apart_split, last_append, lacks_split, linked_split, none_some, room_split}
+
+-- ---- two writes
+
+pub joined : (a b : Option Place) (old middle new : Live) → LinksBehind a b old middle → LinksBefore a b middle new → JoinsLinks a b old new
+joined a b old middle new f g = record {
+  older = λ p e. g.older p ∙ f.here p e;
+  newer = λ p e. g.here p e;
+  older_others = λ p far. g.older p ∙ f.others p far;
+  newer_others = λ p far. g.others p far ∙ f.newer p;
+}
+
+pub behind_none : (b : Option Place) (live : Live) → LinksBehind None b live live
+behind_none b live = record { here = λ p e. absurd (none_some p e); others = λ p far. refl; newer = λ p. refl }
+
+pub before_none : (a : Option Place) (live : Live) → LinksBefore a None live live
+before_none a live = record { here = λ p e. absurd (none_some p e); others = λ p far. refl; older = λ p. refl }
+
+pub behind_some : (at : Place) (b : Option Place) (old new : Live) → older_at new at ≡ link_to b → newer_at new at ≡ newer_at old at → ((p : Place) → p ≢ at → new p ≡ old p)
+    → LinksBehind (Some at) b old new
+behind_some at b old new here kept others = record {
+  here = λ p e. subst (λ q. older_at new q ≡ link_to b) (some_is e) here;
+  others = λ p far. ap (λ o. older_in (content_of o)) (others p (λ e. far (ap (λ q. Some q) (sym e))));
+  newer = λ p. elim (place_cases p at) [
+    | inl e ↦ subst (λ q. newer_at new q ≡ newer_at old q) (sym e) kept
+    | inr far ↦ ap (λ o. newer_in (content_of o)) (others p far)
+  ];
+}
+
+pub before_some : (at : Place) (a : Option Place) (old new : Live) → newer_at new at ≡ link_to a → older_at new at ≡ older_at old at → ((p : Place) → p ≢ at → new p ≡ old p)
+    → LinksBefore a (Some at) old new
+before_some at a old new here kept others = record {
+  here = λ p e. subst (λ q. newer_at new q ≡ link_to a) (some_is e) here;
+  others = λ p far. ap (λ o. newer_in (content_of o)) (others p (λ e. far (ap (λ q. Some q) (sym e))));
+  older = λ p. elim (place_cases p at) [
+    | inl e ↦ subst (λ q. older_at new q ≡ older_at old q) (sym e) kept
+    | inr far ↦ ap (λ o. older_in (content_of o)) (others p far)
+  ];
+}
+
+-- ---- where a link leads
+
+abbrev at_fields : ℕ → ℕ → Place
+at_fields s a = record { segment = s; at = a }
+
+pub led_back : (p : Place) → HasRoom p → place_of_link (link_to (Some p)) ≡ p
+led_back p h =
+    let s : (p.segment * 4294967296 + p.at) / 4294967296 ≡ p.segment = (let small = h.1 in omega (arith, small)) in
+    let a : (p.segment * 4294967296 + p.at) % 4294967296 ≡ p.at = (let small = h.1 in omega (arith, small)) in
+    ap (λ n. at_fields n ((p.segment * 4294967296 + p.at) % 4294967296)) s ∙ ap (λ n. at_fields p.segment n) a
+
+pub leads_on : (p : Place) → HasRoom p → led_to (link_to (Some p)) ≡ Some p
+leads_on p h = elim (eqb_tells (link_to (Some p)) no_link) [
+  | inl e ↦ absurd (let q = e.1 in let s = h.0 in let a = h.1 in omega (arith, q, s, a))
+  | inr far ↦ ap (λ b. cond b None (Some (place_of_link (link_to (Some p))))) far.0 ∙ ap (λ q. Some q) (led_back p h)
+]
+
+pub followed : (k : ℕ) (live : Live) (before : Option Place) (ps : List Place) → length ps ≤ k → AreLinked live before ps None → HaveRoom ps → follow k live (first_or None ps) ≡ ps
+followed zero live before [] h l room = refl
+followed (suc k) live before [] h l room = refl
+followed zero live before (p ∷ ps) h l room = absurd (omega (arith, h))
+followed (suc k) live before (p ∷ []) h l room =
+    ap (λ link. p ∷ follow k live (led_to link)) l.1 ∙ ap (λ (qs : List Place). p ∷ qs) (followed k live (Some p) [] (omega arith) tt tt)
+followed (suc k) live before (p ∷ q ∷ ps) h l room =
+    ap (λ link. p ∷ follow k live (led_to link)) l.1
+    ∙ (ap (λ o. p ∷ follow k live o) (leads_on q (room.1).0)
+    ∙ ap (λ (qs : List Place). p ∷ qs) (followed k live (Some p) (q ∷ ps) (omega (arith, h)) l.2 room.1))
+
+-- ---- the neighbours of a row
+
+pub rows_split : (live : Live) (xs ys : List Place) → HoldRows live (xs ++ ys) → HoldRows live xs × HoldRows live ys
+rows_split live [] ys h = (tt, h)
+rows_split live (x ∷ xs) ys h = (let r = rows_split live xs ys h.1 in ((h.0, r.0), r.1))
+
+pub rows_merge : (live : Live) (xs ys : List Place) → HoldRows live xs → HoldRows live ys → HoldRows live (xs ++ ys)
+rows_merge live [] ys h k = k
+rows_merge live (x ∷ xs) ys h k = (h.0, rows_merge live xs ys h.1 k)
+
+-- the last of some places has room, and a row
+last_has : (live : Live) (x : Place) (xs : List Place) → HaveRoom (x ∷ xs) → HoldRows live (x ∷ xs) → (z : Place) × (last_or (Some x) xs ≡ Some z) × HasRoom z × HoldsARow (live z)
+last_has live x [] room rows = (x, refl, room.0, rows.0)
+last_has live x (y ∷ ys) room rows = last_has live y ys room.1 rows.1
+
+pub newer_none : (live : Live) (ends : Ends) (at : Place) (xs ys : List Place) → IsChain live ends (xs ++ at ∷ ys) → ends.front ≡ Some at → last_or None xs ≡ None
+newer_none live ends at [] ys c e = refl
+newer_none live ends at (x ∷ xs) ys c e =
+    let same : x ≡ at = some_is (sym c.front ∙ e) in
+    absurd ((lacks_split x xs (at ∷ ys) (c.apart).0).1.0 (sym same))
+
+pub newer_some : (live : Live) (ends : Ends) (at : Place) (xs ys : List Place) → IsChain live ends (xs ++ at ∷ ys) → ends.front ≢ Some at
+    → Some (place_of_link (newer_at live at)) ≡ last_or None xs
+newer_some live ends at [] ys c far = absurd (far c.front)
+newer_some live ends at (x ∷ xs) ys c far =
+    let l = linked_split live None (x ∷ xs) (at ∷ ys) None c.linked in
+    let z = last_has live x xs (room_split (x ∷ xs) (at ∷ ys) c.room).0 (rows_split live (x ∷ xs) (at ∷ ys) c.rows).0 in
+    ap (λ link. Some (place_of_link link)) (l.1.0 ∙ ap link_to z.1) ∙ (ap (λ q. Some q) (led_back z.0 z.2) ∙ sym z.1)
+
+-- what comes last behind others
+pub last_behind : (o : Option Place) (xs : List Place) (at : Place) (ys : List Place) → last_or o (xs ++ at ∷ ys) ≡ last_or (Some at) ys
+last_behind o xs at ys = last_append o xs (at ∷ ys)
+
+last_in : (p : Place) (y : Place) (ys : List Place) → Lacks p (y ∷ ys) → last_or (Some y) ys ≢ Some p
+last_in p y [] l e = l.0 (some_is e)
+last_in p y (z ∷ zs) l e = last_in p z zs l.1 e
+
+pub older_none : (live : Live) (ends : Ends) (at : Place) (xs ys : List Place) → IsChain live ends (xs ++ at ∷ ys) → ends.last ≡ Some at → first_or None ys ≡ None
+older_none live ends at xs [] c e = refl
+older_none live ends at xs (y ∷ ys) c e =
+    let s = apart_split xs (at ∷ y ∷ ys) c.apart in
+    absurd (last_in at y ys (s.1).0 (sym (last_behind None xs at (y ∷ ys)) ∙ (sym c.last ∙ e)))
+
+pub older_some : (live : Live) (ends : Ends) (at : Place) (xs ys : List Place) → IsChain live ends (xs ++ at ∷ ys) → ends.last ≢ Some at
+    → Some (place_of_link (older_at live at)) ≡ first_or None ys
+older_some live ends at xs [] c far = absurd (far (c.last ∙ last_behind None xs at []))
+older_some live ends at xs (y ∷ ys) c far =
+    let l = linked_split live None xs (at ∷ y ∷ ys) None c.linked in
+    let room = (room_split xs (at ∷ y ∷ ys) c.room).1 in
+    ap (λ link. Some (place_of_link link)) l.1.1 ∙ ap (λ q. Some q) (led_back y (room.1).0)
+
+-- ---- a test of an end
+
+pub end_there : (o : Option Place) (at : Place) → option_eq is_place o (Some at) ≡ true → o ≡ Some at
+end_there None at e = absurd (let clash : false ≡ true = e in cc)
+end_there (Some p) at e = elim (place_tells p at) [
+  | inl h ↦ ap (λ q. Some q) h.1
+  | inr h ↦ absurd (let clash : false ≡ true = sym h.0 ∙ e in cc)
+]
+
+pub end_elsewhere : (o : Option Place) (at : Place) → option_eq is_place o (Some at) ≡ false → o ≢ Some at
+end_elsewhere None at e = none_some at
+end_elsewhere (Some p) at e = elim (place_tells p at) [
+  | inl h ↦ absurd (let clash : true ≡ false = sym h.0 ∙ e in cc)
+  | inr h ↦ λ q. h.1 (some_is q)
+]

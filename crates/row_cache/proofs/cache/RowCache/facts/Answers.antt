@@ -1,0 +1,25 @@
+use Rattle.std.proofs.Common.{◌≡◌, List, length, sym, ap, ◌∙◌, arith}
+use Rattle.std.proofs.lemmas.List.{length-map}
+use Rattle.cache_model.specs.Row.{Row, live}
+use Rattle.regions.specs.Counts.{live_total}
+use Rattle.regions.specs.Contents.{live_at}
+use Rattle.row_cache.specs.Rows.{CacheState, row_at, rows_of}
+use Rattle.row_cache.specs.inside.Consistent.{rows_in}
+use Rattle.row_cache.proofs.Caches.{rows_read}
+use Rattle.row_cache.proofs.cache.RowCache.facts.Goals as goal
+
+pub returns-clause-live : goal.returns-clause-live
+returns-clause-live c =
+    let t = c.self.inside.tables in let r = c.self.inside.region in
+    let was : rows_in t r ≡ rows_of c.args.self.now = sym (rows_read t r c.self.inside.live c.self.invariant) ∙ ap rows_of c.self.view_is in
+    ap live (sym was) ∙ (c.self.invariant.counted.sizes ∙ ap (λ (x : CacheState). live_total x.region) c.self.view_is)
+
+pub returns-clause-room : goal.returns-clause-room
+returns-clause-room c =
+    let t = c.self.inside.tables in let r = c.self.inside.region in
+    let was : rows_in t r ≡ rows_of c.args.self.now = sym (rows_read t r c.self.inside.live c.self.invariant) ∙ ap rows_of c.self.view_is in
+    let a = c.self.invariant.counted.tables.numbers in let count = a.count in let few = a.few in
+    let seen : length (rows_of c.args.self.now) ≡ length (rows_in t r) = ap (λ (x : List Row). length x) (sym was) in
+    let long : length (rows_in t r) ≡ length t.recency = length-map t.recency (row_at (live_at r) t.places) in
+    let room = ap (λ (x : CacheState). x.room) c.self.view_is in
+    omega (arith, count, few, seen, long, room)

@@ -1,0 +1,12 @@
+-- Requests: what is asked, done and served.
+pub mod Served
+pub mod Askable
+pub mod NextAsk
+pub mod DueNext
+pub mod Serving
+pub mod DoesNext
+pub mod SendsRequest
+pub mod BeginsRequest
+pub mod RequestBegun
+pub mod ServesOne
+pub mod TicketsBefore

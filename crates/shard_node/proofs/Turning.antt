@@ -1,0 +1,16 @@
+-- The steps of a turn, and what it answers.
+pub mod Releases
+pub mod Each
+pub mod Steps
+pub mod Joins
+pub mod AsksGate
+pub mod TellsStrays
+pub mod StraysCame
+pub mod TurnTold
+pub mod Packets
+pub mod PeerGoes
+pub mod Frees
+pub mod StepGoes
+pub mod TurnMoves
+pub mod HeldUps
+pub mod IdleTurn
