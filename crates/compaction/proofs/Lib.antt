@@ -1,4 +1,7 @@
 pub mod Moves
 pub mod Shut
 pub mod Drains
+pub mod Chosen
 pub mod Full
+pub mod Steps
+pub mod Stays

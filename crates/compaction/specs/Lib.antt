@@ -1,3 +1,4 @@
 pub mod Sparse
 pub mod Emptied
+pub mod Passes
 pub mod inside

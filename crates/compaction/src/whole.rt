@@ -1,35 +1,39 @@
 //! Segments are emptied until two are free or none is sparse.
-ghost use Rattle.std.specs.Prelude.{◌≡◌, ◌≢◌, ◌↔◌, ◌⊎◌, ℕ, ◌<◌, ◌≤◌, true, false, Some};
+ghost use Rattle.std.specs.Prelude.{◌≡◌, ◌↔◌, ◌⊎◌, ℕ, ◌<◌, ◌≤◌, true, false, List, Some, IsNone, IfSome};
 ghost use Rattle.layout.specs.Sizes as sizes;
-ghost use Rattle.regions.specs.Shapes.{guards_of, active_of, free_count};
-ghost use Rattle.regions.specs.Counts.{used_counts, used_total, left};
-ghost use Rattle.regions.specs.Contents.{live_at, Keeps};
+ghost use Rattle.regions.specs.Segments.{RegionState};
+ghost use Rattle.regions.specs.Shapes.{active_of, guards_of, free_count, HasGroup, IsUnguarded};
+ghost use Rattle.regions.specs.Counts.{used_total, left};
+ghost use Rattle.regions.specs.Contents.{live_at};
 ghost use Rattle.regions.specs.Stores.{store_of};
-ghost use Rattle.compaction.specs.Sparse.{AreDense, IsDense, IsSparse, IsCompacted, HasRoom};
+ghost use Rattle.compaction.specs.Sparse.{IsCompacted, IsDense, IsSpent};
 ghost use Rattle.compaction.specs.Emptied.{HoldsTheSame};
+ghost use Rattle.compaction.specs.Passes.{Passes, FreesOne, ClosesAndEmpties};
 
-use crate::compact::{Compacted, compact_one};
+use crate::compact::{Compacted, compact_in, compact_one};
 use layout::{DENSE, GREATEST_OBJECT};
 use regions::{Movers, Region};
 
-/// Empties segments, the sparsest first, until two are free: `Freed`. An active segment that is sparse and full is closed
-/// first where it would stand in the way. A segment is free before and after.
+/// Empties segments until two are free: `Freed`. Where a group's active segment is sparse and full it is closed, and the
+/// sparsest segment of that group is emptied, the lowest such group first; where there is none, the sparsest segment of all is
+/// emptied. A segment is free before and after.
 ///
-/// `Guarded` where a guard stands, and then nothing changed. `NoneSparse` only where nothing is left to compact: every
-/// closed segment is dense, the active one is dense or has room for an object of any size, and at most one is free.
+/// `Guarded` where any group has a guard, and then nothing changed. `NoneSparse` only where nothing is left to compact: every
+/// closed segment is dense, each active one is dense or has room for an object of any size, and at most one is free.
 pub fn pass<M: Movers>(region: &mut Region, movers: &mut M) -> Compacted
     requires fits { M.fits movers.old (live_at region.old) }
     requires free { 1 ≤ free_count region.old }
 
     // What it answers, and when nothing changed.
-    ensures guarded { result ≡ Compacted.Guarded ↔ 1 ≤ guards_of region.old }
+    ensures guarded { result ≡ Compacted.Guarded ↔ ¬ IsUnguarded region.old }
     ensures unchanged { result ≡ Compacted.Guarded → (region.new ≡ region.old) × (movers.new ≡ movers.old) }
     ensures freed { result ≡ Compacted.Freed → 2 ≤ free_count region.new }
     ensures none { result ≡ Compacted.NoneSparse → IsCompacted region.new }
-    ensures enough { guards_of region.old ≡ 0 → 2 ≤ free_count region.old
+    ensures enough { IsUnguarded region.old → 2 ≤ free_count region.old
         → (result ≡ Compacted.Freed) × (region.new ≡ region.old) × (movers.new ≡ movers.old) }
 
-    // A segment is free.
+    // What it does, one segment after the other. A segment is free.
+    ensures steps { (states : List RegionState) × Passes M.bare region.old states region.new }
     ensures free { 1 ≤ free_count region.new }
 
     // The store is the same, and nothing else of the mover changed.
@@ -39,7 +43,7 @@ pub fn pass<M: Movers>(region: &mut Region, movers: &mut M) -> Compacted
     ensures rest { M.rest movers.new ≡ M.rest movers.old }
     ensures holds { HoldsTheSame region.old region.new }
 {
-    if region.guards() > 0 {
+    if is_guarded(region) {
         return Compacted::Guarded;
     }
     while region.free_segments() < 2 {
@@ -50,15 +54,30 @@ pub fn pass<M: Movers>(region: &mut Region, movers: &mut M) -> Compacted
     Compacted::Freed
 }
 
-// Empties one more segment, the active one among them if it is sparse and full. Answers whether one was sparse.
+// Whether any group has a guard.
+fn is_guarded(region: &Region) -> bool
+    ensures { result ≡ false ↔ IsUnguarded region.now }
+{
+    for group in 0..region.groups() {
+        if region.guards(group) > 0 {
+            return true;
+        }
+    }
+    false
+}
+
+// Empties one more segment: of the lowest group whose active one is sparse and full, which is closed first, or where there is
+// none of all groups. Answers whether one was sparse.
 fn free_one<M: Movers>(region: &mut Region, movers: &mut M) -> bool
-    requires guards { guards_of region.old ≡ 0 }
+    requires guards { IsUnguarded region.old }
     requires free { free_count region.old ≡ 1 }
     requires fits { M.fits movers.old (live_at region.old) }
 
-    // Fewer bytes are used, or nothing is left to compact.
+    // A segment was emptied and fewer bytes are used, or nothing is left to compact and nothing changed.
+    ensures step { result ≡ true → FreesOne M.bare region.old region.new }
     ensures lower { result ≡ true → used_total region.new < used_total region.old }
     ensures none { result ≡ false → IsCompacted region.new }
+    ensures unchanged { result ≡ false → (region.new ≡ region.old) × (movers.new ≡ movers.old) }
 
     // A segment is free.
     ensures free { 1 ≤ free_count region.new }
@@ -70,33 +89,62 @@ fn free_one<M: Movers>(region: &mut Region, movers: &mut M) -> bool
     ensures rest { M.rest movers.new ≡ M.rest movers.old }
     ensures holds { HoldsTheSame region.old region.new }
 {
-    close_spent(region);
-    compact_one(region, movers) == Compacted::Freed
-}
-
-// Closes the active segment where it is sparse and full. Where every closed one is dense then, nothing is left to compact.
-fn close_spent(region: &mut Region)
-    requires { free_count region.old ≡ 1 }
-    ensures objects { Keeps region.old region.new }
-    ensures used { used_counts region.new ≡ used_counts region.old }
-    ensures holds { HoldsTheSame region.old region.new }
-    ensures room { HasRoom region.new }
-    ensures dense { AreDense region.new → IsCompacted region.new × (1 ≤ free_count region.new) }
-{
-    if is_spent(region) {
-        region.next_active();
+    match first_spent(region) {
+        Some(group) => close_and_empty(region, group, movers),
+        None => compact_one(region, movers) == Compacted::Freed,
     }
 }
 
-// Whether the active segment is sparse and full.
-fn is_spent(region: &Region) -> bool
-    ensures spent { result ≡ true → (n : ℕ) × (active_of region.now ≡ Some n) × IsSparse region.now n ×
-        (left region.now < sizes.greatest_object) }
-    ensures other { result ≡ false → (n : ℕ) → active_of region.now ≡ Some n
-        → IsDense region.now n ⊎ (sizes.greatest_object ≤ left region.now) }
+// Closes the active segment of the group, which is sparse and full, and empties the sparsest one of the group.
+fn close_and_empty<M: Movers>(region: &mut Region, group: u32, movers: &mut M) -> bool
+    requires group { HasGroup region.old group }
+    requires spent { IsSpent region.old group }
+    requires first { (h : ℕ) → h < group → ¬ IsSpent region.old h }
+    requires guards { guards_of region.old group ≡ 0 }
+    requires free { 1 ≤ free_count region.old }
+    requires fits { M.fits movers.old (live_at region.old) }
+
+    // A segment was emptied, fewer bytes are used, and a segment is free.
+    ensures freed { result ≡ true }
+    ensures step { ClosesAndEmpties M.bare group region.old region.new }
+    ensures lower { used_total region.new < used_total region.old }
+    ensures free { 1 ≤ free_count region.new }
+
+    // The store is the same, and nothing else of the mover changed.
+    ensures fits { M.fits movers.new (live_at region.new) }
+    ensures store { (n : ℕ) → store_of M.bare (M.place_of movers.new) (live_at region.new) n ≡ store_of M.bare
+        (M.place_of movers.old) (live_at region.old) n }
+    ensures rest { M.rest movers.new ≡ M.rest movers.old }
+    ensures holds { HoldsTheSame region.old region.new }
 {
-    match region.active() {
-        Some(active) => region.live_in(active) <= DENSE && region.left() < GREATEST_OBJECT,
+    region.next_active(group);
+    compact_in(region, group, movers) == Compacted::Freed
+}
+
+// The lowest group whose active segment is sparse and full.
+fn first_spent(region: &Region) -> Option<u32>
+    ensures none { IsNone result → (g n : ℕ) → active_of region.now g ≡ Some n
+        → IsDense region.now n ⊎ (sizes.greatest_object ≤ left region.now g) }
+    ensures some { IfSome result (λ g. HasGroup region.now g × IsSpent region.now g) }
+    ensures first { IfSome result (λ g. (h : ℕ) → h < g → ¬ IsSpent region.now h) }
+{
+    for group in 0..region.groups() {
+        if is_spent(region, group) {
+            return Some(group);
+        }
+    }
+    None
+}
+
+// Whether the active segment of the group is sparse and full.
+fn is_spent(region: &Region, group: u32) -> bool
+    requires group { HasGroup region.now group }
+    ensures spent { result ≡ true → IsSpent region.now group }
+    ensures other { result ≡ false → (n : ℕ) → active_of region.now group ≡ Some n
+        → IsDense region.now n ⊎ (sizes.greatest_object ≤ left region.now group) }
+{
+    match region.active(group) {
+        Some(active) => region.live_in(active) <= DENSE && region.left(group) < GREATEST_OBJECT,
         None => false,
     }
 }

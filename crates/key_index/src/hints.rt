@@ -164,6 +164,13 @@ impl Hints {
         }
     }
 
+    /// Notes that no block is in use.
+    pub(crate) fn clear(&mut self) {
+        self.leads.clear();
+        self.skip = 0;
+        self.left = 0;
+    }
+
     /// Notes that a block is no longer in use, if one is.
     pub(crate) fn end(&mut self, block: Option<usize>) {
         if let Some(block) = block {

@@ -4,6 +4,7 @@ ghost use Rattle.key_index.specs.Order.{AreRising, Each, PutsIn, TakesOut, rows_
 ghost use Rattle.key_index.specs.Index.{IsIndexOf, IsOrdered, IsPlaceFor, IsRowAt};
 
 use crate::blocks::{HALF, begin, entry_at, make_room, put, sharpen, spare_blocks, take_out};
+use crate::clearing::drop_all;
 use crate::entries::{Entry, entry_of, has_key};
 use crate::hints::Hints;
 use crate::keys::Keys;
@@ -188,6 +189,15 @@ impl KeyIndex {
         };
         self.remove_at(found);
         Some(found.row)
+    }
+
+    /// Takes all rows out. The memory stays reserved.
+    pub fn clear(&mut self)
+        ensures { self.new ≡ record { rows = []; room = self.old.room; kept = [] } }
+    {
+        drop_all(&mut self.blocks, &mut self.spare);
+        self.count = 0;
+        self.hints.clear();
     }
 
     /// The rows of the keys that are at or above a key, in order.

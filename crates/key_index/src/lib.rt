@@ -11,6 +11,7 @@
 #![tactic(auto)]
 
 mod blocks;
+mod clearing;
 mod entries;
 mod hints;
 mod index;

@@ -140,6 +140,19 @@ impl KeyTable {
         true
     }
 
+    /// Takes all rows out. There are as many slots as at first then, and the memory of all stays reserved.
+    pub fn clear(&mut self)
+        ensures { self.new ≡ record { room = self.old.room; kept = [] } }
+    {
+        if self.count == 0 {
+            return;
+        }
+        self.mask = self.mask.min(LEAST);
+        self.slots.clear();
+        clear(&mut self.slots, self.mask as usize + 1 + REACH);
+        self.count = 0;
+    }
+
     /// What holds of each table, whoever keeps the keys of its rows: it stays the table of its rows where keys are moved.
     pub fn law(&self)
         ensures moved { (before after : ℕ → List ℕ) → ((n : ℕ) → Has self.now n → after n ≡ before n)

@@ -179,6 +179,19 @@ impl LazyIndex {
         }
     }
 
+    /// Takes all rows out. The memory stays reserved.
+    pub fn clear(&mut self)
+        ensures room { self.new.room ≡ self.old.room }
+        ensures table { self.new.table ≡ record { room = self.old.room; kept = [] } }
+        ensures order { self.new.order ≡ record { rows = []; room = self.old.room; kept = [] } }
+        ensures late { self.new.late ≡ [] }
+    {
+        self.table.clear();
+        self.order.clear();
+        self.late.clear();
+        self.outside = 0;
+    }
+
     /// Puts the rows that wait into the order.
     pub fn settle<K: Keys>(&mut self, keys: &K)
         requires { IsLazyOf (K.has_row keys.now) (K.key_of keys.now) self.old }

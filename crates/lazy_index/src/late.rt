@@ -90,6 +90,13 @@ impl Late {
         fill(&mut self.numbers, &mut self.places, place, last);
     }
 
+    /// Takes all numbers out.
+    pub fn clear(&mut self)
+        ensures { self.new ≡ record { bound = self.old.bound; numbers = [] } }
+    {
+        self.numbers.clear();
+    }
+
     /// Sorts the numbers by the first bytes of their keys, the least last.
     pub(crate) fn sort<K: Keys>(&mut self, keys: &K)
         requires { (n : ℕ) → 1 ≤ times n self.old.numbers → K.has_row keys.now n }

@@ -66,7 +66,7 @@ pub(crate) fn sort_all<K: Keys>(keys: &K, numbers: &mut Vec<u32>, waiting: &mut 
     ensures waiting_fit { vec_capacity waiting.old ≤ vec_capacity waiting.new }
 {
     note_all(keys, numbers, waiting);
-    waiting.sort_unstable_by_key(|entry| !entry.lead);
+    waiting.sort_unstable_by_key(|entry| (!entry.lead, !entry.number));
     take_all(waiting, numbers);
 }
 

@@ -9,15 +9,15 @@ use denote.Param.Send.{IsSend, part_keyless, array_send, sendable, Frees, struct
 use denote.RattleType.{RattleType}
 use denote.Struct.Declared as declared
 use Rattle.std.specs.declared.alloc.Allocator.{Ghosts}
-use Rattle.std.specs.Vec.{with_items}
 use Rattle.std_alloc.proofs.SendSync.{Vec-send}
 use Rattle.raw_range.specs.contracts.memory.Unallocated as Unallocated
 use Rattle.raw_range.specs.contracts.memory.Run as Run
+use Rattle.raw_range.specs.contracts.memory.Unfilled as Unfilled
 use Rattle.raw_range.specs.contracts.memory.Sole as Sole
 use Rattle.raw_range.specs.contracts.memory.Sole.TheInside as Inside
 use Rattle.layout.specs.Extents.{Extent}
 use Rattle.raw_range.specs.inside.Covered.{is_allocated}
-use Rattle.raw_range.specs.inside.Ownership.{run_owns, byte_owns, rest_owns}
+use Rattle.raw_range.specs.inside.Ownership.{run_owns, room_owns, byte_owns, rest_owns}
 
 pub u8-send : IsSend u8
 u8-send = search sendable
@@ -26,17 +26,15 @@ pub run_owns-keyless : (p : Ptr) (xs : List ℕ) → Keyless (run_owns p xs)
 run_owns-keyless (block_ptr b o) xs = part_keyless (Array u8 (length xs)) (array_send u8 (length xs) u8-send) full_share xs b o
 run_owns-keyless null_ptr xs = tt
 
+room_owns-keyless : (p : Ptr) (n : ℕ) → Keyless (room_owns p n)
+room_owns-keyless (block_ptr b o) n = tt
+room_owns-keyless null_ptr n = tt
+
 pub sole-send : (A : RattleType) (g : Ghosts A.Denot) → IsSend A → Frees g g.dealloc_token → IsSend (Sole.the_row A g)
 sole-send A g s f = record {
   owned = λ e vs. (
     (λ _. tt),
-    λ v. (
-      tt,
-      λ xs. (
-        (tt, run_owns-keyless e.ptr xs),
-        (struct_send (declared.shape (Inside.the_type A g)) (Vec-send u8 A g u8-send s f, tt)).owned (with_items v.vec xs, tt) vs,
-      ),
-    ),
+    λ v. (tt, (tt, (room_owns-keyless e.ptr e.len, (struct_send (declared.shape (Inside.the_type A g)) (Vec-send u8 A g u8-send s f, tt)).owned (v.vec, tt) vs))),
   );
   leaving = λ k x w. tt;
 }
@@ -51,6 +49,9 @@ rest_owns-keyless allocated b o i (x ∷ xs) = (byte_owns-keyless (is_allocated 
 
 pub run-send : IsSend Run.the_row
 run-send = owning_send Run.the_type tt (λ d. run_owns-keyless d.ptr d.items) (λ k x w. tt)
+
+pub unfilled-send : IsSend Unfilled.the_row
+unfilled-send = owning_send Unfilled.the_type tt (λ d. room_owns-keyless d.ptr d.len) (λ k x w. tt)
 
 pub unallocated-send : IsSend Unallocated.the_row
 unallocated-send = owning_send Unallocated.the_type tt (λ d. rest_owns-keyless d.allocated (block_of d.ptr) (count_of d.ptr) 0 d.bytes) (λ k x w. tt)

@@ -43,6 +43,11 @@ pub is_allocated-apart : (allocated : List Extent) (p : Extent) (k : ℕ) → Al
 is_allocated-apart allocated p k apart h =
     list_any_none (λ q. covers q k) allocated (λ i d w. covers-beside (slice_index_or allocated i d) k (beside-apart p (slice_index_or allocated i d) k (apart i d w) h))
 
+-- behind the end of all extents no byte is allocated
+pub is_allocated-behind : (size : ℕ) (allocated : List Extent) (k : ℕ) → All (IsWithin size) allocated → size ≤ k → is_allocated allocated k ≡ false
+is_allocated-behind size allocated k within h =
+    list_any_none (λ q. covers q k) allocated (λ i d w. let q = slice_index_or allocated i d in covers-beside q k (inr (omega (arith, (within i d w).1, h))))
+
 pub is_allocated-cons_in : (allocated : List Extent) (p : Extent) (k : ℕ) → IsIn p k → is_allocated (p ∷ allocated) k ≡ true
 is_allocated-cons_in allocated p k h = rw (covers-in p k h) refl
 

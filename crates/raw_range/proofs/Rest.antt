@@ -88,6 +88,15 @@ module _ {M : Type 1} {𝓤 : Ura M} (𝓛 : Logic 𝓤) where
         move ! (0 ∷ 2 ∷ []) $ use2 𝓛 (‵ (rest_owns allocated' b m j (part ++ back))) (rest-glue allocated' b m j part back) $
         move ! (1 ∷ 0 ∷ []) $ use2 𝓛 (‵ (rest_owns allocated' b o 0 (front ++ (part ++ back)))) (rest-glue allocated' b o 0 front (part ++ back)) $ done !
 
+  -- the bytes behind the last one join them
+  pub rest-append : (allocated : List Extent) (b o : ℕ) (xs ys : List ℕ) → ((k : ℕ) → length xs ≤ k → is_allocated allocated k ≡ false)
+      → ent 𝓤 (sep 𝓤 ⟦ rest_owns allocated b o 0 xs ⟧ ⟦ bytes full_share ys b (o + length xs) ⟧) ⟦ rest_owns allocated b o 0 (xs ++ ys) ⟧
+  rest-append allocated b o xs ys free =
+      let m = o + length xs in let j = 0 + length xs in
+      qed 𝓛 (‵ (rest_owns allocated b o 0 xs) ∷ ‵ (bytes full_share ys b m) ∷ []) ∵ move ! (1 ∷ []) $
+      rewrite ! 0 (λ P. ‵ P) (sym (rest-free allocated b m j ys (λ k low high. free k (omega (arith, low))))) refl $ move ! (1 ∷ 0 ∷ []) $
+      use2 𝓛 (‵ (rest_owns allocated b o 0 (xs ++ ys))) (rest-glue allocated b o 0 xs ys) $ done !
+
   -- the bytes of the part come back, in the place of as many that were there
   pub rest-deallocate : (allocated allocated' : List Extent) (b o : ℕ) (front old part back : List ℕ) → length old ≡ length part
       → ((k : ℕ) → (k < length front) ⊎ (length front + length part ≤ k) → is_allocated allocated k ≡ is_allocated allocated' k)

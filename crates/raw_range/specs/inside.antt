@@ -1,3 +1,4 @@
 -- What only the private parts of a range cite.
 pub mod Covered
+pub mod Filled
 pub mod Ownership

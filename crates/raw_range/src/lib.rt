@@ -2,6 +2,7 @@
 //! back. This is the one crate with raw memory, and few short functions of it touch that memory.
 #![tactic(auto)]
 
+mod free_bytes;
 mod memory;
 mod parts;
 mod piece;

@@ -1,11 +1,10 @@
 // The bytes of a range, apart from the right to free them. What takes no memory here is ghost state.
-ghost use Rattle.std.specs.Prelude.{◌≡◌, ℕ, ◌+◌, ◌≤◌, List, [], ◌∷◌, length, take, drop, All, Contains};
-ghost use Rattle.std.specs.Vec.{with_items};
-ghost use base.Fml.{ftrue, fex, fall, fwand, fsep, feq};
+ghost use Rattle.std.specs.Prelude.{◌≡◌, ℕ, ◌+◌, ◌≤◌, List, [], ◌∷◌, ◌++◌, length, take, drop, All, Contains};
+ghost use base.Fml.{ftrue, fex, fwand, fsep, feq};
 ghost use denote.RawPtr.{Ptr, ◌+ₚ◌};
 ghost use Rattle.layout.specs.Extents.{Extent, extent, Disjoint, AreDisjoint};
 ghost use Rattle.raw_range.specs.Memory.{remove_extent, written};
-ghost use Rattle.raw_range.specs.inside.Ownership.{Buffer, buffer_code, IsPlaced, run_owns, unallocated_owns};
+ghost use Rattle.raw_range.specs.inside.Ownership.{Buffer, buffer_code, IsPlaced, run_owns, room_owns, unallocated_owns};
 
 use std::alloc::Allocator;
 use std::marker::{Model, Move, Owns};
@@ -31,7 +30,7 @@ impl Model for Run {
     ghost also_owns = { λ r. run_owns r.ptr r.items };
 }
 
-// A `Vec` whose elements are in the hands of a `Run`.
+// A `Vec` without elements, whose places are in the hands of an `Unfilled`.
 pub(crate) struct Sole<A: Allocator> {
     pub(crate) vec: Vec<u8, A>,
 }
@@ -46,12 +45,22 @@ impl<A: Allocator> Owns for Sole<A> {
 
 impl<A: Allocator> Move for Sole<A> {
     ghost own_val = { λ e vs. fex Inside
-        (λ v. fsep (feq ℕ v.vec.len e.len)
-        (fall (List ℕ) (λ xs. fwand (fsep (feq ℕ (length xs) e.len) (run_owns e.ptr xs))
-        (Fields.own_val (record { vec = with_items v.vec xs }) vs)))) };
+        (λ v. fsep (feq ℕ v.vec.len 0) (fsep (feq ℕ v.vec.cap e.len)
+        (fwand (room_owns e.ptr e.len) (Fields.own_val (record { vec = v.vec }) vs)))) };
 }
 
-// The bytes of a range that are not allocated: those of `bytes` at `ptr` that lie in no extent of `allocated`.
+// `len` bytes at `ptr` that may be written but not read, since nothing was written there. Nothing else can reach them.
+#[derive(Drop)]
+pub(crate) struct Unfilled {
+    ghost ptr: { Ptr },
+    ghost len: { ℕ },
+}
+
+impl Model for Unfilled {
+    ghost also_owns = { λ u. room_owns u.ptr u.len };
+}
+
+// The written bytes of a range that are not allocated: those of `bytes` at `ptr` that lie in no extent of `allocated`.
 #[derive(Drop)]
 pub(crate) struct Unallocated {
     ghost ptr: { Ptr },
@@ -68,7 +77,47 @@ unsafe impl Send for Run {}
 // A `&` to it shows nothing.
 unsafe impl<A: Allocator + Send> Send for Sole<A> {}
 
+unsafe impl Send for Unfilled {}
+
 unsafe impl Send for Unallocated {}
+
+impl Unfilled {
+    // No byte at all.
+    pub(crate) fn empty() -> Unfilled
+        ensures { result.len ≡ 0 }
+    {
+        Unfilled {}
+    }
+
+    // Makes way for bytes in front, of which none is there yet.
+    pub(crate) fn begin(self) -> (Unallocated, Unfilled)
+        ensures { (result.0.ptr ≡ self.ptr) × IsPlaced result.0.ptr × (result.0.allocated ≡ []) × (result.0.bytes ≡ [])
+            × (result.1.ptr ≡ self.ptr) × (result.1.len ≡ self.len) }
+    {
+        let Unfilled {} = self;
+        (Unallocated {}, Unfilled {})
+    }
+
+    // Parts behind the first `len` bytes.
+    pub(crate) fn split(self, len: usize) -> (Unfilled, Unfilled)
+        requires { len ≤ self.len }
+        ensures { (result.0.ptr ≡ self.ptr) × (result.0.len ≡ len)
+            × (result.1.ptr ≡ self.ptr +ₚ len) × (len + result.1.len ≡ self.len) }
+    {
+        let Unfilled {} = self;
+        (Unfilled {}, Unfilled {})
+    }
+
+    // Takes the bytes in front in, and forgets what they hold.
+    pub(crate) fn prepend(self, run: Run) -> Unfilled
+        requires { self.ptr ≡ run.ptr +ₚ length run.items }
+        ensures { (result.ptr ≡ run.ptr) × (result.len ≡ length run.items + self.len) }
+    {
+        let Unfilled {} = self;
+        let Run {} = run;
+        Unfilled {}
+    }
+}
 
 impl Unallocated {
     // No byte at all.
@@ -78,9 +127,12 @@ impl Unallocated {
         Unallocated {}
     }
 
-    pub(crate) fn from_run(run: Run) -> Unallocated
-        ensures { (result.ptr ≡ run.ptr) × IsPlaced result.ptr × (result.allocated ≡ []) × (result.bytes ≡ run.items) }
+    // Takes the bytes behind the last one in.
+    pub(crate) fn append(self, run: Run) -> Unallocated
+        requires { IsPlaced self.ptr × (run.ptr ≡ self.ptr +ₚ length self.bytes) × AreDisjoint (length self.bytes) self.allocated }
+        ensures { (result.ptr ≡ self.ptr) × (result.allocated ≡ self.allocated) × (result.bytes ≡ self.bytes ++ run.items) }
     {
+        let Unallocated {} = self;
         let Run {} = run;
         Unallocated {}
     }

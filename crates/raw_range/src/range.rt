@@ -4,7 +4,8 @@ ghost use Rattle.layout.specs.Extents.{extent, Disjoint, AreDisjoint};
 ghost use Rattle.layout.specs.Sizes.{page, most_pages, most_pieces};
 ghost use Rattle.raw_range.specs.Memory.{extent_of, with_allocated, remove_extent, written};
 
-use crate::memory::{Base, Sole, Unallocated};
+use crate::free_bytes::FreeBytes;
+use crate::memory::{Base, Sole};
 use crate::parts::{attach, detach, dislodge_run, lodge_run};
 use crate::piece::Piece;
 use layout::PAGE;
@@ -13,11 +14,12 @@ use std::marker::Model;
 use std::mem;
 use std::mem::ManuallyDrop;
 
-/// The memory of one shard: `pages` of 4,096 bytes, side by side. Its pieces are disjoint. A range that is dropped
-/// is not freed: only [`Range::finish`] gives its memory back.
+/// The memory of one shard: `pages` of 4,096 bytes, side by side. Its pieces are disjoint. Its zeros are written when a
+/// piece first reaches them, together with those in front. A range that is dropped is not freed: only [`Range::finish`]
+/// gives its memory back.
 #[derive(Drop)]
 pub struct Range {
-    unallocated: Unallocated,
+    free: FreeBytes,
     sole: ManuallyDrop<Sole<Global>>,
     base: Base,
     owner: u32,
@@ -25,11 +27,11 @@ pub struct Range {
 }
 
 impl Model for Range {
-    ghost use Rattle.std.specs.Prelude.{◌≡◌, ◌*◌, length};
+    ghost use Rattle.std.specs.Prelude.{◌≡◌, ◌*◌};
     ghost use Rattle.std.specs.Mem.{manually_drop_value};
-    ghost use Rattle.layout.specs.Extents.{AreDisjoint};
     ghost use Rattle.layout.specs.Sizes.{page};
-    ghost use Rattle.raw_range.specs.inside.Ownership.{IsPlaced, IsBlock};
+    ghost use Rattle.raw_range.specs.inside.Filled.{IsFilled, bytes_of};
+    ghost use Rattle.raw_range.specs.inside.Ownership.{IsBlock};
     ghost use Rattle.raw_range.specs.Memory.{Memory, memory_code};
 
     ghost Value = { Memory };
@@ -40,12 +42,11 @@ impl Model for Range {
       home = r.base.ptr;
       owner = r.owner;
       pages = r.pages;
-      allocated = r.unallocated.allocated;
-      bytes = r.unallocated.bytes;
+      allocated = r.free.unallocated.allocated;
+      bytes = bytes_of r.free;
     } };
 
-    ghost invariant = { λ r. (length r.unallocated.bytes ≡ page * r.pages) × (r.unallocated.ptr ≡ r.base.ptr) × IsPlaced r.base.ptr
-        × AreDisjoint (length r.unallocated.bytes) r.unallocated.allocated
+    ghost invariant = { λ r. IsFilled r.free × (r.free.unallocated.ptr ≡ r.base.ptr) × (r.free.size ≡ page * r.pages)
         × IsBlock (manually_drop_value r.sole) r.base.ptr (page * r.pages) };
 }
 
@@ -60,13 +61,14 @@ impl Range {
         ensures none_allocated { IfOk result (λ r. r.allocated ≡ []) }
         ensures zeros { IfOk result (λ r. r.bytes ≡ replicate (page * pages) 0) }
     {
-        let mut vec = Vec::from_elem(alloc, 0u8, pages as usize * PAGE as usize)?;
+        let size = pages as usize * PAGE as usize;
+        let mut vec = Vec::with_capacity(alloc, size)?;
         let base = Base {
             ptr: vec.as_mut_ptr(),
         };
-        let (run, sole) = detach(vec);
+        let (unfilled, sole) = detach(vec);
         Ok(Range {
-            unallocated: Unallocated::from_run(run),
+            free: FreeBytes::from_unfilled(unfilled, size),
             sole: unsafe { ManuallyDrop::new_unchecked(sole) },
             base,
             owner,
@@ -96,9 +98,10 @@ impl Range {
         ensures allocated { self.new ≡ with_allocated self.old (extent at len ∷ self.old.allocated) self.old.bytes }
         ensures blocks { AreDisjoint (page * self.new.pages) self.new.allocated }
     {
-        let free = mem::replace(&mut self.unallocated, Unallocated::empty());
+        let free = mem::replace(&mut self.free, FreeBytes::empty());
+        let free = free.fill_up_to(self.base.ptr, at as usize + len as usize);
         let (free, run) = free.allocate(at as usize, len as usize);
-        self.unallocated = free;
+        self.free = free;
         let start = unsafe { self.base.ptr.byte_add(at as usize) };
         Piece {
             memory: lodge_run(start, len as usize, run),
@@ -123,8 +126,8 @@ impl Range {
             owner: _,
         } = piece;
         let run = dislodge_run(memory);
-        let free = mem::replace(&mut self.unallocated, Unallocated::empty());
-        self.unallocated = free.deallocate(at as usize, run);
+        let free = mem::replace(&mut self.free, FreeBytes::empty());
+        self.free = free.deallocate(at as usize, run);
     }
 
     /// Gives the memory back, once every piece is.
@@ -134,19 +137,18 @@ impl Range {
         drop(self.into_vec());
     }
 
-    // The vector that the range was made of, whose drop frees it: all pages, with the bytes that they have now.
+    // The vector that the range was made of, whose drop frees it: places for all pages, and no element.
     fn into_vec(self) -> Vec<u8, Global>
         requires { self.allocated ≡ [] }
-        ensures bytes { result.items ≡ self.bytes }
-        ensures len { result.len ≡ page * self.pages }
+        ensures { (result.len ≡ 0) × (result.cap ≡ page * self.pages) }
     {
         let Range {
-            unallocated,
+            free,
             sole,
             base: _,
             owner: _,
             pages: _,
         } = self;
-        attach(unallocated.into_run(), ManuallyDrop::into_inner(sole))
+        attach(free.into_unfilled(), ManuallyDrop::into_inner(sole))
     }
 }

@@ -1,7 +1,14 @@
 // What no clause says: that memory is found and is freed, and that a piece goes to another thread and back.
+ghost use Rattle.std.specs.Prelude.{◌<◌, ◌≤◌};
+ghost use Rattle.layout.specs.Sizes.{most_pages};
+
+use crate::free_bytes::FreeBytes;
 use crate::parts::{attach, detach};
 use crate::{Piece, Range};
+use layout::{MOST_PAGES, PAGE, SEGMENT};
 use linked_list_allocator::LocalHeap;
+use std::alloc::Global;
+use std::process::Abort;
 use std::test::Fail;
 use std::thread;
 
@@ -36,14 +43,44 @@ fn two_pages_are_written_apart_and_put_back(rt: HostRuntime) -> Result<(), Fail>
     Ok(())
 }
 
-// A range takes its vector apart so, and `finish` puts it together and drops it.
+// The last page is taken while the first one is written already.
+fn expect_first_and_last_page(rt: &impl Abort, alloc: Global, pages: u32) -> Result<(), Fail>
+    requires { (1 < pages) × (pages ≤ most_pages) }
+{
+    let mut range = Range::new(alloc, 0, pages)?;
+    let mut first = range.take(0, PAGE);
+    assert!(rt; is_filled_with(&first, 0));
+    first.bytes_mut().fill(1);
+    let mut last = range.take(PAGE * (pages - 1), PAGE);
+    assert!(rt; is_filled_with(&last, 0));
+    last.bytes_mut().fill(2);
+    assert!(rt; is_filled_with(&first, 1));
+    assert!(rt; is_filled_with(&last, 2));
+    range.put(first);
+    range.put(last);
+    range.finish();
+    Ok(())
+}
+
+#[test]
+fn the_first_and_the_last_page_of_the_greatest_range_are_apart(
+    rt: HostRuntime,
+) -> Result<(), Fail> {
+    expect_first_and_last_page(&rt, rt.alloc(), MOST_PAGES)
+}
+
+// A range takes its vector apart so, and `finish` puts it together and drops it. Half of it was written then.
 #[test]
 fn a_vector_that_was_taken_apart_is_freed_as_a_whole(rt: HostRuntime) -> Result<(), Fail> {
-    let heap = LocalHeap::new(rt.alloc(), 65_536)?;
-    let vec = Vec::from_elem(&heap, 0u8, 4096)?;
-    let (run, sole) = detach(vec);
-    assert!(rt; heap.used() >= 4096);
-    drop(attach(run, sole));
+    let heap = LocalHeap::new(rt.alloc(), 1_048_576)?;
+    let segment = SEGMENT as usize;
+    let mut vec = Vec::with_capacity(&heap, 2 * segment)?;
+    let start = vec.as_mut_ptr();
+    let (unfilled, sole) = detach(vec);
+    let free = FreeBytes::from_unfilled(unfilled, 2 * segment).fill_up_to(start, 1);
+    assert_eq!(rt; free.filled, segment);
+    assert!(rt; heap.used() >= 2 * segment);
+    drop(attach(free.into_unfilled(), sole));
     assert_eq!(rt; heap.used(), 0);
     Ok(())
 }

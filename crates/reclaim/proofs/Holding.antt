@@ -1,17 +1,18 @@
 -- The region is made of the segments of the memory, also after one more was given.
-use Rattle.std.proofs.Common.{◌≡◌, ◌≢◌, ◌⊎◌, inl, inr, ℕ, zero, suc, ◌+◌, ◌*◌, ◌/◌, ◌<◌, ◌≤◌, Bool, true, false, not, ◌==◌, cond, List, [], ◌∷◌, length, replicate, refl, sym, ap, ◌∙◌, subst, arith}
-use Rattle.std.specs.Prelude.{Option, None, Some, slice_get, slice_set, slice_index_or, filter, Contains, option_map, map}
+use Rattle.std.proofs.Common.{◌≡◌, ◌≢◌, ◌⊎◌, inl, inr, ℕ, zero, suc, ◌+◌, ◌-◌, ◌*◌, ◌/◌, ◌<◌, ◌≤◌, Bool, true, false, not, ◌==◌, cond, List, [], ◌∷◌, length, replicate, refl, sym, ap, ◌∙◌, subst, arith}
+use Rattle.std.specs.Prelude.{Option, None, Some, IsSome, slice_get, slice_set, slice_index_or, filter, Contains, option_map, map}
 use Rattle.std.specs.List.{count_by}
 use Rattle.std.proofs.lemmas.Bool.{ne_eqb}
 use Rattle.std.proofs.lemmas.List.{map-set}
 use Rattle.std.proofs.lemmas.List.Sums.{sum_by-cons}
 use Rattle.std.proofs.lemmas.List.Elements.{All-contains}
-use Rattle.layout.specs.Sizes.{page, segment_pages, ArePages}
+use Rattle.layout.specs.Sizes.{page, segment, segment_pages, ArePages}
 use Rattle.layout.specs.Extents.{Extent, extent, Disjoint, IsWithin, AreDisjoint}
 use Rattle.raw_range.specs.Memory.{Lent, extent_of, remove_extent}
 use Rattle.shard_memory.specs.Shards.{MemoryState, AreApart, ComeBack}
-use Rattle.regions.specs.Segments.{SegmentState, RegionState, segment_at, with_segment, fresh}
-use Rattle.regions.specs.Shapes.{Identity, Slot, identity, slot_of, slots_of, shape, is_held, pieces, pieces_in, guards_of, held_count, free_count}
+use Rattle.regions.specs.Segments.{GroupState, SegmentState, RegionState, group_at, segment_at, with_guards, with_segment, fresh}
+use Rattle.regions.specs.Shapes.{Identity, Shape, Slot, active_in, identity, slot_of, slots_of, shape, is_free, is_held, pieces, pieces_in, guards_of, held_count, free_count}
+use Rattle.regions.specs.Counts.{left_of}
 use Rattle.cache_model.specs.Row.{Row}
 use Rattle.row_bytes.specs.Rows.{IsRow, row_in, number_in}
 use Rattle.regions.specs.Contents.{Item, Standing, standing_at}
@@ -92,7 +93,7 @@ holds-kept memory old new same held h = record {
   count = held ∙ h.count;
 }
 
-pub made-kept : (shard pages standing : ℕ) (memory : MemoryState) (old new : RegionState) → pieces new ≡ pieces old → held_count new ≡ held_count old → (shape new).most ≡ (shape old).most → guards_of new ≡ guards_of old
+pub made-kept : (shard pages standing : ℕ) (memory : MemoryState) (old new : RegionState) → pieces new ≡ pieces old → held_count new ≡ held_count old → (shape new).most ≡ (shape old).most → guards_of new 0 ≡ guards_of old 0
     → IsMadeOf shard pages standing memory old → IsMadeOf shard pages standing memory new
 made-kept shard pages standing memory old new same held most guards h = record {
   owner = h.owner;
@@ -138,13 +139,13 @@ consistent-trimmed shard pages standing old new region same h =
 -- another region holds the same
 pub consistent-held : (shard pages standing : ℕ) (memory : MemoryState) (old new : RegionState) → HoldsTheSame old new → 1 ≤ free_count new → IsConsistent shard pages standing memory old → IsConsistent shard pages standing memory new
 consistent-held shard pages standing memory old new holds free h = record {
-  made = made-kept shard pages standing memory old new holds.pieces holds.held holds.most holds.guards h.made;
-  active = holds.active h.active;
+  made = made-kept shard pages standing memory old new holds.pieces holds.held holds.most (holds.guards 0) h.made;
+  active = holds.active 0 h.active;
   free = free;
 }
 
 -- what holds for some owner, pages and guards holds for those that there are
-pub consistent-own : (shard pages standing : ℕ) (memory : MemoryState) (region : RegionState) → IsConsistent shard pages standing memory region → IsConsistent memory.owner memory.pages (guards_of region) memory region
+pub consistent-own : (shard pages standing : ℕ) (memory : MemoryState) (region : RegionState) → IsConsistent shard pages standing memory region → IsConsistent memory.owner memory.pages (guards_of region 0) memory region
 consistent-own shard pages standing memory region h =
     let m = h.made in
     record {
@@ -238,3 +239,45 @@ module _ (old new : MemoryState) (home : new.home ≡ old.home) (piece : Lent) (
     apart = λ j k a b f g same. h.apart j k a b (held-still j a f).1 (held-still k b g).1 same;
     count = let counted = h.count in omega (arith, held, one-less, counted);
   }
+
+-- the guards of a group whose active segment is another one
+pub guards-activated : (groups : List GroupState) (n : ℕ)
+    → (group_at (slice_set groups 0 (record { active = Some n; guards = (group_at groups 0).guards })) 0).guards ≡ (group_at groups 0).guards
+guards-activated [] n = refl
+guards-activated (x ∷ xs) n = refl
+
+-- what has a whole segment left has one
+pub left-of-one : (used : List ℕ) (active : Option ℕ) → left_of used active ≡ segment → IsSome active
+left-of-one used None whole = absurd (omega (arith, whole))
+left-of-one used (Some n) whole = refl
+
+-- a region of the same shape
+pub consistent-shape : (shard pages standing : ℕ) (memory : MemoryState) (old new : RegionState) → shape new ≡ shape old → IsConsistent shard pages standing memory old → IsConsistent shard pages standing memory new
+consistent-shape shard pages standing memory old new same h = record {
+  made = made-kept shard pages standing memory old new (ap (λ (s : Shape). pieces_in s.slots) same) (ap (λ (s : Shape). count_by is_held s.slots) same) (ap (λ (s : Shape). s.most) same)
+      (ap (λ (s : Shape). (group_at s.groups 0).guards) same) h.made;
+  active = subst (λ (s : Shape). IsSome (active_in s.groups 0)) (sym same) h.active;
+  free = subst (λ (s : Shape). 1 ≤ count_by is_free s.slots) (sym same) h.free;
+}
+
+-- one guard more, and then one less
+abbrev guarded : List GroupState → ℕ → List GroupState
+guarded groups guards = slice_set groups 0 (record { active = (group_at groups 0).active; guards = guards })
+
+abbrev with_groups : Shape → List GroupState → Shape
+with_groups s groups = record s { groups = groups }
+
+abbrev lowered : Shape → Shape
+lowered s = with_groups s (guarded s.groups ((group_at s.groups 0).guards - 1))
+
+abbrev with_active : Option ℕ → ℕ → GroupState
+with_active active guards = record { active = active; guards = guards }
+
+same-groups : (groups : List GroupState) → guarded (guarded groups ((group_at groups 0).guards + 1)) ((group_at (guarded groups ((group_at groups 0).guards + 1)) 0).guards - 1) ≡ groups
+same-groups [] = refl
+same-groups (x ∷ xs) = (let back : x.guards + 1 - 1 ≡ x.guards = omega arith in ap (λ (n : ℕ). with_active x.active n ∷ xs) back)
+
+pub shape-guarded : (r g k u : RegionState) → g ≡ with_guards r 0 (guards_of r 0 + 1) → shape k ≡ shape g → u ≡ with_guards k 0 (guards_of k 0 - 1) → shape u ≡ shape r
+shape-guarded r g k u up same down =
+    ap (λ (x : RegionState). shape x) down
+    ∙ (ap lowered same ∙ (ap (λ (x : RegionState). lowered (shape x)) up ∙ ap (λ (groups : List GroupState). with_groups (shape r) groups) (same-groups r.groups)))

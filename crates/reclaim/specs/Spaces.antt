@@ -4,6 +4,7 @@ use Rattle.std.specs.Prelude.{◌≡◌, ℕ, List}
 use Rattle.cache_model.specs.Row.{Row}
 use Rattle.foreign_list.specs.Lists.{OwnedList}
 use Rattle.regions.specs.Segments.{RegionState}
+use Rattle.regions.specs.Segments as segments
 use Rattle.regions.specs.Shapes.{guards_of}
 use Rattle.regions.specs.declared.place.Place.{Place}
 use Rattle.row_cache.specs.Rows.{StandsAt}
@@ -39,10 +40,10 @@ with_rows s rows = record s { rows = rows }
 
 -- the space under so many guards
 abbrev pub with_guards : SpaceState → ℕ → SpaceState
-with_guards s guards = record s { region = record s.region { guards = guards } }
+with_guards s guards = record s { region = segments.with_guards s.region 0 guards }
 
 abbrev pub IsUnguarded : SpaceState → Type 0
-IsUnguarded s = guards_of s.region ≡ 0
+IsUnguarded s = guards_of s.region 0 ≡ 0
 
 -- whose space it is, its pages, the room of its tables, its list and the guards are as they were
 pub record IsSameSpace (old new : SpaceState) : Type 0 where
@@ -50,7 +51,7 @@ pub record IsSameSpace (old new : SpaceState) : Type 0 where
   pub pages : new.pages ≡ old.pages
   pub room : new.room ≡ old.room
   pub list : new.list ≡ old.list
-  pub guards : guards_of new.region ≡ guards_of old.region
+  pub guards : guards_of new.region 0 ≡ guards_of old.region 0
 
 -- each row that stood at a place, live or dead, stands there
 pub record RowsStay (old new : SpaceState) : Type 0 where

@@ -33,7 +33,7 @@ pub(crate) fn make_room_evicting(
     requires spare { length (rows_of cache.old) ≤ journal.old.spare }
 
     // The active segment has so much left.
-    ensures room { size ≤ left cache.new.region }
+    ensures room { size ≤ left cache.new.region 0 }
 
     // Which rows went, and what was written down.
     ensures evicted { HasEvicted (pressure memory.old.pages memory.old.lent) (rows_of cache.old)

@@ -24,7 +24,7 @@ pub(crate) fn make_room(memory: &mut ShardMemory<'_>, cache: &mut RowCache, size
     requires consistent { IsConsistent memory.old.owner memory.old.pages 0 memory.old cache.old.region }
 
     // What each answer means.
-    ensures room { result ≡ true → size ≤ left cache.new.region }
+    ensures room { result ≡ true → size ≤ left cache.new.region 0 }
     ensures pressed { result ≡ false → pressure memory.old.pages memory.old.lent < live (rows_of cache.new) }
 
     // No row went, and nothing was lent.
@@ -74,9 +74,9 @@ fn free_second(memory: &mut ShardMemory<'_>, cache: &mut RowCache) -> bool
 // Where the active segment has too little room, the next one becomes active.
 fn begin_next(cache: &mut RowCache, size: u32)
     requires size { size ≤ greatest_object }
-    requires active { IsSome (active_of cache.old.region) }
+    requires active { IsSome (active_of cache.old.region 0) }
     requires free { 2 ≤ free_count cache.old.region }
-    ensures room { size ≤ left cache.new.region }
+    ensures room { size ≤ left cache.new.region 0 }
     ensures consistent { (shard pages guards : ℕ) (memory : MemoryState) → IsConsistent shard pages guards memory cache.old.region
         → IsConsistent shard pages guards memory cache.new.region }
     ensures rows { rows_of cache.new ≡ rows_of cache.old }

@@ -129,7 +129,7 @@ fn reply_get(cache: &mut RowCache, ask: &Ask<'_>, into: &mut [u8], journal: &mut
     // A get, and space for its value.
     requires kind { ask.now.kind ≡ Kinds.Get }
     requires spare { 1 ≤ journal.old.spare }
-    requires guards { guards_of cache.old.region ≡ 0 }
+    requires guards { guards_of cache.old.region 0 ≡ 0 }
     requires room { HasRoomFor (asked ask.now) (rows_of cache.old) (length into.old) }
 
     // What it does, answers and writes down.

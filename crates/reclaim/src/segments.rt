@@ -20,7 +20,7 @@ pub(crate) fn begin(memory: &mut ShardMemory<'_>, cache: &mut RowCache)
     requires none { memory.old.segments ≡ [] }
     requires idle { tickets_out memory.old.lent ≡ 0 }
     requires free { free_count cache.old.region ≡ 0 }
-    requires active { active_of cache.old.region ≡ None }
+    requires active { active_of cache.old.region 0 ≡ None }
     requires trimmed { IsTrimmed memory.old.room }
 
     // A segment is active, another one free.
@@ -51,7 +51,7 @@ fn add_first(memory: &mut ShardMemory<'_>, cache: &mut RowCache)
     ensures trimmed { IsTrimmed memory.new.room }
 
     // Nothing else has changed.
-    ensures active { active_of cache.new.region ≡ active_of cache.old.region }
+    ensures active { active_of cache.new.region 0 ≡ active_of cache.old.region 0 }
     ensures tickets { SameTickets memory.old memory.new }
     ensures rows { rows_of cache.new ≡ rows_of cache.old }
     ensures room { cache.new.room ≡ cache.old.room }
@@ -78,7 +78,7 @@ pub(crate) fn add_segment(memory: &mut ShardMemory<'_>, cache: &mut RowCache) ->
 
     // Nothing else has changed.
     ensures trimmed { IsTrimmed memory.old.room → IsTrimmed memory.new.room }
-    ensures active { active_of cache.new.region ≡ active_of cache.old.region }
+    ensures active { active_of cache.new.region 0 ≡ active_of cache.old.region 0 }
     ensures tickets { SameTickets memory.old memory.new }
     ensures rows { rows_of cache.new ≡ rows_of cache.old }
     ensures room { cache.new.room ≡ cache.old.room }

@@ -46,7 +46,7 @@ impl<'f> Model for Space<'f> {
 
     ghost view = { λ s. space_of s.memory s.cache };
 
-    ghost invariant = { λ s. IsConsistent s.memory.owner s.memory.pages (guards_of s.cache.region) s.memory s.cache.region };
+    ghost invariant = { λ s. IsConsistent s.memory.owner s.memory.pages (guards_of s.cache.region 0) s.memory s.cache.region };
 }
 
 impl<'f> Space<'f> {

@@ -58,8 +58,8 @@ fn store(cache: &mut RowCache, ask: &Ask<'_>) -> Put
     // A put for which there is space.
     requires kind { ask.now.kind ≡ Kinds.Put }
     requires askable { IsAskable (asked ask.now) }
-    requires active { IsSome (active_of cache.old.region) }
-    requires fits { size ask.now.key.now ask.now.value.now ≤ left cache.old.region }
+    requires active { IsSome (active_of cache.old.region 0) }
+    requires fits { size ask.now.key.now ask.now.value.now ≤ left cache.old.region 0 }
     requires room { (apply.has ask.now.key.now (rows_of cache.old) ≡ true) ⊎ (length (rows_of cache.old) < cache.old.room) }
 
     // What it does and answers.

@@ -34,7 +34,7 @@ struct Trial<'f> {
     space: Space<'f>,
     journal: Journal,
     ghost room: { space.room ≡ 512 },
-    ghost unguarded: { guards_of space.region ≡ 0 },
+    ghost unguarded: { guards_of space.region 0 ≡ 0 },
 }
 
 // What is asked of a key, as command 9.

@@ -1,6 +1,6 @@
 -- A segment once an object is behind the others.
-use Rattle.std.proofs.Common.{◌≡◌, ℕ, ◌+◌, ◌-◌, Bool, true, List, [], ◌∷◌, ◌++◌, length, take, drop, replicate, refl, sym, ap, ◌∙◌, subst, arith}
-use Rattle.std.specs.Prelude.{None, Some, option_map}
+use Rattle.std.proofs.Common.{◌≡◌, ℕ, ◌+◌, ◌-◌, true, List, [], ◌∷◌, ◌++◌, length, take, drop, replicate, refl, sym, ap, ◌∙◌, subst, arith}
+use Rattle.std.specs.Prelude.{Option, None, Some, option_map}
 use Rattle.std.specs.List.{refill}
 use Rattle.object_log.specs.Objects.{objects, live, IsSegment}
 use Rattle.raw_range.specs.Memory.{Lent}
@@ -14,9 +14,9 @@ use Rattle.std.proofs.lemmas.Grind.{common_steps}
 pub refill-same : (n : ℕ) (xs ws : List ℕ) → length xs ≡ n → length ws ≡ n → refill n xs ws ≡ ws
 refill-same n xs ws e f = grind (arith, common_steps)
 
-module _ (p : Lent) (free : Bool) (now new : List ℕ) (used kind size r : ℕ) (long : length p.bytes ≡ 131072) (is-now : now ≡ p.bytes) (same-long : length new ≡ length now) (segment : IsSegment p.bytes used) (ends : r ≡ used + size)
+module _ (p : Lent) (g : Option ℕ) (now new : List ℕ) (used kind size r : ℕ) (long : length p.bytes ≡ 131072) (is-now : now ≡ p.bytes) (same-long : length new ≡ length now) (segment : IsSegment p.bytes used) (ends : r ≡ used + size)
     (grown : objects new r ≡ objects now used ++ live used kind size ∷ []) (zero-content : take (size - 8) (drop (used + 8) new) ≡ replicate (size - 8) 0)
-    (kept : take used new ≡ take used now) (old : SegmentState) (is-old : record { piece = p; used = used; free = free } ≡ old) where
+    (kept : take used new ≡ take used now) (old : SegmentState) (is-old : record { piece = p; used = used; group = g } ≡ old) where
   added : objects new r ≡ objects p.bytes used ++ live used kind size ∷ []
   added = rw is-now at grown
 
@@ -30,7 +30,7 @@ module _ (p : Lent) (free : Bool) (now new : List ℕ) (used kind size r : ℕ) 
   is-new = refill-same (length p.bytes) p.bytes new refl as-long
 
   abbrev after : List ℕ → SegmentState
-  after bytes = record { piece = record p { bytes = bytes }; used = r; free = free }
+  after bytes = record { piece = record p { bytes = bytes }; used = r; group = g }
 
   pub live-grown : live_in (Some (after (refill (length p.bytes) p.bytes new))) ≡ live_in (Some old) + size
   live-grown =
@@ -40,21 +40,21 @@ module _ (p : Lent) (free : Bool) (now new : List ℕ) (used kind size r : ℕ) 
   pub slot-same : slot_of (after (refill (length p.bytes) p.bytes new)) ≡ slot_of old
   slot-same =
       subst (λ h. slot_of (after (refill (length p.bytes) p.bytes new)) ≡ slot_of h) is-old
-      (ap (λ n. record { piece = record (identity p) { length = n }; free = free }) (ap length is-new ∙ as-long))
+      (ap (λ n. record { piece = record (identity p) { length = n }; group = g }) (ap length is-new ∙ as-long))
 
   pub unused : standing_in (Some old) used ≡ None
-  unused = subst (λ h. standing_in (Some h) used ≡ None) is-old (ap (option_map (standing p.bytes)) (none-behind p.bytes 0 used used (objects p.bytes used) segment.objects (omega arith)))
+  unused = subst (λ h. standing_in (Some h) used ≡ None) is-old (ap (option_map (standing g p.bytes)) (none-behind p.bytes 0 used used (objects p.bytes used) segment.objects (omega arith)))
 
-  pub changed : ChangesIn used (Some (zeros kind size)) (Some old) (Some (record { piece = record p { bytes = refill (length p.bytes) p.bytes new }; used = r; free = free }))
+  pub changed : ChangesIn used (Some (zeros old.group kind size)) (Some old) (Some (record { piece = record p { bytes = refill (length p.bytes) p.bytes new }; used = r; group = g }))
   changed =
-      subst (λ h. ChangesIn used (Some (zeros kind size)) (Some h) (Some (after (refill (length p.bytes) p.bytes new)))) is-old (subst (λ b. ChangesIn used (Some (zeros kind size)) (Some (record { piece = p; used = used; free = free })) (Some (after b))) (sym is-new)
+      subst (λ h. ChangesIn used (Some (zeros h.group kind size)) (Some h) (Some (after (refill (length p.bytes) p.bytes new)))) is-old (subst (λ b. ChangesIn used (Some (zeros g kind size)) (Some (record { piece = p; used = used; group = g })) (Some (after b))) (sym is-new)
       (record {
         here =
-            ap (λ os. standing_among new used os) added
-            ∙ ap (option_map (standing new)) (added-there (objects p.bytes used) (live used kind size) used refl (none-behind p.bytes 0 used used (objects p.bytes used) segment.objects (omega arith)))
-            ∙ ap (λ c. let s : Standing = record { live = true; item = record { kind = kind; content = c } } in Some s) zero-content;
+            ap (λ os. standing_among g new used os) added
+            ∙ ap (option_map (standing g new)) (added-there (objects p.bytes used) (live used kind size) used refl (none-behind p.bytes 0 used used (objects p.bytes used) segment.objects (omega arith)))
+            ∙ ap (λ c. let s : Standing = record { live = true; item = record { group = g; kind = kind; content = c } } in Some s) zero-content;
         others = λ a ne.
-            ap (λ os. standing_among new a os) added
-            ∙ ap (option_map (standing new)) (with-added (objects p.bytes used) (live used kind size) a (λ e. ne (sym e)))
-            ∙ standing-below p.bytes new 0 used a (objects p.bytes used) segment.objects below;
+            ap (λ os. standing_among g new a os) added
+            ∙ ap (option_map (standing g new)) (with-added (objects p.bytes used) (live used kind size) a (λ e. ne (sym e)))
+            ∙ standing-below g p.bytes new 0 used a (objects p.bytes used) segment.objects below;
       }))

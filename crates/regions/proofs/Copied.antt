@@ -1,6 +1,6 @@
 -- A segment once the content of one live object is also that of another.
-use Rattle.std.proofs.Common.{◌≡◌, ℕ, ◌+◌, ◌-◌, ◌≤◌, Bool, List, length, take, drop, refl, sym, ap, ◌∙◌, subst, arith, eq-eqb, length-take-le, length-drop}
-use Rattle.std.specs.Prelude.{Some, IfSome, option_map}
+use Rattle.std.proofs.Common.{◌≡◌, ℕ, ◌+◌, ◌-◌, ◌≤◌, List, length, take, drop, refl, sym, ap, ◌∙◌, subst, arith, eq-eqb, length-take-le, length-drop}
+use Rattle.std.specs.Prelude.{Option, Some, IfSome, option_map}
 use Rattle.std.specs.List.{refill}
 use Rattle.object_log.specs.Objects.{objects, descriptor_at, content_at, IsSegment}
 use Rattle.raw_range.specs.Memory.{Lent, written}
@@ -19,27 +19,27 @@ within bytes now used at start len l is begins ends =
     let same = ap length is in
     omega (arith, same, begins, ends, size, (l.found).high, (l.segment).inside, (l.segment).long)
 
-live-size : (bytes : List ℕ) (used at : ℕ) (l : IsLive bytes used at) → option_map size_of (item_if_live (standing_among bytes at (objects bytes used))) ≡ Some (l.it).size
-live-size bytes used at l =
-    ap (λ o. option_map size_of (item_if_live (option_map (standing bytes) o))) l.is-it ∙ ap (λ b. option_map size_of (if_live b (standing bytes l.it).item)) (eq-eqb (l.it).state 1 l.alive)
+live-size : (g : Option ℕ) (bytes : List ℕ) (used at : ℕ) (l : IsLive bytes used at) → option_map size_of (item_if_live (standing_among g bytes at (objects bytes used))) ≡ Some (l.it).size
+live-size g bytes used at l =
+    ap (λ o. option_map size_of (item_if_live (option_map (standing g bytes) o))) l.is-it ∙ ap (λ b. option_map size_of (if_live b (standing g bytes l.it).item)) (eq-eqb (l.it).state 1 l.alive)
     ∙ ap (λ (n : ℕ). Some n) (sym (content-size bytes used at (as-there bytes used at l)))
 
 -- two live objects of one size have contents of one length
-pub same-length : (p : Lent) (used from to : ℕ) (free : Bool) (h : SegmentState) (a : IsLive p.bytes used from) (b : IsLive p.bytes used to) → record { piece = p; used = used; free = free } ≡ h
+pub same-length : (p : Lent) (used from to : ℕ) (g : Option ℕ) (h : SegmentState) (a : IsLive p.bytes used from) (b : IsLive p.bytes used to) → record { piece = p; used = used; group = g } ≡ h
     → option_map size_of (item_if_live (standing_in (Some h) from)) ≡ option_map size_of (item_if_live (standing_in (Some h) to)) → (descriptor_at p.bytes from).size ≡ (descriptor_at p.bytes to).size
-same-length p used from to free h a b view same =
+same-length p used from to g h a b view same =
     let both : Some (a.it).size ≡ Some (b.it).size =
-    sym (live-size p.bytes used from a) ∙ subst (λ h. option_map size_of (item_if_live (standing_in (Some h) from)) ≡ option_map size_of (item_if_live (standing_in (Some h) to))) (sym view) same ∙ live-size p.bytes used to b in
+    sym (live-size g p.bytes used from a) ∙ subst (λ h. option_map size_of (item_if_live (standing_in (Some h) from)) ≡ option_map size_of (item_if_live (standing_in (Some h) to))) (sym view) same ∙ live-size g p.bytes used to b in
     let sizes : (a.it).size ≡ (b.it).size = cc in
     sym (ap (λ o. o.size) (a.found).is) ∙ sizes ∙ ap (λ o. o.size) (b.found).is
 
 -- the segment afterwards
-pub record IsCopied (p : Lent) (new : List ℕ) (used from to : ℕ) (free : Bool) (old : SegmentState) : Type 0 where
+pub record IsCopied (p : Lent) (new : List ℕ) (used from to : ℕ) (g : Option ℕ) (old : SegmentState) : Type 0 where
   pub kept : IsSegment (refill (length p.bytes) p.bytes new) used
-  pub live : live_in (Some (record { piece = record p { bytes = refill (length p.bytes) p.bytes new }; used = used; free = free })) ≡ live_in (Some old)
-  pub copied : IfSome (item_if_live (standing_in (Some old) from)) (λ i. ChangesIn to (option_map (with_bytes i.content) (standing_in (Some old) to)) (Some old) (Some (record { piece = record p { bytes = refill (length p.bytes) p.bytes new }; used = used; free = free })))
+  pub live : live_in (Some (record { piece = record p { bytes = refill (length p.bytes) p.bytes new }; used = used; group = g })) ≡ live_in (Some old)
+  pub copied : IfSome (item_if_live (standing_in (Some old) from)) (λ i. ChangesIn to (option_map (with_bytes i.content) (standing_in (Some old) to)) (Some old) (Some (record { piece = record p { bytes = refill (length p.bytes) p.bytes new }; used = used; group = g })))
 
-module _ (p : Lent) (now new : List ℕ) (used from to start target len : ℕ) (free : Bool) (h : SegmentState) (view : record { piece = p; used = used; free = free } ≡ h) (a : IsLive p.bytes used from) (b : IsLive p.bytes used to)
+module _ (p : Lent) (now new : List ℕ) (used from to start target len : ℕ) (g : Option ℕ) (h : SegmentState) (view : record { piece = p; used = used; group = g } ≡ h) (a : IsLive p.bytes used from) (b : IsLive p.bytes used to)
     (is : now ≡ p.bytes) (begins : start ≡ from + 8) (begins-at : target ≡ to + 8) (ends : len + 8 ≡ (descriptor_at p.bytes from).size) (same : (descriptor_at p.bytes from).size ≡ (descriptor_at p.bytes to).size)
     (long : length new ≡ length now) (wrote : new ≡ written now target (take len (drop start now))) (law : IsWritten p.bytes used to (descriptor_at p.bytes to).size) where
   open a use {segment, found as source}
@@ -66,8 +66,8 @@ module _ (p : Lent) (now new : List ℕ) (used from to start target len : ℕ) (
   target-long : length (take len (drop target p.bytes)) ≡ len
   target-long = let d = length-drop target p.bytes in length-take-le len (drop target p.bytes) (omega (arith, d, begins-at, fits, is-size, place.high, segment.inside, segment.long))
 
-  there : option_map (λ t. t.item.content) (standing_among p.bytes to (objects p.bytes used)) ≡ Some (take len (drop target p.bytes))
-  there = content-read p.bytes p.bytes used to target len (as-there p.bytes used to b) refl begins-at fits
+  there : option_map (λ t. t.item.content) (standing_among g p.bytes to (objects p.bytes used)) ≡ Some (take len (drop target p.bytes))
+  there = content-read g p.bytes p.bytes used to target len (as-there p.bytes used to b) refl begins-at fits
 
   -- the whole content of the second is written
   fit-same : refill (size - 8) (content_at to size p.bytes) content ≡ content
@@ -81,25 +81,25 @@ module _ (p : Lent) (now new : List ℕ) (used from to start target len : ℕ) (
       ∙ ap (written p.bytes (to + 8)) (sym fit-same)
 
   abbrev after : List ℕ → SegmentState
-  after bytes = record { piece = record p { bytes = bytes }; used = used; free = free }
+  after bytes = record { piece = record p { bytes = bytes }; used = used; group = g }
 
   kept : IsSegment (refill (length p.bytes) p.bytes new) used
   kept = subst (λ x. IsSegment x used) (sym is-left) (segment-kept p content used to size b is-size law)
 
   live-kept : live_in (Some (after (refill (length p.bytes) p.bytes new))) ≡ live_in (Some h)
-  live-kept = ap (λ x. live_in (Some (after x))) is-left ∙ live-same p content used to size b is-size law free ∙ ap (λ h. live_in (Some h)) view
+  live-kept = ap (λ x. live_in (Some (after x))) is-left ∙ live-same p content used to size b is-size law g ∙ ap (λ h. live_in (Some h)) view
 
   changes : IfSome (item_if_live (standing_in (Some h) from)) (λ i. ChangesIn to (option_map (with_bytes i.content) (standing_in (Some h) to)) (Some h) (Some (after (refill (length p.bytes) p.bytes new))))
   changes =
       let os = objects p.bytes used in
-      let old : SegmentState = record { piece = p; used = used; free = free } in
-      let read = live-content (standing_among p.bytes from os) content (content-read p.bytes p.bytes used from start len (as-there p.bytes used from a) refl begins ends) in
-      let all = subst (λ s. ChangesIn to s (Some old) (Some (after (bytes_with to size content p.bytes)))) (whole-content (standing_among p.bytes to os) (take len (drop target p.bytes)) content there (content-long ∙ sym target-long))
-      (changed p content used to size b is-size law free) in
+      let old : SegmentState = record { piece = p; used = used; group = g } in
+      let read = live-content (standing_among g p.bytes from os) content (content-read g p.bytes p.bytes used from start len (as-there p.bytes used from a) refl begins ends) in
+      let all = subst (λ s. ChangesIn to s (Some old) (Some (after (bytes_with to size content p.bytes)))) (whole-content (standing_among g p.bytes to os) (take len (drop target p.bytes)) content there (content-long ∙ sym target-long))
+      (changed p content used to size b is-size law g) in
       subst (λ h. IfSome (item_if_live (standing_in (Some h) from)) (λ i. ChangesIn to (option_map (with_bytes i.content) (standing_in (Some h) to)) (Some h) (Some (after (refill (length p.bytes) p.bytes new))))) view
-      (subst (λ x. IfSome (item_if_live (standing_among p.bytes from os)) (λ i. ChangesIn to (option_map (with_bytes i.content) (standing_among p.bytes to os)) (Some old) (Some (after x)))) (sym is-left)
-      (if-some (item_if_live (standing_among p.bytes from os)) (λ i. i.content ≡ content) (λ i. ChangesIn to (option_map (with_bytes i.content) (standing_among p.bytes to os)) (Some old) (Some (after (bytes_with to size content p.bytes))))
-      (λ i e. subst (λ ws. ChangesIn to (option_map (with_bytes ws) (standing_among p.bytes to os)) (Some old) (Some (after (bytes_with to size content p.bytes)))) (sym e) all) read))
+      (subst (λ x. IfSome (item_if_live (standing_among g p.bytes from os)) (λ i. ChangesIn to (option_map (with_bytes i.content) (standing_among g p.bytes to os)) (Some old) (Some (after x)))) (sym is-left)
+      (if-some (item_if_live (standing_among g p.bytes from os)) (λ i. i.content ≡ content) (λ i. ChangesIn to (option_map (with_bytes i.content) (standing_among g p.bytes to os)) (Some old) (Some (after (bytes_with to size content p.bytes))))
+      (λ i e. subst (λ ws. ChangesIn to (option_map (with_bytes ws) (standing_among g p.bytes to os)) (Some old) (Some (after (bytes_with to size content p.bytes)))) (sym e) all) read))
 
-  pub is-copied : IsCopied p new used from to free h
+  pub is-copied : IsCopied p new used from to g h
   is-copied = record { kept = kept; live = live-kept; copied = changes }

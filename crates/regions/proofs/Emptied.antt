@@ -1,18 +1,19 @@
 -- What emptying all segments leaves of a region.
-use Rattle.std.proofs.Common.{◌≡◌, ℕ, ◌<◌, ◌≤◌, Bool, true, false, List, [], ◌∷◌, length, replicate, map, refl, sym, ap, ◌∙◌, subst, arith, get_or}
+use Rattle.std.proofs.Common.{◌≡◌, ℕ, zero, suc, ◌<◌, ◌≤◌, Bool, true, false, List, [], ◌∷◌, length, replicate, map, refl, sym, ap, ◌∙◌, subst, arith, get_or}
 use Rattle.std.specs.Prelude.{Option, None, Some, option_map, slice_set}
 use Rattle.std.specs.List.{count_by}
 use Rattle.std.proofs.lemmas.List.{length-map, map-set}
 use Rattle.std.proofs.Math.ListN.{get_or-map}
-use Rattle.regions.specs.Segments.{SegmentState, RegionState, emptied}
-use Rattle.regions.specs.Shapes.{slot_of, slots_of, slot_at, is_held, is_free, is_begun}
+use Rattle.regions.specs.Segments.{SegmentState, RegionState, emptied, ended}
+use Rattle.regions.specs.Shapes.{slot_of, slots_of, slot_at, active_in, is_held, is_free, is_begun}
 use Rattle.regions.specs.Counts.{used_in, used_in_each, live_in_each}
-use Rattle.regions.specs.inside.Consistent.{not_closed}
+use Rattle.regions.specs.inside.Consistent.{GroupFields, states, fields_at, cleared, not_closed}
 use Rattle.number_set.specs.Numbers.{has, size}
 use Rattle.regions.proofs.Numbers.{size-map, has-held}
 use Rattle.regions.proofs.Updates.{slot-is}
-use Rattle.regions.proofs.Consistency.{held-within}
-use Rattle.regions.proofs.Regions.{Fields, live-none, nothing-begun, emptied-used, emptied-unbegun}
+use Rattle.regions.proofs.Groups.{held-within}
+use Rattle.regions.proofs.Regions.{Fields, live-none}
+use Rattle.regions.proofs.Unused.{AreUnused, nothing-begun, emptied-used, emptied-unbegun}
 
 abbrev pub emptied-all : List (Option SegmentState) → List (Option SegmentState)
 emptied-all segs = map (λ s. option_map emptied s) segs
@@ -31,12 +32,36 @@ emptied-free-numbers [] = refl
 emptied-free-numbers (None ∷ ss) = ap (λ l. false ∷ l) (emptied-free-numbers ss)
 emptied-free-numbers (Some h ∷ ss) = ap (λ l. true ∷ l) (emptied-free-numbers ss)
 
-pub emptied-fields : (most : ℕ) (held : List Bool) (segs : List (Option SegmentState)) → most ≤ 2048 → length segs ≡ most → held ≡ map is_held (slots_of segs)
-    → Fields most None held held 0 (replicate most not_closed) (emptied-all segs)
-emptied-fields most held segs few long is =
-    subst (λ h. Fields most None h held 0 (replicate most not_closed) (emptied-all segs)) (emptied-held-numbers segs ∙ sym is)
-    (subst (λ f. Fields most None (map is_held (slots_of (emptied-all segs))) f 0 (replicate most not_closed) (emptied-all segs)) (emptied-free-numbers segs ∙ sym is)
-    (nothing-begun most (emptied-all segs) few (length-map segs (λ s. option_map emptied s) ∙ long)
+cleared-active : (groups : List GroupFields) (g : ℕ) → active_in (states (map cleared groups)) g ≡ None
+cleared-active [] g = refl
+cleared-active (f ∷ fs) zero = refl
+cleared-active (f ∷ fs) (suc g) = cleared-active fs g
+
+cleared-table : (groups : List GroupFields) (g : ℕ) → g < length groups → (fields_at (map cleared groups) g).table ≡ replicate (length (fields_at groups g).table) not_closed
+cleared-table [] g w = absurd (omega (arith, w))
+cleared-table (f ∷ fs) zero w = refl
+cleared-table (f ∷ fs) (suc g) w = cleared-table fs g (omega (arith, w))
+
+-- no segment is of a group once all are emptied
+pub cleared-unused : (most : ℕ) (groups : List GroupFields) → 1 ≤ length groups → length groups ≤ 8 → ((g : ℕ) → g < length groups → length (fields_at groups g).table ≡ most) → AreUnused most (map cleared groups)
+cleared-unused most groups some few long =
+    let count = length-map groups cleared in record {
+      some_group = omega (arith, some, count);
+      few_groups = omega (arith, few, count);
+      active = cleared-active groups;
+      table = λ g w. (let v : g < length groups = omega (arith, w, count) in cleared-table groups g v ∙ ap (λ n. replicate n not_closed) (long g v));
+    }
+
+pub cleared-states : (groups : List GroupFields) → states (map cleared groups) ≡ map ended (states groups)
+cleared-states [] = refl
+cleared-states (f ∷ fs) = ap (λ gs. ended f.state ∷ gs) (cleared-states fs)
+
+pub emptied-fields : (most : ℕ) (groups : List GroupFields) (held : List Bool) (segs : List (Option SegmentState)) → most ≤ 2048 → length segs ≡ most → held ≡ map is_held (slots_of segs) → AreUnused most groups
+    → Fields most groups held held (emptied-all segs)
+emptied-fields most groups held segs few long is free =
+    subst (λ h. Fields most groups h held (emptied-all segs)) (emptied-held-numbers segs ∙ sym is)
+    (subst (λ f. Fields most groups (map is_held (slots_of (emptied-all segs))) f (emptied-all segs)) (emptied-free-numbers segs ∙ sym is)
+    (nothing-begun most groups (emptied-all segs) few (length-map segs (λ s. option_map emptied s) ∙ long) free
     (λ m. (ap used_in (emptied-at segs m) ∙ emptied-used (get_or segs m None), ap (λ s. is_begun (option_map slot_of s)) (emptied-at segs m) ∙ emptied-unbegun (get_or segs m None)))))
 
 pub emptied-free : (s : Option SegmentState) → is_held (option_map slot_of s) ≡ true → is_free (option_map slot_of (option_map emptied s)) ≡ true

@@ -1,6 +1,6 @@
 -- A segment once an object of it is dead.
-use Rattle.std.proofs.Common.{◌≡◌, ◌≢◌, ℕ, ◌+◌, ◌-◌, ◌<◌, inl, inr, Bool, cond, List, [], ◌∷◌, length, take, drop, refl, sym, ap, ◌∙◌, subst, arith, eq-eqb}
-use Rattle.std.specs.Prelude.{◌==◌, None, Some, option_map, slice_set}
+use Rattle.std.proofs.Common.{◌≡◌, ◌≢◌, ℕ, ◌+◌, ◌-◌, ◌<◌, inl, inr, cond, List, [], ◌∷◌, length, take, drop, refl, sym, ap, ◌∙◌, subst, arith, eq-eqb}
+use Rattle.std.specs.Prelude.{◌==◌, Option, None, Some, option_map, slice_set}
 use Rattle.std.specs.List.{refill}
 use Rattle.std.proofs.lemmas.Bool.{ne_eqb, cases_eq}
 use Rattle.std.proofs.lemmas.List.{take-set, drop-set-lt, length-set}
@@ -65,14 +65,14 @@ live-killed bytes a used at (o ∷ os) it h e one =
     ]
 
 -- the segment afterwards
-pub record IsKilled (p : Lent) (new : List ℕ) (used at : ℕ) (free : Bool) (it : Object) (old : SegmentState) : Type 0 where
+pub record IsKilled (p : Lent) (new : List ℕ) (used at : ℕ) (g : Option ℕ) (it : Object) (old : SegmentState) : Type 0 where
   pub kept : IsSegment (refill (length p.bytes) p.bytes new) used
-  pub slot : slot_of (record { piece = record p { bytes = refill (length p.bytes) p.bytes new }; used = used; free = free }) ≡ slot_of old
-  pub live : live_in (Some old) ≡ live_in (Some (record { piece = record p { bytes = refill (length p.bytes) p.bytes new }; used = used; free = free })) + it.size
-  pub killed : ChangesIn at (option_map dead (standing_in (Some old) at)) (Some old) (Some (record { piece = record p { bytes = refill (length p.bytes) p.bytes new }; used = used; free = free }))
+  pub slot : slot_of (record { piece = record p { bytes = refill (length p.bytes) p.bytes new }; used = used; group = g }) ≡ slot_of old
+  pub live : live_in (Some old) ≡ live_in (Some (record { piece = record p { bytes = refill (length p.bytes) p.bytes new }; used = used; group = g })) + it.size
+  pub killed : ChangesIn at (option_map dead (standing_in (Some old) at)) (Some old) (Some (record { piece = record p { bytes = refill (length p.bytes) p.bytes new }; used = used; group = g }))
 
-module _ (p : Lent) (free : Bool) (now new : List ℕ) (used at : ℕ) (is-now : now ≡ p.bytes) (stated : new ≡ slice_set now at 2) (buried-now : objects new used ≡ killed at (objects now used))
-    (segment : IsSegment p.bytes used) (it : Object) (is-it : object_with at (objects p.bytes used) ≡ Some it) (one : it.state ≡ 1) (still : IsSegment new used) (old : SegmentState) (is-old : record { piece = p; used = used; free = free } ≡ old) where
+module _ (p : Lent) (g : Option ℕ) (now new : List ℕ) (used at : ℕ) (is-now : now ≡ p.bytes) (stated : new ≡ slice_set now at 2) (buried-now : objects new used ≡ killed at (objects now used))
+    (segment : IsSegment p.bytes used) (it : Object) (is-it : object_with at (objects p.bytes used) ≡ Some it) (one : it.state ≡ 1) (still : IsSegment new used) (old : SegmentState) (is-old : record { piece = p; used = used; group = g } ≡ old) where
   state : new ≡ slice_set p.bytes at 2
   state = rw is-now at stated
 
@@ -86,7 +86,7 @@ module _ (p : Lent) (free : Bool) (now new : List ℕ) (used at : ℕ) (is-now :
   is-new = refill-same (length p.bytes) p.bytes new refl as-long
 
   abbrev after : List ℕ → SegmentState
-  after bytes = record { piece = record p { bytes = bytes }; used = used; free = free }
+  after bytes = record { piece = record p { bytes = bytes }; used = used; group = g }
 
   live-less : live_bytes (objects new used) + it.size ≡ live_bytes (objects p.bytes used)
   live-less = ap (λ os. live_bytes os + it.size) gone ∙ live-killed p.bytes 0 used at (objects p.bytes used) it segment.objects is-it one
@@ -99,7 +99,7 @@ module _ (p : Lent) (free : Bool) (now new : List ℕ) (used at : ℕ) (is-now :
   slot-same : slot_of (after (refill (length p.bytes) p.bytes new)) ≡ slot_of old
   slot-same =
       subst (λ h. slot_of (after (refill (length p.bytes) p.bytes new)) ≡ slot_of h) is-old
-      (ap (λ n. record { piece = record (identity p) { length = n }; free = free }) (ap length is-new ∙ as-long))
+      (ap (λ n. record { piece = record (identity p) { length = n }; group = g }) (ap length is-new ∙ as-long))
 
   front : take at new ≡ take at p.bytes
   front = ap (take at) state ∙ take-set p.bytes at 2
@@ -107,28 +107,28 @@ module _ (p : Lent) (free : Bool) (now new : List ℕ) (used at : ℕ) (is-now :
   back : drop (at + 1) new ≡ drop (at + 1) p.bytes
   back = ap (drop (at + 1)) state ∙ drop-set-lt (at + 1) p.bytes at 2 (omega arith)
 
-  beside : (b : ℕ) → standing_among new b (objects p.bytes used) ≡ standing_among p.bytes b (objects p.bytes used)
+  beside : (b : ℕ) → standing_among g new b (objects p.bytes used) ≡ standing_among g p.bytes b (objects p.bytes used)
   beside b =
       let f = found p.bytes 0 used at (objects p.bytes used) it segment.objects is-it in
-      standing-beside p.bytes new at (at + 1) 0 used at b (objects p.bytes used) it segment.objects is-it (omega arith) (omega (arith, f.least)) front back (inr (omega arith))
+      standing-beside g p.bytes new at (at + 1) 0 used at b (objects p.bytes used) it segment.objects is-it (omega arith) (omega (arith, f.least)) front back (inr (omega arith))
 
-  lies : standing new it ≡ standing p.bytes it
+  lies : standing g new it ≡ standing g p.bytes it
   lies =
       let f = found p.bytes 0 used at (objects p.bytes used) it segment.objects is-it in
-      content-same it p.bytes new (ap (take (it.size - 8)) (window-behind (at + 1) (it.at + 8) p.bytes new (omega (arith, f.place)) back))
+      content-same g it p.bytes new (ap (take (it.size - 8)) (window-behind (at + 1) (it.at + 8) p.bytes new (omega (arith, f.place)) back))
 
-  changed : ChangesIn at (option_map dead (standing_in (Some old) at)) (Some old) (Some (record { piece = record p { bytes = refill (length p.bytes) p.bytes new }; used = used; free = free }))
+  changed : ChangesIn at (option_map dead (standing_in (Some old) at)) (Some old) (Some (record { piece = record p { bytes = refill (length p.bytes) p.bytes new }; used = used; group = g }))
   changed =
       subst (λ h. ChangesIn at (option_map dead (standing_in (Some h) at)) (Some h) (Some (after (refill (length p.bytes) p.bytes new)))) is-old
-      (subst (λ b. ChangesIn at (option_map dead (standing_among p.bytes at (objects p.bytes used))) (Some (record { piece = p; used = used; free = free })) (Some (after b))) (sym is-new)
+      (subst (λ b. ChangesIn at (option_map dead (standing_among g p.bytes at (objects p.bytes used))) (Some (record { piece = p; used = used; group = g })) (Some (after b))) (sym is-new)
       (record {
         here =
-            ap (λ os. standing_among new at os) gone ∙ ap (option_map (standing new)) (killed-there at (objects p.bytes used) it is-it)
+            ap (λ os. standing_among g new at os) gone ∙ ap (option_map (standing g new)) (killed-there at (objects p.bytes used) it is-it)
             ∙ ap (λ (s : Standing). Some (dead s)) lies
-            ∙ sym (ap (λ f. option_map dead (option_map (standing p.bytes) f)) is-it);
+            ∙ sym (ap (λ f. option_map dead (option_map (standing g p.bytes) f)) is-it);
         others = λ b ne.
-            ap (λ os. standing_among new b os) gone ∙ ap (option_map (standing new)) (killed-other at b (objects p.bytes used) ne) ∙ beside b;
+            ap (λ os. standing_among g new b os) gone ∙ ap (option_map (standing g new)) (killed-other at b (objects p.bytes used) ne) ∙ beside b;
       }))
 
-  pub is-killed : IsKilled p new used at free it old
+  pub is-killed : IsKilled p new used at g it old
   is-killed = record { kept = subst (λ b. IsSegment b used) (sym is-new) still; slot = slot-same; live = live-shrunk; killed = changed }

@@ -5,8 +5,11 @@ pub mod Written
 pub mod Tables
 pub mod Numbers
 pub mod Updates
+pub mod Groups
 pub mod Consistency
+pub mod Activated
 pub mod Regions
+pub mod Unused
 pub mod Members
 pub mod Emptied
 pub mod Sums

@@ -9,7 +9,7 @@ use Rattle.regions.specs.Segments.{SegmentState}
 use Rattle.regions.specs.Shapes.{Slot, slot_of, slots_of, slot_at, is_held, is_free}
 use Rattle.regions.proofs.Numbers.{has-held, has-free}
 use Rattle.regions.proofs.Updates.{slot-is}
-use Rattle.regions.proofs.Consistency.{counted-as, held-within, free-held}
+use Rattle.regions.proofs.Groups.{counted-as, held-within, free-held}
 use Rattle.regions.proofs.Regions.{not-held}
 
 -- the count of segments with another one at a number
@@ -37,9 +37,6 @@ module _ (segs : List (Option SegmentState)) (held free : List Bool) (held-is : 
 
   pub unheld-at : (n : ℕ) → has held n ≡ false → get_or segs n None ≡ None
   unheld-at n e = not-held (get_or segs n None) (sym (ap is_held (slot-is segs n)) ∙ sym (says-held n) ∙ e)
-
-  pub held-in : (n : ℕ) → has held n ≡ true → n < length segs
-  held-in n e = let w = held-within (slots_of segs) n (sym (says-held n) ∙ e) in let l = length-map segs (λ s. option_map slot_of s) in omega (arith, w, l)
 
   pub free-in : (n : ℕ) → has free n ≡ true → n < length segs
   free-in n e =

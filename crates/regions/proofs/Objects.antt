@@ -86,48 +86,48 @@ window-behind hi i xs ys fits same =
     subst (λ k. drop k ys ≡ drop k xs) e (sym (drop-drop (i - hi) hi ys) ∙ ap (drop (i - hi)) same ∙ drop-drop (i - hi) hi xs)
 
 -- what stands there is told by the bytes of the object's content
-pub content-same : (o : Object) (xs ys : List ℕ) → take (o.size - 8) (drop (o.at + 8) ys) ≡ take (o.size - 8) (drop (o.at + 8) xs) → standing ys o ≡ standing xs o
-content-same o xs ys e = ap (λ c. let s : Standing = record { live = o.state == 1; item = record { kind = o.kind; content = c } } in s) e
+pub content-same : (g : Option ℕ) (o : Object) (xs ys : List ℕ) → take (o.size - 8) (drop (o.at + 8) ys) ≡ take (o.size - 8) (drop (o.at + 8) xs) → standing g ys o ≡ standing g xs o
+content-same g o xs ys e = ap (λ c. let s : Standing = record { live = o.state == 1; item = record { group = g; kind = o.kind; content = c } } in s) e
 
 -- the bytes below are the same
-pub standing-below : (xs ys : List ℕ) (a used at : ℕ) (os : List Object) → AreObjects xs a used os → take used ys ≡ take used xs → standing_among ys at os ≡ standing_among xs at os
-standing-below xs ys a used at [] h same = refl
-standing-below xs ys a used at (o ∷ os) h same =
+pub standing-below : (g : Option ℕ) (xs ys : List ℕ) (a used at : ℕ) (os : List Object) → AreObjects xs a used os → take used ys ≡ take used xs → standing_among g ys at os ≡ standing_among g xs at os
+standing-below g xs ys a used at [] h same = refl
+standing-below g xs ys a used at (o ∷ os) h same =
     let here : o.at ≡ a = ap (λ p. p.at) h.0 in let rest = objects-below xs (a + o.size) used os h.2 in let some = h.1.4 in
     elim (cases_eq o.at at) [
-      | inl is ↦ rw (eq-eqb o.at at is) (ap (λ s. Some s) (content-same o xs ys (window (o.at + 8) (o.size - 8) used xs ys (omega (arith, here, rest, some.0)) same)))
-      | inr ne ↦ rw (ne_eqb o.at at ne) (standing-below xs ys (a + o.size) used at os h.2 same)
+      | inl is ↦ rw (eq-eqb o.at at is) (ap (λ s. Some s) (content-same g o xs ys (window (o.at + 8) (o.size - 8) used xs ys (omega (arith, here, rest, some.0)) same)))
+      | inr ne ↦ rw (ne_eqb o.at at ne) (standing-below g xs ys (a + o.size) used at os h.2 same)
     ]
 
 -- the bytes behind are the same
-pub standing-behind : (xs ys : List ℕ) (hi a used at : ℕ) (os : List Object) → AreObjects xs a used os → hi ≤ a + 8 → drop hi ys ≡ drop hi xs → standing_among ys at os ≡ standing_among xs at os
-standing-behind xs ys hi a used at [] h low same = refl
-standing-behind xs ys hi a used at (o ∷ os) h low same =
+pub standing-behind : (g : Option ℕ) (xs ys : List ℕ) (hi a used at : ℕ) (os : List Object) → AreObjects xs a used os → hi ≤ a + 8 → drop hi ys ≡ drop hi xs → standing_among g ys at os ≡ standing_among g xs at os
+standing-behind g xs ys hi a used at [] h low same = refl
+standing-behind g xs ys hi a used at (o ∷ os) h low same =
     let here : o.at ≡ a = ap (λ p. p.at) h.0 in let some = h.1.4 in
     elim (cases_eq o.at at) [
-      | inl is ↦ rw (eq-eqb o.at at is) (ap (λ s. Some s) (content-same o xs ys (ap (take (o.size - 8)) (window-behind hi (o.at + 8) xs ys (omega (arith, here, low)) same))))
-      | inr ne ↦ rw (ne_eqb o.at at ne) (standing-behind xs ys hi (a + o.size) used at os h.2 (omega (arith, low)) same)
+      | inl is ↦ rw (eq-eqb o.at at is) (ap (λ s. Some s) (content-same g o xs ys (ap (take (o.size - 8)) (window-behind hi (o.at + 8) xs ys (omega (arith, here, low)) same))))
+      | inr ne ↦ rw (ne_eqb o.at at ne) (standing-behind g xs ys hi (a + o.size) used at os h.2 (omega (arith, low)) same)
     ]
 
 -- only bytes of the object at `at` differ, those from lo up to hi
-pub standing-beside : (xs ys : List ℕ) (lo hi a used at b : ℕ) (os : List Object) (it : Object) → AreObjects xs a used os → object_with at os ≡ Some it → at ≤ lo → hi ≤ at + it.size
-    → take lo ys ≡ take lo xs → drop hi ys ≡ drop hi xs → (b ≢ at) ⊎ (hi ≤ at + 8) → standing_among ys b os ≡ standing_among xs b os
-standing-beside xs ys lo hi a used at b [] it h e low high front back which = refl
-standing-beside xs ys lo hi a used at b (o ∷ os) it h e low high front back which =
+pub standing-beside : (g : Option ℕ) (xs ys : List ℕ) (lo hi a used at b : ℕ) (os : List Object) (it : Object) → AreObjects xs a used os → object_with at os ≡ Some it → at ≤ lo → hi ≤ at + it.size
+    → take lo ys ≡ take lo xs → drop hi ys ≡ drop hi xs → (b ≢ at) ⊎ (hi ≤ at + 8) → standing_among g ys b os ≡ standing_among g xs b os
+standing-beside g xs ys lo hi a used at b [] it h e low high front back which = refl
+standing-beside g xs ys lo hi a used at b (o ∷ os) it h e low high front back which =
     let here : o.at ≡ a = ap (λ p. p.at) h.0 in let rest = objects-below xs (a + o.size) used os h.2 in let some = h.1.4 in
     elim (cases_eq o.at at) [
       | inl is ↦
           let first : object_with at (o ∷ os) ≡ Some o = rw (eq-eqb o.at at is) refl in
           let same : o ≡ it = (let both : Some o ≡ Some it = sym first ∙ e in cc) in
           let size : o.size ≡ it.size = ap (λ p. p.size) same in
-          let tail = standing-behind xs ys hi (a + o.size) used b os h.2 (omega (arith, here, is, size, high)) back in
+          let tail = standing-behind g xs ys hi (a + o.size) used b os h.2 (omega (arith, here, is, size, high)) back in
           elim (cases_eq o.at b) [
             | inl that ↦
                 elim which [
                   | inl other ↦ absurd (other (sym that ∙ is))
                   | inr near ↦
                       rw (eq-eqb o.at b that)
-                      (ap (λ s. Some s) (content-same o xs ys (ap (take (o.size - 8)) (window-behind hi (o.at + 8) xs ys (omega (arith, is, near)) back))))
+                      (ap (λ s. Some s) (content-same g o xs ys (ap (take (o.size - 8)) (window-behind hi (o.at + 8) xs ys (omega (arith, is, near)) back))))
                 ]
             | inr that ↦ rw (ne_eqb o.at b that) tail
           ]
@@ -136,8 +136,8 @@ standing-beside xs ys lo hi a used at b (o ∷ os) it h e low high front back wh
           let it-is = sym later ∙ e in
           let f = found xs (a + o.size) used at os it h.2 it-is in
           elim (cases_eq o.at b) [
-            | inl that ↦ rw (eq-eqb o.at b that) (ap (λ s. Some s) (content-same o xs ys (window (o.at + 8) (o.size - 8) lo xs ys (omega (arith, here, f.low, low, some.0)) front)))
-            | inr that ↦ rw (ne_eqb o.at b that) (standing-beside xs ys lo hi (a + o.size) used at b os it h.2 it-is low high front back which)
+            | inl that ↦ rw (eq-eqb o.at b that) (ap (λ s. Some s) (content-same g o xs ys (window (o.at + 8) (o.size - 8) lo xs ys (omega (arith, here, f.low, low, some.0)) front)))
+            | inr that ↦ rw (ne_eqb o.at b that) (standing-beside g xs ys lo hi (a + o.size) used at b os it h.2 it-is low high front back which)
           ]
     ]
 
@@ -170,9 +170,9 @@ added-there (p ∷ os) o at is none =
     ]
 
 -- what stands there is one of the objects
-pub some-found : (bytes : List ℕ) (at : ℕ) (os : List Object) → IsSome (standing_among bytes at os) → (o : Object) × (object_with at os ≡ Some o)
-some-found bytes at os =
-    elim (object_with at os) as (λ v. is_some (option_map (standing bytes) v) ≡ true → (o : Object) × (v ≡ Some o)) [
+pub some-found : (g : Option ℕ) (bytes : List ℕ) (at : ℕ) (os : List Object) → IsSome (standing_among g bytes at os) → (o : Object) × (object_with at os ≡ Some o)
+some-found g bytes at os =
+    elim (object_with at os) as (λ v. is_some (option_map (standing g bytes) v) ≡ true → (o : Object) × (v ≡ Some o)) [
       | None ↦ λ h. absurd (let clash : false ≡ true = h in cc)
       | Some o ↦ λ h. (o, refl)
     ]
@@ -181,27 +181,27 @@ if-live-true : (b : Bool) (i : Item) → is_some (if_live b i) ≡ true → b �
 if-live-true true i h = refl
 if-live-true false i h = absurd (let clash : false ≡ true = h in cc)
 
-pub live-found : (bytes : List ℕ) (at : ℕ) (os : List Object) → IsSome (item_if_live (standing_among bytes at os)) → (o : Object) × (object_with at os ≡ Some o) × (o.state ≡ 1)
-live-found bytes at os =
-    elim (object_with at os) as (λ v. is_some (item_if_live (option_map (standing bytes) v)) ≡ true → (o : Object) × (v ≡ Some o) × (o.state ≡ 1)) [
+pub live-found : (g : Option ℕ) (bytes : List ℕ) (at : ℕ) (os : List Object) → IsSome (item_if_live (standing_among g bytes at os)) → (o : Object) × (object_with at os ≡ Some o) × (o.state ≡ 1)
+live-found g bytes at os =
+    elim (object_with at os) as (λ v. is_some (item_if_live (option_map (standing g bytes) v)) ≡ true → (o : Object) × (v ≡ Some o) × (o.state ≡ 1)) [
       | None ↦ λ h. absurd (let clash : false ≡ true = h in cc)
-      | Some o ↦ λ h. (o, refl, eqb-true o.state 1 (if-live-true (o.state == 1) (standing bytes o).item h))
+      | Some o ↦ λ h. (o, refl, eqb-true o.state 1 (if-live-true (o.state == 1) (standing g bytes o).item h))
     ]
 
 pub live-standing : (s : Option Standing) → IsSome (item_if_live s) → IsSome s
 live-standing None h = h
 live-standing (Some s) h = refl
 
--- in a free segment nothing stands
-pub begun-if : (bytes : List ℕ) (used at : ℕ) (free : Bool) → (free ≡ true → used ≡ 0) → IsSome (standing_among bytes at (objects bytes used)) → free ≡ false
-begun-if bytes used at false z h = refl
-begun-if bytes used at true z h =
-    absurd (let clash : false ≡ true = subst (λ k. IsSome (standing_among bytes at (objects bytes k))) (z refl) h in cc)
+-- in a g segment nothing stands
+pub begun-if : (bytes : List ℕ) (used at : ℕ) (g : Option ℕ) → (g ≡ None → used ≡ 0) → IsSome (standing_among g bytes at (objects bytes used)) → IsSome g
+begun-if bytes used at (Some g) z h = refl
+begun-if bytes used at None z h =
+    absurd (let clash : false ≡ true = subst (λ k. IsSome (standing_among None bytes at (objects bytes k))) (z refl) h in cc)
 
 -- where no byte is live no object is
-none-live : (bytes : List ℕ) (a used at : ℕ) (os : List Object) → AreObjects bytes a used os → live_bytes os ≡ 0 → item_if_live (standing_among bytes at os) ≡ None
-none-live bytes a used at [] h z = refl
-none-live bytes a used at (o ∷ os) h z =
+none-live : (g : Option ℕ) (bytes : List ℕ) (a used at : ℕ) (os : List Object) → AreObjects bytes a used os → live_bytes os ≡ 0 → item_if_live (standing_among g bytes at os) ≡ None
+none-live g bytes a used at [] h z = refl
+none-live g bytes a used at (o ∷ os) h z =
     elim (cases_eq o.state 1) [
       | inl one ↦
           let some : o.size + live_bytes os ≡ 0 = sym (ap (λ b. cond b o.size 0 + live_bytes os) (eq-eqb o.state 1 one)) ∙ z in
@@ -209,20 +209,20 @@ none-live bytes a used at (o ∷ os) h z =
       | inr other ↦
           let rest : 0 + live_bytes os ≡ 0 = sym (ap (λ b. cond b o.size 0 + live_bytes os) (ne_eqb o.state 1 other)) ∙ z in
           elim (cases_eq o.at at) [
-            | inl is ↦ rw (eq-eqb o.at at is) (ap (λ b. if_live b (standing bytes o).item) (ne_eqb o.state 1 other))
-            | inr ne ↦ rw (ne_eqb o.at at ne) (none-live bytes (a + o.size) used at os h.2 (omega (arith, rest)))
+            | inl is ↦ rw (eq-eqb o.at at is) (ap (λ b. if_live b (standing g bytes o).item) (ne_eqb o.state 1 other))
+            | inr ne ↦ rw (ne_eqb o.at at ne) (none-live g bytes (a + o.size) used at os h.2 (omega (arith, rest)))
           ]
     ]
 
-pub dead-segment : (bytes : List ℕ) (used : ℕ) (free : Bool) → (free ≡ true → used ≡ 0) → (free ≡ false → IsSegment bytes used) → live_bytes (objects bytes used) ≡ 0
-    → (at : ℕ) → item_if_live (standing_among bytes at (objects bytes used)) ≡ None
-dead-segment bytes used true unused s z at = subst (λ k. item_if_live (standing_among bytes at (objects bytes k)) ≡ None) (sym (unused refl)) refl
-dead-segment bytes used false unused s z at = none-live bytes 0 used at (objects bytes used) (s refl).objects z
+pub dead-segment : (bytes : List ℕ) (used : ℕ) (g : Option ℕ) → (g ≡ None → used ≡ 0) → (IsSome g → IsSegment bytes used) → live_bytes (objects bytes used) ≡ 0
+    → (at : ℕ) → item_if_live (standing_among g bytes at (objects bytes used)) ≡ None
+dead-segment bytes used None unused s z at = subst (λ k. item_if_live (standing_among None bytes at (objects bytes k)) ≡ None) (sym (unused refl)) refl
+dead-segment bytes used (Some g) unused s z at = none-live (Some g) bytes 0 used at (objects bytes used) (s refl).objects z
 
 -- no more bytes are live than are used
-pub live-within : (bytes : List ℕ) (used : ℕ) (free : Bool) → (free ≡ true → used ≡ 0) → (free ≡ false → IsSegment bytes used) → live_bytes (objects bytes used) ≤ used
-live-within bytes used true unused s = subst (λ k. live_bytes (objects bytes k) ≤ k) (sym (unused refl)) (omega arith)
-live-within bytes used false unused s = let b = live-below bytes 0 used (objects bytes used) (s refl).objects in omega (arith, b)
+pub live-within : (bytes : List ℕ) (used : ℕ) (g : Option ℕ) → (g ≡ None → used ≡ 0) → (IsSome g → IsSegment bytes used) → live_bytes (objects bytes used) ≤ used
+live-within bytes used None unused s = subst (λ k. live_bytes (objects bytes k) ≤ k) (sym (unused refl)) (omega arith)
+live-within bytes used (Some g) unused s = let b = live-below bytes 0 used (objects bytes used) (s refl).objects in omega (arith, b)
 
 next-of : (bytes : List ℕ) (a used at : ℕ) (p : Object) (os : List Object) → AreObjects bytes a used os → a ≡ at → p.at < at → (at ≡ used) ⊎ IsSome (object_with at (p ∷ os))
 next-of bytes a used at p [] h e low = inl (sym e ∙ h)
@@ -258,6 +258,6 @@ after-found bytes a used at (p ∷ os) o h e =
     ]
 
 -- the first object begins where all begin, or they end there
-pub first-start : (bytes : List ℕ) (a used : ℕ) (os : List Object) → AreObjects bytes a used os → IsSome (standing_among bytes a os) ⊎ (a ≡ used)
-first-start bytes a used [] h = inr h
-first-start bytes a used (o ∷ os) h = inl (ap (λ b. is_some (option_map (standing bytes) (cond b (Some o) (object_with a os)))) (eq-eqb o.at a (ap (λ p. p.at) h.0)))
+pub first-start : (g : Option ℕ) (bytes : List ℕ) (a used : ℕ) (os : List Object) → AreObjects bytes a used os → IsSome (standing_among g bytes a os) ⊎ (a ≡ used)
+first-start g bytes a used [] h = inr h
+first-start g bytes a used (o ∷ os) h = inl (ap (λ b. is_some (option_map (standing g bytes) (cond b (Some o) (object_with a os)))) (eq-eqb o.at a (ap (λ p. p.at) h.0)))

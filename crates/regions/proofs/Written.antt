@@ -1,5 +1,5 @@
 -- A segment once the content of an object was written through a `&mut`.
-use Rattle.std.proofs.Common.{◌≡◌, ℕ, ◌+◌, ◌-◌, inl, Bool, true, false, List, ◌++◌, length, take, drop, refl, sym, ap, ◌∙◌, subst, arith, append_assoc, length-append, length-take-le, length-drop}
+use Rattle.std.proofs.Common.{◌≡◌, ℕ, ◌+◌, ◌-◌, inl, List, ◌++◌, length, take, drop, refl, sym, ap, ◌∙◌, subst, arith, append_assoc, length-append, length-take-le, length-drop}
 use Rattle.std.specs.Prelude.{Option, None, Some, IsSome, option_map}
 use Rattle.std.specs.List.{refill, length_refill}
 use Rattle.std.proofs.lemmas.List.{take_at, drop_at}
@@ -12,18 +12,18 @@ use Rattle.regions.specs.Contents.{Standing, standing, standing_among, standing_
 use Rattle.regions.specs.Lends.{bytes_with}
 use Rattle.regions.proofs.Objects.{IsFound, found, found-any, standing-beside, live-found, live-standing, some-found, begun-if}
 
--- an object that stands at the offset, in a segment that is not free
+-- an object that stands at the offset, in a segment that is not g
 pub record IsThere (bytes : List ℕ) (used at : ℕ) : Type 0 where
   pub segment : IsSegment bytes used
   pub it : Object
   pub is-it : object_with at (objects bytes used) ≡ Some it
   pub found : IsFound bytes 0 used at it
 
-pub is-there : (bytes : List ℕ) (used at : ℕ) (free : Bool) → (free ≡ true → used ≡ 0) → (free ≡ false → IsSegment bytes used)
-    → IsSome (standing_among bytes at (objects bytes used)) → IsThere bytes used at
-is-there bytes used at free unused begun there =
-    let segment = begun (begun-if bytes used at free unused there) in
-    let f = some-found bytes at (objects bytes used) there in record { segment = segment; it = f.0; is-it = f.1; found = found bytes 0 used at (objects bytes used) f.0 segment.objects f.1 }
+pub is-there : (bytes : List ℕ) (used at : ℕ) (g : Option ℕ) → (g ≡ None → used ≡ 0) → (IsSome g → IsSegment bytes used)
+    → IsSome (standing_among g bytes at (objects bytes used)) → IsThere bytes used at
+is-there bytes used at g unused begun there =
+    let segment = begun (begun-if bytes used at g unused there) in
+    let f = some-found g bytes at (objects bytes used) there in record { segment = segment; it = f.0; is-it = f.1; found = found bytes 0 used at (objects bytes used) f.0 segment.objects f.1 }
 
 -- one that is live
 pub record IsLive (bytes : List ℕ) (used at : ℕ) : Type 0 where
@@ -33,24 +33,24 @@ pub record IsLive (bytes : List ℕ) (used at : ℕ) : Type 0 where
   pub alive : it.state ≡ 1
   pub found : IsFound bytes 0 used at it
 
-pub is-live : (bytes : List ℕ) (used at : ℕ) (free : Bool) → (free ≡ true → used ≡ 0) → (free ≡ false → IsSegment bytes used)
-    → IsSome (item_if_live (standing_among bytes at (objects bytes used))) → IsLive bytes used at
-is-live bytes used at free unused begun alive =
-    let segment = begun (begun-if bytes used at free unused (live-standing _ alive)) in
-    let f = live-found bytes at (objects bytes used) alive in
+pub is-live : (bytes : List ℕ) (used at : ℕ) (g : Option ℕ) → (g ≡ None → used ≡ 0) → (IsSome g → IsSegment bytes used)
+    → IsSome (item_if_live (standing_among g bytes at (objects bytes used))) → IsLive bytes used at
+is-live bytes used at g unused begun alive =
+    let segment = begun (begun-if bytes used at g unused (live-standing _ alive)) in
+    let f = live-found g bytes at (objects bytes used) alive in
     record { segment = segment; it = f.0; is-it = f.1; alive = f.2; found = found bytes 0 used at (objects bytes used) f.0 segment.objects f.1 }
 
 abbrev pub as-there : (bytes : List ℕ) (used at : ℕ) → IsLive bytes used at → IsThere bytes used at
 as-there bytes used at live = record { segment = live.segment; it = live.it; is-it = live.is-it; found = live.found }
 
 -- the same of what a caller sees
-pub there-seen : (p : Lent) (used at : ℕ) (free : Bool) (h : SegmentState) → (free ≡ true → used ≡ 0) → (free ≡ false → IsSegment p.bytes used) → record { piece = p; used = used; free = free } ≡ h
+pub there-seen : (p : Lent) (used at : ℕ) (g : Option ℕ) (h : SegmentState) → (g ≡ None → used ≡ 0) → (IsSome g → IsSegment p.bytes used) → record { piece = p; used = used; group = g } ≡ h
     → IsSome (standing_in (Some h) at) → IsThere p.bytes used at
-there-seen p used at free h unused begun view there = is-there p.bytes used at free unused begun (subst (λ h. IsSome (standing_in (Some h) at)) (sym view) there)
+there-seen p used at g h unused begun view there = is-there p.bytes used at g unused begun (subst (λ h. IsSome (standing_in (Some h) at)) (sym view) there)
 
-pub live-seen : (p : Lent) (used at : ℕ) (free : Bool) (h : SegmentState) → (free ≡ true → used ≡ 0) → (free ≡ false → IsSegment p.bytes used) → record { piece = p; used = used; free = free } ≡ h
+pub live-seen : (p : Lent) (used at : ℕ) (g : Option ℕ) (h : SegmentState) → (g ≡ None → used ≡ 0) → (IsSome g → IsSegment p.bytes used) → record { piece = p; used = used; group = g } ≡ h
     → IsSome (item_if_live (standing_in (Some h) at)) → IsLive p.bytes used at
-live-seen p used at free h unused begun view alive = is-live p.bytes used at free unused begun (subst (λ h. IsSome (item_if_live (standing_in (Some h) at))) (sym view) alive)
+live-seen p used at g h unused begun view alive = is-live p.bytes used at g unused begun (subst (λ h. IsSome (item_if_live (standing_in (Some h) at))) (sym view) alive)
 
 -- what is asked where its descriptor is read, and where it is killed
 pub stands-read : (bytes now : List ℕ) (used at : ℕ) → IsThere bytes used at → now ≡ bytes → IsSegment now used × StandsAt at (objects now used)
@@ -60,13 +60,13 @@ pub lives-read : (bytes now : List ℕ) (used at : ℕ) → IsLive bytes used at
 lives-read bytes now used at l is = rw is (l.segment, found-any (λ (o : Object). (o.at ≡ at) × (o.state ≡ 1)) at (objects bytes used) l.it l.is-it ((l.found).place, l.alive))
 
 -- the content is read where it lies
-pub content-read : (bytes now : List ℕ) (used at start len : ℕ) (there : IsThere bytes used at) → now ≡ bytes → start ≡ at + 8 → len + 8 ≡ (descriptor_at now at).size
-    → option_map (λ s. s.item.content) (standing_among bytes at (objects bytes used)) ≡ Some (take len (drop start bytes))
-content-read bytes now used at start len there is begins ends =
+pub content-read : (g : Option ℕ) (bytes now : List ℕ) (used at start len : ℕ) (there : IsThere bytes used at) → now ≡ bytes → start ≡ at + 8 → len + 8 ≡ (descriptor_at now at).size
+    → option_map (λ s. s.item.content) (standing_among g bytes at (objects bytes used)) ≡ Some (take len (drop start bytes))
+content-read g bytes now used at start len there is begins ends =
     let f = there.found in
     let size : (there.it).size ≡ (descriptor_at bytes at).size = ap (λ o. o.size) f.is in
     let here : (there.it).size ≡ len + 8 = size ∙ ap (λ b. (descriptor_at b at).size) (sym is) ∙ sym ends in
-    ap (λ o. option_map (λ s. s.item.content) (option_map (standing bytes) o)) there.is-it ∙ ap (λ k. Some (take k (drop ((there.it).at + 8) bytes))) (omega (arith, here) ∙ refl)
+    ap (λ o. option_map (λ s. s.item.content) (option_map (standing g bytes) o)) there.is-it ∙ ap (λ k. Some (take k (drop ((there.it).at + 8) bytes))) (omega (arith, here) ∙ refl)
     ∙ ap (λ k. Some (take len (drop k bytes))) (ap (λ k. k + 8) f.place ∙ sym begins)
 
 -- what was left there lies there
@@ -163,29 +163,29 @@ module _ (p : Lent) (ws : List ℕ) (used at size : ℕ) (live : IsLive p.bytes 
       ap (take (size - 8)) (drop_at (take (at + 8) p.bytes) (fit ++ drop (at + 8 + length fit) p.bytes) (at + 8) front-long)
       ∙ take_at fit (drop (at + 8 + length fit) p.bytes) (size - 8) fit-long ∙ ap (λ k. refill k content ws) (sym content-long)
 
-  lies : standing new it ≡ rewritten ws (standing p.bytes it)
-  lies =
+  lies : (g : Option ℕ) → standing g new it ≡ rewritten ws (standing g p.bytes it)
+  lies g =
       let Reads : ℕ → ℕ → Type 0 = λ k a. take (k - 8) (drop (a + 8) new) ≡ refill (length (take (k - 8) (drop (a + 8) p.bytes))) (take (k - 8) (drop (a + 8) p.bytes)) ws in
       let there : Reads it.size it.at = subst (λ k. Reads k it.at) (sym is-size) (subst (λ a. Reads size a) (sym place.place) reads) in
-      ap (λ c. let s : Standing = record (standing p.bytes it) { item = record { kind = it.kind; content = c } } in s) there
+      ap (λ c. let s : Standing = record (standing g p.bytes it) { item = record { group = g; kind = it.kind; content = c } } in s) there
 
-  abbrev after : Bool → SegmentState
-  after free = record { piece = record p { bytes = new }; used = used; free = free }
+  abbrev after : Option ℕ → SegmentState
+  after g = record { piece = record p { bytes = new }; used = used; group = g }
 
-  pub slot-same : (free : Bool) → slot_of (after free) ≡ slot_of (record { piece = p; used = used; free = free })
-  slot-same free = ap (λ n. record { piece = record (identity p) { length = n }; free = free }) (segment-kept.long ∙ sym segment.long)
+  pub slot-same : (g : Option ℕ) → slot_of (after g) ≡ slot_of (record { piece = p; used = used; group = g })
+  slot-same g = ap (λ n. record { piece = record (identity p) { length = n }; group = g }) (segment-kept.long ∙ sym segment.long)
 
-  pub live-same : (free : Bool) → live_in (Some (after free)) ≡ live_in (Some (record { piece = p; used = used; free = free }))
-  live-same free = ap live_bytes objects-same
+  pub live-same : (g : Option ℕ) → live_in (Some (after g)) ≡ live_in (Some (record { piece = p; used = used; group = g }))
+  live-same g = ap live_bytes objects-same
 
-  pub changed : (free : Bool) → ChangesIn at (option_map (rewritten ws) (standing_among p.bytes at (objects p.bytes used))) (Some (record { piece = p; used = used; free = free })) (Some (after free))
-  changed free = record {
+  pub changed : (g : Option ℕ) → ChangesIn at (option_map (rewritten ws) (standing_among g p.bytes at (objects p.bytes used))) (Some (record { piece = p; used = used; group = g })) (Some (after g))
+  changed g = record {
     here =
-        ap (λ os. standing_among new at os) objects-same ∙ ap (option_map (standing new)) is-it ∙ ap (λ (s : Standing). Some s) lies
-        ∙ sym (ap (λ o. option_map (rewritten ws) (option_map (standing p.bytes) o)) is-it);
+        ap (λ os. standing_among g new at os) objects-same ∙ ap (option_map (standing g new)) is-it ∙ ap (λ (s : Standing). Some s) (lies g)
+        ∙ sym (ap (λ o. option_map (rewritten ws) (option_map (standing g p.bytes) o)) is-it);
     others = λ b ne.
-        ap (λ os. standing_among new b os) objects-same
-        ∙ standing-beside p.bytes new (at + 8) (at + it.size) 0 used at b (objects p.bytes used) it segment.objects is-it (omega arith) (omega arith) front back (inl ne);
+        ap (λ os. standing_among g new b os) objects-same
+        ∙ standing-beside g p.bytes new (at + 8) (at + it.size) 0 used at b (objects p.bytes used) it segment.objects is-it (omega arith) (omega arith) front back (inl ne);
   }
 
 -- what is as long as the content is the whole content

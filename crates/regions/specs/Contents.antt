@@ -7,8 +7,9 @@ use Rattle.regions.specs.Segments.{SegmentState, RegionState, segment_at}
 use Rattle.regions.specs.Counts.{objects_in, used_in, used_at}
 use Rattle.regions.specs.declared.place.Place.{Place}
 
--- what a store has under a name
+-- what a store has under a name: in which group it stands, its kind, and its content
 pub record Item : Type 0 where
+  pub group : Option ℕ
   pub kind : ℕ
   pub content : List ℕ
 
@@ -21,20 +22,20 @@ pub record Standing : Type 0 where
 abbrev pub size_of : Item → ℕ
 size_of i = length i.content + descriptor
 
--- the object as its descriptor and its bytes tell it
-abbrev pub standing : List ℕ → Object → Standing
-standing bytes o = record { live = o.state == 1; item = record { kind = o.kind; content = content_at o.at o.size bytes } }
+-- the object as its segment's group, its descriptor and its bytes tell it
+abbrev pub standing : Option ℕ → List ℕ → Object → Standing
+standing group bytes o = record { live = o.state == 1; item = record { group = group; kind = o.kind; content = content_at o.at o.size bytes } }
 
 -- the one of the objects that stands at the offset
 abbrev pub object_with : ℕ → List Object → Option Object
 object_with at os = find (λ o. o.at == at) os
 
-abbrev pub standing_among : List ℕ → ℕ → List Object → Option Standing
-standing_among bytes at os = option_map (standing bytes) (object_with at os)
+abbrev pub standing_among : Option ℕ → List ℕ → ℕ → List Object → Option Standing
+standing_among group bytes at os = option_map (standing group bytes) (object_with at os)
 
 abbrev pub standing_in : Option SegmentState → ℕ → Option Standing
 standing_in None at = None
-standing_in (Some h) at = standing_among h.piece.bytes at (objects_in h)
+standing_in (Some h) at = standing_among h.group h.piece.bytes at (objects_in h)
 
 -- the object at a place of the region
 abbrev pub standing_at : RegionState → Place → Option Standing
@@ -44,7 +45,7 @@ abbrev pub if_live : Bool → Item → Option Item
 if_live true item = Some item
 if_live false item = None
 
--- the kind and content of an object that is live
+-- the group, kind and content of an object that is live
 abbrev pub item_if_live : Option Standing → Option Item
 item_if_live None = None
 item_if_live (Some s) = if_live s.live s.item
@@ -54,15 +55,15 @@ abbrev pub live_at : RegionState → Place → Option Item
 live_at r p = item_if_live (standing_at r p)
 
 -- a new object of the size, whose content is zero
-abbrev pub zeros : ℕ → ℕ → Standing
-zeros kind size = record { live = true; item = record { kind = kind; content = replicate (size - descriptor) 0 } }
+abbrev pub zeros : Option ℕ → ℕ → ℕ → Standing
+zeros group kind size = record { live = true; item = record { group = group; kind = kind; content = replicate (size - descriptor) 0 } }
 
 abbrev pub dead : Standing → Standing
 dead s = record s { live = false }
 
 -- its content is ws
 abbrev pub with_bytes : List ℕ → Standing → Standing
-with_bytes ws s = record s { item = record { kind = s.item.kind; content = ws } }
+with_bytes ws s = record s { item = record { group = s.item.group; kind = s.item.kind; content = ws } }
 
 -- its content is ws, cut or filled up to the length that it had
 abbrev pub rewritten : List ℕ → Standing → Standing

@@ -52,10 +52,10 @@ live_total r = sum (live_counts r)
 abbrev pub plus : ℕ → ℕ → List ℕ → List ℕ
 plus n k counts = slice_set counts n (slice_index counts n + k)
 
--- the bytes that the active segment has left, or 0 where there is none
+-- the bytes that the active segment of a group has left, or 0 where there is none
 abbrev pub left_of : List ℕ → Option ℕ → ℕ
 left_of used None = 0
 left_of used (Some n) = segment - slice_index used n
 
-abbrev pub left : RegionState → ℕ
-left r = left_of (used_counts r) (active_of r)
+abbrev pub left : RegionState → ℕ → ℕ
+left r g = left_of (used_counts r) (active_of r g)

@@ -1,4 +1,4 @@
--- The unmoved store: a map from name to kind and content, in which nothing has a place.
+-- The unmoved store: a map from name to group, kind and content, in which nothing has a place.
 use Rattle.std.specs.Prelude.{◌≡◌, ℕ, Bool, ◌&&◌, ◌==◌, cond, Option, None, Some, IsSome, option_map}
 use Rattle.regions.specs.Segments.{RegionState}
 use Rattle.regions.specs.Shapes.{shape}
@@ -17,8 +17,12 @@ Live = Place → Option Item
 abbrev pub Bare : Type 0
 Bare = Item → Item
 
+-- it has the group and the kind of the item
+abbrev pub LeavesTheRest : Bare → Type 0
+LeavesTheRest bare = (i : Item) → ((bare i).group ≡ i.group) × ((bare i).kind ≡ i.kind)
+
 -- live objects and a naming of places stand for a store: each name of the store has a place, at which an object of that
--- kind and content is live, its reference fields taken away; each name that has a place is one of the store; different
+-- group, kind and content is live, its reference fields taken away; each name that has a place is one of the store; different
 -- names have different places; and every live object is some name's
 pub record StandsFor {N : Type 0} (bare : Bare) (store : Store N) (place_of : N → Option Place) (live : Live) : Type 0 where
   pub placed : (n : N) (i : Item) → store n ≡ Some i → (p : Place) × (place_of n ≡ Some p) × (option_map bare (live p) ≡ Some i)

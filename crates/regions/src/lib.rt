@@ -1,9 +1,11 @@
 //! Segments of one shard and the objects in them, after ScyllaDB's `utils/logalloc`.
 //!
-//! A region holds pieces of 131,072 bytes, its segments. Each is free, closed or the one active. Objects
-//! are appended to the active one. An object that was killed stays until its segment is freed.
+//! A region holds pieces of 131,072 bytes, its segments, and its groups share the free ones. Each segment is free, or closed
+//! or active in one group. Objects are appended to the active segment of their group, and move within their group alone. An
+//! object that was killed stays until its segment is freed.
 #![tactic(auto)]
 
+mod group;
 mod live_table;
 mod movers;
 mod place;

@@ -1,4 +1,4 @@
-//! How many live bytes each closed segment has.
+//! How many live bytes each closed segment of a group has.
 ghost use Rattle.std.specs.Prelude.{◌≡◌, ◌<◌, ◌≤◌, length, replicate, slice_set, IfOk};
 ghost use Rattle.std.specs.List.{count_by};
 ghost use Rattle.regions.specs.inside.Consistent.{not_closed, is_sparse};
@@ -7,7 +7,7 @@ use layout::DENSE;
 use std::alloc::{AllocError, Global};
 use std::marker::Model;
 
-// What the table has for a segment that is not closed.
+// What the table has for a segment that is not closed in the group.
 pub(crate) const NOT_CLOSED: u32 = 4_294_967_295;
 
 // The live bytes of the closed segments, by number, and how many of those are sparse.

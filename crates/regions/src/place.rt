@@ -5,6 +5,6 @@ pub struct Place {
     pub at: u32,
 }
 
-/// The active segment has less than the size left.
+/// The group has no active segment, or less than the size is left in it.
 #[derive(Clone, Copy, Debug, PartialEq, Eq)]
 pub struct NeedSegment;

@@ -1,23 +1,22 @@
-//! The segments of one shard and the objects in them.
-ghost use Rattle.std.specs.Prelude.{◌≡◌, ◌↔◌, ◌⊎◌, ℕ, ◌+◌, ◌-◌, ◌<◌, ◌≤◌, List, true, false, cond, length, slice_index, Some, None, option_map, replicate, slice_set, IfOk, IfErr, IfSome, IsSome, IsNone, IsErr};
+//! The segments of one shard, their groups, and the objects in them.
+ghost use Rattle.std.specs.Prelude.{◌≡◌, ◌↔◌, ◌⊎◌, ℕ, ◌+◌, ◌-◌, ◌<◌, ◌≤◌, List, length, Some, None, option_map, replicate, IfOk, IfErr, IfSome, IsSome, IsNone, IsErr};
 ghost use Rattle.std.specs.Borrow.{sem};
 ghost use Rattle.layout.specs.Sizes as sizes;
 ghost use Rattle.number_set.specs.Numbers.{size, IsLeast, IsGreatest, IsLeastAbsent};
 ghost use Rattle.object_log.specs.Objects.{IsSize};
-ghost use Rattle.regions.specs.Segments.{segment_at, with_segment, fresh, emptied, all_emptied};
-ghost use Rattle.regions.specs.Shapes.{shape, active_of, guards_of, pieces, is_active, held_count, free_count, activated, IsClosed, IsLeastFree, IsGreatestFree, IsGreatestHeld, IsLeastUnused};
+ghost use Rattle.regions.specs.Segments.{segment_at, with_segment, with_guards, fresh, idle, all_emptied};
+ghost use Rattle.regions.specs.Shapes.{shape, group_of, active_of, guards_of, pieces, held_count, free_count, activated, HasGroup, IsUnguarded, IsClosedIn, IsLeastFree, IsGreatestFree, IsGreatestHeld, IsLeastUnused};
 ghost use Rattle.regions.specs.Counts.{used_counts, live_counts, used_at, used_total, live_total, plus, left};
 ghost use Rattle.regions.specs.Contents.{standing_at, live_at, size_of, zeros, dead, with_bytes, rewritten, ChangesAt, Keeps};
 ghost use Rattle.regions.specs.Lends.{LendsContent, with_content};
-ghost use Rattle.regions.specs.inside.Consistent.{with_closed};
 
 mod closed;
 mod reading;
 
-use crate::live_table::LiveTable;
+use crate::group::{Group, clear_groups, new_groups};
 use crate::place::{NeedSegment, Place};
 use crate::segment::Segment;
-use crate::slots::{clear, clear_all, copy_into, piece_of, segment_mut};
+use crate::slots::{clear_all, copy_into, group_begun, piece_of, segment_mut};
 use layout::SEGMENT;
 use number_set::NumberSet;
 use raw_range::Piece;
@@ -25,16 +24,15 @@ use std::alloc::{AllocError, Global};
 use std::marker::Model;
 use std::mem;
 
-/// The segments of one shard, by number, and the objects in them.
+/// The segments of one shard, by number, and the objects in them. A segment is free, or closed or active in one of the
+/// region's groups, which share the free ones. A group has at most one active segment, and has one where it has a closed one.
+/// It has guards of its own.
 #[derive(Drop)]
 pub struct Region {
     most: u32,
-    guards: u32,
-    active: Option<u32>,
-    active_live: u32,
+    groups: Vec<Group>,
     held: NumberSet,
     free: NumberSet,
-    table: LiveTable,
     slots: Vec<Option<Segment>>,
 }
 
@@ -42,26 +40,27 @@ impl Model for Region {
     ghost use Rattle.regions.specs.Segments.{RegionState, region_code};
     ghost use Rattle.regions.specs.Shapes.{slots_of};
     ghost use Rattle.regions.specs.Counts.{used_in_each, live_in_each};
-    ghost use Rattle.regions.specs.inside.Consistent.{IsConsistent};
+    ghost use Rattle.regions.specs.inside.Consistent.{IsConsistent, states};
 
     ghost Value = { RegionState };
 
     ghost coded = { region_code };
 
-    ghost view = { λ r. record { most = r.most; guards = r.guards; active = r.active; segments = r.slots.items } };
+    ghost view = { λ r. record { most = r.most; groups = states r.groups.items; segments = r.slots.items } };
 
-    ghost invariant = { λ r. IsConsistent r.most r.active r.held r.free r.active_live r.table (slots_of r.slots.items)
+    ghost invariant = { λ r. IsConsistent r.most r.groups.items r.held r.free (slots_of r.slots.items)
         (used_in_each r.slots.items) (live_in_each r.slots.items) };
 }
 
 impl Region {
-    /// A region that holds no segment. Numbers of segments are below `most`.
+    /// A region of 1 to 8 groups that holds no segment. Numbers of segments are below `most`, those of groups below `groups`.
     ///
     /// # Errors
     /// `AllocError` where memory is not found.
-    pub fn new(alloc: Global, most: u32) -> Result<Region, AllocError>
-        requires { most ≤ 2048 }
-        ensures { IfOk result (λ r. r ≡ record { most = most; guards = 0; active = None; segments = replicate most None }) }
+    pub fn new(alloc: Global, most: u32, groups: u32) -> Result<Region, AllocError>
+        requires most { most ≤ 2048 }
+        requires groups { (1 ≤ groups) × (groups ≤ 8) }
+        ensures { IfOk result (λ r. r ≡ record { most = most; groups = replicate groups idle; segments = replicate most None }) }
     {
         let mut slots = Vec::with_capacity(alloc, most as usize)?;
         for _number in 0..most {
@@ -69,12 +68,9 @@ impl Region {
         }
         Ok(Region {
             most,
-            guards: 0,
-            active: None,
-            active_live: 0,
+            groups: new_groups(alloc, most, groups)?,
             held: NumberSet::new(alloc, most)?,
             free: NumberSet::new(alloc, most)?,
-            table: LiveTable::new(alloc, most)?,
             slots,
         })
     }
@@ -127,19 +123,21 @@ impl Region {
         Some(piece_of(taken))
     }
 
-    /// Closes the active segment, and makes the free one with the least number active.
-    pub fn next_active(&mut self)
+    /// Closes the active segment of the group, and makes the free one with the least number active in it.
+    pub fn next_active(&mut self, group: u32)
+        requires group { HasGroup self.old group }
         requires free { 1 ≤ free_count self.old }
-        requires full { IsSome (active_of self.old) → left self.old < sizes.greatest_object }
+        requires full { IsSome (active_of self.old group) → left self.old group < sizes.greatest_object }
 
         // Which segment is active, and which are closed.
-        ensures activated { (n : ℕ) × IsLeastFree self.old n × (shape self.new ≡ activated n (shape self.old)) }
-        ensures closed { (n : ℕ) → IsClosed self.old n ⊎ (active_of self.old ≡ Some n) → IsClosed self.new n }
+        ensures activated { (n : ℕ) × IsLeastFree self.old n × (shape self.new ≡ activated group n (shape self.old)) }
+        ensures closed { (g n : ℕ) → IsClosedIn self.old g n → IsClosedIn self.new g n }
+        ensures ended { IfSome (active_of self.old group) (IsClosedIn self.new group) }
 
         // No object and no piece changes, and the active segment is empty.
         ensures objects { Keeps self.old self.new }
         ensures pieces { pieces self.new ≡ pieces self.old }
-        ensures left { left self.new ≡ sizes.segment }
+        ensures left { left self.new group ≡ sizes.segment }
 
         // Counted: one free segment fewer.
         ensures held { held_count self.new ≡ held_count self.old }
@@ -147,33 +145,33 @@ impl Region {
         ensures counts { (used_counts self.new ≡ used_counts self.old) × (live_counts self.new ≡ live_counts self.old) }
         ensures live_total { live_total self.new ≡ live_total self.old }
     {
-        close(&mut self.table, self.active, self.active_live);
         let number = least_of(&self.free);
-        segment_mut(&mut self.slots[number as usize]).begin();
+        segment_mut(&mut self.slots[number as usize]).begin(group);
         self.free.remove(number);
-        self.active = Some(number);
-        self.active_live = 0;
+        self.groups[group as usize].begin(number);
     }
 
-    /// Adds a live object of `size` bytes, its descriptor included, to the active segment, and answers where it stands.
-    /// Its content is zero.
+    /// Adds a live object of `size` bytes, its descriptor included, to the active segment of the group, and answers where it
+    /// stands. Its content is zero.
     ///
     /// # Errors
-    /// `NeedSegment` where the active segment has less than `size` bytes left. Nothing changed.
-    pub fn place(&mut self, kind: u8, size: u32) -> Result<Place, NeedSegment>
-        requires active { IsSome (active_of self.old) }
+    /// `NeedSegment` where the group has no active segment, or that has less than `size` bytes left. Nothing changed.
+    pub fn place(&mut self, group: u32, kind: u8, size: u32) -> Result<Place, NeedSegment>
+        requires group { HasGroup self.old group }
         requires kind { 1 ≤ kind }
         requires size { IsSize size }
 
-        // Refused exactly where it has too little room, and then nothing changed.
-        ensures full { IsErr result ↔ left self.old < size }
+        // Refused exactly where it has too little room or there is none, and then nothing changed.
+        ensures full { IsErr result ↔ left self.old group < size }
+        ensures none { IsNone (active_of self.old group) → IsErr result }
         ensures unchanged { IfErr result (λ _. self.new ≡ self.old) }
 
         // Where the object stands, and that it is the only change.
-        ensures segment { IfOk result (λ place. active_of self.old ≡ Some place.segment) }
+        ensures segment { IfOk result (λ place. active_of self.old group ≡ Some place.segment) }
+        ensures group { IfOk result (λ place. group_of self.old place.segment ≡ Some group) }
         ensures offset { IfOk result (λ place. place.at ≡ used_at self.old place.segment) }
         ensures unused { IfOk result (λ place. standing_at self.old place ≡ None) }
-        ensures added { IfOk result (λ place. ChangesAt place (Some (zeros kind size)) self.old self.new) }
+        ensures added { IfOk result (λ place. ChangesAt place (Some (zeros (Some group) kind size)) self.old self.new) }
 
         // Counted: its bytes are used and live. The segments are as they were.
         ensures used { IfOk result (λ place. used_counts self.new ≡ plus place.segment size (used_counts self.old)) }
@@ -182,15 +180,39 @@ impl Region {
         ensures live_total { IfOk result (λ _. live_total self.new ≡ live_total self.old + size) }
         ensures shape { shape self.new ≡ shape self.old }
     {
-        if self.left() < size {
+        if self.left(group) < size {
             return Err(NeedSegment);
         }
-        let Some(segment) = self.active else {
+        let Some(segment) = self.active(group) else {
             unreachable!()
         };
+        Ok(self.place_in(group, segment, kind, size))
+    }
+
+    // The same in the active segment, which has room for it.
+    fn place_in(&mut self, group: u32, segment: u32, kind: u8, size: u32) -> Place
+        requires group { HasGroup self.old group }
+        requires active { active_of self.old group ≡ Some segment }
+        requires kind { 1 ≤ kind }
+        requires size { IsSize size }
+        requires room { size ≤ left self.old group }
+
+        // Where the object stands, and that it is the only change.
+        ensures segment { result.segment ≡ segment }
+        ensures offset { result.at ≡ used_at self.old segment }
+        ensures unused { standing_at self.old result ≡ None }
+        ensures added { ChangesAt result (Some (zeros (Some group) kind size)) self.old self.new }
+
+        // Counted: its bytes are used and live. The segments are as they were.
+        ensures used { used_counts self.new ≡ plus segment size (used_counts self.old) }
+        ensures live { live_counts self.new ≡ plus segment size (live_counts self.old) }
+        ensures used_total { used_total self.new ≡ used_total self.old + size }
+        ensures live_total { live_total self.new ≡ live_total self.old + size }
+        ensures shape { shape self.new ≡ shape self.old }
+    {
         let at = segment_mut(&mut self.slots[segment as usize]).append(kind, size);
-        self.active_live += size;
-        Ok(Place { segment, at })
+        self.groups[group as usize].gain(size);
+        Place { segment, at }
     }
 
     /// The live object at the place is dead from now on. It keeps its place and its content.
@@ -205,8 +227,8 @@ impl Region {
     {
         let number = place.segment;
         let size = segment_mut(&mut self.slots[number as usize]).kill(place.at);
-        let active = is_active(self.active, number);
-        lose(&mut self.table, &mut self.active_live, active, number, size);
+        let group = group_begun(&self.slots[number as usize]);
+        self.groups[group as usize].lose(number, size);
     }
 
     /// The content of the live object at the place, for writing, without its descriptor.
@@ -253,28 +275,31 @@ impl Region {
         self.slots[to.segment as usize] = target;
     }
 
-    /// One guard more. While one stands, no object is moved and none of its bytes is used again. Guards nest.
-    pub fn guard(&mut self)
-        requires { guards_of self.old < 1000000 }
-        ensures guards { self.new ≡ record self.old { guards = guards_of self.old + 1 } }
+    /// One guard more on the group. While one stands, no object of the group is moved and none of its bytes is used again.
+    /// Guards nest.
+    pub fn guard(&mut self, group: u32)
+        requires group { HasGroup self.old group }
+        requires few { guards_of self.old group < 1000000 }
+        ensures guards { self.new ≡ with_guards self.old group (guards_of self.old group + 1) }
         ensures live_total { live_total self.new ≡ live_total self.old }
     {
-        self.guards += 1;
+        self.groups[group as usize].guard();
     }
 
-    /// One guard less.
-    pub fn unguard(&mut self)
-        requires { 1 ≤ guards_of self.old }
-        ensures guards { self.new ≡ record self.old { guards = guards_of self.old - 1 } }
+    /// One guard less on the group.
+    pub fn unguard(&mut self, group: u32)
+        requires group { HasGroup self.old group }
+        requires some { 1 ≤ guards_of self.old group }
+        ensures guards { self.new ≡ with_guards self.old group (guards_of self.old group - 1) }
         ensures live_total { live_total self.new ≡ live_total self.old }
     {
-        self.guards -= 1;
+        self.groups[group as usize].unguard();
     }
 
     /// Removes all objects, makes every segment free, and takes the one with the greatest number out. None where no
     /// segment is held.
     pub fn give_up(&mut self) -> Option<Piece>
-        requires { guards_of self.old ≡ 0 }
+        requires { IsUnguarded self.old }
 
         // None where no segment is held; else its piece.
         ensures none { IsNone result ↔ held_count self.old ≡ 0 }
@@ -304,10 +329,8 @@ impl Region {
     fn empty(&mut self)
         ensures { self.new ≡ all_emptied self.old }
     {
-        self.active = None;
-        self.active_live = 0;
+        clear_groups(&mut self.groups);
         clear_all(&mut self.slots);
-        self.table.clear();
         self.free.copy_from(&self.held);
     }
 }
@@ -340,38 +363,4 @@ fn least_absent_from(set: &NumberSet) -> u32
         unreachable!()
     };
     number
-}
-
-fn is_active(active: Option<u32>, number: u32) -> bool
-    ensures { result ≡ is_active active number }
-{
-    match active {
-        Some(active) => number == active,
-        None => false,
-    }
-}
-
-// The active segment is closed, which has that many live bytes.
-fn close(table: &mut LiveTable, active: Option<u32>, live: u32)
-    requires { IfSome active (λ n. n < length table.old) }
-    ensures { table.new ≡ with_closed active live table.old }
-{
-    if let Some(number) = active {
-        table.set(number, live);
-    }
-}
-
-// An object of the size is dead, in the active segment or in a closed one.
-fn lose(table: &mut LiveTable, active_live: &mut u32, is_active: bool, number: u32, size: u32)
-    requires active { is_active ≡ true → size ≤ active_live.old }
-    requires closed { is_active ≡ false → (number < length table.old) × (size ≤ slice_index table.old number) }
-    ensures active { active_live.new ≡ cond is_active (active_live.old - size) active_live.old }
-    ensures closed { table.new ≡ cond is_active table.old (slice_set table.old number (slice_index table.old number - size)) }
-{
-    if is_active {
-        *active_live -= size;
-    } else {
-        let live = table.bytes()[number as usize] - size;
-        table.set(number, live);
-    }
 }

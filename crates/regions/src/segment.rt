@@ -1,5 +1,5 @@
 //! A segment that a region holds.
-ghost use Rattle.std.specs.Prelude.{◌≡◌, ◌⊎◌, ℕ, ◌+◌, ◌<◌, ◌≤◌, List, true, false, length, take, drop, Some, None, option_map, IsSome, IsNone, IfSome};
+ghost use Rattle.std.specs.Prelude.{◌≡◌, ◌⊎◌, ℕ, ◌+◌, ◌<◌, ◌≤◌, List, length, take, drop, Some, None, option_map, IsSome, IsNone, IfSome};
 ghost use Rattle.std.specs.Borrow.{Array, Lends, sem, u8 as byte};
 ghost use Rattle.layout.specs.Sizes as sizes;
 ghost use Rattle.object_log.specs.Objects.{IsSize, IsSegment};
@@ -19,11 +19,11 @@ use std::marker::Model;
 pub(crate) struct Segment {
     piece: Piece,
     used: u32,
-    free: bool,
+    group: Option<u32>,
 }
 
 impl Model for Segment {
-    ghost use Rattle.std.specs.Prelude.{◌≡◌, true, false, length};
+    ghost use Rattle.std.specs.Prelude.{◌≡◌, None, IsSome, length};
     ghost use Rattle.layout.specs.Sizes as sizes;
     ghost use Rattle.object_log.specs.Objects.{IsSegment};
     ghost use Rattle.regions.specs.Segments.{SegmentState, segment_code};
@@ -32,10 +32,10 @@ impl Model for Segment {
 
     ghost coded = { segment_code };
 
-    ghost view = { λ s. record { piece = s.piece; used = s.used; free = s.free } };
+    ghost view = { λ s. record { piece = s.piece; used = s.used; group = s.group } };
 
-    ghost invariant = { λ s. (length s.piece.bytes ≡ sizes.segment) × (s.free ≡ true → s.used ≡ 0)
-        × (s.free ≡ false → IsSegment s.piece.bytes s.used) };
+    ghost invariant = { λ s. (length s.piece.bytes ≡ sizes.segment) × (s.group ≡ None → s.used ≡ 0)
+        × (IsSome s.group → IsSegment s.piece.bytes s.used) };
 }
 
 impl Segment {
@@ -49,58 +49,59 @@ impl Segment {
         Segment {
             piece,
             used: 0,
-            free: true,
+            group: None,
         }
     }
 
     pub(crate) fn into_piece(self) -> Piece
         ensures piece { result ≡ self.piece }
         ensures long { length self.piece.bytes ≡ sizes.segment }
-        ensures unused { self.free ≡ true → self.used ≡ 0 }
+        ensures unused { self.group ≡ None → self.used ≡ 0 }
     {
         let Segment {
             piece,
             used: _,
-            free: _,
+            group: _,
         } = self;
         piece
     }
 
-    pub(crate) fn is_free(&self) -> bool
-        ensures free { result ≡ self.now.free }
-        ensures unused { result ≡ true → self.now.used ≡ 0 }
+    // The group in which it is closed or active. None where it is free.
+    pub(crate) fn group(&self) -> Option<u32>
+        ensures group { result ≡ self.now.group }
+        ensures unused { IsNone result → self.now.used ≡ 0 }
     {
-        self.free
+        self.group
     }
 
     pub(crate) fn used(&self) -> u32
         ensures used { result ≡ self.now.used }
         ensures inside { self.now.used ≤ sizes.segment }
-        ensures start { self.now.free ≡ false → starts_in (Some self.now) 0 }
+        ensures start { IsSome self.now.group → starts_in (Some self.now) 0 }
     {
         self.used
     }
 
     pub(crate) fn bytes(&self) -> &[u8]
         ensures bytes { result.now ≡ self.now.piece.bytes }
-        ensures segment { self.now.free ≡ false → IsSegment result.now self.now.used }
+        ensures segment { IsSome self.now.group → IsSegment result.now self.now.used }
     {
         self.piece.bytes()
     }
 
-    // A free segment becomes active.
-    pub(crate) fn begin(&mut self)
-        requires { self.old.free ≡ true }
-        ensures slot { slot_of self.new ≡ record (slot_of self.old) { free = false } }
+    // A free segment becomes active in the group.
+    pub(crate) fn begin(&mut self, group: u32)
+        requires { self.old.group ≡ None }
+        ensures slot { slot_of self.new ≡ record (slot_of self.old) { group = Some group } }
         ensures unused { (self.old.used ≡ 0) × (self.new.used ≡ 0) }
     {
         write_end(self.piece.bytes_mut());
-        self.free = false;
+        self.group = Some(group);
     }
 
     // Answers where the object stands.
     pub(crate) fn append(&mut self, kind: u8, size: u32) -> u32
-        requires begun { self.old.free ≡ false }
+        requires begun { IsSome self.old.group }
         requires kind { 1 ≤ kind }
         requires size { IsSize size }
         requires fits { self.old.used + size ≤ sizes.segment }
@@ -114,7 +115,7 @@ impl Segment {
 
         // It stands where nothing stood, and is the only change.
         ensures unused { standing_in (Some self.old) result ≡ None }
-        ensures added { ChangesIn result (Some (zeros kind size)) (Some self.old) (Some self.new) }
+        ensures added { ChangesIn result (Some (zeros self.old.group kind size)) (Some self.old) (Some self.new) }
     {
         let at = self.used;
         self.used = append(self.piece.bytes_mut(), at, kind, size);
@@ -125,7 +126,7 @@ impl Segment {
     pub(crate) fn kill(&mut self, at: u32) -> u32
         requires { IsSome (item_if_live (standing_in (Some self.old) at)) }
         ensures size { IfSome (standing_in (Some self.old) at) (λ s. result ≡ size_of s.item) }
-        ensures begun { self.old.free ≡ false }
+        ensures begun { IsSome self.old.group }
         ensures slot { slot_of self.new ≡ slot_of self.old }
         ensures used { self.new.used ≡ self.old.used }
         ensures live { live_in (Some self.old) ≡ live_in (Some self.new) + result }
@@ -195,7 +196,7 @@ impl Segment {
 
     // The first live object from the offset on: its own offset, its kind and its size.
     pub(crate) fn next_live(&self, from: u32) -> Option<(u32, u8, u32)>
-        requires begun { self.now.free ≡ false }
+        requires begun { IsSome self.now.group }
         requires start { (from ≡ 0) ⊎ starts_in (Some self.now) from }
 
         // Nothing lives before the object that is found, or up to the end where none is.
@@ -234,7 +235,7 @@ impl Segment {
         ensures dead { live_in (Some self.old) ≡ 0 → (at : ℕ) → item_if_live (standing_in (Some self.old) at) ≡ None }
     {
         self.used = 0;
-        self.free = true;
+        self.group = None;
     }
 }
 

@@ -6,7 +6,7 @@ ghost use Rattle.regions.specs.contracts.segment.Segment.{the_row};
 ghost use Rattle.regions.specs.Segments.{fresh, emptied};
 ghost use Rattle.regions.specs.Counts.{live_in};
 ghost use Rattle.regions.specs.Contents.{item_if_live, standing_in, size_of, with_bytes, ChangesIn};
-ghost use Rattle.regions.specs.Shapes.{slot_of, is_free, is_begun};
+ghost use Rattle.regions.specs.Shapes.{slot_of, group_in, is_free, is_begun};
 ghost use Rattle.regions.specs.inside.Tables.{standing_with};
 
 use crate::place::Place;
@@ -67,14 +67,25 @@ pub(crate) fn piece_of(slot: Option<Segment>) -> Piece
     segment.into_piece()
 }
 
-// Whether a segment is there that is not free.
-pub(crate) fn is_begun(slot: &Option<Segment>) -> bool
-    ensures { result ≡ is_begun (option_map slot_of slot.now) }
+// The group of the segment, if one is there that is not free.
+pub(crate) fn group_in(slot: &Option<Segment>) -> Option<u32>
+    ensures { result ≡ group_in (option_map slot_of slot.now) }
 {
     match slot {
-        Some(segment) => !segment.is_free(),
-        None => false,
+        Some(segment) => segment.group(),
+        None => None,
     }
+}
+
+// The group of a segment that is there and not free.
+pub(crate) fn group_begun(slot: &Option<Segment>) -> u32
+    requires { is_begun (option_map slot_of slot.now) ≡ true }
+    ensures { group_in (option_map slot_of slot.now) ≡ Some result }
+{
+    let Some(group) = group_in(slot) else {
+        unreachable!()
+    };
+    group
 }
 
 pub(crate) fn clear(slot: &mut Option<Segment>)

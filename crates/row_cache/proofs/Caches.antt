@@ -6,7 +6,8 @@ use Rattle.std.proofs.lemmas.List.Sums.{sum_by-cons}
 use Rattle.cache_model.specs.Row.{Row, size, live}
 use Rattle.common_lemmas.specs.Lists.{times, delete}
 use Rattle.key_table.specs.declared.entries.Spot.{Spot}
-use Rattle.regions.specs.Segments.{RegionState}
+use Rattle.regions.specs.Segments.{RegionState, with_guards}
+use Rattle.regions.specs.Shapes.{group_count}
 use Rattle.regions.specs.Counts.{live_total}
 use Rattle.regions.specs.Contents.{Item, Standing, Keeps, item_if_live, live_at, standing_at, size_of}
 use Rattle.regions.specs.Stores.{Live}
@@ -39,7 +40,7 @@ consistent_kept t r s bytes c keeps total =
       sizes = ap (λ l. live (rows_at l t.places t.recency)) same ∙ (c.sizes ∙ sym total);
     }
 
-pub keeps_same : (r s : RegionState) (guards : ℕ) → s ≡ record r { guards = guards } → Keeps r s
+pub keeps_same : (r s : RegionState) (guards : ℕ) → s ≡ with_guards r 0 guards → Keeps r s
 keeps_same r s guards e = λ p. ap (λ (x : RegionState). standing_at x p) e
 
 pub stays_kept : (r s : RegionState) → Keeps r s → Stay r s
@@ -164,23 +165,6 @@ mapped_none : (row : ℕ → Row) (ns : List ℕ) → map row ns ≡ [] → ns �
 mapped_none row [] e = refl
 mapped_none row (n ∷ ns) e = absurd (let clash : row n ∷ map row ns ≡ [] = e in cc)
 
-none_live : (t : TableState) (l : Live) → AreTablesOf t l → t.recency ≡ [] → (o : Option Item) (p : Place) → l p ≡ o → o ≡ None
-none_live t l are empty None p e = refl
-none_live t l are empty (Some i) p e =
-    absurd (let w = are.every p i e in let none : times w.0 t.recency ≡ 0 = ap (λ ns. times w.0 ns) empty in let listed = w.1 in omega (arith, none, listed))
-
-pub consistent_emptied : (t : TableState) (r s : RegionState) (bytes : ℕ) → IsCounted t r bytes → t.recency ≡ [] → ((p : Place) → standing_at s p ≡ None) → live_total s ≡ 0 → IsCounted t s bytes
-consistent_emptied t r s bytes c empty gone total =
-    let was : (p : Place) → live_at r p ≡ None = λ p. none_live t (live_at r) c.tables empty (live_at r p) p refl in
-    let same : live_at s ≡ live_at r = λ i p. (ap item_if_live (gone p) ∙ sym (was p)) i in
-    let none : live (rows_in t r) ≡ 0 = ap (λ ns. live (rows_with t r ns)) empty in
-    let both : live_total s ≡ live_total r = total ∙ (sym none ∙ c.sizes) in
-    record {
-      tables = subst (λ l. AreTablesOf t l) (sym same) c.tables;
-      counted = c.counted ∙ sym both;
-      sizes = ap (λ l. live (rows_at l t.places t.recency)) same ∙ (c.sizes ∙ sym both);
-    }
-
 pub no_numbers : (t : TableState) (r : RegionState) → rows_in t r ≡ [] → t.recency ≡ []
 no_numbers t r e = mapped_none (row_at (live_at r) t.places) t.recency e
 
@@ -209,16 +193,20 @@ same_reads f g h [] same = refl
 same_reads f g h (n ∷ ns) same =
     ap (λ (x : Row). x ∷ map f (map g ns)) (same n (listed_here n ns)) ∙ ap (λ (xs : List Row). h n ∷ xs) (same_reads f g h ns (λ m l. same m (listed_later m n ns l)))
 
-pub rows_read : (t : TableState) (r : RegionState) (bytes : ℕ) → IsConsistent t r bytes → map (row_there (live_at r)) (follow (length t.places) (live_at r) t.ends.front) ≡ rows_in t r
-rows_read t r bytes c =
+pub places_read : (t : TableState) (r : RegionState) (bytes : ℕ) → IsConsistent t r bytes → follow (length t.places) (live_at r) t.ends.front ≡ map (place_in t.places) t.recency
+places_read t r bytes c =
     let l = live_at r in let ps = map (place_in t.places) t.recency in
     let count = c.counted.tables.numbers.count in
     let long : length ps ≡ length t.recency = length-map t.recency (place_in t.places) in
-    ap (λ o. map (row_there l) (follow (length t.places) l o)) c.chain.front
-    ∙ (ap (map (row_there l)) (followed (length t.places) l None ps (omega (arith, count, long)) c.chain.linked c.chain.room)
+    ap (λ o. follow (length t.places) l o) c.chain.front ∙ followed (length t.places) l None ps (omega (arith, count, long)) c.chain.linked c.chain.room
+
+pub rows_read : (t : TableState) (r : RegionState) (bytes : ℕ) → IsConsistent t r bytes → map (row_there (live_at r)) (follow (length t.places) (live_at r) t.ends.front) ≡ rows_in t r
+rows_read t r bytes c =
+    let l = live_at r in
+    ap (map (row_there l)) (places_read t r bytes c)
     ∙ same_reads (row_there l) (place_in t.places) (row_at l t.places) t.recency (λ n listed.
     (let h = c.counted.tables.rows n listed in
-    ap (row_there l) (place_is t.places n h.place h.placed) ∙ sym (ap (λ o. row_in (content_at l o)) h.placed))))
+    ap (row_there l) (place_is t.places n h.place h.placed) ∙ sym (ap (λ o. row_in (content_at l o)) h.placed)))
 
 -- the same where no object changes
 pub kept_reads : (r s : RegionState) (k : ℕ) (front : Option Place) → Keeps r s
@@ -228,5 +216,5 @@ kept_reads r s k front keeps = ap (λ (l : Live). map (row_there l) (follow k l 
 pub kept_chain : (t : TableState) (r s : RegionState) → IsLinked t (live_at r) → Keeps r s → IsLinked t (live_at s)
 kept_chain t r s c keeps = subst (λ (l : Live). IsLinked t l) (sym (same_live r s keeps)) c
 
-pub cache_kept : (t : TableState) (r s : RegionState) (bytes : ℕ) → IsConsistent t r bytes → Keeps r s → live_total s ≡ live_total r → IsConsistent t s bytes
-cache_kept t r s bytes c keeps total = record { counted = consistent_kept t r s bytes c.counted keeps total; chain = kept_chain t r s c.chain keeps }
+pub cache_kept : (t : TableState) (r s : RegionState) (bytes : ℕ) → IsConsistent t r bytes → Keeps r s → live_total s ≡ live_total r → group_count s ≡ group_count r → IsConsistent t s bytes
+cache_kept t r s bytes c keeps total groups = record { one = groups ∙ c.one; counted = consistent_kept t r s bytes c.counted keeps total; chain = kept_chain t r s c.chain keeps }

@@ -4,8 +4,8 @@ use Rattle.std.specs.Prelude.{⊤}
 use Rattle.std.specs.List.{last_or}
 use Rattle.regions.specs.Stores.{Live}
 use Rattle.regions.specs.declared.place.Place.{Place}
-use Rattle.row_cache.specs.Links.{AreApart, AreLinked, HaveRoom, Lacks, first_or, link_to}
-use Rattle.row_cache.specs.inside.Chained.{JoinsLinks}
+use Rattle.row_cache.specs.Links.{AreApart, AreLinked, HaveRoom, Lacks, first_or, link_to, newer_at, older_at}
+use Rattle.row_cache.specs.inside.Chained.{JoinsLinks, LinksBefore, LinksBehind, SetsLinks}
 
 pub some_is : {A : Type 0} {a b : A} → Some a ≡ Some b → a ≡ b
 some_is {A} {a} {b} e = cc
@@ -135,12 +135,39 @@ unlinked old new xs y ys j are h =
     (behind_joined (last_or None xs) (first_or None ys) old new j None xs (Some y) refl (first_out xs ys d.0) s.0 l.0)
     (before_joined (last_or None xs) (first_or None ys) old new j (Some y) ys None refl (last_out None xs ys tt d.0) s.1.1 l.1.2)
 
+-- one of two links was right already
+pub joined_behind : (a : Option Place) (q : Place) (old new : Live) → LinksBehind a (Some q) old new → newer_at old q ≡ link_to a → JoinsLinks a (Some q) old new
+joined_behind a q old new f was = record {
+  older = f.here;
+  newer = λ p e. subst (λ x. newer_at new x ≡ link_to a) (some_is e) (f.newer q ∙ was);
+  older_others = f.others;
+  newer_others = λ p far. f.newer p;
+}
+
+pub joined_before : (q : Place) (b : Option Place) (old new : Live) → LinksBefore (Some q) b old new → older_at old q ≡ link_to b → JoinsLinks (Some q) b old new
+joined_before q b old new g was = record {
+  older = λ p e. subst (λ x. older_at new x ≡ link_to b) (some_is e) (g.older q ∙ was);
+  newer = g.here;
+  older_others = λ p far. g.older p;
+  newer_others = g.others;
+}
+
+-- where the links of a row that is none of them change
+linked_past : (p : Place) (newer older : Option Place) (old new : Live) → SetsLinks p newer older old new → (before : Option Place) (xs : List Place) (behind : Option Place)
+    → Lacks p xs → AreLinked old before xs behind → AreLinked new before xs behind
+linked_past p newer older old new w before [] behind l h = tt
+linked_past p newer older old new w before (x ∷ xs) behind l h =
+    (w.newer_others x l.0 ∙ h.0, w.older_others x l.0 ∙ h.1, linked_past p newer older old new w (Some x) xs behind l.1 h.2)
+
 -- a row is put in front
-pub fronted : (old middle new : Live) (p : Place) (ps : List Place) → JoinsLinks (Some p) (first_or None ps) old middle → JoinsLinks None (Some p) middle new
+pub fronted : (old middle new : Live) (p : Place) (ps : List Place) → SetsLinks p None (first_or None ps) old middle → LinksBefore (Some p) (first_or None ps) middle new
     → Lacks p ps → AreApart ps → AreLinked old None ps None → AreLinked new None (p ∷ ps) None
 fronted old middle new p ps first second lacks are h =
-    let m = before_joined (Some p) (first_or None ps) old middle first None ps None refl lacks are h in
-    (second.newer p refl, second.older_others p (none_some p) ∙ first.older p refl, linked_kept None (Some p) middle new second (Some p) ps None tt lacks m)
+    let j = joined_before p (first_or None ps) middle new second first.older in (
+      j.newer_others p (first_past p ps lacks) ∙ first.newer,
+      j.older p refl,
+      before_joined (Some p) (first_or None ps) middle new j None ps None refl lacks are (linked_past p None (first_or None ps) old middle first None ps None lacks h),
+    )
 
 -- a row stands elsewhere
 pub relocated : (old middle new : Live) (from to : Place) (xs ys : List Place)

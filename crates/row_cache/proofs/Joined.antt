@@ -1,18 +1,18 @@
 -- The ends of a chain and the links of its rows, where two rows are linked to one another.
 use Rattle.std.proofs.Common.{◌≡◌, ◌≢◌, ℕ, zero, suc, ◌+◌, ◌*◌, ◌/◌, ◌%◌, ◌≤◌, inl, inr, true, false, cond, List, [], ◌∷◌, ◌++◌, length, Option, Some, None, refl, sym, ap, subst, ◌∙◌, arith}
+use Rattle.std.specs.Prelude.{⊤}
 use Rattle.std.specs.List.{last_or}
 use Rattle.std.specs.Option.{option_eq}
 use Rattle.std.proofs.lemmas.Bool.Decides.{eqb_tells}
 use Rattle.row_bytes.specs.Rows.{newer_in, older_in, no_link}
 use Rattle.regions.specs.Stores.{Live, is_place}
 use Rattle.regions.specs.declared.place.Place.{Place}
-use Rattle.row_cache.specs.Links.{AreLinked, HasRoom, HaveRoom, Lacks, content_of, first_or, follow, led_to, link_to, newer_at, older_at, place_of_link}
+use Rattle.row_cache.specs.Links.{AreLinked, HasRoom, HaveRoom, content_of, first_or, follow, led_to, link_to, newer_at, older_at, place_of_link}
 use Rattle.row_cache.specs.declared.ends.Ends.{Ends}
-use Rattle.row_cache.specs.inside.Tables.{HoldsARow}
-use Rattle.row_cache.specs.inside.Chained.{HoldRows, IsChain, JoinsLinks, LinksBefore, LinksBehind}
+use Rattle.row_cache.specs.inside.Chained.{HoldRows, IsChain, JoinsLinks, LinksBefore, LinksBehind, SetsLinks}
 use Rattle.row_cache.proofs.States.{place_cases}
 use Rattle.row_cache.proofs.Moving.{place_tells}
-use Rattle.row_cache.proofs.Chains.{some_is, apart_split, last_append, lacks_split, linked_split, none_some, room_split}
+use Rattle.row_cache.proofs.Chains.{some_is, last_append, linked_split, none_some, room_split}
 
 -- ---- two writes
 
@@ -40,6 +40,10 @@ behind_some at b old new here kept others = record {
     | inr far ↦ ap (λ o. newer_in (content_of o)) (others p far)
   ];
 }
+
+pub behind_by : (o : Option Place) (at : Place) (b : Option Place) (link : ℕ) (old new : Live) → o ≡ Some at → older_at new at ≡ link → link ≡ link_to b
+    → newer_at new at ≡ newer_at old at → ((p : Place) → p ≢ at → new p ≡ old p) → LinksBehind o b old new
+behind_by o at b link old new is here to kept others = subst (λ q. LinksBehind q b old new) (sym is) (behind_some at b old new (here ∙ to) kept others)
 
 pub before_some : (at : Place) (a : Option Place) (old new : Live) → newer_at new at ≡ link_to a → older_at new at ≡ older_at old at → ((p : Place) → p ≢ at → new p ≡ old p)
     → LinksBefore a (Some at) old new
@@ -90,46 +94,59 @@ pub rows_merge : (live : Live) (xs ys : List Place) → HoldRows live xs → Hol
 rows_merge live [] ys h k = k
 rows_merge live (x ∷ xs) ys h k = (h.0, rows_merge live xs ys h.1 k)
 
--- the last of some places has room, and a row
-last_has : (live : Live) (x : Place) (xs : List Place) → HaveRoom (x ∷ xs) → HoldRows live (x ∷ xs) → (z : Place) × (last_or (Some x) xs ≡ Some z) × HasRoom z × HoldsARow (live z)
-last_has live x [] room rows = (x, refl, room.0, rows.0)
-last_has live x (y ∷ ys) room rows = last_has live y ys room.1 rows.1
+-- a link leads to the row to which it is one
+abbrev pub HasRoomIf : Option Place → Type 0
+HasRoomIf None = ⊤
+HasRoomIf (Some p) = HasRoom p
 
-pub newer_none : (live : Live) (ends : Ends) (at : Place) (xs ys : List Place) → IsChain live ends (xs ++ at ∷ ys) → ends.front ≡ Some at → last_or None xs ≡ None
-newer_none live ends at [] ys c e = refl
-newer_none live ends at (x ∷ xs) ys c e =
-    let same : x ≡ at = some_is (sym c.front ∙ e) in
-    absurd ((lacks_split x xs (at ∷ ys) (c.apart).0).1.0 (sym same))
+leads : (o : Option Place) → HasRoomIf o → led_to (link_to o) ≡ o
+leads None h = refl
+leads (Some p) h = leads_on p h
 
-pub newer_some : (live : Live) (ends : Ends) (at : Place) (xs ys : List Place) → IsChain live ends (xs ++ at ∷ ys) → ends.front ≢ Some at
-    → Some (place_of_link (newer_at live at)) ≡ last_or None xs
-newer_some live ends at [] ys c far = absurd (far c.front)
-newer_some live ends at (x ∷ xs) ys c far =
-    let l = linked_split live None (x ∷ xs) (at ∷ ys) None c.linked in
-    let z = last_has live x xs (room_split (x ∷ xs) (at ∷ ys) c.room).0 (rows_split live (x ∷ xs) (at ∷ ys) c.rows).0 in
-    ap (λ link. Some (place_of_link link)) (l.1.0 ∙ ap link_to z.1) ∙ (ap (λ q. Some q) (led_back z.0 z.2) ∙ sym z.1)
+last_room : (o : Option Place) (xs : List Place) → HasRoomIf o → HaveRoom xs → HasRoomIf (last_or o xs)
+last_room o [] h k = h
+last_room o (x ∷ xs) h k = last_room (Some x) xs k.0 k.1
+
+first_room : (ys : List Place) → HaveRoom ys → HasRoomIf (first_or None ys)
+first_room [] h = tt
+first_room (y ∷ ys) h = h.0
+
+pub newer_is : (live : Live) (ends : Ends) (at : Place) (xs ys : List Place) → IsChain live ends (xs ++ at ∷ ys) → newer_at live at ≡ link_to (last_or None xs)
+newer_is live ends at xs ys c = (linked_split live None xs (at ∷ ys) None c.linked).1.0
+
+pub older_is : (live : Live) (ends : Ends) (at : Place) (xs ys : List Place) → IsChain live ends (xs ++ at ∷ ys) → older_at live at ≡ link_to (first_or None ys)
+older_is live ends at xs ys c = (linked_split live None xs (at ∷ ys) None c.linked).1.1
+
+pub newer_led : (live : Live) (ends : Ends) (at : Place) (xs ys : List Place) → IsChain live ends (xs ++ at ∷ ys) → led_to (newer_at live at) ≡ last_or None xs
+newer_led live ends at xs ys c =
+    ap led_to (newer_is live ends at xs ys c) ∙ leads (last_or None xs) (last_room None xs tt (room_split xs (at ∷ ys) c.room).0)
+
+pub older_led : (live : Live) (ends : Ends) (at : Place) (xs ys : List Place) → IsChain live ends (xs ++ at ∷ ys) → led_to (older_at live at) ≡ first_or None ys
+older_led live ends at xs ys c =
+    ap led_to (older_is live ends at xs ys c) ∙ leads (first_or None ys) (first_room ys (room_split xs (at ∷ ys) c.room).1.1)
+
+-- the same of a row that has the links of another one
+pub newer_like : (live : Live) (ends : Ends) (from to : Place) (xs ys : List Place) (o : Option Place) → o ≡ led_to (newer_at live to) → live to ≡ live from
+    → IsChain live ends (xs ++ from ∷ ys) → o ≡ last_or None xs
+newer_like live ends from to xs ys o is alike c = is ∙ (ap (λ x. led_to (newer_in (content_of x))) alike ∙ newer_led live ends from xs ys c)
+
+pub older_like : (live : Live) (ends : Ends) (from to : Place) (xs ys : List Place) (o : Option Place) → o ≡ led_to (older_at live to) → live to ≡ live from
+    → IsChain live ends (xs ++ from ∷ ys) → o ≡ first_or None ys
+older_like live ends from to xs ys o is alike c = is ∙ (ap (λ x. led_to (older_in (content_of x))) alike ∙ older_led live ends from xs ys c)
+
+-- both links of a row are written
+pub both_set : (at : Place) (a b : Option Place) (old new : Live) → newer_at new at ≡ link_to a → older_at new at ≡ link_to b → ((p : Place) → p ≢ at → new p ≡ old p)
+    → SetsLinks at a b old new
+both_set at a b old new newer older others = record {
+  newer = newer;
+  older = older;
+  newer_others = λ p far. ap (λ o. newer_in (content_of o)) (others p far);
+  older_others = λ p far. ap (λ o. older_in (content_of o)) (others p far);
+}
 
 -- what comes last behind others
 pub last_behind : (o : Option Place) (xs : List Place) (at : Place) (ys : List Place) → last_or o (xs ++ at ∷ ys) ≡ last_or (Some at) ys
 last_behind o xs at ys = last_append o xs (at ∷ ys)
-
-last_in : (p : Place) (y : Place) (ys : List Place) → Lacks p (y ∷ ys) → last_or (Some y) ys ≢ Some p
-last_in p y [] l e = l.0 (some_is e)
-last_in p y (z ∷ zs) l e = last_in p z zs l.1 e
-
-pub older_none : (live : Live) (ends : Ends) (at : Place) (xs ys : List Place) → IsChain live ends (xs ++ at ∷ ys) → ends.last ≡ Some at → first_or None ys ≡ None
-older_none live ends at xs [] c e = refl
-older_none live ends at xs (y ∷ ys) c e =
-    let s = apart_split xs (at ∷ y ∷ ys) c.apart in
-    absurd (last_in at y ys (s.1).0 (sym (last_behind None xs at (y ∷ ys)) ∙ (sym c.last ∙ e)))
-
-pub older_some : (live : Live) (ends : Ends) (at : Place) (xs ys : List Place) → IsChain live ends (xs ++ at ∷ ys) → ends.last ≢ Some at
-    → Some (place_of_link (older_at live at)) ≡ first_or None ys
-older_some live ends at xs [] c far = absurd (far (c.last ∙ last_behind None xs at []))
-older_some live ends at xs (y ∷ ys) c far =
-    let l = linked_split live None xs (at ∷ y ∷ ys) None c.linked in
-    let room = (room_split xs (at ∷ y ∷ ys) c.room).1 in
-    ap (λ link. Some (place_of_link link)) l.1.1 ∙ ap (λ q. Some q) (led_back y (room.1).0)
 
 -- ---- a test of an end
 

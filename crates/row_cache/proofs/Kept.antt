@@ -5,15 +5,15 @@ use Rattle.std.specs.List.{last_or}
 use Rattle.row_bytes.specs.Rows.{newer_in, older_in}
 use Rattle.regions.specs.Stores.{Live, less}
 use Rattle.regions.specs.declared.place.Place.{Place}
-use Rattle.row_cache.specs.Links.{AreLinked, HasRoom, Lacks, content_of, first_or}
+use Rattle.row_cache.specs.Links.{AreLinked, HasRoom, Lacks, content_of, first_or, link_to}
 use Rattle.row_cache.specs.declared.ends.Ends.{Ends}
 use Rattle.row_cache.specs.inside.Tables.{HoldsARow}
-use Rattle.row_cache.specs.inside.Chained.{HoldRows, IsChain, JoinsLinks}
+use Rattle.row_cache.specs.inside.Chained.{HoldRows, IsChain, JoinsLinks, LinksBefore, LinksBehind, SetsLinks}
 use Rattle.row_cache.proofs.States.{some_none}
 use Rattle.row_cache.proofs.Relinked.{Relives, holds_still}
 use Rattle.row_cache.proofs.Moving.{less_here, less_past}
-use Rattle.row_cache.proofs.Chains.{some_is, apart_split, apart_merge, disjoint_rest, disjoint_more, last_append, fronted, lacks_split, lacks_merge, room_split, room_merge, unlinked, relocated}
-use Rattle.row_cache.proofs.Joined.{rows_split, rows_merge, last_behind}
+use Rattle.row_cache.proofs.Chains.{some_is, apart_split, apart_merge, disjoint_rest, disjoint_more, last_append, last_past, none_some, fronted, joined_before, joined_behind, lacks_split, lacks_merge, room_split, room_merge, unlinked, relocated}
+use Rattle.row_cache.proofs.Joined.{rows_split, rows_merge, last_behind, newer_is, older_is}
 
 pub match_some : (A B : Type 0) (o : Option Place) (z : Place) → o ≡ Some z → MatchOption o A (λ _. B) → B
 match_some A B o z e h = subst (λ q. MatchOption q A (λ _. B)) e h
@@ -141,13 +141,13 @@ in_last : (ps : List Place) (p : Place) (ends middle : Ends) → ends.front ≡ 
 in_last [] p ends middle front last now = match_none _ _ ends.front front now
 in_last (q ∷ qs) p ends middle front last now = match_some _ _ ends.front q front now ∙ last
 
-pub chain_with : (old middle new : Live) (ends between after : Ends) (p : Place) (ps : List Place) → IsChain old ends ps → Lacks p ps → HasRoom p → HoldsARow (old p)
-    → JoinsLinks (Some p) ends.front old middle → MatchOption ends.front (between.last ≡ Some p) (λ _. between.last ≡ ends.last)
-    → JoinsLinks None (Some p) middle new → after.front ≡ Some p → after.last ≡ between.last → Relives old new → IsChain new after (p ∷ ps)
-chain_with old middle new ends between after p ps c lacks room row first last second front same lives = record {
+pub chain_with : (old middle new : Live) (ends after : Ends) (p : Place) (ps : List Place) → IsChain old ends ps → Lacks p ps → HasRoom p → HoldsARow (old p)
+    → SetsLinks p None ends.front old middle → LinksBefore (Some p) ends.front middle new → MatchOption ends.front (after.last ≡ Some p) (λ _. after.last ≡ ends.last)
+    → after.front ≡ Some p → Relives old new → IsChain new after (p ∷ ps)
+chain_with old middle new ends after p ps c lacks room row first second last front lives = record {
   front = front;
-  last = same ∙ in_last ps p ends between c.front c.last last;
-  linked = fronted old middle new p ps (subst (λ o. JoinsLinks (Some p) o old middle) c.front first) second lacks c.apart c.linked;
+  last = in_last ps p ends after c.front c.last last;
+  linked = fronted old middle new p ps (subst (λ o. SetsLinks p None o old middle) c.front first) (subst (λ o. LinksBefore (Some p) o middle new) c.front second) lacks c.apart c.linked;
   apart = (lacks, c.apart);
   room = (room, c.room);
   rows = (holds_still old new p lives row, rows_still old new ps lives c.rows);
@@ -163,12 +163,17 @@ moved_last : (xs ys : List Place) (from to : Place) (ends between after : Ends) 
 moved_last xs [] from to ends between after was kept now = now ∙ sym (last_behind None xs to [])
 moved_last xs (y ∷ ys) from to ends between after was kept now = now ∙ (kept ∙ (was ∙ (last_behind None xs from (y ∷ ys) ∙ sym (last_behind None xs to (y ∷ ys)))))
 
+-- the object at the second place has the links of the one at the first
 pub chain_moved : (old middle new : Live) (ends between after : Ends) (a b : Option Place) (from to : Place) (xs ys : List Place) → IsChain old ends (xs ++ from ∷ ys)
-    → Lacks to xs → Lacks to ys → HasRoom to → HoldsARow (old to) → a ≡ last_or None xs → b ≡ first_or None ys
-    → JoinsLinks a (Some to) old middle → MatchOption a (between.front ≡ Some to) (λ _. between.front ≡ ends.front) → between.last ≡ ends.last
-    → JoinsLinks (Some to) b middle new → after.front ≡ between.front → MatchOption b (after.last ≡ Some to) (λ _. after.last ≡ between.last)
+    → old to ≡ old from → Lacks to xs → Lacks to ys → HasRoom to → HoldsARow (old to) → a ≡ last_or None xs → b ≡ first_or None ys
+    → LinksBehind a (Some to) old middle → MatchOption a (between.front ≡ Some to) (λ _. between.front ≡ ends.front) → between.last ≡ ends.last
+    → LinksBefore (Some to) b middle new → after.front ≡ between.front → MatchOption b (after.last ≡ Some to) (λ _. after.last ≡ between.last)
     → Relives old new → IsChain new after (xs ++ to ∷ ys)
-chain_moved old middle new ends between after a b from to xs ys c to_xs to_ys room_to row is_a is_b first front kept second same last lives =
+chain_moved old middle new ends between after a b from to xs ys c alike to_xs to_ys room_to row is_a is_b behind front kept before same last lives =
+    let first : JoinsLinks a (Some to) old middle = joined_behind a to old middle behind (ap (λ o. newer_in (content_of o)) alike ∙ (newer_is old ends from xs ys c ∙ ap link_to (sym is_a))) in
+    let far : a ≢ Some to = λ e. last_past to None xs (none_some to) to_xs (sym is_a ∙ e) in
+    let second : JoinsLinks (Some to) b middle new = joined_before to b middle new before
+    (behind.others to far ∙ (ap (λ o. older_in (content_of o)) alike ∙ (older_is old ends from xs ys c ∙ ap link_to (sym is_b)))) in
     let f : MatchOption (last_or None xs) (between.front ≡ Some to) (λ _. between.front ≡ ends.front) = subst (λ p. MatchOption p (between.front ≡ Some to) (λ _. between.front ≡ ends.front)) is_a front in
     let l : MatchOption (first_or None ys) (after.last ≡ Some to) (λ _. after.last ≡ between.last) = subst (λ q. MatchOption q (after.last ≡ Some to) (λ _. after.last ≡ between.last)) is_b last in
     let s = apart_split xs (from ∷ ys) c.apart in let d = disjoint_rest xs from ys s.2 in

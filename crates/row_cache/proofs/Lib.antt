@@ -17,3 +17,5 @@ pub mod Kept
 pub mod Numbered
 pub mod Renamed
 pub mod Referred
+pub mod Reached
+pub mod OneGroup

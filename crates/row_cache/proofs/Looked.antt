@@ -9,7 +9,7 @@ use Rattle.cache_model.specs.Row.{Row, live, size}
 use Rattle.cache_model.specs.Legal.{is_of_put}
 use Rattle.row_bytes.specs.Rows.{HoldsRow, IsRow, row_in, without_links}
 use Rattle.common_lemmas.specs.Lists.{times, delete}
-use Rattle.regions.specs.Segments.{RegionState, SegmentState}
+use Rattle.regions.specs.Segments.{RegionState, SegmentState, idle}
 use Rattle.regions.specs.Counts.{live_total, live_in}
 use Rattle.regions.specs.Contents.{Item, Standing, item_if_live, if_live, live_at, standing_at, standing_in}
 use Rattle.regions.specs.Stores.{Live, store_of, found}
@@ -122,7 +122,7 @@ none_live : (n : ℕ) → sum (map live_in (replicate n (none_of_type SegmentSta
 none_live zero = refl
 none_live (suc n) = let e = sum_by-cons (λ (x : ℕ). x) 0 (map live_in (replicate n (none_of_type SegmentState))) in let ih = none_live n in omega (arith, e, ih)
 
-pub consistent_new : (t : TableState) (r : RegionState) (n : ℕ) → r ≡ record { most = n; guards = 0; active = None; segments = replicate n None } → t.recency ≡ []
+pub consistent_new : (t : TableState) (r : RegionState) (n : ℕ) → r ≡ record { most = n; groups = replicate 1 idle; segments = replicate n None } → t.recency ≡ []
     → ((live : Live) → ((p : Place) → live p ≡ None) → AreTablesOf t live) → IsCounted t r 0
 consistent_new t r n is none tables =
     let total : live_total r ≡ 0 = ap live_total is ∙ none_live n in

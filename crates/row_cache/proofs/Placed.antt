@@ -8,18 +8,15 @@ use Rattle.layout.specs.Sizes.{descriptor, segment}
 use Rattle.regions.specs.Segments.{RegionState}
 use Rattle.regions.specs.Shapes.{active_of}
 use Rattle.regions.specs.Counts.{left, left_of, plus, used_counts}
-use Rattle.regions.specs.Contents.{Item, Standing, ChangesAt, dead, item_if_live, live_at, standing_at, with_bytes, zeros}
+use Rattle.regions.specs.Contents.{Standing, ChangesAt, dead, item_if_live, live_at, standing_at, with_bytes, zeros}
 use Rattle.regions.specs.declared.place.Place.{Place}
 use Rattle.row_cache.specs.Rows.{item_at, Stay}
 use Rattle.row_cache.specs.inside.Tables.{Adds}
 use Rattle.row_cache.proofs.States.{some_none, place_cases}
 
-abbrev item_of : ℕ → List ℕ → Item
-item_of kind ws = record { kind = kind; content = ws }
-
-pub object_added : (r m s : RegionState) (p : Place) (kind size : ℕ) (ws : List ℕ) → ChangesAt p (Some (zeros kind size)) r m → standing_at r p ≡ None
-    → ChangesAt p (option_map (with_bytes ws) (standing_at m p)) m s → Adds p (record { kind = kind; content = ws }) (live_at r) (live_at s)
-object_added r m s p kind size ws first unused second = record {
+pub object_added : (r m s : RegionState) (p : Place) (group : Option ℕ) (kind size : ℕ) (ws : List ℕ) → ChangesAt p (Some (zeros group kind size)) r m → standing_at r p ≡ None
+    → ChangesAt p (option_map (with_bytes ws) (standing_at m p)) m s → Adds p (record { group = group; kind = kind; content = ws }) (live_at r) (live_at s)
+object_added r m s p group kind size ws first unused second = record {
   absent = ap item_if_live unused;
   here = ap item_if_live (second.here ∙ ap (option_map (with_bytes ws)) first.here);
   others = λ q far. ap item_if_live (second.others q far ∙ first.others q far);
@@ -32,9 +29,9 @@ object_stays r m s p a b first unused second = λ q i e. elim (place_cases q p) 
 ]
 
 -- the new content has the length of the zeros that it is written over
-pub zeros_long : (m : RegionState) (p : Place) (kind size : ℕ) (bytes : List ℕ) → standing_at m p ≡ Some (zeros kind size)
+pub zeros_long : (m : RegionState) (p : Place) (group : Option ℕ) (kind size : ℕ) (bytes : List ℕ) → standing_at m p ≡ Some (zeros group kind size)
     → option_map (λ (s : Standing). s.item.content) (standing_at m p) ≡ Some bytes → length bytes ≡ size - descriptor
-zeros_long m p kind size bytes here e =
+zeros_long m p group kind size bytes here e =
     let both : Some (replicate (size - descriptor) 0) ≡ Some bytes = sym (ap (option_map (λ (s : Standing). s.item.content)) here) ∙ e in
     let same : replicate (size - descriptor) 0 ≡ bytes = cc in
     sym (ap (λ ws. length ws) same) ∙ length-replicate (size - descriptor) 0
@@ -48,11 +45,11 @@ fewer_left used n size total some room = elim (leb_tells (length used) n) [
   | inr inside ↦ (let e : slice_index (plus n size used) n ≡ slice_index used n + size = get_or-set_same used n (slice_index used n + size) 0 inside.1 in omega (arith, e, room))
 ]
 
-pub left_added : (r m s : RegionState) (n size : ℕ) → active_of r ≡ Some n → active_of s ≡ active_of r → used_counts m ≡ plus n size (used_counts r) → used_counts s ≡ used_counts m
-    → sum (used_counts m) ≡ sum (used_counts r) + size → 1 ≤ size → size ≤ left r → left s + size ≡ left r
+pub left_added : (r m s : RegionState) (n size : ℕ) → active_of r 0 ≡ Some n → active_of s 0 ≡ active_of r 0 → used_counts m ≡ plus n size (used_counts r) → used_counts s ≡ used_counts m
+    → sum (used_counts m) ≡ sum (used_counts r) + size → 1 ≤ size → size ≤ left r 0 → left s 0 + size ≡ left r 0
 left_added r m s n size active same used kept total some room =
-    let was : left r ≡ left_of (used_counts r) (Some n) = ap (left_of (used_counts r)) active in
-    let now : left s ≡ left_of (plus n size (used_counts r)) (Some n) = ap (left_of (used_counts s)) (same ∙ active) ∙ ap (λ u. left_of u (Some n)) (kept ∙ used) in
+    let was : left r 0 ≡ left_of (used_counts r) (Some n) = ap (left_of (used_counts r)) active in
+    let now : left s 0 ≡ left_of (plus n size (used_counts r)) (Some n) = ap (left_of (used_counts s)) (same ∙ active) ∙ ap (λ u. left_of u (Some n)) (kept ∙ used) in
     let e = fewer_left (used_counts r) n size (sym (ap (λ u. sum u) used) ∙ total) some (omega (arith, was, room)) in
     omega (arith, was, now, e)
 

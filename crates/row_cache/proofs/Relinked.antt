@@ -6,7 +6,7 @@ use Rattle.cache_model.specs.Row.{Row}
 use Rattle.row_bytes.specs.Rows.{HoldsRow, row_bytes, row_in, number_in, without_links}
 use Rattle.lazy_index.specs.Lazy.{IsKeyed}
 use Rattle.regions.specs.Segments.{RegionState}
-use Rattle.regions.specs.Shapes.{Shape, active_of, shape}
+use Rattle.regions.specs.Shapes.{Shape, active_in, active_of, shape}
 use Rattle.regions.specs.Counts.{left, left_of, live_total, live_counts, used_counts}
 use Rattle.regions.specs.Contents.{Item, Standing, ChangesAt, if_live, item_if_live, live_at, size_of, standing_at, with_bytes}
 use Rattle.regions.specs.Stores.{Live, SameBut, less, without_references}
@@ -25,14 +25,15 @@ same_size x y s =
     let same : length (row_bytes (number_in x.content) s.is.links (row_in x.content)) ≡ length (row_bytes (number_in x.content) s.was.links (row_in x.content)) = refl in
     ap (λ bytes. length bytes + 8) s.is.bytes ∙ (ap (λ n. n + 8) same ∙ sym (ap (λ bytes. length bytes + 8) s.was.bytes))
 
-abbrev made : ℕ → List ℕ → Item
-made kind content = record { kind = kind; content = content }
+abbrev made : Option ℕ → ℕ → List ℕ → Item
+made group kind content = record { group = group; kind = kind; content = content }
 
 pub same_bare : (x y : Item) → IsSameRow x y → bare y ≡ bare x
 same_bare x y s =
     let zero : without_links (row_bytes (number_in x.content) s.is.links (row_in x.content)) ≡ without_links (row_bytes (number_in x.content) s.was.links (row_in x.content)) = refl in
     let content : without_links y.content ≡ without_links x.content = ap without_links s.is.bytes ∙ (zero ∙ sym (ap without_links s.was.bytes)) in
-    ap (λ k. made k (without_links y.content)) s.kind ∙ ap (λ (ws : List ℕ). made x.kind ws) content
+    ap (λ g. made g y.kind (without_links y.content)) s.group
+    ∙ (ap (λ k. made x.group k (without_links y.content)) s.kind ∙ ap (λ (ws : List ℕ). made x.group x.kind ws) content)
 
 pub same_row_of : (x y : Item) (n : ℕ) (row : Row) → IsSameRow x y → IsRowOf x n row → IsRowOf y n row
 same_row_of x y n row s is = record {
@@ -45,6 +46,7 @@ same_row_of x y n row s is = record {
 
 pub same_row_again : (a b c : Item) → IsSameRow a b → IsSameRow b c → IsSameRow a c
 same_row_again a b c p q = record {
+  group = q.group ∙ p.group;
   kind = q.kind ∙ p.kind;
   number = q.number ∙ p.number;
   row = q.row ∙ p.row;
@@ -83,8 +85,8 @@ relinked_again r s t a b = record {
   shape = b.shape ∙ a.shape;
 }
 
-pub relinked_left : (r s : RegionState) → AreRelinked r s → left s ≡ left r
-relinked_left r s a = ap (λ u. left_of u (active_of s)) a.used ∙ ap (λ (x : Shape). left_of (used_counts r) x.active) a.shape
+pub relinked_left : (r s : RegionState) → AreRelinked r s → left s 0 ≡ left r 0
+relinked_left r s a = ap (λ u. left_of u (active_of s 0)) a.used ∙ ap (λ (x : Shape). left_of (used_counts r) (active_in x.groups 0)) a.shape
 
 pub relinked_total : (r s : RegionState) → AreRelinked r s → live_total s ≡ live_total r
 relinked_total r s a = ap (λ ns. sum ns) a.live
@@ -112,7 +114,7 @@ stay_again r s t a b = λ p item is.
 
 -- a row's content is written over
 pub relinked_by : (r s : RegionState) (p : Place) (item : Item) (ws : List ℕ) → live_at r p ≡ Some item → ChangesAt p (option_map (with_bytes ws) (standing_at r p)) r s
-    → IsSameRow item (record { kind = item.kind; content = ws }) → used_counts s ≡ used_counts r → live_counts s ≡ live_counts r → shape s ≡ shape r → AreRelinked r s
+    → IsSameRow item (record item { content = ws }) → used_counts s ≡ used_counts r → live_counts s ≡ live_counts r → shape s ≡ shape r → AreRelinked r s
 relinked_by r s p item ws is change same used live shapes = record {
   objects = λ q. elim (place_cases q p) [
     | inl e ↦ inr (subst (λ x. HasOtherLinks (standing_at r x) (standing_at s x)) (sym e) (written (standing_at r p) (standing_at s p) item ws is change.here same))
@@ -128,7 +130,7 @@ relinked_by r s p item ws is change same used live shapes = record {
     flag true x item e = some_same refl e
 
     written : (a b : Option Standing) (item : Item) (ws : List ℕ) → item_if_live a ≡ Some item → b ≡ option_map (with_bytes ws) a
-        → IsSameRow item (record { kind = item.kind; content = ws }) → HasOtherLinks a b
+        → IsSameRow item (record item { content = ws }) → HasOtherLinks a b
     written None b item ws e c same = some_none e refl
     written (Some x) b item ws e c same =
         let i : x.item ≡ item = flag x.live x.item item e in
@@ -138,7 +140,7 @@ relinked_by r s p item ws is change same used live shapes = record {
           was = refl;
           is = c;
           live = refl;
-          same = subst (λ (y : Item). IsSameRow y (record { kind = y.kind; content = ws })) (sym i) same;
+          same = subst (λ (y : Item). IsSameRow y (record y { content = ws })) (sym i) same;
         }
 
 abbrev told : Bool → Item → ℕ → Bool × (Item × ℕ)
@@ -238,10 +240,11 @@ tables_relived t old new a are =
 -- ---- one link is written
 
 pub row_kept : (item : Item) (n : ℕ) (row : Row) → IsRowOf item n row → (bytes ws : List ℕ) → bytes ≡ item.content → number_in ws ≡ number_in bytes → row_in ws ≡ row_in bytes
-    → ((m : ℕ) (other : Row) → HoldsRow bytes m other → HoldsRow ws m other) → IsSameRow item (record { kind = item.kind; content = ws })
+    → ((m : ℕ) (other : Row) → HoldsRow bytes m other → HoldsRow ws m other) → IsSameRow item (record item { content = ws })
 row_kept item n row is bytes ws same number read holds =
     let was : HoldsRow item.content (number_in item.content) (row_in item.content) = subst (λ m. HoldsRow item.content m (row_in item.content)) (sym is.number) (subst (λ r. HoldsRow item.content n r) (sym is.read) is.holds) in
     record {
+      group = refl;
       kind = refl;
       number = number ∙ ap number_in same;
       row = read ∙ ap row_in same;
@@ -249,11 +252,11 @@ row_kept item n row is bytes ws same number read holds =
       is = holds (number_in item.content) (row_in item.content) (subst (λ b. HoldsRow b (number_in item.content) (row_in item.content)) (sym same) was);
     }
 
-if_written : (b : Bool) (x i : Item) (ws : List ℕ) → if_live b x ≡ Some i → if_live b (record { kind = x.kind; content = ws }) ≡ Some (record { kind = i.kind; content = ws })
+if_written : (b : Bool) (x i : Item) (ws : List ℕ) → if_live b x ≡ Some i → if_live b (record x { content = ws }) ≡ Some (record i { content = ws })
 if_written false x i ws e = some_none e refl
-if_written true x i ws e = ap (λ (y : Item). Some (record { kind = y.kind; content = ws })) (some_same refl e)
+if_written true x i ws e = ap (λ (y : Item). Some (record y { content = ws })) (some_same refl e)
 
-pub live_written : (o : Option Standing) (i : Item) (ws : List ℕ) → item_if_live o ≡ Some i → item_if_live (option_map (with_bytes ws) o) ≡ Some (record { kind = i.kind; content = ws })
+pub live_written : (o : Option Standing) (i : Item) (ws : List ℕ) → item_if_live o ≡ Some i → item_if_live (option_map (with_bytes ws) o) ≡ Some (record i { content = ws })
 live_written None i ws e = some_none e refl
 live_written (Some s) i ws e = if_written s.live s.item i ws e
 

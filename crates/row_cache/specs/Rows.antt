@@ -1,5 +1,6 @@
 -- The rows that a row cache means, read off the bytes of its segments.
-use Rattle.std.specs.Prelude.{◌≡◌, ◌⊎◌, ℕ, List, [], length, Option, None, Some, slice_get, map, option_map}
+use Rattle.std.specs.Prelude.{◌≡◌, ◌⊎◌, ℕ, List, [], length, Option, None, Some, IsSome, slice_get, map, option_map, Contains}
+use Rattle.std.specs.List.{last_or}
 use Rattle.cache_model.specs.Row.{Row}
 use Rattle.cache_model.specs.Apply.{Reply, Stored, Replaced}
 use Rattle.row_cache.specs.declared.put.Put.{Put}
@@ -11,7 +12,7 @@ use Rattle.regions.specs.Shapes.{shape}
 use Rattle.regions.specs.Counts.{used_counts, live_counts}
 use Rattle.regions.specs.Stores.{Live}
 use Rattle.regions.specs.declared.place.Place.{Place}
-use Rattle.row_cache.specs.Links.{content_of, follow}
+use Rattle.row_cache.specs.Links.{content_of, first_or, follow, AreApart, AreLinked}
 
 -- a row cache: for how many rows it has room, the places of the row used last and of the one used longest ago, the places of
 -- rows by number, and the segments in which they stand
@@ -40,9 +41,34 @@ rows_at live places numbers = map (row_at live places) numbers
 abbrev pub row_there : Live → Place → Row
 row_there live p = row_in (content_of (live p))
 
--- the rows of a cache, the one used last in front: the links lead from it to the others
+-- the places of the rows of a cache, the one used last in front: the links lead from it to the others
+abbrev pub places_of : CacheState → List Place
+places_of c = follow (length c.places) (live_at c.region) c.front
+
+-- the rows of a cache, in the same order
 abbrev pub rows_of : CacheState → List Row
-rows_of c = map (row_there (live_at c.region)) (follow (length c.places) (live_at c.region) c.front)
+rows_of c = map (row_there (live_at c.region)) (places_of c)
+
+-- The rows are linked both ways from the front to the last. Each has the row before it as its link to the next more recently
+-- used one, and the row behind it as its other link; the front has none before it, and the last has none behind it.
+pub record IsLinkedThrough (c : CacheState) : Type 0 where
+  pub front : c.front ≡ first_or None (places_of c)
+  pub last : c.last ≡ last_or None (places_of c)
+  pub links : AreLinked (live_at c.region) None (places_of c) None
+
+-- the table of places has the row of a number: it is live at the number's place
+pub record HasRowAt (c : CacheState) (n : ℕ) (p : Place) : Type 0 where
+  pub placed : slice_get c.places n ≡ Some p
+  pub item : Item
+  pub stands : live_at c.region p ≡ Some item
+  pub holds : HoldsRow item.content n (row_in item.content)
+
+-- The links meet each row of the table of places once, and meet nothing else. No place comes twice, at each of them the table
+-- has a row, and each live object, so each row of the table, is at one of them.
+pub record AreMetOnce (c : CacheState) : Type 0 where
+  pub once : AreApart (places_of c)
+  pub rows : (p : Place) → Contains (places_of c) p → (n : ℕ) × HasRowAt c n p
+  pub every : (p : Place) → IsSome (live_at c.region p) → Contains (places_of c) p
 
 -- the object at a place, live or dead
 abbrev pub item_at : RegionState → Place → Option Item
@@ -50,6 +76,7 @@ item_at r p = option_map (λ (s : Standing). s.item) (standing_at r p)
 
 -- the objects are the same row, with whatever links
 pub record IsSameRow (old new : Item) : Type 0 where
+  pub group : new.group ≡ old.group
   pub kind : new.kind ≡ old.kind
   pub number : number_in new.content ≡ number_in old.content
   pub row : row_in new.content ≡ row_in old.content

@@ -6,6 +6,7 @@ ghost use Rattle.std.specs.List.{last_or};
 ghost use Rattle.cache_model.specs.Row.{size};
 ghost use Rattle.cache_model.specs.Legal.{is_of_put};
 ghost use Rattle.cache_model.specs.Apply as apply;
+ghost use Rattle.regions.specs.Segments.{idle};
 ghost use Rattle.regions.specs.Shapes.{shape, active_of};
 ghost use Rattle.regions.specs.Counts.{left};
 ghost use Rattle.row_cache.specs.Rows.{rows_of, reply_of, Stay};
@@ -61,13 +62,12 @@ impl RowCache {
         ensures empty { IfOk result (λ c. rows_of c ≡ []) }
         ensures region { IfOk result (λ c. c.region ≡ record {
           most = segments;
-          guards = 0;
-          active = None;
+          groups = replicate 1 idle;
           segments = replicate segments None;
         }) }
     {
         Ok(RowCache {
-            region: Region::new(alloc, segments)?,
+            region: Region::new(alloc, segments, 1)?,
             tables: Tables::new(alloc, rows)?,
             live: 0,
         })
@@ -82,15 +82,15 @@ impl RowCache {
         requires some_key { 1 ≤ length key.now }
         requires short_key { length key.now ≤ sizes.greatest_key }
         requires short_value { length value.now ≤ sizes.greatest_value }
-        requires active { IsSome (active_of self.old.region) }
+        requires active { IsSome (active_of self.old.region 0) }
         requires room { (apply.has key.now (rows_of self.old) ≡ true) ⊎ (length (rows_of self.old) < self.old.room) }
-        ensures full { IsErr result ↔ left self.old.region < size key.now value.now }
+        ensures full { IsErr result ↔ left self.old.region 0 < size key.now value.now }
         ensures unchanged { IfErr result (λ _. self.new ≡ self.old) }
         ensures rows { IfOk result (λ _. rows_of self.new ≡ (apply.put key.now value.now number (rows_of self.old)).0) }
         ensures reply { IfOk result (λ did. reply_of did ≡ (apply.put key.now value.now number (rows_of self.old)).1) }
         ensures room { self.new.room ≡ self.old.room }
         ensures shape { shape self.new.region ≡ shape self.old.region }
-        ensures left { IfOk result (λ _. left self.new.region + size key.now value.now ≡ left self.old.region) }
+        ensures left { IfOk result (λ _. left self.new.region 0 + size key.now value.now ≡ left self.old.region 0) }
         ensures stay { Stay self.old.region self.new.region }
     {
         let row = NewRow {
@@ -108,7 +108,7 @@ impl RowCache {
         ensures rows { rows_of self.new ≡ apply.without key.now (rows_of self.old) }
         ensures room { self.new.room ≡ self.old.room }
         ensures shape { shape self.new.region ≡ shape self.old.region }
-        ensures left { left self.new.region ≡ left self.old.region }
+        ensures left { left self.new.region 0 ≡ left self.old.region 0 }
         ensures stay { Stay self.old.region self.new.region }
     {
         let Ok(found) = self.tables.search(&self.region, key) else {
@@ -126,7 +126,7 @@ impl RowCache {
         ensures rows { IsSome result → rows_of self.new ≡ take (length (rows_of self.old) - 1) (rows_of self.old) }
         ensures room { self.new.room ≡ self.old.room }
         ensures shape { shape self.new.region ≡ shape self.old.region }
-        ensures left { left self.new.region ≡ left self.old.region }
+        ensures left { left self.new.region 0 ≡ left self.old.region 0 }
         ensures stay { Stay self.old.region self.new.region }
     {
         let row = self.tables.last(&self.region)?;

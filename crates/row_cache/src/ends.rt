@@ -8,8 +8,9 @@ ghost use Rattle.row_cache.specs.Rows.{AreRelinked};
 ghost use Rattle.row_cache.specs.inside.Tables.{HoldsARow};
 ghost use Rattle.row_cache.specs.inside.Chained as chained;
 
-use crate::links::{link_newer, link_older, link_to, newer_of, older_of};
+use crate::links::{link_both, link_newer, link_older, link_to, neighbours_of};
 use regions::{Place, Region};
+use row_bytes::{Links, NO_LINK};
 
 // The places of the row that was used last, and of the one that was used longest ago. None where there is no row.
 #[derive(Clone, Copy)]
@@ -26,9 +27,8 @@ impl Ends {
             → chained.IsChain (live_at region.new) self.new (xs ++ ys) }
         ensures same { AreRelinked region.old region.new }
     {
-        let newer = self.newer(region, at);
-        let older = self.older(region, at);
-        self.join(region, newer, older);
+        let beside = neighbours_of(region, at);
+        self.join(region, beside.newer, beside.older);
     }
 
     // The row at a place, which is not in the chain, comes in front.
@@ -41,8 +41,13 @@ impl Ends {
         ensures same { AreRelinked region.old region.new }
     {
         let front = self.front;
-        self.join(region, Some(at), front);
-        self.join(region, None, Some(at));
+        let to = Links {
+            newer: NO_LINK,
+            older: link_to(front),
+        };
+        link_both(region, at, to);
+        self.set_before(region, Some(at), front);
+        self.front = Some(at);
     }
 
     // The row at a place, which is in the chain, is the first from now on.
@@ -59,7 +64,7 @@ impl Ends {
         self.push_front(region, at);
     }
 
-    // The row that is live at both places stands at the second from now on.
+    // The row that is live at both places, with the same links, stands at the second from now on.
     pub(crate) fn relocate(&mut self, region: &mut Region, from: Place, to: Place)
         requires row { HoldsARow (live_at region.old to) }
         requires room { links.HasRoom to }
@@ -70,35 +75,9 @@ impl Ends {
             → chained.IsChain (less from (live_at region.new)) self.new (xs ++ to ∷ ys) }
         ensures same { AreRelinked region.old region.new }
     {
-        let newer = self.newer(region, from);
-        let older = self.older(region, from);
-        self.join(region, newer, Some(to));
-        self.join(region, Some(to), older);
-    }
-
-    // The row that is used next after the one at a place.
-    fn newer(&self, region: &Region, at: Place) -> Option<Place>
-        requires { HoldsARow (live_at region.now at) }
-        ensures { (xs ys : List Place) → chained.IsChain (live_at region.now) self.now (xs ++ at ∷ ys) → result ≡ last_or None xs }
-    {
-        if self.front == Some(at) {
-            None
-        } else {
-            Some(newer_of(region, at))
-        }
-    }
-
-    // The row that was used next before it.
-    fn older(&self, region: &Region, at: Place) -> Option<Place>
-        requires { HoldsARow (live_at region.now at) }
-        ensures { (xs ys : List Place) → chained.IsChain (live_at region.now) self.now (xs ++ at ∷ ys)
-            → result ≡ links.first_or None ys }
-    {
-        if self.last == Some(at) {
-            None
-        } else {
-            Some(older_of(region, at))
-        }
+        let beside = neighbours_of(region, to);
+        self.set_behind(region, beside.newer, Some(to));
+        self.set_before(region, Some(to), beside.older);
     }
 
     // Two rows are linked to one another. Where the first is none, the second is the front, and where the second is none, the
@@ -116,6 +95,7 @@ impl Ends {
     }
 
     // The second is behind the first.
+    #[tactic(auto, using(crate::proofs::Joined::behind_by))]
     fn set_behind(&mut self, region: &mut Region, newer: Option<Place>, older: Option<Place>)
         requires { IfSome newer (λ p. HoldsARow (live_at region.old p)) }
         ensures links { chained.LinksBehind newer older (live_at region.old) (live_at region.new) }

@@ -6,7 +6,14 @@ ghost use Rattle.row_cache.specs.Rows.{AreRelinked};
 ghost use Rattle.row_cache.specs.inside.Tables.{HoldsARow};
 
 use regions::{Place, Region};
-use row_bytes::{NO_LINK, newer_in, older_in, set_newer, set_older};
+use row_bytes::{Links, NO_LINK, newer_in, older_in, set_newer, set_older};
+
+// The places of the row that was used next after one, and of the row that was used next before it.
+#[derive(Clone, Copy)]
+pub(crate) struct Neighbours {
+    pub(crate) newer: Option<Place>,
+    pub(crate) older: Option<Place>,
+}
 
 // How many offsets a segment's number is apart from the next one in a link.
 const SEGMENT_STEP: u64 = 4_294_967_296;
@@ -22,13 +29,16 @@ pub(crate) fn link_to(place: Option<Place>) -> u64
 }
 
 // The place that a link leads to.
-fn place_of_link(link: u64) -> Place
-    ensures { result ≡ links.place_of_link link }
+fn led_to(link: u64) -> Option<Place>
+    ensures { result ≡ links.led_to link }
 {
-    Place {
+    if link == NO_LINK {
+        return None;
+    }
+    Some(Place {
         segment: (link / SEGMENT_STEP) as u32,
         at: (link % SEGMENT_STEP) as u32,
-    }
+    })
 }
 
 // The number of a place's segment has 32 bits.
@@ -36,20 +46,17 @@ pub(crate) fn segment_fits(place: Place)
     ensures { place.segment < 2 ^ 32 }
 {}
 
-// The place to which the link of the row at a place leads, to the next more recently used row.
-pub(crate) fn newer_of(region: &Region, at: Place) -> Place
+// The rows to which the links of the row at a place lead.
+pub(crate) fn neighbours_of(region: &Region, at: Place) -> Neighbours
     requires { HoldsARow (live_at region.now at) }
-    ensures { result ≡ links.place_of_link (links.newer_at (live_at region.now) at) }
+    ensures newer { result.newer ≡ links.led_to (links.newer_at (live_at region.now) at) }
+    ensures older { result.older ≡ links.led_to (links.older_at (live_at region.now) at) }
 {
-    place_of_link(newer_in(region.bytes(at)))
-}
-
-// The place to which the other link leads.
-pub(crate) fn older_of(region: &Region, at: Place) -> Place
-    requires { HoldsARow (live_at region.now at) }
-    ensures { result ≡ links.place_of_link (links.older_at (live_at region.now) at) }
-{
-    place_of_link(older_in(region.bytes(at)))
+    let content = region.bytes(at);
+    Neighbours {
+        newer: led_to(newer_in(content)),
+        older: led_to(older_in(content)),
+    }
 }
 
 // Writes the link of the row at a place to the next more recently used row.
@@ -72,4 +79,17 @@ pub(crate) fn link_older(region: &mut Region, at: Place, to: u64)
     ensures same { AreRelinked region.old region.new }
 {
     set_older(region.bytes_mut(at), to);
+}
+
+// Writes both links of the row at a place.
+pub(crate) fn link_both(region: &mut Region, at: Place, to: Links)
+    requires { HoldsARow (live_at region.old at) }
+    ensures newer { links.newer_at (live_at region.new) at ≡ to.newer }
+    ensures older { links.older_at (live_at region.new) at ≡ to.older }
+    ensures others { (p : Place) → p ≢ at → live_at region.new p ≡ live_at region.old p }
+    ensures same { AreRelinked region.old region.new }
+{
+    let content = region.bytes_mut(at);
+    set_newer(content, to.newer);
+    set_older(content, to.older);
 }

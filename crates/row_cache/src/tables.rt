@@ -84,6 +84,23 @@ impl Tables {
         })
     }
 
+    // No row is left, and no number was given. The memory stays reserved.
+    pub(crate) fn clear(&mut self)
+        ensures room { self.new.room ≡ self.old.room }
+        ensures empty { (self.new.recency ≡ []) × (self.new.places ≡ []) × (self.new.freed ≡ []) }
+        ensures none { (live : Live) → ((p : Place) → live p ≡ None) → tables.AreTablesOf self.new live }
+        ensures linked { (live : Live) → chained.IsLinked self.new live }
+    {
+        self.order = Order::empty();
+        self.ends = Ends {
+            front: None,
+            last: None,
+        };
+        self.places.clear();
+        self.freed.clear();
+        self.index.clear();
+    }
+
     // How many rows there are.
     pub(crate) fn len(&self) -> u32
         ensures { result ≡ length self.now.recency }

@@ -112,8 +112,8 @@ pub record IsWritten (old new : RegionState) (p : Place) (n : ℕ) : Type 0 wher
 written-item : (s : Option Standing) (ws : List ℕ) → IsSome (item_if_live s) → (i : Item) × (item_if_live (option_map (with_bytes ws) s) ≡ Some i) × (i.content ≡ ws)
 written-item None ws h = absurd (let clash : false ≡ true = h in cc)
 written-item (Some s) ws h = if-written s.live s.item h where
-  if-written : (b : Bool) (i : Item) → IsSome (if_live b i) → (j : Item) × (if_live b (record { kind = i.kind; content = ws }) ≡ Some j) × (j.content ≡ ws)
-  if-written true i g = (record { kind = i.kind; content = ws }, refl, refl)
+  if-written : (b : Bool) (i : Item) → IsSome (if_live b i) → (j : Item) × (if_live b (record { group = i.group; kind = i.kind; content = ws }) ≡ Some j) × (j.content ≡ ws)
+  if-written true i g = (record { group = i.group; kind = i.kind; content = ws }, refl, refl)
   if-written false i g = absurd (let clash : false ≡ true = g in cc)
 
 pub is-written : (old new : RegionState) (p : Place) (n : ℕ) (ws : List ℕ) → IsSome (live_at old p) → ChangesAt p (option_map (with_bytes ws) (standing_at old p)) old new → little_number 8 ws ≡ n → 8 ≤ length ws

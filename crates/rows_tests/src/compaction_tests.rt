@@ -1,17 +1,23 @@
 //! Tests of `compaction`: segments are emptied and freed, and each name keeps its content.
-ghost use Rattle.std.specs.Prelude.{IfOk};
+ghost use Rattle.std.specs.Prelude.{◌≡◌, ◌<◌, ◌≤◌, length, true, IfOk};
+ghost use Rattle.layout.specs.Sizes as sizes;
 ghost use Rattle.slab.specs.Slab.{get};
 ghost use Rattle.object_log.specs.Objects.{IsSize};
+ghost use Rattle.regions.specs.Shapes.{shape, held_count, HasGroup};
 ghost use Rattle.regions.specs.Contents.{live_at, Keeps};
 ghost use Rattle.rows_tests.specs.Names.{AreNamed};
 
 mod calls;
+mod groups;
 mod names;
 mod steps;
+mod two_groups;
 
 use crate::pieces::piece;
-use compaction::{Compacted, compact_one, pass};
+use calls::size_of;
+use compaction::{Compacted, compact_in, compact_one, pass};
 use names::{Names, content, kill, put};
+use raw_range::Piece;
 use regions::Region;
 use std::alloc::{AllocError, Global};
 use std::test::Fail;
@@ -28,19 +34,22 @@ struct Shelf {
     kept: Vec<u8>,
 }
 
-/// A shelf of four free segments.
-fn new_shelf(alloc: Global) -> Result<Shelf, AllocError>
+/// A shelf of so many groups and five free segments, or of four, where it has one group.
+fn new_shelf(alloc: Global, groups: u32) -> Result<Shelf, AllocError>
+    requires { (1 ≤ groups) × (groups ≤ 8) }
     ensures { IfOk result (λ s. AreNamed (get s.names.places) (live_at s.region)) }
 {
     let first = piece(alloc, 0)?;
     let second = piece(alloc, 1)?;
     let third = piece(alloc, 2)?;
     let fourth = piece(alloc, 3)?;
-    let mut region = Region::new(alloc, 4)?;
+    let fifth = piece(alloc, 4)?;
+    let mut region = Region::new(alloc, 5, groups)?;
     region.add_segment(first);
     region.add_segment(second);
     region.add_segment(third);
     region.add_segment(fourth);
+    add_to_groups(&mut region, groups, fifth);
     Ok(Shelf {
         region,
         names: Names::new(alloc),
@@ -49,25 +58,58 @@ fn new_shelf(alloc: Global) -> Result<Shelf, AllocError>
     })
 }
 
-/// Begins the next segment where one is free and none is active or that is full, and answers the active one.
-fn go_on(shelf: &mut Shelf) -> Option<u32>
-    requires fits { AreNamed (get shelf.old.names.places) (live_at shelf.old.region) }
-    ensures fits { AreNamed (get shelf.new.names.places) (live_at shelf.new.region) }
-{
-    begin(&mut shelf.region);
-    shelf.region.active()
-}
-
-fn begin(region: &mut Region)
+/// The piece becomes one segment more where there are two groups or more.
+fn add_to_groups(region: &mut Region, groups: u32, piece: Piece)
+    requires room { held_count region.old < (shape region.old).most }
+    requires segment { length piece.bytes ≡ sizes.segment }
     ensures { Keeps region.old region.new }
 {
-    if region.free_segments() > 0 && (region.active().is_none() || region.left() < 12_296) {
-        region.next_active();
+    if groups > 1 {
+        region.add_segment(piece);
     }
 }
 
-/// An object of the size, each byte of its content but for the name being this one.
-fn place(alloc: Global, shelf: &mut Shelf, size: u32, byte: u8) -> Result<Option<usize>, AllocError>
+/// Whether the shelf has the group.
+fn has_group(shelf: &Shelf, group: u32) -> bool
+    ensures { result ≡ true → HasGroup shelf.now.region group }
+{
+    group < shelf.region.groups()
+}
+
+/// Begins the next segment of the group where one is free and none of it is active or that is full, and answers its active
+/// one.
+fn go_on(shelf: &mut Shelf, group: u32) -> Option<u32>
+    requires fits { AreNamed (get shelf.old.names.places) (live_at shelf.old.region) }
+    ensures fits { AreNamed (get shelf.new.names.places) (live_at shelf.new.region) }
+{
+    begin(&mut shelf.region, group);
+    if !has_group(shelf, group) {
+        return None;
+    }
+    shelf.region.active(group)
+}
+
+fn begin(region: &mut Region, group: u32)
+    ensures { Keeps region.old region.new }
+{
+    if group >= region.groups() {
+        return;
+    }
+    if region.free_segments() > 0
+        && (region.active(group).is_none() || region.left(group) < 12_296)
+    {
+        region.next_active(group);
+    }
+}
+
+/// An object of the size in the group, each byte of its content but for the name being this one.
+fn place(
+    alloc: Global,
+    shelf: &mut Shelf,
+    group: u32,
+    size: u32,
+    byte: u8,
+) -> Result<Option<usize>, AllocError>
     requires size { IsSize size }
     requires fits { AreNamed (get shelf.old.names.places) (live_at shelf.old.region) }
     ensures fits { AreNamed (get shelf.new.names.places) (live_at shelf.new.region) }
@@ -76,19 +118,20 @@ fn place(alloc: Global, shelf: &mut Shelf, size: u32, byte: u8) -> Result<Option
     put(
         &mut shelf.region,
         &mut shelf.names,
+        group,
         size,
         content.as_mut_slice(),
     )
 }
 
-/// Ten of the greatest objects in the next segment.
-fn fill(alloc: Global, shelf: &mut Shelf, byte: u8) -> Result<Option<u32>, AllocError>
+/// Ten of the greatest objects in the next segment of the group.
+fn fill(alloc: Global, shelf: &mut Shelf, group: u32, byte: u8) -> Result<Option<u32>, AllocError>
     requires fits { AreNamed (get shelf.old.names.places) (live_at shelf.old.region) }
     ensures fits { AreNamed (get shelf.new.names.places) (live_at shelf.new.region) }
 {
-    let active = go_on(shelf);
+    let active = go_on(shelf, group);
     for _ in 0..10 {
-        let _name = place(alloc, shelf, 12_296, byte)?;
+        let _name = place(alloc, shelf, group, 12_296, byte)?;
     }
     Ok(active)
 }
@@ -102,15 +145,29 @@ fn kill_each(shelf: &mut Shelf, names: &[usize])
     }
 }
 
-/// None where no segment is free and the active one has too little left.
+/// None where no segment is free.
 fn compact(shelf: &mut Shelf) -> Option<Compacted>
     requires fits { AreNamed (get shelf.old.names.places) (live_at shelf.old.region) }
     ensures fits { AreNamed (get shelf.new.names.places) (live_at shelf.new.region) }
 {
-    if shelf.region.free_segments() == 0 && shelf.region.left() < 118_776 {
+    if shelf.region.free_segments() == 0 {
         return None;
     }
     Some(compact_one(&mut shelf.region, &mut shelf.names))
+}
+
+/// None where no segment is free and the group's active one has too little left.
+fn compact_group(shelf: &mut Shelf, group: u32) -> Option<Compacted>
+    requires fits { AreNamed (get shelf.old.names.places) (live_at shelf.old.region) }
+    ensures fits { AreNamed (get shelf.new.names.places) (live_at shelf.new.region) }
+{
+    if !has_group(shelf, group) {
+        return None;
+    }
+    if shelf.region.free_segments() == 0 && shelf.region.left(group) < 118_776 {
+        return None;
+    }
+    Some(compact_in(&mut shelf.region, group, &mut shelf.names))
 }
 
 fn compact_all(shelf: &mut Shelf) -> Option<Compacted>
@@ -123,21 +180,21 @@ fn compact_all(shelf: &mut Shelf) -> Option<Compacted>
     Some(pass(&mut shelf.region, &mut shelf.names))
 }
 
-fn guard(shelf: &mut Shelf)
+fn guard(shelf: &mut Shelf, group: u32)
     requires fits { AreNamed (get shelf.old.names.places) (live_at shelf.old.region) }
     ensures fits { AreNamed (get shelf.new.names.places) (live_at shelf.new.region) }
 {
-    if shelf.region.guards() < 10 {
-        shelf.region.guard();
+    if has_group(shelf, group) && shelf.region.guards(group) < 10 {
+        shelf.region.guard(group);
     }
 }
 
-fn unguard(shelf: &mut Shelf)
+fn unguard(shelf: &mut Shelf, group: u32)
     requires fits { AreNamed (get shelf.old.names.places) (live_at shelf.old.region) }
     ensures fits { AreNamed (get shelf.new.names.places) (live_at shelf.new.region) }
 {
-    if shelf.region.guards() > 0 {
-        shelf.region.unguard();
+    if has_group(shelf, group) && shelf.region.guards(group) > 0 {
+        shelf.region.unguard(group);
     }
 }
 
@@ -162,9 +219,16 @@ fn is_kept(shelf: &Shelf, segment: u32, order: usize) -> bool {
     shelf.kept.get(order * 131_072..(order + 1) * 131_072) == Some(bytes)
 }
 
-/// Which step is the first that a shelf of four free segments answers otherwise.
+/// Which step is the first that a shelf of one group and four free segments answers otherwise.
 fn wrong(alloc: Global, steps: &[Step<'_>]) -> Result<Option<usize>, AllocError> {
-    let mut shelf = new_shelf(alloc)?;
+    wrong_of(alloc, 1, steps)
+}
+
+/// The same of a shelf of so many groups, with five segments where there are more than one.
+fn wrong_of(alloc: Global, groups: u32, steps: &[Step<'_>]) -> Result<Option<usize>, AllocError>
+    requires { (1 ≤ groups) × (groups ≤ 8) }
+{
+    let mut shelf = new_shelf(alloc, groups)?;
     Ok(first_wrong(alloc, &mut shelf, steps))
 }
 
@@ -259,7 +323,8 @@ fn dead_objects_stay_behind_and_live_ones_keep_their_order(rt: HostRuntime) -> R
         Step::GoOn(3),
         Step::Kill(&[0, 1, 2, 3, 4, 5, 6, 7, 8, 9]),
         Step::Kill(&[10, 12, 14, 16, 18]),
-        Step::Compact(Some(Compacted::Freed)),
+        // No segment is free.
+        Step::CompactIn(0, Some(Compacted::Freed)),
         Step::Free(1),
         Step::Left(131_072),
         Step::CompactAll(Some(Compacted::Freed)),
@@ -283,13 +348,6 @@ fn dead_objects_stay_behind_and_live_ones_keep_their_order(rt: HostRuntime) -> R
     Ok(())
 }
 
-/// A size of an object.
-fn size_of(draw: u32) -> u32
-    ensures { IsSize result }
-{
-    16 + draw % 1536 * 8
-}
-
 /// Objects of 16 bytes, of 616 more and so on, and one of the greatest size: they fill a segment.
 fn place_each(alloc: Global, shelf: &mut Shelf) -> Result<(), AllocError>
     requires fits { AreNamed (get shelf.old.names.places) (live_at shelf.old.region) }
@@ -297,11 +355,11 @@ fn place_each(alloc: Global, shelf: &mut Shelf) -> Result<(), AllocError>
 {
     for byte in 0..20u8 {
         let size = size_of(u32::from(byte) * 77);
-        if let Some(name) = place(alloc, shelf, size, byte)? {
+        if let Some(name) = place(alloc, shelf, 0, size, byte)? {
             note(&mut shelf.held, name, Some((size, byte)))?;
         }
     }
-    if let Some(name) = place(alloc, shelf, 12_296, 20)? {
+    if let Some(name) = place(alloc, shelf, 0, 12_296, 20)? {
         note(&mut shelf.held, name, Some((12_296, 20)))?;
     }
     Ok(())

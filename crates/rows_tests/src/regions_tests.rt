@@ -1,4 +1,6 @@
 //! Tests of `regions`: segments filled to the end, contents written and read, guards, and which segments are given.
+ghost use Rattle.std.specs.Prelude.{◌≤◌};
+
 mod calls;
 mod steps;
 
@@ -9,11 +11,13 @@ use std::test::Fail;
 use steps::{NOT_CLOSED, Step, first_wrong};
 
 // The pieces of the segments have the owners 0, 1, 2.
-fn three_segments(alloc: Global) -> Result<Region, AllocError> {
+fn three_segments(alloc: Global, groups: u32) -> Result<Region, AllocError>
+    requires { (1 ≤ groups) × (groups ≤ 8) }
+{
     let first = piece(alloc, 0)?;
     let second = piece(alloc, 1)?;
     let third = piece(alloc, 2)?;
-    let mut region = Region::new(alloc, 3)?;
+    let mut region = Region::new(alloc, 3, groups)?;
     region.add_segment(first);
     region.add_segment(second);
     region.add_segment(third);
@@ -22,7 +26,14 @@ fn three_segments(alloc: Global) -> Result<Region, AllocError> {
 
 // Which step is the first that three segments answer otherwise.
 fn wrong(alloc: Global, steps: &[Step<'_>]) -> Result<Option<usize>, AllocError> {
-    let mut region = three_segments(alloc)?;
+    wrong_of(alloc, 1, steps)
+}
+
+// The same of a region of so many groups.
+fn wrong_of(alloc: Global, groups: u32, steps: &[Step<'_>]) -> Result<Option<usize>, AllocError>
+    requires { (1 ≤ groups) × (groups ≤ 8) }
+{
+    let mut region = three_segments(alloc, groups)?;
     let wrong = first_wrong(&mut region, steps);
     drop(region);
     Ok(wrong)
@@ -193,5 +204,80 @@ fn the_last_free_segment_stays_until_all_is_given_up(rt: HostRuntime) -> Result<
         Step::GiveUp(None),
     ];
     assert_eq!(rt; wrong(rt.alloc(), &steps)?, None);
+    Ok(())
+}
+
+#[test]
+fn two_groups_share_the_free_segments(rt: HostRuntime) -> Result<(), Fail> {
+    let steps = [
+        // Without an active segment nothing is left and nothing fits.
+        Step::LeftIn(1, 0),
+        Step::PutIn(1, 1, 16, None),
+        Step::GoOnIn(1, 0),
+        Step::GroupOf(0, Some(1)),
+        Step::ActiveIn(0, None),
+        Step::PutIn(0, 1, 16, None),
+        Step::PutIn(1, 1, 48, Some((0, 0))),
+        Step::GoOnIn(0, 1),
+        Step::PutIn(0, 1, 24, Some((1, 0))),
+        Step::LeftIn(0, 131_048),
+        Step::LeftIn(1, 131_024),
+        Step::SpendTenIn(1),
+        Step::GoOnIn(1, 2),
+        Step::IsClosed(0, true),
+        Step::GroupOf(0, Some(1)),
+        Step::GroupOf(1, Some(0)),
+        Step::FreeSegments(0),
+        Step::ClosedLiveIn(1, &[48, NOT_CLOSED, NOT_CLOSED]),
+        Step::ClosedLiveIn(0, &[NOT_CLOSED; 3]),
+        Step::SparseIn(1, 1),
+        Step::SparseIn(0, 0),
+    ];
+    assert_eq!(rt; wrong_of(rt.alloc(), 2, &steps)?, None);
+    Ok(())
+}
+
+#[test]
+fn a_guard_keeps_the_segments_of_its_group_alone(rt: HostRuntime) -> Result<(), Fail> {
+    let steps = [
+        Step::GoOnIn(0, 0),
+        Step::GoOnIn(1, 1),
+        Step::SpendTenIn(1),
+        Step::GoOnIn(1, 2),
+        Step::GuardIn(1),
+        Step::GuardIn(1),
+        Step::GuardsOfTwo(0, 2),
+        Step::Free(1, false),
+        Step::UnguardIn(1),
+        Step::GuardIn(0),
+        Step::GuardsOfTwo(1, 1),
+        Step::Free(1, false),
+        Step::UnguardIn(1),
+        Step::UnguardIn(1),
+    ];
+    // The last one finds no guard.
+    assert_eq!(rt; wrong_of(rt.alloc(), 2, &steps)?, Some(13));
+    Ok(())
+}
+
+#[test]
+fn a_segment_is_freed_under_a_guard_of_another_group(rt: HostRuntime) -> Result<(), Fail> {
+    let steps = [
+        Step::GoOnIn(1, 0),
+        Step::SpendTenIn(1),
+        Step::GoOnIn(1, 1),
+        Step::GuardIn(0),
+        Step::GuardsOfTwo(1, 0),
+        Step::Free(0, true),
+        Step::GroupOf(0, None),
+        Step::GiveUp(None),
+        Step::UnguardIn(0),
+        Step::GoOnIn(0, 0),
+        Step::GroupOf(0, Some(0)),
+        Step::GiveUp(Some(2)),
+        Step::ActiveIn(0, None),
+        Step::ActiveIn(1, None),
+    ];
+    assert_eq!(rt; wrong_of(rt.alloc(), 2, &steps)?, None);
     Ok(())
 }

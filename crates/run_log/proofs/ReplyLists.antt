@@ -1,12 +1,11 @@
 -- The lists of a reply log.
-use Rattle.std.proofs.Common.{◌≡◌, ℕ, ◌+◌, ◌≤◌, zero, suc, List, [], ◌∷◌, ◌++◌, length, take, drop, map, Option, Some, None, arith, refl, ap, replicate, slice_set}
+use Rattle.std.proofs.Common.{◌≡◌, ◌∙◌, sym, ℕ, ◌+◌, ◌≤◌, zero, suc, List, [], ◌∷◌, ◌++◌, length, take, drop, map, Option, Some, None, arith, refl, ap, replicate, slice_set}
 use Rattle.std.specs.Prelude.{All}
-use Rattle.std.proofs.lemmas.List.{map-set, drop-append-le, take-append-le, length-drop, take_all}
+use Rattle.std.proofs.lemmas.List.{map-set, drop-append-le, take-append-le, length-drop, take-append-drop}
 use Rattle.std.proofs.lemmas.List.Elements.{All-head, All-tail}
-use Rattle.std.proofs.Math.Seq.{drop-append_seam}
 use Rattle.cache_model.specs.declared.reply_kind.ReplyKind.{ReplyKind}
 use Rattle.run_log.specs.declared.reply_log.Recorded.{Recorded}
-use Rattle.run_log.specs.inside.Recorded.{reply_in, LiesIn}
+use Rattle.run_log.specs.inside.Recorded.{reply_in, LiesIn, StandsAt}
 
 pub unanswered : (bytes : List ℕ) (n : ℕ) → map (reply_in bytes) (replicate n None) ≡ replicate n None
 unanswered bytes zero = refl
@@ -29,11 +28,14 @@ same_bodies bytes more (r ∷ rs) lie =
     rw (same_body bytes more r (All-head (LiesIn (length bytes)) r rs lie))
     (ap (λ xs. reply_in bytes r ∷ xs) (same_bodies bytes more rs (All-tail (LiesIn (length bytes)) r rs lie)))
 
--- what is recorded last has its body at the end
-pub recorded_last : (bytes body : List ℕ) (recorded : List (Option Recorded)) (i start len : ℕ) (kind : ReplyKind)
-    → start ≡ length bytes → len ≡ length body → All (LiesIn (length bytes)) recorded
-    → map (reply_in (bytes ++ body)) (slice_set recorded i (Some (record { kind = kind; start = start; len = len })))
-    ≡ slice_set (map (reply_in bytes) recorded) i (Some (kind, body))
-recorded_last bytes body recorded i start len kind start_is len_is lie =
-    let body_is : take (length body) (drop (length bytes) (bytes ++ body)) ≡ body = rw (drop-append_seam bytes body) (take_all (length body) body (omega arith)) in
-    rw (start_is, len_is, map-set, same_bodies bytes body recorded lie, body_is) refl
+-- what is recorded last has its body where it stands
+pub recorded_last : (old new body : List ℕ) (recorded : List (Option Recorded)) (i start len : ℕ) (kind : ReplyKind)
+    → take (length old) new ≡ old → StandsAt new body start → len ≡ length body → All (LiesIn (length old)) recorded
+    → map (reply_in new) (slice_set recorded i (Some (record { kind = kind; start = start; len = len })))
+    ≡ slice_set (map (reply_in old) recorded) i (Some (kind, body))
+recorded_last old new body recorded i start len kind before stands len_is lie =
+    let whole : old ++ drop (length old) new ≡ new =
+    ap (λ xs. xs ++ drop (length old) new) (sym before) ∙ take-append-drop (length old) new in
+    let same : map (reply_in new) recorded ≡ map (reply_in old) recorded =
+    ap (λ xs. map (reply_in xs) recorded) (sym whole) ∙ same_bodies old (drop (length old) new) recorded lie in
+    rw (len_is, map-set, same, stands.1) refl

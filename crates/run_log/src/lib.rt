@@ -2,6 +2,7 @@
 //! it came to, and the bodies of keys that replies carry.
 #![tactic(auto)]
 
+mod bodies;
 mod journal;
 mod keys;
 mod reply_log;

@@ -3,6 +3,7 @@ ghost use Rattle.std.specs.Prelude.{◌≡◌, ◌+◌, ◌^◌, ◌<◌, ◌≤
 ghost use Rattle.std.specs.List.{slice_get};
 ghost use Rattle.std.specs.Option.{option_map};
 
+use crate::bodies::Bodies;
 use cache_model::ReplyKind;
 use std::alloc::{AllocError, Global};
 use std::marker::Model;
@@ -20,8 +21,7 @@ struct Recorded {
 #[derive(Drop)]
 pub struct ReplyLog {
     recorded: Vec<Option<Recorded>>,
-    bytes: Vec<u8>,
-    room: u32,
+    bodies: Bodies,
 }
 
 impl Model for ReplyLog {
@@ -29,13 +29,12 @@ impl Model for ReplyLog {
 
     ghost Value = { Replies };
 
-    ghost use Rattle.std.specs.Prelude.{◌≡◌, ◌-◌, ◌≤◌, vec_len, vec_capacity, length, map, All};
+    ghost use Rattle.std.specs.Prelude.{length, map, All};
     ghost use Rattle.run_log.specs.inside.Recorded.{reply_in, LiesIn};
 
-    ghost view = { λ l. record { replies = map (reply_in l.bytes.items) l.recorded.items; room = l.room - vec_len l.bytes } };
+    ghost view = { λ l. record { replies = map (reply_in l.bodies.bytes) l.recorded.items; room = l.bodies.room } };
 
-    ghost invariant = { λ l. (vec_len l.bytes ≤ l.room) × (l.room ≤ vec_capacity l.bytes)
-        × All (LiesIn (length l.bytes.items)) l.recorded.items };
+    ghost invariant = { λ l. All (LiesIn (length l.bodies.bytes)) l.recorded.items };
 }
 
 impl ReplyLog {
@@ -49,8 +48,7 @@ impl ReplyLog {
         }
         Ok(ReplyLog {
             recorded,
-            bytes: Vec::with_capacity(alloc, bytes as usize)?,
-            room: bytes,
+            bodies: Bodies::new(alloc, bytes)?,
         })
     }
 
@@ -61,8 +59,7 @@ impl ReplyLog {
         ensures replies { self.new.replies ≡ slice_set self.old.replies part (Some (kind, body.now)) }
         ensures room { self.new.room + length body.now ≡ self.old.room }
     {
-        let start = self.bytes.len() as u32;
-        self.bytes.extend_from_slice(body).unwrap();
+        let start = self.bodies.keep(body);
         self.recorded[part as usize] = Some(Recorded {
             kind,
             start,
@@ -76,10 +73,9 @@ impl ReplyLog {
         ensures short { IfSome result (λ reply. length reply.1.now < 2 ^ 32) }
     {
         let recorded = self.recorded.get(part as usize).copied()??;
-        let start = recorded.start as usize;
         Some((
             recorded.kind,
-            &self.bytes[start..start + recorded.len as usize],
+            self.bodies.body(recorded.start, recorded.len),
         ))
     }
 }

@@ -20,6 +20,7 @@ use crate::refusal::NodeRefusal;
 use crate::shard::Shard;
 use crate::turn::Turn;
 use foreign_list::{Foreign, OwnerSeat};
+use layout::LINE_WORDS;
 use reclaim::Space;
 use run_log::ShardLine;
 use shard_rings::Link;
@@ -27,12 +28,17 @@ use std::alloc::Global;
 use std::marker::Model;
 use trace_text::Trace;
 
+/// How many words nodes stand apart: more than a line of the cache.
+const APART: usize = 2 * LINE_WORDS;
+
 /// One shard at work on its parts of a trace. All its memory is taken as it is opened.
 #[derive(Drop)]
 pub struct Node<'f, L: Drop, G: Drop> {
     shard: Shard<'f, L, G>,
     // Empty until the links are handed back.
     links: Vec<L>,
+    // Nodes stand side by side, and each is written by a thread of its own: so none shares a line of the cache with the next.
+    _apart: [u64; APART],
 }
 
 impl<'f, L: Drop, G: Drop> Model for Node<'f, L, G> {
@@ -103,7 +109,11 @@ impl<'f, L: Link<'f> + Drop, G: Gate + Drop> Node<'f, L, G> {
             return Err(NodeRefusal { seat, links });
         };
         match Shard::open(alloc, shard, shards, pages, trace, home, seat, links, gate) {
-            Ok(shard) => Ok(Node { shard, links: room }),
+            Ok(shard) => Ok(Node {
+                shard,
+                links: room,
+                _apart: [0; APART],
+            }),
             Err(refusal) => Err(refusal),
         }
     }
@@ -173,7 +183,11 @@ impl<'f, L: Link<'f> + Drop, G: Gate + Drop> Node<'f, L, G> {
         ensures idle { tickets_out result.space.lent ≡ 0 }
         ensures unguarded { IsUnguarded result.space }
     {
-        let Node { shard, links } = self;
+        let Node {
+            shard,
+            links,
+            _apart: _,
+        } = self;
         let Shard {
             space,
             journal,
@@ -194,7 +208,11 @@ impl<'f, L: Link<'f> + Drop, G: Gate + Drop> Node<'f, L, G> {
         ensures seat { IsAtRest self.entry.space.list result.seat }
         ensures links { result.links.items ≡ map (λ peer. peer.link) self.entry.peers }
     {
-        let Node { shard, links } = self;
+        let Node {
+            shard,
+            links,
+            _apart: _,
+        } = self;
         let Shard { space, peers, .. } = shard;
         NodeRefusal {
             seat: space.finish(),

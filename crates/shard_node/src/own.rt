@@ -8,10 +8,10 @@ ghost use Rattle.trace_text.specs.Reading.{most_commands};
 ghost use Rattle.shard_node.specs.inside.Own.{IsFirstPart, own_log};
 ghost use Rattle.shard_node.specs.inside.Rest.{part_at, shards_before};
 
-use crate::place::{is_scan, shards_take_turns};
+use crate::place::shards_take_turns;
 use cache_model::{issued_parts_are_counted, parts_go_up_by_command};
 use std::marker::Model;
-use trace_text::{Command, Trace, owner_of};
+use trace_text::{Command, Trace};
 
 /// The parts that a shard issues and that were not begun yet: in the order of their commands, and those of a scan in the order
 /// of the shards that do them.
@@ -112,7 +112,7 @@ impl<'f> Own<'f> {
     {
         issued_parts_are_counted();
         let commands = self.trace.commands();
-        if self.next.at < commands.len() && is_scan(&commands[self.next.at]) {
+        if self.next.at < commands.len() && self.trace.is_scan(self.next.at) {
             self.next.to == 0
         } else {
             true
@@ -143,8 +143,8 @@ fn first_part(trace: &Trace, shards: u32, at: usize) -> Part
     ensures first { shards_before result.to (slice_get (trace_in trace.now).operations at) ≡ 0 }
 {
     let commands = trace.commands();
-    let to = if at < commands.len() && !is_scan(&commands[at]) {
-        owner_of(trace.key(&commands[at]), shards)
+    let to = if at < commands.len() && !trace.is_scan(at) {
+        trace.owner(at)
     } else {
         0
     };
@@ -169,8 +169,8 @@ fn part_after(trace: &Trace, shards: u32, shard: u32, part: Part) -> Part
     ensures next { part_at trace.now shards shard result.to result.at ≡ part_at trace.now shards shard part.to part.at + 1 }
 {
     shards_take_turns(trace);
-    let commands = trace.commands();
-    if is_scan(&commands[part.at]) && part.to + 1 < shards {
+    trace.commands();
+    if trace.is_scan(part.at) && part.to + 1 < shards {
         return Part {
             at: part.at,
             to: part.to + 1,

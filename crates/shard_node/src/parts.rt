@@ -5,8 +5,8 @@ ghost use Rattle.layout.specs.Sizes.{key_room, most_keys};
 ghost use Rattle.trace_text.specs.declared.command.Kind.TheVariants as kinds;
 ghost use Rattle.cache_model.specs.Apply.{apply, has};
 ghost use Rattle.cache_model.specs.Spelled.{spelled};
-ghost use Rattle.regions.specs.Shapes.{guards_of};
 ghost use Rattle.shard_rings.specs.Ask.{asked, IsAskable};
+ghost use Rattle.reclaim.specs.Spaces.{IsUnguarded};
 ghost use Rattle.shard_node.specs.inside.Parts.{DoesPart};
 
 use cache_model::ReplyKind;
@@ -27,7 +27,7 @@ pub(crate) fn do_part(
 )
     // What is asked, with no guard standing.
     requires askable { IsAskable (asked ask.now) }
-    requires unguarded { guards_of space.old.region ≡ 0 }
+    requires unguarded { IsUnguarded space.old }
 
     // Nothing it writes lacks space.
     requires tables { ask.now.kind ≡ kinds.Put
@@ -58,7 +58,7 @@ fn do_put(
 )
     requires kind { ask.now.kind ≡ kinds.Put }
     requires askable { IsAskable (asked ask.now) }
-    requires unguarded { guards_of space.old.region ≡ 0 }
+    requires unguarded { IsUnguarded space.old }
     requires tables { (has ask.now.key.now space.old.rows ≡ true) ⊎ (length space.old.rows < space.old.room) }
     requires spare { length space.old.rows + 1 ≤ journal.old.spare }
     requires unanswered { slice_get log.old.replies part ≡ Some None }
@@ -80,7 +80,7 @@ fn do_get(
     log: &mut ReplyLog,
 )
     requires kind { ask.now.kind ≡ kinds.Get }
-    requires unguarded { guards_of space.old.region ≡ 0 }
+    requires unguarded { IsUnguarded space.old }
     requires spare { 1 ≤ journal.old.spare }
     requires unanswered { slice_get log.old.replies part ≡ Some None }
     requires fits { length (spelled (apply (asked ask.now) space.old.rows).1).1 ≤ log.old.room }
@@ -102,7 +102,7 @@ fn do_erase(
     log: &mut ReplyLog,
 )
     requires kind { ask.now.kind ≡ kinds.Erase }
-    requires unguarded { guards_of space.old.region ≡ 0 }
+    requires unguarded { IsUnguarded space.old }
     requires spare { 1 ≤ journal.old.spare }
     requires unanswered { slice_get log.old.replies part ≡ Some None }
     ensures { DoesPart part (asked ask.now) space.old space.new journal.old journal.new log.old log.new }
@@ -128,7 +128,7 @@ fn do_scan(
     // A scan, with no guard standing.
     requires kind { ask.now.kind ≡ kinds.Scan }
     requires askable { IsAskable (asked ask.now) }
-    requires unguarded { guards_of space.old.region ≡ 0 }
+    requires unguarded { IsUnguarded space.old }
 
     // Nothing it writes lacks space.
     requires spare { 1 ≤ journal.old.spare }

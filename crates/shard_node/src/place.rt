@@ -1,13 +1,13 @@
 //! Places among the commands of a trace, and the parts that a shard issues before them.
-ghost use Rattle.std.specs.Prelude.{◌≡◌, ℕ, ◌+◌, ◌*◌, ◌<◌, ◌≤◌, ◌%◌, ◌^◌, length, slice_index_or, Contains, if◌then◌else◌};
-ghost use Rattle.trace_text.specs.Operation.{Operation, operation};
+ghost use Rattle.std.specs.Prelude.{◌≡◌, ℕ, ◌+◌, ◌*◌, ◌<◌, ◌≤◌, ◌%◌, ◌^◌, length, slice_index_or, if◌then◌else◌};
+ghost use Rattle.trace_text.specs.Operation.{Operation};
 ghost use Rattle.trace_text.specs.Parsed.{trace_in};
-ghost use Rattle.trace_text.specs.Parts.{has_part, is_scan, most_shards};
+ghost use Rattle.trace_text.specs.Parts.{is_scan, most_shards};
 ghost use Rattle.trace_text.specs.Reading.{most_commands};
 ghost use Rattle.cache_model.specs.OwnParts.{parts_before};
 
 use cache_model::parts_go_up_by_command;
-use trace_text::{Command, Kind, Trace, owner_of};
+use trace_text::Trace;
 
 /// A place among the commands of a trace, and how many parts a shard issues for the commands before it.
 #[derive(Clone, Copy)]
@@ -16,17 +16,19 @@ pub(crate) struct Place {
     pub(crate) before: u32,
 }
 
-/// The place `shards` further, of the next command that the shard of this command issues.
-pub(crate) fn past(place: Place, command: &Command, shards: u32) -> Place
+/// The place `shards` further, of the next command that the shard of the command at this place issues.
+pub(crate) fn past(trace: &Trace, place: Place, shards: u32) -> Place
+    requires within { place.at < length trace.now.commands }
     requires some { 1 ≤ shards }
     requires at { place.at + shards < 2 ^ 64 }
     requires before { place.before + shards < 2 ^ 32 }
     ensures at { result.at ≡ place.at + shards }
-    ensures before { result.before ≡ place.before + (if is_scan command.now.kind then shards else 1) }
+    ensures before { (d : Operation) → result.before ≡ place.before
+        + (if is_scan (slice_index_or (trace_in trace.now).operations place.at d).kind then shards else 1) }
 {
     Place {
         at: place.at + shards as usize,
-        before: place.before + if is_scan(command) { shards } else { 1 },
+        before: place.before + if trace.is_scan(place.at) { shards } else { 1 },
     }
 }
 
@@ -42,20 +44,4 @@ pub(crate) fn shards_take_turns(trace: &Trace)
 {
     parts_go_up_by_command();
     trace.commands();
-}
-
-pub(crate) fn is_scan(command: &Command) -> bool
-    ensures { result ≡ is_scan command.now.kind }
-{
-    matches!(command.kind, Kind::Scan)
-}
-
-/// Whether the shard does a part of the command.
-pub(crate) fn has_part(trace: &Trace, command: &Command, shards: u32, shard: u32) -> bool
-    requires of_trace { Contains trace.now.commands command.now }
-    requires some { 1 ≤ shards }
-    requires most { shards ≤ most_shards }
-    ensures { result ≡ has_part shards shard (operation trace.now.bytes command.now) }
-{
-    is_scan(command) || owner_of(trace.key(command), shards) == shard
 }

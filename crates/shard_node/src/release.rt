@@ -22,6 +22,9 @@ pub(crate) fn release_held<'f>(held: &mut Option<ForeignBlock<'f>>, tally: &mut 
     ensures tries { Tries held.old held.new tally.old tally.new }
     ensures released { IsTrue result ↔ IsSome held.old × IsNone held.new }
 {
+    if held.is_none() {
+        return false;
+    }
     let Some(block) = held.take() else {
         return false;
     };

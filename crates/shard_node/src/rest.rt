@@ -10,7 +10,7 @@ ghost use Rattle.shard_node.specs.Due.{operations_for};
 ghost use Rattle.shard_node.specs.Turns.{expected_number};
 ghost use Rattle.shard_node.specs.inside.Rest.{all_of, is_for, left_from, log_of};
 
-use crate::place::{Place, has_part, is_scan, past, shards_take_turns};
+use crate::place::{Place, past, shards_take_turns};
 use cache_model::{issued_parts_are_counted, parts_go_up_by_command};
 use std::marker::Model;
 use trace_text::{Command, Trace};
@@ -116,7 +116,7 @@ impl<'f> Rest<'f> {
     {
         shards_take_turns(self.trace);
         let commands = self.trace.commands();
-        if self.next.at < commands.len() && is_scan(&commands[self.next.at]) {
+        if self.next.at < commands.len() && self.trace.is_scan(self.next.at) {
             self.next.before + self.shard
         } else {
             self.next.before
@@ -145,7 +145,7 @@ impl<'f> Rest<'f> {
         shards_take_turns(self.trace);
         let commands = self.trace.commands();
         if self.next.at < commands.len() {
-            let from = past(self.next, &commands[self.next.at], self.shards);
+            let from = past(self.trace, self.next, self.shards);
             self.next = find(self.trace, self.shards, self.origin, self.shard, from);
         }
     }
@@ -167,8 +167,8 @@ fn find(trace: &Trace, shards: u32, origin: u32, shard: u32, from: Place) -> Pla
     shards_take_turns(trace);
     let commands = trace.commands();
     let mut next = from;
-    while next.at < commands.len() && !has_part(trace, &commands[next.at], shards, shard) {
-        next = past(next, &commands[next.at], shards);
+    while next.at < commands.len() && !trace.has_part(next.at, shard) {
+        next = past(trace, next, shards);
     }
     next
 }

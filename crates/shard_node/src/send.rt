@@ -31,6 +31,9 @@ pub(crate) fn send_held<'f, L: Link<'f>>(
     ensures sent { IsTrue result ↔ IsSome held.old × IsNone held.new }
     ensures same_end { L.end link.new ≡ L.end link.old }
 {
+    if held.is_none() {
+        return false;
+    }
     let Some(block) = held.take() else {
         return false;
     };

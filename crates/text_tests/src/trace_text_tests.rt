@@ -1,4 +1,4 @@
-//! Which shard owns a key, and the longest value of a trace.
+//! Which shard owns a key, where commands go, and the longest value of a trace.
 ghost use Rattle.std.specs.Prelude.{◌≡◌, [], ◌∷◌};
 ghost use Rattle.trace_text.specs.Parts.{hash};
 
@@ -45,6 +45,28 @@ fn the_longest_value_counts(rt: HostRuntime) -> Result<(), Fail> {
         assert!(rt; bytes.len() <= 1000);
         let trace = parse(rt.alloc(), bytes, 1)?;
         assert_eq!(rt; trace.longest_value(), longest);
+    }
+    Ok(())
+}
+
+#[test]
+fn a_trace_tells_where_its_commands_go(rt: HostRuntime) -> Result<(), Fail> {
+    let bytes = "put a 1\nget b\nscan c 3\nerase d\n"
+        .as_bytes()
+        .to_vec(rt.alloc())?;
+    assert!(rt; bytes.len() <= 1000);
+    let trace = parse(rt.alloc(), bytes, 2)?;
+    for (at, owner, is_scan, is_at_0, is_at_1) in [
+        (0, 0, false, true, false),
+        (1, 1, false, false, true),
+        (2, 0, true, true, true),
+        (3, 1, false, false, true),
+    ] {
+        assert!(rt; at < trace.commands().len());
+        assert_eq!(rt; trace.owner(at), owner);
+        assert_eq!(rt; trace.is_scan(at), is_scan);
+        assert_eq!(rt; trace.has_part(at, 0), is_at_0);
+        assert_eq!(rt; trace.has_part(at, 1), is_at_1);
     }
     Ok(())
 }

@@ -4,5 +4,6 @@ pub mod LinesRead
 pub mod PartCounts
 pub mod Offsets
 pub mod PlainText
+pub mod Routes
 pub mod Tallies
 pub mod TraceRead

@@ -1,11 +1,9 @@
 -- What a pass over the commands counts.
 use Rattle.std.proofs.Common.{Bool, true, false, cond, ◌≡◌, ℕ, ◌+◌, ◌*◌, ◌<◌, ◌≤◌, ◌==◌, ◌&&◌, max, if◌then◌else◌, List, [], ◌∷◌, ◌++◌, length, take, drop, get_or, length-append, arith, refl, sym, ap, ◌∙◌}
 use Rattle.std.specs.List.{All, AllByRecursion as ByRecursion, count_by, sum_by, fold}
-use Rattle.std.proofs.lemmas.List.{length-take-le, length-drop, map-append, take_all, take_more}
-use Rattle.std.proofs.lemmas.List.Sums.{sum_by-append, fold-append}
+use Rattle.std.proofs.lemmas.List.{length-take-le, length-drop, take_all, take_more}
+use Rattle.std.proofs.lemmas.List.Sums.{sum_by-append}
 use mir.Val.{bool_byte}
-use Rattle.std.proofs.lemmas.Bool.Decides.{nat_tests}
-use Rattle.std.specs.Ordering.{nat_cmp, ord_max}
 use Rattle.std.proofs.Math.Nat.{mul-le-mul_right}
 use Rattle.std.proofs.lemmas.List.Sums.{sum_by-le-sum_by}
 use Rattle.std.proofs.lemmas.List.Folds.{fold-map}
@@ -13,26 +11,25 @@ use Rattle.std.proofs.lemmas.List.Elements.{recursion_from_All}
 use Rattle.trace_text.specs.declared.command.Command.{Command}
 use Rattle.trace_text.specs.Parsed.{LiesWithin}
 use Rattle.trace_text.specs.Operation.{Operation, operation, operations, part}
-use Rattle.layout.specs.Sizes as sizes
 use Rattle.layout.specs.Sizes.{scan_room}
 use Rattle.trace_text.specs.Trace.{Trace, trace_with}
 use Rattle.trace_text.specs.Parts.{most_shards, is_scan, is_put, is_get, owner, origin, has_part, issued, done_at, own_parts, here_parts, here_puts, longest_value, reply_bytes, replies_room}
+use Rattle.trace_text.specs.declared.route.Route.{Route}
+use Rattle.trace_text.specs.inside.Routes.{route}
 use Rattle.trace_text.proofs.PartCounts.{done_is, issued_is}
 
 -- what a pass over these operations counts, with bounds
-pub record Tallied (trace : List Operation) (n s own here puts gets scans greatest : ℕ) : Type 0 where
+pub record Tallied (trace : List Operation) (n s own here puts gets scans : ℕ) : Type 0 where
   pub own_is : own ≡ own_parts (trace_with trace) n s
   pub here_is : here ≡ here_parts (trace_with trace) n s
   pub puts_is : puts ≡ here_puts (trace_with trace) n s
   pub gets_is : gets ≡ count_by (λ operation. is_get operation.kind && origin operation.number n == s) trace
   pub scans_is : scans ≡ count_by (λ operation. is_scan operation.kind && origin operation.number n == s) trace
-  pub greatest_is : greatest ≡ longest_value (trace_with trace)
   pub own_most : own ≤ most_shards * length trace
   pub here_most : here ≤ length trace
   pub puts_most : puts ≤ length trace
   pub gets_most : gets ≤ length trace
   pub scans_most : scans ≤ length trace
-  pub greatest_most : greatest ≤ sizes.greatest_value
 
 -- the share of one operation in the parts that a shard issues
 abbrev pub own_share : Operation → ℕ → ℕ → ℕ
@@ -62,20 +59,16 @@ pub bool_byte-one_if : (b : Bool) → bool_byte b ≡ one_if b
 bool_byte-one_if true = refl
 bool_byte-one_if false = refl
 
-pub ord_max-max : (m n : ℕ) → ord_max nat_cmp m n ≡ max m n
-ord_max-max m n = grind (arith, nat_tests)
-
 -- one operation more
-pub tallied_more : (trace : List Operation) (n s own here puts gets scans greatest : ℕ) (operation : Operation)
-    → n ≤ most_shards → length operation.value ≤ sizes.greatest_value → Tallied trace n s own here puts gets scans greatest
+pub tallied_more : (trace : List Operation) (n s own here puts gets scans : ℕ) (operation : Operation)
+    → n ≤ most_shards → Tallied trace n s own here puts gets scans
     → Tallied (trace ++ operation ∷ []) n s
     (own + own_share operation n s)
     (here + one_if (has_part n s operation))
     (puts + one_if (is_put operation.kind && owner operation.key n == s))
     (gets + one_if (is_get operation.kind && origin operation.number n == s))
     (scans + one_if (is_scan operation.kind && origin operation.number n == s))
-    (max greatest (length operation.value))
-tallied_more trace n s own here puts gets scans greatest operation some small so_far =
+tallied_more trace n s own here puts gets scans operation some so_far =
     let longer : length (trace ++ operation ∷ []) ≡ length trace + 1 = rw length-append refl in
     let is_own = origin operation.number n == s in
     record {
@@ -84,36 +77,39 @@ tallied_more trace n s own here puts gets scans greatest operation some small so
       puts_is = rw so_far.puts_is (count_by-push (λ o. is_put o.kind && owner o.key n == s) trace operation);
       gets_is = rw so_far.gets_is (count_by-push (λ o. is_get o.kind && origin o.number n == s) trace operation);
       scans_is = rw so_far.scans_is (count_by-push (λ o. is_scan o.kind && origin o.number n == s) trace operation);
-      greatest_is = rw fold-append (rw so_far.greatest_is refl);
       own_most = rw longer (omega (arith, own_share-le is_own (is_scan operation.kind) n some));
       here_most = omega (arith, one_if-le (has_part n s operation));
       puts_most = omega (arith, one_if-le (is_put operation.kind && owner operation.key n == s));
       gets_most = omega (arith, one_if-le (is_get operation.kind && is_own));
       scans_most = omega (arith, one_if-le (is_scan operation.kind && is_own));
-      greatest_most = omega arith;
     }
 
--- one command of the list more
-pub tallied_at : (bytes : List ℕ) (commands : List Command) (i : ℕ) (d : Command) (n s own here puts gets scans greatest : ℕ)
-    (a b c e f g : ℕ) → i < length commands → n ≤ most_shards → All (LiesWithin bytes) commands
-    → Tallied (operations bytes (take i commands)) n s own here puts gets scans greatest
-    → a ≡ own_share (operation bytes (get_or commands i d)) n s
-    → b ≡ one_if (has_part n s (operation bytes (get_or commands i d)))
-    → c ≡ one_if (is_put (get_or commands i d).kind && owner (part bytes (get_or commands i d).key) n == s)
-    → e ≡ one_if (is_get (get_or commands i d).kind && origin (get_or commands i d).number n == s)
-    → f ≡ one_if (is_scan (get_or commands i d).kind && origin (get_or commands i d).number n == s)
-    → g ≡ max greatest (get_or commands i d).value.len
-    → Tallied (operations bytes (take (i + 1) commands)) n s (own + a) (here + b) (puts + c) (gets + e) (scans + f) g
-tallied_at bytes commands i d n s own here puts gets scans greatest a b c e f g within some lie so_far a_is b_is c_is e_is f_is g_is =
-    let command = get_or commands i d in
-    let lies : LiesWithin bytes command = lie i d within in
-    let room : command.value.len ≤ length (drop command.value.start bytes) = rw length-drop (let within = lies.value in omega arith) in
-    let len : length (part bytes command.value) ≡ command.value.len = length-take-le command.value.len (drop command.value.start bytes) room in
-    let small : length (part bytes command.value) ≤ sizes.greatest_value = rw len lies.value_most in
-    let more : operations bytes (take (i + 1) commands) ≡ operations bytes (take i commands) ++ operation bytes command ∷ [] =
-    ap (operations bytes) (take_more commands i d within) ∙ map-append (operation bytes) (take i commands) (command ∷ []) in
-    rw (more, a_is, b_is, c_is, e_is, f_is, g_is)
-    (rw len at (tallied_more (operations bytes (take i commands)) n s own here puts gets scans greatest (operation bytes command) some small so_far))
+-- the next operation of the list
+pub tallied_at : (trace : List Operation) (i : ℕ) (d : Operation) (n s own here puts gets scans a b c e f : ℕ)
+    → i < length trace → n ≤ most_shards → Tallied (take i trace) n s own here puts gets scans
+    → a ≡ own_share (get_or trace i d) n s
+    → b ≡ one_if (has_part n s (get_or trace i d))
+    → c ≡ one_if (is_put (get_or trace i d).kind && owner (get_or trace i d).key n == s)
+    → e ≡ one_if (is_get (get_or trace i d).kind && origin (get_or trace i d).number n == s)
+    → f ≡ one_if (is_scan (get_or trace i d).kind && origin (get_or trace i d).number n == s)
+    → Tallied (take (i + 1) trace) n s (own + a) (here + b) (puts + c) (gets + e) (scans + f)
+tallied_at trace i d n s own here puts gets scans a b c e f within some so_far a_is b_is c_is e_is f_is =
+    rw (take_more trace i d within, a_is, b_is, c_is, e_is, f_is)
+    (tallied_more (take i trace) n s own here puts gets scans (get_or trace i d) some so_far)
+
+-- the same where its route and its origin are known
+pub tallied_next : (trace : List Operation) (i : ℕ) (d : Operation) (to : Route) (n s from own here puts gets scans a b c e f : ℕ)
+    → i < length trace → n ≤ most_shards → Tallied (take i trace) n s own here puts gets scans
+    → to ≡ route n (get_or trace i d) → from ≡ origin (get_or trace i d).number n
+    → a ≡ (if from == s then (if is_scan to.kind then n else 1) else 0)
+    → b ≡ one_if (if is_scan to.kind then true else to.owner == s)
+    → c ≡ one_if (is_put to.kind && to.owner == s)
+    → e ≡ one_if (is_get to.kind && from == s)
+    → f ≡ one_if (is_scan to.kind && from == s)
+    → Tallied (take (i + 1) trace) n s (own + a) (here + b) (puts + c) (gets + e) (scans + f)
+tallied_next trace i d to n s from own here puts gets scans a b c e f within some so_far to_is from_is a_is b_is c_is e_is f_is =
+    tallied_at trace i d n s own here puts gets scans a b c e f within some so_far
+    (rw (to_is, from_is) at a_is) (rw to_is at b_is) (rw to_is at c_is) (rw (to_is, from_is) at e_is) (rw (to_is, from_is) at f_is)
 
 -- fewer pass two tests than one of them
 and-le : (a b : Bool) → one_if (a && b) ≤ one_if a
@@ -153,24 +149,22 @@ longest_in bytes commands lie =
     longest_from bytes commands 0 (recursion_from_All (LiesWithin bytes) commands lie)
     ∙ sym (fold-map (λ m o. max m (length o.value)) (operation bytes) 0 commands)
 
--- what a pass over all commands counted needs no more room than all replies
-pub tallied_room : (bytes : List ℕ) (commands : List Command) (i n s own here puts gets scans greatest : ℕ) → length commands ≤ i
-    → Tallied (operations bytes (take i commands)) n s own here puts gets scans greatest
-    → gets * greatest + scans * (n * scan_room) ≤ replies_room (trace_with (operations bytes commands)) n
-tallied_room bytes commands i n s own here puts gets scans greatest ended tallied =
-    let trace = operations bytes commands in
-    let all : take i commands ≡ commands = take_all i commands ended in
+-- what a pass over all operations counted needs no more room than all replies
+pub tallied_room : (trace : List Operation) (i n s own here puts gets scans : ℕ) → length trace ≤ i
+    → Tallied (take i trace) n s own here puts gets scans
+    → gets * longest_value (trace_with trace) + scans * (n * scan_room) ≤ replies_room (trace_with trace) n
+tallied_room trace i n s own here puts gets scans ended tallied =
+    let all : take i trace ≡ trace = take_all i trace ended in
     let gets_is : gets ≡ count_by (λ o. is_get o.kind && origin o.number n == s) trace = rw all at tallied.gets_is in
     let scans_is : scans ≡ count_by (λ o. is_scan o.kind && origin o.number n == s) trace = rw all at tallied.scans_is in
-    let greatest_is : greatest ≡ longest_value (trace_with trace) = rw all at tallied.greatest_is in
-    rw (gets_is, scans_is, greatest_is) (share_fits (trace_with trace) n s)
+    rw (gets_is, scans_is) (share_fits (trace_with trace) n s)
 
 -- and is what the lists of parts count
-pub tallied_lists : (bytes : List ℕ) (commands : List Command) (i n s own here puts gets scans greatest : ℕ) → length commands ≤ i → 1 ≤ n
-    → Tallied (operations bytes (take i commands)) n s own here puts gets scans greatest
-    → (own ≡ issued (trace_with (operations bytes commands)) n s) × (here ≡ done_at (trace_with (operations bytes commands)) n s)
-tallied_lists bytes commands i n s own here puts gets scans greatest ended some tallied =
-    let all : take i commands ≡ commands = take_all i commands ended in
-    let own_is : own ≡ own_parts (trace_with (operations bytes commands)) n s = rw all at tallied.own_is in
-    let here_is : here ≡ here_parts (trace_with (operations bytes commands)) n s = rw all at tallied.here_is in
-    (own_is ∙ sym (issued_is (trace_with (operations bytes commands)) n s some), here_is ∙ sym (done_is (trace_with (operations bytes commands)) n s some))
+pub tallied_lists : (trace : List Operation) (i n s own here puts gets scans : ℕ) → length trace ≤ i → 1 ≤ n
+    → Tallied (take i trace) n s own here puts gets scans
+    → (own ≡ issued (trace_with trace) n s) × (here ≡ done_at (trace_with trace) n s)
+tallied_lists trace i n s own here puts gets scans ended some tallied =
+    let all : take i trace ≡ trace = take_all i trace ended in
+    let own_is : own ≡ own_parts (trace_with trace) n s = rw all at tallied.own_is in
+    let here_is : here ≡ here_parts (trace_with trace) n s = rw all at tallied.here_is in
+    (own_is ∙ sym (issued_is (trace_with trace) n s some), here_is ∙ sym (done_is (trace_with trace) n s some))

@@ -1,3 +1,4 @@
 pub mod Counted
 pub mod Found
 pub mod Plain
+pub mod Routes

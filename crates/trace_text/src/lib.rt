@@ -11,6 +11,7 @@ mod parts;
 mod plain;
 mod reading;
 mod refusal;
+mod route;
 mod trace;
 
 pub use command::{Command, Kind, Span};

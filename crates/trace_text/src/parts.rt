@@ -1,5 +1,5 @@
 //! Where the parts of a command are issued and done.
-ghost use Rattle.std.specs.Prelude.{◌≡◌, ℕ, ◌<◌, ◌≤◌, List, length, count_by, fold, max, true, if◌then◌else◌, All};
+ghost use Rattle.std.specs.Prelude.{◌≡◌, ℕ, ◌+◌, ◌%◌, ◌<◌, ◌≤◌, List, length, count_by, fold, max, if◌then◌else◌, All};
 ghost use Rattle.trace_text.specs.Parsed.{LiesWithin, trace_in};
 ghost use Rattle.trace_text.specs.Operation.{operations};
 ghost use Rattle.trace_text.specs.Parts.{most_shards, hash, owner, origin, is_put, is_get, is_scan, issued, done_at, own_parts, here_parts, here_puts, longest_value, reply_bytes, replies_room};
@@ -80,28 +80,29 @@ impl Trace {
         ensures here_puts { result.here_puts ≡ here_puts (trace_in self.now) shards shard }
         ensures reply_bytes { result.reply_bytes ≡ reply_bytes (trace_in self.now) shards shard }
     {
-        let commands = self.commands();
+        self.commands();
+        let routes = self.routes();
         let mut own_parts = 0;
         let mut here_parts = 0;
         let mut here_puts = 0;
         let mut gets = 0;
         let mut scans = 0;
-        let mut greatest = 0;
-        for command in commands {
-            let is_own = origin_of(command.number, shards) == shard;
-            let owns = owner_of(self.key(command), shards) == shard;
-            own_parts += own_parts_of(command.kind, is_own, shards);
-            here_parts += u32::from(has_part(command.kind, owns));
-            here_puts += u32::from(command.kind.is_put() & owns);
-            gets += u32::from(command.kind.is_get() & is_own);
-            scans += u32::from(command.kind.is_scan() & is_own);
-            greatest = greatest.max(command.value.len);
+        let mut origin = 0;
+        for route in routes {
+            let is_own = origin == shard;
+            let owns = route.is_owned_by(shard);
+            own_parts += own_parts_of(route.kind, is_own, shards);
+            here_parts += u32::from(route.has_part(shard));
+            here_puts += u32::from(route.kind.is_put() & owns);
+            gets += u32::from(route.kind.is_get() & is_own);
+            scans += u32::from(route.kind.is_scan() & is_own);
+            origin = origin_after(origin, shards);
         }
         Needs {
             own_parts,
             here_parts,
             here_puts,
-            reply_bytes: gets * greatest + scans * (shards * SCAN_ROOM),
+            reply_bytes: gets * self.longest_value() + scans * (shards * SCAN_ROOM),
         }
     }
 
@@ -133,8 +134,11 @@ fn own_parts_of(kind: Kind, is_own: bool, shards: u32) -> u32
     if is_own { kind.parts(shards) } else { 0 }
 }
 
-fn has_part(kind: Kind, owns: bool) -> bool
-    ensures { result ≡ (if is_scan kind then true else owns) }
+/// The origin of the command behind one of this origin.
+fn origin_after(origin: u32, shards: u32) -> u32
+    requires below { origin < shards }
+    requires most { shards ≤ most_shards }
+    ensures { (at : ℕ) → origin ≡ at % shards → result ≡ (at + 1) % shards }
 {
-    kind.is_scan() || owns
+    if origin + 1 == shards { 0 } else { origin + 1 }
 }

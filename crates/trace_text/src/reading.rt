@@ -2,6 +2,8 @@
 ghost use Rattle.std.specs.Prelude.{◌≡◌, ℕ, ◌+◌, ◌<◌, ◌≤◌, ◌^◌, ◌∷◌, length, IfOk, IfErr, OnOk, Ok, Err, IsTrue};
 ghost use Rattle.trace_text.specs.inside.Found.{AddsLine, IsCommandAt, IsRestOf, LiesAt, RefusesLine};
 ghost use Rattle.trace_text.specs.inside.Plain.{IsPlain};
+ghost use Rattle.trace_text.specs.inside.Routes.{AddsRoute, IsRouteAt, routes};
+ghost use Rattle.trace_text.specs.Operation.{operations};
 ghost use Rattle.trace_text.specs.Parsed.{AreSpelled, trace_in};
 ghost use Rattle.trace_text.specs.Parts.{most_shards};
 ghost use Rattle.layout.specs.Sizes.{most_trace_bytes};
@@ -13,6 +15,7 @@ use crate::line::{cut_at_lf, fields_of, is_passed};
 use crate::parts::replies_room;
 use crate::plain::plain_front;
 use crate::refusal::{Cause, ParseRefusal};
+use crate::route::Route;
 use crate::trace::Trace;
 use std::alloc::Global;
 
@@ -61,22 +64,26 @@ fn cut_line(text: &[u8]) -> (&[u8], &[u8], bool)
     }
 }
 
-/// The command on a line that begins at `start` of the trace.
+/// The command on a line that begins at `start` of the trace, and where it goes.
 fn command_at(
     text: &[u8],
     sound: bool,
     start: usize,
     number: u32,
     line: u32,
-) -> Result<Command, Cause>
+    shards: u32,
+) -> Result<(Command, Route), Cause>
     requires sound { IsTrue sound → IsPlain text.now }
     requires end { start + length text.now < 2 ^ 32 }
     requires few { number ≤ most_commands }
-    ensures found { IfOk result (IsCommandAt text.now start number line) }
+    requires some_shards { 1 ≤ shards }
+    requires most_shards { shards ≤ most_shards }
+    ensures found { IfOk result (λ found. IsCommandAt text.now start number line found.0) }
+    ensures route { IfOk result (λ found. IsRouteAt shards text.now start found.0 found.1) }
     ensures refused { IfErr result (λ cause. line_reading (number, (line, text.now)) ≡ Err (AtLine line cause)) }
 {
     let found = fields_of(text, sound)?;
-    Ok(Command {
+    let command = Command {
         number,
         line,
         kind: found.kind,
@@ -89,22 +96,29 @@ fn command_at(
             len: found.value.len() as u32,
         },
         count: found.count,
-    })
+    };
+    Ok((command, Route::new(found.kind, found.key, shards)))
 }
 
-/// Adds the command on a line that begins at `start` of the trace, or passes it over.
+/// Adds the command on a line that begins at `start` of the trace, and its route, or passes the line over.
+#[tactic(auto, using(crate::proofs::Routes::adds_route))]
 fn add_line(
     commands: &mut CommandList,
+    routes: &mut Vec<Route>,
     text: &[u8],
     sound: bool,
     start: usize,
     line: u32,
+    shards: u32,
 ) -> Result<(), ParseRefusal>
     requires sound { IsTrue sound → IsPlain text.now }
     requires end { start + length text.now < 2 ^ 32 }
     requires few { length commands.old ≤ most_commands }
+    requires some_shards { 1 ≤ shards }
+    requires most_shards { shards ≤ most_shards }
     ensures added { OnOk result (AddsLine text.now start line commands.old commands.new) }
     ensures few { OnOk result (length commands.new ≤ most_commands) }
+    ensures route { OnOk result (AddsRoute shards text.now start commands.old routes.old.items commands.new routes.new.items) }
     ensures refused { IfErr result (λ refusal. RefusesLine refusal text.now (length commands.old + 1) line) }
 {
     if is_passed(text) {
@@ -116,32 +130,41 @@ fn add_line(
             cause: Cause::TooManyCommands,
         });
     }
-    match command_at(text, sound, start, commands.len() as u32 + 1, line) {
-        Ok(command) => {
+    match command_at(text, sound, start, commands.len() as u32 + 1, line, shards) {
+        Ok((command, route)) => {
             commands.push(command)?;
+            routes.push(route)?;
             Ok(())
         }
         Err(cause) => Err(ParseRefusal::Trace { line, cause }),
     }
 }
 
-/// The commands that the bytes spell.
-fn commands_of(alloc: Global, bytes: &[u8]) -> Result<CommandList, ParseRefusal>
-    requires { length bytes.now ≤ most_trace_bytes }
-    ensures read { IfOk result (λ commands. AreSpelled bytes.now commands) }
+/// The commands that the bytes spell, and where each of them goes.
+fn commands_of(
+    alloc: Global,
+    bytes: &[u8],
+    shards: u32,
+) -> Result<(CommandList, Vec<Route>), ParseRefusal>
+    requires short { length bytes.now ≤ most_trace_bytes }
+    requires some_shards { 1 ≤ shards }
+    requires most_shards { shards ≤ most_shards }
+    ensures read { IfOk result (λ read. AreSpelled bytes.now read.0) }
+    ensures routes { IfOk result (λ read. read.1.items ≡ routes shards (operations bytes.now read.0)) }
     ensures refused { IfErr result (λ refusal. IsRefusedAs refusal (operations_of 1 (command_lines 1 (lines bytes.now)))) }
 {
     let mut commands = CommandList::new(alloc);
+    let mut routes = Vec::new(alloc);
     let mut rest = bytes;
     let mut line = 1u32;
     while !rest.is_empty() {
         let start = bytes.len() - rest.len();
         let (text, after, sound) = cut_line(rest);
-        add_line(&mut commands, text, sound, start, line)?;
+        add_line(&mut commands, &mut routes, text, sound, start, line, shards)?;
         rest = after;
         line += 1;
     }
-    Ok(commands)
+    Ok((commands, routes))
 }
 
 /// Reads a trace of at most [`MOST_TRACE_BYTES`] bytes for a run with `shards` shards, 1 to 16.
@@ -164,7 +187,7 @@ pub fn parse(alloc: Global, bytes: Vec<u8>, shards: u32) -> Result<Trace, ParseR
     ensures read { IfOk result (λ trace. trace_of bytes.items shards ≡ Ok (trace_in trace)) }
     ensures refused { IfErr result (λ refusal. IsRefusedAs refusal (trace_of bytes.items shards)) }
 {
-    let commands = commands_of(alloc, bytes.as_slice())?;
+    let (commands, routes) = commands_of(alloc, bytes.as_slice(), shards)?;
     if replies_room(&commands, shards) > MOST_REPLIES {
         return Err(ParseRefusal::Trace {
             line: 0,
@@ -175,5 +198,6 @@ pub fn parse(alloc: Global, bytes: Vec<u8>, shards: u32) -> Result<Trace, ParseR
         bytes,
         commands,
         shards,
+        routes,
     })
 }

@@ -1,13 +1,15 @@
 //! A trace that was read.
-ghost use Rattle.std.specs.Prelude.{◌≡◌, ◌≤◌, length, All, Ok, Contains};
+ghost use Rattle.std.specs.Prelude.{◌≡◌, ◌<◌, ◌≤◌, length, slice_index_or, All, Ok, Contains};
 ghost use Rattle.layout.specs.Sizes.{greatest_key, greatest_value};
-ghost use Rattle.trace_text.specs.Operation.{part};
+ghost use Rattle.trace_text.specs.Operation.{Operation, part};
 ghost use Rattle.trace_text.specs.Parsed.{trace_in, AreNumbered, IsWellFormed, LiesWithin};
-ghost use Rattle.trace_text.specs.Parts.{most_shards, replies_room};
+ghost use Rattle.trace_text.specs.Parts.{has_part, is_scan, most_shards, owner, replies_room};
 ghost use Rattle.trace_text.specs.Reading.{most_commands, most_replies, trace_of};
+ghost use Rattle.trace_text.specs.inside.Routes.{route, routes};
 
 use crate::command::Command;
 use crate::command_list::CommandList;
+use crate::route::Route;
 use std::marker::Model;
 
 /// The commands of a trace, with its bytes. Contracts see the bytes, the commands, and the number of
@@ -17,16 +19,19 @@ pub struct Trace {
     pub(crate) bytes: Vec<u8>,
     pub(crate) commands: CommandList,
     pub(crate) shards: u32,
+    // One for each command.
+    pub(crate) routes: Vec<Route>,
 }
 
 impl Model for Trace {
-    ghost use Rattle.trace_text.specs.Parsed.{Parsed, IsConsistent};
+    ghost use Rattle.trace_text.specs.Parsed.{Parsed};
+    ghost use Rattle.trace_text.specs.inside.Routes.{IsRouted};
 
     ghost Value = { Parsed };
 
     ghost view = { λ t. record { bytes = t.bytes.items; commands = t.commands; shards = t.shards } };
 
-    ghost invariant = { λ t. IsConsistent (record { bytes = t.bytes.items; commands = t.commands; shards = t.shards }) };
+    ghost invariant = { λ t. IsRouted (record { bytes = t.bytes.items; commands = t.commands; shards = t.shards }) t.routes.items };
 }
 
 impl Trace {
@@ -69,5 +74,46 @@ impl Trace {
     {
         let start = command.value.start as usize;
         &self.bytes[start..start + command.value.len as usize]
+    }
+
+    /// Where the commands go, in order.
+    pub(crate) fn routes(&self) -> &[Route]
+        ensures { result.now ≡ routes self.now.shards (trace_in self.now).operations }
+    {
+        self.routes.as_slice()
+    }
+
+    /// Where the command at this place goes.
+    fn route(&self, at: usize) -> Route
+        requires { at < length self.now.commands }
+        ensures value { (d : Operation) → result ≡ route self.now.shards (slice_index_or (trace_in self.now).operations at d) }
+        ensures below { result.owner < self.now.shards }
+    {
+        self.routes[at]
+    }
+
+    /// The owner of the key of the command at this place, counted from 0. No key is looked at.
+    pub fn owner(&self, at: usize) -> u32
+        requires { at < length self.now.commands }
+        ensures value { (d : Operation) → result ≡ owner (slice_index_or (trace_in self.now).operations at d).key self.now.shards }
+        ensures below { result < self.now.shards }
+    {
+        u32::from(self.route(at).owner)
+    }
+
+    /// Whether the command at this place is a scan, of which each shard does a part.
+    pub fn is_scan(&self, at: usize) -> bool
+        requires { at < length self.now.commands }
+        ensures { (d : Operation) → result ≡ is_scan (slice_index_or (trace_in self.now).operations at d).kind }
+    {
+        self.route(at).kind.is_scan()
+    }
+
+    /// Whether the shard does a part of the command at this place. No key is looked at.
+    pub fn has_part(&self, at: usize, shard: u32) -> bool
+        requires { at < length self.now.commands }
+        ensures { (d : Operation) → result ≡ has_part self.now.shards shard (slice_index_or (trace_in self.now).operations at d) }
+    {
+        self.route(at).has_part(shard)
     }
 }

@@ -6,7 +6,8 @@ use base.Fml.{Fml, ftrue, fsep}
 use denote.Builtin.{u8}
 use denote.Array.{Array}
 use denote.Memory.{part_at}
-use denote.RawPtr.{Ptr, block_ptr, coded_ptr, lies_at, block_of, count_of}
+use denote.RawPtr.{Ptr, block_ptr, coded_ptr, lies_at, room_for, block_of, count_of}
+use mir.Syntax.{w8, ty_int, ty_array}
 use Rattle.layout.specs.Extents.{Extent}
 use Rattle.raw_range.specs.inside.Covered.{is_allocated}
 
@@ -30,6 +31,10 @@ IsPlaced p = p ≡ block_ptr (block_of p) (count_of p)
 -- the bytes xs lie at p
 abbrev pub run_owns : Ptr → List ℕ → Fml
 run_owns p xs = lies_at (Array u8 (length xs)) full_share p xs
+
+-- the n bytes at p, whatever they hold, if they hold anything
+abbrev pub room_owns : Ptr → ℕ → Fml
+room_owns p n = room_for (ty_array (ty_int w8) n) p
 
 -- the byte x at b, o, unless it is allocated
 abbrev pub byte_owns : Bool → ℕ → ℕ → ℕ → Fml

@@ -27,12 +27,12 @@ pub record IsMadeOf (shard pages standing : ℕ) (memory : MemoryState) (region 
   pub blocks : memory.blocks ≡ []
   pub most : (shape region).most ≡ pages / segment_pages
   pub holds : HoldsAll memory region
-  pub guards : guards_of region ≡ standing
+  pub guards : guards_of region 0 ≡ standing
 
 -- besides, a segment is active, and one is free
 pub record IsConsistent (shard pages standing : ℕ) (memory : MemoryState) (region : RegionState) : Type 0 where
   pub made : IsMadeOf shard pages standing memory region
-  pub active : IsSome (active_of region)
+  pub active : IsSome (active_of region 0)
   pub free : 1 ≤ free_count region
 
 -- what callers see of both
@@ -53,4 +53,4 @@ space_of memory cache = record {
 
 -- so they are, for the shard that it is, with the guards that stand
 abbrev pub IsWhole : MemoryState → CacheState → Type 0
-IsWhole memory cache = IsConsistent memory.owner memory.pages (guards_of cache.region) memory cache.region
+IsWhole memory cache = IsConsistent memory.owner memory.pages (guards_of cache.region 0) memory cache.region

@@ -102,16 +102,18 @@ impl<'f> Space<'f> {
 
     /// One guard more. While one stands, what stands at a place stays there. Guards nest.
     pub fn guard(&mut self)
-        requires { guards_of self.old.region < 1000000 }
-        ensures { self.new ≡ with_guards self.old (guards_of self.old.region + 1) }
+        requires { guards_of self.old.region 0 < 1000000 }
+        ensures guards { self.new ≡ with_guards self.old (guards_of self.old.region 0 + 1) }
+        ensures count { guards_of self.new.region 0 ≡ guards_of self.old.region 0 + 1 }
     {
         self.cache.guard();
     }
 
     /// One guard less.
     pub fn unguard(&mut self)
-        requires { 1 ≤ guards_of self.old.region }
-        ensures { self.new ≡ with_guards self.old (guards_of self.old.region - 1) }
+        requires { 1 ≤ guards_of self.old.region 0 }
+        ensures guards { self.new ≡ with_guards self.old (guards_of self.old.region 0 - 1) }
+        ensures count { guards_of self.new.region 0 + 1 ≡ guards_of self.old.region 0 }
     {
         self.cache.unguard();
     }
@@ -128,7 +130,7 @@ impl<'f> Space<'f> {
     /// The value of the row at a place, live, or dead under a guard.
     pub fn value_at(&self, place: Place) -> &[u8]
         requires row { (row : Row) × StandsAt self.now.region place row }
-        requires live { IsSome (live_at self.now.region place) ⊎ (1 ≤ guards_of self.now.region) }
+        requires live { IsSome (live_at self.now.region place) ⊎ (1 ≤ guards_of self.now.region 0) }
         ensures { (row : Row) × StandsAt self.now.region place row × (result.now ≡ row.value) }
     {
         self.cache.value_at(place)

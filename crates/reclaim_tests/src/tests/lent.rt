@@ -39,7 +39,7 @@ fn lend_often(space: &mut Space<'_>, times: u32) -> bool
 
 // Whether the row of a key has this value at its place when so many blocks were lent and taken back.
 fn keeps(space: &mut Space<'_>, key: &[u8], value: &[u8], blocks: u32) -> bool
-    requires guarded { 1 ≤ guards_of space.old.region }
+    requires guarded { 1 ≤ guards_of space.old.region 0 }
     ensures same { IsSameSpace space.old space.new }
 {
     let Some(place) = space.place_of(key) else {

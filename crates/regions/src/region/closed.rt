@@ -1,35 +1,41 @@
 //! What compaction reads of closed segments, and how one becomes free.
-ghost use Rattle.std.specs.Prelude.{◌≡◌, ◌≢◌, ◌⊎◌, ℕ, ◌+◌, ◌-◌, ◌<◌, ◌≤◌, length, slice_index, true, Some, None, option_map, slice_set, IfSome, IsNone};
+ghost use Rattle.std.specs.Prelude.{◌≡◌, ◌≢◌, ◌⊎◌, ℕ, ◌+◌, ◌<◌, ◌≤◌, length, slice_index, true, Some, None, option_map, slice_set, IfSome, IsNone};
 ghost use Rattle.regions.specs.declared.place.Place.{Place};
 ghost use Rattle.layout.specs.Sizes as sizes;
 ghost use Rattle.object_log.specs.Objects.{IsSize, IsSegment};
 ghost use Rattle.regions.specs.Segments.{SegmentState, segment_at, with_segment, emptied};
-ghost use Rattle.regions.specs.Shapes.{shape, active_of, guards_of, pieces, is_closed, held_count, free_count, freed, IsHeld, IsFree, IsClosed};
+ghost use Rattle.regions.specs.Shapes.{shape, active_of, group_of, guards_at, pieces, is_closed, held_count, free_count, freed, HasGroup, IsHeld, IsFree, IsClosed, IsClosedIn};
 ghost use Rattle.regions.specs.Counts.{used_counts, live_counts, used_at, live_bytes_at, left, used_total, live_total};
 ghost use Rattle.regions.specs.Contents.{standing_at, live_at, dead, IsStart, NoneLives, IsLiveAt};
 ghost use Rattle.regions.specs.inside.Consistent.{not_closed};
 
 use super::Region;
-use crate::live_table::{LiveTable, NOT_CLOSED};
-use crate::slots::{clear, is_begun, segment_in};
+use crate::group::Group;
+use crate::slots::{clear, group_begun, group_in, segment_in};
 use number_set::NumberSet;
 
 impl Region {
     /// Whether a closed segment has the number.
     pub fn is_closed(&self, segment: u32) -> bool
-        ensures { result ≡ is_closed (active_of self.now) (shape self.now).slots segment }
+        ensures { result ≡ is_closed (shape self.now).groups (shape self.now).slots segment }
     {
-        segment < self.most
-            && self.active != Some(segment)
-            && is_begun(&self.slots[segment as usize])
+        if segment >= self.most {
+            return false;
+        }
+        match group_in(&self.slots[segment as usize]) {
+            Some(group) => !self.groups[group as usize].is_active(segment),
+            None => false,
+        }
     }
 
-    /// The number of the active segment, which is held.
-    pub fn active(&self) -> Option<u32>
-        ensures active { result ≡ active_of self.now }
+    /// The number of the group's active segment, which is held and of the group.
+    pub fn active(&self, group: u32) -> Option<u32>
+        requires { HasGroup self.now group }
+        ensures active { result ≡ active_of self.now group }
         ensures held { IfSome result (IsHeld self.now) }
+        ensures group { IfSome result (λ n. group_of self.now n ≡ Some group) }
     {
-        self.active
+        self.groups[group as usize].active()
     }
 
     /// The bytes of a closed segment.
@@ -79,29 +85,33 @@ impl Region {
         segment_in(&self.slots[segment as usize]).next_live(from)
     }
 
-    /// How many closed segments are sparse. Where none is, each of them is dense.
-    pub fn sparse_segments(&self) -> u32
-        ensures none { result ≡ 0 → (n : ℕ) → IsClosed self.now n → sizes.dense < live_bytes_at self.now n }
-        ensures some { result ≢ 0 → (n : ℕ) × IsClosed self.now n × (live_bytes_at self.now n ≤ sizes.dense) }
+    /// How many closed segments of the group are sparse. Where none is, each of them is dense.
+    pub fn sparse_segments(&self, group: u32) -> u32
+        requires { HasGroup self.now group }
+        ensures none { result ≡ 0 → (n : ℕ) → IsClosedIn self.now group n → sizes.dense < live_bytes_at self.now n }
+        ensures some { result ≢ 0 → (n : ℕ) × IsClosedIn self.now group n × (live_bytes_at self.now n ≤ sizes.dense) }
     {
-        self.table.sparse()
+        self.groups[group as usize].sparse()
     }
 
-    /// The live bytes of each closed segment, by number, and `u32::MAX` for each other number.
-    pub fn closed_live(&self) -> &[u32]
+    /// The live bytes of each closed segment of the group, by number, and `u32::MAX` for each other number.
+    pub fn closed_live(&self, group: u32) -> &[u32]
+        requires { HasGroup self.now group }
         ensures length { length result.now ≡ (shape self.now).most }
-        ensures closed { (n : ℕ) → IsClosed self.now n
+        ensures closed { (n : ℕ) → IsClosedIn self.now group n
             → (n < (shape self.now).most) × (slice_index result.now n ≡ live_bytes_at self.now n) }
-        ensures others { (n : ℕ) → n < (shape self.now).most → ¬ IsClosed self.now n → slice_index result.now n ≡ not_closed }
+        ensures others { (n : ℕ) → n < (shape self.now).most → ¬ IsClosedIn self.now group n
+            → slice_index result.now n ≡ not_closed }
     {
-        self.table.bytes()
+        self.groups[group as usize].closed_live()
     }
 
-    /// Makes a closed segment free, in which no object is live. It was full, so more than a dense segment's bytes are gained.
+    /// Makes a closed segment free, in which no object is live. Its group has no guard. It was full, so more than a dense
+    /// segment's bytes are gained.
     pub fn free_closed(&mut self, segment: u32)
         requires closed { IsClosed self.old segment }
         requires dead { live_bytes_at self.old segment ≡ 0 }
-        requires guards { guards_of self.old ≡ 0 }
+        requires guards { guards_at self.old segment ≡ 0 }
 
         // The segment is free, and its bytes are gained.
         ensures freed { self.new ≡ with_segment self.old segment (option_map emptied (segment_at self.old segment)) }
@@ -109,11 +119,12 @@ impl Region {
         ensures shape { shape self.new ≡ freed segment (shape self.old) }
         ensures is_free { IsFree self.new segment }
 
-        // The others stay as they are, and each live object.
-        ensures closed { (n : ℕ) → n ≢ segment → IsClosed self.old n → IsClosed self.new n }
+        // The others stay as they are, and each live object; under a guard of its group each dead one too.
+        ensures closed { (g n : ℕ) → n ≢ segment → IsClosedIn self.old g n → IsClosedIn self.new g n }
         ensures store { (p : Place) → live_at self.new p ≡ live_at self.old p }
+        ensures stay { (p : Place) → 1 ≤ guards_at self.old p.segment → standing_at self.new p ≡ standing_at self.old p }
         ensures pieces { pieces self.new ≡ pieces self.old }
-        ensures left { left self.new ≡ left self.old }
+        ensures left { (g : ℕ) → left self.new g ≡ left self.old g }
 
         // Counted: one free segment more, and its bytes are not used.
         ensures held { held_count self.new ≡ held_count self.old }
@@ -123,18 +134,19 @@ impl Region {
         ensures used_total { used_total self.new + used_at self.old segment ≡ used_total self.old }
         ensures live_total { live_total self.new ≡ live_total self.old }
     {
+        let group = group_begun(&self.slots[segment as usize]);
         clear(&mut self.slots[segment as usize]);
-        unclose(&mut self.table, &mut self.free, segment);
+        unclose(&mut self.groups[group as usize], &mut self.free, segment);
     }
 }
 
-// A closed segment is free from now on.
-fn unclose(table: &mut LiveTable, free: &mut NumberSet, number: u32)
-    requires table { number < length table.old }
+// A closed segment of the group is free from now on.
+fn unclose(group: &mut Group, free: &mut NumberSet, number: u32)
+    requires table { number < length group.old.table }
     requires free { number < length free.old }
-    ensures table { table.new ≡ slice_set table.old number not_closed }
+    ensures group { group.new ≡ record group.old { table = slice_set group.old.table number not_closed } }
     ensures free { free.new ≡ slice_set free.old number true }
 {
-    table.set(number, NOT_CLOSED);
+    group.free(number);
     free.insert(number);
 }

@@ -62,3 +62,10 @@ pub record LinksBefore (a b : Option Place) (before after : Live) : Type 0 where
   pub here : (p : Place) → b ≡ Some p → newer_at after p ≡ link_to a
   pub others : (p : Place) → b ≢ Some p → newer_at after p ≡ newer_at before p
   pub older : (p : Place) → older_at after p ≡ older_at before p
+
+-- the row at a place has links to these two, of which each may be none, and no link of another row is another
+pub record SetsLinks (p : Place) (a b : Option Place) (before after : Live) : Type 0 where
+  pub newer : newer_at after p ≡ link_to a
+  pub older : older_at after p ≡ link_to b
+  pub newer_others : (q : Place) → q ≢ p → newer_at after q ≡ newer_at before q
+  pub older_others : (q : Place) → q ≢ p → older_at after q ≡ older_at before q

@@ -2,6 +2,7 @@
 use Rattle.std.specs.Prelude.{◌≡◌, ℕ, List}
 use Rattle.cache_model.specs.Row.{Row, live}
 use Rattle.regions.specs.Segments.{RegionState}
+use Rattle.regions.specs.Shapes.{group_count}
 use Rattle.regions.specs.Counts.{live_total}
 use Rattle.regions.specs.Contents.{live_at}
 use Rattle.row_cache.specs.Rows.{rows_at}
@@ -21,7 +22,12 @@ pub record IsCounted (t : TableState) (r : RegionState) (bytes : ℕ) : Type 0 w
   pub counted : bytes ≡ live_total r
   pub sizes : live (rows_in t r) ≡ live_total r
 
+-- all segments that are not free are of one group, number 0
+abbrev pub HasOneGroup : RegionState → Type 0
+HasOneGroup r = group_count r ≡ 1
+
 -- besides, the rows of the tables are linked in the order of their use, each of them once
 pub record IsConsistent (t : TableState) (r : RegionState) (bytes : ℕ) : Type 0 where
+  pub one : HasOneGroup r
   pub counted : IsCounted t r bytes
   pub chain : IsLinked t (live_at r)

@@ -7,7 +7,7 @@ use Rattle.row_cache.specs.Links.{place_of_link}
 
 -- a row without its links
 abbrev pub bare : Item → Item
-bare item = record { kind = item.kind; content = without_links item.content }
+bare item = record item { content = without_links item.content }
 
 -- the place to which a link leads, in front of others
 abbrev pub leads_to : ℕ → List Place → List Place

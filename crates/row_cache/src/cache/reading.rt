@@ -2,10 +2,10 @@
 ghost use Rattle.std.specs.Prelude.{◌≡◌, ◌⊎◌, ◌+◌, ◌*◌, ◌≤◌, ℕ, List, length, take, Some, None, IsSome, IfSome, MatchOption};
 ghost use Rattle.cache_model.specs.Row.{Row, live};
 ghost use Rattle.cache_model.specs.Apply as apply;
-ghost use Rattle.regions.specs.Shapes.{guards_of, free_count};
+ghost use Rattle.regions.specs.Shapes.{group_count, guards_of, free_count};
 ghost use Rattle.regions.specs.Counts.{left, live_total};
 ghost use Rattle.regions.specs.Contents.{live_at};
-ghost use Rattle.row_cache.specs.Rows.{rows_of, StandsAt};
+ghost use Rattle.row_cache.specs.Rows.{rows_of, StandsAt, IsLinkedThrough, AreMetOnce};
 
 use super::RowCache;
 use regions::Place;
@@ -16,6 +16,9 @@ impl RowCache {
     pub fn facts(&self)
         ensures live { live (rows_of self.now) ≡ live_total self.now.region }
         ensures room { length (rows_of self.now) ≤ self.now.room }
+        ensures linked { IsLinkedThrough self.now }
+        ensures met { AreMetOnce self.now }
+        ensures groups { group_count self.now.region ≡ 1 }
     {
         let _ = &self.region;
     }
@@ -59,9 +62,10 @@ impl RowCache {
     /// The value of the row at a place, live, or dead under a guard.
     pub fn value_at(&self, place: Place) -> &[u8]
         requires row { (row : Row) × StandsAt self.now.region place row }
-        requires live { IsSome (live_at self.now.region place) ⊎ (1 ≤ guards_of self.now.region) }
+        requires live { IsSome (live_at self.now.region place) ⊎ (1 ≤ guards_of self.now.region 0) }
         ensures { (row : Row) × StandsAt self.now.region place row × (result.now ≡ row.value) }
     {
+        self.region.facts();
         value_in(self.region.bytes(place))
     }
 
@@ -74,15 +78,15 @@ impl RowCache {
 
     /// The bytes that the active segment has left, or 0 where there is none.
     pub fn left(&self) -> u32
-        ensures { result ≡ left self.now.region }
+        ensures { result ≡ left self.now.region 0 }
     {
-        self.region.left()
+        self.region.left(0)
     }
 
     /// How many guards stand.
     pub fn guards(&self) -> u32
-        ensures { result ≡ guards_of self.now.region }
+        ensures { result ≡ guards_of self.now.region 0 }
     {
-        self.region.guards()
+        self.region.guards(0)
     }
 }

@@ -1,7 +1,7 @@
 //! The segments of a cache: the region's calls, which leave its rows as they are.
 ghost use Rattle.std.specs.Prelude.{◌≡◌, ◌↔◌, ◌⊎◌, ◌+◌, ◌-◌, ◌<◌, ◌≤◌, ℕ, [], length, slice_get, slice_set, Some, None, IfSome, IsNone, IsSome};
 ghost use Rattle.layout.specs.Sizes as sizes;
-ghost use Rattle.regions.specs.Segments.{segment_at, with_segment, fresh, all_emptied};
+ghost use Rattle.regions.specs.Segments.{segment_at, with_segment, with_guards, fresh, all_emptied};
 ghost use Rattle.regions.specs.Shapes.{identity, shape, active_of, guards_of, pieces, held_count, free_count, activated, IsLeastFree, IsGreatestFree, IsGreatestHeld, IsLeastUnused};
 ghost use Rattle.regions.specs.Counts.{left};
 ghost use Rattle.compaction.specs.Sparse.{IsCompacted};
@@ -47,18 +47,19 @@ impl RowCache {
     /// Closes the active segment, and makes the free one with the least number active.
     pub fn next_active(&mut self)
         requires free { (2 ≤ free_count self.old.region)
-            ⊎ ((1 ≤ free_count self.old.region) × (active_of self.old.region ≡ None)) }
-        requires full { IsSome (active_of self.old.region) → left self.old.region < sizes.greatest_object }
+            ⊎ ((1 ≤ free_count self.old.region) × (active_of self.old.region 0 ≡ None)) }
+        requires full { IsSome (active_of self.old.region 0) → left self.old.region 0 < sizes.greatest_object }
         ensures rows { rows_of self.new ≡ rows_of self.old }
         ensures room { self.new.room ≡ self.old.room }
-        ensures activated { (n : ℕ) × IsLeastFree self.old.region n × (shape self.new.region ≡ activated n (shape self.old.region)) }
-        ensures left { left self.new.region ≡ sizes.segment }
+        ensures activated { (n : ℕ) × IsLeastFree self.old.region n
+            × (shape self.new.region ≡ activated 0 n (shape self.old.region)) }
+        ensures left { left self.new.region 0 ≡ sizes.segment }
         ensures pieces { pieces self.new.region ≡ pieces self.old.region }
         ensures held { held_count self.new.region ≡ held_count self.old.region }
         ensures free { free_count self.new.region + 1 ≡ free_count self.old.region }
         ensures stay { Stay self.old.region self.new.region }
     {
-        self.region.next_active();
+        self.region.next_active(0);
     }
 
     /// Empties segments into the active one until two are free, or no closed one is sparse.
@@ -66,7 +67,7 @@ impl RowCache {
         requires { 1 ≤ free_count self.old.region }
         ensures rows { rows_of self.new ≡ rows_of self.old }
         ensures room { self.new.room ≡ self.old.room }
-        ensures guarded { result ≡ Compacted.Guarded ↔ 1 ≤ guards_of self.old.region }
+        ensures guarded { result ≡ Compacted.Guarded ↔ 1 ≤ guards_of self.old.region 0 }
         ensures unchanged { result ≡ Compacted.Guarded → self.new ≡ self.old }
         ensures freed { result ≡ Compacted.Freed → 2 ≤ free_count self.new.region }
         ensures none { result ≡ Compacted.NoneSparse → IsCompacted self.new.region }
@@ -79,30 +80,32 @@ impl RowCache {
 
     /// One guard more. While one stands, no row is moved and no byte of a row that went is used again. Guards nest.
     pub fn guard(&mut self)
-        requires { guards_of self.old.region < 1000000 }
+        requires { guards_of self.old.region 0 < 1000000 }
         ensures rows { rows_of self.new ≡ rows_of self.old }
         ensures room { self.new.room ≡ self.old.room }
-        ensures guards { self.new.region ≡ record self.old.region { guards = guards_of self.old.region + 1 } }
+        ensures guards { self.new.region ≡ with_guards self.old.region 0 (guards_of self.old.region 0 + 1) }
+        ensures count { guards_of self.new.region 0 ≡ guards_of self.old.region 0 + 1 }
         ensures stay { Stay self.old.region self.new.region }
     {
-        self.region.guard();
+        self.region.guard(0);
     }
 
     /// One guard less.
     pub fn unguard(&mut self)
-        requires { 1 ≤ guards_of self.old.region }
+        requires { 1 ≤ guards_of self.old.region 0 }
         ensures rows { rows_of self.new ≡ rows_of self.old }
         ensures room { self.new.room ≡ self.old.room }
-        ensures guards { self.new.region ≡ record self.old.region { guards = guards_of self.old.region - 1 } }
+        ensures guards { self.new.region ≡ with_guards self.old.region 0 (guards_of self.old.region 0 - 1) }
+        ensures count { guards_of self.new.region 0 + 1 ≡ guards_of self.old.region 0 }
         ensures stay { Stay self.old.region self.new.region }
     {
-        self.region.unguard();
+        self.region.unguard(0);
     }
 
     /// Removes all rows, makes every segment free, and takes the one with the greatest number out. None where no segment
     /// is held.
     pub fn give_up(&mut self) -> Option<Piece>
-        requires { guards_of self.old.region ≡ 0 }
+        requires { guards_of self.old.region 0 ≡ 0 }
         ensures none { IsNone result ↔ held_count self.old.region ≡ 0 }
         ensures rows { rows_of self.new ≡ [] }
         ensures room { self.new.room ≡ self.old.room }
@@ -112,9 +115,10 @@ impl RowCache {
         ensures held { IsSome result → held_count self.new.region + 1 ≡ held_count self.old.region }
         ensures free { free_count self.new.region ≡ held_count self.new.region }
         ensures most { (shape self.new.region).most ≡ (shape self.old.region).most }
-        ensures guards { guards_of self.new.region ≡ 0 }
+        ensures guards { guards_of self.new.region 0 ≡ 0 }
     {
-        while self.evict_last().is_some() {}
+        self.tables.clear();
+        self.live = 0;
         self.region.give_up()
     }
 }

@@ -12,7 +12,7 @@ ghost use Rattle.regions.specs.Contents.{Item, live_at, size_of};
 ghost use Rattle.row_cache.specs.Links.{HasRoom};
 ghost use Rattle.row_cache.specs.Rows.{key_at, reply_of, Stay};
 ghost use Rattle.row_cache.specs.inside.Tables.{Drops, HoldsARow, IsListed, PlacesRow, SwapsRow};
-ghost use Rattle.row_cache.specs.inside.Consistent.{IsConsistent, rows_in, rows_with};
+ghost use Rattle.row_cache.specs.inside.Consistent.{HasOneGroup, IsConsistent, rows_in, rows_with};
 ghost use Rattle.row_cache.specs.inside.NewRows.{row_of, IsStored};
 
 use crate::links::segment_fits;
@@ -49,10 +49,10 @@ pub(super) fn put_row(
 ) -> Result<Put, NeedSegment>
     requires consistent { IsConsistent tables.old region.old live.old }
     requires row { IsStored row }
-    requires active { IsSome (active_of region.old) }
+    requires active { IsSome (active_of region.old 0) }
     requires room { (apply.has row.key.now (rows_in tables.old region.old) ≡ true)
         ⊎ (length (rows_in tables.old region.old) < tables.old.room) }
-    ensures full { IsErr result ↔ left region.old < size row.entry.key.now row.entry.value.now }
+    ensures full { IsErr result ↔ left region.old 0 < size row.entry.key.now row.entry.value.now }
     ensures unchanged { IfErr result (λ _. (region.new ≡ region.old) × (tables.new ≡ tables.old) × (live.new ≡ live.old)) }
     ensures consistent { IsConsistent tables.new region.new live.new }
     ensures rows { IfOk result (λ _. rows_in tables.new region.new ≡
@@ -61,7 +61,7 @@ pub(super) fn put_row(
         (rows_in tables.old region.old)).1) }
     ensures room { tables.new.room ≡ tables.old.room }
     ensures shape { shape region.new ≡ shape region.old }
-    ensures left { IfOk result (λ _. left region.new + size row.entry.key.now row.entry.value.now ≡ left region.old) }
+    ensures left { IfOk result (λ _. left region.new 0 + size row.entry.key.now row.entry.value.now ≡ left region.old 0) }
     ensures stay { Stay region.old region.new }
 {
     match tables.search(region, row.key) {
@@ -86,17 +86,17 @@ fn store_row(
 ) -> Result<(), NeedSegment>
     requires consistent { IsConsistent tables.old region.old live.old }
     requires row { IsStored row }
-    requires active { IsSome (active_of region.old) }
+    requires active { IsSome (active_of region.old 0) }
     requires at { IsSpotFor row.key.now at }
     requires absent { (n : ℕ) → IsListed tables.old n → key_at (live_at region.old) tables.old.places n ≢ row.key.now }
     requires room { length tables.old.recency < tables.old.room }
-    ensures full { IsErr result ↔ left region.old < size row.entry.key.now row.entry.value.now }
+    ensures full { IsErr result ↔ left region.old 0 < size row.entry.key.now row.entry.value.now }
     ensures unchanged { IfErr result (λ _. (region.new ≡ region.old) × (tables.new ≡ tables.old) × (live.new ≡ live.old)) }
     ensures consistent { IsConsistent tables.new region.new live.new }
     ensures rows { IfOk result (λ _. rows_in tables.new region.new ≡ row_of row.entry ∷ rows_in tables.old region.old) }
     ensures room { tables.new.room ≡ tables.old.room }
     ensures shape { shape region.new ≡ shape region.old }
-    ensures left { IfOk result (λ _. left region.new + size row.entry.key.now row.entry.value.now ≡ left region.old) }
+    ensures left { IfOk result (λ _. left region.new 0 + size row.entry.key.now row.entry.value.now ≡ left region.old 0) }
     ensures stay { Stay region.old region.new }
 {
     let place = place_row(region, tables.next_number(), row)?;
@@ -115,21 +115,21 @@ fn replace_row(
 ) -> Result<(), NeedSegment>
     requires consistent { IsConsistent tables.old region.old live.old }
     requires row { IsStored row }
-    requires active { IsSome (active_of region.old) }
+    requires active { IsSome (active_of region.old 0) }
     requires listed { IsListed tables.old number }
     requires key { key_at (live_at region.old) tables.old.places number ≡ row.key.now }
-    ensures full { IsErr result ↔ left region.old < size row.entry.key.now row.entry.value.now }
+    ensures full { IsErr result ↔ left region.old 0 < size row.entry.key.now row.entry.value.now }
     ensures unchanged { IfErr result (λ _. (region.new ≡ region.old) × (tables.new ≡ tables.old) × (live.new ≡ live.old)) }
     ensures consistent { IsConsistent tables.new region.new live.new }
     ensures rows { IfOk result (λ _. rows_in tables.new region.new ≡ row_of row.entry ∷ rows_with tables.old region.old
         (delete number tables.old.recency)) }
     ensures room { tables.new.room ≡ tables.old.room }
     ensures shape { shape region.new ≡ shape region.old }
-    ensures left { IfOk result (λ _. left region.new + size row.entry.key.now row.entry.value.now ≡ left region.old) }
+    ensures left { IfOk result (λ _. left region.new 0 + size row.entry.key.now row.entry.value.now ≡ left region.old 0) }
     ensures stay { Stay region.old region.new }
 {
     let size = row_size(row.key, row.value);
-    if region.left() < size {
+    if region.left(0) < size {
         return Err(NeedSegment);
     }
     tables.unlink(region, number);
@@ -150,7 +150,7 @@ pub(super) fn drop_row(region: &mut Region, tables: &mut Tables, live: &mut u64,
     ensures rows { rows_in tables.new region.new ≡ rows_with tables.old region.old (delete found.row tables.old.recency) }
     ensures room { tables.new.room ≡ tables.old.room }
     ensures shape { shape region.new ≡ shape region.old }
-    ensures left { left region.new ≡ left region.old }
+    ensures left { left region.new 0 ≡ left region.old 0 }
     ensures stay { Stay region.old region.new }
 {
     let standing = tables.standing(region, found);
@@ -170,9 +170,10 @@ fn swap_row(
     old: Place,
 ) -> Result<(Place, u32), NeedSegment>
     requires row { IsStored row }
-    requires active { IsSome (active_of region.old) }
+    requires one { HasOneGroup region.old }
+    requires active { IsSome (active_of region.old 0) }
     requires old { HoldsARow (live_at region.old old) }
-    ensures full { IsErr result ↔ left region.old < size row.entry.key.now row.entry.value.now }
+    ensures full { IsErr result ↔ left region.old 0 < size row.entry.key.now row.entry.value.now }
     ensures unchanged { IfErr result (λ _. region.new ≡ region.old) }
     ensures room { IfOk result (λ did. HasRoom did.0) }
     ensures swapped { IfOk result (λ did. SwapsRow old did.0 number (row_of row.entry) (live_at region.old) (live_at region.new)) }
@@ -180,7 +181,7 @@ fn swap_row(
     ensures live { IfOk result (λ did. live_total region.new + did.1
         ≡ live_total region.old + size row.entry.key.now row.entry.value.now) }
     ensures shape { shape region.new ≡ shape region.old }
-    ensures left { IfOk result (λ _. left region.new + size row.entry.key.now row.entry.value.now ≡ left region.old) }
+    ensures left { IfOk result (λ _. left region.new 0 + size row.entry.key.now row.entry.value.now ≡ left region.old 0) }
     ensures stay { Stay region.old region.new }
 {
     let place = place_row(region, number, row)?;
@@ -191,18 +192,19 @@ fn swap_row(
 // Places a row as a new object, with no links.
 fn place_row(region: &mut Region, number: u32, row: NewRow<'_>) -> Result<Place, NeedSegment>
     requires row { IsStored row }
-    requires active { IsSome (active_of region.old) }
-    ensures full { IsErr result ↔ left region.old < size row.entry.key.now row.entry.value.now }
+    requires one { HasOneGroup region.old }
+    requires active { IsSome (active_of region.old 0) }
+    ensures full { IsErr result ↔ left region.old 0 < size row.entry.key.now row.entry.value.now }
     ensures unchanged { IfErr result (λ _. region.new ≡ region.old) }
     ensures room { IfOk result HasRoom }
     ensures added { IfOk result (λ place. PlacesRow place number (row_of row.entry) (live_at region.old) (live_at region.new)) }
     ensures rows { IfOk result (λ _. (q : Place) → HoldsARow (live_at region.old q) → live_at region.new q ≡ live_at region.old q) }
     ensures shape { shape region.new ≡ shape region.old }
-    ensures left { IfOk result (λ _. left region.new + size row.entry.key.now row.entry.value.now ≡ left region.old) }
+    ensures left { IfOk result (λ _. left region.new 0 + size row.entry.key.now row.entry.value.now ≡ left region.old 0) }
     ensures live { IfOk result (λ _. live_total region.new ≡ live_total region.old + size row.entry.key.now row.entry.value.now) }
     ensures stay { Stay region.old region.new }
 {
-    let place = region.place(ROW, row_size(row.key, row.value))?;
+    let place = region.place(0, ROW, row_size(row.key, row.value))?;
     segment_fits(place);
     write_row(
         region.bytes_mut(place),
@@ -222,7 +224,7 @@ fn kill_row(region: &mut Region, place: Place) -> u32
     ensures dropped { Drops place (live_at region.old) (live_at region.new) }
     ensures live { live_total region.new + result ≡ live_total region.old }
     ensures shape { shape region.new ≡ shape region.old }
-    ensures left { left region.new ≡ left region.old }
+    ensures left { left region.new 0 ≡ left region.old 0 }
     ensures stay { Stay region.old region.new }
 {
     let size = region.bytes(place).len() as u32 + DESCRIPTOR;

@@ -66,11 +66,12 @@ pub(crate) fn place_of(names: &Names, name: usize) -> Option<Place>
     names.places.get(name).copied()
 }
 
-/// Places an object of the size with this content, and answers its name, which is written over the first eight bytes of
-/// the content. None where the active segment has too little left.
+/// Places an object of the size with this content in the group, and answers its name, which is written over the first eight
+/// bytes of the content. None where the group has no active segment, or that has too little left.
 pub(crate) fn put(
     region: &mut Region,
     names: &mut Names,
+    group: u32,
     size: u32,
     content: &mut [u8],
 ) -> Result<Option<usize>, AllocError>
@@ -80,10 +81,10 @@ pub(crate) fn put(
     ensures fits { AreNamed (get names.new.places) (live_at region.new) }
 {
     names.places.reserve(1)?;
-    if region.active().is_none() {
+    if group >= region.groups() {
         return Ok(None);
     }
-    let Ok(place) = region.place(1, size) else {
+    let Ok(place) = region.place(group, 1, size) else {
         return Ok(None);
     };
     let name = names.places.insert_reserved(place);

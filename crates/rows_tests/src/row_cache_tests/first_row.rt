@@ -12,10 +12,9 @@ const OBJECT: [u8; 48] = [
     0x63, 0, 0, 0, 0,
 ];
 
-// Whether the piece begins with the object. All rows go before a cache gives a piece up, which the first byte says.
+// Whether the piece begins with the object. A cache that gives a piece up writes nothing in it.
 fn begins_with_object(piece: &Piece) -> bool {
-    let bytes = piece.bytes();
-    bytes.first() == Some(&2) && bytes.get(1..48) == Some(&OBJECT[1..])
+    piece.bytes().starts_with(OBJECT.as_slice())
 }
 
 // Whether the first segment's piece, the last one that the cache gives up, begins with the object.

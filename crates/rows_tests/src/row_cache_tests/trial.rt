@@ -27,7 +27,7 @@ fn is_row(key: &[u8], value: &[u8]) -> bool
 }
 
 fn is_active(cache: &RowCache) -> bool
-    ensures { result ≡ true → IsSome (active_of cache.now.region) }
+    ensures { result ≡ true → IsSome (active_of cache.now.region 0) }
 {
     cache.left() > 0
 }

@@ -2,7 +2,7 @@
 use Rattle.std.proofs.Common.{◌≡◌, ℕ, zero, suc, ◌+◌, ◌-◌, ◌<◌, ◌≤◌, ◌&&◌, ◌%◌, Bool, true, false, List, [], ◌∷◌, length, drop, get_or, arith, refl, sym, ap, ◌∙◌, add-zero, inl, inr}
 use Rattle.std.specs.List.{filter}
 use Rattle.std.proofs.Math.Nat.{mod-add-mod, mod-eq_of_lt, mod-lt, add-mod_right}
-use Rattle.std.proofs.lemmas.Bool.{cases_lt, ne_eqb}
+use Rattle.std.proofs.lemmas.Bool.{cases_lt, eq-eqb, ne_eqb}
 use Rattle.std.proofs.lemmas.List.{drop_all}
 use Rattle.trace_text.specs.declared.command.Command.{Command}
 use Rattle.trace_text.specs.declared.command.Kind.TheVariants.{Put}
@@ -110,12 +110,23 @@ and-false : (a b : Bool) → b ≡ false → (a && b) ≡ false
 and-false true b e = e
 and-false false b e = refl
 
-pub next-round : (trace : Parsed) (n o s at : ℕ) (e : Command) → AreNumbered trace.commands → 1 ≤ n → at % n ≡ o → at < length trace.commands
-    → has_part n s (operation trace.bytes (get_or trace.commands at e)) ≡ false → left_from trace n o s (at + n) ≡ left_from trace n o s at
-next-round trace n o s at e are some here within other =
+pub next-round : (trace : Parsed) (n o s at : ℕ) → AreNumbered trace.commands → 1 ≤ n → at % n ≡ o → at < length trace.commands
+    → ((d : Operation) → has_part n s (get_or (operations trace.bytes trace.commands) at d) ≡ false)
+    → left_from trace n o s (at + n) ≡ left_from trace n o s at
+next-round trace n o s at are some here within other =
     let inside : at < length (operations trace.bytes trace.commands) = rw (length-operations trace.bytes trace.commands) within in
     passes-other (operations trace.bytes trace.commands) n o s at (numbered trace.bytes trace.commands are) some here
-    (λ d. rw (operation-at trace.bytes trace.commands at e d within) (and-false _ _ other)) inside
+    (λ d. and-false _ _ (other d)) inside
+
+pub here-at : (trace : Parsed) (n o s at : ℕ) (d : Operation) → AreNumbered trace.commands → at % n ≡ o → at < length trace.commands
+    → has_part n s (get_or (operations trace.bytes trace.commands) at d) ≡ true
+    → is_for n o s (get_or (operations trace.bytes trace.commands) at d) ≡ true
+here-at trace n o s at d are here within there =
+    let ops = operations trace.bytes trace.commands in
+    let inside : at < length ops = rw (length-operations trace.bytes trace.commands) within in
+    let from : origin (get_or ops at d).number n ≡ at % n =
+    ap (λ k. (k - 1) % n) (numbered trace.bytes trace.commands are at d inside) ∙ ap (λ k. k % n) (omega arith) in
+    ap (λ b. b && has_part n s (get_or ops at d)) (eq-eqb _ _ (from ∙ here)) ∙ there
 
 pub from-places : (trace : Parsed) (n o s from : ℕ) → AreNumbered trace.commands → from % n ≡ o
     → (place : ℕ) → place ≤ from → from < place + n → left_from trace n o s from ≡ left_from trace n o s place

@@ -63,6 +63,9 @@ among false n s i own others below has = ap (λ k. Some (i, k)) (eqb-true own s 
 pub scans-here : (ops : List Operation) (s at : ℕ) (d : Operation) → at < length ops → shards_before s (slice_get ops at) ≡ cond (is_scan (get_or ops at d).kind) s 0
 scans-here ops s at d within = ap (shards_before s) (slice_get-get_or ops at d within)
 
+pub scans-not : (ops : List Operation) (s at : ℕ) (d : Operation) → at < length ops → is_scan (get_or ops at d).kind ≡ false → shards_before s (slice_get ops at) ≡ 0
+scans-not ops s at d within other = scans-here ops s at d within ∙ ap (λ scan. cond scan s 0) other
+
 pub scans-end : (ops : List Operation) (s at : ℕ) → length ops ≤ at → shards_before s (slice_get ops at) ≡ 0
 scans-end ops s at ended = ap (shards_before s) (slice_get_past ops at ended)
 

@@ -6,7 +6,6 @@ use Rattle.std.proofs.lemmas.Bool.{and_from, cases_eq, cases_lt, eq-eqb, eqb-tru
 use Rattle.std.proofs.lemmas.List.{get_or-take, get_or_append_left, length-take}
 use Rattle.std.proofs.lemmas.List.Elements.{All-append, All-cons, All-filter, All-get_or, All-head, All-map, All-nil, All-tail}
 use Rattle.std.proofs.lemmas.Option.{same_Some, slice_get-get_or, slice_get_within}
-use Rattle.trace_text.specs.declared.command.Command.{Command}
 use Rattle.trace_text.specs.Operation.{Operation, operations}
 use Rattle.trace_text.specs.Parsed.{AreNumbered, Parsed, trace_in}
 use Rattle.trace_text.specs.Parts.{has_part, is_scan, origin, owner}
@@ -14,7 +13,7 @@ use Rattle.trace_text.specs.Trace.{trace_with}
 use Rattle.cache_model.specs.OwnParts.{issued_parts, parts_before, parts_of}
 use Rattle.shard_node.specs.inside.Own.{IsFirstPart, StandsAtPart}
 use Rattle.shard_node.specs.inside.Rest.{part_at, shards_before}
-use Rattle.shard_node.proofs.Cursors.Places.{IsNumbered, length-operations, no_operation, numbered, operation-at}
+use Rattle.shard_node.proofs.Cursors.Places.{IsNumbered, length-operations, no_operation, numbered}
 use Rattle.shard_node.proofs.OwnParts.PartsBefore.{GoRound}
 use Rattle.shard_node.proofs.OwnParts.IssuedParts.{AreCounted, issued-cut, lower, part-stands, place-end, scans-here}
 
@@ -70,10 +69,6 @@ few-begun trace n o at to begun stands within few =
     let scans = scans-here ops to at no_operation (rw (length-operations trace.bytes trace.commands) within) in
     let less = lower (is_scan (get_or ops at no_operation).kind) to n stands.below in
     omega (arith, few, stood, scans, less)
-
-pub scan-of : (trace : Parsed) (at : ℕ) (e : Command) (scan : Bool) → at < length trace.commands → scan ≡ is_scan (get_or trace.commands at e).kind
-    → is_scan (get_or (trace_in trace).operations at no_operation).kind ≡ scan
-scan-of trace at e scan within is = ap (λ (x : Operation). is_scan x.kind) (operation-at trace.bytes trace.commands at e no_operation within) ∙ sym is
 
 -- One part more.
 

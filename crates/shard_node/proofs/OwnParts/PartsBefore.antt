@@ -3,13 +3,12 @@ use Rattle.std.proofs.Common.{◌≡◌, ℕ, zero, suc, ◌+◌, ◌-◌, ◌*�
 use Rattle.std.proofs.Math.Nat.{mod-eq_of_lt, mul-le-mul_left}
 use Rattle.std.proofs.lemmas.Bool.{cases_lt, eq-eqb, ne_eqb}
 use Rattle.std.proofs.lemmas.List.{take_all}
-use Rattle.trace_text.specs.declared.command.Command.{Command}
 use Rattle.trace_text.specs.Operation.{Operation, operations}
 use Rattle.trace_text.specs.Parsed.{AreNumbered, Parsed, trace_in}
 use Rattle.trace_text.specs.Parts.{is_scan, origin, own_parts}
 use Rattle.trace_text.specs.Trace.{Trace, trace_with}
 use Rattle.cache_model.specs.OwnParts.{parts_before}
-use Rattle.shard_node.proofs.Cursors.Places.{IsNumbered, apart, length-operations, no_operation, numbered, operation-at}
+use Rattle.shard_node.proofs.Cursors.Places.{IsNumbered, apart, length-operations, no_operation, numbered}
 
 -- a law of parts: they go up by the parts of the commands that the shard issues
 abbrev pub GoUp : Type 0
@@ -74,17 +73,15 @@ GoRound trace = (o at : ℕ) (d : Operation) → at % trace.shards ≡ o → at 
     → parts_before (trace_in trace) trace.shards o (at + trace.shards)
     ≡ parts_before (trace_in trace) trace.shards o at + cond (is_scan (get_or (trace_in trace).operations at d).kind) trace.shards 1
 
-pub parts-behind : (trace : Parsed) (n o at before : ℕ) (e : Command) → GoRound trace → n ≡ trace.shards → at % n ≡ o → at < length trace.commands
+pub parts-behind : (trace : Parsed) (n o at before : ℕ) (d : Operation) → GoRound trace → n ≡ trace.shards → at % n ≡ o → at < length trace.commands
     → before ≡ parts_before (trace_in trace) n o at
-    → before + cond (is_scan (get_or trace.commands at e).kind) n 1 ≡ parts_before (trace_in trace) n o (at + n)
-parts-behind trace n o at before e law same here within counted =
-    let one = get_or (trace_in trace).operations at no_operation in
+    → before + cond (is_scan (get_or (trace_in trace).operations at d).kind) n 1 ≡ parts_before (trace_in trace) n o (at + n)
+parts-behind trace n o at before d law same here within counted =
+    let one = get_or (trace_in trace).operations at d in
     let round : parts_before (trace_in trace) n o (at + n) ≡ parts_before (trace_in trace) n o at + cond (is_scan one.kind) n 1 =
     subst (λ m. at % m ≡ o → parts_before (trace_in trace) m o (at + m) ≡ parts_before (trace_in trace) m o at + cond (is_scan one.kind) m 1) (sym same)
-    (λ there. law o at no_operation there within) here in
-    ap (λ b. b + cond (is_scan (get_or trace.commands at e).kind) n 1) counted
-    ∙ ap (λ (x : Operation). parts_before (trace_in trace) n o at + cond (is_scan x.kind) n 1) (sym (operation-at trace.bytes trace.commands at e no_operation within))
-    ∙ sym round
+    (λ there. law o at d there within) here in
+    ap (λ b. b + cond (is_scan one.kind) n 1) counted ∙ sym round
 
 -- a law of parts: there are few of them
 abbrev pub AreFew : Type 0

@@ -9,6 +9,7 @@ use Rattle.cache_model.specs.Evictions.{Evicts}
 use Rattle.cache_model.specs.Spelled.{spelled}
 use Rattle.run_log.specs.JournalState.{JournalState}
 use Rattle.run_log.specs.Replies.{Replies}
+use Rattle.regions.specs.Segments.{group_at}
 use Rattle.regions.specs.Shapes.{Shape, guards_of, shape}
 use Rattle.layout.specs.Counts.{raised}
 use Rattle.shard_memory.specs.Tickets.{BecomeIdle, tickets_out}
@@ -80,7 +81,7 @@ same_but_rows old new rows is small = (
     pages = ap (λ (s : SpaceState). s.pages) is;
     room = ap (λ (s : SpaceState). s.room) is;
     list = ap (λ (s : SpaceState). s.list) is;
-    guards = ap (λ (s : SpaceState). guards_of s.region) is;
+    guards = ap (λ (s : SpaceState). guards_of s.region 0) is;
   },
   none_came old new small (ap (λ (s : SpaceState). s.lent) is) (ap (λ (s : SpaceState). s.lends) is) (ap (λ (s : SpaceState). s.backs) is) (ap (λ (s : SpaceState). s.looks) is),
 )
@@ -95,7 +96,7 @@ same_but_links old new rows is same small = (
     pages = ap (λ (s : SpaceState). s.pages) is;
     room = ap (λ (s : SpaceState). s.room) is;
     list = ap (λ (s : SpaceState). s.list) is;
-    guards = ap (λ (s : Shape). s.guards) same;
+    guards = ap (λ (s : Shape). (group_at s.groups 0).guards) same;
   },
   none_came old new small (ap (λ (s : SpaceState). s.lent) is) (ap (λ (s : SpaceState). s.lends) is) (ap (λ (s : SpaceState). s.backs) is) (ap (λ (s : SpaceState). s.looks) is),
 )

@@ -37,7 +37,7 @@ module _ {L G : Type 0} (traffic : L → Traffic) (end : L → LinkEnd) where
           within = x.within;
           of_shard = ap (λ (s : SpaceState). s.shard) same ∙ x.of_shard;
           pages = ap (λ (s : SpaceState). s.pages) same ∙ x.pages;
-          unguarded = ap (λ (s : SpaceState). guards_of s.region) same ∙ x.unguarded;
+          unguarded = ap (λ (s : SpaceState). guards_of s.region 0) same ∙ x.unguarded;
           longest = x.longest;
           peers = x.peers;
           cursors = λ k d below. let c = x.cursors k d below in record {

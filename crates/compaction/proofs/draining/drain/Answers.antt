@@ -5,15 +5,16 @@ use Rattle.std.proofs.lemmas.Bool.Decides.{leb_tells}
 use Rattle.std.proofs.Math.Nat.{eq-or-lt_of_le}
 use Rattle.regions.specs.Contents.{item_if_live, standing_at, live_at}
 use Rattle.regions.specs.declared.place.Place.{Place}
+use Rattle.compaction.proofs.Shut.{closed-in}
 use Rattle.compaction.proofs.Moves.{same-none}
 use Rattle.compaction.proofs.Drains.{some-same, drained-on, took-on, room-for}
 use Rattle.compaction.proofs.draining.drain.Goals as goal
 
 pub loop-at-preserved : goal.loop-at-preserved
 loop-at-preserved g c =
-    let bare = g.M.Movers.bare in let n = c.args.source in let at = c.in-Some.at in let size = c.in-Some.size in
+    let bare = g.M.Movers.bare in let group = c.args.group in let n = c.args.source in let at = c.in-Some.at in let size = c.in-Some.size in
     let now = c.loop-at.region in let new = c.take_out.new.region in let i = c.loop-at.invariant in let e = c.take_out.ensures in let f = c.in-Some.ensures in
-    let shut = i.drained.closed n c.requires.closed in let least = f.size.1.0 in
+    let shut = closed-in now group n (i.drained.closed group n c.requires.closed) in let least = f.size.1.0 in
     let other : (a : ℕ) → a ≢ at → (let p : Place = record { segment = n; at = a } in let q : Place = record { segment = n; at = at } in p ≢ q) = λ a far h. far (ap (λ (x : Place). x.at) h) in
     let before : (a : ℕ) → a ≢ at → a < at + size → (let p : Place = record { segment = n; at = a } in live_at now p ≡ None) =
     λ a far high.
@@ -32,7 +33,7 @@ loop-at-preserved g c =
       rest = e.rest ∙ i.rest;
       drained = drained-on bare n c.args.region.now now new i.drained e.drained;
       sparse = let less = e.live in let sparse = i.sparse in omega (arith, less, sparse);
-      took = took-on n size c.args.region.now now new i.took e.took e.live i.sparse f.counted;
+      took = took-on group n size c.args.region.now now new i.took e.took e.live i.sparse f.counted;
       start = inr (elim f.next [
         | inl there ↦
             let p : Place = record { segment = n; at = at + size } in
@@ -48,4 +49,7 @@ loop-at-preserved g c =
     }
 
 pub take_out-requires-clause-room : goal.take_out-requires-clause-room
-take_out-requires-clause-room g c = room-for c.args.source c.args.region.now c.loop-at.region c.requires.room c.loop-at.invariant.took
+take_out-requires-clause-room g c = room-for c.args.group c.args.source c.args.region.now c.loop-at.region c.requires.room c.loop-at.invariant.took
+
+pub next_live-requires-clause-closed : goal.next_live-requires-clause-closed
+next_live-requires-clause-closed g c = closed-in c.loop-at.region c.args.group c.args.source (c.loop-at.invariant.drained.closed c.args.group c.args.source c.requires.closed)

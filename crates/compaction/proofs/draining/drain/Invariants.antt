@@ -14,7 +14,7 @@ invariant-loop-at g l = record {
   rest : g.M.Movers.rest l.movers ≡ g.M.Movers.rest l.fn.movers;
   drained : IsDrained g.M.Movers.bare l.source l.fn.region l.region;
   sparse : IsSparse l.region l.source;
-  took : Took l.source l.fn.region l.region;
+  took : Took l.group l.source l.fn.region l.region;
   start : (l.from ≡ 0) ⊎ IsStart l.region l.source l.from;
   none : NoneLives l.region l.source 0 l.from;
 }

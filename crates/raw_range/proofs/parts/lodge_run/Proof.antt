@@ -25,7 +25,7 @@ use denote.Triple.Call.{calls_at_last}
 use Rattle.std_alloc.specs.declared.vec.lodged.Lodged.{Lodged}
 use Rattle.std_alloc.proofs.vec.lodge.Met as callee
 use Rattle.raw_range.specs.inside.Ownership.{run_owns}
-use Rattle.raw_range.proofs.Lodging.{byte_laws, LodgedBytes, lodged_bytes-laws, Lodges, at_lodge, IsLodged, lodge_goes, lodge_gives}
+use Rattle.raw_range.proofs.Lodging.{byte_laws, LodgedBytes, lodged_bytes-laws, Lodges, at_lodge, IsLodged, lodge_full_goes, lodge_gives}
 use Rattle.raw_range.specs.contracts.parts.lodge_run as f
 use Rattle.raw_range.proofs.parts.lodge_run.Statement.{statement}
 use Rattle.raw_range.proofs.parts.lodge_run.Code as code
@@ -50,14 +50,14 @@ lodge_run_spec 𝓤 𝓛 𝓜 𝓡 wired =
     move ! (1 ∷ []) $ heard ! Asked (λ asked. split ! $ move ! (1 ∷ []) $
     fsplit ! $ feq_l ! (λ is₀. fsplit ! $ fsplit ! $ feq_l ! (λ is₁. flt_l ! (λ fits. fsplit ! $ fsplit ! $ none_had ! vss.1.1.0 (λ is₂. move ! (1 ∷ []) $ drop ! $
     rewrite ! 0 (λ r. ‵ (run_owns r xs)) asked.0 refl $ in_a_block ! p (λ r. run_owns r xs) (id⊢ 𝓤 (never 𝓤)) (λ b o at.
-    let y = at_lodge 𝓛 𝓜.mem 𝓡.returns b o n xs in
+    let y = at_lodge 𝓛 𝓜.mem 𝓡.returns b o n n xs in
     regoal ! (λ (us : List Val). prop (WpFn 𝓤 𝓛.H 𝓣.C 𝓣.Λ code.function (us ++ (vss.1.0 ++ (vss.1.1.0 ++ []))) ((walk_of 𝓛 f.ended stayed c).post z))) (is₀ ∙ ap (λ r. ptr_val r ∷ []) at) refl $
     regoal ! (λ (us : List Val). prop (WpFn 𝓤 𝓛.H 𝓣.C 𝓣.Λ code.function ((vptr b o ∷ []) ++ (us ++ (vss.1.1.0 ++ []))) ((walk_of 𝓛 f.ended stayed c).post z))) is₁ refl $
     regoal ! (λ (us : List Val). prop (WpFn 𝓤 𝓛.H 𝓣.C 𝓣.Λ code.function ((vptr b o ∷ []) ++ ((vint w64 n ∷ []) ++ (us ++ []))) ((walk_of 𝓛 f.ended stayed c).post z))) is₂ refl $
     enter ! _ _ _ _ _ $ alloc_all ! (λ l. pass_all ! refl ((tt, tt), ((tt, record { fits = fits }), ((tt, tt), tt))) $
-    first ! $ blocks ! $ use1 𝓛 (raw ((Lodges 𝓛 𝓜.mem 𝓡.returns).pre y)) (lodge_goes 𝓛 𝓜.mem 𝓡.returns b o n xs asked.1 asked.2 asked.3) $
+    first ! $ blocks ! $ use1 𝓛 (raw ((Lodges 𝓛 𝓜.mem 𝓡.returns).pre y)) (lodge_full_goes 𝓛 𝓜.mem 𝓡.returns b o n xs asked.1 asked.2 asked.3) $
     calls_at_last ! (framed 𝓤 𝓛.H 𝓜 𝓣) (Lodges 𝓛 𝓜.mem 𝓡.returns) (callee.met 𝓤 𝓛 𝓜 𝓡 (code.calls-std_alloc::vec::lodge 𝓡.env wired) u8 byte_laws) y (and_then ! (get ! refl) (and_then ! (get ! refl) (and_then ! (get ! refl) (no_more !)))) (λ v.
-    use1 𝓛 (later (some (λ (r : Vec ℕ Lodged). given (IsLodged 𝓛 𝓜.mem 𝓡.returns b o n xs r) (‵ (LodgedBytes.own_val r (v ∷ [])))))) (lodge_gives 𝓛 𝓜.mem 𝓡.returns b o n xs v) $
+    use1 𝓛 (later (some (λ (r : Vec ℕ Lodged). given (IsLodged 𝓛 𝓜.mem 𝓡.returns b o n n xs r) (‵ (LodgedBytes.own_val r (v ∷ [])))))) (lodge_gives 𝓛 𝓜.mem 𝓡.returns b o n n xs v) $
     await ! tt $ pick ! (λ r. learn ! (λ is. tells ! LodgedBytes lodged_bytes-laws r (v ∷ []) (λ u same good.
     let fine : Good LodgedBytes v = subst (Good LodgedBytes) (sym (ap only same)) good in
     rewrite ! 0 (λ w. ‵ (LodgedBytes.own_val r (w ∷ []))) (sym (ap only same)) refl $ lands_last ! refl fine $

@@ -18,5 +18,5 @@ returns-clause-lends c =
 
 pub returns-clause-whole : goal.returns-clause-whole
 returns-clause-whole c =
-    let m = c.args.memory.now in let guards = guards_of c.args.cache.now.region in
+    let m = c.args.memory.now in let guards = guards_of c.args.cache.now.region 0 in
     consistent-own m.owner m.pages guards c.give_or_refuse.new.memory c.give_or_refuse.new.cache.region (c.give_or_refuse.ensures.consistent m.owner m.pages guards c.requires.whole)

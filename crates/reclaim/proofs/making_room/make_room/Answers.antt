@@ -2,7 +2,7 @@ use Rattle.std.proofs.Common.{refl, ◌<◌, ◌+◌, ◌-◌, ◌*◌, ◌≤�
 use Rattle.layout.specs.Sizes.{dense, greatest_object}
 use Rattle.cache_model.specs.Row.{live}
 use Rattle.regions.specs.Shapes.{held_count}
-use Rattle.regions.specs.Counts.{left}
+use Rattle.regions.specs.Counts.{left, live_total}
 use Rattle.row_cache.specs.Rows.{rows_of}
 use Rattle.reclaim.proofs.Homecoming.{takes-none}
 use Rattle.reclaim.proofs.Pressure.{put-pressed}
@@ -15,8 +15,10 @@ pub returns-then-not-free_second-clause-pressed : goal.returns-then-not-free_sec
 returns-then-not-free_second-clause-pressed c full =
     let e = c.free_second.ensures in let f = c.if-not-free_second.ensures in let region = c.free_second.new.cache.region in let rows = rows_of c.free_second.new.cache in
     let fits = c.requires.size in let is = c.left-then-not-free_second.ensures in
-    let shut : left region < greatest_object = grind (arith, full, fits, is) in
-    let most = c.a_compacted_region_is_full.ensures.full region (f.compacted refl) shut in
+    let shut : left region 0 < greatest_object = grind (arith, full, fits, is) in
+    let one = c.facts-then-not-free_second.ensures.groups in
+    let full_but_one = c.a_compacted_region_is_full.ensures.full region 0 (f.compacted refl) (omega (arith, one)) shut in
+    let most = subst (λ (k : ℕ). (held_count region - k) * (dense + 1) ≤ live_total region) one full_but_one in
     let same = c.facts-then-not-free_second.ensures.live in
     put-pressed c.args.memory.now.owner c.args.memory.now.pages 0 c.args.memory.now c.free_second.new.memory region (live rows) e.consistent.made e.taken (f.crowded refl) c.facts.ensures.tickets
     (subst (λ (k : ℕ). (held_count region - 1) * (dense + 1) ≤ k) (sym same) most)

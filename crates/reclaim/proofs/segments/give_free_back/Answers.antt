@@ -24,8 +24,8 @@ returns-clause-consistent c shard pages standing h =
         most = ap (λ (r : RegionState). (shape r).most) g.3 ∙ m.most;
         holds = holds-less c.args.memory.now c.segment_back.new.self (ap (λ (s : MemoryState). s.home) b.same) c.in-Some.piece b.segments b.one_less region next g.0
             (piece-at region g.0 c.in-Some.piece g.2) (ap (λ (r : RegionState). pieces r) g.3 ∙ pieces-without region g.0) (e.held refl) m.holds;
-        guards = ap (λ (r : RegionState). guards_of r) g.3 ∙ m.guards;
+        guards = ap (λ (r : RegionState). guards_of r 0) g.3 ∙ m.guards;
       };
-      active = subst (λ (r : RegionState). IsSome (active_of r)) (sym g.3) h.active;
+      active = subst (λ (r : RegionState). IsSome (active_of r 0)) (sym g.3) h.active;
       free = let less = e.free refl in let two = at-least-two (free_count region) (λ few. let clash : IsNone (Some c.in-Some.piece) = e.none.1 few in cc) in omega (arith, less, two);
     }

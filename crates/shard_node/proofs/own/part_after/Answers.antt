@@ -1,6 +1,6 @@
 use Rattle.std.proofs.Common.{◌≡◌, true, false, ◌%◌, sym, ap, ◌∙◌}
-use Rattle.shard_node.proofs.OwnParts.OwnNext.{part-next, scan-of}
-use Rattle.shard_node.proofs.Cursors.Places.{no_command, round}
+use Rattle.shard_node.proofs.OwnParts.OwnNext.{part-next}
+use Rattle.shard_node.proofs.Cursors.Places.{no_operation, round}
 use Rattle.shard_node.proofs.own.part_after.Goals as goal
 use Rattle.shard_node.proofs.own.part_after.Goals.{else-is_scan-via-then-is_scan+else-part-shards, else-is_scan-via-else-is_scan}
 
@@ -9,7 +9,7 @@ returns-clause-origin c = ap (λ at. at % c.args.shards) c.first_part.ensures.at
 
 pub returns-clause-next : goal.returns-clause-next
 returns-clause-next c =
-    let scan = scan-of c.args.trace.now c.args.part.at no_command c.is_scan.result c.requires.within (rw c.commands-commands.ensures.value at c.is_scan.ensures) in
+    let scan = sym (c.is_scan.ensures no_operation) in
     part-next c.args.trace.now c.args.shards c.args.shard c.args.part.at c.args.part.to c.first_part.result.to c.first_part.result.at
     c.shards_take_turns.ensures.next c.requires.parsed_for c.requires.origin c.requires.within c.requires.to
     (elim c.else-is_scan.branch [

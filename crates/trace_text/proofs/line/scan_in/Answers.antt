@@ -1,5 +1,5 @@
-use Rattle.std.proofs.Common.{◌≡◌, [], List, ℕ, sym, ap, ◌∙◌, rules}
-use Rattle.std.specs.Prelude.{Option, Some, None, Ok}
+use Rattle.std.proofs.Common.{◌≡◌, sym, ap, ◌∙◌, rules}
+use Rattle.std.specs.Prelude.{Some, None}
 use Rattle.std.proofs.lemmas.Result.{IfOk-from_err}
 use Rattle.trace_text.specs.declared.command.Kind.TheVariants.{Scan}
 use Rattle.trace_text.specs.Line.{from_count, from_key, cut_at, unless, key_fault}

@@ -19,3 +19,8 @@ returns-clause-found c bytes lies =
         fields = rw value.1 found.fields;
       },
     )
+
+pub returns-clause-route : goal.returns-clause-route
+returns-clause-route c bytes lies =
+    let key = lies_in_outer bytes c.args.text.now _ c.args.start _ lies c.in_ok-found.ensures.offsets.key in
+    rw key.1 c.new.ensures

@@ -17,7 +17,7 @@ begin-requires-clause-made c =
       blocks = e.blocks.0;
       most = ap (λ (r : RegionState). (shape r).most) r ∙ ap (λ k. k / segment_pages) (sym e.numbers.1);
       holds = holds-none c.in_ok-memory.memory _ c.in-Ok.cache.region e.segments (ap (λ (r : RegionState). r.segments) r);
-      guards = ap (λ (r : RegionState). guards_of r) r;
+      guards = ap (λ (r : RegionState). guards_of r 0) r;
     }
 
 pub begin-requires-clause-free : goal.begin-requires-clause-free

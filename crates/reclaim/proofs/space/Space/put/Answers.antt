@@ -25,5 +25,5 @@ returns-clause-stored c =
       pages = e.taken.pages;
       room = e.tables;
       list = e.taken.list;
-      guards = e.consistent.made.guards ∙ sym (ap (λ (v : SpaceState). guards_of v.region) c.self.view_is ∙ c.requires.unguarded);
+      guards = e.consistent.made.guards ∙ sym (ap (λ (v : SpaceState). guards_of v.region 0) c.self.view_is ∙ c.requires.unguarded);
     }))

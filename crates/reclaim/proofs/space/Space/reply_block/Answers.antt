@@ -48,6 +48,6 @@ returns-clause-replied c =
             pages = r.taken.pages ∙ given.gives.pages ∙ given.came.pages;
             room = r.tables ∙ c.find_block-block.ensures.tables;
             list = r.taken.list ∙ given.gives.list ∙ given.came.list;
-            guards = r.consistent.made.guards ∙ sym (ap (λ (v : SpaceState). guards_of v.region) c.self.view_is ∙ c.requires.unguarded);
+            guards = r.consistent.made.guards ∙ sym (ap (λ (v : SpaceState). guards_of v.region 0) c.self.view_is ∙ c.requires.unguarded);
           })),
     )

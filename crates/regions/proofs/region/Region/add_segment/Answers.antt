@@ -4,6 +4,7 @@ use Rattle.std.specs.List.{sum, count_by}
 use Rattle.std.proofs.lemmas.List.{length-map}
 use Rattle.std.proofs.Math.Seq.{map-set_same}
 use Rattle.regions.specs.Segments.{RegionState, with_segment, fresh}
+use Rattle.regions.specs.inside.Consistent.{states}
 use Rattle.regions.specs.Shapes.{slots_of, slot_of, slot_at, is_held, is_free, free_count, held_count, IsLeastUnused}
 use Rattle.regions.specs.Counts.{used_counts, live_counts, used_in, live_in}
 use Rattle.regions.specs.Contents.{standing_in, standing_at}
@@ -27,15 +28,15 @@ known c =
     }
 
 abbrev before : goal.After-insert-2 → RegionState
-before c = let i = c.self.inside in record { most = i.most; guards = i.guards; active = i.active; segments = i.slots.items }
+before c = let i = c.self.inside in record { most = i.most; groups = states i.groups.items; segments = i.slots.items }
 
 pub invariant_of-self : goal.invariant_of-self
 invariant_of-self c =
     let i = c.self.inside in let slots = i.slots.items in let n = c.least_absent_from-number.result in let k = known c in
-    subst (λ h. Fields i.most i.active h c.insert-2.new.self i.active_live i.table (slice_set slots n (Some c.new.result))) (sym c.insert.ensures)
-    (subst (λ f. Fields i.most i.active (slice_set i.held n true) f i.active_live i.table (slice_set slots n (Some c.new.result))) (sym c.insert-2.ensures)
-    (subst (λ h. Fields i.most i.active (slice_set i.held n true) (slice_set i.free n true) i.active_live i.table (slice_set slots n (Some h))) (sym c.new.ensures)
-    (added-in i.most i.active i.held i.free i.active_live i.table slots c.self.invariant n (fresh c.args.piece) k.inside k.unheld refl refl)))
+    subst (λ h. Fields i.most i.groups.items h c.insert-2.new.self (slice_set slots n (Some c.new.result))) (sym c.insert.ensures)
+    (subst (λ f. Fields i.most i.groups.items (slice_set i.held n true) f (slice_set slots n (Some c.new.result))) (sym c.insert-2.ensures)
+    (subst (λ h. Fields i.most i.groups.items (slice_set i.held n true) (slice_set i.free n true) (slice_set slots n (Some h))) (sym c.new.ensures)
+    (added-in i.most i.groups.items i.held i.free slots c.self.invariant n (fresh c.args.piece) k.inside k.unheld refl refl)))
 
 pub returns-clause-added : goal.returns-clause-added
 returns-clause-added c =

@@ -2,6 +2,7 @@ use Rattle.std.proofs.Common.{◌≡◌, ℕ, List, get_or, sym, ap, ◌∙◌, 
 use Rattle.std.specs.Prelude.{None, Some, IsSome, option_map}
 use Rattle.std.specs.List.{sum}
 use Rattle.regions.specs.Segments.{RegionState, with_segment}
+use Rattle.regions.specs.inside.Consistent.{states}
 use Rattle.regions.specs.Shapes.{shape}
 use Rattle.regions.specs.Counts.{used_counts, live_counts}
 use Rattle.regions.specs.Contents.{standing_in, standing_at, item_if_live, live_at, rewritten, with_bytes, ChangesIn, ChangesAt}
@@ -17,7 +18,7 @@ invariant_of-self-lent c ws =
     let alive : IsSome (item_if_live (standing_in (get_or slots n None) at)) = subst (λ r. IsSome (live_at r c.args.place)) (sym c.self.view_is) c.requires in
     let inside = live-within slots n at alive in
     let is = found-there slots n c.index_mut.result.now h inside c.index_mut.ensures.value c.segment_mut.ensures.value in
-    kept-in i.most i.active i.held i.free i.active_live i.table slots c.self.invariant n h (segment_with at ws h) is (e.slot ws) refl (e.live ws)
+    kept-in i.most i.groups.items i.held i.free slots c.self.invariant n h (segment_with at ws h) is (e.slot ws) refl (e.live ws)
 
 pub returns : goal.returns
 unfolding with_content
@@ -26,7 +27,7 @@ returns c =
     let alive : IsSome (item_if_live (standing_in (get_or slots n None) at)) = subst (λ r. IsSome (live_at r c.args.place)) (sym c.self.view_is) c.requires in
     let inside = live-within slots n at alive in
     let is = found-there slots n c.index_mut.result.now h inside c.index_mut.ensures.value c.segment_mut.ensures.value in
-    let r : RegionState = record { most = i.most; guards = i.guards; active = i.active; segments = slots } in
+    let r : RegionState = record { most = i.most; groups = states i.groups.items; segments = slots } in
     let there : option_map (λ t. t.item.content) (standing_in (get_or slots n None) at) ≡ Some c.content_mut.result.now = subst (λ s. option_map (λ t. t.item.content) (standing_in s at) ≡ Some c.content_mut.result.now) (sym is) e.value in
     let left-as : (ws : List ℕ) → with_segment r n (Some (segment_with at ws h)) ≡ with_content r c.args.place ws = λ ws. ap (λ s. with_segment r n (option_map (segment_with at ws) s)) (sym is) in
     let changed : (ws : List ℕ) → ChangesAt c.args.place (option_map (rewritten ws) (standing_at r c.args.place)) r (with_segment r n (Some (segment_with at ws h))) =

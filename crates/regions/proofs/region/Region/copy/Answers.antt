@@ -6,14 +6,14 @@ use Rattle.regions.specs.Segments.{RegionState, with_segment}
 use Rattle.regions.specs.Shapes.{shape, slots_of}
 use Rattle.regions.specs.Counts.{used_counts, live_counts, used_in_each, live_in_each}
 use Rattle.regions.specs.Contents.{standing_in, standing_at, item_if_live, live_at, with_bytes, ChangesIn, ChangesAt}
-use Rattle.regions.specs.inside.Consistent.{IsConsistent}
+use Rattle.regions.specs.inside.Consistent.{states, IsConsistent}
 use Rattle.regions.proofs.Tables as tables
 use Rattle.regions.proofs.Updates.{slots-same, used-same, live-same}
 use Rattle.regions.proofs.Regions.{live-within, set-set, kept-in, changes-set, if-some}
 use Rattle.regions.proofs.region.Region.copy.Goals as goal
 
 abbrev before : goal.Joined-index_mut-target → RegionState
-before c = let i = c.self.inside in record { most = i.most; guards = i.guards; active = i.active; segments = i.slots.items }
+before c = let i = c.self.inside in record { most = i.most; groups = states i.groups.items; segments = i.slots.items }
 
 -- the segment of the second object was taken out and is put back
 record Known (c : goal.Joined-index_mut-target) : Type 0 where
@@ -37,8 +37,8 @@ known c =
 pub invariant_of-self : goal.invariant_of-self
 invariant_of-self c =
     let i = c.self.inside in let k = known c in let e = c.copy_into.ensures in
-    subst (λ s. IsConsistent i.most i.active i.held i.free i.active_live i.table (slots_of s) (used_in_each s) (live_in_each s)) (sym k.left-as)
-    (kept-in i.most i.active i.held i.free i.active_live i.table i.slots.items c.self.invariant c.args.to.segment c.segment_mut.result.now c.copy_into.new.target k.is e.slot e.used e.live)
+    subst (λ s. IsConsistent i.most i.groups.items i.held i.free (slots_of s) (used_in_each s) (live_in_each s)) (sym k.left-as)
+    (kept-in i.most i.groups.items i.held i.free i.slots.items c.self.invariant c.args.to.segment c.segment_mut.result.now c.copy_into.new.target k.is e.slot e.used e.live)
 
 pub returns-clause-used : goal.returns-clause-used
 returns-clause-used c =

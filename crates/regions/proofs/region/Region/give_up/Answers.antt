@@ -3,6 +3,7 @@ use Rattle.std.specs.Prelude.{Option, None, Some, option_map, slice_set}
 use Rattle.std.specs.List.{sum, count_by}
 use Rattle.std.proofs.lemmas.List.{length-map, length-set}
 use Rattle.regions.specs.Segments.{SegmentState, RegionState, segment_at, with_segment, fresh, all_emptied}
+use Rattle.regions.specs.inside.Consistent.{states}
 use Rattle.regions.specs.Shapes.{slots_of, slot_of, is_free, is_held, held_count, IsGreatestHeld}
 use Rattle.regions.specs.Counts.{used_counts, live_counts, used_in_each, live_in_each}
 use Rattle.regions.specs.Contents.{standing_at}
@@ -62,18 +63,18 @@ known c =
     }
 
 abbrev before : goal.After-piece_of → RegionState
-before c = let i = c.self.inside in record { most = i.most; guards = i.guards; active = i.active; segments = i.slots.items }
+before c = let i = c.self.inside in record { most = i.most; groups = states i.groups.items; segments = i.slots.items }
 
 abbrev after : goal.After-piece_of → RegionState
-after c = let i = c.self-2.inside in record { most = i.most; guards = i.guards; active = i.active; segments = i.slots.items }
+after c = let i = c.self-2.inside in record { most = i.most; groups = states i.groups.items; segments = i.slots.items }
 
 pub invariant_of-self : goal.invariant_of-self
 invariant_of-self c =
     let i = c.self-2.inside in let slots = i.slots.items in let n = c.in_ok-number.number in let k = known c in let d = c.replace-taken.new.dest in
-    subst (λ h. Fields i.most i.active h c.remove-2.new.self i.active_live i.table (slice_set slots n d)) (sym c.remove.ensures)
-    (subst (λ f. Fields i.most i.active (slice_set i.held n false) f i.active_live i.table (slice_set slots n d)) (sym c.remove-2.ensures)
-    (subst (λ s. Fields i.most i.active (slice_set i.held n false) (slice_set i.free n false) i.active_live i.table (slice_set slots n s)) (sym c.replace-taken.ensures.after)
-    (taken-in i.most i.active i.held i.free i.active_live i.table slots c.self-2.invariant n (fresh c.piece_of.result) k.is refl refl)))
+    subst (λ h. Fields i.most i.groups.items h c.remove-2.new.self (slice_set slots n d)) (sym c.remove.ensures)
+    (subst (λ f. Fields i.most i.groups.items (slice_set i.held n false) f (slice_set slots n d)) (sym c.remove-2.ensures)
+    (subst (λ s. Fields i.most i.groups.items (slice_set i.held n false) (slice_set i.free n false) (slice_set slots n s)) (sym c.replace-taken.ensures.after)
+    (taken-in i.most i.groups.items i.held i.free slots c.self-2.invariant n (fresh c.piece_of.result) k.is refl refl)))
 
 pub returns-clause-given : goal.returns-clause-given
 returns-clause-given c =

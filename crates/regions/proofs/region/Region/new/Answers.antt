@@ -1,9 +1,10 @@
 use Rattle.std.proofs.Common.{[], ◌∷◌, ◌++◌, ◌≡◌, ℕ, Bool, false, List, replicate, sym, ap, ◌∙◌, subst, arith}
 use Rattle.std.specs.Prelude.{Option, None}
 use Rattle.std.proofs.lemmas.Result.{IfOk-from_err}
-use Rattle.regions.specs.Segments.{SegmentState, RegionState}
-use Rattle.regions.specs.inside.Consistent.{not_closed}
-use Rattle.regions.proofs.Regions.{Fields, new-fields, replicate-more}
+use Rattle.regions.specs.Segments.{SegmentState, GroupState, RegionState, idle}
+use Rattle.regions.specs.inside.Consistent.{states, unused}
+use Rattle.regions.proofs.Regions.{Fields, replicate-more}
+use Rattle.regions.proofs.Unused.{new-fields, new-states}
 use Rattle.regions.proofs.region.Region.new.Goals as goal
 
 all : (n most : ℕ) (items : List (Option SegmentState)) → items ≡ replicate n None → n ≡ most → items ≡ replicate most None
@@ -11,12 +12,13 @@ all n most items e f = e ∙ ap (λ k. replicate k None) f
 
 pub invariant_of-result : goal.invariant_of-result
 invariant_of-result c =
-    let ends = c.loop-number.auto._number-end in let most = c.args.most in let held = c.in_ok-new.field-0 in let free = c.in_ok-new-2.field-0 in let none : List Bool = replicate most false in
+    let ends = c.loop-number.auto._number-end in let most = c.args.most in let groups = c.in_ok-new_groups.field-0 in let held = c.in_ok-new.field-0 in let free = c.in_ok-new-2.field-0 in let none : List Bool = replicate most false in
     let full : c.loop-number._number ≡ most = omega (arith, c.loop-number-test.false, ends) in
-    subst (λ h. Fields most None h free 0 c.in_ok-new-3.field-0 c.loop-number.slots.items) (sym c.in_ok-new.ensures)
-    (subst (λ f. Fields most None none f 0 c.in_ok-new-3.field-0 c.loop-number.slots.items) (sym c.in_ok-new-2.ensures)
-    (subst (λ t. Fields most None none none 0 t c.loop-number.slots.items) (sym c.in_ok-new-3.ensures)
-    (subst (λ l. Fields most None none none 0 (replicate most not_closed) l) (sym (all c.loop-number._number most c.loop-number.slots.items c.loop-number.invariant full)) (new-fields most c.requires))))
+    subst (λ g. Fields most g held free c.loop-number.slots.items) (sym c.in_ok-new_groups.ensures)
+    (subst (λ h. Fields most (replicate c.args.groups (unused most)) h free c.loop-number.slots.items) (sym c.in_ok-new.ensures)
+    (subst (λ f. Fields most (replicate c.args.groups (unused most)) none f c.loop-number.slots.items) (sym c.in_ok-new-2.ensures)
+    (subst (λ l. Fields most (replicate c.args.groups (unused most)) none none l) (sym (all c.loop-number._number most c.loop-number.slots.items c.loop-number.invariant full))
+    (new-fields most c.args.groups c.requires.most c.requires.groups.0 c.requires.groups.1))))
 
 pub returns-in_err-slots : goal.returns-in_err-slots
 returns-in_err-slots c = IfOk-from_err c.from_residual.result _ c.from_residual.ensures.0
@@ -36,14 +38,12 @@ returns-in_err-new c = IfOk-from_err c.from_residual-in_err-new.result _ c.from_
 pub returns-in_err-new-2 : goal.returns-in_err-new-2
 returns-in_err-new-2 c = IfOk-from_err c.from_residual-in_err-new-2.result _ c.from_residual-in_err-new-2.ensures.0
 
-pub returns-in_err-new-3 : goal.returns-in_err-new-3
-returns-in_err-new-3 c = IfOk-from_err c.from_residual-in_err-new-3.result _ c.from_residual-in_err-new-3.ensures.0
-
-pub new-requires-3 : goal.new-requires-3
-new-requires-3 c = c.requires
+pub returns-in_err-new_groups : goal.returns-in_err-new_groups
+returns-in_err-new_groups c = IfOk-from_err c.from_residual-in_err-new_groups.result _ c.from_residual-in_err-new_groups.ensures.0
 
 pub returns : goal.returns
 returns c =
     let ends = c.loop-number.auto._number-end in let most = c.args.most in
-    ap (λ (s : List (Option SegmentState)). let r : RegionState = record { most = most; guards = 0; active = None; segments = s } in r)
+    ap (λ (gs : List GroupState). let r : RegionState = record { most = most; groups = gs; segments = c.loop-number.slots.items } in r) (ap states c.in_ok-new_groups.ensures ∙ new-states most c.args.groups)
+    ∙ ap (λ (s : List (Option SegmentState)). let r : RegionState = record { most = most; groups = replicate c.args.groups idle; segments = s } in r)
     (all c.loop-number._number most c.loop-number.slots.items c.loop-number.invariant (omega (arith, c.loop-number-test.false, ends)))

@@ -1,11 +1,12 @@
 use Rattle.std.proofs.Common.{◌≡◌, ◌+◌, ◌<◌, ◌≤◌, ◌⊎◌, ℕ, true, get_or, sym, ◌∙◌, subst}
 use Rattle.std.specs.Prelude.{None, Some, IsSome, IsNone, IfSome}
-use Rattle.regions.specs.Shapes.{slots_of, is_closed, IsClosed}
+use Rattle.regions.specs.Shapes.{slots_of, slot_at, is_closed, IsClosed}
+use Rattle.regions.specs.inside.Consistent.{states}
 use Rattle.regions.specs.Counts.{used_in, live_in, used_at, live_bytes_at}
 use Rattle.regions.specs.Contents.{standing_in, standing_at}
 use Rattle.regions.proofs.Tables as tables
 use Rattle.regions.proofs.Updates.{used-is, live-is}
-use Rattle.regions.proofs.Consistency.{closed-begun}
+use Rattle.regions.proofs.Groups.{closed-parts, of-begun}
 use Rattle.regions.specs.Contents.{NoneLives, IsStart, starts_in, none_lives_in, IsLiveAt, live_at, item_if_live}
 use Rattle.regions.specs.declared.place.Place.{Place}
 use Rattle.regions.proofs.Regions.{begun-within}
@@ -15,8 +16,9 @@ use Rattle.regions.proofs.region.Region.next_live.Goals as goal
 the-segment : (c : goal.After-next_live) → get_or c.self.inside.slots.items c.args.segment None ≡ Some c.segment_in.result.now
 the-segment c =
     let i = c.self.inside in let slots = i.slots.items in let n = c.args.segment in
-    let shut : is_closed i.active (slots_of slots) n ≡ true = subst (λ q. IsClosed q n) (sym c.self.view_is) c.requires.closed in
-    let inside = begun-within i.most i.active i.held i.free i.active_live i.table slots c.self.invariant n (closed-begun i.active (slots_of slots) n shut).0 in
+    let shut : is_closed (states i.groups.items) (slots_of slots) n ≡ true = subst (λ q. IsClosed q n) (sym c.self.view_is) c.requires.closed in
+    let part = closed-parts (states i.groups.items) (slots_of slots) n shut in
+    let inside = begun-within i.most i.groups.items i.held i.free slots c.self.invariant n (of-begun (slot_at (slots_of slots) n) part.0 part.1) in
     tables.slot-is slots n c.index.result.now None inside c.index.ensures ∙ c.segment_in.ensures
 
 pub returns-clause-skipped : goal.returns-clause-skipped

@@ -2,6 +2,7 @@ use Rattle.std.proofs.Common.{◌≡◌, ◌+◌, ◌<◌, true, false, length, 
 use Rattle.std.specs.Prelude.{None, Some, option_map, slice_set}
 use Rattle.std.specs.List.{sum, count_by}
 use Rattle.regions.specs.Segments.{RegionState, segment_at, with_segment, fresh}
+use Rattle.regions.specs.inside.Consistent.{states}
 use Rattle.regions.specs.Shapes.{slots_of, slot_of, is_held, is_free, free_count, held_count, IsGreatestFree}
 use Rattle.regions.specs.Counts.{used_counts, live_counts}
 use Rattle.regions.proofs.Tables as tables
@@ -29,15 +30,15 @@ known c =
     }
 
 abbrev before : goal.After-piece_of → RegionState
-before c = let i = c.self.inside in record { most = i.most; guards = i.guards; active = i.active; segments = i.slots.items }
+before c = let i = c.self.inside in record { most = i.most; groups = states i.groups.items; segments = i.slots.items }
 
 pub invariant_of-self : goal.invariant_of-self
 invariant_of-self c =
     let i = c.self.inside in let slots = i.slots.items in let n = c.greatest_of-number.result in let k = known c in let d = c.replace-taken.new.dest in
-    subst (λ h. Fields i.most i.active h c.remove-2.new.self i.active_live i.table (slice_set slots n d)) (sym c.remove.ensures)
-    (subst (λ f. Fields i.most i.active (slice_set i.held n false) f i.active_live i.table (slice_set slots n d)) (sym c.remove-2.ensures)
-    (subst (λ s. Fields i.most i.active (slice_set i.held n false) (slice_set i.free n false) i.active_live i.table (slice_set slots n s)) (sym c.replace-taken.ensures.after)
-    (taken-in i.most i.active i.held i.free i.active_live i.table slots c.self.invariant n (fresh c.piece_of.result) k.is refl refl)))
+    subst (λ h. Fields i.most i.groups.items h c.remove-2.new.self (slice_set slots n d)) (sym c.remove.ensures)
+    (subst (λ f. Fields i.most i.groups.items (slice_set i.held n false) f (slice_set slots n d)) (sym c.remove-2.ensures)
+    (subst (λ s. Fields i.most i.groups.items (slice_set i.held n false) (slice_set i.free n false) (slice_set slots n s)) (sym c.replace-taken.ensures.after)
+    (taken-in i.most i.groups.items i.held i.free slots c.self.invariant n (fresh c.piece_of.result) k.is refl refl)))
 
 pub returns-clause-taken : goal.returns-clause-taken
 returns-clause-taken c =

@@ -8,4 +8,4 @@ pub returns-clause-dead : goal.returns-clause-dead
 returns-clause-dead c z at =
     let i = c.self.inside in let v = c.self.invariant in
     subst (λ h. item_if_live (standing_in (Some h) at) ≡ None) c.self.view_is
-    (dead-segment i.piece.bytes i.used i.free v.1 v.2 (subst (λ h. live_in (Some h) ≡ 0) (sym c.self.view_is) z) at)
+    (dead-segment i.piece.bytes i.used i.group v.1 v.2 (subst (λ h. live_in (Some h) ≡ 0) (sym c.self.view_is) z) at)

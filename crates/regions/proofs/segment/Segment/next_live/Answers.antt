@@ -1,7 +1,7 @@
 use Rattle.std.proofs.Common.{◌≡◌, ◌<◌, ◌≤◌, inl, inr, sym, ap, ◌∙◌, subst, arith}
 use Rattle.std.proofs.lemmas.Bool.Decides.{leb_tells}
 use Rattle.object_log.specs.Objects.{Object, objects, descriptor_at, IsSegment, StandsAt}
-use Rattle.std.specs.Prelude.{Some}
+use Rattle.std.specs.Prelude.{Some, IsSome}
 use Rattle.regions.specs.Contents.{starts_in}
 use Rattle.regions.proofs.Objects.{found-any, first-start}
 use Rattle.regions.proofs.Written.{IsThere}
@@ -11,9 +11,9 @@ use Rattle.regions.proofs.segment.Segment.next_live.Goals as goal
 pub read_descriptor-found-requires : goal.read_descriptor-found-requires
 read_descriptor-found-requires c =
     let h = c.args.self.now in let at = c.loop-at.at in
-    let s : IsSegment h.piece.bytes h.used = subst (λ k. IsSegment k.piece.bytes k.used) c.self.view_is (c.self.invariant.2 (ap (λ k. k.free) c.self.view_is ∙ c.requires.begun)) in
+    let s : IsSegment h.piece.bytes h.used = subst (λ k. IsSegment k.piece.bytes k.used) c.self.view_is (c.self.invariant.2 (subst (λ k. IsSome k.group) (sym c.self.view_is) c.requires.begun)) in
     let low : at < h.used = subst (λ k. at < k.used) c.self.view_is c.loop-at-test.true in
-    let t = there-at h.piece.bytes h.used at s low c.loop-at.invariant.1 in
+    let t = there-at h.group h.piece.bytes h.used at s low c.loop-at.invariant.1 in
     let is : c.bytes-bytes.result.now ≡ h.piece.bytes = c.bytes-bytes.ensures ∙ ap (λ k. k.piece.bytes) c.self.view_is in
     (h.used, subst (λ b. IsSegment b h.used) (sym is) s, inl (subst (λ b. StandsAt at (objects b h.used)) (sym is) (found-any (λ (o : Object). o.at ≡ at) at (objects h.piece.bytes h.used) t.it t.is-it (t.found).place)))
 
@@ -25,75 +25,75 @@ record Known (c : goal.Then-found-eq1) : Type 0 where
 known : (c : goal.Then-found-eq1) → Known c
 known c =
     let i = c.self.inside in let h = c.args.self.now in let at = c.loop-at.at in
-    let t = stands-there i.piece i.used i.free h at c.self.view_is c.self.invariant.2 c.requires.begun c.loop-at-test.true c.loop-at.invariant.1 in let d = c.read_descriptor-found.result in
+    let t = stands-there i.piece i.used i.group h at c.self.view_is c.self.invariant.2 c.requires.begun c.loop-at-test.true c.loop-at.invariant.1 in let d = c.read_descriptor-found.result in
     let d-is = c.read_descriptor-found.ensures.read ∙ ap (λ b. descriptor_at b at) (c.bytes-bytes.ensures ∙ ap (λ k. k.piece.bytes) c.self.view_is) in
     record { there = t; is-read = d-is }
 
 pub returns-then-found-eq1-clause-found : goal.returns-then-found-eq1-clause-found
 returns-then-found-eq1-clause-found c =
     let h = c.args.self.now in let at = c.loop-at.at in let k = known c in
-    live-there h.piece.bytes h.used at k.there c.read_descriptor-found.result k.is-read c.if-found-eq1.true
+    live-there h.group h.piece.bytes h.used at k.there c.read_descriptor-found.result k.is-read c.if-found-eq1.true
 
 pub returns-then-found-eq1-clause-size : goal.returns-then-found-eq1-clause-size
 returns-then-found-eq1-clause-size c =
     let h = c.args.self.now in let at = c.loop-at.at in let k = known c in
     let is : c.bytes-bytes.result.now ≡ h.piece.bytes = c.bytes-bytes.ensures ∙ ap (λ k. k.piece.bytes) c.self.view_is in
     let stands : StandsAt at (objects c.bytes-bytes.result.now h.used) = subst (λ b. StandsAt at (objects b h.used)) (sym is) (found-any (λ (o : Object). o.at ≡ at) at (objects h.piece.bytes h.used) k.there.it k.there.is-it (k.there.found).place) in
-    (some-kind h.piece.bytes h.used at k.there c.read_descriptor-found.result k.is-read, (c.read_descriptor-found.ensures.fits h.used (subst (λ b. IsSegment b h.used) (sym is) k.there.segment) stands).0)
+    (some-kind h.group h.piece.bytes h.used at k.there c.read_descriptor-found.result k.is-read, (c.read_descriptor-found.ensures.fits h.used (subst (λ b. IsSegment b h.used) (sym is) k.there.segment) stands).0)
 
 pub returns-then-found-eq1-clause-within : goal.returns-then-found-eq1-clause-within
 returns-then-found-eq1-clause-within c =
     let h = c.args.self.now in let at = c.loop-at.at in let k = known c in
-    (step h.piece.bytes h.used at k.there c.read_descriptor-found.result k.is-read).1
+    (step h.group h.piece.bytes h.used at k.there c.read_descriptor-found.result k.is-read).1
 
 pub returns-then-found-eq1-clause-inside : goal.returns-then-found-eq1-clause-inside
 returns-then-found-eq1-clause-inside c =
     let h = c.args.self.now in let at = c.loop-at.at in let k = known c in
-    let w = step h.piece.bytes h.used at k.there c.read_descriptor-found.result k.is-read in omega (arith, w.1, w.2)
+    let w = step h.group h.piece.bytes h.used at k.there c.read_descriptor-found.result k.is-read in omega (arith, w.1, w.2)
 
 pub returns-then-found-eq1-clause-next : goal.returns-then-found-eq1-clause-next
 returns-then-found-eq1-clause-next c =
     let h = c.args.self.now in let at = c.loop-at.at in let k = known c in
-    next-starts h.piece.bytes h.used at k.there c.read_descriptor-found.result k.is-read
+    next-starts h.group h.piece.bytes h.used at k.there c.read_descriptor-found.result k.is-read
 
 pub returns-then-found-eq1-clause-between : goal.returns-then-found-eq1-clause-between
 returns-then-found-eq1-clause-between c =
     let h = c.args.self.now in let at = c.loop-at.at in let k = known c in
-    none-between h.piece.bytes h.used at k.there c.read_descriptor-found.result k.is-read
+    none-between h.group h.piece.bytes h.used at k.there c.read_descriptor-found.result k.is-read
 
 pub overflow_add-at : goal.overflow_add-at
 overflow_add-at c =
     let i = c.self.inside in let h = c.args.self.now in let at = c.loop-at.at in
-    let t = stands-there i.piece i.used i.free h at c.self.view_is c.self.invariant.2 c.requires.begun c.loop-at-test.true c.loop-at.invariant.1 in let d = c.read_descriptor-found.result in
+    let t = stands-there i.piece i.used i.group h at c.self.view_is c.self.invariant.2 c.requires.begun c.loop-at-test.true c.loop-at.invariant.1 in let d = c.read_descriptor-found.result in
     let d-is = c.read_descriptor-found.ensures.read ∙ ap (λ b. descriptor_at b at) (c.bytes-bytes.ensures ∙ ap (λ k. k.piece.bytes) c.self.view_is) in
-    let w = step h.piece.bytes h.used at t d d-is in record { fits = omega (arith, w.1, w.2) }
+    let w = step h.group h.piece.bytes h.used at t d d-is in record { fits = omega (arith, w.1, w.2) }
 
 pub loop-at-smaller : goal.loop-at-smaller
 loop-at-smaller c =
     let i = c.self.inside in let h = c.args.self.now in let at = c.loop-at.at in
-    let t = stands-there i.piece i.used i.free h at c.self.view_is c.self.invariant.2 c.requires.begun c.loop-at-test.true c.loop-at.invariant.1 in let d = c.read_descriptor-found.result in
+    let t = stands-there i.piece i.used i.group h at c.self.view_is c.self.invariant.2 c.requires.begun c.loop-at-test.true c.loop-at.invariant.1 in let d = c.read_descriptor-found.result in
     let d-is = c.read_descriptor-found.ensures.read ∙ ap (λ b. descriptor_at b at) (c.bytes-bytes.ensures ∙ ap (λ k. k.piece.bytes) c.self.view_is) in
-    let w = step h.piece.bytes h.used at t d d-is in omega (arith, w.0, c.loop-at-test.true)
+    let w = step h.group h.piece.bytes h.used at t d d-is in omega (arith, w.0, c.loop-at-test.true)
 
 pub loop-at-preserved : goal.loop-at-preserved
 loop-at-preserved c =
     let i = c.self.inside in let h = c.args.self.now in let at = c.loop-at.at in
-    let t = stands-there i.piece i.used i.free h at c.self.view_is c.self.invariant.2 c.requires.begun c.loop-at-test.true c.loop-at.invariant.1 in let d = c.read_descriptor-found.result in
+    let t = stands-there i.piece i.used i.group h at c.self.view_is c.self.invariant.2 c.requires.begun c.loop-at-test.true c.loop-at.invariant.1 in let d = c.read_descriptor-found.result in
     let d-is = c.read_descriptor-found.ensures.read ∙ ap (λ b. descriptor_at b at) (c.bytes-bytes.ensures ∙ ap (λ k. k.piece.bytes) c.self.view_is) in
-    let w = step h.piece.bytes h.used at t d d-is in let before = c.loop-at.invariant.0 in
-    (omega (arith, before), next-starts h.piece.bytes h.used at t d d-is, passed h.piece.bytes h.used at t d d-is c.args.from c.if-found-eq1.false c.loop-at.invariant.2)
+    let w = step h.group h.piece.bytes h.used at t d d-is in let before = c.loop-at.invariant.0 in
+    (omega (arith, before), next-starts h.group h.piece.bytes h.used at t d d-is, passed h.group h.piece.bytes h.used at t d d-is c.args.from c.if-found-eq1.false c.loop-at.invariant.2)
 
 pub returns-then-found-eq1-clause-counted : goal.returns-then-found-eq1-clause-counted
 returns-then-found-eq1-clause-counted c =
     let h = c.args.self.now in let at = c.loop-at.at in let k = known c in
-    counted h.piece.bytes h.used at k.there c.read_descriptor-found.result k.is-read c.if-found-eq1.true
+    counted h.group h.piece.bytes h.used at k.there c.read_descriptor-found.result k.is-read c.if-found-eq1.true
 
 pub returns-clause-dead : goal.returns-clause-dead
 returns-clause-dead c = λ _ before.
     let h = c.args.self.now in let at = c.loop-at.at in
-    let s : IsSegment h.piece.bytes h.used = subst (λ k. IsSegment k.piece.bytes k.used) c.self.view_is (c.self.invariant.2 (ap (λ k. k.free) c.self.view_is ∙ c.requires.begun)) in
+    let s : IsSegment h.piece.bytes h.used = subst (λ k. IsSegment k.piece.bytes k.used) c.self.view_is (c.self.invariant.2 (subst (λ k. IsSome k.group) (sym c.self.view_is) c.requires.begun)) in
     let high : h.used ≤ at = subst (λ k. k.used ≤ at) c.self.view_is c.loop-at-test.false in
-    none-counted h.piece.bytes 0 h.used (objects h.piece.bytes h.used) s.objects (λ b low inside.
+    none-counted h.group h.piece.bytes 0 h.used (objects h.piece.bytes h.used) s.objects (λ b low inside.
     elim (leb_tells c.args.from b) [
       | inl up ↦ c.loop-at.invariant.2 b up.1 (omega (arith, high, inside))
       | inr under ↦ before b low under.1
@@ -102,10 +102,10 @@ returns-clause-dead c = λ _ before.
 pub loop-at-init : goal.loop-at-init
 loop-at-init c =
     let h = c.args.self.now in
-    let s : IsSegment h.piece.bytes h.used = subst (λ k. IsSegment k.piece.bytes k.used) c.self.view_is (c.self.invariant.2 (ap (λ k. k.free) c.self.view_is ∙ c.requires.begun)) in (
+    let s : IsSegment h.piece.bytes h.used = subst (λ k. IsSegment k.piece.bytes k.used) c.self.view_is (c.self.invariant.2 (subst (λ k. IsSome k.group) (sym c.self.view_is) c.requires.begun)) in (
       omega arith,
       elim c.requires.start [
-        | inl first ↦ subst (starts_in (Some h)) (sym first) (first-start h.piece.bytes 0 h.used (objects h.piece.bytes h.used) s.objects)
+        | inl first ↦ subst (starts_in (Some h)) (sym first) (first-start h.group h.piece.bytes 0 h.used (objects h.piece.bytes h.used) s.objects)
         | inr start ↦ start
       ],
       λ a low high. absurd (omega (arith, low, high)),

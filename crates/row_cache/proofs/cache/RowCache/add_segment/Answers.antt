@@ -1,10 +1,13 @@
 use Rattle.std.proofs.Common.{length, ap, subst, ◌∙◌}
+use Rattle.regions.specs.Segments.{RegionState}
+use Rattle.regions.specs.Shapes.{group_count}
 use Rattle.row_cache.specs.Rows.{CacheState, rows_of, Stay}
 use Rattle.row_cache.proofs.Caches.{cache_kept, kept_reads, stays_kept}
 use Rattle.row_cache.proofs.cache.RowCache.add_segment.Goals as goal
 
 pub invariant_of-self : goal.invariant_of-self
 invariant_of-self c = cache_kept c.self.inside.tables c.self.inside.region c.add_segment.new.self c.self.inside.live c.self.invariant c.add_segment.ensures.objects c.add_segment.ensures.live_total
+    (ap (λ (r : RegionState). group_count r) c.add_segment.ensures.added.2)
 
 pub returns-clause-rows : goal.returns-clause-rows
 returns-clause-rows c =

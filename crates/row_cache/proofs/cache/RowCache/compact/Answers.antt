@@ -1,10 +1,12 @@
 use Rattle.std.proofs.Common.{◌≡◌, sym, ap, ◌∙◌}
+use Rattle.regions.specs.Shapes.{guards_of}
 use Rattle.regions.specs.Contents.{live_at}
-use Rattle.row_cache.specs.Rows.{rows_of}
+use Rattle.row_cache.specs.Rows.{CacheState, rows_of}
 use Rattle.row_cache.specs.inside.Consistent.{IsConsistent, rows_in}
 use Rattle.row_cache.specs.inside.Tables.{TableState}
 use Rattle.row_cache.proofs.Caches.{rows_read}
 use Rattle.row_cache.proofs.Looked.{rows_moved, consistent_moved}
+use Rattle.row_cache.proofs.OneGroup.{guarded_means}
 use Rattle.row_cache.proofs.cache.RowCache.compact.Goals as goal
 
 pub pass-requires-clause-fits : goal.pass-requires-clause-fits
@@ -17,6 +19,7 @@ invariant_of-self c =
       counted = consistent_moved t u r s c.self.inside.live i.counted e.fits.0
           (rows_moved t u (live_at r) (live_at s) i.counted.tables e.fits.0 (ap (λ (x : TableState). x.recency) e.rest) e.store c.a_row_is_read_as_it_is_written.ensures.others) e.holds.live_total;
       chain = e.fits.1;
+      one = e.holds.groups ∙ i.one;
     }
 
 pub returns-clause-rows : goal.returns-clause-rows
@@ -28,5 +31,10 @@ returns-clause-rows c =
     let now : IsConsistent u s c.self.inside.live = record {
       counted = consistent_moved t u r s c.self.inside.live i.counted e.fits.0 rows e.holds.live_total;
       chain = e.fits.1;
+      one = e.holds.groups ∙ i.one;
     } in
     rows_read u s c.self.inside.live now ∙ (rows ∙ was)
+
+pub returns-clause-guarded : goal.returns-clause-guarded
+returns-clause-guarded c =
+    guarded_means _ c.self.inside.region (guards_of c.args.self.now.region 0) c.self.invariant.one (ap (λ (x : CacheState). guards_of x.region 0) c.self.view_is) c.pass.ensures.guarded

@@ -1,11 +1,13 @@
-use Rattle.std.proofs.Common.{◌≡◌, List, length, sym, ap, ◌∙◌, arith}
+use Rattle.std.proofs.Common.{◌≡◌, List, length, sym, ap, subst, ◌∙◌, arith}
 use Rattle.std.proofs.lemmas.List.{length-map}
 use Rattle.cache_model.specs.Row.{Row, live}
+use Rattle.regions.specs.Shapes.{group_count}
 use Rattle.regions.specs.Counts.{live_total}
 use Rattle.regions.specs.Contents.{live_at}
-use Rattle.row_cache.specs.Rows.{CacheState, row_at, rows_of}
+use Rattle.row_cache.specs.Rows.{CacheState, AreMetOnce, IsLinkedThrough, row_at, rows_of}
 use Rattle.row_cache.specs.inside.Consistent.{rows_in}
 use Rattle.row_cache.proofs.Caches.{rows_read}
+use Rattle.row_cache.proofs.Reached.{linked_through, met_once}
 use Rattle.row_cache.proofs.cache.RowCache.facts.Goals as goal
 
 pub returns-clause-live : goal.returns-clause-live
@@ -23,3 +25,16 @@ returns-clause-room c =
     let long : length (rows_in t r) ≡ length t.recency = length-map t.recency (row_at (live_at r) t.places) in
     let room = ap (λ (x : CacheState). x.room) c.self.view_is in
     omega (arith, count, few, seen, long, room)
+
+pub returns-clause-linked : goal.returns-clause-linked
+returns-clause-linked c =
+    let t = c.self.inside.tables in let r = c.self.inside.region in
+    subst (λ (x : CacheState). IsLinkedThrough x) c.self.view_is (linked_through t r c.self.inside.live c.self.invariant)
+
+pub returns-clause-met : goal.returns-clause-met
+returns-clause-met c =
+    let t = c.self.inside.tables in let r = c.self.inside.region in
+    subst (λ (x : CacheState). AreMetOnce x) c.self.view_is (met_once t r c.self.inside.live c.self.invariant)
+
+pub returns-clause-groups : goal.returns-clause-groups
+returns-clause-groups c = sym (ap (λ (x : CacheState). group_count x.region) c.self.view_is) ∙ c.self.invariant.one

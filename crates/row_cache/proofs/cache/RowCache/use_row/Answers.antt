@@ -10,6 +10,7 @@ use Rattle.common_lemmas.specs.Lists.{delete}
 use Rattle.row_cache.proofs.Listed.{listed_here}
 use Rattle.row_cache.proofs.Looked.{row_stands, consistent_touched, rows_touched}
 use Rattle.row_cache.proofs.Relinked.{relinked_lives, relinked_same, same_rows}
+use Rattle.row_cache.proofs.OneGroup.{one_kept}
 use Rattle.row_cache.proofs.cache.RowCache.use_row.Goals as goal
 
 pub search-requires : goal.search-requires
@@ -40,6 +41,7 @@ invariant_of-self c =
       counted = consistent_touched t c.touch.new.self r c.touch.new.region c.self.inside.live c.in-Ok.found.row c.self.invariant.counted e.tables c.in-Ok.ensures.listed e.same
           (ap (λ (x : TableState). x.recency) e.state) (ap (λ (x : TableState). x.places) e.state);
       chain = e.linked;
+      one = one_kept r c.touch.new.region e.same.shape c.self.invariant.one;
     }
 
 pub returns-clause-found : goal.returns-clause-found
@@ -64,6 +66,7 @@ returns-clause-rows c =
       counted = consistent_touched t u r s c.self.inside.live n c.self.invariant.counted e.tables c.in-Ok.ensures.listed e.same
           (ap (λ (x : TableState). x.recency) e.state) (ap (λ (x : TableState). x.places) e.state);
       chain = e.linked;
+      one = one_kept r c.touch.new.region e.same.shape c.self.invariant.one;
     } in
     rows_read u s c.self.inside.live i
     ∙ (rows_touched t u r s n e.same (ap (λ (x : TableState). x.recency) e.state) (ap (λ (x : TableState). x.places) e.state)

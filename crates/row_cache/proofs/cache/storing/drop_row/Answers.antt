@@ -15,6 +15,7 @@ use Rattle.row_cache.proofs.Kept.{chain_on, same_past}
 use Rattle.row_cache.proofs.Numbered.{others_lack}
 use Rattle.row_cache.proofs.Relinked.{relinked_stay, stay_again}
 use Rattle.row_cache.proofs.States.{some_same}
+use Rattle.row_cache.proofs.OneGroup.{one_kept}
 use Rattle.row_cache.proofs.cache.storing.drop_row.Goals as goal
 
 -- the tables once the row is unlinked
@@ -68,6 +69,7 @@ returns-clause-consistent c =
           (c.remove.ensures.tables c.place.result (live_at m) (live_at s) i.tables (ap (λ (f : RowAt). slice_get u.places f.row) c.standing-standing.ensures.found ∙ c.place.ensures) k.dropped)
           rows (omega (arith, total, size)) (omega (arith, total, size, from, whole));
       chain = dropped_chain u c.remove.new.self (live_at m) (live_at s) n c.place.result i.tables listed c.place.ensures k.dropped e.linked c.remove.ensures.ends c.remove.ensures.places recency;
+      one = one_kept r s (k.shape ∙ e.same.shape) c.requires.consistent.one;
     }
 
 pub returns-clause-stay : goal.returns-clause-stay

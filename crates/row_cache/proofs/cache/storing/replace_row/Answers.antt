@@ -17,6 +17,7 @@ use Rattle.row_cache.proofs.Numbered.{others_lack}
 use Rattle.row_cache.proofs.Relinked.{relinked_lives, relinked_stay, relinked_total, same_rows, stay_again}
 use Rattle.row_cache.proofs.States.{some_same}
 use Rattle.row_cache.specs.inside.Tables.{SwapsRow}
+use Rattle.row_cache.proofs.OneGroup.{has_group, one_kept}
 use Rattle.row_cache.proofs.cache.storing.replace_row.Goals as goal
 
 -- the tables once the row is unlinked
@@ -103,9 +104,16 @@ returns-clause-consistent c =
       counted = consistent_replaced u x m c.replace.new.region c.args.live.now (c.args.live.now + c.from.result - c.from-2.result) n row i listed c.replace.ensures.tables
           rows (omega (arith, total, old_size, more)) (omega (arith, total, old_size, whole, size, f1, f2));
       chain = c.replace.ensures.linked;
+      one = one_kept r c.replace.new.region (c.replace.ensures.same.shape ∙ (d.shape ∙ e.same.shape)) c.requires.consistent.one;
     }
 
 pub returns-clause-stay : goal.returns-clause-stay
 returns-clause-stay c =
     let r = c.args.region.now in let m = c.unlink.new.region in let s = c.swap_row.new.region in let x = c.replace.new.region in
     stay_again r s x (stay_again r m s (relinked_stay r m c.unlink.ensures.same) c.in-Ok.ensures.stay) (relinked_stay s x c.replace.ensures.same)
+
+pub left-requires : goal.left-requires
+left-requires c = has_group c.args.region.now c.requires.consistent.one
+
+pub swap_row-requires-clause-one : goal.swap_row-requires-clause-one
+swap_row-requires-clause-one c = one_kept c.args.region.now c.unlink.new.region c.unlink.ensures.same.shape c.requires.consistent.one

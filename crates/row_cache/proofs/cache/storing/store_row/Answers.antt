@@ -7,6 +7,7 @@ use Rattle.row_cache.specs.inside.Chained.{place_in}
 use Rattle.row_cache.proofs.Kept.{chain_on, lacks_dead, same_of_rows}
 use Rattle.row_cache.proofs.Relinked.{relinked_left, relinked_stay, relinked_total, stay_again}
 use Rattle.row_cache.proofs.Caches.{counts_more, relinked_rows, rows_added, consistent_added}
+use Rattle.row_cache.proofs.OneGroup.{one_kept}
 use Rattle.row_cache.proofs.cache.storing.store_row.Goals as goal
 
 pub overflow_add-live : goal.overflow_add-live
@@ -58,6 +59,7 @@ returns-clause-consistent c =
       counted = consistent_added c.args.tables.now c.insert.new.self c.args.region.now c.insert.new.region c.args.live.now (c.args.live.now + c.from.result) row c.requires.consistent.counted
           e.tables (returns-clause-rows c) (more ∙ total) (omega (arith, whole, from));
       chain = e.linked;
+      one = one_kept c.args.region.now c.insert.new.region (e.same.shape ∙ c.in_ok-place.ensures.shape) c.requires.consistent.one;
     }
 
 pub returns-clause-shape : goal.returns-clause-shape

@@ -1,10 +1,9 @@
 -- No part is answered, and all room is left.
-use Rattle.std.proofs.Common.{◌≡◌, ◌-◌, arith, refl}
+use Rattle.std.proofs.Common.{◌≡◌, arith, refl}
 use Rattle.run_log.proofs.ReplyLists.{unanswered}
 use Rattle.run_log.proofs.reply_log.ReplyLog.new.Goals as goal
 
 pub returns : goal.returns
 returns c =
     let all : c.loop.counter ≡ c.args.parts = omega arith in
-    let all_left : c.args.bytes - 0 ≡ c.args.bytes = omega arith in
-    rw (c.loop.invariant, unanswered, all, c.in_ok-with_capacity.ensures.len, all_left) refl
+    rw (c.loop.invariant, unanswered, all, c.in_ok-new.ensures) refl

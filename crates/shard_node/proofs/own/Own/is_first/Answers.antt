@@ -1,6 +1,6 @@
 use Rattle.std.proofs.Common.{refl, sym, ◌∙◌}
-use Rattle.shard_node.proofs.OwnParts.OwnNext.{at-shards, first-of-other, first-of-scan, none-behind, scan-of}
-use Rattle.shard_node.proofs.Cursors.Places.{no_command}
+use Rattle.shard_node.proofs.OwnParts.OwnNext.{at-shards, first-of-other, first-of-scan, none-behind}
+use Rattle.shard_node.proofs.Cursors.Places.{no_operation}
 use Rattle.shard_node.proofs.own.Own.is_first.Goals as goal
 use Rattle.shard_node.proofs.own.Own.is_first.Goals.{else-self-commands-via-then-self-commands+else-is_scan, else-self-commands-via-else-self-commands}
 
@@ -8,7 +8,7 @@ pub returns-then-is_scan : goal.returns-then-is_scan
 returns-then-is_scan c =
     let value = c.commands-commands.ensures.value in
     let within = rw value at c.if-self-commands.true in
-    let scan = scan-of c.self.inside.trace.now c.self.inside.next.at no_command _ within (sym c.if-is_scan.true ∙ rw value at c.is_scan.ensures) in
+    let scan = sym (c.is_scan.ensures no_operation) ∙ c.if-is_scan.true in
     rw (← c.self.view_is)
     (first-of-scan c.issued_parts_are_counted.ensures.count _ _ _ _ _ _ (rw value at c.commands-commands.ensures.numbered) (at-shards _ _ _ _ _ _ c.self.invariant) within scan)
 
@@ -22,7 +22,7 @@ returns-else-self-commands c part next =
     (elim c.else-self-commands.branch [
       | else-self-commands-via-then-self-commands+else-is_scan w ↦
           let within = rw value at w.if-self-commands.true in
-          let other = scan-of c.self.inside.trace.now c.self.inside.next.at no_command _ within (sym w.if-is_scan.false ∙ rw value at w.is_scan.ensures) in
+          let other = sym (w.is_scan.ensures no_operation) ∙ w.if-is_scan.false in
           (λ _. first-of-other counted _ _ _ _ _ _ (rw value at c.commands-commands.ensures.numbered) stands within other part there, λ _. refl)
       | else-self-commands-via-else-self-commands w ↦ absurd (none-behind counted _ _ _ _ _ _ stands (rw value at w.if-self-commands.false) part there)
     ])

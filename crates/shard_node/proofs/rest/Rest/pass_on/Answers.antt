@@ -12,8 +12,8 @@ pub find-self-inside-requires-clause-before : goal.find-self-inside-requires-cla
 find-self-inside-requires-clause-before c =
     let value = c.commands-commands.ensures.value in
     let within : c.self.inside.next.at < length c.self.inside.trace.now.commands = rw value at c.if-self-commands.true in
-    rw value at c.past-from.ensures.before
-    ∙ parts-behind c.self.inside.trace.now c.self.inside.shards c.self.inside.origin c.self.inside.next.at c.self.inside.next.before _ c.shards_take_turns.ensures.next c.self.invariant.shards
+    c.past-from.ensures.before no_operation
+    ∙ parts-behind c.self.inside.trace.now c.self.inside.shards c.self.inside.origin c.self.inside.next.at c.self.inside.next.before no_operation c.shards_take_turns.ensures.next c.self.invariant.shards
     c.self.invariant.origin within c.self.invariant.parts
     ∙ ap (λ at. parts_before (trace_in c.self.inside.trace.now) c.self.inside.shards c.self.inside.origin at) (sym c.past-from.ensures.at)
 

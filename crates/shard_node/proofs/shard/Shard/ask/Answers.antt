@@ -16,6 +16,7 @@ use Rattle.shard_node.proofs.Turning.StepGoes.{lends_more, no_more, stays_goes}
 use Rattle.shard_node.specs.inside.Moves.{Goes}
 use Rattle.shard_node.specs.inside.Shards.{node_state}
 use Rattle.shard_node.proofs.Requests.TicketsBefore.{few_lent, tickets_before}
+use Rattle.shard_node.proofs.OwnParts.OwnLog.{next-is-left}
 use Rattle.shard_node.proofs.shard.Shard.ask.Goals as goal
 
 pub returns-in-Ok : goal.returns-in-Ok
@@ -87,3 +88,6 @@ returns-in_default-clause-goes g c =
     let same = c.in_default.ensures.unchanged in
     subst (λ s. Goes traffic node (record node { space = s; journal = c.request_block.new.journal })) (sym same.0)
     (subst (λ j. Goes traffic node (record node { journal = j })) (sym same.1) (stays_goes traffic node))
+
+pub pass-requires : goal.pass-requires
+pass-requires g c = next-is-left c.args.self.now (c.args.command.now.number, c.args.doer) c.requires.consistent c.requires.next

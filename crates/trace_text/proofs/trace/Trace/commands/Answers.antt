@@ -4,7 +4,7 @@ use Rattle.trace_text.proofs.TraceRead.{parsed_read}
 use Rattle.trace_text.proofs.trace.Trace.commands.Goals as goal
 
 pub returns-clause-read : goal.returns-clause-read
-returns-clause-read c = rw (← c.self.view_is) (parsed_read _ c.self.invariant)
+returns-clause-read c = rw (← c.self.view_is) (parsed_read _ c.self.invariant.consistent)
 
 pub returns-clause-well_formed : goal.returns-clause-well_formed
-returns-clause-well_formed c = rw (← c.self.view_is) (well_formed _ _ c.self.invariant.spelled.within)
+returns-clause-well_formed c = rw (← c.self.view_is) (well_formed _ _ c.self.invariant.consistent.spelled.within)

@@ -1,0 +1,33 @@
+-- Where commands go, as it is written down while a trace is read.
+use Rattle.std.specs.Prelude.{◌≡◌, ℕ, List, map}
+use Rattle.trace_text.specs.declared.command.Command.{Command}
+use Rattle.trace_text.specs.declared.command.Kind.{Kind}
+use Rattle.trace_text.specs.declared.route.Route.{Route}
+use Rattle.trace_text.specs.Operation.{Operation, operation, operations}
+use Rattle.trace_text.specs.Parsed.{IsConsistent, Parsed}
+use Rattle.trace_text.specs.Parts.{owner}
+use Rattle.trace_text.specs.inside.Found.{LiesAt}
+
+-- of n shards: a command's kind, and the owner of its key
+abbrev pub route_of : ℕ → Kind → List ℕ → Route
+route_of n kind key = record { kind = kind; owner = owner key n }
+
+abbrev pub route : ℕ → Operation → Route
+route n operation = route_of n operation.kind operation.key
+
+abbrev pub routes : ℕ → List Operation → List Route
+routes n operations = map (route n) operations
+
+-- a line's command goes there, in whatever bytes the line stands at this offset
+abbrev pub IsRouteAt : ℕ → List ℕ → ℕ → Command → Route → Type 0
+IsRouteAt n text start command where_to = (bytes : List ℕ) → LiesAt bytes start text → where_to ≡ route n (operation bytes command)
+
+-- a line that adds a command adds its route
+abbrev pub AddsRoute : ℕ → List ℕ → ℕ → List Command → List Route → List Command → List Route → Type 0
+AddsRoute n text start commands old more new = (bytes : List ℕ) → LiesAt bytes start text
+    → old ≡ routes n (operations bytes commands) → new ≡ routes n (operations bytes more)
+
+-- a trace with the routes of its commands
+pub record IsRouted (trace : Parsed) (where_to : List Route) : Type 0 where
+  pub consistent : IsConsistent trace
+  pub routes_are : where_to ≡ routes trace.shards (operations trace.bytes trace.commands)
