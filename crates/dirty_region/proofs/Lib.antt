@@ -1,0 +1,11 @@
+pub mod Appended
+pub mod Listed
+pub mod Slots
+pub mod Rings
+pub mod Moving
+pub mod Placed
+pub mod Indexes
+pub mod Stored
+pub mod Sought
+pub mod Flushed
+pub mod Segments

@@ -1,0 +1,44 @@
+use Rattle.std.proofs.Common.{refl, ap, ◌∙◌, arith}
+use Rattle.regions.specs.Segments.{RegionState}
+use Rattle.regions.specs.Shapes.{shape}
+use Rattle.dirty_region.specs.State.{DirtyState}
+use Rattle.dirty_region.proofs.Flushed.{out_none}
+use Rattle.dirty_region.proofs.Stored.{segments_same}
+use Rattle.dirty_region.proofs.Segments.{spare_emptied, stored_emptied, kept_held, kept_pieces, given_up}
+use Rattle.dirty_region.proofs.dirty.Dirty.give_up.Goals as goal
+
+pub invariant_of-self : goal.invariant_of-self
+invariant_of-self c =
+    let d = c.drop_all.new in let e = c.drop_all.ensures in let r = d.region in let new = c.give_up.new.self in let g = c.in_err-piece.ensures in
+    let is = g.emptied refl in
+    let spare = spare_emptied r new e.stored.spare (ap (λ (x : RegionState). (shape x).most) is) (ap (λ (x : RegionState). (shape x).groups) is) g.free in
+    let held = c.self.invariant.0.held_is in let same = (segments_same c.self.inside.region r e.shape).held in let kept = kept_held r new is in (
+      record {
+        stored = stored_emptied d.ring d.index r new d.live_bytes e.stored e.none c.law.ensures.moved g.objects g.live_total spare;
+        held_is = omega (arith, held, same, kept);
+        out_is = out_none _;
+      },
+      c.self.invariant.1,
+    )
+
+pub returns-in_err-piece-clause-kept : goal.returns-in_err-piece-clause-kept
+returns-in_err-piece-clause-kept c = λ _.
+    kept_pieces c.args.self.now.region c.drop_all.new.region c.give_up.new.self (c.drop_all.ensures.shape ∙ ap (λ (x : DirtyState). shape x.region) c.self.view_is) (c.in_err-piece.ensures.emptied refl)
+
+pub invariant_of-self-2 : goal.invariant_of-self-2
+invariant_of-self-2 c =
+    let d = c.drop_all.new in let e = c.drop_all.ensures in let r = d.region in let new = c.give_up.new.self in let g = c.in_ok-piece.ensures in
+    let is = g.given.3 in
+    let spare = spare_emptied r new e.stored.spare (ap (λ (x : RegionState). (shape x).most) is) (ap (λ (x : RegionState). (shape x).groups) is) g.free in
+    let held = c.self.invariant.0.held_is in let same = (segments_same c.self.inside.region r e.shape).held in let fewer = g.held refl in (
+      record {
+        stored = stored_emptied d.ring d.index r new d.live_bytes e.stored e.none c.law.ensures.moved g.objects g.live_total spare;
+        held_is = omega (arith, held, same, fewer);
+        out_is = out_none _;
+      },
+      c.self.invariant.1,
+    )
+
+pub returns-clause-given : goal.returns-clause-given
+returns-clause-given c =
+    given_up c.args.self.now.region c.drop_all.new.region c.give_up.new.self (c.drop_all.ensures.shape ∙ ap (λ (x : DirtyState). shape x.region) c.self.view_is) c.in_ok-piece.piece c.in_ok-piece.ensures.given

@@ -1,0 +1,59 @@
+-- A dirty queue: the puts that have not reached the disk, and what is still due of their lines.
+use Rattle.std.specs.Prelude.{◌≡◌, ℕ, ◌+◌, ◌<◌, cond, List, [], ◌∷◌, ◌++◌, length, take, drop, flat_map, codes, Option, None, Some}
+use Rattle.std.specs.Io.KnownBytes.{Appends}
+use Rattle.cache_model.specs.Row.{Row}
+use Rattle.cache_model.specs.Apply.{is_of}
+
+-- the puts, oldest first, each with its key, its value and its number, and how many bytes of the oldest one's line are out
+pub record Queue : Type 0 where
+  pub puts : List Row
+  pub out : ℕ
+
+-- the line of a put: `put`, a space, the key, a space, the value, and LF
+abbrev pub line : Row → List ℕ
+line put = codes "put " ++ put.key ++ codes " " ++ put.value ++ codes "\n"
+
+-- what is still due: the lines of all puts without the bytes that are out
+abbrev pub rest : Queue → List ℕ
+rest queue = drop queue.out (flat_map line queue.puts)
+
+-- the bytes that are out are fewer than the oldest line's, and none where there is no put
+abbrev pub IsOut : ℕ → List Row → Type 0
+IsOut out [] = out ≡ 0
+IsOut out (put ∷ puts) = out < length (line put)
+
+abbrev pub IsQueue : Queue → Type 0
+IsQueue queue = IsOut queue.out queue.puts
+
+-- the first value, or else the second
+abbrev pub or_else : Option (List ℕ) → Option (List ℕ) → Option (List ℕ)
+or_else None other = other
+or_else (Some value) other = Some value
+
+-- the value of the newest put of a key
+abbrev pub newest : List ℕ → List Row → Option (List ℕ)
+newest key [] = None
+newest key (put ∷ puts) = or_else (newest key puts) (cond (is_of key put) (Some put.value) None)
+
+-- what was left of the oldest line was appended, and its put is out of the queue
+pub record FlushesOldest (number : ℕ) (old new : Queue) (before after : Option (List ℕ)) : Type 0 where
+  pub put : Row
+  pub taken : old.puts ≡ put ∷ new.puts
+  pub number_is : number ≡ put.number
+  pub whole : Appends before after (drop old.out (line put))
+  pub begun : new.out ≡ 0
+
+-- a front of what was left of the oldest line was appended, and its put stays
+pub record BreaksOff (old new : Queue) (before after : Option (List ℕ)) : Type 0 where
+  pub put : Row
+  pub others : List Row
+  pub oldest : old.puts ≡ put ∷ others
+  pub stays : new.puts ≡ old.puts
+  pub count : ℕ
+  pub counted : new.out ≡ old.out + count
+  pub unfinished : new.out < length (line put)
+  pub front : Appends before after (take count (drop old.out (line put)))
+
+-- what was due is what was appended, followed by what is due
+abbrev pub GoesOn : Queue → Queue → Option (List ℕ) → Option (List ℕ) → Type 0
+GoesOn old new before after = (bytes : List ℕ) × Appends before after bytes × (rest old ≡ bytes ++ rest new)

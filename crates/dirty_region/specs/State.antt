@@ -1,0 +1,25 @@
+-- A dirty region, as its contracts see it.
+use Rattle.std.specs.Prelude.{◌≡◌, ℕ, List, [], ◌∷◌, ◌++◌}
+use Rattle.regions.specs.Segments.{RegionState}
+use Rattle.regions.specs.Shapes.{shape, pieces, held_count}
+use Rattle.dirty_region.specs.Queues.{Queue}
+
+-- for how many puts it has room, the queue for which it stands, and the segments in which the puts stand
+pub record DirtyState : Type 0 where
+  pub room : ℕ
+  pub queue : Queue
+  pub region : RegionState
+
+-- no put
+abbrev pub empty : Queue
+empty = record { puts = []; out = 0 }
+
+-- the queue with a put more, which is the newest
+abbrev pub with_put : List ℕ → List ℕ → ℕ → Queue → Queue
+with_put key value number queue = record queue { puts = queue.puts ++ record { key = key; value = value; number = number } ∷ [] }
+
+-- the same segments are held, each with its piece
+pub record HoldsSegments (old new : RegionState) : Type 0 where
+  pub most : (shape new).most ≡ (shape old).most
+  pub pieces : pieces new ≡ pieces old
+  pub held : held_count new ≡ held_count old

@@ -1,0 +1,173 @@
+//! The puts that have not reached the disk.
+ghost use Rattle.std.specs.Prelude.{◌≡◌, ◌↔◌, ◌+◌, ◌<◌, ◌≤◌, ◌^◌, ◌++◌, length, replicate, true, Err, None, IfOk, IfErr, MatchOption};
+ghost use Rattle.layout.specs.Sizes as sizes;
+ghost use Rattle.cache_model.specs.Row.{live, size};
+ghost use Rattle.regions.specs.Segments.{idle};
+ghost use Rattle.regions.specs.Shapes.{held_count};
+ghost use Rattle.region_room.specs.Room as bound;
+ghost use Rattle.dirty_region.specs.Queues.{Queue, line, newest, rest, IsQueue};
+ghost use Rattle.dirty_region.specs.State.{empty, with_put, HoldsSegments};
+ghost use Rattle.dirty_region.specs.declared.refusal.DirtyRefusal.{DirtyRefusal};
+
+mod flushing;
+mod segments;
+mod storing;
+
+use crate::line::GREATEST_LINE;
+use crate::objects::NewPut;
+use crate::put_keys::content_of;
+use crate::refusal::DirtyRefusal;
+use crate::ring::Ring;
+use crate::seeking::{forget, new_index, search};
+use lazy_index::LazyIndex;
+use region_room::room;
+use regions::Region;
+use row_bytes::{row_size, value_in};
+use std::alloc::{AllocError, Global};
+use std::marker::Model;
+use storing::{add_put, make_way};
+
+/// The puts that have not reached the disk, oldest first, and the segments in which they stand. Nothing is evicted.
+#[derive(Drop)]
+pub struct Dirty {
+    region: Region,
+    ring: Ring,
+    index: LazyIndex,
+    live: u64,
+    held: u32,
+    out: usize,
+    // memory for a line
+    line: Vec<u8>,
+}
+
+impl Model for Dirty {
+    ghost use Rattle.std.specs.Prelude.{◌≤◌, vec_capacity};
+    ghost use Rattle.regions.specs.Contents.{live_at};
+    ghost use Rattle.dirty_region.specs.State.{DirtyState};
+    ghost use Rattle.dirty_region.specs.inside.Rings.{puts_in};
+    ghost use Rattle.dirty_region.specs.inside.Lines.{greatest_line};
+    ghost use Rattle.dirty_region.specs.inside.Consistent.{IsConsistent};
+
+    ghost Value = { DirtyState };
+
+    ghost view = { λ d. record {
+      room = d.ring.room;
+      queue = record { puts = puts_in d.ring (live_at d.region); out = d.out };
+      region = d.region;
+    } };
+
+    ghost invariant = { λ d. IsConsistent d.ring d.index d.region d.live d.held d.out
+        × (greatest_line ≤ vec_capacity d.line) };
+}
+
+impl Dirty {
+    /// An empty queue with room for so many puts, without segments, whose numbers are below `segments`.
+    ///
+    /// # Errors
+    /// `AllocError` where memory is not found. No other call takes memory.
+    pub fn new(alloc: Global, rows: u32, segments: u32) -> Result<Dirty, AllocError>
+        requires segments { segments ≤ 2048 }
+        ensures room { IfOk result (λ d. d.room ≡ rows) }
+        ensures empty { IfOk result (λ d. d.queue ≡ empty) }
+        ensures region { IfOk result (λ d. d.region ≡ record {
+          most = segments;
+          groups = replicate 1 idle;
+          segments = replicate segments None;
+        }) }
+        ensures held { IfOk result (λ d. held_count d.region ≡ 0) }
+    {
+        Ok(Dirty {
+            region: Region::new(alloc, segments, 1)?,
+            ring: Ring::new(alloc, rows)?,
+            index: new_index(alloc, rows)?,
+            live: 0,
+            held: 0,
+            out: 0,
+            line: Vec::with_capacity(alloc, GREATEST_LINE)?,
+        })
+    }
+
+    /// Adds a put, which is the newest one. Where its object finds no room the next segment is begun, and segments are
+    /// compacted before.
+    ///
+    /// # Errors
+    /// `TooMany` where as many puts are held as there is room for. Else `NoRoom` where the live bytes with the put's would be
+    /// more than the segments surely hold. Nothing changed.
+    pub fn put(&mut self, key: &[u8], value: &[u8], number: u32) -> Result<(), DirtyRefusal>
+        // A key and a value as in a trace, and three segments.
+        requires some_key { 1 ≤ length key.now }
+        requires short_key { length key.now ≤ sizes.greatest_key }
+        requires short_value { length value.now ≤ sizes.greatest_value }
+        requires held { 3 ≤ held_count self.old.region }
+
+        // When it is refused, and that nothing changed then.
+        ensures too_many { (result ≡ Err DirtyRefusal.TooMany) ↔ (length self.old.queue.puts ≡ self.old.room) }
+        ensures no_room { (result ≡ Err DirtyRefusal.NoRoom) ↔ ((length self.old.queue.puts < self.old.room)
+            × (bound.room (held_count self.old.region) < live self.old.queue.puts + size key.now value.now)) }
+        ensures unchanged { IfErr result (λ _. self.new ≡ self.old) }
+
+        // The queue with the put, and what is due then.
+        ensures put { IfOk result (λ _. self.new.queue ≡ with_put key.now value.now number self.old.queue) }
+        ensures rest { IfOk result (λ _. rest self.new.queue ≡ rest self.old.queue
+            ++ line (record { key = key.now; value = value.now; number = number })) }
+
+        // The room and the segments are as they were.
+        ensures room { self.new.room ≡ self.old.room }
+        ensures segments { HoldsSegments self.old.region self.new.region }
+    {
+        if self.ring.len() == self.ring.room() {
+            return Err(DirtyRefusal::TooMany);
+        }
+        let size = row_size(key, value);
+        if exceeds(self.live, size, self.held) {
+            return Err(DirtyRefusal::NoRoom);
+        }
+        make_way(&mut self.region, &mut self.ring, &self.index, size);
+        let spot = forget(&mut self.index, &self.ring, &self.region, key);
+        let put = NewPut { key, value, number };
+        add_put(&mut self.region, &mut self.ring, &mut self.index, spot, put);
+        self.live += u64::from(size);
+        Ok(())
+    }
+
+    /// The value of the newest put of a key. None where the queue has none.
+    pub fn newest(&self, key: &[u8]) -> Option<&[u8]>
+        ensures { MatchOption result (newest key.now self.now.queue.puts ≡ None)
+            (λ value. newest key.now self.now.queue.puts ≡ Some value.now) }
+    {
+        let Ok(found) = search(&self.index, &self.ring, &self.region, key) else {
+            return None;
+        };
+        Some(value_in(content_of(&self.region, self.ring.places(), found.row)))
+    }
+
+    /// How many puts are held.
+    pub fn len(&self) -> u32
+        ensures { result ≡ length self.now.queue.puts }
+    {
+        self.ring.len()
+    }
+
+    /// The live bytes: the sizes of all puts together.
+    pub fn live(&self) -> u64
+        ensures { result ≡ live self.now.queue.puts }
+    {
+        self.live
+    }
+
+    /// What holds of a dirty region at each time.
+    pub fn facts(&self)
+        ensures few { length self.now.queue.puts ≤ self.now.room }
+        ensures queue { IsQueue self.now.queue }
+    {
+        let _ = &self.ring;
+    }
+}
+
+// Whether the live bytes would be more, with so many more, than that many segments surely hold.
+fn exceeds(live: u64, size: u32, held: u32) -> bool
+    requires { live + size < 2 ^ 64 }
+    ensures { (result ≡ true) ↔ (bound.room held < live + size) }
+{
+    live + u64::from(size) > room(held)
+}

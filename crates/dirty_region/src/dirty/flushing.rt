@@ -1,0 +1,71 @@
+//! The oldest put goes to the disk.
+ghost use Rattle.std.specs.Prelude.{◌≡◌, ◌↔◌, ◌≤◌, [], IfOk, OnErr, IsNone, IfSome, vec_capacity};
+ghost use Rattle.layout.specs.Counts.{Rose};
+ghost use Rattle.dirty_region.specs.Queues.{line, FlushesOldest, BreaksOff, GoesOn};
+ghost use Rattle.dirty_region.specs.inside.Rings.{IsRingOf, nth};
+ghost use Rattle.dirty_region.specs.inside.Lines.{greatest_line};
+ghost use Rattle.regions.specs.Contents.{live_at};
+ghost use Rattle.dirty_region.specs.State.{HoldsSegments};
+
+use super::Dirty;
+use super::storing::drop_oldest;
+use crate::line::{make_line, write_rest};
+use crate::put_keys::content_of;
+use crate::ring::Ring;
+use outside::{Failed, Sink};
+use regions::Region;
+use row_bytes::{key_in, put_in, value_in};
+
+impl Dirty {
+    /// Writes what is left of the oldest put's line, takes the put out, and answers its number. None where there is no put.
+    ///
+    /// # Errors
+    /// [`Failed`] where the sink failed, or took nothing. The put stays, and the next call goes on behind the bytes that the
+    /// sink took.
+    pub fn flush_one<K: Sink>(&mut self, sink: &mut K) -> Result<Option<u32>, Failed>
+        // What each answer means.
+        ensures none { IfOk result (λ answer. IsNone answer ↔ (self.old.queue.puts ≡ [])) }
+        ensures unchanged { IfOk result (λ answer. IsNone answer → (self.new ≡ self.old) × (sink.new ≡ sink.old)) }
+        ensures flushed { IfOk result (λ answer. IfSome answer (λ number.
+            FlushesOldest number self.old.queue self.new.queue (K.written sink.old) (K.written sink.new))) }
+        ensures stopped { OnErr result (BreaksOff self.old.queue self.new.queue (K.written sink.old) (K.written sink.new)) }
+        ensures failed { OnErr result (Rose (K.faults sink.old) (K.faults sink.new)) }
+
+        // What was due is what was appended and what is due, whatever happened.
+        ensures rest { GoesOn self.old.queue self.new.queue (K.written sink.old) (K.written sink.new) }
+
+        // The room and the segments are as they were.
+        ensures room { self.new.room ≡ self.old.room }
+        ensures segments { HoldsSegments self.old.region self.new.region }
+    {
+        if self.ring.len() == 0 {
+            return Ok(None);
+        }
+        let number = make_oldest_line(&self.region, &self.ring, &mut self.line);
+        if let Err(failed) = write_rest(sink, self.line.as_slice(), &mut self.out) {
+            return Err(failed);
+        }
+        drop_oldest(
+            &mut self.region,
+            &mut self.ring,
+            &mut self.index,
+            &mut self.live,
+        );
+        self.out = 0;
+        Ok(Some(number))
+    }
+}
+
+// The text is the oldest put's line from now on. Answers the put's number.
+fn make_oldest_line(region: &Region, ring: &Ring, text: &mut Vec<u8>) -> u32
+    requires some { 1 ≤ ring.now.count }
+    requires ring { IsRingOf ring.now (live_at region.now) }
+    requires room { greatest_line ≤ vec_capacity text.old }
+    ensures line { text.new.items ≡ line (nth ring.now (live_at region.now) 0) }
+    ensures room { greatest_line ≤ vec_capacity text.new }
+    ensures number { result ≡ (nth ring.now (live_at region.now) 0).number }
+{
+    let content = content_of(region, ring.places(), ring.slot(0));
+    make_line(text, key_in(content), value_in(content));
+    put_in(content)
+}

@@ -1,0 +1,119 @@
+//! How a put comes into the segments, and how the oldest one goes.
+ghost use Rattle.std.specs.Prelude.{◌≡◌, ℕ, ◌+◌, ◌-◌, ◌<◌, ◌≤◌, ◌++◌, ◌∷◌, [], length};
+ghost use Rattle.cache_model.specs.Row.{Row, size, live};
+ghost use Rattle.key_table.specs.Table.{IsSpotFor};
+ghost use Rattle.object_log.specs.Objects.{IsSize};
+ghost use Rattle.regions.specs.Shapes.{shape, held_count, HasGroup};
+ghost use Rattle.regions.specs.Counts.{left, live_total};
+ghost use Rattle.regions.specs.Contents.{live_at};
+ghost use Rattle.region_room.specs.Room as bound;
+ghost use Rattle.compaction.specs.Emptied.{HoldsTheSame};
+ghost use Rattle.dirty_region.specs.inside.Rings.{IsRingOf, nth, popped, puts_in};
+ghost use Rattle.dirty_region.specs.inside.Indexed.{IsIndexOf, IsIndexBut};
+ghost use Rattle.dirty_region.specs.inside.Consistent.{HasSpare, IsStored};
+ghost use Rattle.dirty_region.specs.inside.NewPuts.{row_of, CanStand};
+
+use crate::objects::{NewPut, kill_put, place_put};
+use crate::ring::Ring;
+use crate::seeking::{enter, forget_oldest};
+use lazy_index::{LazyIndex, Spot};
+use region_room::make_room;
+use regions::Region;
+
+// Makes room for an object of the size. The puts are the same, wherever they stand.
+pub(super) fn make_way(region: &mut Region, ring: &mut Ring, index: &LazyIndex, size: u32)
+    // A ring and its index, and an object that the segments surely hold.
+    requires ring { IsRingOf ring.old (live_at region.old) }
+    requires index { IsIndexOf ring.old (live_at region.old) index.now }
+    requires spare { HasSpare region.old }
+    requires size { IsSize size }
+    requires held { 3 ≤ held_count region.old }
+    requires room { live_total region.old + size ≤ bound.room (held_count region.old) }
+
+    // There is room.
+    ensures left { size ≤ left region.new 0 }
+    ensures spare { HasSpare region.new }
+
+    // The puts are the same.
+    ensures ring { IsRingOf ring.new (live_at region.new) }
+    ensures index { IsIndexOf ring.new (live_at region.new) index.now }
+    ensures puts { puts_in ring.new (live_at region.new) ≡ puts_in ring.old (live_at region.old) }
+    ensures places { record ring.new { places = [] } ≡ record ring.old { places = [] } }
+    ensures holds { HoldsTheSame region.old region.new }
+{
+    index.law();
+    make_room(region, ring, size);
+}
+
+// Adds a put, for which there is room, and which is the newest one from now on.
+pub(super) fn add_put(
+    region: &mut Region,
+    ring: &mut Ring,
+    index: &mut LazyIndex,
+    spot: Spot,
+    put: NewPut<'_>,
+)
+    requires group { HasGroup region.old 0 }
+    requires ring { IsRingOf ring.old (live_at region.old) }
+    requires index { IsIndexBut put.key.now ring.old (live_at region.old) index.old }
+    requires spot { IsSpotFor put.key.now spot }
+    requires put { CanStand put }
+    requires few { ring.old.count < ring.old.room }
+    requires left { size put.key.now put.value.now ≤ left region.old 0 }
+
+    // The ring and its index with the put.
+    ensures ring { IsRingOf ring.new (live_at region.new) }
+    ensures index { IsIndexOf ring.new (live_at region.new) index.new }
+    ensures puts { puts_in ring.new (live_at region.new) ≡ puts_in ring.old (live_at region.old) ++ row_of put.entry ∷ [] }
+    ensures room { ring.new.room ≡ ring.old.room }
+
+    // Its bytes are live, and the segments are as they were.
+    ensures live { live_total region.new ≡ live_total region.old + size put.entry.key.now put.entry.value.now }
+    ensures shape { shape region.new ≡ shape region.old }
+{
+    let place = place_put(region, ring.next_position(), put);
+    ring.push(place);
+    index.law();
+    enter(index, ring, region, spot);
+}
+
+// Takes the oldest put out.
+pub(super) fn drop_oldest(
+    region: &mut Region,
+    ring: &mut Ring,
+    index: &mut LazyIndex,
+    live_bytes: &mut u64,
+)
+    requires some { 1 ≤ ring.old.count }
+    requires stored { IsStored ring.old index.old region.old live_bytes.old }
+    ensures stored { IsStored ring.new index.new region.new live_bytes.new }
+    ensures puts { puts_in ring.old (live_at region.old)
+        ≡ nth ring.old (live_at region.old) 0 ∷ puts_in ring.new (live_at region.new) }
+    ensures count { ring.new.count + 1 ≡ ring.old.count }
+    ensures room { ring.new.room ≡ ring.old.room }
+    ensures shape { shape region.new ≡ shape region.old }
+{
+    forget_oldest(index, ring, region);
+    index.law();
+    let size = kill_put(region, ring.place(0));
+    ring.pop();
+    *live_bytes -= u64::from(size);
+}
+
+// Takes all puts out.
+pub(super) fn drop_all(
+    region: &mut Region,
+    ring: &mut Ring,
+    index: &mut LazyIndex,
+    live_bytes: &mut u64,
+)
+    requires stored { IsStored ring.old index.old region.old live_bytes.old }
+    ensures stored { IsStored ring.new index.new region.new live_bytes.new }
+    ensures none { ring.new.count ≡ 0 }
+    ensures room { ring.new.room ≡ ring.old.room }
+    ensures shape { shape region.new ≡ shape region.old }
+{
+    while ring.len() > 0 {
+        drop_oldest(region, ring, index, live_bytes);
+    }
+}

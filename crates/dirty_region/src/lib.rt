@@ -1,0 +1,19 @@
+//! Puts that stay until they are flushed, in segments that compaction moves: the dirty memory of a database, from which
+//! nothing is evicted.
+//!
+//! A put is an object of a [`regions::Region`] of one group, with the bytes of `row_bytes`. What a [`Dirty`] means is a queue
+//! ([`specs/Queues.antt`]): a list of puts, the oldest first, and how many bytes of the oldest one's line are out. What the
+//! sink has got, followed by what is still due, is the lines of all puts in order, whatever failed in between and whatever
+//! compaction moved.
+#![tactic(auto)]
+
+mod dirty;
+mod line;
+mod objects;
+mod put_keys;
+mod refusal;
+mod ring;
+mod seeking;
+
+pub use dirty::Dirty;
+pub use refusal::DirtyRefusal;

@@ -1,0 +1,62 @@
+//! The objects that hold puts.
+ghost use Rattle.std.specs.Prelude.{◌≡◌, ◌+◌, ◌≤◌, ◌<◌, ◌↔◌, Some, IfSome};
+ghost use Rattle.cache_model.specs.Row.{size};
+ghost use Rattle.regions.specs.Shapes.{shape, HasGroup};
+ghost use Rattle.regions.specs.Counts.{left, live_total};
+ghost use Rattle.regions.specs.Contents.{live_at, size_of};
+ghost use Rattle.dirty_region.specs.inside.Rings.{HoldsAPut, AddsPut, Drops};
+ghost use Rattle.dirty_region.specs.inside.NewPuts.{row_of, CanStand};
+
+use layout::DESCRIPTOR;
+use regions::{Place, Region};
+use row_bytes::{Links, row_size, write_row};
+
+// The kind of an object that holds a dirty put.
+const DIRTY: u8 = 4;
+
+// A put has no neighbours.
+const UNLINKED: Links = Links { newer: 0, older: 0 };
+
+// A put as it comes: a key, its value and the number of the put.
+#[derive(Clone, Copy)]
+pub(crate) struct NewPut<'a> {
+    pub(crate) key: &'a [u8],
+    pub(crate) value: &'a [u8],
+    pub(crate) number: u32,
+}
+
+// Places a put as a new object with its position, for which there is room.
+pub(crate) fn place_put(region: &mut Region, position: u32, put: NewPut<'_>) -> Place
+    requires group { HasGroup region.old 0 }
+    requires put { CanStand put }
+    requires room { size put.key.now put.value.now ≤ left region.old 0 }
+    ensures added { AddsPut result position (row_of put.entry) (live_at region.old) (live_at region.new) }
+    ensures live { live_total region.new ≡ live_total region.old + size put.entry.key.now put.entry.value.now }
+    ensures shape { shape region.new ≡ shape region.old }
+{
+    let Ok(place) = region.place(0, DIRTY, row_size(put.key, put.value)) else {
+        unreachable!()
+    };
+    write_row(
+        region.bytes_mut(place),
+        position,
+        put.number,
+        UNLINKED,
+        put.key,
+        put.value,
+    );
+    place
+}
+
+// The live object at a place is dead from now on. Answers its bytes, the descriptor included.
+pub(crate) fn kill_put(region: &mut Region, place: Place) -> u32
+    requires { HoldsAPut (live_at region.old place) }
+    ensures size { IfSome (live_at region.old place) (λ item. result ≡ size_of item) }
+    ensures dropped { Drops place (live_at region.old) (live_at region.new) }
+    ensures live { live_total region.new + result ≡ live_total region.old }
+    ensures shape { shape region.new ≡ shape region.old }
+{
+    let size = region.bytes(place).len() as u32 + DESCRIPTOR;
+    region.kill(place);
+    size
+}

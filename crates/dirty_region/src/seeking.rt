@@ -1,0 +1,99 @@
+//! The index of the keys of puts.
+ghost use Rattle.std.specs.Prelude.{◌≡◌, ◌≢◌, ℕ, ◌-◌, ◌≤◌, List, IfOk, MatchResult};
+ghost use Rattle.key_table.specs.Table.{IsSpotFor};
+ghost use Rattle.lazy_index.specs.Lazy.{Has, IsKeyed, IsThere};
+ghost use Rattle.regions.specs.Contents.{live_at};
+ghost use Rattle.dirty_region.specs.inside.Rings.{IsRingOf, key_at};
+ghost use Rattle.dirty_region.specs.inside.Indexed.{IsIndexOf, IsIndexBefore, IsIndexBehind, IsIndexBut, nth_key};
+
+use crate::put_keys::{PutKeys, content_of};
+use crate::ring::Ring;
+use lazy_index::{LazyIndex, RowAt, Spot};
+use regions::Region;
+use row_bytes::key_in;
+use std::alloc::{AllocError, Global};
+
+// An index of no puts, with room for so many.
+pub(crate) fn new_index(alloc: Global, room: u32) -> Result<LazyIndex, AllocError>
+    ensures room { IfOk result (λ index. index.room ≡ room) }
+    ensures none { IfOk result (λ index. (n : ℕ) → ¬ Has index n) }
+    ensures keyed { IfOk result (λ index. (key_of : ℕ → List ℕ) → IsKeyed key_of index) }
+{
+    LazyIndex::new(alloc, room)
+}
+
+// The slot of the newest put of a key, or the spot for one.
+pub(crate) fn search(
+    index: &LazyIndex,
+    ring: &Ring,
+    region: &Region,
+    key: &[u8],
+) -> Result<RowAt, Spot>
+    requires ring { IsRingOf ring.now (live_at region.now) }
+    requires index { IsIndexOf ring.now (live_at region.now) index.now }
+    ensures { MatchResult result
+        (λ found. IsThere index.now found × (key_at (live_at region.now) ring.now.places found.row ≡ key.now))
+        (λ spot. IsSpotFor key.now spot × ((n : ℕ) → Has index.now n → key_at (live_at region.now) ring.now.places n ≢ key.now)) }
+{
+    index.find(&keys(ring, region), key)
+}
+
+// The newest put of a key leaves the index, if there is one. Answers the spot of the key.
+pub(crate) fn forget(index: &mut LazyIndex, ring: &Ring, region: &Region, key: &[u8]) -> Spot
+    requires ring { IsRingOf ring.now (live_at region.now) }
+    requires index { IsIndexOf ring.now (live_at region.now) index.old }
+    ensures spot { IsSpotFor key.now result }
+    ensures index { IsIndexBut key.now ring.now (live_at region.now) index.new }
+{
+    index.law();
+    let found = match search(index, ring, region, key) {
+        Ok(found) => found,
+        Err(spot) => return spot,
+    };
+    let standing = index.standing(&keys(ring, region), found);
+    index.remove(standing);
+    Spot::new(key)
+}
+
+// The oldest put leaves the index, if it is the newest of its key.
+pub(crate) fn forget_oldest(index: &mut LazyIndex, ring: &Ring, region: &Region)
+    requires some { 1 ≤ ring.now.count }
+    requires ring { IsRingOf ring.now (live_at region.now) }
+    requires index { IsIndexOf ring.now (live_at region.now) index.old }
+    ensures { IsIndexBehind ring.now (live_at region.now) index.new }
+{
+    index.law();
+    let slot = ring.slot(0);
+    let key = key_in(content_of(region, ring.places(), slot));
+    let Ok(found) = search(index, ring, region, key) else {
+        return;
+    };
+    if found.row != slot {
+        return;
+    }
+    let standing = index.standing(&keys(ring, region), found);
+    index.remove(standing);
+}
+
+// The newest put enters the index, which has no other of its key.
+pub(crate) fn enter(index: &mut LazyIndex, ring: &Ring, region: &Region, spot: Spot)
+    requires some { 1 ≤ ring.now.count }
+    requires ring { IsRingOf ring.now (live_at region.now) }
+    requires spot { IsSpotFor (nth_key ring.now (live_at region.now) (ring.now.count - 1)) spot }
+    requires index { IsIndexBefore ring.now (live_at region.now) index.old }
+    ensures { IsIndexOf ring.now (live_at region.now) index.new }
+{
+    index.law();
+    let slot = ring.slot(ring.len() - 1);
+    index.insert(&keys(ring, region), spot, slot);
+}
+
+fn keys<'a>(ring: &'a Ring, region: &'a Region) -> PutKeys<'a>
+    ensures region { result.region.now ≡ region.now }
+    ensures places { result.places.now ≡ ring.now.places }
+{
+    PutKeys {
+        region,
+        places: ring.places(),
+    }
+}
