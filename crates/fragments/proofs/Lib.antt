@@ -1,0 +1,17 @@
+pub mod Read
+pub mod Slots
+pub mod Places
+pub mod Lives
+pub mod Positions
+pub mod Grown
+pub mod Dropped
+pub mod Settled
+pub mod Moved
+pub mod Mended
+pub mod Paths
+pub mod Stored
+pub mod Dropping
+pub mod Compacted
+pub mod Written
+pub mod States
+pub mod Putting

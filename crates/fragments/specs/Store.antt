@@ -1,0 +1,66 @@
+-- What a store of fragments means, read off the bytes of its segments.
+use Rattle.std.specs.Prelude.{◌≡◌, ℕ, zero, suc, List, [], ◌∷◌, length, Option, None, Some, IsSome, map, option_map, take}
+use Rattle.std.specs.List.{concat}
+use Rattle.regions.specs.Segments.{RegionState}
+use Rattle.regions.specs.Shapes.{shape, group_count, guards_of, held_count, pieces}
+use Rattle.regions.specs.Contents.{Item, live_at}
+use Rattle.regions.specs.Stores.{Live}
+use Rattle.regions.specs.declared.place.Place.{Place}
+use Rattle.fragments.specs.Sizes.{most_fragments}
+use Rattle.fragments.specs.Values.{Values}
+use Rattle.fragments.specs.Fragment.{bare, bytes_in, led_to, next_in}
+use Rattle.fragments.specs.Chains.{TableState, AreChains, HoldParts, all_parts}
+
+-- a store: the place of the first fragment of each name's value, and the segments in which all fragments stand
+pub record StoreState : Type 0 where
+  pub firsts : List (Option Place)
+  pub region : RegionState
+
+-- the content of the live object at a place, and no byte where there is none
+abbrev pub content_of : Option Item → List ℕ
+content_of None = []
+content_of (Some item) = item.content
+
+-- the bytes of the fragment at a place, and the place to which it leads
+abbrev pub bytes_at : Live → Place → List ℕ
+bytes_at live p = bytes_in (content_of (live p))
+
+abbrev pub next_at : Live → Place → Option Place
+next_at live p = led_to (next_in (content_of (live p)))
+
+-- the places of at most so many fragments, from one on
+abbrev pub follow : ℕ → Live → Option Place → List Place
+follow zero live from = []
+follow (suc n) live None = []
+follow (suc n) live (Some p) = p ∷ follow n live (next_at live p)
+
+-- the pieces of a value, one in each fragment, and the value, from its first fragment on
+abbrev pub pieces_from : Live → Option Place → List (List ℕ)
+pieces_from live from = map (bytes_at live) (follow most_fragments live from)
+
+abbrev pub read : Live → Option Place → Option (List ℕ)
+read live None = None
+read live (Some p) = Some (concat (pieces_from live (Some p)))
+
+-- the values of all names
+abbrev pub values_of : StoreState → Values
+values_of s = map (read (live_at s.region)) s.firsts
+
+-- the parts of each name's value stand in its chain, one in each fragment, and every live object is in one chain
+pub record StandsFor (s : StoreState) (t : TableState) : Type 0 where
+  pub names : t.names ≡ length s.firsts
+  pub firsts : take t.names t.firsts ≡ s.firsts
+  pub chains : AreChains t (live_at s.region)
+  pub parts : HoldParts t (live_at s.region) (all_parts (values_of s) [])
+
+-- the segments are those that were there, and the guards
+pub record HoldsSegments (old new : RegionState) : Type 0 where
+  pub most : (shape new).most ≡ (shape old).most
+  pub groups : group_count new ≡ group_count old
+  pub pieces : pieces new ≡ pieces old
+  pub held : held_count new ≡ held_count old
+  pub guards : (g : ℕ) → guards_of new g ≡ guards_of old g
+
+-- each live fragment stood where it stands
+abbrev pub Stay : RegionState → RegionState → Type 0
+Stay old new = (p : Place) → IsSome (live_at new p) → option_map bare (live_at new p) ≡ option_map bare (live_at old p)

@@ -1,0 +1,4 @@
+-- What only the private parts of the store cite.
+pub mod Consistent
+pub mod Linking
+pub mod Paths

@@ -1,0 +1,157 @@
+//! A fragment in the content of an object.
+ghost use Rattle.std.specs.Prelude.{◌≡◌, ℕ, ◌+◌, ◌-◌, ◌*◌, ◌<◌, ◌≤◌, ◌^◌, List, ◌++◌, length, take, drop, replicate};
+ghost use Rattle.byteorder.specs.Endian.{little_bytes};
+ghost use Rattle.layout.specs.Sizes.{descriptor, greatest_object};
+ghost use Rattle.fragments.specs.Sizes as sizes;
+ghost use Rattle.fragments.specs.Fragment as fragments;
+
+use byteorder::{ByteOrder, LittleEndian};
+use layout::{DESCRIPTOR, GREATEST_OBJECT};
+
+/// The most bytes of a value.
+pub const GREATEST_VALUE: usize = 1_048_576;
+
+/// The most bytes of a value in one fragment. Each fragment but the last holds so many.
+pub const FRAGMENT_BYTES: usize = 12_264;
+
+/// The most fragments of a value.
+pub const MOST_FRAGMENTS: usize = 86;
+
+/// The kind of an object that holds a fragment.
+pub(crate) const FRAGMENT: u8 = 2;
+
+/// The link to no fragment.
+pub(crate) const NO_LINK: u64 = 18_446_744_073_709_551_615;
+
+// The bytes in front of those of the value: two links, the name and the length.
+const HEADER: usize = 24;
+
+const NEXT: usize = 8;
+
+const NAME: usize = 16;
+
+const LENGTH: usize = 20;
+
+// How many fragments a value of so many bytes has.
+pub(crate) fn fragment_count(len: usize) -> usize
+    requires { len ≤ sizes.greatest_value }
+    ensures count { result ≡ sizes.count_of len }
+    ensures some { 1 ≤ result }
+    ensures most { result ≤ sizes.most_fragments }
+    ensures within { (result - 1) * sizes.fragment_bytes ≤ len }
+    ensures rest { len ≤ result * sizes.fragment_bytes }
+{
+    len.saturating_sub(1) / FRAGMENT_BYTES + 1
+}
+
+// The bytes of a fragment's object, its descriptor included: a whole multiple of 8.
+pub(crate) fn object_size(len: usize) -> u32
+    requires { len ≤ sizes.fragment_bytes }
+    ensures { result ≡ sizes.object_size len }
+{
+    (DESCRIPTOR + HEADER as u32 + len as u32).div_ceil(8) * 8
+}
+
+/// The bytes of all objects of a value of so many bytes, their descriptors included.
+pub fn value_size(len: usize) -> u64
+    requires { len ≤ sizes.greatest_value }
+    ensures { result ≡ sizes.size len }
+{
+    let full = fragment_count(len) - 1;
+    full as u64 * u64::from(GREATEST_OBJECT) + u64::from(object_size(len - full * FRAGMENT_BYTES))
+}
+
+// The link to the previous fragment.
+pub(crate) fn back_in(content: &[u8]) -> u64
+    requires { fragments.HasLinks content.now }
+    ensures { result ≡ fragments.back_in content.now }
+{
+    LittleEndian::read_u64(content)
+}
+
+// The link to the next fragment.
+pub(crate) fn next_in(content: &[u8]) -> u64
+    requires { fragments.HasLinks content.now }
+    ensures { result ≡ fragments.next_in content.now }
+{
+    LittleEndian::read_u64(&content[NEXT..])
+}
+
+// The name whose value the fragment is a part of.
+pub(crate) fn name_in(content: &[u8]) -> u32
+    requires { fragments.IsFragment content.now }
+    ensures { result ≡ fragments.name_in content.now }
+{
+    LittleEndian::read_u32(&content[NAME..])
+}
+
+// The bytes of the value in the fragment.
+pub(crate) fn bytes_in(content: &[u8]) -> &[u8]
+    requires { fragments.IsFragment content.now }
+    ensures { result.now ≡ fragments.bytes_in content.now }
+{
+    let len = LittleEndian::read_u32(&content[LENGTH..]) as usize;
+    &content[HEADER..HEADER + len]
+}
+
+// Writes the link to the previous fragment.
+pub(crate) fn set_back(content: &mut [u8], link: u64)
+    requires { fragments.HasLinks content.old }
+    ensures back { fragments.back_in content.new ≡ link }
+    ensures next { fragments.next_in content.new ≡ fragments.next_in content.old }
+    ensures body { fragments.body_in content.new ≡ fragments.body_in content.old }
+    ensures length { length content.new ≡ length content.old }
+{
+    LittleEndian::write_u64(content, link);
+}
+
+// Writes the link to the next fragment.
+pub(crate) fn set_next(content: &mut [u8], link: u64)
+    requires { fragments.HasLinks content.old }
+    ensures next { fragments.next_in content.new ≡ link }
+    ensures back { fragments.back_in content.new ≡ fragments.back_in content.old }
+    ensures body { fragments.body_in content.new ≡ fragments.body_in content.old }
+    ensures length { length content.new ≡ length content.old }
+{
+    LittleEndian::write_u64(&mut content[NEXT..], link);
+}
+
+// Writes a fragment that is the first of its chain into the content of a new object, all of whose bytes are 0.
+pub(crate) fn write_fragment(content: &mut [u8], next: u64, name: u32, bytes: &[u8])
+    requires short { length bytes.now ≤ sizes.fragment_bytes }
+    requires size { length content.old + descriptor ≡ sizes.object_size (length bytes.now) }
+    requires zero { content.old ≡ replicate (length content.old) 0 }
+    ensures bytes { content.new ≡ fragments.fragment fragments.no_link next name bytes.now }
+    ensures holds { fragments.HoldsFragment content.new name bytes.now }
+    ensures name { fragments.name_in content.new ≡ name }
+    ensures back { fragments.back_in content.new ≡ fragments.no_link }
+    ensures next { fragments.next_in content.new ≡ next }
+{
+    let (header, behind) = content.split_at_mut(HEADER);
+    header.copy_from_slice(header_of(next, name, bytes.len() as u32).as_slice());
+    write_front(behind, bytes);
+}
+
+// Writes bytes over the first ones of a text.
+fn write_front(text: &mut [u8], bytes: &[u8])
+    requires { length bytes.now ≤ length text.old }
+    ensures { text.new ≡ bytes.now ++ drop (length bytes.now) text.old }
+{
+    text[..bytes.len()].copy_from_slice(bytes);
+}
+
+// The bytes in front of those of the value, in a fragment that is the first of its chain.
+fn header_of(next: u64, name: u32, len: u32) -> [u8; 24]
+    ensures bytes { result ≡ little_bytes 8 fragments.no_link ++ little_bytes 8 next ++ little_bytes 4 name ++ little_bytes 4 len }
+    ensures next { next < 2 ^ 64 }
+    ensures name { name < 2 ^ 32 }
+{
+    let [a0, a1, a2, a3, a4, a5, a6, a7] = NO_LINK.to_le_bytes();
+    let [b0, b1, b2, b3, b4, b5, b6, b7] = next.to_le_bytes();
+    let [n0, n1, n2, n3] = name.to_le_bytes();
+    let [l0, l1, l2, l3] = len.to_le_bytes();
+    [
+        a0, a1, a2, a3, a4, a5, a6, a7, b0, b1, b2, b3, b4, b5, b6, b7, n0, n1, n2, n3, l0, l1, l2,
+        l3,
+    ]
+}

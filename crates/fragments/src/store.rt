@@ -1,0 +1,295 @@
+//! The values of all names.
+ghost use Rattle.std.specs.Prelude.{◌≡◌, ◌↔◌, ◌+◌, ◌-◌, ◌<◌, ◌≤◌, ◌^◌, ℕ, true, false, length, replicate, slice_set, Some, None, Err, IfOk, IfErr, IfSome, IsNone, IsSome, MatchOption};
+ghost use Rattle.std.specs.List.{concat};
+ghost use Rattle.layout.specs.Sizes as sizes;
+ghost use Rattle.regions.specs.Segments.{segment_at, with_segment, with_guards, fresh, all_emptied, idle};
+ghost use Rattle.regions.specs.Shapes.{shape, group_count, active_of, guards_of, pieces, held_count, free_count, IsGreatestHeld, IsLeastUnused};
+ghost use Rattle.regions.specs.Counts.{live_total};
+ghost use Rattle.regions.specs.Contents.{Keeps};
+ghost use Rattle.region_room.specs.Room as bound;
+ghost use Rattle.fragments.specs.Sizes.{greatest_value, size};
+ghost use Rattle.fragments.specs.Values as values;
+ghost use Rattle.fragments.specs.Chains.{TableState};
+ghost use Rattle.fragments.specs.Store.{values_of, StandsFor, HoldsSegments, Stay};
+
+mod writing;
+
+use crate::bytes::{GREATEST_VALUE, value_size};
+use crate::links::GROUP;
+use crate::pieces::Pieces;
+use crate::tables::Tables;
+use raw_range::Piece;
+use region_room::room;
+use regions::Region;
+use std::alloc::{AllocError, Global};
+use std::marker::Model;
+use writing::{drop_value, replace_value, write_value};
+
+/// Why a value is not set. Nothing changed.
+#[derive(Clone, Copy, Debug, PartialEq, Eq)]
+pub enum SetRefusal {
+    /// It has more than [`GREATEST_VALUE`] bytes.
+    TooLong,
+    /// The bytes of all live objects and those of its own are more than the segments surely hold. The value that the name has
+    /// counts as well, since the new one is written before that is dropped.
+    NoRoom,
+}
+
+/// The values of names, numbers below a bound, and the segments in which they stand. A value is a chain of fragments, which
+/// may move whenever a value is set.
+#[derive(Drop)]
+pub struct Fragments {
+    region: Region,
+    tables: Tables,
+    lengths: Vec<u32>,
+    segments: u32,
+    live: u64,
+}
+
+impl Model for Fragments {
+    ghost use Rattle.std.specs.Prelude.{take};
+    ghost use Rattle.fragments.specs.Store.{StoreState};
+    ghost use Rattle.fragments.specs.inside.Consistent.{IsConsistent};
+
+    ghost Value = { StoreState };
+
+    ghost view = { λ f. record { firsts = take f.tables.names f.tables.firsts; region = f.region } };
+
+    ghost invariant = { λ f. IsConsistent f.tables f.region f.lengths.items f.segments f.live };
+}
+
+impl Fragments {
+    /// A store without values and segments, with names below `names` and numbers of segments below `segments`.
+    ///
+    /// # Errors
+    /// `AllocError` where memory is not found. No other call takes memory.
+    pub fn new(alloc: Global, names: u32, segments: u32) -> Result<Fragments, AllocError>
+        requires names { names < 2 ^ 32 - 1 }
+        requires segments { segments ≤ 2048 }
+        ensures names { IfOk result (λ f. length f.firsts ≡ names) }
+        ensures values { IfOk result (λ f. values_of f ≡ replicate names None) }
+        ensures region { IfOk result (λ f. f.region ≡ record {
+          most = segments;
+          groups = replicate 1 idle;
+          segments = replicate segments None;
+        }) }
+    {
+        Ok(Fragments {
+            region: Region::new(alloc, segments, 1)?,
+            tables: Tables::new(alloc, names)?,
+            lengths: no_lengths(alloc, names)?,
+            segments: 0,
+            live: 0,
+        })
+    }
+
+    /// What holds of the store at each time: its chains stand for its values, whose sizes are those of the live objects, no more
+    /// bytes are live than the segments surely hold, and these are of one group.
+    pub fn facts(&self)
+        ensures stands { (t : TableState) × StandsFor self.now t }
+        ensures values { (n : ℕ) → values.IsShort (values.value_of (values_of self.now) n) }
+        ensures live { values.live (values_of self.now) ≡ live_total self.now.region }
+        ensures room { live_total self.now.region ≤ bound.room (held_count self.now.region) }
+        ensures one { group_count self.now.region ≡ 1 }
+    {
+        self.tables.facts();
+    }
+
+    /// The piece becomes a free segment, with the least number that no segment has. Where no segment is active it becomes the
+    /// active one, or the least free one does.
+    pub fn add_segment(&mut self, piece: Piece)
+        requires room { held_count self.old.region < (shape self.old.region).most }
+        requires segment { length piece.bytes ≡ sizes.segment }
+
+        // No value changes, and no object.
+        ensures firsts { self.new.firsts ≡ self.old.firsts }
+        ensures values { values_of self.new ≡ values_of self.old }
+        ensures objects { Keeps self.old.region self.new.region }
+
+        // The segment, and which is active.
+        ensures added { (n : ℕ) × IsLeastUnused self.old.region n
+            × (pieces self.new.region ≡ pieces (with_segment self.old.region n (Some (fresh piece)))) }
+        ensures held { held_count self.new.region ≡ held_count self.old.region + 1 }
+        ensures most { (shape self.new.region).most ≡ (shape self.old.region).most }
+        ensures active { IsSome (active_of self.new.region 0) }
+        ensures same { IsSome (active_of self.old.region 0) → active_of self.new.region 0 ≡ active_of self.old.region 0 }
+        ensures guards { guards_of self.new.region 0 ≡ guards_of self.old.region 0 }
+    {
+        self.tables.facts();
+        most_fits(&self.region);
+        let active = self.region.active(GROUP);
+        self.region.add_segment(piece);
+        self.segments += 1;
+        if active.is_none() {
+            self.region.next_active(GROUP);
+        }
+    }
+
+    /// Sets the value of a name. The new one is written before the old one is dropped, and fragments may move meanwhile.
+    ///
+    /// # Errors
+    /// `TooLong` where the value has more than 1,048,576 bytes; else `NoRoom` where the bytes of all live objects, with the old
+    /// value of the name, and those of the new value's are more than [`region_room::room`] of the segments. Nothing changed.
+    pub fn put(&mut self, name: u32, bytes: &[u8]) -> Result<(), SetRefusal>
+        requires name { name < length self.old.firsts }
+        requires held { 3 ≤ held_count self.old.region }
+        requires guards { guards_of self.old.region 0 ≡ 0 }
+
+        // When it is refused, and that nothing changed then.
+        ensures long { (result ≡ Err SetRefusal.TooLong) ↔ (greatest_value < length bytes.now) }
+        ensures full { (result ≡ Err SetRefusal.NoRoom) ↔ ((length bytes.now ≤ greatest_value)
+            × (bound.room (held_count self.old.region) < values.live (values_of self.old) + size (length bytes.now))) }
+        ensures unchanged { IfErr result (λ _. self.new ≡ self.old) }
+
+        // The values, and the segments in which they stand.
+        ensures values { IfOk result (λ _. values_of self.new ≡ slice_set (values_of self.old) name (Some bytes.now)) }
+        ensures segments { HoldsSegments self.old.region self.new.region }
+    {
+        self.tables.facts();
+        if bytes.len() > GREATEST_VALUE {
+            return Err(SetRefusal::TooLong);
+        }
+        let size = value_size(bytes.len());
+        if self.live + size > room(self.segments) {
+            return Err(SetRefusal::NoRoom);
+        }
+        let dropped = self.size_of(name);
+        write_value(&mut self.region, &mut self.tables, name, bytes);
+        replace_value(&mut self.region, &mut self.tables, name, bytes);
+        self.tables.facts();
+        self.lengths[name as usize] = bytes.len() as u32;
+        self.live = self.live + size - dropped;
+        Ok(())
+    }
+
+    /// The value of a name, in pieces whose concatenation it is. None where the name has none.
+    pub fn get(&self, name: u32) -> Option<Pieces<'_>>
+        ensures { MatchOption result (values.value_of (values_of self.now) name ≡ None)
+            (λ pieces. values.value_of (values_of self.now) name ≡ Some (concat pieces)) }
+    {
+        self.tables.facts();
+        if name >= self.tables.names() {
+            return None;
+        }
+        let place = self.tables.first(name)?;
+        Some(Pieces::new(&self.region, Some(place), self.lengths[name as usize]))
+    }
+
+    /// The length of the value of a name, in bytes. None where the name has none.
+    pub fn len(&self, name: u32) -> Option<u32>
+        ensures { MatchOption result (values.value_of (values_of self.now) name ≡ None)
+            (λ len. IfSome (values.value_of (values_of self.now) name) (λ value. len ≡ length value)
+            × IsSome (values.value_of (values_of self.now) name)) }
+    {
+        self.tables.facts();
+        if name >= self.tables.names() {
+            return None;
+        }
+        self.tables.first(name)?;
+        Some(self.lengths[name as usize])
+    }
+
+    /// Drops the value of a name. False where it has none. No fragment moves.
+    pub fn erase(&mut self, name: u32) -> bool
+        ensures found { (result ≡ true) ↔ IsSome (values.value_of (values_of self.old) name) }
+        ensures unchanged { (result ≡ false) → self.new ≡ self.old }
+        ensures values { values_of self.new ≡ slice_set (values_of self.old) name None }
+        ensures stay { Stay self.old.region self.new.region }
+        ensures shape { shape self.new.region ≡ shape self.old.region }
+    {
+        self.tables.facts();
+        if name >= self.tables.names() {
+            return false;
+        }
+        let Some(_place) = self.tables.first(name) else {
+            return false;
+        };
+        let dropped = self.size_of(name);
+        drop_value(&mut self.region, &mut self.tables, name);
+        self.tables.facts();
+        self.live -= dropped;
+        true
+    }
+
+    // The bytes of the objects of a name's value, or 0 where it has none.
+    fn size_of(&self, name: u32) -> u64
+        requires { name < length self.now.firsts }
+        ensures size { result ≡ values.size_if (values.value_of (values_of self.now) name) }
+    {
+        self.tables.facts();
+        let Some(_place) = self.tables.first(name) else {
+            return 0;
+        };
+        value_size(self.lengths[name as usize] as usize)
+    }
+
+    /// The live bytes: the sizes of all values together, which are those of the segments' live objects.
+    pub fn live(&self) -> u64
+        ensures values { result ≡ values.live (values_of self.now) }
+        ensures segments { result ≡ live_total self.now.region }
+    {
+        self.live
+    }
+
+    /// One guard more. While one stands, no fragment is moved. Guards nest.
+    pub fn guard(&mut self)
+        requires { guards_of self.old.region 0 < 1000000 }
+        ensures guards { self.new ≡ record self.old { region = with_guards self.old.region 0 (guards_of self.old.region 0 + 1) } }
+        ensures values { values_of self.new ≡ values_of self.old }
+    {
+        self.region.guard(GROUP);
+    }
+
+    /// One guard less.
+    pub fn unguard(&mut self)
+        requires { 1 ≤ guards_of self.old.region 0 }
+        ensures guards { self.new ≡ record self.old { region = with_guards self.old.region 0 (guards_of self.old.region 0 - 1) } }
+        ensures values { values_of self.new ≡ values_of self.old }
+    {
+        self.region.unguard(GROUP);
+    }
+
+    /// Drops all values, makes every segment free, and takes the one with the greatest number out. None where no segment is
+    /// held.
+    pub fn give_up(&mut self) -> Option<Piece>
+        requires { guards_of self.old.region 0 ≡ 0 }
+
+        // No value is left.
+        ensures names { length self.new.firsts ≡ length self.old.firsts }
+        ensures values { values_of self.new ≡ replicate (length self.old.firsts) None }
+
+        // None where no segment is held; else its piece.
+        ensures none { IsNone result ↔ (held_count self.old.region ≡ 0) }
+        ensures emptied { IsNone result → self.new.region ≡ all_emptied self.old.region }
+        ensures given { IfSome result (λ piece. (n : ℕ) × IsGreatestHeld self.old.region n
+            × (segment_at (all_emptied self.old.region) n ≡ Some (fresh piece))
+            × (self.new.region ≡ with_segment (all_emptied self.old.region) n None)) }
+        ensures held { IsSome result → held_count self.new.region + 1 ≡ held_count self.old.region }
+        ensures free { free_count self.new.region ≡ held_count self.new.region }
+    {
+        self.tables.facts();
+        let given = self.region.give_up();
+        self.tables.clear();
+        self.live = 0;
+        self.segments = self.segments.saturating_sub(1);
+        given
+    }
+}
+
+// The most segments of a region have 32 bits.
+fn most_fits(region: &Region)
+    ensures { (shape region.now).most < 2 ^ 32 }
+{
+    region.most();
+}
+
+// So many lengths, each 0.
+fn no_lengths(alloc: Global, names: u32) -> Result<Vec<u32>, AllocError>
+    ensures { IfOk result (λ lengths. lengths.items ≡ replicate names 0) }
+{
+    let mut lengths = Vec::with_capacity(alloc, names as usize)?;
+    for _name in 0..names {
+        lengths.push(0)?;
+    }
+    Ok(lengths)
+}
