@@ -1,0 +1,4 @@
+pub mod Cuts
+pub mod LinesRead
+pub mod Placed
+pub mod Spelled

@@ -1,0 +1,6 @@
+pub mod Causes
+pub mod Line
+pub mod Order
+pub mod Reading
+pub mod Script
+pub mod inside

@@ -1,0 +1,2 @@
+-- What only the private parts of the reader cite.
+pub mod Found

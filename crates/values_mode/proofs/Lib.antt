@@ -1,0 +1,5 @@
+pub mod Ends
+pub mod Ranges
+pub mod Serving
+pub mod Taken
+pub mod Written

@@ -1,0 +1,55 @@
+-- A store that serves commands.
+use Rattle.std.proofs.Common.{◌≡◌, ℕ, ◌+◌, ◌<◌, List, ◌∷◌, ◌++◌, Bool, true, false, cond, ltb, length, drop, get_or, map, refl, sym, ap, ◌∙◌, arith, subst}
+use Rattle.std.specs.Prelude.{Option, None, Some, slice_set}
+use Rattle.std.proofs.lemmas.List.{drop_more, get_or-map, length-map, length-set}
+use Rattle.regions.specs.Contents.{live_at}
+use Rattle.regions.specs.Segments.{RegionState}
+use Rattle.fragments.specs.Sizes.{size}
+use Rattle.fragments.specs.Store.{HoldsSegments, StoreState, read, values_of}
+use Rattle.fragments.specs.Values.{Values, live}
+use Rattle.value_script.specs.declared.command.Command.{Command}
+use Rattle.value_script.specs.Order as asked
+use Rattle.value_script.specs.Order.{Order, order, orders}
+use Rattle.values_mode.specs.Text as texts
+use Rattle.values_mode.specs.Text.{Answer, answer_line, done, text_from}
+use Rattle.values_mode.specs.inside.Steps.{IsServing}
+
+set_long : (full : Bool) (values : Values) (n : ℕ) (o : Option (List ℕ)) (x y : Answer) → length (cond {A = Values × Answer} full (values, x) (slice_set values n o, y)).0 ≡ length values
+set_long true values n o x y = refl
+set_long false values n o x y = length-set values n o
+
+-- no command changes how many names there are
+done_long : (room : ℕ) (values : Values) (o : Order) → length (done room values o).0 ≡ length values
+done_long room values (asked.Set name value) =
+    set_long (ltb room (live values + size (length value))) values name (Some value) texts.Full texts.WasSet
+done_long room values (asked.Read name at count) = refl
+done_long room values (asked.Drop name) = length-set values name None
+
+long : (s : StoreState) → length (values_of s) ≡ length s.firsts
+long s = length-map s.firsts (read (live_at s.region))
+
+pub serving_kept : (s t : StoreState) (room : ℕ) (o : Order) → IsServing s → HoldsSegments s.region t.region → values_of t ≡ (done room (values_of s) o).0 → IsServing t
+serving_kept s t room o serving holds values = record {
+  many = sym (long t) ∙ ap length values ∙ done_long room (values_of s) o ∙ long s ∙ serving.many;
+  held = (let h = serving.held in let e = holds.held in omega (arith, h, e));
+  unguarded = holds.guards 0 ∙ serving.unguarded;
+}
+
+pub holds_then : (a b c : RegionState) → HoldsSegments a b → HoldsSegments b c → HoldsSegments a c
+holds_then a b c p q = record {
+  most = q.most ∙ p.most;
+  groups = q.groups ∙ p.groups;
+  pieces = q.pieces ∙ p.pieces;
+  held = q.held ∙ p.held;
+  guards = λ g. q.guards g ∙ p.guards g;
+}
+
+-- the answer to the next command, and the text of those behind it
+pub text_next : (room number i : ℕ) (values : Values) (bytes : List ℕ) (commands : List Command) (d : Command) → i < length commands
+    → text_from room number values (drop i (orders bytes commands))
+    ≡ answer_line number (done room values (order bytes (get_or commands i d))).1
+    ++ text_from room (number + 1) (done room values (order bytes (get_or commands i d))).0 (drop (i + 1) (orders bytes commands))
+text_next room number i values bytes commands d within =
+    let many : i < length (orders bytes commands) = rw (length-map commands (order bytes)) within in
+    let here : get_or (orders bytes commands) i (order bytes d) ≡ order bytes (get_or commands i d) = get_or-map (order bytes) commands i d (order bytes d) within in
+    ap (text_from room number values) (drop_more (orders bytes commands) i (order bytes d) many ∙ ap (λ o. o ∷ drop (i + 1) (orders bytes commands)) here)

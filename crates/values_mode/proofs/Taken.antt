@@ -1,0 +1,50 @@
+-- A part of a value, from its pieces.
+use Rattle.std.proofs.Common.{◌≡◌, ℕ, ◌+◌, ◌-◌, ◌≤◌, List, [], ◌++◌, append-nil, append_assoc, length, take, drop, arith, refl, sym, ap, ◌∙◌, inl, inr}
+use Rattle.std.proofs.lemmas.Bool.{cases_lt}
+use Rattle.std.proofs.lemmas.List.{take-append-le, drop-append-le, take_all, length-take-le}
+use Rattle.std.proofs.Math.Seq.{take-append-add, drop-append-add}
+use Rattle.values_mode.proofs.Ends.{drop_past}
+
+take_parts : (n : ℕ) (xs ys : List ℕ) → take n (xs ++ ys) ≡ take n xs ++ take (n - length xs) ys
+take_parts n xs ys = elim (cases_lt n (length xs)) [
+  | inl lt ↦
+      let none : n - length xs ≡ 0 = omega (arith, lt) in
+      take-append-le n xs ys (omega (arith, lt)) ∙ sym (append-nil (take n xs)) ∙ ap (λ m. take n xs ++ take m ys) (sym none)
+  | inr le ↦
+      let whole : n ≡ length xs + (n - length xs) = omega (arith, le) in
+      ap (λ m. take m (xs ++ ys)) whole ∙ take-append-add xs ys (n - length xs) ∙ ap (λ l. l ++ take (n - length xs) ys) (sym (take_all n xs le))
+]
+
+drop_parts : (n : ℕ) (xs ys : List ℕ) → drop n (xs ++ ys) ≡ drop n xs ++ drop (n - length xs) ys
+drop_parts n xs ys = elim (cases_lt n (length xs)) [
+  | inl lt ↦
+      let none : n - length xs ≡ 0 = omega (arith, lt) in drop-append-le n xs ys (omega (arith, lt)) ∙ ap (λ m. drop n xs ++ drop m ys) (sym none)
+  | inr le ↦
+      let whole : n ≡ length xs + (n - length xs) = omega (arith, le) in
+      ap (λ m. drop m (xs ++ ys)) whole ∙ drop-append-add xs ys (n - length xs) ∙ ap (λ l. l ++ drop (n - length xs) ys) (sym (drop_past n xs le))
+]
+
+left_over : (n : ℕ) (xs : List ℕ) → n - length (take n xs) ≡ n - length xs
+left_over n xs = elim (cases_lt n (length xs)) [
+  | inl lt ↦ let cut = length-take-le n xs (omega (arith, lt)) in omega (arith, cut, lt)
+  | inr le ↦ ap (λ l. n - length l) (take_all n xs le)
+]
+
+pub front_short : (n : ℕ) (xs : List ℕ) → length (take n xs) ≤ n
+front_short n xs = elim (cases_lt n (length xs)) [
+  | inl lt ↦ let cut = length-take-le n xs (omega (arith, lt)) in omega (arith, cut)
+  | inr le ↦ rw (take_all n xs le) le
+]
+
+-- the first piece gives its part, and the others the rest
+pub part_more : (skip left : ℕ) (piece others : List ℕ)
+    → take left (drop skip (piece ++ others)) ≡ take left (drop skip piece) ++ take (left - length (take left (drop skip piece))) (drop (skip - length piece) others)
+part_more skip left piece others =
+    ap (take left) (drop_parts skip piece others) ∙ take_parts left (drop skip piece) (drop (skip - length piece) others)
+    ∙ ap (λ m. take left (drop skip piece) ++ take m (drop (skip - length piece) others)) (sym (left_over left (drop skip piece)))
+
+-- behind what was added, and the rest
+pub part_added : (start block after part rest later : List ℕ) (whole : List ℕ) → block ++ rest ≡ start ++ whole → after ≡ block ++ part → rest ≡ part ++ later
+    → after ++ later ≡ start ++ whole
+part_added start block after part rest later whole was is split =
+    ap (λ l. l ++ later) is ∙ append_assoc block part later ∙ ap (λ l. block ++ l) (sym split) ∙ was

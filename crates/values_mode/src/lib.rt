@@ -1,0 +1,13 @@
+//! The mode `values`: a script of values that are set, read and dropped, done on a value store.
+//!
+//! What it writes is [`specs/Text.antt`], computed on the map of a value store. The store's segments are pieces of one range.
+#![tactic(auto)]
+
+mod answers;
+mod block;
+mod segments;
+mod store;
+mod writing;
+
+pub use store::{ValueStore, open_values};
+pub use writing::write_values;

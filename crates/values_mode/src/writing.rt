@@ -1,0 +1,115 @@
+//! The text of a script.
+ghost use Rattle.std.specs.Prelude.{◌≡◌, ◌≤◌, [], ◌++◌, length, vec_capacity, OnOk, OnErr};
+ghost use Rattle.std.specs.Io.KnownBytes.{Appends};
+ghost use Rattle.layout.specs.Counts.{Rose};
+ghost use Rattle.outside.specs.Moves.{AppendsFront};
+ghost use Rattle.regions.specs.Shapes.{held_count};
+ghost use Rattle.region_room.specs.Room.{room};
+ghost use Rattle.fragments.specs.Store.{values_of, HoldsSegments};
+ghost use Rattle.value_script.specs.Order.{names, order};
+ghost use Rattle.value_script.specs.Script.{script_in, IsSound};
+ghost use Rattle.values_mode.specs.Text.{answer_line, done, last_line, text_from, values_text};
+ghost use Rattle.values_mode.specs.inside.Steps.{Adds, IsServing};
+
+use crate::answers::{answer, put_last};
+use crate::block::{hand_over, make_room};
+use crate::segments::close;
+use crate::store::ValueStore;
+use fragments::Fragments;
+use outside::{Failed, Sink};
+use value_script::{Command, Script};
+
+/// Does the commands of a script, writes their answers and what is held at the end, and gives the memory back.
+///
+/// The answer to command I is `I set` or `I full`; `I value LEN BYTES` or `I missing`; `I dropped` or `I missing`. The last line
+/// is `values V live L`: how many names have a value, and the live bytes.
+///
+/// # Errors
+/// [`Failed`] where the sink failed. A front of the text was written then.
+pub fn write_values<K: Sink>(store: ValueStore, script: &Script, sink: &mut K) -> Result<(), Failed>
+    ensures written { OnOk result (Appends (K.written sink.old) (K.written sink.new) (values_text (script_in script.now) store.pages)) }
+    ensures front { OnErr result (AppendsFront (K.written sink.old) (K.written sink.new)
+        (values_text (script_in script.now) store.pages)) }
+    ensures failed { OnErr result (Rose (K.faults sink.old) (K.faults sink.new)) }
+    ensures never_falls { K.faults sink.old ≤ K.faults sink.new }
+{
+    let ValueStore {
+        mut fragments,
+        range,
+        mut block,
+        pages: _,
+    } = store;
+    let result = write_text(&mut fragments, &mut block, script, sink);
+    close(fragments, range);
+    result
+}
+
+/// Does a command, and adds its answer to the block.
+fn write_answer<K: Sink>(
+    store: &mut Fragments,
+    block: &mut Vec<u8>,
+    script: &Script,
+    number: u32,
+    command: Command,
+    sink: &mut K,
+) -> Result<(), Failed>
+    requires serving { IsServing store.old }
+    requires sound { IsSound script.now.bytes command }
+    requires room { 65536 ≤ vec_capacity block.old }
+
+    // The values, and the answer.
+    ensures values { OnOk result (values_of store.new
+        ≡ (done (room (held_count store.old.region)) (values_of store.old) (order script.now.bytes command)).0) }
+    ensures added { OnOk result (Adds (K.written sink.old) (K.written sink.new) block.old.items block.new.items
+        (answer_line number (done (room (held_count store.old.region)) (values_of store.old) (order script.now.bytes command)).1)) }
+    ensures segments { HoldsSegments store.old.region store.new.region }
+    ensures room { OnOk result (65536 ≤ vec_capacity block.new) }
+
+    // It fails only where the sink does.
+    ensures front { OnErr result (AppendsFront (K.written sink.old) (K.written sink.new) block.old.items) }
+    ensures failed { OnErr result (Rose (K.faults sink.old) (K.faults sink.new)) }
+    ensures never_falls { K.faults sink.old ≤ K.faults sink.new }
+{
+    make_room(sink, block)?;
+    answer(store, block, script, number, command);
+    Ok(())
+}
+
+/// Writes what the block has and the last line.
+fn write_last<K: Sink>(store: &Fragments, block: &mut Vec<u8>, sink: &mut K) -> Result<(), Failed>
+    requires names { length store.now.firsts ≡ names }
+    requires room { 65536 ≤ vec_capacity block.old }
+    ensures written { OnOk result (Appends (K.written sink.old) (K.written sink.new) (block.old.items ++ last_line (values_of store.now))) }
+    ensures front { OnErr result (AppendsFront (K.written sink.old) (K.written sink.new)
+        (block.old.items ++ last_line (values_of store.now))) }
+    ensures failed { OnErr result (Rose (K.faults sink.old) (K.faults sink.new)) }
+    ensures never_falls { K.faults sink.old ≤ K.faults sink.new }
+{
+    make_room(sink, block)?;
+    put_last(store, block);
+    hand_over(sink, block)
+}
+
+/// The text of a script, from what a store holds on.
+fn write_text<K: Sink>(
+    store: &mut Fragments,
+    block: &mut Vec<u8>,
+    script: &Script,
+    sink: &mut K,
+) -> Result<(), Failed>
+    requires serving { IsServing store.old }
+    requires empty { block.old.items ≡ [] }
+    requires room { 65536 ≤ vec_capacity block.old }
+    ensures written { OnOk result (Appends (K.written sink.old) (K.written sink.new)
+        (text_from (room (held_count store.old.region)) 1 (values_of store.old) (script_in script.now))) }
+    ensures front { OnErr result (AppendsFront (K.written sink.old) (K.written sink.new)
+        (text_from (room (held_count store.old.region)) 1 (values_of store.old) (script_in script.now))) }
+    ensures failed { OnErr result (Rose (K.faults sink.old) (K.faults sink.new)) }
+    ensures never_falls { K.faults sink.old ≤ K.faults sink.new }
+    ensures segments { HoldsSegments store.old.region store.new.region }
+{
+    for (index, command) in script.commands().iter().enumerate() {
+        write_answer(store, block, script, index as u32 + 1, *command, sink)?;
+    }
+    write_last(store, block, sink)
+}
