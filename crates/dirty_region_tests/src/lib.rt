@@ -1,4 +1,4 @@
-//! Tests of `dirty_region`, which use it from outside.
+//! Tests of `dirty_region` and `dirty_mode`, which use them from outside.
 #![tactic(auto)]
 
 #[cfg(test)]
@@ -9,5 +9,7 @@ mod plain;
 mod puts;
 #[cfg(test)]
 mod steps;
+#[cfg(test)]
+mod texts;
 #[cfg(test)]
 mod trial;

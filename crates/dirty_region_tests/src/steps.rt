@@ -25,7 +25,7 @@ pub(crate) enum Step<'a> {
 }
 
 // The key of a number below 1,000.
-fn key_of(number: u32) -> [u8; 4] {
+pub(crate) fn key_of(number: u32) -> [u8; 4] {
     [
         b'k',
         b'0' + (number / 100 % 10) as u8,

@@ -30,6 +30,7 @@ impl Dirty {
             FlushesOldest number self.old.queue self.new.queue (K.written sink.old) (K.written sink.new))) }
         ensures stopped { OnErr result (BreaksOff self.old.queue self.new.queue (K.written sink.old) (K.written sink.new)) }
         ensures failed { OnErr result (Rose (K.faults sink.old) (K.faults sink.new)) }
+        ensures never_falls { K.faults sink.old ≤ K.faults sink.new }
 
         // What was due is what was appended and what is due, whatever happened.
         ensures rest { GoesOn self.old.queue self.new.queue (K.written sink.old) (K.written sink.new) }

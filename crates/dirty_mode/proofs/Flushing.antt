@@ -1,0 +1,178 @@
+-- The oldest puts go, one after the other.
+use Rattle.std.proofs.Common.{◌≡◌, ℕ, ◌+◌, ◌-◌, ◌<◌, ◌≤◌, Bool, true, false, cond, leb, List, [], ◌∷◌, ◌++◌, length, take, drop, map, Option, Some, None, Ok, Err, refl, sym, ap, ◌∙◌, subst, arith, append-nil, get_or}
+use Rattle.std.proofs.lemmas.List.{map-append, take-append-drop, length-drop}
+use Rattle.std.specs.Prelude.{◌↔◌, IsNone, IfSome}
+use Rattle.std.proofs.lemmas.Bool.{lt-leb, le-leb, leb-true}
+use Rattle.std.proofs.lemmas.List.Concat.{flat_map-append}
+use Rattle.std.specs.Io.KnownBytes.{Appends}
+use Rattle.std.proofs.KnownBytes.{Appends-nil}
+use Rattle.outside.specs.Moves.{AppendsFront}
+use Rattle.layout.specs.Counts.{Rose}
+use Rattle.outside.specs.declared.failure.Failed.{Failed}
+use Rattle.cache_model.specs.Row.{Row, live}
+use Rattle.dirty_region.specs.Queues.{Queue, line, FlushesOldest, BreaksOff}
+use Rattle.dirty_mode.specs.DirtyText.{Flushed, going, staying, line_text, text_of}
+use Rattle.dirty_region.specs.State.{DirtyState}
+use Rattle.dirty_mode.specs.inside.Writing.{Seen, Writes, Goes}
+use Rattle.dirty_mode.specs.inside.Held.{whole, Keeps}
+use Rattle.dirty_mode.proofs.Written.{Goes-next, Goes-stop, Goes-done}
+
+-- the text of puts that are flushed
+abbrev pub put_text : List Row → List ℕ
+put_text puts = text_of (map Flushed puts)
+
+put_text-append : (xs ys : List Row) → put_text (xs ++ ys) ≡ put_text xs ++ put_text ys
+put_text-append xs ys = ap text_of (map-append Flushed xs ys) ∙ flat_map-append line_text (map Flushed xs) (map Flushed ys)
+
+-- ---- one flush
+
+pub queue_whole : (q : Queue) → q.out ≡ 0 → q ≡ whole q.puts
+queue_whole q none = ap (λ n. record { puts = q.puts; out = n }) none
+
+next_text : (puts : List Row) (put : Row) (others : List Row) → puts ≡ put ∷ others → put_text (take 1 puts) ≡ line put
+next_text puts put others e = ap (λ ps. put_text (take 1 ps)) e ∙ append-nil (line put)
+
+-- what a flush says where it is done
+abbrev Done : Option ℕ → Queue → Queue → Option (List ℕ) → Option (List ℕ) → Type 0
+Done answer old new before after = IfSome answer (λ number. FlushesOldest number old new before after)
+
+pub next_gone : (answer : Option ℕ) (old new : Queue) (before after : Option (List ℕ)) → old.out ≡ 0 → IsNone answer ↔ (old.puts ≡ []) → (IsNone answer → new ≡ old) → Done answer old new before after
+    → new ≡ whole (drop 1 old.puts)
+next_gone None old new before after out none same flushed =
+    let e = none.0 refl in same refl ∙ (queue_whole old out ∙ ap (λ ps. whole ps) (e ∙ sym (ap (drop 1) e)))
+next_gone (Some n) old new before after out none same flushed = queue_whole new flushed.begun ∙ ap (λ ps. whole ps) (sym (ap (drop 1) flushed.taken))
+
+-- the line is in the block
+pub next_held : (answer : Option ℕ) (old new : Queue) (before after : List ℕ) → old.out ≡ 0 → IsNone answer ↔ (old.puts ≡ []) → (IsNone answer → after ≡ before) → Done answer old new (Some before) (Some after)
+    → after ≡ before ++ put_text (take 1 old.puts)
+next_held None old new before after out none same flushed =
+    let e = none.0 refl in same refl ∙ (sym (append-nil before) ∙ ap (λ ps. before ++ put_text (take 1 ps)) (sym e))
+next_held (Some n) old new before after out none same flushed =
+    subst (λ k. after ≡ before ++ drop k (line flushed.put)) out flushed.whole ∙ ap (λ l. before ++ l) (sym (next_text old.puts flushed.put new.puts flushed.taken))
+
+-- the line broke off in the block
+module _ (old mid : Queue) (before : List ℕ) (after : List ℕ) (out : old.out ≡ 0) (broken : BreaksOff old mid (Some before) (Some after)) where
+  abbrev pub front_of : List ℕ
+  front_of = take mid.out (line broken.put)
+
+  abbrev pub rest_of : List ℕ
+  rest_of = drop mid.out (line broken.put)
+
+  pub line_is : front_of ++ rest_of ≡ put_text (take 1 old.puts)
+  line_is = take-append-drop mid.out (line broken.put) ∙ sym (next_text old.puts broken.put broken.others broken.oldest)
+
+  pub front_held : after ≡ before ++ front_of
+  front_held =
+      let counted = broken.counted in let count_is : mid.out ≡ broken.count = omega (arith, counted, out) in
+      subst (λ k. after ≡ before ++ take broken.count (drop k (line broken.put))) out broken.front
+      ∙ ap (λ n. before ++ take n (line broken.put)) (sym count_is)
+
+  same_put : (put : Row) (others : List Row) → mid.puts ≡ put ∷ others → put ≡ broken.put
+  same_put put others e = ap (λ l. get_or l 0 put) (sym e ∙ (broken.stays ∙ broken.oldest))
+
+  some_put : {X : Type 0} → mid.puts ≡ [] → X
+  some_put e = absurd (let clash : broken.put ∷ broken.others ≡ [] = sym (broken.stays ∙ broken.oldest) ∙ e in cc)
+
+  -- the sink got the rest of the line, or a front of it
+  pub rest_sent : (answer : Option ℕ) (new : Queue) (a b : Option (List ℕ)) → IsNone answer ↔ (mid.puts ≡ []) → Done answer mid new a b → Appends a b rest_of
+  rest_sent None new a b none flushed = some_put (none.0 refl)
+  rest_sent (Some n) new a b none flushed = subst (λ p. Appends a b (drop mid.out (line p))) (same_put flushed.put new.puts flushed.taken) flushed.whole
+
+  pub rest_front : (new : Queue) (a b : Option (List ℕ)) → BreaksOff mid new a b → AppendsFront a b rest_of
+  rest_front new a b p =
+      subst (λ q. AppendsFront a b (drop mid.out (line q))) (same_put p.put p.others p.oldest) (record {
+        count = p.count;
+        within = let low = p.unfinished in let is = p.counted in let long = length-drop mid.out (line p.put) in omega (arith, low, is, long);
+        appended = p.front;
+      })
+
+  pub gone_later : (answer : Option ℕ) (new : Queue) (a b : Option (List ℕ)) → IsNone answer ↔ (mid.puts ≡ []) → Done answer mid new a b → new ≡ whole (drop 1 old.puts)
+  gone_later None new a b none flushed = some_put (none.0 refl)
+  gone_later (Some n) new a b none flushed = queue_whole new flushed.begun ∙ ap (λ ps. whole ps) (sym (ap (drop 1) flushed.taken) ∙ ap (drop 1) broken.stays)
+
+-- ---- while the bytes are too many
+
+-- the queue is above what leaves so many bytes free below the most
+module _ (most size : ℕ) (fits : size ≤ most) where
+  too_many : (puts : List Row) → most - size < live puts → leb (live puts + size) most ≡ false
+  too_many puts above = lt-leb (live puts + size) most (omega (arith, above, fits))
+
+  few_enough : (puts : List Row) → live puts ≤ most - size → leb (live puts + size) most ≡ true
+  few_enough puts below = le-leb (live puts + size) most (omega (arith, below, fits))
+
+  pub going_next : (puts : List Row) → most - size < live puts → going most size puts ≡ take 1 puts ++ going most size (drop 1 puts)
+  going_next [] above = absurd (omega (arith, above))
+  going_next (put ∷ puts) above = ap (λ b. cond b [] (put ∷ going most size puts)) (too_many (put ∷ puts) above)
+
+  pub staying_next : (puts : List Row) → most - size < live puts → staying most size puts ≡ staying most size (drop 1 puts)
+  staying_next [] above = absurd (omega (arith, above))
+  staying_next (put ∷ puts) above = ap (λ b. cond b (put ∷ puts) (staying most size puts)) (too_many (put ∷ puts) above)
+
+  pub fewer : (puts : List Row) → most - size < live puts → length (drop 1 puts) < length puts
+  fewer [] above = absurd (omega (arith, above))
+  fewer (put ∷ puts) above = omega arith
+
+  pub going_none : (puts : List Row) → live puts ≤ most - size → going most size puts ≡ []
+  going_none [] below = refl
+  going_none (put ∷ puts) below = ap (λ b. cond b [] (put ∷ going most size puts)) (few_enough (put ∷ puts) below)
+
+  pub staying_all : (puts : List Row) → live puts ≤ most - size → staying most size puts ≡ puts
+  staying_all [] below = refl
+  staying_all (put ∷ puts) below = ap (λ b. cond b (put ∷ puts) (staying most size puts)) (few_enough (put ∷ puts) below)
+
+  fit_by : (b : Bool) (put : Row) (puts : List Row) → leb (live (put ∷ puts) + size) most ≡ b → live (staying most size puts) + size ≤ most
+      → live (cond b (put ∷ puts) (staying most size puts)) + size ≤ most
+  fit_by true put puts e rest = leb-true (live (put ∷ puts) + size) most e
+  fit_by false put puts e rest = rest
+
+  pub staying_fits : (puts : List Row) → live (staying most size puts) + size ≤ most
+  staying_fits [] = omega (arith, fits)
+  staying_fits (put ∷ puts) = fit_by (leb (live (put ∷ puts) + size) most) put puts refl (staying_fits puts)
+
+few_by : (b : Bool) (put : Row) (puts left : List Row) → length left ≤ length puts → length (cond b (put ∷ puts) left) ≤ length (put ∷ puts)
+few_by true put puts left less = omega arith
+few_by false put puts left less = omega (arith, less)
+
+pub staying_few : (most size : ℕ) (puts : List Row) → length (staying most size puts) ≤ length puts
+staying_few most size [] = omega arith
+staying_few most size (put ∷ puts) = few_by (leb (live (put ∷ puts) + size) most) put puts (staying most size puts) (staying_few most size puts)
+
+-- ---- the text so far
+
+pub for_next : {T E : Type 0} {u : T} {a b c : Seen} {t : List ℕ} (most size : ℕ) (puts now : List Row) → size ≤ most → most - size < live puts → now ≡ drop 1 puts → Goes a b t (put_text (going most size puts))
+    → Writes {T = T} {E = E} (Ok u) b c (put_text (take 1 puts)) → Goes a c t (put_text (going most size now))
+for_next {a = a} {b = b} {c = c} {t = t} most size puts now fits above is gone wrote =
+    let split : put_text (going most size puts) ≡ put_text (take 1 puts) ++ put_text (going most size (drop 1 puts)) =
+    ap put_text (going_next most size fits puts above) ∙ put_text-append (take 1 puts) (going most size (drop 1 puts)) in
+    subst (λ ps. Goes a c t (put_text (going most size ps))) (sym is) (Goes-next (subst (Goes a b t) split gone) wrote)
+
+pub for_stop : {T E : Type 0} {e : E} {a b c : Seen} {t : List ℕ} (most size : ℕ) (puts : List Row) → size ≤ most → most - size < live puts → Goes a b t (put_text (going most size puts))
+    → Writes {T = T} {E = E} (Err e) b c (put_text (take 1 puts)) → Writes {T = T} {E = E} (Err e) a c t
+for_stop {a = a} {b = b} {t = t} most size puts fits above gone wrote =
+    let split : put_text (going most size puts) ≡ put_text (take 1 puts) ++ put_text (going most size (drop 1 puts)) =
+    ap put_text (going_next most size fits puts above) ∙ put_text-append (take 1 puts) (going most size (drop 1 puts)) in
+    Goes-stop (put_text (going most size (drop 1 puts))) (subst (Goes a b t) split gone) wrote
+
+pub for_done : {T E : Type 0} {u : T} {a b : Seen} {t : List ℕ} (most size : ℕ) (puts : List Row) → size ≤ most → live puts ≤ most - size → Goes a b t (put_text (going most size puts))
+    → Writes {T = T} {E = E} (Ok u) a b t
+for_done {a = a} {b = b} {t = t} most size puts fits below gone = Goes-done (subst (Goes a b t) (ap put_text (going_none most size fits puts below)) gone)
+
+-- the same where all go
+all_split : (puts : List Row) → put_text puts ≡ put_text (take 1 puts) ++ put_text (drop 1 puts)
+all_split [] = refl
+all_split (put ∷ puts) = put_text-append (put ∷ []) puts
+
+pub all_next : {T E : Type 0} {u : T} {a b c : Seen} {t : List ℕ} (puts now : List Row) → now ≡ drop 1 puts → Goes a b t (put_text puts) → Writes {T = T} {E = E} (Ok u) b c (put_text (take 1 puts))
+    → Goes a c t (put_text now)
+all_next {a = a} {b = b} {c = c} {t = t} puts now is gone wrote = subst (λ ps. Goes a c t (put_text ps)) (sym is) (Goes-next (subst (Goes a b t) (all_split puts) gone) wrote)
+
+pub all_stop : {T E : Type 0} {e : E} {a b c : Seen} {t : List ℕ} (puts : List Row) → Goes a b t (put_text puts) → Writes {T = T} {E = E} (Err e) b c (put_text (take 1 puts)) → Writes {T = T} {E = E} (Err e) a c t
+all_stop {a = a} {b = b} {t = t} puts gone wrote = Goes-stop (put_text (drop 1 puts)) (subst (Goes a b t) (all_split puts) gone) wrote
+
+-- ---- what stays
+
+pub Keeps-trans : {a b c : DirtyState} → Keeps a b → Keeps b c → Keeps a c
+Keeps-trans p q = record {
+  room = q.room ∙ p.room;
+  segments = record { most = q.segments.most ∙ p.segments.most; pieces = q.segments.pieces ∙ p.segments.pieces; held = q.segments.held ∙ p.segments.held };
+}

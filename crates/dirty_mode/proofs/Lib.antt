@@ -1,0 +1,5 @@
+pub mod CommandLists
+pub mod Flushing
+pub mod InOrder
+pub mod Segments
+pub mod Written

@@ -1,0 +1,5 @@
+use Rattle.dirty_mode.proofs.Written.{Writes-then}
+use Rattle.dirty_mode.proofs.answers.write_value.Goals as goal
+
+pub returns : goal.returns
+returns g c = Writes-then c.in_ok-write.ensures c.write-2.ensures

@@ -1,0 +1,18 @@
+use Rattle.std.proofs.Common.{ap}
+use Rattle.dirty_region.specs.Queues.{Queue}
+use Rattle.dirty_mode.proofs.Flushing.{all_next, all_stop, Keeps-trans}
+use Rattle.dirty_mode.proofs.Written.{Writes-exit}
+use Rattle.dirty_mode.proofs.flushes.flush_all.Goals as goal
+
+pub loop-dirty-preserved : goal.loop-dirty-preserved
+loop-dirty-preserved g c =
+    let puts = c.loop-dirty.dirty.queue.puts in let i = c.loop-dirty.invariant in
+    record {
+      whole = ap (λ (q : Queue). q.out) c.in_ok-flush_next.ensures.queue;
+      gone = all_next puts _ (ap (λ (q : Queue). q.puts) c.in_ok-flush_next.ensures.queue) i.gone c.in_ok-flush_next.ensures.written;
+      kept = Keeps-trans i.kept c.in_ok-flush_next.ensures.kept;
+    }
+
+pub returns-in_err-flush_next-clause-written : goal.returns-in_err-flush_next-clause-written
+returns-in_err-flush_next-clause-written g c =
+    Writes-exit _ c.from_residual.ensures.1 (all_stop c.loop-dirty.dirty.queue.puts c.loop-dirty.invariant.gone c.in_err-flush_next.ensures.written)

@@ -1,0 +1,10 @@
+-- The first segments are held still.
+use Rattle.regions.specs.Shapes.{held_count}
+use Rattle.dirty_mode.specs.inside.Held.{HoldsFirst}
+use Rattle.dirty_mode.proofs.store.close.Given as goal
+
+abbrev pub invariant-loop-piece : goal.invariant-loop-piece
+invariant-loop-piece l = HoldsFirst l.range l.dirty.region (held_count l.dirty.region)
+
+abbrev pub decreases-loop-piece : goal.decreases-loop-piece
+decreases-loop-piece l = held_count l.dirty.region

@@ -1,0 +1,4 @@
+pub mod DirtyText
+pub mod Examples
+pub mod Stores
+pub mod inside

@@ -1,0 +1,104 @@
+//! The block in which text waits for the sink.
+ghost use Rattle.std.specs.Prelude.{◌≡◌, ◌≤◌, ◌<◌, ◌-◌, [], ◌++◌, min, take, length, vec_len, vec_capacity, true, false, Some, IfOk, OnOk, OnErr};
+ghost use Rattle.layout.specs.Counts.{Rose};
+ghost use Rattle.dirty_mode.specs.inside.Writing.{BlockState, Writes, seen};
+
+use outside::{Failed, Sink, write_all};
+use std::alloc::{AllocError, Global};
+use std::marker::Model;
+
+const ROOM: usize = 65_536;
+
+/// Text that the sink was not given yet. It is a sink too, which takes what it has room for.
+#[derive(Drop)]
+pub(crate) struct Block {
+    bytes: Vec<u8>,
+    faults: u64,
+}
+
+impl Model for Block {
+    ghost Value = { BlockState };
+
+    ghost view = { λ b. record { bytes = b.bytes.items; faults = b.faults } };
+
+    ghost invariant = { λ b. (vec_len b.bytes ≤ 65536) × (65536 ≤ vec_capacity b.bytes) };
+}
+
+impl Block {
+    /// With no text, and room for 64 KiB.
+    ///
+    /// # Errors
+    /// `AllocError` where memory is not found. No other call takes memory.
+    pub(crate) fn new(alloc: Global) -> Result<Block, AllocError>
+        ensures { IfOk result (λ block. block.bytes ≡ []) }
+    {
+        Ok(Block {
+            bytes: Vec::with_capacity(alloc, ROOM)?,
+            faults: 0,
+        })
+    }
+
+    fn bytes(&self) -> &[u8]
+        ensures { result.now ≡ self.now.bytes }
+    {
+        self.bytes.as_slice()
+    }
+
+    fn clear(&mut self)
+        ensures { self.new.bytes ≡ [] }
+    {
+        self.bytes.clear();
+    }
+
+    /// Adds a text where it has room for it, and answers whether it has.
+    fn try_add(&mut self, text: &[u8]) -> bool
+        ensures fits { result ≡ true → self.new.bytes ≡ self.old.bytes ++ text.now }
+        ensures full { result ≡ false → self.new.bytes ≡ self.old.bytes }
+    {
+        if text.len() > ROOM - self.bytes.len() {
+            return false;
+        }
+        self.bytes.extend_from_slice(text).unwrap();
+        true
+    }
+}
+
+impl Sink for Block {
+    ghost written = { λ b. Some b.bytes };
+
+    ghost faults = { λ b. b.faults };
+
+    fn write(&mut self, from: &[u8]) -> Result<usize, Failed> {
+        let count = from.len().min(ROOM - self.bytes.len());
+        if count == 0 && !from.is_empty() {
+            self.faults = self.faults.saturating_add(1);
+            return Err(Failed);
+        }
+        self.bytes.extend_from_slice(&from[..count]).unwrap();
+        Ok(count)
+    }
+}
+
+/// Gives the sink what waits.
+pub(crate) fn hand_over<K: Sink>(sink: &mut K, block: &mut Block) -> Result<(), Failed>
+    ensures wrote { Writes result (seen K.written K.faults sink.old block.old) (seen K.written K.faults sink.new block.new) [] }
+    ensures empty { OnOk result (block.new.bytes ≡ []) }
+{
+    write_all(sink, block.bytes())?;
+    block.clear();
+    Ok(())
+}
+
+/// Adds a text. Where the block has no room for it, the sink is given the block first.
+pub(crate) fn write<K: Sink>(sink: &mut K, block: &mut Block, text: &[u8]) -> Result<(), Failed>
+    ensures { Writes result (seen K.written K.faults sink.old block.old) (seen K.written K.faults sink.new block.new) text.now }
+{
+    if block.try_add(text) {
+        return Ok(());
+    }
+    hand_over(sink, block)?;
+    if block.try_add(text) {
+        return Ok(());
+    }
+    write_all(sink, text)
+}

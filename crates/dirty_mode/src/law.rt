@@ -1,0 +1,9 @@
+//! What follows of the definition of what is written.
+ghost use Rattle.std.specs.Prelude.{◌≡◌, ℕ};
+ghost use Rattle.trace_text.specs.Trace.{Trace};
+ghost use Rattle.dirty_mode.specs.DirtyText.{flushed, lines, puts};
+
+/// The puts that are flushed are those of the trace, in order, each once.
+pub fn puts_are_flushed_in_order()
+    ensures { (trace : Trace) (pages : ℕ) → flushed (lines trace pages) ≡ puts trace }
+{}

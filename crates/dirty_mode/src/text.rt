@@ -1,0 +1,74 @@
+//! What is written of a trace.
+ghost use Rattle.std.specs.Prelude.{◌≡◌, ◌≤◌, ◌++◌, [], codes, decimal, OnOk, OnErr};
+ghost use Rattle.std.specs.Io.KnownBytes.{Appends};
+ghost use Rattle.outside.specs.Moves.{AppendsFront};
+ghost use Rattle.layout.specs.Counts.{Rose};
+ghost use Rattle.trace_text.specs.Parsed.{trace_in};
+ghost use Rattle.layout.specs.Sizes.{greatest_object};
+ghost use Rattle.regions.specs.Shapes.{held_count};
+ghost use Rattle.region_room.specs.Room as bound;
+ghost use Rattle.dirty_mode.specs.DirtyText.{dirty_text, text_of, lines_from, put_count};
+ghost use Rattle.dirty_mode.specs.inside.Writing.{Writes, seen};
+ghost use Rattle.dirty_mode.specs.inside.Held.{whole, Keeps};
+
+use crate::answers::write_count;
+use crate::block::{Block, hand_over};
+use crate::commands::do_commands;
+use crate::store::{DirtyStore, close, put_count};
+use dirty_region::Dirty;
+use layout::SEGMENT_PAGES;
+use outside::{Failed, Sink};
+use region_room::room;
+use trace_text::Trace;
+
+/// Runs a trace on a store that was opened for it, and writes what is said of it: each put as it is flushed, the oldest ones first,
+/// each get as it comes, and how many puts there were. The store's memory is given back.
+///
+/// # Errors
+/// [`Failed`] where the sink failed. A front of the text was written then.
+pub fn write_dirty<K: Sink>(store: DirtyStore, trace: &Trace, sink: &mut K) -> Result<(), Failed>
+    requires room { put_count (trace_in trace.now) ≤ store.room }
+
+    // The whole text, or a front of it.
+    ensures written { OnOk result (Appends (K.written sink.old) (K.written sink.new) (dirty_text (trace_in trace.now) store.pages)) }
+    ensures front { OnErr result (AppendsFront (K.written sink.old) (K.written sink.new)
+        (dirty_text (trace_in trace.now) store.pages)) }
+
+    // It fails only where the sink does.
+    ensures failed { OnErr result (Rose (K.faults sink.old) (K.faults sink.new)) }
+    ensures never_falls { K.faults sink.old ≤ K.faults sink.new }
+{
+    let DirtyStore {
+        mut dirty,
+        range,
+        mut block,
+        pages,
+    } = store;
+    let segments = pages / SEGMENT_PAGES;
+    let written = write_text(&mut dirty, segments, trace, sink, &mut block);
+    close(dirty, range, segments);
+    written
+}
+
+/// Writes the lines of a trace, and how many puts there were.
+fn write_text<K: Sink>(
+    dirty: &mut Dirty,
+    segments: u32,
+    trace: &Trace,
+    sink: &mut K,
+    block: &mut Block,
+) -> Result<(), Failed>
+    requires empty { dirty.old.queue ≡ whole [] }
+    requires held { segments ≡ held_count dirty.old.region }
+    requires many { 3 ≤ segments }
+    requires room { put_count (trace_in trace.now) ≤ dirty.old.room }
+    ensures written { Writes result (seen K.written K.faults sink.old block.old) (seen K.written K.faults sink.new block.new)
+        (text_of (lines_from (bound.room segments) (trace_in trace.now).operations [])
+        ++ codes "dirty " ++ decimal (put_count (trace_in trace.now)) ++ codes "\n") }
+    ensures empty { OnOk result (block.new.bytes ≡ []) }
+    ensures kept { Keeps dirty.old dirty.new }
+{
+    do_commands(dirty, room(segments), trace, sink, block)?;
+    write_count(sink, block, put_count(trace))?;
+    hand_over(sink, block)
+}
