@@ -1,0 +1,11 @@
+pub mod Splices
+pub mod Pieces
+pub mod Fields
+pub mod Nodes
+pub mod Edits
+pub mod Parts
+pub mod Rows
+pub mod Calls
+pub mod Started
+pub mod Written
+pub mod Rising
