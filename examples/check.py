@@ -17,6 +17,8 @@ WORDS = {
     "scan": "sim --shards 3 --number 7",
     "two_origins": "sim --shards 2 --number 7",
     "evicted": "run --pages 1280",
+    "dirty": "dirty",
+    "values": "values",
 }
 
 
@@ -36,7 +38,7 @@ def main():
     with open(os.path.join(TOP, "crates", "shardcache", "src", "tests", "examples.rt"), encoding="utf-8") as file:
         texts = [text.replace("\\n\\\n", "\n").replace("\\n", "\n").encode() for text in re.findall(r'b"([^"]*)"', file.read())]
     for name, words in WORDS.items():
-        trace = evicting() if name == "evicted" else contents(f"{name}.trace")
+        trace = evicting() if name == "evicted" else contents("values.script" if name == "values" else f"{name}.trace")
         report = contents(f"{name}.report")
         written = subprocess.run([os.path.join(TOP, "shardcache"), *words.split()], input=trace, stdout=subprocess.PIPE, check=False).stdout
         if written != report:

@@ -1,9 +1,9 @@
 -- The report of what the shards did.
-use Rattle.std.proofs.Common.{◌≡◌, ℕ, ◌+◌, ◌<◌, List, [], ◌∷◌, length, map, get_or, Option, Some, None, arith, refl, sym, ap, subst, inl, inr, ◌⊎◌, ◌∙◌}
+use Rattle.std.proofs.Common.{◌≡◌, ℕ, ◌+◌, ◌<◌, List, [], ◌∷◌, length, map, get_or, Option, Some, None, arith, refl, sym, subst, inl, inr, ◌⊎◌, ◌∙◌}
 use Rattle.std.specs.List.{All, AllByRecursion as ByRecursion, enumerate_from, filter_map, slice_get}
 use Rattle.std.specs.Option.{option_map}
 use Rattle.std.proofs.lemmas.List.{length-map}
-use Rattle.std.proofs.lemmas.List.Elements.{All-from_recursion, All-head, All-tail}
+use Rattle.std.proofs.lemmas.List.Elements.{All-from_recursion}
 use Rattle.std.specs.Prelude.{Bool}
 use Rattle.trace_text.specs.Operation.{Operation}
 use Rattle.trace_text.specs.Trace.{Trace}
@@ -72,7 +72,7 @@ reported laws trace n pages ran formed run =
     }
 
 -- the record is that of the run
-pub recorded : (found : Found) (trace : Trace) (ran : RanState) → IsRunOf trace found.shards found.pages ran → IsRecordOf (view found) trace ran
+recorded : (found : Found) (trace : Trace) (ran : RanState) → IsRunOf trace found.shards found.pages ran → IsRecordOf (view found) trace ran
 recorded found trace ran run = record {
   of_trace = run.of_run.of_trace;
   of_shards = run.of_run.of_shards;
@@ -88,7 +88,7 @@ recorded found trace ran run = record {
 
 pub of_reading : ReportLaws → (found : Found) (trace : Trace) (ran : RanState) → All IsWellFormed trace.operations
     → IsRunOf trace found.shards found.pages ran → (found.mode ≡ Run) ⊎ (found.mode ≡ Sim)
-    → IsOutput found.mode (view found) trace ran (report trace found.shards found.pages (journals_in ran.journals))
+    → IsOutput found.mode (view found) trace (Some ran) (report trace found.shards found.pages (journals_in ran.journals))
 of_reading laws found trace ran formed run mode = go mode
   where
     text : List ℕ
@@ -97,12 +97,12 @@ of_reading laws found trace ran formed run mode = go mode
     reports : Reports (view found) trace ran text
     reports = record { report = reported laws trace found.shards found.pages ran formed run; evicts = run.evicts }
 
-    go : (found.mode ≡ Run) ⊎ (found.mode ≡ Sim) → IsOutput found.mode (view found) trace ran text
-    go (inl is) = subst (λ m. IsOutput m (view found) trace ran text) (sym is) reports
-    go (inr is) = subst (λ m. IsOutput m (view found) trace ran text) (sym is) reports
+    go : (found.mode ≡ Run) ⊎ (found.mode ≡ Sim) → IsOutput found.mode (view found) trace (Some ran) text
+    go (inl is) = subst (λ m. IsOutput m (view found) trace (Some ran) text) (sym is) (ran, refl, recorded found trace ran run, reports)
+    go (inr is) = subst (λ m. IsOutput m (view found) trace (Some ran) text) (sym is) (ran, refl, recorded found trace ran run, reports)
 
 pub of_making : (found : Found) (trace : Trace) (ran : RanState) → IsRunOf trace found.shards found.pages ran → found.mode ≡ Gen
-    → IsOutput found.mode (view found) trace ran (summary trace found.shards found.pages (journals_in ran.journals))
+    → IsOutput found.mode (view found) trace (Some ran) (summary trace found.shards found.pages (journals_in ran.journals))
 of_making found trace ran run is =
-    subst (λ m. IsOutput m (view found) trace ran (summary trace found.shards found.pages (journals_in ran.journals))) (sym is)
-    (record { shards = run.journal_each; legal = run.legal; complete = run.complete; summary = refl })
+    subst (λ m. IsOutput m (view found) trace (Some ran) (summary trace found.shards found.pages (journals_in ran.journals))) (sym is)
+    (ran, refl, recorded found trace ran run, record { shards = run.journal_each; legal = run.legal; complete = run.complete; summary = refl })

@@ -13,7 +13,7 @@ use Rattle.layout.specs.Sizes.{fewest_pages, most_pages, segment_pages}
 use Rattle.trace_text.specs.Parts.{most_shards}
 use Rattle.shardcache.specs.declared.settings.Settings.{Settings as Found}
 use Rattle.shardcache.specs.declared.settings.mode.Mode.{Mode}
-use Rattle.shardcache.specs.declared.settings.mode.Mode.TheVariants.{Run, Sim, Gen}
+use Rattle.shardcache.specs.declared.settings.mode.Mode.TheVariants.{Run, Sim, Gen, Dirty, Values}
 
 pub record Settings : Type 0 where
   pub mode : Mode
@@ -68,7 +68,9 @@ abbrev pub mode_of : List ℕ → Option Mode
 mode_of word =
     if bytes_eq word (codes "run") then Some Run
     else (if bytes_eq word (codes "sim") then Some Sim
-    else (if bytes_eq word (codes "gen") then Some Gen else None))
+    else (if bytes_eq word (codes "gen") then Some Gen
+    else (if bytes_eq word (codes "dirty") then Some Dirty
+    else (if bytes_eq word (codes "values") then Some Values else None))))
 
 -- a number is 1 to 10 decimal digits and nothing else
 abbrev pub is_number : List ℕ → Bool
@@ -101,6 +103,14 @@ most_made_commands = 100000
 abbrev pub are_pages : ℕ → ℕ → Bool
 are_pages shards pages = pages % segment_pages == 0 && nat_le (shards * pages) most_pages_in_all
 
+-- a mode that keeps one store has no use for a second shard
+abbrev pub are_shards : Mode → ℕ → Bool
+are_shards Run shards = true
+are_shards Sim shards = true
+are_shards Gen shards = true
+are_shards Dirty shards = shards == 1
+are_shards Values shards = shards == 1
+
 -- What the values of the arguments ask, of which clap found `first_of NAME rows`. An option is checked whether or not
 -- the mode uses it.
 unfoldable pub settings_in : List Row → Option Settings
@@ -111,7 +121,7 @@ settings_in rows = do
   pages ← number_within fewest_pages most_pages default_pages (first_of (codes "pages") rows)
   number ← number_within 0 greatest_number 0 (first_of (codes "number") rows)
   commands ← number_within 1 most_made_commands most_made_commands (first_of (codes "commands") rows)
-  if are_pages shards pages then Some (record {
+  if are_pages shards pages && are_shards mode shards then Some (record {
     mode = mode;
     shards = shards;
     pages = pages;

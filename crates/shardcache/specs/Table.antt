@@ -1,9 +1,8 @@
 -- The table of the top call: what a call may have written, by its status.
-use Rattle.std.specs.Prelude.{◌≡◌, ℕ, ◌+◌, ◌<◌, ◌++◌, List, [], length, map, codes, slice_index_or, Some, None, Result, Ok, Err, Option}
+use Rattle.std.specs.Prelude.{◌≡◌, ℕ, ◌+◌, ◌<◌, ◌++◌, Bool, List, [], length, map, codes, slice_index_or, Some, None, Result, Ok, Err, is_ok, Option}
 use Rattle.std.specs.List.{enumerate_from}
 use Rattle.std.specs.Io.KnownBytes.{Appends, Consumes, IsAtEnd}
-use Rattle.layout.specs.Sizes.{dense}
-use Rattle.layout.specs.Sizes.{most_trace_bytes}
+use Rattle.layout.specs.Sizes.{dense, most_trace_bytes}
 use Rattle.trace_text.specs.Reading.{Refusal, TooLong, AtLine}
 use Rattle.trace_text.specs.Trace.{Trace}
 use Rattle.cache_model.specs.declared.entry.Entry.{Entry}
@@ -14,22 +13,20 @@ use Rattle.cache_model.specs.Report.{answers, line, occupancy, IsReportOf}
 use Rattle.cache_model.specs.Summary.{summary as summary_of_run}
 use Rattle.report_text.specs.Views.{journals_in, occupancies_in, replies_in}
 use Rattle.made_trace.specs.Made.{made}
+use Rattle.dirty_mode.specs.DirtyText.{dirty_text}
+use Rattle.value_script.specs.Order.{Order}
+use Rattle.value_script.specs.Reading.{Refusal as ScriptRefusal, script_of}
+use Rattle.value_script.specs.Reading as script_refusal
+use Rattle.values_mode.specs.Text.{values_text}
 use Rattle.shard_node.specs.Rans.{RanState}
 use Rattle.shardcache.specs.declared.settings.mode.Mode.{Mode}
-use Rattle.shardcache.specs.declared.settings.mode.Mode.TheVariants.{Run, Sim, Gen}
+use Rattle.shardcache.specs.declared.settings.mode.Mode.TheVariants.{Run, Sim, Gen, Dirty, Values}
 use Rattle.shardcache.specs.declared.status.Status.{Status}
 use Rattle.shardcache.specs.declared.status.Status.TheVariants as status
 use Rattle.shardcache.specs.Settings.{Settings, settings}
-use Rattle.shardcache.specs.TraceFor.{refusal_text, trace_for}
+use Rattle.shardcache.specs.TraceFor.{refusal_text, script_refusal_text, trace_for}
 
--- ---- by the mode
-
--- The bytes that are the trace. `run` and `sim` read it: they are the bytes that were taken from the source. `gen` makes it of the
--- number.
-abbrev pub trace_bytes : Mode → Settings → List ℕ → List ℕ
-trace_bytes Run settings taken = taken
-trace_bytes Sim settings taken = taken
-trace_bytes Gen settings taken = made settings.number settings.commands
+-- ---- what is read
 
 -- A source is read to its end for a trace, or for why there is none; but of a trace that is too long one byte above the most is read.
 abbrev pub IsReadOut : Result Trace Refusal → List ℕ → Option (List ℕ) → Type 0
@@ -37,11 +34,28 @@ IsReadOut (Ok trace) taken left = IsAtEnd left
 IsReadOut (Err TooLong) taken left = length taken ≡ most_trace_bytes + 1
 IsReadOut (Err (AtLine number cause)) taken left = IsAtEnd left
 
--- how far the source was read: by `gen` not at all
-abbrev pub IsRead : Mode → Result Trace Refusal → List ℕ → Option (List ℕ) → Type 0
-IsRead Run meaning taken left = IsReadOut meaning taken left
-IsRead Sim meaning taken left = IsReadOut meaning taken left
-IsRead Gen meaning taken left = taken ≡ []
+-- the same for a script
+abbrev pub IsScriptReadOut : Result (List Order) ScriptRefusal → List ℕ → Option (List ℕ) → Type 0
+IsScriptReadOut (Ok script) taken left = IsAtEnd left
+IsScriptReadOut (Err script_refusal.TooLong) taken left = length taken ≡ most_trace_bytes + 1
+IsScriptReadOut (Err (script_refusal.AtLine number cause)) taken left = IsAtEnd left
+
+-- the bytes that were taken are this trace, or are refused so
+pub record ReadsTrace (found : Settings) (taken : List ℕ) (left : Option (List ℕ)) (meaning : Result Trace Refusal) : Type 0 where
+  pub trace : trace_for found taken ≡ meaning
+  pub read : IsReadOut meaning taken left
+
+-- the bytes that are made of the number are, and nothing was taken
+pub record MakesTrace (found : Settings) (taken : List ℕ) (meaning : Result Trace Refusal) : Type 0 where
+  pub trace : trace_for found (made found.number found.commands) ≡ meaning
+  pub read : taken ≡ []
+
+-- the bytes that were taken are this script, or are refused so
+pub record ReadsScript (taken : List ℕ) (left : Option (List ℕ)) (meaning : Result (List Order) ScriptRefusal) : Type 0 where
+  pub script : script_of taken ≡ meaning
+  pub read : IsScriptReadOut meaning taken left
+
+-- ---- what is run
 
 -- The record is that of a run of this trace, on the shards and with the pages that the settings ask for. It has a journal, a log and a
 -- line of each shard: the logs have the answers, and the lines say what is in the caches to which the journals lead, and how many
@@ -71,34 +85,61 @@ pub record Summarizes (settings : Settings) (trace : Trace) (ran : RanState) (te
   pub complete : (s : ℕ) (d : List Entry) → s < settings.shards → IsComplete trace settings.shards s (slice_index_or (journals_in ran.journals) s d)
   pub summary : text ≡ summary_of_run trace settings.shards settings.pages (journals_in ran.journals)
 
--- what is written of a trace that was run: by `run` and `sim` its report, by `gen` its summary
-abbrev pub IsOutput : Mode → Settings → Trace → RanState → List ℕ → Type 0
-IsOutput Run settings trace ran text = Reports settings trace ran text
-IsOutput Sim settings trace ran text = Reports settings trace ran text
-IsOutput Gen settings trace ran text = Summarizes settings trace ran text
+-- What is left and written of a trace: by `run` and `sim` the record of its run and the report, by `gen` the record and the summary; by
+-- `dirty`, whose puts stand in a queue, no record, and the text of that.
+abbrev pub IsOutput : Mode → Settings → Trace → Option RanState → List ℕ → Type 0
+IsOutput Run settings trace ran text = (run : RanState) × (ran ≡ Some run) × IsRecordOf settings trace run × Reports settings trace run text
+IsOutput Sim settings trace ran text = (run : RanState) × (ran ≡ Some run) × IsRecordOf settings trace run × Reports settings trace run text
+IsOutput Gen settings trace ran text = (run : RanState) × (ran ≡ Some run) × IsRecordOf settings trace run × Summarizes settings trace run text
+IsOutput Dirty settings trace ran text = (ran ≡ None) × (text ≡ dirty_text trace settings.pages)
+IsOutput Values settings trace ran text = ⊥
 
--- ---- by the status
+-- ---- by the mode
 
--- the words ask for these settings, and the bytes that are the trace are this trace, or are refused so
-pub record Means (words : List (List ℕ)) (taken : List ℕ) (left : Option (List ℕ)) (found : Settings) (meaning : Result Trace Refusal) : Type 0 where
-  pub wanted : settings words ≡ Some found
-  pub trace : trace_for found (trace_bytes found.mode found taken) ≡ meaning
-  pub read : IsRead found.mode meaning taken left
-
--- the words ask for a trace that is read
+-- the words ask for what is read
 abbrev pub Reads : Mode → Type 0
 Reads Run = Unit {0}
 Reads Sim = Unit {0}
 Reads Gen = ⊥
+Reads Dirty = Unit {0}
+Reads Values = Unit {0}
+
+-- what was taken is accepted, and this is what is left and written of it
+abbrev pub Does : Mode → Settings → List ℕ → Option (List ℕ) → Option RanState → List ℕ → Type 0
+Does Run found taken left ran text = (trace : Trace) × ReadsTrace found taken left (Ok trace) × IsOutput Run found trace ran text
+Does Sim found taken left ran text = (trace : Trace) × ReadsTrace found taken left (Ok trace) × IsOutput Sim found trace ran text
+Does Gen found taken left ran text = (trace : Trace) × MakesTrace found taken (Ok trace) × IsOutput Gen found trace ran text
+Does Dirty found taken left ran text = (trace : Trace) × ReadsTrace found taken left (Ok trace) × IsOutput Dirty found trace ran text
+Does Values found taken left ran text =
+    (script : List Order) × ReadsScript taken left (Ok script) × (ran ≡ None) × (text ≡ values_text script found.pages)
+
+-- what was taken, or is made, is refused, and this is what is written of it
+abbrev pub Refuses : Mode → Settings → List ℕ → Option (List ℕ) → List ℕ → Type 0
+Refuses Run found taken left text = (refusal : Refusal) × ReadsTrace found taken left (Err refusal) × (text ≡ refusal_text refusal)
+Refuses Sim found taken left text = (refusal : Refusal) × ReadsTrace found taken left (Err refusal) × (text ≡ refusal_text refusal)
+Refuses Gen found taken left text = (refusal : Refusal) × MakesTrace found taken (Err refusal) × (text ≡ refusal_text refusal)
+Refuses Dirty found taken left text = (refusal : Refusal) × ReadsTrace found taken left (Err refusal) × (text ≡ refusal_text refusal)
+Refuses Values found taken left text =
+    (refusal : ScriptRefusal) × ReadsScript taken left (Err refusal) × (text ≡ script_refusal_text refusal)
+
+-- whether what a mode reads, of these bytes, or makes, is accepted
+abbrev pub is_accepted : Mode → Settings → List ℕ → Bool
+is_accepted Run found bytes = is_ok (trace_for found bytes)
+is_accepted Sim found bytes = is_ok (trace_for found bytes)
+is_accepted Gen found bytes = is_ok (trace_for found (made found.number found.commands))
+is_accepted Dirty found bytes = is_ok (trace_for found bytes)
+is_accepted Values found bytes = is_ok (script_of bytes)
+
+-- ---- by the status
 
 -- What stands where a call whose words are these took these bytes, left this record of a run, if one, and wrote this text to its
 -- end; `left` is what the source has left.
 abbrev pub WritesAll : Status → List (List ℕ) → List ℕ → Option (List ℕ) → Option RanState → List ℕ → Type 0
-WritesAll status.Done words taken left ran text = (found : Settings) × (trace : Trace) × (run : RanState)
-    × (ran ≡ Some run) × Means words taken left found (Ok trace) × IsRecordOf found trace run × IsOutput found.mode found trace run text
+WritesAll status.Done words taken left ran text =
+    (found : Settings) × (settings words ≡ Some found) × Does found.mode found taken left ran text
 WritesAll status.Usage words taken left ran text = (ran ≡ None) × (settings words ≡ None) × (taken ≡ []) × (text ≡ line (codes "usage"))
 WritesAll status.Refused words taken left ran text =
-    (ran ≡ None) × (found : Settings) × (refusal : Refusal) × Means words taken left found (Err refusal) × (text ≡ refusal_text refusal)
+    (ran ≡ None) × (found : Settings) × (settings words ≡ Some found) × Refuses found.mode found taken left text
 WritesAll status.ReadFault words taken left ran text =
     (ran ≡ None) × (found : Settings) × (settings words ≡ Some found) × Reads found.mode × (text ≡ line (codes "read fault"))
 WritesAll status.WriteFault words taken left ran text = ⊥

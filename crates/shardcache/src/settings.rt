@@ -1,9 +1,9 @@
 //! What the words of the command line ask.
-ghost use Rattle.std.specs.Prelude.{◌≡◌, ◌≤◌, IfOk, IfSome, map, option_map, string_bytes};
+ghost use Rattle.std.specs.Prelude.{◌≡◌, ◌≤◌, true, IfOk, IfSome, map, option_map, string_bytes};
 ghost use Rattle.layout.specs.Sizes.{ArePages};
 ghost use Rattle.clap.specs.Words.{first_of, found_of, rows_of};
 ghost use Rattle.trace_text.specs.Parts.{most_shards};
-ghost use Rattle.shardcache.specs.Settings.{most_made_commands, settings, settings_in, view};
+ghost use Rattle.shardcache.specs.Settings.{are_shards, most_made_commands, settings, settings_in, view};
 
 mod command;
 mod mode;
@@ -14,7 +14,7 @@ use clap::error::ErrorKind;
 use command::command;
 use layout::{FEWEST_PAGES, MOST_PAGES, SEGMENT_PAGES};
 pub use mode::Mode;
-use mode::mode_of;
+use mode::{are_shards, mode_of};
 use number::number_within;
 use std::alloc::{AllocError, Global};
 use trace_text::MOST_SHARDS;
@@ -59,6 +59,7 @@ fn settings_in(matches: &ArgMatches<'_>) -> Option<Settings>
     ensures pages { IfSome result (λ found. ArePages found.pages) }
     ensures shards { IfSome result (λ found. (1 ≤ found.shards) × (found.shards ≤ most_shards)) }
     ensures commands { IfSome result (λ found. found.commands ≤ most_made_commands) }
+    ensures alone { IfSome result (λ found. are_shards found.mode found.shards ≡ true) }
 {
     let mode = mode_of(value_of(matches, "mode")?)?;
     let shards = number_within(value_of(matches, "shards"), 1, MOST_SHARDS, 1)?;
@@ -67,7 +68,8 @@ fn settings_in(matches: &ArgMatches<'_>) -> Option<Settings>
     let number = number_within(value_of(matches, "number"), 0, u32::MAX, 0)?;
     let commands = value_of(matches, "commands");
     let commands = number_within(commands, 1, MOST_MADE_COMMANDS, MOST_MADE_COMMANDS)?;
-    if pages % SEGMENT_PAGES == 0 && shards * pages <= MOST_PAGES_IN_ALL {
+    let are_pages = pages % SEGMENT_PAGES == 0 && shards * pages <= MOST_PAGES_IN_ALL;
+    if are_pages && are_shards(mode, shards) {
         Some(Settings {
             mode,
             shards,
@@ -84,8 +86,8 @@ fn settings_in(matches: &ArgMatches<'_>) -> Option<Settings>
 ///
 /// | Word | Limits | Where it is absent |
 /// |---|---|---|
-/// | a mode | `run`, `sim` or `gen` | refused |
-/// | `--shards N` | 1 to 16 | 1 |
+/// | a mode | `run`, `sim`, `gen`, `dirty` or `values` | refused |
+/// | `--shards N` | 1 to 16; for `dirty` and `values` 1 | 1 |
 /// | `--pages N` | 1,280 to 65,536, a multiple of 32, and at most 262,144 of all shards | 8,192 |
 /// | `--number N` | 0 to 4,294,967,295 | 0 |
 /// | `--commands N` | 1 to 100,000 | 100,000 |
@@ -101,6 +103,7 @@ pub fn settings_of(alloc: Global, words: &[String]) -> Result<Option<Settings>, 
     ensures pages { IfOk result (λ found. IfSome found (λ some. ArePages some.pages)) }
     ensures shards { IfOk result (λ found. IfSome found (λ some. (1 ≤ some.shards) × (some.shards ≤ most_shards))) }
     ensures commands { IfOk result (λ found. IfSome found (λ some. some.commands ≤ most_made_commands)) }
+    ensures alone { IfOk result (λ found. IfSome found (λ some. are_shards some.mode some.shards ≡ true)) }
 {
     match command(alloc)?.try_get_matches_from(words) {
         Ok(matches) => Ok(settings_in(&matches)),

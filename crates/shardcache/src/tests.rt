@@ -6,6 +6,7 @@ mod judged;
 pub mod plain;
 mod printed;
 mod shards;
+mod stores;
 mod summaries;
 
 use crate::{Outcome, Status, shardcache};

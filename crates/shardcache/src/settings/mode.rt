@@ -1,6 +1,6 @@
 //! The modes of the program.
 ghost use Rattle.std.specs.Prelude.{◌≡◌};
-ghost use Rattle.shardcache.specs.Settings.{mode_of};
+ghost use Rattle.shardcache.specs.Settings.{are_shards, mode_of};
 
 /// What the program does.
 #[derive(Clone, Copy, Debug, PartialEq, Eq)]
@@ -11,6 +11,10 @@ pub enum Mode {
     Sim,
     /// Makes a trace of the number, runs it as `sim` does, and writes a summary.
     Gen,
+    /// Keeps the puts of a trace in a queue until they are flushed, and writes what came of it.
+    Dirty,
+    /// Runs a script on a store of long values, and writes what came of it.
+    Values,
 }
 
 /// The mode that a word names.
@@ -21,6 +25,18 @@ pub fn mode_of(word: &str) -> Option<Mode>
         "run" => Some(Mode::Run),
         "sim" => Some(Mode::Sim),
         "gen" => Some(Mode::Gen),
+        "dirty" => Some(Mode::Dirty),
+        "values" => Some(Mode::Values),
         _ => None,
+    }
+}
+
+/// Whether a mode has a use for so many shards: one that keeps a store of its own has one.
+pub fn are_shards(mode: Mode, shards: u32) -> bool
+    ensures { result ≡ are_shards mode shards }
+{
+    match mode {
+        Mode::Run | Mode::Sim | Mode::Gen => true,
+        Mode::Dirty | Mode::Values => shards == 1,
     }
 }

@@ -51,11 +51,15 @@ fn words_ask_for_settings(rt: HostRuntime) -> Result<(), Fail> {
 
 #[test]
 fn other_words_are_refused(rt: HostRuntime) -> Result<(), Fail> {
-    let rows: [&str; 40] = [
+    let rows: [&str; 44] = [
         "",
         "walk",
         "Run",
         "run run",
+        "dirty --shards 2",
+        "values --shards=16",
+        "Dirty",
+        "value",
         "run --shards 17",
         "run --shards 0",
         "run --pages 1281",

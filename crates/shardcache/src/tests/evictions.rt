@@ -49,13 +49,15 @@ fn ending(
 
 /// A part of a trace or of a report.
 #[derive(Clone, Copy)]
-enum Part<'a> {
+pub enum Part<'a> {
     Text(&'a [u8]),
     Letters,
     /// Puts of the letters under the keys of these numbers.
     Puts(u32, u32),
     /// So many puts of the letters under `a`.
     Again(u32),
+    /// A line that gives a name of a script 1,048,576 letters.
+    Long(u32),
     /// These commands all have this answer.
     Answers(u32, u32, &'a str),
     /// The journal of so many commands and more, and the rows and live bytes of the shard.
@@ -69,6 +71,13 @@ fn put_again(alloc: Global, lines: &mut Vec<u8>, times: u32) -> Result<(), Alloc
     Ok(())
 }
 
+fn set_long(alloc: Global, lines: &mut Vec<u8>, name: u32) -> Result<(), AllocError> {
+    lines.extend_from_slice(format!(in alloc; "set {name} ")?.as_bytes())?;
+    lines.extend_from_slice(vec![in alloc; b'x'; 1_048_576]?.as_slice())?;
+    lines.push(b'\n')?;
+    Ok(())
+}
+
 /// Appends a part.
 fn lay(alloc: Global, text: &mut Vec<u8>, part: Part<'_>) -> Result<(), AllocError> {
     match part {
@@ -76,6 +85,7 @@ fn lay(alloc: Global, text: &mut Vec<u8>, part: Part<'_>) -> Result<(), AllocErr
         Part::Letters => text.extend_from_slice(letters(alloc)?.as_slice()),
         Part::Puts(first, last) => put_all(alloc, text, first, last),
         Part::Again(times) => put_again(alloc, text, times),
+        Part::Long(name) => set_long(alloc, text, name),
         Part::Answers(first, last, answer) => answers(alloc, text, first, last, answer),
         Part::Ending(commands, more, rows, live) => ending(alloc, text, commands, more, rows, live),
     }
@@ -89,6 +99,22 @@ fn text_of(alloc: Global, parts: &[Part<'_>]) -> Result<Vec<u8>, AllocError> {
     Ok(text)
 }
 
+/// Whether a mode with 1,280 pages writes this text of these lines.
+pub fn says_with_few_pages<R: Threads + Wait + Sync>(
+    rt: &R,
+    alloc: Global,
+    mode: &str,
+    lines: &[Part<'_>],
+    text: &[Part<'_>],
+) -> Result<bool, AllocError> {
+    let words = [mode, "--pages", "1280"];
+    let lines = text_of(alloc, lines)?;
+    let text = text_of(alloc, text)?;
+    let room = text.len() + 1;
+    let (status, written) = answer(rt, alloc, words.as_slice(), lines.as_slice(), &[], room)?;
+    Ok(status == Status::Done && written.as_slice() == text.as_slice())
+}
+
 /// Whether a run of 1,280 pages on these lines writes this report.
 fn reports<R: Threads + Wait + Sync>(
     rt: &R,
@@ -96,11 +122,7 @@ fn reports<R: Threads + Wait + Sync>(
     lines: &[Part<'_>],
     report: &[Part<'_>],
 ) -> Result<bool, AllocError> {
-    let words = ["run", "--pages", "1280"];
-    let lines = text_of(alloc, lines)?;
-    let (status, written) = answer(rt, alloc, words.as_slice(), lines.as_slice(), &[], 65_536)?;
-    let report = text_of(alloc, report)?;
-    Ok(status == Status::Done && written.as_slice() == report.as_slice())
+    says_with_few_pages(rt, alloc, "run", lines, report)
 }
 
 #[test]

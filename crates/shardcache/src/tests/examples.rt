@@ -1,4 +1,4 @@
-//! The traces of the folder examples, and their reports. A test reads no files: so the same bytes stand here.
+//! The traces and the script of the folder examples, and their reports. A test reads no files: so the same bytes stand here.
 use super::says;
 use crate::Status;
 use std::test::Fail;
@@ -74,9 +74,58 @@ journal 1\n\
 shard 0 rows 1 live 48 lent 3 back 3\n\
 shard 1 rows 0 live 0 lent 3 back 3\n";
 
+const DIRTY: &[u8] = b"# A basket is put twice, and is read from memory until its lines are out.\n\
+put basket:7 apples\n\
+get basket:7\n\
+put basket:7 apples pears\n\
+get basket:7\n\
+get basket:8\n\
+erase basket:7\n\
+get basket:7\n\
+put basket:8 plums\n";
+
+const DIRTY_REPORT: &[u8] = b"2 dirty apples\n\
+4 dirty apples pears\n\
+5 clean\n\
+6 passed\n\
+7 dirty apples pears\n\
+put basket:7 apples\n\
+put basket:7 apples pears\n\
+put basket:8 plums\n\
+dirty 3\n";
+
+const VALUES: &[u8] =
+    b"# A name is set, read in parts, set anew and dropped. What is read from its end on has no bytes.\n\
+set 7 The quick brown fox\n\
+read 7 0 9\n\
+read 7 10 64\n\
+read 7 19 1\n\
+set 7 jumps\n\
+set 8 over the lazy dog\n\
+read 7 0 64\n\
+drop 7\n\
+read 7 0 64\n\
+drop 7\n\
+read 8 9 4\n";
+
+const VALUES_REPORT: &[u8] = b"1 set\n\
+2 value 19 The quick\n\
+3 value 19 brown fox\n\
+4 value 19 \n\
+5 set\n\
+6 set\n\
+7 value 5 jumps\n\
+8 dropped\n\
+9 missing\n\
+10 missing\n\
+11 value 17 lazy\n\
+values 1 live 56\n";
+
 #[test]
 fn the_examples_have_their_reports(rt: HostRuntime) -> Result<(), Fail> {
-    let rows: [(&[&str], &[u8], &[u8]); 3] = [
+    let rows: [(&[&str], &[u8], &[u8]); 5] = [
+        (&["dirty"], DIRTY, DIRTY_REPORT),
+        (&["values"], VALUES, VALUES_REPORT),
         (&["run"], REPLACED, REPLACED_REPORT),
         (
             &["sim", "--shards", "3", "--number", "7"],

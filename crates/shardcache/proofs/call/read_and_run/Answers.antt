@@ -1,18 +1,17 @@
--- The table, where the words ask for a trace that is read.
-use Rattle.std.proofs.Common.{arith, refl}
-use Rattle.trace_text.specs.Reading.{TooLong}
+-- The table, where the words ask for what is read.
+use Rattle.std.proofs.Common.{refl}
 use Rattle.shardcache.specs.declared.status.Status.TheVariants as status
 use Rattle.shardcache.specs.Settings.{view}
-use Rattle.shardcache.proofs.TableRows.{ends_as, follows_ending, follows_run, is_too_long, means_read}
+use Rattle.shardcache.proofs.TableRows.{does_read, ends_as, follows_ending, follows_run, refuses_long, refuses_read}
 use Rattle.shardcache.proofs.call.read_and_run.Goals as goal
 
 pub returns-in-Ok-clause-table : goal.returns-in-Ok-clause-table
 returns-in-Ok-clause-table g c words asked =
     let found = view c.args.settings in
-    follows_run found _ _ words _ _ _ _ c.in-Ok.bytes.items c.in-Ok.bytes.items c.in-Ok.ensures.taken
-    (λ trace is. means_read found words c.in-Ok.bytes.items _ _ asked c.requires.reads c.in-Ok.ensures.at_end is)
-    (λ number cause is. means_read found words c.in-Ok.bytes.items _ _ asked c.requires.reads c.in-Ok.ensures.at_end is)
-    c.run_bytes.ensures.ending
+    follows_run found _ _ words _ _ _ _ c.in-Ok.bytes.items c.in-Ok.bytes.items c.in-Ok.ensures.taken asked
+    (λ text. does_read found.mode found _ _ _ text c.requires.reads c.in-Ok.ensures.at_end)
+    (λ text. refuses_read found.mode found _ _ text c.requires.reads c.in-Ok.ensures.at_end)
+    c.run_taken.ensures.ending
 
 pub returns-in-Err-Fault-clause-table : goal.returns-in-Err-Fault-clause-table
 returns-in-Err-Fault-clause-table g c words asked =
@@ -25,8 +24,6 @@ pub returns-in-Err-TooLong-clause-table : goal.returns-in-Err-TooLong-clause-tab
 returns-in-Err-TooLong-clause-table g c words asked =
     let found = view c.args.settings in
     let taken = c.in-Err-TooLong.ensures.one_above (rw c.in-Err-TooLong.field-0-is refl) in
-    let long = taken.1 in
-    let means = means_read found words taken.0 _ _ asked c.requires.reads taken.1 (is_too_long taken.0 found.shards (omega (arith, long))) in
     follows_ending _ status.Refused _ words _ _ _ _ _ _ c.without_run-in-Err-TooLong.ensures.ran taken.2
-    (c.without_run-in-Err-TooLong.ensures.ran, found, TooLong, means, refl)
+    (c.without_run-in-Err-TooLong.ensures.ran, found, asked, refuses_long found.mode found taken.0 _ c.requires.reads taken.1)
     (ends_as _ _ _ _ _ _ c.without_run-in-Err-TooLong.ensures.status c.too_long.ensures.written)

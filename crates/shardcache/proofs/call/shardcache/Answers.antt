@@ -1,7 +1,6 @@
 -- The table of the top call.
 use Rattle.std.proofs.Common.{refl, sym, ◌∙◌}
 use Rattle.shardcache.specs.declared.status.Status.TheVariants as status
-use Rattle.shardcache.specs.Settings.{view}
 use Rattle.shardcache.proofs.Causes.{accepted, refused}
 use Rattle.shardcache.proofs.TableRows.{ends_as, follows_ending, follows_nothing, takes_none}
 use Rattle.shardcache.proofs.call.shardcache.Goals as goal

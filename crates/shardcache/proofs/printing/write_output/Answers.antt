@@ -1,11 +1,10 @@
 -- What the mode says of a run.
-use Rattle.std.proofs.Common.{refl}
 use Rattle.trace_text.specs.Parsed.{trace_in}
 use Rattle.cache_model.specs.Report.{report}
 use Rattle.cache_model.specs.Summary.{summary}
 use Rattle.report_text.specs.Views.{journals_in}
 use Rattle.shardcache.proofs.Reported.{ReportLaws, of_reading, of_making}
-use Rattle.shardcache.proofs.call.write_output.Goals as goal
+use Rattle.shardcache.proofs.printing.write_output.Goals as goal
 
 pub returns-in-Run-clause-written : goal.returns-in-Run-clause-written
 returns-in-Run-clause-written g c =

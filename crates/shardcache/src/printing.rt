@@ -1,0 +1,169 @@
+//! What is written: a line that says why, a report, a summary.
+ghost use Rattle.std.specs.Prelude.{◌≡◌, ◌≢◌, ◌⊎◌, ℕ, List, OnOk, OnErr, Some};
+ghost use Rattle.layout.specs.Counts.{Rose};
+ghost use Rattle.cache_model.specs.Report.{report};
+ghost use Rattle.cache_model.specs.Summary.{summary};
+ghost use Rattle.report_text.specs.Views.{journals_in};
+ghost use Rattle.trace_text.specs.Parsed.{trace_in};
+ghost use Rattle.trace_text.specs.Reading.{AtLine, TooLong};
+ghost use Rattle.value_script.specs.Reading as script_refusal;
+ghost use Rattle.shardcache.specs.Settings.{view};
+ghost use Rattle.shardcache.specs.Table.{IsOutput};
+ghost use Rattle.shardcache.specs.TraceFor.{refusal_text, refused_line, script_refusal_text};
+ghost use Rattle.shardcache.specs.inside.Ending.{EndsOutput, EndsWith, Runs};
+ghost use Rattle.shardcache.specs.inside.Finished.{IsRunOf};
+
+use crate::settings::{Mode, Settings};
+use crate::status::Status;
+use cache_model::{a_report_has_its_lines, answers_are_read_by_command, replies_hold_what_was_put};
+use outside::{Failed, Sink, write_all};
+use report_text::{write_report, write_summary};
+use shard_node::Ran;
+use std::alloc::Global;
+use trace_text::{Cause, Trace};
+use value_script::Cause as ScriptCause;
+
+/// Writes a text to its end, and answers this status, or that the sink failed.
+pub(crate) fn write_line<K: Sink>(sink: &mut K, text: &[u8], status: Status) -> Status
+    ensures written { EndsWith result status (K.written sink.old) (K.written sink.new) text.now }
+    ensures cases { (result ≡ status) ⊎ (result ≡ Status.WriteFault) }
+    ensures fault { status ≢ Status.WriteFault → result ≡ Status.WriteFault → Rose (K.faults sink.old) (K.faults sink.new) }
+{
+    match write_all(sink, text) {
+        Ok(()) => status,
+        Err(_) => Status::WriteFault,
+    }
+}
+
+/// Writes that a line is refused: its number, and the name of the cause.
+pub(crate) fn refuse_line<K: Sink>(alloc: Global, sink: &mut K, line: u32, cause: &str) -> Status
+    ensures written { EndsWith result Status.Refused (K.written sink.old) (K.written sink.new) (refused_line line cause.now) }
+    ensures cases { (result ≡ Status.Refused) ⊎ ((result ≡ Status.WriteFault) ⊎ (result ≡ Status.Memory)) }
+    ensures fault { result ≡ Status.WriteFault → Rose (K.faults sink.old) (K.faults sink.new) }
+{
+    let Ok(text) = format!(in alloc; "refused line {line} {cause}\n") else {
+        return Status::Memory;
+    };
+    write_line(sink, text.as_bytes(), Status::Refused)
+}
+
+/// Writes that a trace is refused: the line, and the cause.
+pub(crate) fn refuse<K: Sink>(alloc: Global, sink: &mut K, line: u32, cause: Cause) -> Status
+    ensures written { EndsWith result Status.Refused (K.written sink.old) (K.written sink.new) (refusal_text (AtLine line cause)) }
+    ensures cases { (result ≡ Status.Refused) ⊎ ((result ≡ Status.WriteFault) ⊎ (result ≡ Status.Memory)) }
+    ensures fault { result ≡ Status.WriteFault → Rose (K.faults sink.old) (K.faults sink.new) }
+{
+    refuse_line(alloc, sink, line, cause.name())
+}
+
+/// Writes that a script is refused: the line, and the cause.
+pub(crate) fn refuse_script<K: Sink>(
+    alloc: Global,
+    sink: &mut K,
+    line: u32,
+    cause: ScriptCause,
+) -> Status
+    ensures written { EndsWith result Status.Refused (K.written sink.old) (K.written sink.new)
+        (script_refusal_text (script_refusal.AtLine line cause)) }
+    ensures cases { (result ≡ Status.Refused) ⊎ ((result ≡ Status.WriteFault) ⊎ (result ≡ Status.Memory)) }
+    ensures fault { result ≡ Status.WriteFault → Rose (K.faults sink.old) (K.faults sink.new) }
+{
+    refuse_line(alloc, sink, line, cause.name())
+}
+
+/// Writes the report of what the shards did.
+pub(crate) fn report_run<K: Sink>(
+    sink: &mut K,
+    settings: Settings,
+    trace: &Trace,
+    ran: &Ran,
+) -> Status
+    requires parsed_for { settings.shards ≡ trace.now.shards }
+    requires run { IsRunOf (trace_in trace.now) settings.shards settings.pages ran.now }
+    ensures written { EndsOutput result (K.written sink.old) (K.written sink.new)
+        (report (trace_in trace.now) settings.shards settings.pages (journals_in ran.now.journals)) }
+    ensures fault { result ≡ Status.WriteFault → Rose (K.faults sink.old) (K.faults sink.new) }
+{
+    match write_report(
+        sink,
+        trace,
+        settings.shards,
+        ran.logs(),
+        ran.journals(),
+        ran.lines(),
+    ) {
+        Ok(()) => Status::Done,
+        Err(_) => Status::WriteFault,
+    }
+}
+
+/// Writes the summary of what the shards did.
+pub(crate) fn summarize_run<K: Sink>(
+    sink: &mut K,
+    settings: Settings,
+    trace: &Trace,
+    ran: &Ran,
+) -> Status
+    requires parsed_for { settings.shards ≡ trace.now.shards }
+    requires run { IsRunOf (trace_in trace.now) settings.shards settings.pages ran.now }
+    ensures written { EndsOutput result (K.written sink.old) (K.written sink.new)
+        (summary (trace_in trace.now) settings.shards settings.pages (journals_in ran.now.journals)) }
+    ensures fault { result ≡ Status.WriteFault → Rose (K.faults sink.old) (K.faults sink.new) }
+{
+    match write_summary(
+        sink,
+        trace,
+        settings.shards,
+        ran.logs(),
+        ran.journals(),
+        ran.lines(),
+    ) {
+        Ok(()) => Status::Done,
+        Err(_) => Status::WriteFault,
+    }
+}
+
+/// Writes what the mode says of a run.
+pub(crate) fn write_output<K: Sink>(
+    sink: &mut K,
+    settings: Settings,
+    trace: &Trace,
+    ran: &Ran,
+) -> Status
+    requires parsed_for { settings.shards ≡ trace.now.shards }
+    requires run { IsRunOf (trace_in trace.now) settings.shards settings.pages ran.now }
+    requires runs { Runs settings.mode }
+    ensures written { (text : List ℕ) × IsOutput settings.mode (view settings) (trace_in trace.now) (Some ran.now) text
+        × EndsOutput result (K.written sink.old) (K.written sink.new) text }
+    ensures fault { result ≡ Status.WriteFault → Rose (K.faults sink.old) (K.faults sink.new) }
+{
+    trace.commands();
+    replies_hold_what_was_put();
+    a_report_has_its_lines();
+    answers_are_read_by_command();
+    match settings.mode {
+        Mode::Run | Mode::Sim => report_run(sink, settings, trace, ran),
+        Mode::Gen => summarize_run(sink, settings, trace, ran),
+        Mode::Dirty | Mode::Values => unreachable!(),
+    }
+}
+
+/// The status of a call that wrote a whole text, or met a fault of the sink.
+pub(crate) fn written_or_fault(written: Result<(), Failed>) -> Status
+    ensures done { OnOk written (result ≡ Status.Done) }
+    ensures fault { OnErr written (result ≡ Status.WriteFault) }
+{
+    match written {
+        Ok(()) => Status::Done,
+        Err(_) => Status::WriteFault,
+    }
+}
+
+/// Writes that a trace is too long.
+pub(crate) fn too_long<K: Sink>(sink: &mut K) -> Status
+    ensures written { EndsWith result Status.Refused (K.written sink.old) (K.written sink.new) (refusal_text TooLong) }
+    ensures cases { (result ≡ Status.Refused) ⊎ (result ≡ Status.WriteFault) }
+    ensures fault { result ≡ Status.WriteFault → Rose (K.faults sink.old) (K.faults sink.new) }
+{
+    write_line(sink, b"refused line 0 TooLong\n", Status::Refused)
+}
