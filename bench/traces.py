@@ -9,6 +9,7 @@
     evict     10,000 puts and 40,000 gets of 20,000 keys, values of 1,000 to 12,000 bytes
     churn     900,000 commands over 1,000,000 keys, values of 20 to 100 bytes, 85 % put: small rows go by the hundred thousand
     scans     200,000 puts of keys of their own, a scan behind each of the last 60,000 (a trace may have 64,900 scans)
+    puts      1,000,000 puts of 500,000 keys, values of 48 bytes: about 100 bytes of memory each (with values of 100 bytes the trace would be too long)
 """
 import argparse
 
@@ -119,14 +120,31 @@ def scans(number, scale):
             yield b"scan item:%d 1\n" % key
 
 
-KINDS = {"gen": gen, "small": small, "manykeys": manykeys, "evict": evict, "churn": churn, "scans": scans}
+def puts(number, scale):
+    draw = Lcg64Xsh32(number, 8).draw
+    for i in range(1, int(1_000_000 * scale) + 1):
+        yield b"put p%d %s\n" % (draw() % 500_000, value(i, 48))
+
+
+def values(number, scale):
+    """A script of the mode `values`: 1,000 names, values of 1 KiB to 1 MiB, each power of two as often as another, and 667 reads for each."""
+    draw = Lcg64Xsh32(number, 9).draw
+    letters = ALPHABET[:26] * 40_330
+    for i in range(1, int(300 * scale) + 1):
+        length = min(1_048_576, (1 << (10 + draw() % 11)) + draw() % 1_024)
+        yield b"set %d %s\n" % (draw() % 1_000, letters[i % 26:i % 26 + length])
+        for _ in range(667):
+            yield b"read %d %d %d\n" % (draw() % 1_000, draw() % length, draw() % 65)
+
+
+KINDS = {"gen": gen, "small": small, "manykeys": manykeys, "evict": evict, "churn": churn, "scans": scans, "puts": puts, "values": values}
 
 
 def write(kind, path, number=7, scale=1.0):
     """Writes the trace of this kind, if it is within a trace's limits."""
     data = b"".join(KINDS[kind](number, scale))
     lines = data.split(b"\n")[:-1]
-    greatest = max(len(line.split(b" ", 2)[2]) for line in lines if line.startswith(b"put "))
+    greatest = max((len(line.split(b" ", 2)[2]) for line in lines if line.startswith(b"put ")), default=0)
     replies = sum(line.startswith(b"get ") for line in lines) * greatest + sum(line.startswith(b"scan ") for line in lines) * 8_272
     if len(data) > 67_108_864 or len(lines) > 1_048_576 or replies > 536_870_912:
         raise SystemExit(f"{kind}: too large")

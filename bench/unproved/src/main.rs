@@ -2,9 +2,11 @@
 //! shard and batches of parts between them.
 
 mod cache;
+mod dirty;
 mod out;
 mod shards;
 mod trace;
+mod values;
 
 use cache::{Cache, EVICTED};
 use out::Out;
@@ -21,16 +23,25 @@ fn number(text: &str, least: u64, most: u64) -> Option<u32> {
     text.parse().ok().filter(|n| (least..=most).contains(n)).map(|n| n as u32)
 }
 
+#[derive(Clone, Copy, PartialEq, Eq)]
+enum Mode {
+    Run,
+    Parse,
+    Dirty,
+    Values,
+}
+
 struct Options {
-    parse_only: bool,
+    mode: Mode,
     shards: u32,
     pages: u32,
     limit: Option<u32>,
 }
 
-/// `run` and its options. `--limit BYTES` stands in the floor's place, to give a
+/// A mode and its options. `--limit BYTES` stands in the floor's place, to give a
 /// shard the room of some other program. `parse` reads and checks the trace and stops, to
-/// measure that part alone.
+/// measure that part alone. `dirty` keeps puts until they are flushed, in the room of the pages, with one shard; so does
+/// `values` with the values of a script.
 fn options() -> Option<Options> {
     let (mut mode, mut shards, mut pages, mut limit) = (None, None, None, None);
     let mut words = std::env::args().skip(1);
@@ -54,12 +65,14 @@ fn options() -> Option<Options> {
         }
     }
     let (shards, pages) = (shards.unwrap_or(1), pages.unwrap_or(8_192));
-    let parse_only = match &mode?[..] {
-        "run" => false,
-        "parse" => true,
+    let mode = match &mode?[..] {
+        "run" => Mode::Run,
+        "parse" => Mode::Parse,
+        "dirty" if shards == 1 => Mode::Dirty,
+        "values" if shards == 1 => Mode::Values,
         _ => return None,
     };
-    (pages % 32 == 0 && shards * pages <= 262_144).then_some(Options { parse_only, shards, pages, limit })
+    (pages % 32 == 0 && shards * pages <= 262_144).then_some(Options { mode, shards, pages, limit })
 }
 
 impl Options {
@@ -166,6 +179,10 @@ fn run(options: &Options, out: &mut Out) -> std::io::Result<u8> {
         out.flush()?;
         return Ok(4);
     };
+    if options.mode == Mode::Values {
+        let known = values::run(&bytes, (options.pages as u64 / 32 - 2) * 118_776, out)?;
+        return Ok(if known { 0 } else { 3 });
+    }
     let commands = match trace::parse(&bytes, options.shards) {
         Ok(commands) => commands,
         Err(refused) => {
@@ -178,11 +195,13 @@ fn run(options: &Options, out: &mut Out) -> std::io::Result<u8> {
             return Ok(3);
         }
     };
-    if options.parse_only {
+    if options.mode == Mode::Parse {
         out.text(b"commands ");
         out.number(commands.len() as u64);
         out.end_line()?;
         out.flush()?;
+    } else if options.mode == Mode::Dirty {
+        dirty::run(&bytes, &commands, (options.pages as u64 / 32 - 2) * 118_776, out)?;
     } else if options.shards == 1 {
         let mut cache = Cache::new(options.limit());
         run_one(&bytes, &commands, &mut cache, out)?;
