@@ -42,7 +42,7 @@ idle_else : (lent : List (Option PieceId)) (t u : ℕ) (x : Option PieceId) → 
 idle_else lent t u x n = ap none_there (record_else lent t u x n)
 
 -- the table that is made
-fresh_within : (n t : ℕ) → t < n → slice_get {X = Option PieceId} (replicate n None) t ≡ Some None
+pub fresh_within : (n t : ℕ) → t < n → slice_get {X = Option PieceId} (replicate n None) t ≡ Some None
 fresh_within zero t h = absurd (omega arith)
 fresh_within (suc n) zero h = refl
 fresh_within (suc n) (suc t) h = fresh_within n t (omega arith)

@@ -1,8 +1,9 @@
 -- What a seat keeps, from its new view.
-use Rattle.std.proofs.Common.{◌≡◌, ◌≤◌, ◌<◌, ℕ, Bool, false, List, [], set, map, length, Option, Some, None, slice_get, sym, ap, ◌∙◌, arith}
-use Rattle.std.proofs.lemmas.List.{length-map}
+use Rattle.std.proofs.Common.{◌≡◌, ◌≢◌, ◌≤◌, ◌<◌, ℕ, false, List, [], set, length, Option, Some, None, slice_get, sym, ap, subst, ◌∙◌, arith}
+use Rattle.std.specs.Int.{bit_at}
+use mathlib.Core.Logic.{dite}
+use native.Mathlib.Decide.{ℕ_discrete}
 use Rattle.std.proofs.lemmas.Option.{slice_get_within}
-use lib.Seq.{map-set}
 use Rattle.layout.specs.Sizes as sizes
 use Rattle.atomic_table.specs.Seated.{TableId}
 use Rattle.raw_range.specs.Memory.{Lent}
@@ -14,30 +15,48 @@ use Rattle.foreign_list.specs.declared.views.Stage.TheVariants.{Carry}
 use Rattle.foreign_list.specs.Blocks.{piece_id_of}
 use Rattle.foreign_list.specs.inside.Words.{link_to}
 use Rattle.foreign_list.specs.inside.Views.{ledger_of, holder_of, carry}
-use Rattle.foreign_list.specs.inside.Seats.{TableSeat, IsConsistentSeat, IsConsistentPass, is_idle}
+use Rattle.foreign_list.specs.inside.Seats.{TableSeat, IsConsistentSeat, IsConsistentPass, AreIdle}
+use Rattle.foreign_list.proofs.OwnerSteps.{record_here, record_else}
 
 -- the owner's seat with this ledger
-pub owner_seat : (seat : TableSeat) (d : Ledger) (idle : List Bool) (first : ℕ) → seat.me.0 ≡ Owner d → seat.me.1 ≡ [] → d.hand ≡ None
-    → first ≡ link_to d.walk → first ≤ sizes.tickets → length idle ≡ sizes.tickets → idle ≡ map is_idle d.lent → IsConsistentSeat seat idle first
+pub owner_seat : (seat : TableSeat) (d : Ledger) (idle first : ℕ) → seat.me.0 ≡ Owner d → seat.me.1 ≡ [] → d.hand ≡ None
+    → first ≡ link_to d.walk → first ≤ sizes.tickets → length d.lent ≡ sizes.tickets → AreIdle idle d.lent → IsConsistentSeat seat idle first
 owner_seat seat d idle first e slots hand first_is low count are = let same : ledger_of seat.me.0 ≡ d = ap ledger_of e in record {
   is_owner = e ∙ ap Owner (sym same);
   slots = slots;
   hand = ap (λ (b : Ledger). b.hand) same ∙ hand;
   first_is = first_is ∙ ap (λ (b : Ledger). link_to b.walk) (sym same);
   low = low;
-  count = count;
-  idle_are = are ∙ ap (λ (b : Ledger). map is_idle b.lent) (sym same);
+  count = ap (λ (b : Ledger). length b.lent) same ∙ count;
+  idle_are = subst (λ (b : Ledger). AreIdle idle b.lent) (sym same) are;
 }
 
-pub idle_set : (lent : List (Option PieceId)) (idle : List Bool) (t : ℕ) (x : Option PieceId) → idle ≡ map is_idle lent
-    → set idle t (is_idle x) ≡ map is_idle (set lent t x)
-idle_set lent idle t x e = ap (λ l. set l t (is_idle x)) e ∙ sym (map-set is_idle lent t x)
+-- a ticket was lent, or is idle again, and so the word says
+pub idle_off : (lent : List (Option PieceId)) (old new t : ℕ) (x : PieceId) → t < length lent → AreIdle old lent → bit_at new t ≡ 0
+    → ((u : ℕ) → u < 64 → u ≢ t → bit_at new u ≡ bit_at old u) → AreIdle new (set lent t (Some x))
+idle_off lent old new t x low was off same u within = dite (ℕ_discrete u t)
+    (λ e. (
+      λ on. absurd (let z : 1 ≡ 0 = sym on ∙ ap (bit_at new) e ∙ off in omega (arith, z)),
+      λ is. absurd (let clash : Some (Some x) ≡ Some None = sym (record_here lent t (Some x) low) ∙ ap (slice_get (set lent t (Some x))) (sym e) ∙ is in cc),
+    ))
+    (λ n. (
+      λ on. record_else lent t u (Some x) n ∙ (was u within).0 (sym (same u (omega (arith, within)) n) ∙ on),
+      λ is. same u (omega (arith, within)) n ∙ (was u within).1 (sym (record_else lent t u (Some x) n) ∙ is),
+    ))
+
+pub idle_on : (lent : List (Option PieceId)) (old new t : ℕ) → t < length lent → AreIdle old lent → bit_at new t ≡ 1
+    → ((u : ℕ) → u < 64 → u ≢ t → bit_at new u ≡ bit_at old u) → AreIdle new (set lent t None)
+idle_on lent old new t low was on same u within = dite (ℕ_discrete u t)
+    (λ e. (λ _. ap (slice_get (set lent t None)) e ∙ record_here lent t None low, λ _. ap (bit_at new) e ∙ on))
+    (λ n. (
+      λ set_is. record_else lent t u None n ∙ (was u within).0 (sym (same u (omega (arith, within)) n) ∙ set_is),
+      λ is. same u (omega (arith, within)) n ∙ (was u within).1 (sym (record_else lent t u None n) ∙ is),
+    ))
 
 -- an idle ticket is below the number of tickets
-pub idle_low : (seat : TableSeat) (idle : List Bool) (first t : ℕ) → IsConsistentSeat seat idle first → slice_get (ledger_of seat.me.0).lent t ≡ Some None → t < sizes.tickets
-idle_low seat idle first t was at = let lent = (ledger_of seat.me.0).lent in
-    let within : t < length lent = slice_get_within lent t None at in
-    let long : length lent ≡ sizes.tickets = sym (length-map lent is_idle) ∙ sym (ap length was.idle_are) ∙ was.count in omega arith
+pub idle_low : (seat : TableSeat) (idle first t : ℕ) → IsConsistentSeat seat idle first → slice_get (ledger_of seat.me.0).lent t ≡ Some None → t < sizes.tickets
+idle_low seat idle first t was at = let within : t < length (ledger_of seat.me.0).lent = slice_get_within (ledger_of seat.me.0).lent t None at in
+    let long = was.count in omega (arith, within, long)
 
 -- the pass of a block that was just lent
 pub new_pass : (id : TableId) (pass : TableSeat) (piece : Lent) (t : ℕ) → pass.table_id ≡ id → pass.me.0 ≡ Pass (carry t (piece_id_of piece))

@@ -27,6 +27,7 @@
 
 mod block;
 mod foreign;
+mod idle_tickets;
 mod law;
 mod linked_block;
 mod list_table;

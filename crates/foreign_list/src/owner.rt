@@ -5,9 +5,9 @@ ghost use Rattle.foreign_list.specs.Blocks.{piece_id_of, IsFresh};
 
 use crate::block::ForeignBlock;
 use crate::foreign::Foreign;
+use crate::idle_tickets::{ALL_IDLE, marked_idle, marked_lent};
 use crate::list_table::ListTable;
-use crate::owner_seat::{OwnerSeat, mark_idle, mark_lent};
-use layout::TICKETS;
+use crate::owner_seat::OwnerSeat;
 use raw_range::Piece;
 use std::alloc::{AllocError, Global};
 use std::marker::Brand;
@@ -34,7 +34,7 @@ impl Foreign {
             Foreign { table, owner },
             OwnerSeat {
                 seat,
-                idle: [true; TICKETS as usize],
+                idle: ALL_IDLE,
                 first: 0,
             },
         ))
@@ -49,7 +49,7 @@ impl Foreign {
         ensures block { IsFresh self.now.id ticket piece result }
     {
         let pass = self.table.split::<Brand>(&mut seat.seat, ticket, &piece);
-        mark_lent(&mut seat.idle, ticket);
+        seat.idle = marked_lent(seat.idle, ticket);
         ForeignBlock {
             list: &self.table,
             pass,
@@ -82,7 +82,7 @@ impl Foreign {
         let ticket = (seat.first - 1) as u32;
         let (next, piece) = self.table.bring_home(&mut seat.seat, ticket);
         seat.first = next;
-        mark_idle(&mut seat.idle, ticket);
+        seat.idle = marked_idle(seat.idle, ticket);
         Some(Returned { ticket, piece })
     }
 

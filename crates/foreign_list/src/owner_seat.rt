@@ -1,8 +1,9 @@
 //! The owner's seat at a list.
-ghost use Rattle.std.specs.Prelude.{◌≡◌, ◌<◌, ◌↔◌, true, false, IsTrue, length, slice_set};
+ghost use Rattle.std.specs.Prelude.{◌≡◌, ℕ, ◌<◌, ◌≤◌, ◌↔◌, IsTrue, IfSome, IfNone, length};
 ghost use Rattle.layout.specs.Sizes as sizes;
 ghost use Rattle.foreign_list.specs.OwnerSeats.{IsIdle};
 
+use crate::idle_tickets::{is_marked, least_marked};
 use crate::list_table::TableSeat;
 use layout::TICKETS;
 use std::marker::Model;
@@ -12,7 +13,7 @@ use std::marker::Model;
 #[derive(Drop)]
 pub struct OwnerSeat {
     pub(crate) seat: TableSeat,
-    pub(crate) idle: [bool; TICKETS as usize],
+    pub(crate) idle: u64,
     // The word that leads to the first of the walk.
     pub(crate) first: u64,
 }
@@ -28,20 +29,6 @@ impl Model for OwnerSeat {
     ghost invariant = { λ s. IsConsistentSeat s.seat s.idle s.first };
 }
 
-pub(crate) fn mark_lent(idle: &mut [bool; TICKETS as usize], ticket: u32)
-    requires { ticket < sizes.tickets }
-    ensures { idle.new ≡ slice_set idle.old ticket false }
-{
-    idle[ticket as usize] = false;
-}
-
-pub(crate) fn mark_idle(idle: &mut [bool; TICKETS as usize], ticket: u32)
-    requires { ticket < sizes.tickets }
-    ensures { idle.new ≡ slice_set idle.old ticket true }
-{
-    idle[ticket as usize] = true;
-}
-
 impl OwnerSeat {
     /// What holds of each seat: how many tickets there are.
     pub fn facts(&self)
@@ -55,6 +42,19 @@ impl OwnerSeat {
     pub fn is_idle(&self, ticket: u32) -> bool
         ensures { IsTrue result ↔ IsIdle self.now ticket }
     {
-        ticket < TICKETS && self.idle[ticket as usize]
+        ticket < TICKETS && is_marked(self.idle, ticket)
+    }
+
+    /// The least idle ticket from the first on, below the end. None exactly where none of these is idle.
+    pub fn least_idle(&self, first: u32, end: u32) -> Option<u32>
+        requires { (first < sizes.tickets) × (end ≤ sizes.tickets) }
+        ensures none { IfNone result ((t : ℕ) → first ≤ t → t < end → ¬ IsIdle self.now t) }
+        ensures some { IfSome result (λ ticket. (first ≤ ticket) × (ticket < end) × IsIdle self.now ticket) }
+        ensures least { IfSome result (λ ticket. (t : ℕ) → first ≤ t → t < ticket → ¬ IsIdle self.now t) }
+    {
+        match least_marked(self.idle, first) {
+            Some(ticket) if ticket < end => Some(ticket),
+            _ => None,
+        }
     }
 }

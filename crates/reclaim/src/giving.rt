@@ -167,7 +167,9 @@ pub(crate) fn give_now<'f>(
     // Memory and cache go together still.
     ensures whole { IsWhole memory.new cache.new }
 {
-    give_or_refuse(memory, cache, size, share)
+    let mut block = give_or_refuse(memory, cache, size, share)?;
+    block.bytes_mut().fill(0);
+    Ok(block)
 }
 
 // The same, of the memory and the cache.
@@ -386,6 +388,6 @@ fn give_at_once<'f>(
         → IsConsistent shard pages guards memory.new region }
 {
     memory.facts();
-    let block = memory.give(size, share)?;
+    let block = memory.give_uncleared(size, share)?;
     Ok(block)
 }

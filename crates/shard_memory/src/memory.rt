@@ -26,11 +26,12 @@ ghost use Rattle.shard_memory.specs.Shards.{
 ghost use Rattle.shard_memory.specs.Refusals.{RefusesFor, RefusesHere};
 ghost use Rattle.shard_memory.specs.inside.Lending.{AreLent, ArePutBack};
 
-use crate::give_refusal::GiveRefusal;
+mod giving;
+
 use crate::piece_allocator::PieceAllocator;
 use crate::share::Share;
-use foreign_list::{Foreign, ForeignBlock, OwnerSeat};
-use layout::{GREATEST_BLOCK, REQUEST_TICKETS, TICKETS};
+use foreign_list::{Foreign, OwnerSeat};
+use giving::first_idle;
 use raw_range::Piece;
 use std::alloc::Global;
 use std::marker::Model;
@@ -145,48 +146,6 @@ impl<'f> ShardMemory<'f> {
         self.own.facts();
     }
 
-    /// Lends a block of so many bytes, all of them 0, with the least idle ticket of the share.
-    ///
-    /// # Errors
-    /// `TooLarge` above 16,384 bytes, `NoTicket` where no ticket of the share is idle, and `NoSpan` where neither the pool of the
-    /// size's class nor the pages have room, in this order.
-    pub fn give(&mut self, size: u32, share: Share) -> Result<ForeignBlock<'f>, GiveRefusal>
-        requires { 1 ≤ size }
-        // When it is given, and when not.
-        ensures refused { IfErr result (RefusesFor self.old share size) }
-        ensures room { IfOk result (λ _. (size ≤ greatest_block) × ¬ LacksBlock self.old.room size) }
-        ensures crowded { IfErr result (λ refusal. refusal ≡ GiveRefusal.NoSpan → IsTrimmed self.old.room → IsCrowded self.old) }
-        ensures unchanged { IfErr result (λ _. self.new ≡ self.old) }
-        // What is given, and all that changed.
-        ensures ticket { IfOk result (λ block. IsLeastIdle self.old.lent share block.ticket) }
-        ensures fresh { IfOk result (λ block. IsFresh self.old.list.id block.ticket block.piece block) }
-        ensures mine { IfOk result (λ block. (block.piece.home ≡ self.old.home) × (block.piece.owner ≡ self.old.owner)) }
-        ensures zeros { IfOk result (λ block. block.piece.bytes ≡ replicate size 0) }
-        ensures lent { IfOk result (λ block. self.new.lent ≡ slice_set self.old.lent block.ticket (Some (piece_id_of block.piece))) }
-        ensures lends { IfOk result (λ _. self.new.lends ≡ raised self.old.lends 1) }
-        ensures out { IfOk result (λ _. tickets_out self.new.lent ≡ tickets_out self.old.lent + 1) }
-        ensures least { IfOk result (λ block. SetsAside self.old.objects self.new.objects size block.piece.at) }
-        ensures pages_out { IfOk result (λ _. TakesPages self.old.pages_out self.new.pages_out size) }
-        ensures trimmed { IsTrimmed self.old.room → IsTrimmed self.new.room }
-        ensures same { self.new ≡ record self.old {
-          lent = self.new.lent;
-          lends = self.new.lends;
-          objects = self.new.objects;
-          pages_out = self.new.pages_out;
-          room = self.new.room;
-        } }
-    {
-        if size > GREATEST_BLOCK {
-            return Err(GiveRefusal::TooLarge);
-        }
-        let Some(ticket) = first_idle(&self.seat, share) else {
-            return Err(GiveRefusal::NoTicket);
-        };
-        let piece = self.own.give_block(size)?;
-        self.out += 1;
-        Ok(self.home.lend(&mut self.seat, ticket, piece))
-    }
-
     /// Takes back each lent block that was released, by one look at the list, which is left alone where none is out. Their tickets
     /// are idle, and their bytes free. Answers how many came.
     pub fn take_back(&mut self) -> u32
@@ -227,35 +186,6 @@ impl<'f> ShardMemory<'f> {
         ensures { result ≡ self.now.backs }
     {
         self.back
-    }
-
-    /// Gives a block of so many bytes, all of them 0, that stays with this shard.
-    ///
-    /// # Errors
-    /// `TooLarge` above 16,384 bytes, and `NoSpan` where neither the pool of the size's class nor the pages have room.
-    pub fn give_here(&mut self, size: u32) -> Result<Piece, GiveRefusal>
-        requires some { 1 ≤ size }
-        requires few { length self.old.blocks < most_blocks }
-        ensures refused { IfErr result (RefusesHere self.old.room size) }
-        ensures room { IfOk result (λ _. (size ≤ greatest_block) × ¬ LacksBlock self.old.room size) }
-        ensures crowded { IfErr result (λ refusal. refusal ≡ GiveRefusal.NoSpan → IsTrimmed self.old.room → IsCrowded self.old) }
-        ensures unchanged { IfErr result (λ _. self.new ≡ self.old) }
-        // What is given, and all that changed.
-        ensures mine { IfOk result (λ piece. (piece.home ≡ self.old.home) × (piece.owner ≡ self.old.owner)) }
-        ensures given { IfOk result (IsBlockOf self.new) }
-        ensures zeros { IfOk result (λ piece. piece.bytes ≡ replicate size 0) }
-        ensures blocks { IfOk result (λ piece. self.new.blocks ≡ extent_of piece ∷ self.old.blocks) }
-        ensures least { IfOk result (λ piece. SetsAside self.old.objects self.new.objects size piece.at) }
-        ensures pages_out { IfOk result (λ _. TakesPages self.old.pages_out self.new.pages_out size) }
-        ensures trimmed { IsTrimmed self.old.room → IsTrimmed self.new.room }
-        ensures same { self.new ≡ record self.old {
-          blocks = self.new.blocks;
-          objects = self.new.objects;
-          pages_out = self.new.pages_out;
-          room = self.new.room;
-        } }
-    {
-        self.own.give_block(size)
     }
 
     /// Takes a block of `give_here` back.
@@ -334,30 +264,6 @@ impl<'f> ShardMemory<'f> {
         self.own.finish();
         self.seat
     }
-}
-
-/// The first ticket of a share, and the first behind it.
-fn tickets_of(share: Share) -> (u32, u32)
-    ensures { (result.0 ≡ first_ticket share) × (result.1 ≡ end_ticket share) }
-{
-    match share {
-        Share::Request => (0, REQUEST_TICKETS),
-        Share::Reply => (REQUEST_TICKETS, TICKETS),
-    }
-}
-
-/// The least idle ticket of the share. None exactly where none is idle.
-fn first_idle(seat: &OwnerSeat, share: Share) -> Option<u32>
-    ensures none { IfNone result (¬ HasIdle seat.now.lent share) }
-    ensures some { IfSome result (IsLeastIdle seat.now.lent share) }
-{
-    let (first, end) = tickets_of(share);
-    for ticket in first..end {
-        if seat.is_idle(ticket) {
-            return Some(ticket);
-        }
-    }
-    None
 }
 
 /// Takes the list, and puts each block of it back.

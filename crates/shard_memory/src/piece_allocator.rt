@@ -128,7 +128,7 @@ impl PieceAllocator {
         self.spans.facts();
     }
 
-    // Gives a block of so many bytes, all of them 0.
+    // Gives a block of so many bytes, whatever they are.
     pub(crate) fn give_block(&mut self, size: u32) -> Result<Piece, GiveRefusal>
         // There may be one more.
         requires some { 1 ≤ size }
@@ -144,7 +144,7 @@ impl PieceAllocator {
         // The block, apart from the others.
         ensures mine { IfOk result (λ piece. (piece.home ≡ self.old.home) × (piece.owner ≡ self.old.owner)) }
         ensures given { IfOk result (IsOneOf self.new.home self.new.blocks) }
-        ensures zeros { IfOk result (λ piece. piece.bytes ≡ replicate size 0) }
+        ensures bytes { IfOk result (λ piece. length piece.bytes ≡ size) }
         ensures blocks { IfOk result (λ piece. self.new.blocks ≡ extent_of piece ∷ self.old.blocks) }
         ensures disjoint { IfOk result (λ _. AreDisjoint (page * self.new.pages) self.new.blocks) }
 
@@ -162,7 +162,7 @@ impl PieceAllocator {
             self.spans.facts();
             return Err(GiveRefusal::NoSpan);
         };
-        Ok(cleared(self.range.take(place, size)))
+        Ok(self.range.take(place, size))
     }
 
     // Takes a block back.
@@ -314,13 +314,4 @@ fn put_span(spans: &mut Spans, given: &Piece)
     ensures coalesced { IsCoalesced spans.new }
 {
     spans.put(given.at() / PAGE, SEGMENT_ORDER);
-}
-
-/// The piece with all its bytes 0.
-fn cleared(piece: Piece) -> Piece
-    ensures { result ≡ record piece { bytes = replicate (length piece.bytes) 0 } }
-{
-    let mut piece = piece;
-    piece.bytes_mut().fill(0);
-    piece
 }

@@ -4,7 +4,7 @@ ghost use mathlib.Core.List.{IsPrefix};
 ghost use Rattle.layout.specs.Counts.{Rose, counted, greatest_count};
 
 use crate::link::Packet;
-use rtrb::{Consumer, Producer, PushError, RingBuffer};
+use rtrb::{Consumer, Producer, RingBuffer};
 use std::alloc::{AllocError, Global};
 use std::marker::Model;
 
@@ -83,16 +83,13 @@ impl<'f> SendingEnd<'f> {
         ensures full { OnErr result (Rose self.old.full self.new.full) }
         ensures never_falls { self.old.full ≤ self.new.full }
     {
-        match self.ring.push(packet) {
-            Ok(()) => {
-                self.count = self.count.saturating_add(1);
-                Ok(())
-            }
-            Err(PushError::Full(back)) => {
-                self.full = self.full.saturating_add(1);
-                Err(back)
-            }
+        if self.ring.is_full() {
+            self.full = self.full.saturating_add(1);
+            return Err(packet);
         }
+        self.ring.push_reserved(packet);
+        self.count = self.count.saturating_add(1);
+        Ok(())
     }
 
     /// How many sends were refused.

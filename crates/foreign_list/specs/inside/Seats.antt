@@ -1,5 +1,6 @@
 -- What a block, a linked block and the owner's seat keep of their seats at the table.
-use Rattle.std.specs.Prelude.{◌≡◌, ◌≤◌, ◌<◌, ℕ, Bool, true, false, List, [], ◌∷◌, length, map, Option, Some, None}
+use Rattle.std.specs.Prelude.{◌≡◌, ◌≤◌, ◌<◌, ◌↔◌, ℕ, Bool, true, false, List, [], ◌∷◌, length, Option, Some, None, slice_get}
+use Rattle.std.specs.Int.{bit_at}
 use Rattle.layout.specs.Sizes as sizes
 use Rattle.raw_range.specs.Memory.{Lent}
 use Rattle.atomic_table.specs.declared.shared.Seat.{Seat}
@@ -46,19 +47,19 @@ abbrev pub block_of : TableId → TableSeat → Lent → ℕ → Block
 block_of id pass piece ticket =
     record { list = id; pass = pass.id; ticket = ticket; piece = piece; seen = (holder_of pass.me.0).seen; found = ticket_of (holder_of pass.me.0).met }
 
-abbrev pub is_idle : Option PieceId → Bool
-is_idle None = true
-is_idle (Some piece_id) = false
+-- the bit of each ticket's number is set in the word where the ticket is idle
+abbrev pub AreIdle : ℕ → List (Option PieceId) → Type 0
+AreIdle idle lent = (t : ℕ) → t < sizes.tickets → bit_at idle t ≡ 1 ↔ slice_get lent t ≡ Some None
 
 -- the owner's seat, between its calls, with the tickets that are idle and the word that leads to the walk
-pub record IsConsistentSeat (seat : TableSeat) (idle : List Bool) (first : ℕ) : Type 0 where
+pub record IsConsistentSeat (seat : TableSeat) (idle first : ℕ) : Type 0 where
   pub is_owner : IsOwner seat.me.0
   pub slots : seat.me.1 ≡ []
   pub hand : (ledger_of seat.me.0).hand ≡ None
   pub first_is : first ≡ link_to (ledger_of seat.me.0).walk
   pub low : first ≤ sizes.tickets
-  pub count : length idle ≡ sizes.tickets
-  pub idle_are : idle ≡ map is_idle (ledger_of seat.me.0).lent
+  pub count : length (ledger_of seat.me.0).lent ≡ sizes.tickets
+  pub idle_are : AreIdle idle (ledger_of seat.me.0).lent
 
 -- what the owner knows
 abbrev pub state_of : TableSeat → OwnerState

@@ -1,5 +1,5 @@
 -- What a shard's memory lent, and what came home to it.
-use Rattle.std.specs.Prelude.{◌≡◌, ℕ, suc, ◌<◌, ◌≤◌, Some, slice_set, replicate}
+use Rattle.std.specs.Prelude.{◌≡◌, ℕ, suc, ◌<◌, ◌≤◌, Some, slice_set, length}
 use Rattle.layout.specs.Sizes.{greatest_block}
 use Rattle.foreign_list.specs.Blocks.{Block, piece_id_of}
 use Rattle.regions.specs.Segments.{RegionState}
@@ -36,7 +36,7 @@ pub record TakesHome (old new : MemoryState) : Type 0 where
 abbrev pub TakesOnce : MemoryState → MemoryState → Type 0
 TakesOnce old new = 0 < tickets_out old.lent → new.take_wholes ≡ suc old.take_wholes
 
--- the block of so many bytes, all 0, was lent, and nothing else
+-- the block of so many bytes was lent, and nothing else
 pub record Gives (share : Share) (size : ℕ) (old new : MemoryState) (block : Block) : Type 0 where
   pub owner : new.owner ≡ old.owner
   pub pages : new.pages ≡ old.pages
@@ -50,7 +50,7 @@ pub record Gives (share : Share) (size : ℕ) (old new : MemoryState) (block : B
   pub of_list : block.list ≡ old.list.id
   pub mine : block.piece.owner ≡ old.owner
   pub fresh : block.seen ≡ 0
-  pub zeros : block.piece.bytes ≡ replicate size 0
+  pub bytes : length block.piece.bytes ≡ size
 
 -- the same, once others had come home
 pub record GivesAfter (share : Share) (size : ℕ) (old new : MemoryState) (block : Block) : Type 0 where

@@ -23,11 +23,12 @@ returns-clause-given c =
         of_list = e.fresh.list_is;
         mine = e.mine.1;
         fresh = e.fresh.none_seen;
-        zeros = e.zeros;
+        bytes = e.bytes;
       };
     }
 
 pub returns-clause-consistent : goal.returns-clause-consistent
 returns-clause-consistent c shard pages standing region h =
     let same = c.in_ok-block.ensures.same in
-    consistent-same shard pages standing c.args.memory.now c.give.new.self region (ap (λ (s : MemoryState). s.home) same) (ap (λ (s : MemoryState). s.owner) same) (ap (λ (s : MemoryState). s.pages) same) (ap (λ (s : MemoryState). s.blocks) same) (ap (λ (s : MemoryState). s.segments) same) h
+    consistent-same shard pages standing c.args.memory.now c.give_uncleared.new.self region
+    (ap (λ (s : MemoryState). s.home) same) (ap (λ (s : MemoryState). s.owner) same) (ap (λ (s : MemoryState). s.pages) same) (ap (λ (s : MemoryState). s.blocks) same) (ap (λ (s : MemoryState). s.segments) same) h

@@ -1,10 +1,9 @@
-use Rattle.reclaim.specs.Lending.{LendsBlock}
+use Rattle.std.proofs.Common.{length, refl, sym}
+use Rattle.std.specs.List.{refill, length_refill}
 use Rattle.reclaim.specs.inside.Consistent.{space_of}
-use Rattle.reclaim.specs.inside.Homecoming.{GivesAfter}
 use Rattle.regions.specs.Shapes.{guards_of}
-use Rattle.foreign_list.specs.Blocks.{Block}
 use Rattle.reclaim.proofs.Holding.{consistent-own, rows-stay}
-use Rattle.reclaim.proofs.Homecoming.{lends-block, ok-map}
+use Rattle.reclaim.proofs.Homecoming.{lends-block, lends-written}
 use Rattle.reclaim.proofs.giving.give_now.Goals as goal
 
 pub returns-clause-stay : goal.returns-clause-stay
@@ -13,8 +12,10 @@ returns-clause-stay c = record { each = rows-stay c.args.cache.now.region c.give
 pub returns-clause-lends : goal.returns-clause-lends
 returns-clause-lends c =
     let share = c.args.share in let size = c.args.size in let a = c.args.memory.now in let b = c.give_or_refuse.new.memory in
-    let old = c.args.cache.now in let new = c.give_or_refuse.new.cache in
-    ok-map (GivesAfter share size a b) (LendsBlock share (space_of a old) (space_of b new)) c.give_or_refuse.result (λ (block : Block) h. lends-block share size a b old new block h) c.give_or_refuse.ensures.given
+    let old = c.args.cache.now in let new = c.give_or_refuse.new.cache in let block = c.in_ok-block.block in
+    let bytes = refill (length block.piece.bytes) block.piece.bytes c.fill.new.self in
+    lends-written share (space_of a old) (space_of b new) block bytes (sym (length_refill (length block.piece.bytes) block.piece.bytes c.fill.new.self refl))
+    (lends-block share size a b old new block c.in_ok-block.ensures.given)
 
 pub returns-clause-whole : goal.returns-clause-whole
 returns-clause-whole c =

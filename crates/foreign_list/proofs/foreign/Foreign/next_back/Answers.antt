@@ -1,7 +1,7 @@
-use Rattle.std.proofs.Common.{◌≡◌, ℕ, suc, ◌-◌, None, true, set, refl, ap, ◌∙◌, length-set, arith}
+use Rattle.std.proofs.Common.{◌≡◌, ℕ, suc, ◌-◌, None, refl, ap, ◌∙◌, length-set, arith}
 use Rattle.foreign_list.specs.inside.Views.{ledger_of, walked, put_home}
 use Rattle.foreign_list.proofs.Chains.{link_first}
-use Rattle.foreign_list.proofs.Seating.{owner_seat, idle_set}
+use Rattle.foreign_list.proofs.Seating.{owner_seat, idle_on}
 use Rattle.foreign_list.proofs.foreign.Foreign.next_back.Goals as goal
 
 pub bring_home-next-requires-clause-first : goal.bring_home-next-requires-clause-first
@@ -12,5 +12,7 @@ pub invariant_of-seat : goal.invariant_of-seat
 invariant_of-seat c =
     let was = c.seat.invariant in let old = c.seat.inside in let home = c.bring_home-next.ensures.home in
     let t : ℕ = old.first - 1 in let d = ledger_of old.seat.me.0 in
-    rw c.mark_idle.ensures (owner_seat c.bring_home-next.new.seat (put_home t (walked t home.left d)) (set old.idle t true) c.bring_home-next.result.0
-    (ap (λ m. m.0) home.after) (ap (λ m. m.1) home.after) refl home.first home.low (length-set old.idle t true ∙ was.count) (idle_set d.lent old.idle t None was.idle_are))
+    let some = c.if-seat-eq0.false in let most = was.low in let count = was.count in
+    owner_seat c.bring_home-next.new.seat (put_home t (walked t home.left d)) c.marked_idle-seat-inside.result c.bring_home-next.result.0
+    (ap (λ m. m.0) home.after) (ap (λ m. m.1) home.after) refl home.first home.low (length-set d.lent t None ∙ was.count)
+    (idle_on d.lent old.idle c.marked_idle-seat-inside.result t (omega (arith, some, most, count)) was.idle_are c.marked_idle-seat-inside.ensures.here c.marked_idle-seat-inside.ensures.others)

@@ -1,7 +1,6 @@
 use mathlib.Core.List.{[]}
 use mir.Syntax.{named}
 use Rattle.std.proofs.Common.{◌≡◌, ◌⊎◌, ◌<◌, ℕ, true, length, ap, sym, ◌∙◌, subst}
-use Rattle.std.proofs.lemmas.List.{length-replicate}
 use Rattle.cache_model.specs.Apply.{has}
 use Rattle.regions.specs.Shapes.{guards_of}
 use Rattle.row_cache.specs.Rows.{rows_of}
@@ -28,7 +27,7 @@ pub reply-requires-clause-room : goal.reply-requires-clause-room
 reply-requires-clause-room c =
     let m = c.self.inside.memory in let rows = rows_of c.self.inside.cache in let mid = rows_of c.find_block-block.new.cache in let size = c.reply_size-size.result in
     let e = c.find_block-block.ensures.evicted in
-    let bytes = ap length (c.bytes_mut.ensures.value ∙ c.find_block-block.ensures.given.gives.zeros) ∙ length-replicate size 0 in
+    let bytes = ap length c.bytes_mut.ensures.value ∙ c.find_block-block.ensures.given.gives.bytes in
     subst (λ (n : ℕ). HasRoomFor (asked c.args.ask.now) mid n) (sym bytes) (room-kept (floor_of m.pages m.lent) (asked c.args.ask.now) rows mid e.puts size e.evicts c.reply_size-size.ensures.room)
 
 pub returns-clause-replied : goal.returns-clause-replied

@@ -4,7 +4,6 @@ use Rattle.std.specs.FinMap as map
 use Rattle.small_pools.specs.Classes.{size_of, order_of}
 use Rattle.small_pools.specs.Objects.{LacksObject}
 use Rattle.span_lists.specs.Layout.{HasNone, IsBlocked}
-use Rattle.std.proofs.lemmas.List.{length-replicate}
 use Rattle.layout.specs.Sizes.{page}
 use Rattle.layout.specs.Extents.{Extent, extent, Disjoint, AreDisjoint}
 use Rattle.raw_range.specs.Memory.{Memory, Lent, extent_of}
@@ -65,19 +64,19 @@ returns-clause-room c =
 pub returns-clause-given : goal.returns-clause-given
 returns-clause-given c =
     (let p = extent c.in-Some.place c.args.size in
-    let at : extent_of c.cleared.result ≡ p = ap (λ (l : Lent). extent_of l) c.cleared.ensures ∙ ap (λ n. extent c.take-2.result.at n) (length-replicate (length c.take-2.result.bytes) 0) ∙ c.take-2.ensures.extent in
+    let at : extent_of c.take-2.result ≡ p = c.take-2.ensures.extent in
     let small = (returns-clause-room c).0 in
     let has = kept_by is_block p (p ∷ c.self.inside.range.allocated) (has_first p c.self.inside.range.allocated) (block_is p small) in (
-      ap (λ (l : Lent). l.home) c.cleared.ensures ∙ ap (λ (l : Lent). l.home) c.take-2.ensures.piece ∙ sym (ap (λ (m : Memory). m.home) c.take-2.ensures.allocated),
-      subst (λ (m : Memory). Contains (blocks_of m.allocated) (extent_of c.cleared.result)) (sym c.take-2.ensures.allocated) (subst (λ q. Contains (blocks_of (p ∷ c.self.inside.range.allocated)) q) (sym at) has),
+      ap (λ (l : Lent). l.home) c.take-2.ensures.piece ∙ sym (ap (λ (m : Memory). m.home) c.take-2.ensures.allocated),
+      subst (λ (m : Memory). Contains (blocks_of m.allocated) (extent_of c.take-2.result)) (sym c.take-2.ensures.allocated) (subst (λ q. Contains (blocks_of (p ∷ c.self.inside.range.allocated)) q) (sym at) has),
     ))
 
 pub returns-clause-blocks : goal.returns-clause-blocks
 returns-clause-blocks c =
     (let p = extent c.in-Some.place c.args.size in
-    let at : extent_of c.cleared.result ≡ p = ap (λ (l : Lent). extent_of l) c.cleared.ensures ∙ ap (λ n. extent c.take-2.result.at n) (length-replicate (length c.take-2.result.bytes) 0) ∙ c.take-2.ensures.extent in
+    let at : extent_of c.take-2.result ≡ p = c.take-2.ensures.extent in
     ap (λ (m : Memory). blocks_of m.allocated) c.take-2.ensures.allocated ∙ block_added c.self.inside.range.allocated p (returns-clause-room c).0
-    ∙ ap (λ q. q ∷ blocks_of c.self.inside.range.allocated) (sym at) ∙ ap (λ (s : Pieces). extent_of c.cleared.result ∷ s.blocks) c.self.view_is)
+    ∙ ap (λ q. q ∷ blocks_of c.self.inside.range.allocated) (sym at) ∙ ap (λ (s : Pieces). extent_of c.take-2.result ∷ s.blocks) c.self.view_is)
 
 pub returns-clause-disjoint : goal.returns-clause-disjoint
 returns-clause-disjoint c = disjoint_still is_block (page * c.take-2.new.self.pages) c.take-2.new.self.allocated c.take-2.ensures.blocks
@@ -91,8 +90,8 @@ pub returns-clause-least : goal.returns-clause-least
 returns-clause-least c = (
   c.in_ok-class.class,
   c.in_ok-class.ensures.least,
-  subst (λ (s : Pieces). c.take.new.self.allocated ≡ map.insert s.objects c.cleared.result.at (size_of c.in_ok-class.class)) c.self.view_is
-      (c.in-Some.ensures.allocated ∙ ap (λ (at : ℕ). map.insert c.self.inside.pools.allocated at (size_of c.in_ok-class.class)) (sym (ap (λ (l : Lent). l.at) c.cleared.ensures ∙ ap (λ (q : Extent). q.start) c.take-2.ensures.extent))),
+  subst (λ (s : Pieces). c.take.new.self.allocated ≡ map.insert s.objects c.take-2.result.at (size_of c.in_ok-class.class)) c.self.view_is
+      (c.in-Some.ensures.allocated ∙ ap (λ (at : ℕ). map.insert c.self.inside.pools.allocated at (size_of c.in_ok-class.class)) (sym (ap (λ (q : Extent). q.start) c.take-2.ensures.extent))),
 )
 
 pub returns-in_default-clause-crowded : goal.returns-in_default-clause-crowded

@@ -8,7 +8,7 @@ use Rattle.shard_memory.specs.Shards.{MemoryState}
 use Rattle.shard_memory.specs.inside.Lending.{AreLent, staying}
 use Rattle.shard_memory.proofs.Tickets.{fewer_out, out_set}
 use Rattle.shard_memory.proofs.Lending.{still_staying, lent_one, same_lent}
-use Rattle.shard_memory.proofs.memory.ShardMemory.give.Goals as goal
+use Rattle.shard_memory.proofs.memory.ShardMemory.give_uncleared.Goals as goal
 
 pub give_block-requires-clause-few : goal.give_block-requires-clause-few
 give_block-requires-clause-few c =
