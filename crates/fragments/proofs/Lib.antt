@@ -8,6 +8,7 @@ pub mod Dropped
 pub mod Settled
 pub mod Moved
 pub mod Mended
+pub mod Setting
 pub mod Paths
 pub mod Stored
 pub mod Dropping

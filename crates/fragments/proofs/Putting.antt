@@ -1,21 +1,23 @@
 -- A value is set.
-use Rattle.std.proofs.Common.{◌≡◌, ◌≢◌, ℕ, ◌+◌, ◌<◌, ◌≤◌, inl, List, [], length, Some, refl, sym, ap, ◌∙◌, arith}
-use Rattle.std.specs.Prelude.{slice_get, slice_set}
+use Rattle.std.proofs.Common.{◌≡◌, ◌≢◌, ℕ, ◌+◌, ◌<◌, ◌≤◌, inl, inr, Bool, true, false, List, [], length, take, Some, refl, sym, ap, subst, ◌∙◌, arith}
+use Rattle.std.specs.Prelude.{◌↔◌, IsTrue, slice_get, slice_set}
+use Rattle.std.proofs.lemmas.Bool.Decides.{leb_tells}
 use Rattle.std.proofs.lemmas.List.{length-set}
 use Rattle.regions.specs.Segments.{RegionState}
-use Rattle.regions.specs.Shapes.{free_count, held_count, shape}
+use Rattle.regions.specs.Shapes.{held_count}
 use Rattle.regions.specs.Counts.{live_total}
 use Rattle.regions.specs.Contents.{live_at}
 use Rattle.region_room.specs.Room.{room}
 use Rattle.fragments.specs.Sizes.{greatest_value, size}
 use Rattle.fragments.specs.Values.{size_if, value_of}
-use Rattle.fragments.specs.Chains.{TableState, AreChains, HoldParts, Parts, all_parts, chain_at, parts}
-use Rattle.fragments.specs.Store.{HoldsSegments}
+use Rattle.fragments.specs.Chains.{TableState, HoldParts, Parts, all_parts, chain_at, parts}
+use Rattle.fragments.specs.Store.{IsSetBeside, Stay, StoreState}
 use Rattle.fragments.specs.inside.Consistent.{AreEntries, IsConsistent, size_of_parts, values_in}
+use Rattle.fragments.specs.inside.Setting.{Sets}
 use Rattle.fragments.proofs.Compacted.{free_kept, segments_again, segments_kept}
-use Rattle.fragments.proofs.Dropping.{empty_chain, parts_here, parts_past, with_parts}
+use Rattle.fragments.proofs.Dropping.{empty_chain}
 use Rattle.fragments.proofs.States.{consistent_set, lengths_set, none_written, part_after, part_here, part_named, part_set}
-use Rattle.fragments.proofs.Stored.{count_is, no_place, size_if_is}
+use Rattle.fragments.proofs.Stored.{count_is, no_place, parts_written, size_if_is}
 
 -- no value is being written
 pub none_begun : (t : TableState) (r : RegionState) (lengths : List ℕ) (segments bytes : ℕ) → IsConsistent t r lengths segments bytes → AreEntries t → chain_at t.chains t.names ≡ []
@@ -24,40 +26,51 @@ none_begun t r lengths segments bytes i entries =
     empty_chain t (live_at r) t.names i.chains
     (i.chains.firsts t.names ∙ no_place t (live_at r) i.chains (omega (arith, few)) all i.parts t.names 0 (ap (λ (ps : List (List ℕ)). slice_get ps 0) (none_written t r entries)))
 
-module _ (t m u : TableState) (r q s : RegionState) (lengths : List ℕ) (segments bytes n : ℕ) (text : List ℕ)
-    (i : IsConsistent t r lengths segments bytes) (entries : AreEntries t) (below : n < t.names)
-    (names : m.names ≡ t.names)
-    (more : (all more : Parts) → HoldParts t (live_at r) all → all t.names ≡ [] → more t.names ≡ parts text → ((e : ℕ) → e ≢ t.names → more e ≡ all e) → HoldParts m (live_at q) more) where
-  abbrev all : Parts
-  all = all_parts (values_in t r) []
+-- what is no more than another where a test says that it is not more
+pub no_more : (b : Bool) (m n : ℕ) → IsTrue b ↔ (m < n) → b ≡ false → n ≤ m
+no_more b m n tells is_not = elim (leb_tells n m) [ inl h ↦ h.1 | inr h ↦ (let so : b ≡ true = tells.1 h.1 in absurd (let clash : false ≡ true = sym is_not ∙ so in cc)) ]
 
+module _ (t u : TableState) (r s : RegionState) (lengths : List ℕ) (segments bytes n : ℕ) (text : List ℕ)
+    (i : IsConsistent t r lengths segments bytes) (entries : AreEntries t) (below : n < t.names) (w : Sets t u r s n text) where
+  -- the old values, and the new one beside them
   abbrev both : Parts
-  both = with_parts t.names (parts text) all
+  both = all_parts (values_in t r) (parts text)
 
-  pub both_hold : HoldParts m (live_at q) both
-  both_hold = more all both i.parts (none_written t r entries) (parts_here t.names (parts text) all) (λ e far. parts_past t.names e (parts text) all far)
+  both_written : both t.names ≡ parts text
+  both_written = ap both (sym (count_is t r entries)) ∙ parts_written (values_in t r) (parts text)
 
-  pub both_written : both m.names ≡ parts text
-  both_written = ap both names ∙ parts_here t.names (parts text) all
+  both_old : (e : ℕ) → e ≢ t.names → both e ≡ all_parts (values_in t r) [] e
+  both_old e far = part_named t r (parts text) e entries far ∙ sym (part_named t r [] e entries far)
+
+  both_hold : HoldParts w.tables (live_at w.between) both
+  both_hold = w.written.parts_are (all_parts (values_in t r) []) both i.parts (none_written t r entries) both_written both_old
 
   other : n ≢ t.names
   other e = omega (arith, e, below)
 
-  module _ (total_written : live_total q ≡ live_total r + size (length text)) (total : (all : Parts) → HoldParts m (live_at q) all → live_total s + size_of_parts (all n) ≡ live_total q) where
-    pub total_now : live_total s + size_if (value_of (values_in t r) n) ≡ live_total r + size (length text)
-    total_now =
-        let gone = total both both_hold in
-        let same = ap size_of_parts (parts_past t.names n (parts text) all other ∙ part_named t r [] n entries other) ∙ size_if_is (value_of (values_in t r) n) in
-        omega (arith, gone, same, total_written)
+  pub total_now : live_total s + size_if (value_of (values_in t r) n) ≡ live_total r + size (length text)
+  total_now =
+      let gone = w.replaced.total both both_hold in let more = w.written.total in
+      let same = ap size_of_parts (part_named t r (parts text) n entries other) ∙ size_if_is (value_of (values_in t r) n) in
+      omega (arith, gone, same, more)
 
-    pub value_put : (after : ℕ) → AreEntries u → u.names ≡ m.names → AreChains u (live_at s)
-        → ((all replaced : Parts) → HoldParts m (live_at q) all → replaced n ≡ all m.names → replaced m.names ≡ [] → ((e : ℕ) → e ≢ n → e ≢ m.names → replaced e ≡ all e) → HoldParts u (live_at s) replaced)
-        → length text ≤ greatest_value → HoldsSegments r q → 1 ≤ free_count q → shape s ≡ shape q → after ≡ live_total s → live_total r + size (length text) ≤ room (held_count r)
-        → (values_in u s ≡ slice_set (values_in t r) n (Some text)) × IsConsistent u s (slice_set lengths n (length text)) segments after
-    value_put after entries_now same are replaced short keeps free kept counted enough =
-        let values = slice_set (values_in t r) n (Some text) in let count = count_is t r entries in let many = i.many in let sum_now = total_now in
-        consistent_set t u r s lengths (slice_set lengths n (length text)) segments bytes after n (Some text) i entries entries_now (same ∙ names) below are
-        (replaced both (all_parts values []) both_hold (part_here t r n (Some text) entries below ∙ sym both_written) (ap (all_parts values []) names ∙ part_after t r n (Some text) entries)
-        (λ e far away. part_set t r n e (Some text) entries below far ∙ sym (parts_past t.names e (parts text) all (λ x. away (x ∙ sym names)))))
-        short (length-set lengths n (length text)) (lengths_set (values_in t r) lengths n (length text) text (omega (arith, count, below)) (omega (arith, many, below)) refl i.lens)
-        (segments_again r q s keeps (segments_kept q s kept)) (inl (let f = free_kept q s kept in omega (arith, f, free))) counted sum_now (omega (arith, sum_now, enough))
+  pub value_put : (after : ℕ) → AreEntries u → length text ≤ greatest_value → after ≡ live_total s → live_total r + size (length text) ≤ room (held_count r)
+      → (values_in u s ≡ slice_set (values_in t r) n (Some text)) × IsConsistent u s (slice_set lengths n (length text)) segments after
+  value_put after entries_now short counted enough =
+      let values = slice_set (values_in t r) n (Some text) in let count = count_is t r entries in let many = i.many in let sum_now = total_now in
+      let q = w.between in let names = w.written.names in let d = w.replaced in let free = w.written.free in
+      consistent_set t u r s lengths (slice_set lengths n (length text)) segments bytes after n (Some text) i entries entries_now (d.names ∙ names) below d.chains
+      (d.parts_are both (all_parts values []) both_hold (part_here t r n (Some text) entries below ∙ sym (ap both names ∙ both_written)) (ap (all_parts values []) names ∙ part_after t r n (Some text) entries)
+      (λ e far away. part_set t r n e (Some text) entries below far ∙ sym (both_old e (λ x. away (x ∙ sym names)))))
+      short (length-set lengths n (length text)) (lengths_set (values_in t r) lengths n (length text) text (omega (arith, count, below)) (omega (arith, many, below)) refl i.lens)
+      (segments_again r q s w.written.segments (segments_kept q s d.shape_is)) (inl (let f = free_kept q s d.shape_is in omega (arith, f, free))) counted sum_now (omega (arith, sum_now, enough))
+
+  pub set_beside : (new : StoreState) → new.region ≡ s → IsSetBeside (record { firsts = take t.names t.firsts; region = r }) new text
+  set_beside new is = record {
+    between = w.between;
+    tables = w.tables;
+    segments = w.written.segments;
+    chains = w.written.chains;
+    parts_are = both_hold;
+    stay = subst (λ (x : RegionState). Stay w.between x) (sym is) w.replaced.stay;
+  }

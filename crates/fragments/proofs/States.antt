@@ -38,6 +38,7 @@ pub consistent_guarded : (t : TableState) (r s : RegionState) (lengths : List �
     → IsConsistent t s lengths segments bytes
 consistent_guarded t r s lengths segments bytes g guards i is = subst (λ (x : RegionState). IsConsistent t x lengths segments bytes) (sym is) (record {
   one = length-set r.groups g _ ∙ i.one;
+  few = i.few;
   chains = i.chains;
   parts = i.parts;
   short = i.short;
@@ -92,6 +93,7 @@ consistent_set t u r s lengths now segments bytes after n o i entries entries_no
       read,
       record {
         one = keeps.groups ∙ i.one;
+        few = subst (λ k. k ≤ 2048) (sym keeps.most) i.few;
         chains = chains;
         parts = subst (λ (vs : Values). HoldParts u (live_at s) (all_parts vs [])) (sym read) hold;
         short = subst (λ (vs : Values). (k : ℕ) → IsShort (value_of vs k)) (sym read) (short_set (values_in t r) n o small short i.short);
@@ -192,13 +194,14 @@ values_kept t r s lengths segments bytes i entries keeps =
 
 -- a segment more
 pub consistent_more : (t : TableState) (r s : RegionState) (lengths : List ℕ) (segments bytes : ℕ) → IsConsistent t r lengths segments bytes → AreEntries t → Keeps r s
-    → group_count s ≡ group_count r → held_count s ≡ held_count r + 1 → HasFree s → live_total s ≡ live_total r → IsConsistent t s lengths (segments + 1) bytes
-consistent_more t r s lengths segments bytes i entries keeps groups held free total =
+    → group_count s ≡ group_count r → (shape s).most ≡ (shape r).most → held_count s ≡ held_count r + 1 → HasFree s → live_total s ≡ live_total r → IsConsistent t s lengths (segments + 1) bytes
+consistent_more t r s lengths segments bytes i entries keeps groups most held free total =
     let same : (p : Place) → live_at s p ≡ live_at r p = λ p. ap item_if_live (keeps p) in
     let values = values_kept t r s lengths segments bytes i entries keeps in
     let were = i.held in let within = i.within in
     record {
       one = groups ∙ i.one;
+      few = subst (λ k. k ≤ 2048) (sym most) i.few;
       chains = chains_kept t (live_at r) (live_at s) same i.chains;
       parts = subst (λ (vs : Values). HoldParts t (live_at s) (all_parts vs [])) (sym values) (parts_kept t (live_at r) (live_at s) same i.chains (all_parts (values_in t r) []) i.parts);
       short = subst (λ (vs : Values). (k : ℕ) → IsShort (value_of vs k)) (sym values) i.short;
@@ -223,7 +226,7 @@ none_first zero e = refl
 none_first (suc n) zero = refl
 none_first (suc n) (suc e) = none_first n e
 
-module _ (t : TableState) (r : RegionState) (lengths : List ℕ) (segments : ℕ) (entries : AreEntries t) (one : group_count r ≡ 1) (nothing : (p : Place) → live_at r p ≡ None)
+module _ (t : TableState) (r : RegionState) (lengths : List ℕ) (segments : ℕ) (entries : AreEntries t) (one : group_count r ≡ 1) (small : (shape r).most ≤ 2048) (nothing : (p : Place) → live_at r p ≡ None)
     (firsts : t.firsts ≡ replicate (t.names + 1) None) (chains : t.chains ≡ replicate (t.names + 1) []) (many : length lengths ≡ t.names) (held : segments ≡ held_count r)
     (free : HasFree r) (total : live_total r ≡ 0) where
   no_fragment : (e i : ℕ) → place_at t.chains e i ≡ None
@@ -255,6 +258,7 @@ module _ (t : TableState) (r : RegionState) (lengths : List ℕ) (segments : ℕ
   pub empty_consistent : IsConsistent t r lengths segments 0
   empty_consistent = record {
     one = one;
+    few = small;
     chains = empty_chains;
     parts = subst (λ (vs : Values). HoldParts t (live_at r) (all_parts vs [])) (sym empty_values) empty_parts;
     short = λ n. subst IsShort (sym (ap (λ (vs : Values). value_of vs n) empty_values ∙ none_value t.names n)) tt;

@@ -9,7 +9,7 @@ use Rattle.regions.specs.declared.place.Place.{Place}
 use Rattle.fragments.specs.Sizes.{most_fragments}
 use Rattle.fragments.specs.Values.{Values}
 use Rattle.fragments.specs.Fragment.{bare, bytes_in, led_to, next_in}
-use Rattle.fragments.specs.Chains.{TableState, AreChains, HoldParts, all_parts}
+use Rattle.fragments.specs.Chains.{TableState, AreChains, HoldParts, all_parts, parts}
 
 -- a store: the place of the first fragment of each name's value, and the segments in which all fragments stand
 pub record StoreState : Type 0 where
@@ -64,3 +64,13 @@ pub record HoldsSegments (old new : RegionState) : Type 0 where
 -- each live fragment stood where it stands
 abbrev pub Stay : RegionState → RegionState → Type 0
 Stay old new = (p : Place) → IsSome (live_at new p) → option_map bare (live_at new p) ≡ option_map bare (live_at old p)
+
+-- At some time, in the same segments, the value with these bytes stood beside all old ones, that of its own name as well; since
+-- then fragments died, and none moved.
+pub record IsSetBeside (old new : StoreState) (bytes : List ℕ) : Type 0 where
+  pub between : RegionState
+  pub tables : TableState
+  pub segments : HoldsSegments old.region between
+  pub chains : AreChains tables (live_at between)
+  pub parts_are : HoldParts tables (live_at between) (all_parts (values_of old) (parts bytes))
+  pub stay : Stay between new.region

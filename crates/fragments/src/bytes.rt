@@ -1,5 +1,5 @@
 //! A fragment in the content of an object.
-ghost use Rattle.std.specs.Prelude.{◌≡◌, ℕ, ◌+◌, ◌-◌, ◌*◌, ◌<◌, ◌≤◌, ◌^◌, List, ◌++◌, length, take, drop, replicate};
+ghost use Rattle.std.specs.Prelude.{◌≡◌, ◌↔◌, IsTrue, ℕ, ◌+◌, ◌-◌, ◌*◌, ◌<◌, ◌≤◌, ◌^◌, List, ◌++◌, length, take, drop, replicate};
 ghost use Rattle.byteorder.specs.Endian.{little_bytes};
 ghost use Rattle.layout.specs.Sizes.{descriptor, greatest_object};
 ghost use Rattle.fragments.specs.Sizes as sizes;
@@ -31,6 +31,13 @@ const NEXT: usize = 8;
 const NAME: usize = 16;
 
 const LENGTH: usize = 20;
+
+// Whether a value of so many bytes is too long.
+pub(crate) fn is_too_long(len: usize) -> bool
+    ensures { IsTrue result ↔ (sizes.greatest_value < len) }
+{
+    len > GREATEST_VALUE
+}
 
 // How many fragments a value of so many bytes has.
 pub(crate) fn fragment_count(len: usize) -> usize

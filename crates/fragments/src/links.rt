@@ -86,7 +86,7 @@ pub(crate) fn lead_back(region: &mut Region, at: Option<Place>, to: Option<Place
 }
 
 // Writes the link on of the fragment at a place, if there is one.
-pub(crate) fn lead_on(region: &mut Region, at: Option<Place>, to: Option<Place>)
+fn lead_on(region: &mut Region, at: Option<Place>, to: Option<Place>)
     requires { IfSome at (λ p. linking.HoldsAFragment (live_at region.old p)) }
     ensures links { linking.LeadsOn at to (live_at region.old) (live_at region.new) }
     ensures same { SameBut fragments.bare region.old region.new }
@@ -94,6 +94,18 @@ pub(crate) fn lead_on(region: &mut Region, at: Option<Place>, to: Option<Place>)
     if let Some(place) = at {
         write_next(region, place, link_to(to));
     }
+}
+
+// The fragments around one that stands at a place now lead to it.
+#[tactic(auto, using(crate::proofs::Setting::led_around, crate::proofs::Lives::same_again))]
+pub(crate) fn lead_around(region: &mut Region, back: Option<Place>, next: Option<Place>, to: Place)
+    requires back { IfSome back (λ p. linking.HoldsAFragment (live_at region.old p)) }
+    requires next { IfSome next (λ p. linking.HoldsAFragment (live_at region.old p)) }
+    ensures links { linking.LeadAround back next to (live_at region.old) (live_at region.new) }
+    ensures same { SameBut fragments.bare region.old region.new }
+{
+    lead_on(region, back, Some(to));
+    lead_back(region, next, Some(to));
 }
 
 fn write_back(region: &mut Region, at: Place, link: u64)

@@ -1,5 +1,5 @@
 //! The values of all names.
-ghost use Rattle.std.specs.Prelude.{◌≡◌, ◌↔◌, ◌+◌, ◌-◌, ◌<◌, ◌≤◌, ◌^◌, ℕ, true, false, length, replicate, slice_set, Some, None, Err, IfOk, IfErr, IfSome, IsNone, IsSome, MatchOption};
+ghost use Rattle.std.specs.Prelude.{◌≡◌, ◌↔◌, ◌+◌, ◌-◌, ◌<◌, ◌≤◌, ◌^◌, ℕ, true, false, length, replicate, slice_set, Some, None, Err, IfOk, IfErr, IfSome, IsNone, IsSome, IsTrue, MatchOption};
 ghost use Rattle.std.specs.List.{concat};
 ghost use Rattle.layout.specs.Sizes as sizes;
 ghost use Rattle.regions.specs.Segments.{segment_at, with_segment, with_guards, fresh, all_emptied, idle};
@@ -10,11 +10,11 @@ ghost use Rattle.region_room.specs.Room as bound;
 ghost use Rattle.fragments.specs.Sizes.{greatest_value, size};
 ghost use Rattle.fragments.specs.Values as values;
 ghost use Rattle.fragments.specs.Chains.{TableState};
-ghost use Rattle.fragments.specs.Store.{values_of, StandsFor, HoldsSegments, Stay};
+ghost use Rattle.fragments.specs.Store.{values_of, StandsFor, HoldsSegments, IsSetBeside, Stay};
 
 mod writing;
 
-use crate::bytes::{GREATEST_VALUE, value_size};
+use crate::bytes::{is_too_long, value_size};
 use crate::links::GROUP;
 use crate::pieces::Pieces;
 use crate::tables::Tables;
@@ -23,12 +23,12 @@ use region_room::room;
 use regions::Region;
 use std::alloc::{AllocError, Global};
 use std::marker::Model;
-use writing::{drop_value, replace_value, write_value};
+use writing::{drop_value, set_value};
 
 /// Why a value is not set. Nothing changed.
 #[derive(Clone, Copy, Debug, PartialEq, Eq)]
 pub enum SetRefusal {
-    /// It has more than [`GREATEST_VALUE`] bytes.
+    /// It has more than [`crate::GREATEST_VALUE`] bytes.
     TooLong,
     /// The bytes of all live objects and those of its own are more than the segments surely hold. The value that the name has
     /// counts as well, since the new one is written before that is dropped.
@@ -116,7 +116,6 @@ impl Fragments {
         ensures guards { guards_of self.new.region 0 ≡ guards_of self.old.region 0 }
     {
         self.tables.facts();
-        most_fits(&self.region);
         let active = self.region.active(GROUP);
         self.region.add_segment(piece);
         self.segments += 1;
@@ -143,19 +142,19 @@ impl Fragments {
 
         // The values, and the segments in which they stand.
         ensures values { IfOk result (λ _. values_of self.new ≡ slice_set (values_of self.old) name (Some bytes.now)) }
+        ensures beside { IfOk result (λ _. IsSetBeside self.old self.new bytes.now) }
         ensures segments { HoldsSegments self.old.region self.new.region }
     {
         self.tables.facts();
-        if bytes.len() > GREATEST_VALUE {
+        if is_too_long(bytes.len()) {
             return Err(SetRefusal::TooLong);
         }
         let size = value_size(bytes.len());
-        if self.live + size > room(self.segments) {
+        if !self.has_room(size) {
             return Err(SetRefusal::NoRoom);
         }
         let dropped = self.size_of(name);
-        write_value(&mut self.region, &mut self.tables, name, bytes);
-        replace_value(&mut self.region, &mut self.tables, name, bytes);
+        set_value(&mut self.region, &mut self.tables, name, bytes);
         self.tables.facts();
         self.lengths[name as usize] = bytes.len() as u32;
         self.live = self.live + size - dropped;
@@ -209,6 +208,13 @@ impl Fragments {
         self.tables.facts();
         self.live -= dropped;
         true
+    }
+
+    // Whether the segments surely hold so many bytes beside those that are live.
+    fn has_room(&self, size: u64) -> bool
+        ensures { IsTrue result ↔ (values.live (values_of self.now) + size ≤ bound.room (held_count self.now.region)) }
+    {
+        size <= room(self.segments) - self.live
     }
 
     // The bytes of the objects of a name's value, or 0 where it has none.
@@ -274,13 +280,6 @@ impl Fragments {
         self.segments = self.segments.saturating_sub(1);
         given
     }
-}
-
-// The most segments of a region have 32 bits.
-fn most_fits(region: &Region)
-    ensures { (shape region.now).most < 2 ^ 32 }
-{
-    region.most();
 }
 
 // So many lengths, each 0.

@@ -12,7 +12,7 @@ ghost use Rattle.fragments.specs.inside.Linking as linking;
 
 use crate::chains::Chains;
 use crate::links::{
-    back_of, kill_fragment, lead_back, lead_on, name_of, next_of, place_fragment, segment_fits,
+    back_of, kill_fragment, lead_around, lead_back, name_of, next_of, place_fragment, segment_fits,
 };
 use regions::{Movers, Place, Region};
 use std::alloc::{AllocError, Global};
@@ -294,7 +294,6 @@ impl Movers for Tables {
         let back = back_of(store, to);
         let next = next_of(store, to);
         self.relocate(back, name, from, to);
-        lead_on(store, back, Some(to));
-        lead_back(store, next, Some(to));
+        lead_around(store, back, next, to);
     }
 }

@@ -1,7 +1,7 @@
 -- What holds of the parts of a store.
 use Rattle.std.specs.Prelude.{◌≡◌, ◌⊎◌, ℕ, ◌+◌, ◌^◌, ◌-◌, ◌<◌, ◌≤◌, List, [], ◌∷◌, length, Some, IsSome, map, take, slice_index_or}
 use Rattle.regions.specs.Segments.{RegionState}
-use Rattle.regions.specs.Shapes.{active_of, group_count, held_count, free_count}
+use Rattle.regions.specs.Shapes.{shape, active_of, group_count, held_count, free_count}
 use Rattle.regions.specs.Counts.{live_total}
 use Rattle.regions.specs.Contents.{live_at}
 use Rattle.region_room.specs.Room.{room}
@@ -32,6 +32,7 @@ HasFree r = (1 ≤ free_count r) ⊎ ((held_count r ≡ 0) ⊎ ((held_count r �
 -- the region has one group, and its chains hold the values and nothing else
 pub record IsConsistent (t : TableState) (r : RegionState) (lengths : List ℕ) (segments bytes : ℕ) : Type 0 where
   pub one : group_count r ≡ 1
+  pub few : (shape r).most ≤ 2048
   pub chains : AreChains t (live_at r)
   pub parts : HoldParts t (live_at r) (all_parts (values_in t r) [])
   pub short : (n : ℕ) → IsShort (value_of (values_in t r) n)

@@ -32,6 +32,12 @@ pub record LeadsOn (at to : Option Place) (old new : Live) : Type 0 where
   pub others : (p : Place) → at ≢ Some p → next_link new p ≡ next_link old p
   pub back : (p : Place) → back_link new p ≡ back_link old p
 
+-- the one, and then the other: the fragments around one that stands at the place lead to it
+pub record LeadAround (back next : Option Place) (to : Place) (old new : Live) : Type 0 where
+  pub between : Live
+  pub on : LeadsOn back (Some to) old between
+  pub back_is : LeadsBack next (Some to) between new
+
 -- the live object is a fragment of the name with these bytes, the first of its chain
 pub record IsPlaced (o : Option Item) (next : Option Place) (name : ℕ) (bytes : List ℕ) : Type 0 where
   pub item : Item

@@ -8,6 +8,7 @@ ghost use Rattle.fragments.specs.Sizes.{fragment_bytes, greatest_value, most_fra
 ghost use Rattle.fragments.specs.Chains as chains;
 ghost use Rattle.fragments.specs.Store.{HoldsSegments, Stay};
 ghost use Rattle.fragments.specs.inside.Consistent.{size_of_parts};
+ghost use Rattle.fragments.specs.inside.Setting.{Writes, Replaces, Sets};
 
 use crate::bytes::{FRAGMENT_BYTES, fragment_count, object_size};
 use crate::tables::Tables;
@@ -45,8 +46,26 @@ fn add_part(region: &mut Region, tables: &mut Tables, part: &[u8])
     tables.grow(region, part);
 }
 
+// Sets the value of a name. The old one is dropped when the new one stands.
+#[tactic(auto, using(crate::proofs::Setting::written_then_replaced))]
+pub(super) fn set_value(region: &mut Region, tables: &mut Tables, name: u32, bytes: &[u8])
+    requires chains { chains.AreChains tables.old (live_at region.old) }
+    requires none { chains.chain_at tables.old.chains tables.old.names ≡ [] }
+    requires one { group_count region.old ≡ 1 }
+    requires guards { guards_of region.old 0 ≡ 0 }
+    requires held { 3 ≤ held_count region.old }
+    requires free { 1 ≤ free_count region.old }
+    requires name { name < tables.old.names }
+    requires short { length bytes.now ≤ greatest_value }
+    requires room { live_total region.old + size (length bytes.now) ≤ room (held_count region.old) }
+    ensures { Sets tables.old tables.new region.old region.new name bytes.now }
+{
+    write_value(region, tables, name, bytes);
+    replace_value(region, tables, name);
+}
+
 // Writes a value beside those that are there, the last fragment first.
-pub(super) fn write_value(region: &mut Region, tables: &mut Tables, name: u32, bytes: &[u8])
+fn write_value(region: &mut Region, tables: &mut Tables, name: u32, bytes: &[u8])
     requires chains { chains.AreChains tables.old (live_at region.old) }
     requires none { chains.chain_at tables.old.chains tables.old.names ≡ [] }
     requires one { group_count region.old ≡ 1 }
@@ -57,18 +76,7 @@ pub(super) fn write_value(region: &mut Region, tables: &mut Tables, name: u32, b
     requires short { length bytes.now ≤ greatest_value }
     requires room { live_total region.old + size (length bytes.now) ≤ room (held_count region.old) }
 
-    // The chains, and what they hold.
-    ensures chains { chains.AreChains tables.new (live_at region.new) }
-    ensures parts { (all more : chains.Parts) → chains.HoldParts tables.old (live_at region.old) all
-        → all tables.old.names ≡ [] → more tables.old.names ≡ chains.parts bytes.now
-        → ((e : ℕ) → e ≢ tables.old.names → more e ≡ all e) → chains.HoldParts tables.new (live_at region.new) more }
-    ensures names { tables.new.names ≡ tables.old.names }
-    ensures grows { tables.new.grows ≡ name }
-
-    // Counted: its bytes are live. The segments are those that were there.
-    ensures live_total { live_total region.new ≡ live_total region.old + size (length bytes.now) }
-    ensures free { 1 ≤ free_count region.new }
-    ensures segments { HoldsSegments region.old region.new }
+    ensures { Writes tables.old tables.new region.old region.new name bytes.now }
 {
     tables.facts();
     tables.begin(name);
@@ -91,25 +99,11 @@ fn part_of(bytes: &[u8], number: usize) -> &[u8]
 }
 
 // Drops the value of a name, instead of which the one that was written is its value from now on.
-pub(super) fn replace_value(region: &mut Region, tables: &mut Tables, name: u32, bytes: &[u8])
+fn replace_value(region: &mut Region, tables: &mut Tables, name: u32)
     requires chains { chains.AreChains tables.old (live_at region.old) }
     requires name { name < tables.old.names }
     requires grows { tables.old.grows ≡ name }
-    requires written { (all : chains.Parts) × chains.HoldParts tables.old (live_at region.old) all
-        × (all tables.old.names ≡ chains.parts bytes.now) }
-
-    // The chains, and what they hold.
-    ensures chains { chains.AreChains tables.new (live_at region.new) }
-    ensures parts { (all replaced : chains.Parts) → chains.HoldParts tables.old (live_at region.old) all
-        → replaced name ≡ all tables.old.names → replaced tables.old.names ≡ []
-        → ((e : ℕ) → e ≢ name → e ≢ tables.old.names → replaced e ≡ all e)
-        → chains.HoldParts tables.new (live_at region.new) replaced }
-    ensures names { tables.new.names ≡ tables.old.names }
-
-    // Counted: the old value's bytes are live no more. The segments are as they were.
-    ensures live_total { (all : chains.Parts) → chains.HoldParts tables.old (live_at region.old) all
-        → live_total region.new + size_of_parts (all name) ≡ live_total region.old }
-    ensures shape { shape region.new ≡ shape region.old }
+    ensures { Replaces tables.old tables.new region.old region.new name }
 {
     drop_value(region, tables, name);
     tables.settle(name);

@@ -14,6 +14,12 @@ groups_added r m n o is = ap group_count is
 groups_begun : (m s : RegionState) (n : ℕ) → shape s ≡ activated 0 n (shape m) → group_count s ≡ group_count m
 groups_begun m s n is = ap (λ (x : Shape). length x.groups) is ∙ length-set m.groups 0 _
 
+most_added : (r m : RegionState) (n : ℕ) (o : Option SegmentState) → m ≡ with_segment r n o → (shape m).most ≡ (shape r).most
+most_added r m n o is = ap (λ (x : RegionState). (shape x).most) is
+
+most_begun : (m s : RegionState) (n : ℕ) → shape s ≡ activated 0 n (shape m) → (shape s).most ≡ (shape m).most
+most_begun m s n is = ap (λ (x : Shape). x.most) is
+
 active_begun : (m s : RegionState) (n : ℕ) → shape s ≡ activated 0 n (shape m) → 0 < length m.groups → IsSome (active_of s 0)
 active_begun m s n is some =
     subst (λ o. IsSome o) (sym (ap (λ (x : Shape). active_in x.groups 0) is ∙ ap (λ (x : GroupState). x.active) (get_or-set_same m.groups 0 (record { active = Some n; guards = (group_at m.groups 0).guards }) idle some))) refl
@@ -36,7 +42,7 @@ pub overflow_add-self : goal.overflow_add-self
 overflow_add-self c =
     let i = c.self.invariant in let held = i.held in
     let room = subst (λ (s : StoreState). held_count s.region < (shape s.region).most) (sym c.self.view_is) c.requires.room in
-    let small = c.most_fits.ensures in
+    let small = i.few in
     record { fits = omega (arith, held, room, small) }
 
 pub invariant_of-self : goal.invariant_of-self
@@ -45,7 +51,7 @@ invariant_of-self c =
     let groups = groups_added f.region m a.added.0 _ a.added.2 in let one = i.one in
     let held = b.held ∙ a.held in
     consistent_more f.tables f.region s f.lengths.items f.segments f.live i c.facts.ensures (λ p. b.objects p ∙ a.objects p)
-    (groups_begun m s b.activated.0 b.activated.2 ∙ groups) held
+    (groups_begun m s b.activated.0 b.activated.2 ∙ groups) (most_begun m s b.activated.0 b.activated.2 ∙ most_added f.region m a.added.0 _ a.added.2) held
     (free_begun f.region m s b.activated.0 c.active-active.result i.free c.active-active.ensures.active (c.is_none.ensures ∙ ap not c.if-is_none.true) a.free b.free held
     (active_begun m s b.activated.0 b.activated.2 (omega (arith, groups, one))))
     (b.live_total ∙ a.live_total)
@@ -53,7 +59,7 @@ invariant_of-self c =
 pub invariant_of-self-else-is_none : goal.invariant_of-self-else-is_none
 invariant_of-self-else-is_none c =
     let f = c.self.inside in let i = c.self.invariant in let m = c.add_segment.new.self in let a = c.add_segment.ensures in let more = a.free in
-    consistent_more f.tables f.region m f.lengths.items f.segments f.live i c.facts.ensures a.objects (groups_added f.region m a.added.0 _ a.added.2) a.held (inl (omega (arith, more))) a.live_total
+    consistent_more f.tables f.region m f.lengths.items f.segments f.live i c.facts.ensures a.objects (groups_added f.region m a.added.0 _ a.added.2) (most_added f.region m a.added.0 _ a.added.2) a.held (inl (omega (arith, more))) a.live_total
 
 pub returns-then-is_none-clause-values : goal.returns-then-is_none-clause-values
 returns-then-is_none-clause-values c =

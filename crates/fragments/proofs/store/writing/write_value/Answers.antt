@@ -31,9 +31,18 @@ loop-left-preserved c =
     writes_more c.args.tables.now c.loop-left.tables c.add_part-in-loop-left.new.tables c.args.region.now c.loop-left.region c.add_part-in-loop-left.new.region c.args.name c.args.bytes.now
     c.part_of.result.now c.loop-left.left (c.loop-left.left - 1) c.loop-left.invariant (omega (arith, test)) p.bytes p.length e.chains e.names e.grows e.longer e.parts e.live_total e.free e.segments
 
-pub returns-clause-parts : goal.returns-clause-parts
-returns-clause-parts c = λ all more hold none now rest.
-    (let w = c.loop-left.invariant in let bytes = c.args.bytes.now in let test = c.loop-left-test.false in
-    let zero_is : c.loop-left.left ≡ 0 = omega (arith, test) in
-    w.parts_are all more hold none
-    (now ∙ (sym (whole_value bytes) ∙ ap (λ k. cut (count_of (length bytes) - k) (drop (k * fragment_bytes) bytes)) (sym zero_is))) rest)
+pub returns : goal.returns
+returns c =
+    let w = c.loop-left.invariant in let bytes = c.args.bytes.now in let test = c.loop-left-test.false in
+    let zero_is : c.loop-left.left ≡ 0 = omega (arith, test) in let total = w.total in
+    record {
+      chains = w.chains;
+      parts_are = λ all more hold none now rest.
+          w.parts_are all more hold none
+          (now ∙ (sym (whole_value bytes) ∙ ap (λ k. cut (count_of (length bytes) - k) (drop (k * fragment_bytes) bytes)) (sym zero_is))) rest;
+      names = w.names;
+      grows = w.grows;
+      total = omega (arith, total, zero_is);
+      free = w.free;
+      segments = w.segments;
+    }

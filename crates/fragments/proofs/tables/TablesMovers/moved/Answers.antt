@@ -1,13 +1,12 @@
 use Rattle.std.proofs.Common.{◌≡◌, ◌≢◌, ℕ, ◌<◌, inl, inr, List, length, map, Option, Some, None, sym, ap, subst, ◌∙◌}
-use Rattle.std.specs.Prelude.{option_map, IfSome}
+use Rattle.std.specs.Prelude.{option_map}
 use Rattle.regions.specs.Contents.{live_at}
 use Rattle.regions.specs.Stores.{Live, less, renamed}
 use Rattle.regions.specs.declared.place.Place.{Place}
-use Rattle.fragments.specs.Fragment.{bare}
 use Rattle.fragments.specs.Chains as chains
 use Rattle.fragments.specs.inside.Consistent.{AreEntries}
-use Rattle.fragments.specs.inside.Linking.{HoldsAFragment, IsMended, LeadsBack, LeadsOn}
-use Rattle.fragments.proofs.Lives.{holds_too, same_again, same_live}
+use Rattle.fragments.specs.inside.Linking.{IsMended, LeadsBack, LeadsOn}
+use Rattle.fragments.proofs.Lives.{same_live}
 use Rattle.fragments.proofs.Mended as mended
 use Rattle.fragments.proofs.Mended.{IsAt, found_at}
 use Rattle.fragments.proofs.Places.{option_cases, some_none}
@@ -27,10 +26,6 @@ firsts_now t u live from to f j are at entries back name back_is named first beh
       (let far : back ≢ None = λ e. some_none some.1 e in
       mended.first_kept t live from to f j are apart copied at u.firsts (mended.is_later t live from to f j are apart copied at back back_is far) (behind far))
 ]
-
-still_holds : (old now : Live) (o : Option Place) → ((q : Place) → option_map bare (now q) ≡ option_map bare (old q)) → IfSome o (λ q. HoldsAFragment (old q)) → IfSome o (λ q. HoldsAFragment (now q))
-still_holds old now None same h = tt
-still_holds old now (Some q) same h = holds_too (old q) (now q) (same q) h
 
 pub name_of-name-requires : goal.name_of-name-requires
 name_of-name-requires c =
@@ -57,26 +52,22 @@ relocate-requires c = λ none.
     subst (λ k. k < t.names) (sym (mended.copy_name t r from to w.entry w.number c.requires.fits c.requires.apart w.copied w.at c.name_of-name.result c.name_of-name.ensures.name))
     (mended.copy_small t r from to w.entry w.number c.requires.fits c.requires.apart w.copied w.at))
 
-pub lead_on-requires : goal.lead_on-requires
-lead_on-requires c =
+pub lead_around-requires-clause-back : goal.lead_around-requires-clause-back
+lead_around-requires-clause-back c =
     let t = c.args.self.now in let r = live_at c.args.store.now in let h = c.requires.copied in let from = c.args.from in let to = c.args.to in
     let w : IsAt t r from to = found_at t r from to h.0 c.requires.fits c.requires.apart h.2 h.3 in
     mended.before_holds t r from to w.entry w.number c.requires.fits c.requires.apart w.copied w.at c.back_of-back.result
     (mended.copy_back t r from to w.entry w.number c.requires.fits c.requires.apart w.copied w.at c.back_of-back.result c.back_of-back.ensures)
 
-pub lead_back-requires : goal.lead_back-requires
-lead_back-requires c =
+pub lead_around-requires-clause-next : goal.lead_around-requires-clause-next
+lead_around-requires-clause-next c =
     let t = c.args.self.now in let r = live_at c.args.store.now in let h = c.requires.copied in let from = c.args.from in let to = c.args.to in
     let w : IsAt t r from to = found_at t r from to h.0 c.requires.fits c.requires.apart h.2 h.3 in
-    still_holds r (live_at c.lead_on.new.region) c.next_of-next.result (same_live c.args.store.now c.lead_on.new.region c.lead_on.ensures.same)
-    (mended.next_holds t r from to w.entry w.number c.requires.fits c.requires.apart w.copied w.at c.next_of-next.result
-    (mended.copy_next t r from to w.entry w.number c.requires.fits c.requires.apart w.copied w.at c.next_of-next.result c.next_of-next.ensures))
+    mended.next_holds t r from to w.entry w.number c.requires.fits c.requires.apart w.copied w.at c.next_of-next.result
+    (mended.copy_next t r from to w.entry w.number c.requires.fits c.requires.apart w.copied w.at c.next_of-next.result c.next_of-next.ensures)
 
 pub returns-clause-stands : goal.returns-clause-stands
 returns-clause-stands c = λ m live are. chains_stand m live are
-
-pub returns-clause-store : goal.returns-clause-store
-returns-clause-store c = same_again c.args.store.now c.lead_on.new.region c.lead_back.new.region c.lead_on.ensures.same c.lead_back.ensures.same
 
 pub returns-clause-rest : goal.returns-clause-rest
 returns-clause-rest c =
@@ -86,46 +77,43 @@ returns-clause-rest c =
     ∙ ap (λ (ls : List ℕ). shape c.args.self.now.names c.args.self.now.grows ls) (ap (λ (cs : List (List Place)). map length cs) e.chains ∙ mended.lengths_mapped (renamed c.args.from c.args.to) c.args.self.now.chains))
 
 pub returns-clause-fits : goal.returns-clause-fits
-unfolding returns-clause-store
 returns-clause-fits c =
     (let t = c.args.self.now in let r = live_at c.args.store.now in let h = c.requires.copied in let from = c.args.from in let to = c.args.to in
     let w : IsAt t r from to = found_at t r from to h.0 c.requires.fits c.requires.apart h.2 h.3 in let u = c.relocate.new.self in
     let entries : AreEntries t = subst (λ (x : chains.TableState). AreEntries x) c.self.view_is c.self.invariant in
-    let m = live_at c.lead_on.new.region in let s = live_at c.lead_back.new.region in let e = c.relocate.ensures in
+    let links = c.lead_around.ensures.links in let m = links.between in let s = live_at c.lead_around.new.region in let e = c.relocate.ensures in
     let before = mended.copy_back t r from to w.entry w.number c.requires.fits c.requires.apart w.copied w.at c.back_of-back.result c.back_of-back.ensures in
     let next = mended.copy_next t r from to w.entry w.number c.requires.fits c.requires.apart w.copied w.at c.next_of-next.result c.next_of-next.ensures in
     let name = mended.copy_name t r from to w.entry w.number c.requires.fits c.requires.apart w.copied w.at c.name_of-name.result c.name_of-name.ensures.name in
     chains_moved t u r m s from to w.entry w.number c.requires.fits c.requires.apart w.copied w.at (c.segment_fits.ensures, c.name_of-name.ensures.inside)
-    (subst (λ o. LeadsOn o (Some to) r m) before c.lead_on.ensures.links) (subst (λ o. LeadsBack o (Some to) m s) next c.lead_back.ensures.links)
-    (same_live c.args.store.now c.lead_back.new.region (returns-clause-store c)) e.names e.grows e.chains
+    (subst (λ o. LeadsOn o (Some to) r m) before links.on) (subst (λ o. LeadsBack o (Some to) m s) next links.back_is)
+    (same_live c.args.store.now c.lead_around.new.region c.lead_around.ensures.same) e.names e.grows e.chains
     (firsts_now t u r from to w.entry w.number c.requires.fits w.at entries c.back_of-back.result c.name_of-name.result before name e.first e.behind c.requires.apart w.copied))
 
 pub returns-clause-names : goal.returns-clause-names
-unfolding returns-clause-store
 returns-clause-names c = λ n.
     (let t = c.args.self.now in let r = live_at c.args.store.now in let h = c.requires.copied in let from = c.args.from in let to = c.args.to in
     let w : IsAt t r from to = found_at t r from to h.0 c.requires.fits c.requires.apart h.2 h.3 in let u = c.relocate.new.self in
     let entries : AreEntries t = subst (λ (x : chains.TableState). AreEntries x) c.self.view_is c.self.invariant in
-    let m = live_at c.lead_on.new.region in let s = live_at c.lead_back.new.region in let e = c.relocate.ensures in
+    let links = c.lead_around.ensures.links in let m = links.between in let s = live_at c.lead_around.new.region in let e = c.relocate.ensures in
     let before = mended.copy_back t r from to w.entry w.number c.requires.fits c.requires.apart w.copied w.at c.back_of-back.result c.back_of-back.ensures in
     let next = mended.copy_next t r from to w.entry w.number c.requires.fits c.requires.apart w.copied w.at c.next_of-next.result c.next_of-next.ensures in
     let name = mended.copy_name t r from to w.entry w.number c.requires.fits c.requires.apart w.copied w.at c.name_of-name.result c.name_of-name.ensures.name in
     names_moved t u r m s from to w.entry w.number c.requires.fits c.requires.apart w.copied w.at (c.segment_fits.ensures, c.name_of-name.ensures.inside)
-    (subst (λ o. LeadsOn o (Some to) r m) before c.lead_on.ensures.links) (subst (λ o. LeadsBack o (Some to) m s) next c.lead_back.ensures.links)
-    (same_live c.args.store.now c.lead_back.new.region (returns-clause-store c)) e.names e.grows e.chains
+    (subst (λ o. LeadsOn o (Some to) r m) before links.on) (subst (λ o. LeadsBack o (Some to) m s) next links.back_is)
+    (same_live c.args.store.now c.lead_around.new.region c.lead_around.ensures.same) e.names e.grows e.chains
     (firsts_now t u r from to w.entry w.number c.requires.fits w.at entries c.back_of-back.result c.name_of-name.result before name e.first e.behind c.requires.apart w.copied) n)
 
 pub returns-clause-references : goal.returns-clause-references
-unfolding returns-clause-store
 returns-clause-references c = λ p.
     (let t = c.args.self.now in let r = live_at c.args.store.now in let h = c.requires.copied in let from = c.args.from in let to = c.args.to in
     let w : IsAt t r from to = found_at t r from to h.0 c.requires.fits c.requires.apart h.2 h.3 in let u = c.relocate.new.self in
     let entries : AreEntries t = subst (λ (x : chains.TableState). AreEntries x) c.self.view_is c.self.invariant in
-    let m = live_at c.lead_on.new.region in let s = live_at c.lead_back.new.region in let e = c.relocate.ensures in
+    let links = c.lead_around.ensures.links in let m = links.between in let s = live_at c.lead_around.new.region in let e = c.relocate.ensures in
     let before = mended.copy_back t r from to w.entry w.number c.requires.fits c.requires.apart w.copied w.at c.back_of-back.result c.back_of-back.ensures in
     let next = mended.copy_next t r from to w.entry w.number c.requires.fits c.requires.apart w.copied w.at c.next_of-next.result c.next_of-next.ensures in
     let name = mended.copy_name t r from to w.entry w.number c.requires.fits c.requires.apart w.copied w.at c.name_of-name.result c.name_of-name.ensures.name in
     references_moved t u r m s from to w.entry w.number c.requires.fits c.requires.apart w.copied w.at (c.segment_fits.ensures, c.name_of-name.ensures.inside)
-    (subst (λ o. LeadsOn o (Some to) r m) before c.lead_on.ensures.links) (subst (λ o. LeadsBack o (Some to) m s) next c.lead_back.ensures.links)
-    (same_live c.args.store.now c.lead_back.new.region (returns-clause-store c)) e.names e.grows e.chains
+    (subst (λ o. LeadsOn o (Some to) r m) before links.on) (subst (λ o. LeadsBack o (Some to) m s) next links.back_is)
+    (same_live c.args.store.now c.lead_around.new.region c.lead_around.ensures.same) e.names e.grows e.chains
     (firsts_now t u r from to w.entry w.number c.requires.fits w.at entries c.back_of-back.result c.name_of-name.result before name e.first e.behind c.requires.apart w.copied) p)
