@@ -1,14 +1,11 @@
 -- The oldest puts go, one after the other.
-use Rattle.std.proofs.Common.{◌≡◌, ℕ, ◌+◌, ◌-◌, ◌<◌, ◌≤◌, Bool, true, false, cond, leb, List, [], ◌∷◌, ◌++◌, length, take, drop, map, Option, Some, None, Ok, Err, refl, sym, ap, ◌∙◌, subst, arith, append-nil, get_or}
-use Rattle.std.proofs.lemmas.List.{map-append, take-append-drop, length-drop}
+use Rattle.std.proofs.Common.{◌≡◌, ◌≢◌, ℕ, ◌+◌, ◌-◌, ◌<◌, ◌≤◌, Bool, true, false, cond, leb, List, [], ◌∷◌, ◌++◌, length, take, drop, map, Option, Some, None, Ok, Err, refl, sym, ap, ◌∙◌, subst, arith, append-nil, get_or}
+use Rattle.std.proofs.lemmas.List.{map-append, take-append-drop, length-drop, drop-drop}
 use Rattle.std.specs.Prelude.{◌↔◌, IsNone, IfSome}
 use Rattle.std.proofs.lemmas.Bool.{lt-leb, le-leb, leb-true}
 use Rattle.std.proofs.lemmas.List.Concat.{flat_map-append}
 use Rattle.std.specs.Io.KnownBytes.{Appends}
-use Rattle.std.proofs.KnownBytes.{Appends-nil}
 use Rattle.outside.specs.Moves.{AppendsFront}
-use Rattle.layout.specs.Counts.{Rose}
-use Rattle.outside.specs.declared.failure.Failed.{Failed}
 use Rattle.cache_model.specs.Row.{Row, live}
 use Rattle.dirty_region.specs.Queues.{Queue, line, FlushesOldest, BreaksOff}
 use Rattle.dirty_mode.specs.DirtyText.{Flushed, going, staying, line_text, text_of}
@@ -36,46 +33,31 @@ next_text puts put others e = ap (λ ps. put_text (take 1 ps)) e ∙ append-nil 
 abbrev Done : Option ℕ → Queue → Queue → Option (List ℕ) → Option (List ℕ) → Type 0
 Done answer old new before after = IfSome answer (λ number. FlushesOldest number old new before after)
 
-pub next_gone : (answer : Option ℕ) (old new : Queue) (before after : Option (List ℕ)) → old.out ≡ 0 → IsNone answer ↔ (old.puts ≡ []) → (IsNone answer → new ≡ old) → Done answer old new before after
-    → new ≡ whole (drop 1 old.puts)
-next_gone None old new before after out none same flushed =
-    let e = none.0 refl in same refl ∙ (queue_whole old out ∙ ap (λ ps. whole ps) (e ∙ sym (ap (drop 1) e)))
-next_gone (Some n) old new before after out none same flushed = queue_whole new flushed.begun ∙ ap (λ ps. whole ps) (sym (ap (drop 1) flushed.taken))
-
--- the line is in the block
-pub next_held : (answer : Option ℕ) (old new : Queue) (before after : List ℕ) → old.out ≡ 0 → IsNone answer ↔ (old.puts ≡ []) → (IsNone answer → after ≡ before) → Done answer old new (Some before) (Some after)
-    → after ≡ before ++ put_text (take 1 old.puts)
-next_held None old new before after out none same flushed =
-    let e = none.0 refl in same refl ∙ (sym (append-nil before) ∙ ap (λ ps. before ++ put_text (take 1 ps)) (sym e))
-next_held (Some n) old new before after out none same flushed =
-    subst (λ k. after ≡ before ++ drop k (line flushed.put)) out flushed.whole ∙ ap (λ l. before ++ l) (sym (next_text old.puts flushed.put new.puts flushed.taken))
-
 -- the line broke off in the block
-module _ (old mid : Queue) (before : List ℕ) (after : List ℕ) (out : old.out ≡ 0) (broken : BreaksOff old mid (Some before) (Some after)) where
+module _ (old mid : Queue) (before : List ℕ) (after : List ℕ) (broken : BreaksOff old mid (Some before) (Some after)) where
   abbrev pub front_of : List ℕ
-  front_of = take mid.out (line broken.put)
+  front_of = take broken.count (drop old.out (line broken.put))
 
   abbrev pub rest_of : List ℕ
   rest_of = drop mid.out (line broken.put)
 
-  pub line_is : front_of ++ rest_of ≡ put_text (take 1 old.puts)
-  line_is = take-append-drop mid.out (line broken.put) ∙ sym (next_text old.puts broken.put broken.others broken.oldest)
+  pub line_is : front_of ++ rest_of ≡ drop old.out (put_text (take 1 old.puts))
+  line_is =
+      ap (λ l. front_of ++ l) (ap (λ n. drop n (line broken.put)) broken.counted ∙ sym (drop-drop broken.count old.out (line broken.put)))
+      ∙ (take-append-drop broken.count (drop old.out (line broken.put)) ∙ ap (drop old.out) (sym (next_text old.puts broken.put broken.others broken.oldest)))
 
   pub front_held : after ≡ before ++ front_of
-  front_held =
-      let counted = broken.counted in let count_is : mid.out ≡ broken.count = omega (arith, counted, out) in
-      subst (λ k. after ≡ before ++ take broken.count (drop k (line broken.put))) out broken.front
-      ∙ ap (λ n. before ++ take n (line broken.put)) (sym count_is)
+  front_held = broken.front
+
+  pub is_held : mid.puts ≢ []
+  is_held e = (let clash : broken.put ∷ broken.others ≡ [] = sym (broken.stays ∙ broken.oldest) ∙ e in cc)
 
   same_put : (put : Row) (others : List Row) → mid.puts ≡ put ∷ others → put ≡ broken.put
   same_put put others e = ap (λ l. get_or l 0 put) (sym e ∙ (broken.stays ∙ broken.oldest))
 
-  some_put : {X : Type 0} → mid.puts ≡ [] → X
-  some_put e = absurd (let clash : broken.put ∷ broken.others ≡ [] = sym (broken.stays ∙ broken.oldest) ∙ e in cc)
-
   -- the sink got the rest of the line, or a front of it
   pub rest_sent : (answer : Option ℕ) (new : Queue) (a b : Option (List ℕ)) → IsNone answer ↔ (mid.puts ≡ []) → Done answer mid new a b → Appends a b rest_of
-  rest_sent None new a b none flushed = some_put (none.0 refl)
+  rest_sent None new a b none flushed = absurd (is_held (none.0 refl))
   rest_sent (Some n) new a b none flushed = subst (λ p. Appends a b (drop mid.out (line p))) (same_put flushed.put new.puts flushed.taken) flushed.whole
 
   pub rest_front : (new : Queue) (a b : Option (List ℕ)) → BreaksOff mid new a b → AppendsFront a b rest_of
@@ -86,9 +68,9 @@ module _ (old mid : Queue) (before : List ℕ) (after : List ℕ) (out : old.out
         appended = p.front;
       })
 
-  pub gone_later : (answer : Option ℕ) (new : Queue) (a b : Option (List ℕ)) → IsNone answer ↔ (mid.puts ≡ []) → Done answer mid new a b → new ≡ whole (drop 1 old.puts)
-  gone_later None new a b none flushed = some_put (none.0 refl)
-  gone_later (Some n) new a b none flushed = queue_whole new flushed.begun ∙ ap (λ ps. whole ps) (sym (ap (drop 1) flushed.taken) ∙ ap (drop 1) broken.stays)
+  -- what is left of the line
+  pub rest_text : drop mid.out (put_text (take 1 mid.puts)) ≡ rest_of
+  rest_text = ap (drop mid.out) (next_text mid.puts broken.put broken.others (broken.stays ∙ broken.oldest))
 
 -- ---- while the bytes are too many
 

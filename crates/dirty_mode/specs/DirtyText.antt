@@ -78,7 +78,7 @@ abbrev pub put_count : Trace → ℕ
 put_count trace = count_by (λ operation. is_put operation.kind) trace.operations
 
 -- the lines, and how many puts there are
-abbrev pub dirty_text : Trace → ℕ → List ℕ
+unfoldable pub dirty_text : Trace → ℕ → List ℕ
 dirty_text trace pages = text_of (lines trace pages) ++ codes "dirty " ++ decimal (put_count trace) ++ codes "\n"
 
 -- ---- what follows of the lines

@@ -1,11 +1,14 @@
 //! The lines of what commands are answered.
 ghost use Rattle.std.specs.Prelude.{◌≡◌, ◌++◌, codes, decimal, option_map};
 ghost use Rattle.dirty_mode.specs.DirtyText.{line_text, get_line, Passed, Unflushed};
-ghost use Rattle.dirty_mode.specs.inside.Writing.{Writes, seen};
+ghost use Rattle.dirty_mode.specs.inside.Writing.{WritesTo};
 
-use crate::block::{Block, write};
+use crate::block::{Block, begin_line, write};
 use itoa::Buffer as Digits;
 use outside::{Failed, Sink};
+
+// The most digits of a number.
+const DIGITS: usize = 10;
 
 /// A number in decimal.
 pub(crate) fn write_number<K: Sink>(
@@ -13,7 +16,7 @@ pub(crate) fn write_number<K: Sink>(
     block: &mut Block,
     number: u32,
 ) -> Result<(), Failed>
-    ensures { Writes result (seen K.written K.faults sink.old block.old) (seen K.written K.faults sink.new block.new) (decimal number) }
+    ensures { WritesTo K.written K.faults result sink.old block.old sink.new block.new (decimal number) }
 {
     let mut digits = Digits::new();
     write(sink, block, digits.format(number).as_bytes())
@@ -26,15 +29,16 @@ fn write_word<K: Sink>(
     number: u32,
     word: &[u8],
 ) -> Result<(), Failed>
-    ensures { Writes result (seen K.written K.faults sink.old block.old) (seen K.written K.faults sink.new block.new) (decimal number ++ word.now) }
+    ensures { WritesTo K.written K.faults result sink.old block.old sink.new block.new (decimal number ++ word.now) }
 {
+    begin_line(sink, block, DIGITS + word.len())?;
     write_number(sink, block, number)?;
     write(sink, block, word)
 }
 
 /// A value and the end of its line.
 fn write_value<K: Sink>(sink: &mut K, block: &mut Block, value: &[u8]) -> Result<(), Failed>
-    ensures { Writes result (seen K.written K.faults sink.old block.old) (seen K.written K.faults sink.new block.new) (value.now ++ codes "\n") }
+    ensures { WritesTo K.written K.faults result sink.old block.old sink.new block.new (value.now ++ codes "\n") }
 {
     write(sink, block, value)?;
     write(sink, block, b"\n")
@@ -47,9 +51,10 @@ fn write_found<K: Sink>(
     number: u32,
     value: &[u8],
 ) -> Result<(), Failed>
-    ensures { Writes result (seen K.written K.faults sink.old block.old) (seen K.written K.faults sink.new block.new)
+    ensures { WritesTo K.written K.faults result sink.old block.old sink.new block.new
         (line_text (Unflushed number value.now)) }
 {
+    begin_line(sink, block, DIGITS + b" dirty \n".len() + value.len())?;
     write_word(sink, block, number, b" dirty ")?;
     write_value(sink, block, value)
 }
@@ -61,7 +66,7 @@ pub(crate) fn write_get<K: Sink>(
     number: u32,
     found: Option<&[u8]>,
 ) -> Result<(), Failed>
-    ensures { Writes result (seen K.written K.faults sink.old block.old) (seen K.written K.faults sink.new block.new)
+    ensures { WritesTo K.written K.faults result sink.old block.old sink.new block.new
         (line_text (get_line number (option_map (λ value. value.now) found.entry))) }
 {
     match found {
@@ -76,16 +81,17 @@ pub(crate) fn write_passed<K: Sink>(
     block: &mut Block,
     number: u32,
 ) -> Result<(), Failed>
-    ensures { Writes result (seen K.written K.faults sink.old block.old) (seen K.written K.faults sink.new block.new) (line_text (Passed number)) }
+    ensures { WritesTo K.written K.faults result sink.old block.old sink.new block.new (line_text (Passed number)) }
 {
     write_word(sink, block, number, b" passed\n")
 }
 
 /// The last line, of how many puts there were.
 pub(crate) fn write_count<K: Sink>(sink: &mut K, block: &mut Block, puts: u32) -> Result<(), Failed>
-    ensures { Writes result (seen K.written K.faults sink.old block.old) (seen K.written K.faults sink.new block.new)
+    ensures { WritesTo K.written K.faults result sink.old block.old sink.new block.new
         (codes "dirty " ++ decimal puts ++ codes "\n") }
 {
+    begin_line(sink, block, b"dirty \n".len() + DIGITS)?;
     write(sink, block, b"dirty ")?;
     write_word(sink, block, puts, b"\n")
 }

@@ -1,7 +1,7 @@
 //! The block in which text waits for the sink.
 ghost use Rattle.std.specs.Prelude.{◌≡◌, ◌≤◌, ◌<◌, ◌-◌, [], ◌++◌, min, take, length, vec_len, vec_capacity, true, false, Some, IfOk, OnOk, OnErr};
 ghost use Rattle.layout.specs.Counts.{Rose};
-ghost use Rattle.dirty_mode.specs.inside.Writing.{BlockState, Writes, seen};
+ghost use Rattle.dirty_mode.specs.inside.Writing.{BlockState, WritesTo};
 
 use outside::{Failed, Sink, write_all};
 use std::alloc::{AllocError, Global};
@@ -9,7 +9,7 @@ use std::marker::Model;
 
 const ROOM: usize = 65_536;
 
-/// Text that the sink was not given yet. It is a sink too, which takes what it has room for.
+/// Text that the sink was not given yet. It is a sink too, which takes a piece where it has room for the whole of it.
 #[derive(Drop)]
 pub(crate) struct Block {
     bytes: Vec<u8>,
@@ -50,10 +50,16 @@ impl Block {
         self.bytes.clear();
     }
 
+    /// Whether it has room for so many bytes more.
+    fn has_room(&self, len: usize) -> bool {
+        len <= ROOM - self.bytes.len()
+    }
+
     /// Adds a text where it has room for it, and answers whether it has.
     fn try_add(&mut self, text: &[u8]) -> bool
         ensures fits { result ≡ true → self.new.bytes ≡ self.old.bytes ++ text.now }
         ensures full { result ≡ false → self.new.bytes ≡ self.old.bytes }
+        ensures faults { self.new.faults ≡ self.old.faults }
     {
         if text.len() > ROOM - self.bytes.len() {
             return false;
@@ -69,19 +75,17 @@ impl Sink for Block {
     ghost faults = { λ b. b.faults };
 
     fn write(&mut self, from: &[u8]) -> Result<usize, Failed> {
-        let count = from.len().min(ROOM - self.bytes.len());
-        if count == 0 && !from.is_empty() {
+        if !self.try_add(from) {
             self.faults = self.faults.saturating_add(1);
             return Err(Failed);
         }
-        self.bytes.extend_from_slice(&from[..count]).unwrap();
-        Ok(count)
+        Ok(from.len())
     }
 }
 
 /// Gives the sink what waits.
 pub(crate) fn hand_over<K: Sink>(sink: &mut K, block: &mut Block) -> Result<(), Failed>
-    ensures wrote { Writes result (seen K.written K.faults sink.old block.old) (seen K.written K.faults sink.new block.new) [] }
+    ensures wrote { WritesTo K.written K.faults result sink.old block.old sink.new block.new [] }
     ensures empty { OnOk result (block.new.bytes ≡ []) }
 {
     write_all(sink, block.bytes())?;
@@ -89,9 +93,20 @@ pub(crate) fn hand_over<K: Sink>(sink: &mut K, block: &mut Block) -> Result<(), 
     Ok(())
 }
 
+/// A line of at most so many bytes begins, and goes to the sink in one write: where the block has no room for it, the sink is
+/// given the block first.
+pub(crate) fn begin_line<K: Sink>(sink: &mut K, block: &mut Block, len: usize) -> Result<(), Failed>
+    ensures { WritesTo K.written K.faults result sink.old block.old sink.new block.new [] }
+{
+    if block.has_room(len) {
+        return Ok(());
+    }
+    hand_over(sink, block)
+}
+
 /// Adds a text. Where the block has no room for it, the sink is given the block first.
 pub(crate) fn write<K: Sink>(sink: &mut K, block: &mut Block, text: &[u8]) -> Result<(), Failed>
-    ensures { Writes result (seen K.written K.faults sink.old block.old) (seen K.written K.faults sink.new block.new) text.now }
+    ensures { WritesTo K.written K.faults result sink.old block.old sink.new block.new text.now }
 {
     if block.try_add(text) {
         return Ok(());

@@ -7,7 +7,7 @@ ghost use Rattle.trace_text.specs.Parts.{is_put};
 ghost use Rattle.regions.specs.Shapes.{held_count};
 ghost use Rattle.region_room.specs.Room as bound;
 ghost use Rattle.dirty_mode.specs.DirtyText.{text_of, lines_of, puts_after, lines_from, put_count};
-ghost use Rattle.dirty_mode.specs.inside.Writing.{Writes, seen};
+ghost use Rattle.dirty_mode.specs.inside.Writing.{WritesTo};
 ghost use Rattle.dirty_mode.specs.inside.Held.{whole, Keeps};
 
 use crate::answers::{write_get, write_passed};
@@ -35,7 +35,7 @@ fn put<K: Sink>(
     requires room { length dirty.old.queue.puts < dirty.old.room }
     ensures queue { OnOk result (dirty.new.queue ≡ whole (puts_after Kind.Put most (operation trace.now.bytes command.now)
         dirty.old.queue.puts)) }
-    ensures written { Writes result (seen K.written K.faults sink.old block.old) (seen K.written K.faults sink.new block.new)
+    ensures written { WritesTo K.written K.faults result sink.old block.old sink.new block.new
         (text_of (lines_of Kind.Put most (operation trace.now.bytes command.now) dirty.old.queue.puts)) }
     ensures kept { Keeps dirty.old dirty.new }
 {
@@ -65,7 +65,7 @@ fn do_command<K: Sink>(
     requires room { is_put command.now.kind ≡ true → length dirty.old.queue.puts < dirty.old.room }
     ensures queue { OnOk result (dirty.new.queue ≡ whole (puts_after command.now.kind most (operation trace.now.bytes command.now)
         dirty.old.queue.puts)) }
-    ensures written { Writes result (seen K.written K.faults sink.old block.old) (seen K.written K.faults sink.new block.new)
+    ensures written { WritesTo K.written K.faults result sink.old block.old sink.new block.new
         (text_of (lines_of command.now.kind most (operation trace.now.bytes command.now) dirty.old.queue.puts)) }
     ensures kept { Keeps dirty.old dirty.new }
 {
@@ -94,7 +94,7 @@ pub(crate) fn do_commands<K: Sink>(
     requires most { most ≤ bound.room (held_count dirty.old.region) }
     requires held { 3 ≤ held_count dirty.old.region }
     requires room { length dirty.old.queue.puts + put_count (trace_in trace.now) ≤ dirty.old.room }
-    ensures written { Writes result (seen K.written K.faults sink.old block.old) (seen K.written K.faults sink.new block.new)
+    ensures written { WritesTo K.written K.faults result sink.old block.old sink.new block.new
         (text_of (lines_from most (trace_in trace.now).operations dirty.old.queue.puts)) }
     ensures kept { Keeps dirty.old dirty.new }
 {

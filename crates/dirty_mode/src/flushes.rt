@@ -1,20 +1,20 @@
 //! The oldest puts of a queue go to the disk.
-ghost use Rattle.std.specs.Prelude.{◌≡◌, ◌≤◌, length, take, drop, map, OnOk};
+ghost use Rattle.std.specs.Prelude.{◌≡◌, ◌≢◌, ◌≤◌, [], length, take, drop, map, OnOk};
 ghost use Rattle.cache_model.specs.Row.{live};
 ghost use Rattle.dirty_mode.specs.DirtyText.{text_of, going, staying, Flushed};
-ghost use Rattle.dirty_mode.specs.inside.Writing.{Writes, seen};
+ghost use Rattle.dirty_mode.specs.inside.Writing.{WritesTo};
 ghost use Rattle.dirty_mode.specs.inside.Held.{whole, Keeps};
 
 use crate::block::{Block, hand_over};
 use dirty_region::Dirty;
 use outside::{Failed, Sink};
 
-/// Flushes the oldest put, if there is one. Where its line fills the block, the rest of it goes to the sink itself.
-fn flush_next<K: Sink>(dirty: &mut Dirty, sink: &mut K, block: &mut Block) -> Result<(), Failed>
-    requires whole { dirty.old.queue.out ≡ 0 }
+/// Flushes what is left of the oldest put. Where its line fills the block, the rest of it goes to the sink itself.
+fn flush_rest<K: Sink>(dirty: &mut Dirty, sink: &mut K, block: &mut Block) -> Result<(), Failed>
+    requires some { dirty.old.queue.puts ≢ [] }
     ensures queue { OnOk result (dirty.new.queue ≡ whole (drop 1 dirty.old.queue.puts)) }
-    ensures written { Writes result (seen K.written K.faults sink.old block.old) (seen K.written K.faults sink.new block.new)
-        (text_of (map Flushed (take 1 dirty.old.queue.puts))) }
+    ensures written { WritesTo K.written K.faults result sink.old block.old sink.new block.new
+        (drop dirty.old.queue.out (text_of (map Flushed (take 1 dirty.old.queue.puts)))) }
     ensures kept { Keeps dirty.old dirty.new }
 {
     if let Ok(_) = dirty.flush_one(block) {
@@ -23,6 +23,21 @@ fn flush_next<K: Sink>(dirty: &mut Dirty, sink: &mut K, block: &mut Block) -> Re
     hand_over(sink, block)?;
     dirty.flush_one(sink)?;
     Ok(())
+}
+
+/// Flushes the oldest put, if there is one. Where the block has no room for its line, the sink is given the block first.
+fn flush_next<K: Sink>(dirty: &mut Dirty, sink: &mut K, block: &mut Block) -> Result<(), Failed>
+    requires whole { dirty.old.queue.out ≡ 0 }
+    ensures queue { OnOk result (dirty.new.queue ≡ whole (drop 1 dirty.old.queue.puts)) }
+    ensures written { WritesTo K.written K.faults result sink.old block.old sink.new block.new
+        (text_of (map Flushed (take 1 dirty.old.queue.puts))) }
+    ensures kept { Keeps dirty.old dirty.new }
+{
+    if let Ok(_) = dirty.flush_one(block) {
+        return Ok(());
+    }
+    hand_over(sink, block)?;
+    flush_rest(dirty, sink, block)
 }
 
 /// Flushes the oldest puts while the live bytes with so many more are above the most.
@@ -36,7 +51,7 @@ pub(crate) fn flush_for<K: Sink>(
     requires whole { dirty.old.queue.out ≡ 0 }
     requires fits { size ≤ most }
     ensures queue { OnOk result (dirty.new.queue ≡ whole (staying most size dirty.old.queue.puts)) }
-    ensures written { Writes result (seen K.written K.faults sink.old block.old) (seen K.written K.faults sink.new block.new)
+    ensures written { WritesTo K.written K.faults result sink.old block.old sink.new block.new
         (text_of (map Flushed (going most size dirty.old.queue.puts))) }
     ensures kept { Keeps dirty.old dirty.new }
 {
@@ -53,7 +68,7 @@ pub(crate) fn flush_all<K: Sink>(
     block: &mut Block,
 ) -> Result<(), Failed>
     requires whole { dirty.old.queue.out ≡ 0 }
-    ensures written { Writes result (seen K.written K.faults sink.old block.old) (seen K.written K.faults sink.new block.new)
+    ensures written { WritesTo K.written K.faults result sink.old block.old sink.new block.new
         (text_of (map Flushed dirty.old.queue.puts)) }
     ensures kept { Keeps dirty.old dirty.new }
 {

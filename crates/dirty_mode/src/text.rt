@@ -8,7 +8,7 @@ ghost use Rattle.layout.specs.Sizes.{greatest_object};
 ghost use Rattle.regions.specs.Shapes.{held_count};
 ghost use Rattle.region_room.specs.Room as bound;
 ghost use Rattle.dirty_mode.specs.DirtyText.{dirty_text, text_of, lines_from, put_count};
-ghost use Rattle.dirty_mode.specs.inside.Writing.{Writes, seen};
+ghost use Rattle.dirty_mode.specs.inside.Writing.{WritesTo};
 ghost use Rattle.dirty_mode.specs.inside.Held.{whole, Keeps};
 
 use crate::answers::write_count;
@@ -62,7 +62,7 @@ fn write_text<K: Sink>(
     requires held { segments ≡ held_count dirty.old.region }
     requires many { 3 ≤ segments }
     requires room { put_count (trace_in trace.now) ≤ dirty.old.room }
-    ensures written { Writes result (seen K.written K.faults sink.old block.old) (seen K.written K.faults sink.new block.new)
+    ensures written { WritesTo K.written K.faults result sink.old block.old sink.new block.new
         (text_of (lines_from (bound.room segments) (trace_in trace.now).operations [])
         ++ codes "dirty " ++ decimal (put_count (trace_in trace.now)) ++ codes "\n") }
     ensures empty { OnOk result (block.new.bytes ≡ []) }

@@ -34,6 +34,11 @@ pub record Writes {T E : Type 0} (result : Result T E) (before after : Seen) (te
   pub outcome : MatchResult result (λ _. Adds before after text) (λ _. Fails before after text)
   pub never_falls : before.faults ≤ after.faults
 
+-- the same of a sink, by what it tells, and a block
+abbrev pub WritesTo : {K T E : Type 0} → (K → Option (List ℕ)) → (K → ℕ) → Result T E → K → BlockState → K → BlockState → List ℕ → Type 0
+WritesTo written faults result sink block sink_now block_now text =
+    Writes result (seen written faults sink block) (seen written faults sink_now block_now) text
+
 -- of a text all was added but the rest
 pub record Goes (before after : Seen) (text rest : List ℕ) : Type 0 where
   pub bytes : List ℕ

@@ -1,28 +1,30 @@
-use Rattle.std.proofs.Common.{Ok, Err, refl}
-use Rattle.dirty_mode.proofs.Flushing.{front_held, line_is, rest_of, rest_sent, rest_front}
-use Rattle.dirty_mode.proofs.Written.{Writes-then, Writes-same, Writes-stop, Writes-exit, Writes-sent, handed}
+use Rattle.std.proofs.Common.{◌≡◌, take, drop, ap, subst, ◌∙◌, refl}
+use Rattle.std.specs.Result.{OnOk}
+use Rattle.dirty_mode.specs.inside.Held.{whole}
+use Rattle.dirty_mode.proofs.Flushing.{front_held, is_held, line_is, put_text, rest_of, rest_text}
+use Rattle.dirty_mode.proofs.Written.{Writes-then, Writes-same, Writes-stop, Writes-exit, handed}
 use Rattle.dirty_mode.proofs.flushes.flush_next.Goals as goal
 
 pub returns-in_err-hand_over-clause-written : goal.returns-in_err-hand_over-clause-written
 returns-in_err-hand_over-clause-written g c =
     let old = c.args.dirty.now.queue in let mid = c.flush_one.new.self.queue in let before = c.args.block.now.bytes in let after = c.flush_one.new.sink.bytes in
-    let out = c.requires.whole in let broken = c.in_default.ensures.stopped in
-    Writes-exit _ c.from_residual.ensures.1 (Writes-same (line_is old mid before after out broken) (Writes-stop (rest_of old mid before after out broken)
-    (handed _ _ _ _ refl refl (front_held old mid before after out broken) c.in_err-hand_over.ensures.wrote)))
+    let broken = c.in_default.ensures.stopped in
+    Writes-exit _ c.from_residual.ensures.1 (Writes-same (line_is old mid before after broken ∙ ap (λ n. drop n (put_text (take 1 old.puts))) c.requires.whole)
+    (Writes-stop (rest_of old mid before after broken) (handed _ _ _ _ refl refl (front_held old mid before after broken) c.in_err-hand_over.ensures.wrote)))
 
-pub returns-in_err-flush_one-clause-written : goal.returns-in_err-flush_one-clause-written
-returns-in_err-flush_one-clause-written g c =
-    let old = c.args.dirty.now.queue in let mid = c.flush_one.new.self.queue in let before = c.args.block.now.bytes in let after = c.flush_one.new.sink.bytes in
-    let out = c.requires.whole in let broken = c.in_default.ensures.stopped in let empty = c.in_ok-hand_over.ensures.empty in
-    let sent = rest_front old mid before after out broken c.flush_one-2.new.self.queue _ _ c.in_err-flush_one.ensures.stopped in
-    Writes-exit _ c.from_residual-in_err-flush_one.ensures.1 (Writes-same (line_is old mid before after out broken) (Writes-then
-    (handed _ _ _ _ refl refl (front_held old mid before after out broken) c.in_ok-hand_over.ensures.wrote)
-    (Writes-sent (Err c.in_err-flush_one.field-0.0) _ _ (rest_of old mid before after out broken) empty empty tt sent c.in_err-flush_one.ensures.failed c.in_err-flush_one.ensures.never_falls)))
+pub flush_rest-requires : goal.flush_rest-requires
+flush_rest-requires g c =
+    record { some = is_held c.args.dirty.now.queue c.flush_one.new.self.queue c.args.block.now.bytes c.flush_one.new.sink.bytes c.in_default.ensures.stopped }
+
+pub returns-clause-queue : goal.returns-clause-queue
+returns-clause-queue g c =
+    let broken = c.in_default.ensures.stopped in
+    subst (λ puts. OnOk c.flush_rest.result (c.flush_rest.new.dirty.queue ≡ whole (drop 1 puts))) broken.stays c.flush_rest.ensures.queue
 
 pub returns-clause-written : goal.returns-clause-written
 returns-clause-written g c =
     let old = c.args.dirty.now.queue in let mid = c.flush_one.new.self.queue in let before = c.args.block.now.bytes in let after = c.flush_one.new.sink.bytes in
-    let out = c.requires.whole in let broken = c.in_default.ensures.stopped in let empty = c.in_ok-hand_over.ensures.empty in let f = c.in_ok-flush_one in
-    let sent = rest_sent old mid before after out broken c.in_ok-flush_one.field-0 c.flush_one-2.new.self.queue _ _ c.in_ok-flush_one.ensures.none c.in_ok-flush_one.ensures.flushed in
-    Writes-same (line_is old mid before after out broken) (Writes-then (handed _ _ _ _ refl refl (front_held old mid before after out broken) c.in_ok-hand_over.ensures.wrote)
-    (Writes-sent (Ok tt) _ _ (rest_of old mid before after out broken) empty empty sent tt tt c.in_ok-flush_one.ensures.never_falls))
+    let broken = c.in_default.ensures.stopped in
+    Writes-same (line_is old mid before after broken ∙ ap (λ n. drop n (put_text (take 1 old.puts))) c.requires.whole)
+    (Writes-then (handed _ _ _ _ refl refl (front_held old mid before after broken) c.in_ok-hand_over.ensures.wrote)
+    (Writes-same (rest_text old mid before after broken) c.flush_rest.ensures.written))

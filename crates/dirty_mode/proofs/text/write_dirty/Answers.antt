@@ -11,11 +11,13 @@ close-requires g c =
     let s = c.store.inside in first_kept s.range s.dirty.region c.write_text-written.new.dirty.region _ c.store.invariant.2 c.write_text-written.ensures.kept.segments
 
 pub returns-clause-written : goal.returns-clause-written
+unfolding dirty_text
 returns-clause-written g c =
     let same = ap (λ (s : StoreState). dirty_text (trace_in c.args.trace.now) s.pages) c.store.view_is in
     written_all c.write_text-written.result _ _ _ c.store.invariant.3 c.write_text-written.ensures.empty (Writes-same same c.write_text-written.ensures.written)
 
 pub returns-clause-front : goal.returns-clause-front
+unfolding dirty_text
 returns-clause-front g c =
     let same = ap (λ (s : StoreState). dirty_text (trace_in c.args.trace.now) s.pages) c.store.view_is in
     written_front c.write_text-written.result _ _ _ c.store.invariant.3 (Writes-same same c.write_text-written.ensures.written)
