@@ -1,7 +1,8 @@
 -- The oldest puts go, one after the other.
-use Rattle.std.proofs.Common.{◌≡◌, ◌≢◌, ℕ, ◌+◌, ◌-◌, ◌<◌, ◌≤◌, Bool, true, false, cond, leb, List, [], ◌∷◌, ◌++◌, length, take, drop, map, Option, Some, None, Ok, Err, refl, sym, ap, ◌∙◌, subst, arith, append-nil, get_or}
+use Rattle.std.proofs.Common.{◌≡◌, ◌≢◌, ℕ, ◌+◌, ◌-◌, ◌<◌, ◌≤◌, inl, inr, Bool, true, false, cond, leb, List, [], ◌∷◌, ◌++◌, length, take, drop, map, Option, Some, None, Ok, Err, refl, sym, ap, ◌∙◌, subst, arith, append-nil, get_or}
 use Rattle.std.proofs.lemmas.List.{map-append, take-append-drop, length-drop, drop-drop}
-use Rattle.std.specs.Prelude.{◌↔◌, IsNone, IfSome}
+use Rattle.std.specs.Prelude.{◌↔◌, IsNone, IsTrue, IfSome}
+use Rattle.std.proofs.lemmas.Bool.Decides.{leb_tells}
 use Rattle.std.proofs.lemmas.Bool.{lt-leb, le-leb, leb-true}
 use Rattle.std.proofs.lemmas.List.Concat.{flat_map-append}
 use Rattle.std.specs.Io.KnownBytes.{Appends}
@@ -73,6 +74,10 @@ module _ (old mid : Queue) (before : List ℕ) (after : List ℕ) (broken : Brea
   rest_text = ap (drop mid.out) (next_text mid.puts broken.put broken.others (broken.stays ∙ broken.oldest))
 
 -- ---- while the bytes are too many
+
+-- what is no more than another where a test says that it is not more
+pub no_more : (b : Bool) (m n : ℕ) → IsTrue b ↔ (m < n) → b ≡ false → n ≤ m
+no_more b m n tells is_not = elim (leb_tells n m) [ inl h ↦ h.1 | inr h ↦ (let so : b ≡ true = tells.1 h.1 in absurd (let clash : false ≡ true = sym is_not ∙ so in cc)) ]
 
 -- the queue is above what leaves so many bytes free below the most
 module _ (most size : ℕ) (fits : size ≤ most) where

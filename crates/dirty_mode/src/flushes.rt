@@ -1,5 +1,5 @@
 //! The oldest puts of a queue go to the disk.
-ghost use Rattle.std.specs.Prelude.{◌≡◌, ◌≢◌, ◌≤◌, [], length, take, drop, map, OnOk};
+ghost use Rattle.std.specs.Prelude.{◌≡◌, ◌≢◌, ◌↔◌, ◌-◌, ◌<◌, ◌≤◌, IsTrue, [], length, take, drop, map, OnOk};
 ghost use Rattle.cache_model.specs.Row.{live};
 ghost use Rattle.dirty_mode.specs.DirtyText.{text_of, going, staying, Flushed};
 ghost use Rattle.dirty_mode.specs.inside.Writing.{WritesTo};
@@ -40,6 +40,14 @@ fn flush_next<K: Sink>(dirty: &mut Dirty, sink: &mut K, block: &mut Block) -> Re
     flush_rest(dirty, sink, block)
 }
 
+/// Whether the live bytes with so many more are above the most.
+fn is_above(dirty: &Dirty, most: u64, size: u32) -> bool
+    requires { size ≤ most }
+    ensures { IsTrue result ↔ (most - size < live dirty.now.queue.puts) }
+{
+    dirty.live() > most - u64::from(size)
+}
+
 /// Flushes the oldest puts while the live bytes with so many more are above the most.
 pub(crate) fn flush_for<K: Sink>(
     dirty: &mut Dirty,
@@ -55,7 +63,7 @@ pub(crate) fn flush_for<K: Sink>(
         (text_of (map Flushed (going most size dirty.old.queue.puts))) }
     ensures kept { Keeps dirty.old dirty.new }
 {
-    while dirty.live() > most - u64::from(size) {
+    while is_above(dirty, most, size) {
         flush_next(dirty, sink, block)?;
     }
     Ok(())

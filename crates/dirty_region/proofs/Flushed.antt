@@ -55,14 +55,15 @@ broken_off q puts out now put others text before after is first same low high ap
       ),
     )
 
-pub flushed : (q : Queue) (puts : List Row) (out now number : ℕ) (put : Row) (others : List Row) (text : List ℕ) (before after : Option (List ℕ)) → queue_of puts out ≡ q → puts ≡ put ∷ others
-    → text ≡ line put → number ≡ put.number → out < length text → now ≡ length text → Appends before after (take (now - out) (drop out text))
-    → FlushesOldest number q (queue_of others 0) before after × GoesOn q (queue_of others 0) before after
-flushed q puts out now number put others text before after is first same numbered low whole appended =
+pub flushed : (q : Queue) (puts : List Row) (out now next number : ℕ) (put : Row) (others : List Row) (text : List ℕ) (before after : Option (List ℕ)) → queue_of puts out ≡ q → puts ≡ put ∷ others
+    → text ≡ line put → number ≡ put.number → out < length text → now ≡ length text → next ≡ 0 → Appends before after (take (now - out) (drop out text))
+    → FlushesOldest number q (queue_of others next) before after × GoesOn q (queue_of others next) before after
+flushed q puts out now next number put others text before after is first same numbered low whole begun appended =
     let all : Appends before after (drop out (line put)) =
     subst (λ t. Appends before after (drop out t)) same (subst (Appends before after) (take_rest text out) (subst (λ n. Appends before after (take (n - out) (drop out text))) whole appended)) in
     let inside : out < length (line put) = subst (λ t. out < length t) same low in
-    subst (λ x. FlushesOldest number x (queue_of others 0) before after × GoesOn x (queue_of others 0) before after) is (
+    subst (λ n. FlushesOldest number q (queue_of others n) before after × GoesOn q (queue_of others n) before after) (sym begun)
+    (subst (λ x. FlushesOldest number x (queue_of others 0) before after × GoesOn x (queue_of others 0) before after) is (
       record { put = put; taken = first; number_is = numbered; whole = all; begun = refl },
       (drop out (line put), all, ap (λ ps. drop out (flat_map line ps)) first ∙ drop-append-le out (line put) (flat_map line others) (omega (arith, inside))),
-    )
+    ))

@@ -1,9 +1,11 @@
 //! The oldest put goes to the disk.
-ghost use Rattle.std.specs.Prelude.{◌≡◌, ◌↔◌, ◌≤◌, [], IfOk, OnErr, IsNone, IfSome, vec_capacity};
+ghost use Rattle.std.specs.Prelude.{◌≡◌, ◌↔◌, ◌+◌, ◌≤◌, [], ◌∷◌, IfOk, OnErr, IsNone, IfSome, vec_capacity};
 ghost use Rattle.layout.specs.Counts.{Rose};
 ghost use Rattle.dirty_region.specs.Queues.{line, FlushesOldest, BreaksOff, GoesOn};
-ghost use Rattle.dirty_region.specs.inside.Rings.{IsRingOf, nth};
+ghost use Rattle.dirty_region.specs.inside.Rings.{IsRingOf, nth, puts_in};
 ghost use Rattle.dirty_region.specs.inside.Lines.{greatest_line};
+ghost use Rattle.dirty_region.specs.inside.Consistent.{IsStored};
+ghost use Rattle.regions.specs.Shapes.{shape};
 ghost use Rattle.regions.specs.Contents.{live_at};
 ghost use Rattle.dirty_region.specs.State.{HoldsSegments};
 
@@ -12,6 +14,7 @@ use super::storing::drop_oldest;
 use crate::line::{make_line, write_rest};
 use crate::put_keys::content_of;
 use crate::ring::Ring;
+use lazy_index::LazyIndex;
 use outside::{Failed, Sink};
 use regions::Region;
 use row_bytes::{key_in, put_in, value_in};
@@ -46,15 +49,37 @@ impl Dirty {
         if let Err(failed) = write_rest(sink, self.line.as_slice(), &mut self.out) {
             return Err(failed);
         }
-        drop_oldest(
+        take_out(
             &mut self.region,
             &mut self.ring,
             &mut self.index,
             &mut self.live,
+            &mut self.out,
         );
-        self.out = 0;
         Ok(Some(number))
     }
+}
+
+// Takes the oldest put, whose line is out, out of the queue. No byte of the next line is out.
+fn take_out(
+    region: &mut Region,
+    ring: &mut Ring,
+    index: &mut LazyIndex,
+    live_bytes: &mut u64,
+    out: &mut usize,
+)
+    requires some { 1 ≤ ring.old.count }
+    requires stored { IsStored ring.old index.old region.old live_bytes.old }
+    ensures stored { IsStored ring.new index.new region.new live_bytes.new }
+    ensures puts { puts_in ring.old (live_at region.old)
+        ≡ nth ring.old (live_at region.old) 0 ∷ puts_in ring.new (live_at region.new) }
+    ensures count { ring.new.count + 1 ≡ ring.old.count }
+    ensures room { ring.new.room ≡ ring.old.room }
+    ensures shape { shape region.new ≡ shape region.old }
+    ensures begun { out.new ≡ 0 }
+{
+    drop_oldest(region, ring, index, live_bytes);
+    *out = 0;
 }
 
 // The text is the oldest put's line from now on. Answers the put's number.

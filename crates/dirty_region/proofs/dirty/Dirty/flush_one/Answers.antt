@@ -46,9 +46,9 @@ returns-clause-flushed g c =
     let text = c.as_slice.ensures.value ∙ c.make_oldest_line-number.ensures.line in
     let low = out_low s.out (puts_in s.ring live) (nth s.ring live 0) _ c.self.invariant.0.out_is (puts_first s.ring live some) in
     let inside : s.out < length c.as_slice.result.now = subst (λ t. s.out < length t) (sym text) low in
-    (flushed c.args.self.now.queue (puts_in s.ring live) s.out c.write_rest.new.out c.make_oldest_line-number.result (nth s.ring live 0) (puts_in c.drop_oldest.new.ring (live_at c.drop_oldest.new.region))
-    c.as_slice.result.now (g.K.Sink.written c.args.sink.now) (g.K.Sink.written c.write_rest.new.sink) (ap (λ (x : DirtyState). x.queue) c.self.view_is) c.drop_oldest.ensures.puts text
-    c.make_oldest_line-number.ensures.number inside w.whole w.appended).0
+    (flushed c.args.self.now.queue (puts_in s.ring live) s.out c.write_rest.new.out c.take_out.new.out c.make_oldest_line-number.result (nth s.ring live 0) (puts_in c.take_out.new.ring (live_at c.take_out.new.region))
+    c.as_slice.result.now (g.K.Sink.written c.args.sink.now) (g.K.Sink.written c.write_rest.new.sink) (ap (λ (x : DirtyState). x.queue) c.self.view_is) c.take_out.ensures.puts text
+    c.make_oldest_line-number.ensures.number inside w.whole c.take_out.ensures.begun w.appended).0
 
 pub returns-clause-rest : goal.returns-clause-rest
 returns-clause-rest g c =
@@ -57,6 +57,6 @@ returns-clause-rest g c =
     let text = c.as_slice.ensures.value ∙ c.make_oldest_line-number.ensures.line in
     let low = out_low s.out (puts_in s.ring live) (nth s.ring live 0) _ c.self.invariant.0.out_is (puts_first s.ring live some) in
     let inside : s.out < length c.as_slice.result.now = subst (λ t. s.out < length t) (sym text) low in
-    (flushed c.args.self.now.queue (puts_in s.ring live) s.out c.write_rest.new.out c.make_oldest_line-number.result (nth s.ring live 0) (puts_in c.drop_oldest.new.ring (live_at c.drop_oldest.new.region))
-    c.as_slice.result.now (g.K.Sink.written c.args.sink.now) (g.K.Sink.written c.write_rest.new.sink) (ap (λ (x : DirtyState). x.queue) c.self.view_is) c.drop_oldest.ensures.puts text
-    c.make_oldest_line-number.ensures.number inside w.whole w.appended).1
+    (flushed c.args.self.now.queue (puts_in s.ring live) s.out c.write_rest.new.out c.take_out.new.out c.make_oldest_line-number.result (nth s.ring live 0) (puts_in c.take_out.new.ring (live_at c.take_out.new.region))
+    c.as_slice.result.now (g.K.Sink.written c.args.sink.now) (g.K.Sink.written c.write_rest.new.sink) (ap (λ (x : DirtyState). x.queue) c.self.view_is) c.take_out.ensures.puts text
+    c.make_oldest_line-number.ensures.number inside w.whole c.take_out.ensures.begun w.appended).1
