@@ -15,9 +15,9 @@ use Rattle.cache_model.specs.Row.{Row, size}
 use Rattle.dirty_region.specs.declared.refusal.DirtyRefusal.{DirtyRefusal}
 use Rattle.dirty_region.specs.declared.refusal.DirtyRefusal.TheVariants.{TooMany, NoRoom}
 use Rattle.dirty_mode.specs.DirtyText.{line_text, text_of, lines_of, lines_from, puts_after, staying, row_of}
-use Rattle.dirty_mode.specs.inside.Writing.{Seen, Writes, Goes}
+use Rattle.mode_lemmas.specs.Writing.{Seen, Writes, Goes}
 use Rattle.dirty_mode.proofs.Flushing.{staying_few, put_text}
-use Rattle.dirty_mode.proofs.Written.{Goes-next, Goes-stop}
+use Rattle.mode_lemmas.proofs.Written.{Goes-next, Goes-stop}
 
 -- the puts of commands
 abbrev pub puts_of : List Operation → ℕ

@@ -11,9 +11,9 @@ use Rattle.cache_model.specs.Row.{Row, live}
 use Rattle.dirty_region.specs.Queues.{Queue, line, FlushesOldest, BreaksOff}
 use Rattle.dirty_mode.specs.DirtyText.{Flushed, going, staying, line_text, text_of}
 use Rattle.dirty_region.specs.State.{DirtyState}
-use Rattle.dirty_mode.specs.inside.Writing.{Seen, Writes, Goes}
+use Rattle.mode_lemmas.specs.Writing.{Seen, Writes, Goes}
 use Rattle.dirty_mode.specs.inside.Held.{whole, Keeps}
-use Rattle.dirty_mode.proofs.Written.{Goes-next, Goes-stop, Goes-done}
+use Rattle.mode_lemmas.proofs.Written.{Goes-next, Goes-stop, Goes-done}
 
 -- the text of puts that are flushed
 abbrev pub put_text : List Row → List ℕ

@@ -1,26 +1,13 @@
 //! The lines of what commands are answered.
 ghost use Rattle.std.specs.Prelude.{◌≡◌, ◌++◌, codes, decimal, option_map};
 ghost use Rattle.dirty_mode.specs.DirtyText.{line_text, get_line, Passed, Unflushed};
-ghost use Rattle.dirty_mode.specs.inside.Writing.{WritesTo};
+ghost use Rattle.mode_lemmas.specs.Writing.{WritesTo};
 
-use crate::block::{Block, begin_line, write};
-use itoa::Buffer as Digits;
 use outside::{Failed, Sink};
+use text_block::{Block, begin_line, write, write_number};
 
 // The most digits of a number.
 const DIGITS: usize = 10;
-
-/// A number in decimal.
-pub(crate) fn write_number<K: Sink>(
-    sink: &mut K,
-    block: &mut Block,
-    number: u32,
-) -> Result<(), Failed>
-    ensures { WritesTo K.written K.faults result sink.old block.old sink.new block.new (decimal number) }
-{
-    let mut digits = Digits::new();
-    write(sink, block, digits.format(number).as_bytes())
-}
 
 /// A number and a word.
 fn write_word<K: Sink>(

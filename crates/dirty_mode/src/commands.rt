@@ -7,15 +7,15 @@ ghost use Rattle.trace_text.specs.Parts.{is_put};
 ghost use Rattle.regions.specs.Shapes.{held_count};
 ghost use Rattle.region_room.specs.Room as bound;
 ghost use Rattle.dirty_mode.specs.DirtyText.{text_of, lines_of, puts_after, lines_from, put_count};
-ghost use Rattle.dirty_mode.specs.inside.Writing.{WritesTo};
+ghost use Rattle.mode_lemmas.specs.Writing.{WritesTo};
 ghost use Rattle.dirty_mode.specs.inside.Held.{whole, Keeps};
 
 use crate::answers::{write_get, write_passed};
-use crate::block::Block;
 use crate::flushes::{flush_all, flush_for};
 use dirty_region::Dirty;
 use outside::{Failed, Sink};
 use row_bytes::row_size;
+use text_block::Block;
 use trace_text::{Command, Kind, Trace};
 
 /// Puts the key and the value of a command, where the oldest puts are flushed as long as there is no room.

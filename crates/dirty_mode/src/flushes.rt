@@ -2,12 +2,12 @@
 ghost use Rattle.std.specs.Prelude.{◌≡◌, ◌≢◌, ◌↔◌, ◌-◌, ◌<◌, ◌≤◌, IsTrue, [], length, take, drop, map, OnOk};
 ghost use Rattle.cache_model.specs.Row.{live};
 ghost use Rattle.dirty_mode.specs.DirtyText.{text_of, going, staying, Flushed};
-ghost use Rattle.dirty_mode.specs.inside.Writing.{WritesTo};
+ghost use Rattle.mode_lemmas.specs.Writing.{WritesTo};
 ghost use Rattle.dirty_mode.specs.inside.Held.{whole, Keeps};
 
-use crate::block::{Block, hand_over};
 use dirty_region::Dirty;
 use outside::{Failed, Sink};
+use text_block::{Block, hand_over};
 
 /// Flushes what is left of the oldest put. Where its line fills the block, the rest of it goes to the sink itself.
 fn flush_rest<K: Sink>(dirty: &mut Dirty, sink: &mut K, block: &mut Block) -> Result<(), Failed>

@@ -6,7 +6,6 @@
 #![tactic(auto)]
 
 mod answers;
-mod block;
 mod commands;
 mod flushes;
 mod law;

@@ -7,14 +7,14 @@ ghost use Rattle.trace_text.specs.Parts.{is_put};
 ghost use Rattle.regions.specs.Shapes.{shape, held_count};
 ghost use Rattle.dirty_region.specs.State.{empty};
 ghost use Rattle.dirty_mode.specs.DirtyText.{put_count};
-ghost use Rattle.dirty_mode.specs.inside.Held.{HoldsFirst};
+ghost use Rattle.mode_lemmas.specs.Ranges.{HoldsFirst};
 
-use crate::block::Block;
 use dirty_region::Dirty;
 use layout::{SEGMENT, SEGMENT_PAGES};
 use raw_range::Range;
 use std::alloc::{AllocError, Global};
 use std::marker::Model;
+use text_block::Block;
 use trace_text::{Command, Kind, Trace};
 
 /// A queue of puts with its memory, opened for a trace. Contracts see its pages and for how many puts it has room.
@@ -31,7 +31,7 @@ impl Model for DirtyStore {
     ghost use Rattle.layout.specs.Sizes.{segment_pages, ArePages};
     ghost use Rattle.dirty_region.specs.State.{empty};
     ghost use Rattle.dirty_mode.specs.Stores.{StoreState};
-    ghost use Rattle.dirty_mode.specs.inside.Held.{HoldsFirst};
+    ghost use Rattle.mode_lemmas.specs.Ranges.{HoldsFirst};
 
     ghost Value = { StoreState };
 

@@ -8,17 +8,17 @@ ghost use Rattle.layout.specs.Sizes.{greatest_object};
 ghost use Rattle.regions.specs.Shapes.{held_count};
 ghost use Rattle.region_room.specs.Room as bound;
 ghost use Rattle.dirty_mode.specs.DirtyText.{dirty_text, text_of, lines_from, put_count};
-ghost use Rattle.dirty_mode.specs.inside.Writing.{WritesTo};
+ghost use Rattle.mode_lemmas.specs.Writing.{WritesTo};
 ghost use Rattle.dirty_mode.specs.inside.Held.{whole, Keeps};
 
 use crate::answers::write_count;
-use crate::block::{Block, hand_over};
 use crate::commands::do_commands;
 use crate::store::{DirtyStore, close, put_count};
 use dirty_region::Dirty;
 use layout::SEGMENT_PAGES;
 use outside::{Failed, Sink};
 use region_room::room;
+use text_block::{Block, hand_over};
 use trace_text::Trace;
 
 /// Runs a trace on a store that was opened for it, and writes what is said of it: each put as it is flushed, the oldest ones first,

@@ -1,4 +1,4 @@
-use Rattle.dirty_mode.proofs.Written.{Writes-then, Writes-stop, Writes-exit}
+use Rattle.mode_lemmas.proofs.Written.{Writes-then, Writes-stop, Writes-exit}
 use Rattle.dirty_mode.proofs.answers.write_count.Goals as goal
 
 pub returns-in_err-write : goal.returns-in_err-write

@@ -1,4 +1,4 @@
-use Rattle.dirty_mode.proofs.Written.{Writes-then}
+use Rattle.mode_lemmas.proofs.Written.{Writes-then}
 use Rattle.dirty_mode.proofs.answers.write_value.Goals as goal
 
 pub returns : goal.returns

@@ -3,7 +3,7 @@ use Rattle.trace_text.specs.Operation.{operations}
 use Rattle.dirty_region.specs.Queues.{Queue}
 use Rattle.dirty_mode.proofs.CommandLists.{puts_of, room_now, room_next, command_next, command_stop, text_end}
 use Rattle.dirty_mode.proofs.Flushing.{Keeps-trans}
-use Rattle.dirty_mode.proofs.Written.{Goes-end, Writes-exit}
+use Rattle.mode_lemmas.proofs.Written.{Goes-end, Writes-exit}
 use Rattle.dirty_mode.proofs.commands.do_commands.Goals as goal
 
 pub do_command-requires-clause-room : goal.do_command-requires-clause-room

@@ -2,7 +2,7 @@
 use Rattle.std.proofs.Common.{◌≡◌, ◌+◌, ◌≤◌, length, drop}
 use Rattle.trace_text.specs.Operation.{operations}
 use Rattle.dirty_mode.specs.DirtyText.{text_of, lines_from}
-use Rattle.dirty_mode.specs.inside.Writing.{Goes, seen}
+use Rattle.mode_lemmas.specs.Writing.{Goes, seen}
 use Rattle.dirty_mode.specs.inside.Held.{Keeps}
 use Rattle.dirty_mode.proofs.CommandLists.{puts_of}
 use Rattle.dirty_mode.proofs.commands.do_commands.Given as goal

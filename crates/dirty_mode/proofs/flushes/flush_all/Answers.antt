@@ -1,7 +1,7 @@
 use Rattle.std.proofs.Common.{ap}
 use Rattle.dirty_region.specs.Queues.{Queue}
 use Rattle.dirty_mode.proofs.Flushing.{all_next, all_stop, Keeps-trans}
-use Rattle.dirty_mode.proofs.Written.{Writes-exit}
+use Rattle.mode_lemmas.proofs.Written.{Writes-exit}
 use Rattle.dirty_mode.proofs.flushes.flush_all.Goals as goal
 
 pub loop-dirty-preserved : goal.loop-dirty-preserved

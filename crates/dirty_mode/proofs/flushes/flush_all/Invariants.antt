@@ -1,6 +1,6 @@
 -- The puts so far are flushed.
 use Rattle.std.proofs.Common.{◌≡◌, length}
-use Rattle.dirty_mode.specs.inside.Writing.{Goes, seen}
+use Rattle.mode_lemmas.specs.Writing.{Goes, seen}
 use Rattle.dirty_mode.specs.inside.Held.{Keeps}
 use Rattle.dirty_mode.proofs.Flushing.{put_text}
 use Rattle.dirty_mode.proofs.flushes.flush_all.Given as goal

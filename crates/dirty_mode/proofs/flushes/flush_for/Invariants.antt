@@ -1,7 +1,7 @@
 -- Of the puts that go those so far are flushed, and the others go still.
 use Rattle.std.proofs.Common.{◌≡◌, length}
 use Rattle.dirty_mode.specs.DirtyText.{going, staying}
-use Rattle.dirty_mode.specs.inside.Writing.{Goes, seen}
+use Rattle.mode_lemmas.specs.Writing.{Goes, seen}
 use Rattle.dirty_mode.specs.inside.Held.{Keeps}
 use Rattle.dirty_mode.proofs.Flushing.{put_text}
 use Rattle.dirty_mode.proofs.flushes.flush_for.Given as goal

@@ -2,7 +2,7 @@ use Rattle.std.proofs.Common.{◌≡◌, take, drop, ap, subst, ◌∙◌, refl}
 use Rattle.std.specs.Result.{OnOk}
 use Rattle.dirty_mode.specs.inside.Held.{whole}
 use Rattle.dirty_mode.proofs.Flushing.{front_held, is_held, line_is, put_text, rest_of, rest_text}
-use Rattle.dirty_mode.proofs.Written.{Writes-then, Writes-same, Writes-stop, Writes-exit, handed}
+use Rattle.mode_lemmas.proofs.Written.{Writes-then, Writes-same, Writes-stop, Writes-exit, handed}
 use Rattle.dirty_mode.proofs.flushes.flush_next.Goals as goal
 
 pub returns-in_err-hand_over-clause-written : goal.returns-in_err-hand_over-clause-written

@@ -1,6 +1,6 @@
 use Rattle.std.proofs.Common.{Ok, Err, refl}
 use Rattle.dirty_mode.proofs.Flushing.{front_held, line_is, rest_of, rest_sent, rest_front}
-use Rattle.dirty_mode.proofs.Written.{Writes-then, Writes-same, Writes-stop, Writes-exit, Writes-sent, handed}
+use Rattle.mode_lemmas.proofs.Written.{Writes-then, Writes-same, Writes-stop, Writes-exit, Writes-sent, handed}
 use Rattle.dirty_mode.proofs.flushes.flush_rest.Goals as goal
 
 pub returns-in_err-hand_over-clause-written : goal.returns-in_err-hand_over-clause-written

@@ -1,7 +1,7 @@
 -- The first segments are held.
 use Rattle.std.proofs.Common.{◌≡◌}
 use Rattle.regions.specs.Shapes.{shape}
-use Rattle.dirty_mode.specs.inside.Held.{HoldsFirst}
+use Rattle.mode_lemmas.specs.Ranges.{HoldsFirst}
 use Rattle.dirty_mode.proofs.store.add_segments.Given as goal
 
 abbrev pub invariant-loop-segment : goal.invariant-loop-segment

@@ -1,6 +1,6 @@
 -- The first segments are held still.
 use Rattle.regions.specs.Shapes.{held_count}
-use Rattle.dirty_mode.specs.inside.Held.{HoldsFirst}
+use Rattle.mode_lemmas.specs.Ranges.{HoldsFirst}
 use Rattle.dirty_mode.proofs.store.close.Given as goal
 
 abbrev pub invariant-loop-piece : goal.invariant-loop-piece

@@ -1,4 +1,4 @@
-use Rattle.dirty_mode.proofs.Segments.{none_held}
+use Rattle.mode_lemmas.proofs.Ranges.{none_held}
 use Rattle.dirty_mode.proofs.store.open_dirty.Goals as goal
 
 pub add_segments-requires-clause-none : goal.add_segments-requires-clause-none

@@ -2,13 +2,14 @@ use Rattle.std.proofs.Common.{ap}
 use Rattle.trace_text.specs.Parsed.{trace_in}
 use Rattle.dirty_mode.specs.DirtyText.{dirty_text}
 use Rattle.dirty_mode.specs.Stores.{StoreState}
-use Rattle.dirty_mode.proofs.Segments.{first_kept}
-use Rattle.dirty_mode.proofs.Written.{Writes-same, written_all, written_front, written_failed}
+use Rattle.mode_lemmas.proofs.Ranges.{first_kept}
+use Rattle.mode_lemmas.proofs.Written.{Writes-same, written_all, written_front, written_failed}
 use Rattle.dirty_mode.proofs.text.write_dirty.Goals as goal
 
 pub close-requires : goal.close-requires
 close-requires g c =
-    let s = c.store.inside in first_kept s.range s.dirty.region c.write_text-written.new.dirty.region _ c.store.invariant.2 c.write_text-written.ensures.kept.segments
+    let s = c.store.inside in let same = c.write_text-written.ensures.kept.segments in
+    first_kept s.range s.dirty.region c.write_text-written.new.dirty.region _ c.store.invariant.2 same.most same.pieces same.held
 
 pub returns-clause-written : goal.returns-clause-written
 unfolding dirty_text

@@ -4,7 +4,7 @@ use Rattle.trace_text.specs.Parsed.{trace_in}
 use Rattle.region_room.specs.Room.{room}
 use Rattle.dirty_region.specs.Queues.{Queue}
 use Rattle.dirty_mode.specs.DirtyText.{lines_from, put_count, text_of}
-use Rattle.dirty_mode.proofs.Written.{Writes-then, Writes-same, Writes-stop, Writes-exit, join}
+use Rattle.mode_lemmas.proofs.Written.{Writes-then, Writes-same, Writes-stop, Writes-exit, join}
 use Rattle.dirty_mode.proofs.text.write_text.Goals as goal
 
 pub returns-in_err-do_commands-clause-written : goal.returns-in_err-do_commands-clause-written

@@ -1,6 +1,6 @@
 use Rattle.std.proofs.Common.{◌∙◌}
-use Rattle.dirty_mode.proofs.Written.{Writes-then, Writes-sent}
-use Rattle.dirty_mode.proofs.block.write.Goals as goal
+use Rattle.mode_lemmas.proofs.Written.{Writes-then, Writes-sent}
+use Rattle.text_block.proofs.block.write.Goals as goal
 
 pub returns : goal.returns
 returns g c =

@@ -8,7 +8,7 @@ use Rattle.std.proofs.KnownBytes.{Appends-nil, Appends-trans}
 use Rattle.outside.specs.Moves.{AppendsFront}
 use Rattle.layout.specs.Counts.{Rose}
 use Rattle.outside.specs.declared.failure.Failed.{Failed}
-use Rattle.dirty_mode.specs.inside.Writing.{Seen, Adds, Fails, Writes, Goes}
+use Rattle.mode_lemmas.specs.Writing.{Seen, Adds, Fails, Writes, Goes}
 
 rose_after : (a b c : ℕ) → a ≤ b → Rose b c → Rose a c
 rose_after a b c earlier rose = grind (arith, rose, earlier)

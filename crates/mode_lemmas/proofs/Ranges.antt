@@ -10,8 +10,7 @@ use Rattle.layout.specs.Sizes.{segment, page}
 use Rattle.raw_range.specs.Memory.{Lent, Memory, extent_of, remove_extent, with_allocated}
 use Rattle.regions.specs.Segments.{RegionState, idle}
 use Rattle.regions.specs.Shapes.{Slot, Identity, identity, slots_of, shape, slot_at, is_held, pieces, pieces_in, held_count, IsHeld, IsLeastUnused, IsGreatestHeld}
-use Rattle.dirty_mode.specs.inside.Held.{extents, nth_piece, HoldsFirst}
-use Rattle.dirty_region.specs.State.{HoldsSegments}
+use Rattle.mode_lemmas.specs.Ranges.{extents, nth_piece, HoldsFirst}
 
 -- ---- the extents
 
@@ -231,11 +230,12 @@ none_held range region n is held none = record {
 }
 
 -- where the same segments are held
-pub first_kept : (range : Memory) (old new : RegionState) (n : ℕ) → HoldsFirst range old n → HoldsSegments old new → HoldsFirst range new n
-first_kept range old new n first same = record {
-  held = same.held ∙ first.held;
-  long = ap length same.pieces ∙ (first.long ∙ sym same.most);
-  pieces_are = λ k. ap (λ ps. slice_index_or ps k None) same.pieces ∙ first.pieces_are k;
+pub first_kept : (range : Memory) (old new : RegionState) (n : ℕ) → HoldsFirst range old n → (shape new).most ≡ (shape old).most → pieces new ≡ pieces old → held_count new ≡ held_count old
+    → HoldsFirst range new n
+first_kept range old new n first most pieces_same held = record {
+  held = held ∙ first.held;
+  long = ap length pieces_same ∙ (first.long ∙ sym most);
+  pieces_are = λ k. ap (λ ps. slice_index_or ps k None) pieces_same ∙ first.pieces_are k;
   allocated = first.allocated;
   inside = first.inside;
 }

@@ -1,8 +1,9 @@
 //! The block in which text waits for the sink.
-ghost use Rattle.std.specs.Prelude.{◌≡◌, ◌≤◌, ◌<◌, ◌-◌, [], ◌++◌, min, take, length, vec_len, vec_capacity, true, false, Some, IfOk, OnOk, OnErr};
+ghost use Rattle.std.specs.Prelude.{◌≡◌, ◌≤◌, ◌<◌, ◌-◌, [], ◌++◌, min, take, length, decimal, vec_len, vec_capacity, true, false, Some, IfOk, OnOk, OnErr};
 ghost use Rattle.layout.specs.Counts.{Rose};
-ghost use Rattle.dirty_mode.specs.inside.Writing.{BlockState, WritesTo};
+ghost use Rattle.mode_lemmas.specs.Writing.{BlockState, WritesTo};
 
+use itoa::Buffer as Digits;
 use outside::{Failed, Sink, write_all};
 use std::alloc::{AllocError, Global};
 use std::marker::Model;
@@ -11,7 +12,7 @@ const ROOM: usize = 65_536;
 
 /// Text that the sink was not given yet. It is a sink too, which takes a piece where it has room for the whole of it.
 #[derive(Drop)]
-pub(crate) struct Block {
+pub struct Block {
     bytes: Vec<u8>,
     faults: u64,
 }
@@ -29,7 +30,7 @@ impl Block {
     ///
     /// # Errors
     /// `AllocError` where memory is not found. No other call takes memory.
-    pub(crate) fn new(alloc: Global) -> Result<Block, AllocError>
+    pub fn new(alloc: Global) -> Result<Block, AllocError>
         ensures { IfOk result (λ block. block.bytes ≡ []) }
     {
         Ok(Block {
@@ -84,7 +85,7 @@ impl Sink for Block {
 }
 
 /// Gives the sink what waits.
-pub(crate) fn hand_over<K: Sink>(sink: &mut K, block: &mut Block) -> Result<(), Failed>
+pub fn hand_over<K: Sink>(sink: &mut K, block: &mut Block) -> Result<(), Failed>
     ensures wrote { WritesTo K.written K.faults result sink.old block.old sink.new block.new [] }
     ensures empty { OnOk result (block.new.bytes ≡ []) }
 {
@@ -95,7 +96,7 @@ pub(crate) fn hand_over<K: Sink>(sink: &mut K, block: &mut Block) -> Result<(), 
 
 /// A line of at most so many bytes begins, and goes to the sink in one write: where the block has no room for it, the sink is
 /// given the block first.
-pub(crate) fn begin_line<K: Sink>(sink: &mut K, block: &mut Block, len: usize) -> Result<(), Failed>
+pub fn begin_line<K: Sink>(sink: &mut K, block: &mut Block, len: usize) -> Result<(), Failed>
     ensures { WritesTo K.written K.faults result sink.old block.old sink.new block.new [] }
 {
     if block.has_room(len) {
@@ -105,7 +106,7 @@ pub(crate) fn begin_line<K: Sink>(sink: &mut K, block: &mut Block, len: usize) -
 }
 
 /// Adds a text. Where the block has no room for it, the sink is given the block first.
-pub(crate) fn write<K: Sink>(sink: &mut K, block: &mut Block, text: &[u8]) -> Result<(), Failed>
+pub fn write<K: Sink>(sink: &mut K, block: &mut Block, text: &[u8]) -> Result<(), Failed>
     ensures { WritesTo K.written K.faults result sink.old block.old sink.new block.new text.now }
 {
     if block.try_add(text) {
@@ -116,4 +117,12 @@ pub(crate) fn write<K: Sink>(sink: &mut K, block: &mut Block, text: &[u8]) -> Re
         return Ok(());
     }
     write_all(sink, text)
+}
+
+/// Adds a number in decimal.
+pub fn write_number<K: Sink>(sink: &mut K, block: &mut Block, number: u32) -> Result<(), Failed>
+    ensures { WritesTo K.written K.faults result sink.old block.old sink.new block.new (decimal number) }
+{
+    let mut digits = Digits::new();
+    write(sink, block, digits.format(number).as_bytes())
 }
