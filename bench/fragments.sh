@@ -1,9 +1,10 @@
 #!/usr/bin/env bash
 # Bytes a second that a store of values moves, and beside it memcpy between buffers of the same length: puts into a store that
 # is half full, gets whose slices are written into a buffer, and puts of random names into a store that is nearly full, where
-# compaction runs at every put. memcpy writes one of as many buffers as there are names, or reads one, whose bytes are those of
-# the values. The least of some runs, user and system time together, less that of a run that only fills the store or the
-# buffers; the two take turns. Last, the store's bytes a second over those of memcpy.
+# compaction runs at every put. memcpy writes one of as many buffers as the segments have bytes for, beside puts, and reads one
+# of as many as there are names, beside gets; which one is drawn as the names are. The least of some runs, user and system time
+# together, less that of a run that only fills the store or the buffers; the two take turns. Last, the store's bytes a second
+# over those of memcpy.
 #   bench/fragments.sh [MEBIBYTES] [RUNS]        MEBIBYTES of segments, from 4 to 256
 set -euo pipefail
 top=$(cd "$(dirname "${BASH_SOURCE[0]}")/.." && pwd)
@@ -22,15 +23,16 @@ time_of() {
     { TIMEFORMAT='%U %S'; time "$@" >/dev/null; } 2>&1 | awk '{ printf "%.0f", ($1 + $2) * 1e9 }'
 }
 least() { if [ -z "$1" ] || [ "$2" -lt "$1" ]; then echo "$2"; else echo "$1"; fi; }
-# what a store of this many names does, beside what is done with as many buffers
+# what a store of this many names does, beside what is done with so many buffers
 row() {
-    local step=$1 copy=$2 bytes=$3 names=$4 name=$5 rest= all= none= copied= times=$((moved / $3)) words
+    local step=$1 copy=$2 bytes=$3 names=$4 buffers=$5 name=$6 rest= all= none= copied= times=$((moved / $3)) words others
     words="$bytes $names $segments"
+    others="$bytes $buffers $segments"
     for _ in $(seq "$runs"); do
         rest=$(least "$rest" "$(time_of "$program" "$step" $words 0)")
         all=$(least "$all" "$(time_of "$program" "$step" $words "$times")")
-        none=$(least "$none" "$(time_of "$program" "$copy" $words 0)")
-        copied=$(least "$copied" "$(time_of "$program" "$copy" $words "$times")")
+        none=$(least "$none" "$(time_of "$program" "$copy" $others 0)")
+        copied=$(least "$copied" "$(time_of "$program" "$copy" $others "$times")")
     done
     awk -v n="$name" -v v="$bytes" -v k="$names" -v m="$((times * bytes))" -v t="$((all - rest))" -v c="$((copied - none))" 'BEGIN {
         printf "%-11s %4d values of %7d bytes: %6.2f GB a second, memcpy %6.2f, ratio %5.2f\n", n, k, v, m / t, m / c, c / t
@@ -42,7 +44,9 @@ for bytes in 65536 1048576; do
         full = int((v - 1) / 12264); size = full * 12296 + int((32 + v - full * 12264 + 7) / 8) * 8
         print int((s - 2) * 118776 / size)
     }')
-    row put write "$bytes" $((most > 3 ? most / 2 : 1)) put
-    row get read "$bytes" $((most > 3 ? most / 2 : 1)) get
-    row put write "$bytes" $((most - 1)) "put (full)"
+    half=$((most > 3 ? most / 2 : 1))
+    all=$((segments * 131072 / bytes))
+    row put write "$bytes" "$half" "$all" put
+    row get read "$bytes" "$half" "$half" get
+    row put write "$bytes" $((most - 1)) "$all" "put (full)"
 done

@@ -6,6 +6,7 @@ ghost use Rattle.std.specs.Prelude.{◌<◌};
 pub struct Draws(u64);
 
 impl Draws {
+    /// From the same number in each run.
     pub fn new() -> Draws {
         Draws(1)
     }
