@@ -17,10 +17,10 @@ use Rattle.tree_nodes.proofs.Rows.{area, entry_put_in, entry_taken_out, number_o
 abbrev pub Holds : List ℕ → TreeNode → Type 0
 Holds content n = (node_in content ≡ n) × IsNode content
 
-held : (content : List ℕ) (n : TreeNode) → CanStand n → content ≡ node_bytes n → Holds content n
+pub held : (content : List ℕ) (n : TreeNode) → CanStand n → content ≡ node_bytes n → Holds content n
 held content n fits is = (holds_it content n fits is, holds content n fits is)
 
-stands_with_children : (n : TreeNode) → CanStand n → (cs : List ℕ) → length cs ≡ 17 → All (λ p. p < 2 ^ 64) cs → CanStand (with_children n cs)
+pub stands_with_children : (n : TreeNode) → CanStand n → (cs : List ℕ) → length cs ≡ 17 → All (λ p. p < 2 ^ 64) cs → CanStand (with_children n cs)
 stands_with_children n fits cs many all = record {
   parent = fits.parent;
   level = fits.level;
@@ -31,7 +31,7 @@ stands_with_children n fits cs many all = record {
   places = all;
 }
 
-stands_with_entries : (n : TreeNode) → CanStand n → (es : List Entry) → length es ≤ 16 → All IsEntry es → CanStand (with_entries n es)
+pub stands_with_entries : (n : TreeNode) → CanStand n → (es : List Entry) → length es ≤ 16 → All IsEntry es → CanStand (with_entries n es)
 stands_with_entries n fits es few all = record {
   parent = fits.parent;
   level = fits.level;

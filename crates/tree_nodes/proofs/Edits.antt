@@ -29,7 +29,7 @@ count_written n count old rest = refl
 -- ---- the children
 
 -- the bytes in front of the children
-abbrev front_of : TreeNode → List ℕ
+abbrev pub front_of : TreeNode → List ℕ
 front_of n = head_of n (length n.entries) ++ entries_bytes n.entries
 
 length-front : (n : TreeNode) → CanStand n → length (front_of n) ≡ 4248
@@ -38,21 +38,21 @@ length-front n fits = let entries = length-entries n.entries fits.entries fits.f
 abbrev pub with_children : TreeNode → List ℕ → TreeNode
 with_children n children = record n { children = children }
 
-node_by_children : (n : TreeNode) → node_bytes n ≡ front_of n ++ concat (map place_bytes n.children)
+pub node_by_children : (n : TreeNode) → node_bytes n ≡ front_of n ++ concat (map place_bytes n.children)
 unfolding node_bytes
 node_by_children n = sym (append_assoc (head_of n (length n.entries)) (entries_bytes n.entries) (concat (map place_bytes n.children)))
 
 -- places as those in front of one, this one, those behind it up to another, and the others
-joined_two : (a : List ℕ) (xs ys : List ℕ) → a ++ concat (map place_bytes (xs ++ ys)) ≡ (a ++ concat (map place_bytes xs)) ++ concat (map place_bytes ys)
+pub joined_two : (a : List ℕ) (xs ys : List ℕ) → a ++ concat (map place_bytes (xs ++ ys)) ≡ (a ++ concat (map place_bytes xs)) ++ concat (map place_bytes ys)
 joined_two a xs ys =
     ap (λ (p : List (List ℕ)). a ++ concat p) (map-append place_bytes xs ys)
     ∙ (ap (λ t. a ++ t) (concat-append (map place_bytes xs) (map place_bytes ys))
     ∙ sym (append_assoc a (concat (map place_bytes xs)) (concat (map place_bytes ys))))
 
-length-places : (ps : List ℕ) → length (concat (map place_bytes ps)) ≡ 8 * length ps
+pub length-places : (ps : List ℕ) → length (concat (map place_bytes ps)) ≡ 8 * length ps
 length-places ps = length-concat 8 (map place_bytes ps) (places_wide ps) ∙ ap (λ k. 8 * k) (length-map ps place_bytes)
 
-length-before : (n : TreeNode) (fits : CanStand n) (xs : List ℕ) (i : ℕ) → length xs ≡ i → length (front_of n ++ concat (map place_bytes xs)) ≡ 4248 + 8 * i
+pub length-before : (n : TreeNode) (fits : CanStand n) (xs : List ℕ) (i : ℕ) → length xs ≡ i → length (front_of n ++ concat (map place_bytes xs)) ≡ 4248 + 8 * i
 length-before n fits xs i is =
     let front = length-front n fits in
     let behind = length-places xs in

@@ -9,3 +9,4 @@ pub mod Calls
 pub mod Started
 pub mod Written
 pub mod Rising
+pub mod Runs

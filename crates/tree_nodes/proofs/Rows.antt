@@ -21,7 +21,7 @@ unfolding node_bytes
 node_by_entries n =
     ap (λ t. head_of n (length n.entries) ++ t) (append_assoc (concat (map entry_bytes n.entries)) (zeros (264 * (16 - length n.entries))) (children_bytes n))
 
-joined_two : (a : List ℕ) (xs ys : List Entry) (rest : List ℕ)
+pub joined_two : (a : List ℕ) (xs ys : List Entry) (rest : List ℕ)
     → a ++ (concat (map entry_bytes (xs ++ ys)) ++ rest) ≡ (a ++ concat (map entry_bytes xs)) ++ (concat (map entry_bytes ys) ++ rest)
 joined_two a xs ys rest =
     ap (λ (p : List (List ℕ)). a ++ (concat p ++ rest)) (map-append entry_bytes xs ys)
@@ -29,13 +29,13 @@ joined_two a xs ys rest =
     ∙ (ap (λ t. a ++ t) (append_assoc (concat (map entry_bytes xs)) (concat (map entry_bytes ys)) rest)
     ∙ sym (append_assoc a (concat (map entry_bytes xs)) (concat (map entry_bytes ys) ++ rest))))
 
-length-entries_of : (es : List Entry) → All IsEntry es → length (concat (map entry_bytes es)) ≡ 264 * length es
+pub length-entries_of : (es : List Entry) → All IsEntry es → length (concat (map entry_bytes es)) ≡ 264 * length es
 length-entries_of es all = length-concat 264 (map entry_bytes es) (entries_wide es all) ∙ ap (λ k. 264 * k) (length-map es entry_bytes)
 
-abbrev before : TreeNode → List Entry → List ℕ
+abbrev pub before : TreeNode → List Entry → List ℕ
 before n xs = head_of n (length n.entries) ++ concat (map entry_bytes xs)
 
-length-before : (n : TreeNode) (xs : List Entry) (i : ℕ) → All IsEntry xs → length xs ≡ i → length (before n xs) ≡ 24 + 264 * i
+pub length-before : (n : TreeNode) (xs : List Entry) (i : ℕ) → All IsEntry xs → length xs ≡ i → length (before n xs) ≡ 24 + 264 * i
 length-before n xs i all is =
     let mine = length-entries_of xs all in
     length-append (head_of n (length n.entries)) (concat (map entry_bytes xs)) ∙ omega arith

@@ -40,6 +40,23 @@ fn push_behind(part: &mut [u8], bytes: &[u8])
     part.rotate_left(bytes.len());
 }
 
+/// Takes `len` bytes out at `at`. The `moved` bytes behind them move down, and behind those stands as often the byte.
+pub(crate) fn close_up(content: &mut [u8], at: usize, moved: usize, len: usize, byte: u8)
+    requires { at + moved + len ≤ length content.old }
+    ensures { content.new ≡ taken_out at moved (replicate len byte) content.old }
+{
+    shift_down(&mut content[at..at + moved + len], len, byte);
+}
+
+/// Takes the first `len` bytes away, and puts the byte as often behind the others.
+fn shift_down(part: &mut [u8], len: usize, byte: u8)
+    requires { len ≤ length part.old }
+    ensures { part.new ≡ drop len part.old ++ replicate len byte }
+{
+    fill_with(&mut part[..len], byte);
+    part.rotate_left(len);
+}
+
 /// Writes a byte over all.
 pub(crate) fn fill_with(part: &mut [u8], byte: u8)
     ensures { part.new ≡ replicate (length part.old) byte }

@@ -1,13 +1,16 @@
 //! The places of a node's children, of which there are always 17.
-ghost use Rattle.std.specs.Prelude.{◌≡◌, ℕ, ◌<◌, ◌++◌, ◌∷◌, [], take, insert, remove, slice_set};
+ghost use Rattle.std.specs.Prelude.{◌≡◌, ℕ, ◌+◌, ◌<◌, ◌≤◌, ◌++◌, ◌∷◌, [], take, drop, replicate, insert, remove, slice_set};
 ghost use Rattle.tree_nodes.specs.Nodes.{IsNode, node_in, children_count, no_place};
 
-use crate::bytes::{put_at, take_at, write_place};
+use crate::bytes::{close_up, put_at, take_at, write_place};
 use crate::links::NO_PLACE;
 use crate::reading::{CHILD, child_start};
 
 /// The number of the last child.
 const LAST: u16 = 16;
+
+/// How many children there are.
+const COUNT: u16 = 17;
 
 /// Writes the place of a child.
 pub fn set_child(node: &mut [u8], i: u16, place: u64)
@@ -46,4 +49,16 @@ pub fn cut_child(node: &mut [u8], i: u16)
         moved,
         NO_PLACE.to_le_bytes().as_slice(),
     );
+}
+
+/// Takes `n` children away, from one on. The later ones move down, and as many none stand behind them.
+pub fn cut_children(node: &mut [u8], i: u16, n: u16)
+    requires node { IsNode node.old }
+    requires run { i + n ≤ children_count }
+    ensures node { node_in node.new ≡ record (node_in node.old)
+        { children = take i (node_in node.old).children ++ (drop (i + n) (node_in node.old).children ++ replicate n no_place) } }
+    ensures holds { IsNode node.new }
+{
+    let moved = (COUNT - n - i) as usize * CHILD;
+    close_up(node, child_start(i), moved, n as usize * CHILD, 255);
 }

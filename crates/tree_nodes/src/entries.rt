@@ -1,11 +1,11 @@
 //! The entries of a node.
-ghost use Rattle.std.specs.Prelude.{◌≡◌, ℕ, ◌<◌, ◌≤◌, ◌^◌, length, insert, remove, slice_set};
+ghost use Rattle.std.specs.Prelude.{◌≡◌, ℕ, ◌+◌, ◌<◌, ◌≤◌, ◌^◌, ◌++◌, length, take, drop, insert, remove, slice_set};
 ghost use Rattle.layout.specs.Sizes.{greatest_key};
 ghost use Rattle.tree_nodes.specs.Nodes.{IsNode, node_in, entry_at, entry_bytes, entry_size, header, most_entries};
 ghost use Rattle.byteorder.specs.Endian.{little_bytes};
 ghost use Rattle.tree_nodes.specs.inside.Splices.{over};
 
-use crate::bytes::{put_at, take_at, write_over};
+use crate::bytes::{close_up, put_at, take_at, write_over};
 use crate::reading::{ENTRY, ENTRY_HEADER, count, entry_start};
 
 /// Writes the number of an entry.
@@ -48,6 +48,20 @@ pub fn cut(node: &mut [u8], i: u16)
     let moved = (held - 1 - i) as usize * ENTRY;
     take_at(node, entry_start(i), moved, [0u8; ENTRY].as_slice());
     set_count(node, held - 1);
+}
+
+/// Takes `n` entries away, from one on. The later ones move down, and the entries behind the last one are zero.
+pub fn cut_run(node: &mut [u8], i: u16, n: u16)
+    requires node { IsNode node.old }
+    requires run { i + n ≤ length (node_in node.old).entries }
+    ensures node { node_in node.new ≡ record (node_in node.old)
+        { entries = take i (node_in node.old).entries ++ drop (i + n) (node_in node.old).entries } }
+    ensures holds { IsNode node.new }
+{
+    let held = count(node);
+    let moved = (held - n - i) as usize * ENTRY;
+    close_up(node, entry_start(i), moved, n as usize * ENTRY, 0);
+    set_count(node, held - n);
 }
 
 /// The bytes of an entry.
