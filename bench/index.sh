@@ -1,6 +1,6 @@
 #!/usr/bin/env bash
 # Nanoseconds per insertion, find and removal: the index of keys, std::map and std::unordered_map, over keys of several
-# kinds. The least of some runs, user and system time together, less that of a run of one step fewer.
+# kinds; and, with 300,000 rows at most, the index whose keys stand in nodes, and a std::map that has its keys. The least of some runs, user and system time together, less that of a run of one step fewer.
 #   bench/index.sh [ROWS] [RUNS]        at most 524,288 rows
 set -euo pipefail
 top=$(cd "$(dirname "${BASH_SOURCE[0]}")/.." && pwd)
@@ -23,11 +23,13 @@ time_of() {
 }
 steps_of() {
     local name=$1 kind=$2 before=
+    local more=()
+    if [ "$name" = nodes ]; then more=(nodes); fi
     shift 2
     printf '%-6s %-10s' "$name" "$kind"
     for step in keys insert find remove; do
         local spent
-        spent=$(time_of "$@" "$kind" "$rows" "$step")
+        spent=$(time_of "$@" "$kind" "$rows" "$step" "${more[@]}")
         if [ -n "$before" ]; then awk -v s="$step" -v t="$((spent - before))" -v n="$rows" 'BEGIN { printf " %s %5.0f", s, t / n }'; fi
         before=$spent
     done
@@ -37,4 +39,9 @@ for kind in random ascending descending prefix12 prefix200 mixed; do
     steps_of index "$kind" "$top/crates/bench_index/out/bench_index"
     steps_of map "$kind" "$work/index_maps" map
     steps_of hash "$kind" "$work/index_maps" hash
+done
+if [ "$rows" -gt 300000 ]; then rows=300000; fi
+for kind in random ascending descending prefix12 prefix200 mixed; do
+    steps_of nodes "$kind" "$top/crates/bench_index/out/bench_index"
+    steps_of string "$kind" "$work/index_maps" string
 done

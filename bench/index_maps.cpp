@@ -1,6 +1,7 @@
 // The steps of crates/bench_index over a structure of the C++ library.
-//   index_maps map|hash KIND ROWS keys|insert|find|remove
-// map is std::map, whose keys are in order; hash is std::unordered_map, whose keys are not.
+//   index_maps map|hash|string KIND ROWS keys|insert|find|remove
+// map is std::map, whose keys are in order; hash is std::unordered_map, whose keys are not. Both see keys that stand elsewhere;
+// string is a std::map that has its keys.
 #include <cstdint>
 #include <cstdio>
 #include <cstdlib>
@@ -42,14 +43,14 @@ template <class Map> static void run(const std::string &kind, uint32_t rows, int
     Map map;
     uint32_t found = 0, removed = 0;
     if (steps >= 1)
-        for (uint32_t row = 0; row < rows; row++) map.emplace(key(row), row);
+        for (uint32_t row = 0; row < rows; row++) map.emplace(typename Map::key_type(key(row)), row);
     size_t inserted = map.size();
     for (uint32_t at = 0; steps >= 2 && at < rows; at++) {
         uint32_t row = uint32_t(uint64_t(at) * 100003 % rows);
-        auto place = map.find(key(row));
+        auto place = map.find(typename Map::key_type(key(row)));
         found += place != map.end() && place->second == row;
     }
-    for (uint32_t at = 0; steps >= 3 && at < rows; at++) removed += map.erase(key(uint32_t(uint64_t(at) * 100003 % rows)));
+    for (uint32_t at = 0; steps >= 3 && at < rows; at++) removed += map.erase(typename Map::key_type(key(uint32_t(uint64_t(at) * 100003 % rows))));
     printf("inserted %zu found %u removed %u\n", inserted, found, removed);
 }
 
@@ -59,6 +60,7 @@ int main(int words, char **word) {
     uint32_t rows = uint32_t(strtoul(word[3], nullptr, 10));
     int steps = last == "insert" ? 1 : last == "find" ? 2 : last == "remove" ? 3 : 0;
     // The keys stand elsewhere, as in the index.
-    if (std::string(word[1]) == "hash") run<std::unordered_map<std::string_view, uint32_t>>(kind, rows, steps);
+    if (std::string(word[1]) == "string") run<std::map<std::string, uint32_t>>(kind, rows, steps);
+    else if (std::string(word[1]) == "hash") run<std::unordered_map<std::string_view, uint32_t>>(kind, rows, steps);
     else run<std::map<std::string_view, uint32_t>>(kind, rows, steps);
 }

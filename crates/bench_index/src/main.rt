@@ -3,19 +3,23 @@
 //! The words are a kind of keys, a number of rows, at most 524,288, and what is done: `keys` (they are made and no
 //! more), `insert`, `find` or `remove`, each after those before it. The kinds: `random`, `ascending` and `descending`
 //! are the order in which keys of ten bytes are put in; with `prefix12` and `prefix200` all keys begin with so many
-//! bytes that are the same, with `mixed` each with one of two prefixes, and these come in random order. It prints how
-//! many rows were put in, found and taken out; a script measures the time.
+//! bytes that are the same, with `mixed` each with one of two prefixes, and these come in random order. With the word
+//! `nodes` behind them the keys stand in nodes in segments, at most 387,254 of them. It prints how many rows were put in,
+//! found and taken out; a script measures the time.
 #![tactic(auto)]
 
 mod arena;
 mod kinds;
 mod rounds;
+mod trees;
 
-use arena::fill_arena;
+use arena::{Arena, fill_arena};
 use key_index::KeyIndex;
 use kinds::Kind;
 use rounds::{count_found, count_removed, fill};
+use std::alloc::{AllocError, Global};
 use std::{env, io};
+use trees::Tree;
 
 fn main(rt: HostRuntime) -> io::Result<()> {
     let kind = match env::args(&rt)?.nth(1) {
@@ -30,23 +34,72 @@ fn main(rt: HostRuntime) -> io::Result<()> {
         Some(word) => steps_of(word.as_str()),
         None => 0,
     };
+    let nodes = env::args(&rt)?.nth(4).is_some();
     let arena = fill_arena(rt.alloc(), kind, rows)?;
-    let mut index = KeyIndex::new(rt.alloc(), rows)?;
+    let counts = if nodes {
+        run_nodes(rt.alloc(), &arena, rows, last)?
+    } else {
+        run_index(rt.alloc(), &arena, rows, last)?
+    };
+    let Counts {
+        inserted,
+        found,
+        removed,
+    } = counts;
+    println!(rt; "inserted {inserted} found {found} removed {removed}")
+}
+
+/// How many rows were put in, found and taken out.
+#[derive(Clone, Copy)]
+struct Counts {
+    inserted: u32,
+    found: u32,
+    removed: u32,
+}
+
+/// So many steps over an index of keys that stand elsewhere.
+fn run_index(alloc: Global, arena: &Arena, rows: u32, last: u32) -> Result<Counts, AllocError> {
+    let mut index = KeyIndex::new(alloc, rows)?;
     if last >= 1 {
-        fill(&mut index, &arena, rows);
+        fill(&mut index, arena, rows);
     }
     let inserted = index.len();
     let found = if last >= 2 {
-        count_found(&index, &arena, rows)
+        count_found(&index, arena, rows)
     } else {
         0
     };
     let removed = if last >= 3 {
-        count_removed(&mut index, &arena, rows)
+        count_removed(&mut index, arena, rows)
     } else {
         0
     };
-    println!(rt; "inserted {inserted} found {found} removed {removed}")
+    Ok(Counts {
+        inserted,
+        found,
+        removed,
+    })
+}
+
+/// The same over keys in nodes.
+fn run_nodes(alloc: Global, arena: &Arena, rows: u32, last: u32) -> Result<Counts, AllocError> {
+    let mut tree = Tree::open(alloc)?;
+    let inserted = if last >= 1 { tree.fill(arena, rows) } else { 0 };
+    let found = if last >= 2 {
+        tree.count_found(arena, rows)
+    } else {
+        0
+    };
+    let removed = if last >= 3 {
+        tree.count_removed(arena, rows)
+    } else {
+        0
+    };
+    Ok(Counts {
+        inserted,
+        found,
+        removed,
+    })
 }
 
 /// How many of the steps a word asks for.

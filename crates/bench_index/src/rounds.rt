@@ -7,7 +7,7 @@ use crate::arena::Arena;
 use key_index::{KeyIndex, Keys};
 
 /// The row that comes so many rows on, in an order that jumps.
-fn jumped(at: u32, rows: u32) -> u32 {
+pub fn row_at(at: u32, rows: u32) -> u32 {
     if rows == 0 {
         return 0;
     }
@@ -44,7 +44,7 @@ pub fn count_found(index: &KeyIndex, arena: &Arena, rows: u32) -> u32
 {
     let mut found: u32 = 0;
     for at in 0..rows {
-        let row = jumped(at, rows);
+        let row = row_at(at, rows);
         if arena.has_key(row) && index.find(arena, arena.key(row)) == Some(row) {
             found = found.wrapping_add(1);
         }
@@ -70,7 +70,7 @@ pub fn count_removed(index: &mut KeyIndex, arena: &Arena, rows: u32) -> u32
 {
     let mut removed: u32 = 0;
     for at in 0..rows {
-        if remove_row(index, arena, jumped(at, rows)) {
+        if remove_row(index, arena, row_at(at, rows)) {
             removed = removed.wrapping_add(1);
         }
     }

@@ -3,4 +3,6 @@
 #![tactic(auto)]
 
 #[cfg(test)]
+mod index_tree_tests;
+#[cfg(test)]
 mod tree_nodes_tests;

@@ -1,0 +1,36 @@
+use Rattle.std.proofs.Common.{◌≡◌, ◌≤◌, All, length, sym, subst}
+use Rattle.regions.specs.Shapes.{group_count, held_count}
+use Rattle.regions.specs.Contents.{live_at}
+use Rattle.tree_nodes.specs.Nodes.{IsEntry}
+use Rattle.index_tree.specs.Indexes.{Index, IsIndex}
+use Rattle.index_tree.specs.Sizes.{most, most_levels}
+use Rattle.index_tree.specs.Store.{AreNodes, IndexState, index_in, levels, nodes_of}
+use Rattle.index_tree.proofs.Entries.{entries_stand}
+use Rattle.index_tree.proofs.States.{low_enough}
+use Rattle.index_tree.proofs.tree.IndexTree.facts.Goals as goal
+
+pub returns-clause-nodes : goal.returns-clause-nodes
+returns-clause-nodes c = let r = c.self.invariant.roster in subst (λ (s : IndexState). AreNodes s) c.self.view_is (record { nodes = r.holds; tree = r.tree })
+
+pub returns-clause-index : goal.returns-clause-index
+returns-clause-index c =
+    let i = c.self.invariant in
+    subst (λ (s : IndexState). IsIndex (index_in s)) c.self.view_is (subst (λ (x : Index). IsIndex x) (sym i.roster.index) i.rising)
+
+pub returns-clause-entries : goal.returns-clause-entries
+returns-clause-entries c =
+    let f = c.self.inside in
+    subst (λ (s : IndexState). All IsEntry (index_in s)) c.self.view_is (entries_stand (nodes_of (live_at f.region)) f.roots.tree c.self.invariant.roster.tree)
+
+pub returns-clause-room : goal.returns-clause-room
+returns-clause-room c =
+    let i = c.self.invariant in let f = c.self.inside in
+    subst (λ (s : IndexState). length (index_in s) ≤ most (held_count s.region)) c.self.view_is (subst (λ (x : Index). length x ≤ most (held_count f.region)) (sym i.roster.index) i.room)
+
+pub returns-clause-levels : goal.returns-clause-levels
+returns-clause-levels c =
+    let f = c.self.inside in
+    subst (λ (s : IndexState). levels s.tree ≤ most_levels) c.self.view_is (low_enough f.roots f.region f.keys f.segments c.self.invariant)
+
+pub returns-clause-one : goal.returns-clause-one
+returns-clause-one c = subst (λ (s : IndexState). group_count s.region ≡ 1) c.self.view_is c.self.invariant.one

@@ -1,0 +1,19 @@
+use Rattle.std.proofs.Common.{◌≤◌, sym, ap, subst, ◌∙◌}
+use Rattle.index_tree.specs.Sizes.{most_levels}
+use Rattle.index_tree.specs.Store.{IndexState, index_in, levels}
+use Rattle.index_tree.proofs.States.{low_enough, none_high}
+use Rattle.index_tree.proofs.tree.IndexTree.height.Goals as goal
+
+pub returns-clause-levels : goal.returns-clause-levels
+returns-clause-levels c = c.height.ensures ∙ ap (λ (s : IndexState). levels s.tree) c.self.view_is
+
+pub returns-clause-most : goal.returns-clause-most
+returns-clause-most c =
+    let f = c.self.inside in
+    subst (λ n. n ≤ most_levels) (sym c.height.ensures) (low_enough f.roots f.region f.keys f.segments c.self.invariant)
+
+pub returns-clause-none : goal.returns-clause-none
+returns-clause-none c =
+    let f = c.self.inside in let w = none_high f.roots f.region f.keys f.segments c.height.result c.self.invariant c.height.ensures in
+    let same = ap (λ (s : IndexState). index_in s) c.self.view_is in
+    (λ e. sym same ∙ w.0 e, λ e. w.1 (same ∙ e))

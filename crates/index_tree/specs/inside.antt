@@ -1,0 +1,6 @@
+-- What only the private parts of the index cite.
+pub mod Climbs
+pub mod Consistent
+pub mod Listings
+pub mod Mends
+pub mod Rosters

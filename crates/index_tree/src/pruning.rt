@@ -1,0 +1,85 @@
+//! The removal of a key from a whole tree.
+ghost use Rattle.std.specs.Prelude.{◌≡◌, ℕ, ◌+◌, ◌<◌, ◌≤◌, List, None, Some, length};
+ghost use Rattle.regions.specs.Contents.{live_at};
+ghost use Rattle.regions.specs.Stores.{SameBut};
+ghost use Rattle.regions.specs.declared.place.Place.{Place};
+ghost use Rattle.index_tree.specs.Inserts.{times};
+ghost use Rattle.index_tree.specs.Links.{Nodes};
+ghost use Rattle.index_tree.specs.Prunes.{Prunes};
+ghost use Rattle.index_tree.specs.Removes.{CanLose, Loses};
+ghost use Rattle.index_tree.specs.Store.{nodes_of};
+ghost use Rattle.index_tree.specs.Trees.{IsSubtree, nodes_below};
+ghost use Rattle.index_tree.specs.Writes.{blank};
+ghost use Rattle.index_tree.specs.inside.Climbs.{HoldNodes};
+
+use crate::fields::{child_of, count_at, link_to, set_parent_at};
+use crate::removing::remove_below;
+use crate::spares::Spares;
+use crate::splitting::place_of;
+use crate::writing::start_at;
+use regions::{Place, Region};
+
+/// What a removal left: the root with its level, if there is one, and the nodes that are free.
+#[derive(Drop)]
+pub(crate) struct Pruned {
+    pub(crate) root: Option<Place>,
+    pub(crate) level: u16,
+    pub(crate) freed: Spares,
+}
+
+/// Takes a key away from the tree below a root, where it is.
+pub(crate) fn remove_at_root(region: &mut Region, root: Place, level: u16, key: &[u8]) -> Pruned
+    requires below { CanLose (nodes_of (live_at region.old)) level root key.now }
+    requires whole { IsSubtree (nodes_of (live_at region.old)) level None None None root }
+    requires low { level ≤ 5 }
+    requires nodes { HoldNodes (live_at region.old) }
+    ensures pruned { Prunes (nodes_of (live_at region.old)) (nodes_of (live_at region.new)) level root result.level result.root
+        key.now result.freed }
+    ensures few { length result.freed ≤ level + 1 }
+    ensures nodes { HoldNodes (live_at region.new) }
+    ensures same { SameBut blank region.old region.new }
+{
+    let mut freed = Spares::new();
+    remove_below(region, root, level, key, &mut freed);
+    settle_root(region, root, level, freed)
+}
+
+/// A key was taken away below the root. A root without an entry goes: its only child, if it has one, is the root then.
+pub(crate) fn settle_root(region: &mut Region, root: Place, level: u16, freed: Spares) -> Pruned
+    requires lost { (nodes : Nodes) × (key : List ℕ) × Loses nodes (nodes_of (live_at region.old)) level None None None root key freed }
+    requires nodes { HoldNodes (live_at region.old) }
+    requires room { length freed < 16 }
+    ensures pruned { (nodes : Nodes) (key : List ℕ) → Loses nodes (nodes_of (live_at region.old)) level None None None root key freed
+        → ((r : Place) → times r (nodes_below nodes level (Some root)) ≤ 1)
+        → Prunes nodes (nodes_of (live_at region.new)) level root result.level result.root key result.freed }
+    ensures few { length result.freed ≤ length freed + 1 }
+    ensures nodes { HoldNodes (live_at region.new) }
+    ensures same { SameBut blank region.old region.new }
+{
+    if count_at(region, root) > 0 {
+        return Pruned {
+            root: Some(root),
+            level,
+            freed,
+        };
+    }
+    let mut freed = freed;
+    if level == 0 {
+        start_at(region, root, 0);
+        freed.push(root);
+        return Pruned {
+            root: None,
+            level: 0,
+            freed,
+        };
+    }
+    let child = place_of(child_of(region, root, 0));
+    set_parent_at(region, child, link_to(None));
+    start_at(region, root, 0);
+    freed.push(root);
+    Pruned {
+        root: Some(child),
+        level: level - 1,
+        freed,
+    }
+}

@@ -1,0 +1,166 @@
+//! A key taken away below a place, and nodes mended that have an entry too few then.
+ghost use Rattle.std.specs.Prelude.{◌≡◌, ◌≢◌, ◌+◌, ℕ, suc, ◌<◌, ◌≤◌, List, [], ◌∷◌, ◌++◌, Option, IfSome, IsSome, Some, cond, length};
+ghost use Rattle.std.specs.Option.{option_to_list};
+ghost use Rattle.regions.specs.Contents.{live_at};
+ghost use Rattle.regions.specs.Stores.{SameBut};
+ghost use Rattle.regions.specs.declared.place.Place.{Place};
+ghost use Rattle.tree_nodes.specs.Nodes.{IsNode, node_in};
+ghost use Rattle.index_tree.specs.Links.{Nodes};
+ghost use Rattle.index_tree.specs.Removes.{CanLose, IsShort, Loses};
+ghost use Rattle.index_tree.specs.Trees.{IsFrom, IsSubtree, IsUpTo};
+ghost use Rattle.index_tree.specs.Store.{HoldsNode, nodes_of};
+ghost use Rattle.index_tree.specs.Mended.{Adopts, AreUneven, HasKids, IsMendedAt, OnlyThree};
+ghost use Rattle.index_tree.specs.Writes.{WritesNode, blank};
+
+use crate::fields::{child_of, count_at, led_to, link_to, set_parent_at};
+use crate::pairs::mend_if;
+use crate::search::{below_at, way_at};
+use crate::spares::Spares;
+use crate::writing::cut_run_at;
+use regions::{Place, Region};
+
+/// The bytes of a node's content.
+const NODE: usize = 4384;
+
+// The content of the node at a place.
+fn content_at(region: &Region, at: Place) -> [u8; NODE]
+    requires { HoldsNode (live_at region.now) at }
+    ensures holds { IsNode result }
+    ensures node { nodes_of (live_at region.now) at ≡ Some (node_in result) }
+{
+    tree_nodes::a_node_is_read_as_it_is_written();
+    let mut content = [0u8; NODE];
+    content.copy_from_slice(region.bytes(at));
+    content
+}
+
+// Writes a content over that of the node at a place.
+fn write_at(region: &mut Region, at: Place, content: &[u8])
+    requires node { HoldsNode (live_at region.old) at }
+    requires content { IsNode content.now }
+    ensures { WritesNode at (λ _. node_in content.now) region.old region.new }
+{
+    tree_nodes::a_node_is_read_as_it_is_written();
+    region.bytes_mut(at).copy_from_slice(content);
+}
+
+// Mends two nodes side by side of which one has an entry too few, and answers whether the right one is free now. The children that
+// they got have the old parent still.
+fn mend_pair(region: &mut Region, above: bool, at: Place, j: u16, left: Place, right: Place) -> bool
+    requires at { HoldsNode (live_at region.old) at }
+    requires left { HoldsNode (live_at region.old) left }
+    requires right { HoldsNode (live_at region.old) right }
+    requires far_left { left ≢ at }
+    requires far_right { right ≢ at }
+    requires apart { right ≢ left }
+    requires uneven { AreUneven (nodes_of (live_at region.old)) j at left right }
+    ensures mended { IsMendedAt above result j at left right (nodes_of (live_at region.old)) (nodes_of (live_at region.new)) }
+    ensures three { OnlyThree at left right region.old region.new }
+{
+    let mut parent_content = content_at(region, at);
+    let mut left_content = content_at(region, left);
+    let mut right_content = content_at(region, right);
+    let joined = mend_if(
+        above,
+        &mut parent_content,
+        j,
+        &mut left_content,
+        &mut right_content,
+    );
+    write_at(region, at, &parent_content);
+    write_at(region, left, &left_content);
+    write_at(region, right, &right_content);
+    joined
+}
+
+// Makes the node at a place the parent of each of its children.
+fn adopt(region: &mut Region, at: Place)
+    requires node { HoldsNode (live_at region.old) at }
+    requires kids { IfSome (nodes_of (live_at region.old) at) (λ node. HasKids (live_at region.old) at node) }
+    ensures { IfSome (nodes_of (live_at region.old) at) (λ node. Adopts at node region.old region.new) }
+{
+    let link = link_to(Some(at));
+    for i in 0..count_at(region, at) + 1 {
+        let Some(child) = led_to(child_of(region, at, i)) else {
+            unreachable!()
+        };
+        set_parent_at(region, child, link);
+    }
+}
+
+// Mends a child of the inner node at a place that has an entry too few, with the one beside it. Gives the place of a node that is
+// free then.
+fn mend_child(region: &mut Region, at: Place, level: u16, i: u16) -> Option<Place>
+    requires short { (nodes : Nodes) × ((parent : Option Place) × ((low : Option (List ℕ)) × ((high : Option (List ℕ))
+        × ((key : List ℕ) × ((freed : List Place)
+        × IsShort nodes (nodes_of (live_at region.old)) level parent low high at i key freed))))) }
+    requires nodes { (p : Place) → IsSome (live_at region.old p) → HoldsNode (live_at region.old) p }
+    ensures mended { (nodes : Nodes) (parent : Option Place) (low high : Option (List ℕ)) (key : List ℕ) (freed : List Place)
+        → IsShort nodes (nodes_of (live_at region.old)) level parent low high at i key freed
+        → Loses nodes (nodes_of (live_at region.new)) (suc level) parent low high at key (option_to_list result ++ freed) }
+    ensures nodes { (p : Place) → IsSome (live_at region.new p) → HoldsNode (live_at region.new) p }
+    ensures same { SameBut blank region.old region.new }
+{
+    let j = i.saturating_sub(1);
+    let Some(left) = led_to(child_of(region, at, j)) else {
+        unreachable!()
+    };
+    let Some(right) = led_to(child_of(region, at, j + 1)) else {
+        unreachable!()
+    };
+    let joined = mend_pair(region, level > 0, at, j, left, right);
+    if level == 0 {
+        return freed_if(joined, right);
+    }
+    adopt(region, left);
+    if joined {
+        return Some(right);
+    }
+    adopt(region, right);
+    None
+}
+
+// The place, if it is free.
+fn freed_if(free: bool, place: Place) -> Option<Place>
+    ensures { option_to_list result ≡ cond free (place ∷ []) [] }
+{
+    if free { Some(place) } else { None }
+}
+
+/// Takes a key that is there away below a place. Nodes that are free then come behind the others.
+pub(crate) fn remove_below(
+    region: &mut Region,
+    at: Place,
+    level: u16,
+    key: &[u8],
+    freed: &mut Spares,
+)
+    requires below { CanLose (nodes_of (live_at region.old)) level at key.now }
+    requires nodes { (p : Place) → IsSome (live_at region.old p) → HoldsNode (live_at region.old) p }
+    requires room { length freed.old + level ≤ 8 }
+    ensures lost { (parent : Option Place) (low high : Option (List ℕ))
+        → IsSubtree (nodes_of (live_at region.old)) level parent low high at
+        → IsFrom low (record { key = key.now; number = 0 }) → IsUpTo high (record { key = key.now; number = 0 })
+        → ((more : List Place) × ((freed.new ≡ freed.old ++ more)
+        × Loses (nodes_of (live_at region.old)) (nodes_of (live_at region.new)) level parent low high at key.now more)) }
+    ensures room { length freed.new ≤ length freed.old + level }
+    ensures nodes { (p : Place) → IsSome (live_at region.new p) → HoldsNode (live_at region.new) p }
+    ensures same { SameBut blank region.old region.new }
+{
+    if level == 0 {
+        let i = below_at(region, at, key);
+        cut_run_at(region, at, i, 1);
+        return;
+    }
+    let i = way_at(region, at, key);
+    let Some(child) = led_to(child_of(region, at, i)) else {
+        unreachable!()
+    };
+    remove_below(region, child, level - 1, key, freed);
+    if count_at(region, child) >= 8 {
+        return;
+    }
+    if let Some(free) = mend_child(region, at, level - 1, i) {
+        freed.push(free);
+    }
+}

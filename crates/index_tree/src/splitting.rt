@@ -1,0 +1,277 @@
+//! The split of a full node.
+ghost use Rattle.std.specs.Prelude.{◌≡◌, ◌≢◌, ℕ, ◌≤◌, ◌<◌, All, IfSome, Some, length, take, [], ◌∷◌};
+ghost use Rattle.layout.specs.Sizes.{greatest_key};
+ghost use Rattle.regions.specs.Contents.{live_at};
+ghost use Rattle.tree_nodes.specs.Nodes.{children_count, entry_at, most_entries};
+ghost use Rattle.index_tree.specs.Store.{HoldsNode, nodes_of};
+ghost use Rattle.index_tree.specs.Inserts.{Touched, times};
+ghost use Rattle.index_tree.specs.Splits.{AddsToHalf, Adopts, AdoptsBeside, CutsInner, CutsLeaf, Halves};
+ghost use Rattle.index_tree.specs.Splits.{back_of, branch_of, child_places, front_of, upper_places, widened};
+ghost use Rattle.index_tree.specs.Writes.{WritesNode};
+ghost use Rattle.index_tree.specs.Links as links;
+
+use crate::fields::{child_of, link_to, set_child_of, set_next_at, set_parent_at};
+use crate::split::Split;
+use crate::writing::{add_at, add_child_at, copy_node, cut_children_at, cut_run_at};
+use regions::{Place, Region};
+
+// How many offsets a segment's number is apart from the next one in a place's number.
+const SEGMENT_STEP: u64 = 4_294_967_296;
+
+/// The key of an entry of the node at a place, as that which separates a new node.
+pub(crate) fn split_before(region: &Region, at: Place, i: u16, place: Place) -> Split
+    requires node { HoldsNode (live_at region.now) at }
+    requires i { IfSome (nodes_of (live_at region.now) at) (λ node. i < length node.entries) }
+    ensures place { result.place ≡ place }
+    ensures key { IfSome (nodes_of (live_at region.now) at) (λ node. take result.len result.key ≡ (entry_at node i).key) }
+{
+    let key = tree_nodes::key(region.bytes(at), i);
+    Split {
+        place,
+        len: key.len() as u16,
+        key: filled(key),
+    }
+}
+
+// A key, and zero bytes behind it.
+fn filled(key: &[u8]) -> [u8; 256]
+    requires { length key.now ≤ greatest_key }
+    ensures { take (length key.now) result ≡ key.now }
+{
+    let mut all = [0u8; 256];
+    all[..key.len()].copy_from_slice(key);
+    all
+}
+
+/// Cuts a full leaf in two, with an entry more. The upper part goes to the new node, which stands behind.
+pub(crate) fn split_leaf(
+    region: &mut Region,
+    at: Place,
+    new: Place,
+    i: u16,
+    key: &[u8],
+    number: u32,
+) -> Split
+    requires node { HoldsNode (live_at region.old) at }
+    requires new { HoldsNode (live_at region.old) new }
+    requires apart { at ≢ new }
+    requires full { IfSome (nodes_of (live_at region.old) at) (λ node. length node.entries ≡ most_entries) }
+    requires i { i ≤ most_entries }
+    requires some_key { 1 ≤ length key.now }
+    requires short_key { length key.now ≤ greatest_key }
+    ensures cut { IfSome (nodes_of (live_at region.old) at)
+        (λ node. CutsLeaf i (record { key = key.now; number = number }) at new node result (nodes_of (live_at region.new))) }
+    ensures touched { Touched (at ∷ new ∷ []) region.old region.new }
+{
+    copy_node(region, at, new);
+    set_next_at(region, at, link_to(Some(new)));
+    cut_run_at(region, new, 0, 8);
+    cut_run_at(region, at, 8, 8);
+    add_to_half(region, at, new, i, key, number);
+    split_before(region, new, 0, new)
+}
+
+// Puts an entry into one of two halves of 8 entries.
+fn add_to_half(region: &mut Region, at: Place, new: Place, i: u16, key: &[u8], number: u32)
+    requires node { HoldsNode (live_at region.old) at }
+    requires new { HoldsNode (live_at region.old) new }
+    requires apart { at ≢ new }
+    requires half { IfSome (nodes_of (live_at region.old) at) (λ node. length node.entries ≡ 8) }
+    requires new_half { IfSome (nodes_of (live_at region.old) new) (λ node. length node.entries ≡ 8) }
+    requires i { i ≤ most_entries }
+    requires some_key { 1 ≤ length key.now }
+    requires short_key { length key.now ≤ greatest_key }
+    ensures halves { AddsToHalf i (record { key = key.now; number = number }) at new (nodes_of (live_at region.old))
+        (nodes_of (live_at region.new)) }
+    ensures touched { Touched (at ∷ new ∷ []) region.old region.new }
+{
+    if i <= 8 {
+        add_at(region, at, i, key, number);
+    } else {
+        add_at(region, new, i - 8, key, number);
+    }
+}
+
+/// Adds the key of a split, and its node behind the child, to the node at a place.
+pub(crate) fn widen(region: &mut Region, at: Place, i: u16, split: &Split)
+    requires node { HoldsNode (live_at region.old) at }
+    requires room { IfSome (nodes_of (live_at region.old) at) (λ node. length node.entries < most_entries) }
+    requires i { IfSome (nodes_of (live_at region.old) at) (λ node. i ≤ length node.entries) }
+    ensures { WritesNode at (widened i (branch_of split.now)) region.old region.new }
+{
+    add_at(region, at, i, &split.key[..split.len as usize], 0);
+    add_child_at(region, at, i + 1, link_to(Some(split.place)));
+}
+
+/// Cuts a full inner node in two, with a branch more. The upper 8 entries go to the new node, and the one in front of them
+/// separates both.
+pub(crate) fn cut_inner(region: &mut Region, at: Place, new: Place, i: u16, split: &Split) -> Split
+    requires node { HoldsNode (live_at region.old) at }
+    requires new { HoldsNode (live_at region.old) new }
+    requires apart { at ≢ new }
+    requires full { IfSome (nodes_of (live_at region.old) at) (λ node. length node.entries ≡ most_entries) }
+    requires i { i ≤ most_entries }
+    ensures cut { IfSome (nodes_of (live_at region.old) at)
+        (λ node. CutsInner i (branch_of split.now) at new node result (nodes_of (live_at region.new))) }
+    ensures touched { Touched (at ∷ new ∷ []) region.old region.new }
+{
+    if i < 8 {
+        return cut_low(region, at, new, i, split);
+    }
+    if i > 8 {
+        return cut_high(region, at, new, i, split);
+    }
+    cut_between(region, at, new, split)
+}
+
+/// The same, and the children that go with the upper entries get the new node as their parent.
+pub(crate) fn split_inner(
+    region: &mut Region,
+    at: Place,
+    new: Place,
+    i: u16,
+    split: &Split,
+) -> Split
+    requires node { HoldsNode (live_at region.old) at }
+    requires new { HoldsNode (live_at region.old) new }
+    requires apart { at ≢ new }
+    requires full { IfSome (nodes_of (live_at region.old) at) (λ node. length node.entries ≡ most_entries) }
+    requires i { i ≤ most_entries }
+    requires held { IfSome (nodes_of (live_at region.old) at)
+        (λ node. All (HoldsNode (live_at region.old)) (upper_places i (branch_of split.now) node)) }
+    requires not_at { IfSome (nodes_of (live_at region.old) at) (λ node. times at (upper_places i (branch_of split.now) node) ≡ 0) }
+    requires not_new { IfSome (nodes_of (live_at region.old) at) (λ node. times new (upper_places i (branch_of split.now) node) ≡ 0) }
+    ensures cut { IfSome (nodes_of (live_at region.old) at)
+        (λ node. CutsInner i (branch_of split.now) at new node result (nodes_of (live_at region.new))) }
+    ensures adopts { IfSome (nodes_of (live_at region.old) at)
+        (λ node. AdoptsBeside (upper_places i (branch_of split.now) node) at new (links.link_to (Some new)) region.old region.new) }
+{
+    let middle = cut_inner(region, at, new, i, split);
+    adopt(region, new, 9);
+    middle
+}
+
+// The branch goes into the lower half.
+fn cut_low(region: &mut Region, at: Place, new: Place, i: u16, split: &Split) -> Split
+    requires node { HoldsNode (live_at region.old) at }
+    requires new { HoldsNode (live_at region.old) new }
+    requires apart { at ≢ new }
+    requires full { IfSome (nodes_of (live_at region.old) at) (λ node. length node.entries ≡ most_entries) }
+    requires i { i < 8 }
+    ensures cut { IfSome (nodes_of (live_at region.old) at)
+        (λ node. CutsInner i (branch_of split.now) at new node result (nodes_of (live_at region.new))) }
+    ensures touched { Touched (at ∷ new ∷ []) region.old region.new }
+{
+    let middle = split_before(region, at, 7, new);
+    halve(region, at, new, 8, 7);
+    widen(region, at, i, split);
+    middle
+}
+
+// It goes into the upper half.
+fn cut_high(region: &mut Region, at: Place, new: Place, i: u16, split: &Split) -> Split
+    requires node { HoldsNode (live_at region.old) at }
+    requires new { HoldsNode (live_at region.old) new }
+    requires apart { at ≢ new }
+    requires full { IfSome (nodes_of (live_at region.old) at) (λ node. length node.entries ≡ most_entries) }
+    requires i { (8 < i) × (i ≤ most_entries) }
+    ensures cut { IfSome (nodes_of (live_at region.old) at)
+        (λ node. CutsInner i (branch_of split.now) at new node result (nodes_of (live_at region.new))) }
+    ensures touched { Touched (at ∷ new ∷ []) region.old region.new }
+{
+    let middle = split_before(region, at, 8, new);
+    halve(region, at, new, 9, 8);
+    widen(region, new, i - 9, split);
+    middle
+}
+
+// Its key separates both halves, and its node is the first child of the upper one.
+fn cut_between(region: &mut Region, at: Place, new: Place, split: &Split) -> Split
+    requires node { HoldsNode (live_at region.old) at }
+    requires new { HoldsNode (live_at region.old) new }
+    requires apart { at ≢ new }
+    requires full { IfSome (nodes_of (live_at region.old) at) (λ node. length node.entries ≡ most_entries) }
+    ensures cut { IfSome (nodes_of (live_at region.old) at)
+        (λ node. CutsInner 8 (branch_of split.now) at new node result (nodes_of (live_at region.new))) }
+    ensures touched { Touched (at ∷ new ∷ []) region.old region.new }
+{
+    halve(region, at, new, 8, 8);
+    set_child_of(region, new, 0, link_to(Some(split.place)));
+    moved_up(split, new)
+}
+
+// The same key, in front of another node.
+fn moved_up(split: &Split, place: Place) -> Split
+    ensures place { result.place ≡ place }
+    ensures key { take result.len result.key ≡ take split.now.len split.now.key }
+{
+    Split {
+        place,
+        len: split.len,
+        key: split.key,
+    }
+}
+
+// Leaves the first n of 16 entries in a node, and gives those behind m to another one.
+fn halve(region: &mut Region, at: Place, new: Place, m: u16, n: u16)
+    requires node { HoldsNode (live_at region.old) at }
+    requires new { HoldsNode (live_at region.old) new }
+    requires apart { at ≢ new }
+    requires full { IfSome (nodes_of (live_at region.old) at) (λ node. length node.entries ≡ most_entries) }
+    requires m { m ≤ most_entries }
+    requires n { n ≤ most_entries }
+    ensures halves { IfSome (nodes_of (live_at region.old) at) (λ node. Halves m n at new node (nodes_of (live_at region.new))) }
+    ensures touched { Touched (at ∷ new ∷ []) region.old region.new }
+{
+    copy_node(region, at, new);
+    keep_back(region, new, m);
+    keep_front(region, at, n);
+}
+
+// The first n of 16 entries of the node at a place, and the children beside them.
+fn keep_front(region: &mut Region, at: Place, n: u16)
+    requires node { HoldsNode (live_at region.old) at }
+    requires full { IfSome (nodes_of (live_at region.old) at) (λ node. length node.entries ≡ most_entries) }
+    requires n { n ≤ most_entries }
+    ensures { WritesNode at (front_of n) region.old region.new }
+{
+    cut_run_at(region, at, n, 16 - n);
+    cut_children_at(region, at, n + 1, 16 - n);
+}
+
+// The entries behind n, and the children from n on.
+fn keep_back(region: &mut Region, at: Place, n: u16)
+    requires node { HoldsNode (live_at region.old) at }
+    requires full { IfSome (nodes_of (live_at region.old) at) (λ node. length node.entries ≡ most_entries) }
+    requires n { n ≤ most_entries }
+    ensures { WritesNode at (back_of n) region.old region.new }
+{
+    cut_run_at(region, at, 0, n);
+    cut_children_at(region, at, 0, n);
+}
+
+/// Makes the node at a place the parent of its first n children.
+pub(crate) fn adopt(region: &mut Region, at: Place, n: u16)
+    requires node { HoldsNode (live_at region.old) at }
+    requires n { n ≤ children_count }
+    requires children { All (HoldsNode (live_at region.old)) (child_places n (nodes_of (live_at region.old) at)) }
+    requires apart { times at (child_places n (nodes_of (live_at region.old) at)) ≡ 0 }
+    ensures { Adopts (child_places n (nodes_of (live_at region.old) at)) (child_places n (nodes_of (live_at region.old) at))
+        (links.link_to (Some at)) region.old region.new }
+{
+    let link = link_to(Some(at));
+    for j in 0..n {
+        let child = place_of(child_of(region, at, j));
+        set_parent_at(region, child, link);
+    }
+}
+
+/// The place that a number is written for.
+pub(crate) fn place_of(link: u64) -> Place
+    ensures { result ≡ links.place_of_link link }
+{
+    Place {
+        segment: (link / SEGMENT_STEP) as u32,
+        at: (link % SEGMENT_STEP) as u32,
+    }
+}
