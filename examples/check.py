@@ -18,6 +18,7 @@ WORDS = {
     "two_origins": "sim --shards 2 --number 7",
     "evicted": "run --pages 1280",
     "dirty": "dirty",
+    "index": "index",
     "values": "values",
 }
 

@@ -9,7 +9,7 @@ use Rattle.value_script.specs.Reading.{Refusal as ScriptRefusal, script_of}
 use Rattle.value_script.specs.Reading as script_refusal
 use Rattle.shard_node.specs.Rans.{RanState}
 use Rattle.shardcache.specs.declared.settings.mode.Mode.{Mode}
-use Rattle.shardcache.specs.declared.settings.mode.Mode.TheVariants.{Run, Sim, Gen, Dirty, Values}
+use Rattle.shardcache.specs.declared.settings.mode.Mode.TheVariants.{Run, Sim, Gen, Dirty, Index, Values}
 use Rattle.shardcache.specs.declared.status.Status.{Status}
 use Rattle.shardcache.specs.declared.status.Status.TheVariants as status
 use Rattle.shardcache.specs.Settings.{Settings, settings}
@@ -51,6 +51,7 @@ does_accepted Run found bytes taken left ran text took does = ap is_ok (read_sam
 does_accepted Sim found bytes taken left ran text took does = ap is_ok (read_same found (Ok does.0) bytes taken left took does.1)
 does_accepted Gen found bytes taken left ran text took does = ap is_ok does.1.trace
 does_accepted Dirty found bytes taken left ran text took does = ap is_ok (read_same found (Ok does.0) bytes taken left took does.1)
+does_accepted Index found bytes taken left ran text took does = ap is_ok (read_same found (Ok does.0) bytes taken left took does.1)
 does_accepted Values found bytes taken left ran text took does = ap is_ok (script_same (Ok does.0) bytes taken left took does.1)
 
 refuses_accepted : (mode : Mode) (found : Settings) (bytes taken : List ℕ) (left : Option (List ℕ)) (text : List ℕ) → Consumes (Some bytes) left taken
@@ -59,6 +60,7 @@ refuses_accepted Run found bytes taken left text took refuses = ap is_ok (read_s
 refuses_accepted Sim found bytes taken left text took refuses = ap is_ok (read_same found (Err refuses.0) bytes taken left took refuses.1)
 refuses_accepted Gen found bytes taken left text took refuses = ap is_ok refuses.1.trace
 refuses_accepted Dirty found bytes taken left text took refuses = ap is_ok (read_same found (Err refuses.0) bytes taken left took refuses.1)
+refuses_accepted Index found bytes taken left text took refuses = ap is_ok (read_same found (Err refuses.0) bytes taken left took refuses.1)
 refuses_accepted Values found bytes taken left text took refuses = ap is_ok (script_same (Err refuses.0) bytes taken left took refuses.1)
 
 one_wanted : (found wanted : Settings) (words : List (List ℕ)) → settings words ≡ Some found → settings words ≡ Some wanted → found ≡ wanted

@@ -13,7 +13,7 @@ use Rattle.values_mode.specs.Text.{values_text}
 use Rattle.value_script.specs.Reading as script_refusal
 use Rattle.shard_node.specs.Rans.{RanState}
 use Rattle.shardcache.specs.declared.settings.mode.Mode.{Mode}
-use Rattle.shardcache.specs.declared.settings.mode.Mode.TheVariants.{Run, Sim, Gen, Dirty, Values}
+use Rattle.shardcache.specs.declared.settings.mode.Mode.TheVariants.{Run, Sim, Gen, Dirty, Index, Values}
 use Rattle.shardcache.specs.declared.status.Status.{Status}
 use Rattle.shardcache.specs.declared.status.Status.TheVariants as status
 use Rattle.shardcache.specs.Settings.{Settings, settings}
@@ -103,6 +103,7 @@ does_read Run found taken left ran text is ended accepted = does_trace Run found
 does_read Sim found taken left ran text is ended accepted = does_trace Sim found taken left ran text ended accepted
 does_read Gen found taken left ran text is ended accepted = absurd is
 does_read Dirty found taken left ran text is ended accepted = does_trace Dirty found taken left ran text ended accepted
+does_read Index found taken left ran text is ended accepted = does_trace Index found taken left ran text ended accepted
 does_read Values found taken left ran text is ended accepted =
     (accepted.0, record { script = accepted.1; read = ended }, accepted.2, accepted.3)
 
@@ -112,6 +113,7 @@ refuses_read Run found taken left text is ended refused = refuses_trace found ta
 refuses_read Sim found taken left text is ended refused = refuses_trace found taken left text ended refused
 refuses_read Gen found taken left text is ended refused = absurd is
 refuses_read Dirty found taken left text is ended refused = refuses_trace found taken left text ended refused
+refuses_read Index found taken left text is ended refused = refuses_trace found taken left text ended refused
 refuses_read Values found taken left text is ended refused =
     (script_refusal.AtLine refused.0 refused.1, record { script = refused.2; read = ended }, refused.3)
 
@@ -134,6 +136,7 @@ refuses_long Run found taken left is long = refuses_long_trace found taken left 
 refuses_long Sim found taken left is long = refuses_long_trace found taken left long
 refuses_long Gen found taken left is long = absurd is
 refuses_long Dirty found taken left is long = refuses_long_trace found taken left long
+refuses_long Index found taken left is long = refuses_long_trace found taken left long
 refuses_long Values found taken left is long =
     (script_refusal.TooLong, record { script = is_too_long_script taken (omega (arith, long)); read = long }, refl)
 
@@ -164,6 +167,7 @@ accepts Run found bytes ran text other accepted = accepted
 accepts Sim found bytes ran text other accepted = accepted
 accepts Gen found bytes ran text other accepted = accepted
 accepts Dirty found bytes ran text other accepted = accepted
+accepts Index found bytes ran text other accepted = accepted
 accepts Values found bytes ran text other accepted = absurd (other refl)
 
 pub refuses_line : (mode : Mode) (found : Settings) (bytes text : List ℕ) → mode ≢ Values → RefusesTrace found bytes text → RefusesLine mode found bytes text
@@ -171,6 +175,7 @@ refuses_line Run found bytes text other refused = refused
 refuses_line Sim found bytes text other refused = refused
 refuses_line Gen found bytes text other refused = refused
 refuses_line Dirty found bytes text other refused = refused
+refuses_line Index found bytes text other refused = refused
 refuses_line Values found bytes text other refused = absurd (other refl)
 
 -- the bytes are the trace

@@ -14,13 +14,14 @@ use Rattle.cache_model.specs.Summary.{summary as summary_of_run}
 use Rattle.report_text.specs.Views.{journals_in, occupancies_in, replies_in}
 use Rattle.made_trace.specs.Made.{made}
 use Rattle.dirty_mode.specs.DirtyText.{dirty_text}
+use Rattle.index_mode.specs.IndexText.{index_text}
 use Rattle.value_script.specs.Order.{Order}
 use Rattle.value_script.specs.Reading.{Refusal as ScriptRefusal, script_of}
 use Rattle.value_script.specs.Reading as script_refusal
 use Rattle.values_mode.specs.Text.{values_text}
 use Rattle.shard_node.specs.Rans.{RanState}
 use Rattle.shardcache.specs.declared.settings.mode.Mode.{Mode}
-use Rattle.shardcache.specs.declared.settings.mode.Mode.TheVariants.{Run, Sim, Gen, Dirty, Values}
+use Rattle.shardcache.specs.declared.settings.mode.Mode.TheVariants.{Run, Sim, Gen, Dirty, Index, Values}
 use Rattle.shardcache.specs.declared.status.Status.{Status}
 use Rattle.shardcache.specs.declared.status.Status.TheVariants as status
 use Rattle.shardcache.specs.Settings.{Settings, settings}
@@ -86,12 +87,13 @@ pub record Summarizes (settings : Settings) (trace : Trace) (ran : RanState) (te
   pub summary : text ≡ summary_of_run trace settings.shards settings.pages (journals_in ran.journals)
 
 -- What is left and written of a trace: by `run` and `sim` the record of its run and the report, by `gen` the record and the summary; by
--- `dirty`, whose puts stand in a queue, no record, and the text of that.
+-- `dirty`, whose puts stand in a queue, and by `index`, whose puts number the keys of an index, no record, and the text of that.
 abbrev pub IsOutput : Mode → Settings → Trace → Option RanState → List ℕ → Type 0
 IsOutput Run settings trace ran text = (run : RanState) × (ran ≡ Some run) × IsRecordOf settings trace run × Reports settings trace run text
 IsOutput Sim settings trace ran text = (run : RanState) × (ran ≡ Some run) × IsRecordOf settings trace run × Reports settings trace run text
 IsOutput Gen settings trace ran text = (run : RanState) × (ran ≡ Some run) × IsRecordOf settings trace run × Summarizes settings trace run text
 IsOutput Dirty settings trace ran text = (ran ≡ None) × (text ≡ dirty_text trace settings.pages)
+IsOutput Index settings trace ran text = (ran ≡ None) × (text ≡ index_text trace settings.pages)
 IsOutput Values settings trace ran text = ⊥
 
 -- ---- by the mode
@@ -102,6 +104,7 @@ Reads Run = Unit {0}
 Reads Sim = Unit {0}
 Reads Gen = ⊥
 Reads Dirty = Unit {0}
+Reads Index = Unit {0}
 Reads Values = Unit {0}
 
 -- what was taken is accepted, and this is what is left and written of it
@@ -110,6 +113,7 @@ Does Run found taken left ran text = (trace : Trace) × ReadsTrace found taken l
 Does Sim found taken left ran text = (trace : Trace) × ReadsTrace found taken left (Ok trace) × IsOutput Sim found trace ran text
 Does Gen found taken left ran text = (trace : Trace) × MakesTrace found taken (Ok trace) × IsOutput Gen found trace ran text
 Does Dirty found taken left ran text = (trace : Trace) × ReadsTrace found taken left (Ok trace) × IsOutput Dirty found trace ran text
+Does Index found taken left ran text = (trace : Trace) × ReadsTrace found taken left (Ok trace) × IsOutput Index found trace ran text
 Does Values found taken left ran text =
     (script : List Order) × ReadsScript taken left (Ok script) × (ran ≡ None) × (text ≡ values_text script found.pages)
 
@@ -119,6 +123,7 @@ Refuses Run found taken left text = (refusal : Refusal) × ReadsTrace found take
 Refuses Sim found taken left text = (refusal : Refusal) × ReadsTrace found taken left (Err refusal) × (text ≡ refusal_text refusal)
 Refuses Gen found taken left text = (refusal : Refusal) × MakesTrace found taken (Err refusal) × (text ≡ refusal_text refusal)
 Refuses Dirty found taken left text = (refusal : Refusal) × ReadsTrace found taken left (Err refusal) × (text ≡ refusal_text refusal)
+Refuses Index found taken left text = (refusal : Refusal) × ReadsTrace found taken left (Err refusal) × (text ≡ refusal_text refusal)
 Refuses Values found taken left text =
     (refusal : ScriptRefusal) × ReadsScript taken left (Err refusal) × (text ≡ script_refusal_text refusal)
 
@@ -128,6 +133,7 @@ is_accepted Run found bytes = is_ok (trace_for found bytes)
 is_accepted Sim found bytes = is_ok (trace_for found bytes)
 is_accepted Gen found bytes = is_ok (trace_for found (made found.number found.commands))
 is_accepted Dirty found bytes = is_ok (trace_for found bytes)
+is_accepted Index found bytes = is_ok (trace_for found bytes)
 is_accepted Values found bytes = is_ok (script_of bytes)
 
 -- ---- by the status

@@ -21,6 +21,7 @@ use crate::run::{Order, run_trace};
 use crate::settings::{Mode, Settings, settings_of};
 use crate::status::Status;
 use dirty_mode::{open_dirty, write_dirty};
+use index_mode::{open_index, write_index};
 use layout::MOST_TRACE_BYTES;
 use made_trace::make_trace;
 use outside::{ReadStop, Sink, Source, read_all};
@@ -92,6 +93,19 @@ fn flush_puts<K: Sink>(alloc: Global, settings: Settings, trace: &Trace, sink: &
     Outcome::without_run(written_or_fault(write_dirty(store, trace, sink)))
 }
 
+/// Numbers the keys of a trace in an index, and writes what came of it.
+fn number_keys<K: Sink>(alloc: Global, settings: Settings, trace: &Trace, sink: &mut K) -> Outcome
+    requires mode { settings.mode ≡ Modes.Index }
+    requires pages { ArePages settings.pages }
+    ensures ending { EndsTrace (view settings) (trace_in trace.now) result.status result.ran (K.written sink.old) (K.written sink.new) }
+    ensures fault { result.status ≡ Status.WriteFault → Rose (K.faults sink.old) (K.faults sink.new) }
+{
+    let Ok(store) = open_index(alloc, settings.pages) else {
+        return Outcome::without_run(Status::Memory);
+    };
+    Outcome::without_run(written_or_fault(write_index(store, trace, sink)))
+}
+
 /// Does with a trace what the mode asks, and writes what came of it.
 fn run_parsed<R, K, G>(
     rt: &R,
@@ -116,6 +130,7 @@ where
     match settings.mode {
         Mode::Run | Mode::Sim | Mode::Gen => run_shards(rt, alloc, settings, trace, sink, gates),
         Mode::Dirty => flush_puts(alloc, settings, trace, sink),
+        Mode::Index => number_keys(alloc, settings, trace, sink),
         Mode::Values => unreachable!(),
     }
 }
@@ -295,6 +310,7 @@ where
 /// | `sim` | reads the trace, runs it on one thread with the shards in an order that is drawn from `--number`, writes the report |
 /// | `gen` | makes a trace of `--commands` commands from `--number`, runs it as `sim` does, writes the summary; reads nothing |
 /// | `dirty` | reads a trace, keeps its puts in a queue until they are flushed, writes the lines that leave it and the answers |
+/// | `index` | reads a trace, sets the number of each put under its key in an index, writes the answers |
 /// | `values` | reads a script, runs it on a store of long values in fragments, writes the answers |
 ///
 /// | Status | What is written |
@@ -346,7 +362,7 @@ where
         return Outcome::without_run(write_line(sink, b"usage\n", Status::Usage));
     };
     match settings.mode {
-        Mode::Run | Mode::Sim | Mode::Dirty | Mode::Values => {
+        Mode::Run | Mode::Sim | Mode::Dirty | Mode::Index | Mode::Values => {
             read_and_run(rt, alloc, settings, source, sink, gates)
         }
         Mode::Gen => make_and_run(rt, alloc, settings, sink, gates),

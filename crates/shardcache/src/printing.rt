@@ -144,7 +144,7 @@ pub(crate) fn write_output<K: Sink>(
     match settings.mode {
         Mode::Run | Mode::Sim => report_run(sink, settings, trace, ran),
         Mode::Gen => summarize_run(sink, settings, trace, ran),
-        Mode::Dirty | Mode::Values => unreachable!(),
+        Mode::Dirty | Mode::Index | Mode::Values => unreachable!(),
     }
 }
 

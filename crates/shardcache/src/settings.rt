@@ -86,8 +86,8 @@ fn settings_in(matches: &ArgMatches<'_>) -> Option<Settings>
 ///
 /// | Word | Limits | Where it is absent |
 /// |---|---|---|
-/// | a mode | `run`, `sim`, `gen`, `dirty` or `values` | refused |
-/// | `--shards N` | 1 to 16; for `dirty` and `values` 1 | 1 |
+/// | a mode | `run`, `sim`, `gen`, `dirty`, `index` or `values` | refused |
+/// | `--shards N` | 1 to 16; for `dirty`, `index` and `values` 1 | 1 |
 /// | `--pages N` | 1,280 to 65,536, a multiple of 32, and at most 262,144 of all shards | 8,192 |
 /// | `--number N` | 0 to 4,294,967,295 | 0 |
 /// | `--commands N` | 1 to 100,000 | 100,000 |

@@ -12,7 +12,7 @@ use Rattle.value_script.specs.declared.refusal.Cause.{Cause as ScriptCause}
 use Rattle.values_mode.specs.Text.{values_text}
 use Rattle.shard_node.specs.Rans.{RanState}
 use Rattle.shardcache.specs.declared.settings.mode.Mode.{Mode}
-use Rattle.shardcache.specs.declared.settings.mode.Mode.TheVariants.{Run, Sim, Gen, Dirty, Values}
+use Rattle.shardcache.specs.declared.settings.mode.Mode.TheVariants.{Run, Sim, Gen, Dirty, Index, Values}
 use Rattle.shardcache.specs.declared.status.Status.{Status}
 use Rattle.shardcache.specs.declared.status.Status.TheVariants as status
 use Rattle.shardcache.specs.Settings.{Settings}
@@ -37,6 +37,7 @@ Runs Run = Unit {0}
 Runs Sim = Unit {0}
 Runs Gen = Unit {0}
 Runs Dirty = ⊥
+Runs Index = ⊥
 Runs Values = ⊥
 
 -- what is to be written of a trace was, or a front of it; or memory ran out, and nothing was
@@ -61,6 +62,7 @@ Accepts Run settings bytes ran text = AcceptsTrace Run settings bytes ran text
 Accepts Sim settings bytes ran text = AcceptsTrace Sim settings bytes ran text
 Accepts Gen settings bytes ran text = AcceptsTrace Gen settings bytes ran text
 Accepts Dirty settings bytes ran text = AcceptsTrace Dirty settings bytes ran text
+Accepts Index settings bytes ran text = AcceptsTrace Index settings bytes ran text
 Accepts Values settings bytes ran text =
     (script : List Order) × (script_of bytes ≡ Ok script) × (ran ≡ None) × (text ≡ values_text script settings.pages)
 
@@ -69,6 +71,7 @@ RefusesLine Run settings bytes text = RefusesTrace settings bytes text
 RefusesLine Sim settings bytes text = RefusesTrace settings bytes text
 RefusesLine Gen settings bytes text = RefusesTrace settings bytes text
 RefusesLine Dirty settings bytes text = RefusesTrace settings bytes text
+RefusesLine Index settings bytes text = RefusesTrace settings bytes text
 RefusesLine Values settings bytes text = (number : ℕ) × (cause : ScriptCause)
     × (script_of bytes ≡ Err (script_refusal.AtLine number cause)) × (text ≡ script_refusal_text (script_refusal.AtLine number cause))
 

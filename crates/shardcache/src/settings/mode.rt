@@ -13,6 +13,8 @@ pub enum Mode {
     Gen,
     /// Keeps the puts of a trace in a queue until they are flushed, and writes what came of it.
     Dirty,
+    /// Numbers the keys of a trace in an index, and writes what came of it.
+    Index,
     /// Runs a script on a store of long values, and writes what came of it.
     Values,
 }
@@ -26,6 +28,7 @@ pub fn mode_of(word: &str) -> Option<Mode>
         "sim" => Some(Mode::Sim),
         "gen" => Some(Mode::Gen),
         "dirty" => Some(Mode::Dirty),
+        "index" => Some(Mode::Index),
         "values" => Some(Mode::Values),
         _ => None,
     }
@@ -37,6 +40,6 @@ pub fn are_shards(mode: Mode, shards: u32) -> bool
 {
     match mode {
         Mode::Run | Mode::Sim | Mode::Gen => true,
-        Mode::Dirty | Mode::Values => shards == 1,
+        Mode::Dirty | Mode::Index | Mode::Values => shards == 1,
     }
 }

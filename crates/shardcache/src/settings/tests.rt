@@ -51,7 +51,7 @@ fn words_ask_for_settings(rt: HostRuntime) -> Result<(), Fail> {
 
 #[test]
 fn other_words_are_refused(rt: HostRuntime) -> Result<(), Fail> {
-    let rows: [&str; 44] = [
+    let rows: [&str; 46] = [
         "",
         "walk",
         "Run",
@@ -59,6 +59,8 @@ fn other_words_are_refused(rt: HostRuntime) -> Result<(), Fail> {
         "dirty --shards 2",
         "values --shards=16",
         "Dirty",
+        "index --shards 2",
+        "Index",
         "value",
         "run --shards 17",
         "run --shards 0",

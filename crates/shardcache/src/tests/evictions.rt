@@ -56,6 +56,8 @@ pub enum Part<'a> {
     Puts(u32, u32),
     /// So many puts of the letters under `a`.
     Again(u32),
+    /// Puts of no value under the keys of these numbers.
+    Keys(u32, u32),
     /// A line that gives a name of a script 1,048,576 letters.
     Long(u32),
     /// These commands all have this answer.
@@ -67,6 +69,13 @@ pub enum Part<'a> {
 fn put_again(alloc: Global, lines: &mut Vec<u8>, times: u32) -> Result<(), AllocError> {
     for _ in 0..times {
         put_letters(alloc, lines, "a")?;
+    }
+    Ok(())
+}
+
+fn put_keys(alloc: Global, lines: &mut Vec<u8>, first: u32, last: u32) -> Result<(), AllocError> {
+    for number in first..=last {
+        lines.extend_from_slice(format!(in alloc; "put key{number} \n")?.as_bytes())?;
     }
     Ok(())
 }
@@ -85,6 +94,7 @@ fn lay(alloc: Global, text: &mut Vec<u8>, part: Part<'_>) -> Result<(), AllocErr
         Part::Letters => text.extend_from_slice(letters(alloc)?.as_slice()),
         Part::Puts(first, last) => put_all(alloc, text, first, last),
         Part::Again(times) => put_again(alloc, text, times),
+        Part::Keys(first, last) => put_keys(alloc, text, first, last),
         Part::Long(name) => set_long(alloc, text, name),
         Part::Answers(first, last, answer) => answers(alloc, text, first, last, answer),
         Part::Ending(commands, more, rows, live) => ending(alloc, text, commands, more, rows, live),

@@ -94,6 +94,32 @@ put basket:7 apples pears\n\
 put basket:8 plums\n\
 dirty 3\n";
 
+const INDEX: &[u8] = b"# Fruits are numbered by their puts. One is put again, one is erased.\n\
+put banana yellow\n\
+put apple red\n\
+put cherry dark\n\
+get banana\n\
+scan a 10\n\
+put apple green\n\
+get apple\n\
+erase banana\n\
+erase banana\n\
+scan b 2\n\
+get banana\n";
+
+const INDEX_REPORT: &[u8] = b"1 stored\n\
+2 stored\n\
+3 stored\n\
+4 at 1\n\
+5 keys apple banana cherry\n\
+6 replaced\n\
+7 at 6\n\
+8 erased\n\
+9 missing\n\
+10 keys cherry\n\
+11 missing\n\
+index 2\n";
+
 const VALUES: &[u8] =
     b"# A name is set, read in parts, set anew and dropped. What is read from its end on has no bytes.\n\
 set 7 The quick brown fox\n\
@@ -123,8 +149,9 @@ values 1 live 56\n";
 
 #[test]
 fn the_examples_have_their_reports(rt: HostRuntime) -> Result<(), Fail> {
-    let rows: [(&[&str], &[u8], &[u8]); 5] = [
+    let rows: [(&[&str], &[u8], &[u8]); 6] = [
         (&["dirty"], DIRTY, DIRTY_REPORT),
+        (&["index"], INDEX, INDEX_REPORT),
         (&["values"], VALUES, VALUES_REPORT),
         (&["run"], REPLACED, REPLACED_REPORT),
         (

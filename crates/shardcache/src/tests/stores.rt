@@ -1,4 +1,4 @@
-//! The modes that keep a store of their own: puts that stay until they are flushed, and long values.
+//! The modes that keep a store of their own: puts that stay until they are flushed, numbered keys, and long values.
 use super::evictions::{Part, says_with_few_pages};
 use super::{answer, says};
 use crate::Status;
@@ -29,11 +29,16 @@ fn puts_stay_until_they_are_flushed(rt: HostRuntime) -> Result<(), Fail> {
 
 #[test]
 fn a_front_of_the_text_is_written_to_a_sink_that_fails(rt: HostRuntime) -> Result<(), Fail> {
-    let rows: [(&str, &[u8], &[u8]); 2] = [
+    let rows: [(&str, &[u8], &[u8]); 3] = [
         (
             "dirty",
             b"put a 1\nget a\nput a 2\n",
             b"2 dirty 1\nput a 1\nput a 2\ndirty 2\n",
+        ),
+        (
+            "index",
+            b"put b 1\nget b\nscan a 2\n",
+            b"1 stored\n2 at 1\n3 keys b\nindex 1\n",
         ),
         (
             "values",
@@ -63,6 +68,37 @@ fn the_oldest_put_is_flushed_for_the_375th(rt: HostRuntime) -> Result<(), Fail> 
         Part::Text(b"dirty 375\n"),
     ];
     assert!(rt; says_with_few_pages(&rt, rt.alloc(), "dirty", &lines, &text)?);
+    Ok(())
+}
+
+#[test]
+fn keys_are_numbered_in_an_index(rt: HostRuntime) -> Result<(), Fail> {
+    let rows: [(&[u8], &[u8]); 3] = [
+        (b"", b"index 0\n"),
+        (
+            b"put b 1\nput a 2\nget b\nscan a 5\nerase a\nget a\n",
+            b"1 stored\n2 stored\n3 at 1\n4 keys a b\n5 erased\n6 missing\nindex 1\n",
+        ),
+        (
+            b"get a\nerase a\nscan a 1\nput a x\nput a y\nget a\nput \xff 1\nput aa 2\nscan a 1\nscan b 32",
+            b"1 missing\n2 missing\n3 keys\n4 stored\n5 replaced\n6 at 5\n7 stored\n8 stored\n9 keys a\n10 keys \xff\nindex 3\n",
+        ),
+    ];
+    for (input, text) in rows {
+        assert!(rt; says(&rt, rt.alloc(), &["index"], input, Status::Done, text)?);
+    }
+    Ok(())
+}
+
+/// Of 40 segments 38 are dense, which hold 1,027 nodes: nine fewer, each with seven keys, are 7,126.
+#[test]
+fn the_7127th_key_finds_no_room(rt: HostRuntime) -> Result<(), Fail> {
+    let text = [
+        Part::Answers(1, 7126, "stored"),
+        Part::Answers(7127, 7127, "full"),
+        Part::Text(b"index 7126\n"),
+    ];
+    assert!(rt; says_with_few_pages(&rt, rt.alloc(), "index", &[Part::Keys(1, 7127)], &text)?);
     Ok(())
 }
 
@@ -102,12 +138,18 @@ fn the_fifth_long_value_finds_no_room(rt: HostRuntime) -> Result<(), Fail> {
 
 #[test]
 fn what_a_store_does_not_read_is_refused(rt: HostRuntime) -> Result<(), Fail> {
-    let rows: [(&str, &[u8], Status, &[u8]); 4] = [
+    let rows: [(&str, &[u8], Status, &[u8]); 5] = [
         (
             "dirty",
             b"put a 1\nset 1 a\n",
             Status::Refused,
             b"refused line 2 UnknownWord\n",
+        ),
+        (
+            "index",
+            b"put a 1\nget\n",
+            Status::Refused,
+            b"refused line 2 MissingField\n",
         ),
         (
             "values",

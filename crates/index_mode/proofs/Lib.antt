@@ -1,0 +1,2 @@
+pub mod CommandLists
+pub mod Keys

@@ -1,0 +1,4 @@
+pub mod IndexText
+pub mod Examples
+pub mod Stores
+pub mod inside

@@ -1,0 +1,2 @@
+-- What only the private parts of the mode cite.
+pub mod Held

@@ -1,0 +1,71 @@
+//! What is written of a trace.
+ghost use Rattle.std.specs.Prelude.{◌≡◌, ◌*◌, ◌≤◌, [], length, OnOk, OnErr};
+ghost use Rattle.std.specs.Io.KnownBytes.{Appends};
+ghost use Rattle.outside.specs.Moves.{AppendsFront};
+ghost use Rattle.layout.specs.Counts.{Rose};
+ghost use Rattle.layout.specs.Sizes.{key_room, most_keys};
+ghost use Rattle.trace_text.specs.Parsed.{trace_in};
+ghost use Rattle.regions.specs.Shapes.{held_count};
+ghost use Rattle.index_tree.specs.Sizes.{most};
+ghost use Rattle.index_tree.specs.Store.{index_in, HoldsSegments};
+ghost use Rattle.index_mode.specs.IndexText.{index_text, text_from};
+ghost use Rattle.index_mode.specs.inside.Held.{IsServing};
+ghost use Rattle.mode_lemmas.specs.Writing.{WritesTo};
+
+use crate::commands::do_commands;
+use crate::store::{IndexStore, close};
+use index_tree::IndexTree;
+use layout::SEGMENT_PAGES;
+use outside::{Failed, Sink};
+use text_block::{Block, hand_over};
+use trace_text::Trace;
+
+/// Runs a trace on an index, and writes the answer to each command and how many keys are held at the end. The index's memory is
+/// given back.
+///
+/// Of a put it is `I stored`, `I replaced` or `I full`; of a get `I at Q`, with the number of the put, or `I missing`; of an erase
+/// `I erased` or `I missing`; of a scan `I keys` and the keys. The last line is `index K`.
+///
+/// # Errors
+/// [`Failed`] where the sink failed. A front of the text was written then.
+pub fn write_index<K: Sink>(store: IndexStore, trace: &Trace, sink: &mut K) -> Result<(), Failed>
+    // The whole text, or a front of it.
+    ensures written { OnOk result (Appends (K.written sink.old) (K.written sink.new) (index_text (trace_in trace.now) store.pages)) }
+    ensures front { OnErr result (AppendsFront (K.written sink.old) (K.written sink.new)
+        (index_text (trace_in trace.now) store.pages)) }
+
+    // It fails only where the sink does.
+    ensures failed { OnErr result (Rose (K.faults sink.old) (K.faults sink.new)) }
+    ensures never_falls { K.faults sink.old ≤ K.faults sink.new }
+{
+    let IndexStore {
+        mut tree,
+        range,
+        mut block,
+        mut keys,
+        pages,
+    } = store;
+    let segments = pages / SEGMENT_PAGES;
+    let written = write_text(&mut tree, keys.as_mut_slice(), trace, sink, &mut block);
+    close(tree, range, segments);
+    written
+}
+
+/// Writes the text of a trace.
+fn write_text<K: Sink>(
+    tree: &mut IndexTree,
+    keys: &mut [u8],
+    trace: &Trace,
+    sink: &mut K,
+    block: &mut Block,
+) -> Result<(), Failed>
+    requires serving { IsServing tree.old }
+    requires room { key_room * most_keys ≤ length keys.old }
+    ensures written { WritesTo K.written K.faults result sink.old block.old sink.new block.new
+        (text_from (most (held_count tree.old.region)) (index_in tree.old) (trace_in trace.now).operations) }
+    ensures empty { OnOk result (block.new.bytes ≡ []) }
+    ensures segments { HoldsSegments tree.old.region tree.new.region }
+{
+    do_commands(tree, keys, trace, sink, block)?;
+    hand_over(sink, block)
+}
