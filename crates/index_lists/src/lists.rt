@@ -180,7 +180,7 @@ fn links_to_themselves(alloc: Global, len: u32) -> Result<Vec<u32>, AllocError>
 {
     let mut links = Vec::with_capacity(alloc, len as usize)?;
     for index in 0..len {
-        links.push(index)?;
+        links.push_reserved(index);
     }
     Ok(links)
 }

@@ -1,5 +1,5 @@
 -- How a request and a return go from one step to the next.
-use Rattle.std.proofs.Common.{◌≡◌, ◌≢◌, ℕ, ◌+◌, ◌^◌, ◌<◌, ◌≤◌, ◌⊎◌, inl, inr, List, [], ◌∷◌, length, get_or, set, min, slice_get, Some, None, refl, sym, ap, subst, ◌∙◌, arith, get_or-set_other, get_or-set_same}
+use Rattle.std.proofs.Common.{◌≡◌, ◌≢◌, ℕ, ◌+◌, ◌*◌, ◌/◌, ◌%◌, ◌^◌, ◌<◌, ◌≤◌, ◌⊎◌, inl, inr, List, [], ◌∷◌, length, get_or, set, min, slice_get, Some, None, refl, sym, ap, subst, ◌∙◌, arith, get_or-set_other, get_or-set_same}
 use Rattle.std.proofs.lemmas.Bool.{cases_eq}
 use Rattle.std.proofs.lemmas.Nat.{pow_pos}
 use Rattle.std.specs.Ordering.{nat_cmp}
@@ -196,27 +196,34 @@ orders_after old new first order k h none =
 
 -- ---- the first state
 
--- the pages below one are given back, and each other one is allocated
-pub record IsPutTo (s : Layout) (pages page : ℕ) : Type 0 where
+-- the segments below one are given back, and each other one is allocated
+pub record IsPutTo (s : Layout) (pages segment : ℕ) : Type 0 where
   pub same : s.pages ≡ pages
-  pub given : (x : ℕ) → x < page → map.get s.allocated x ≡ None
-  pub rest : (x : ℕ) → page ≤ x → x < pages → map.get s.allocated x ≡ Some 0
+  pub given : (x : ℕ) → x < segment * 32 → map.get s.allocated x ≡ None
+  pub rest : (x : ℕ) → segment * 32 ≤ x → x < pages → x % 32 ≡ 0 → map.get s.allocated x ≡ Some 5
+  pub inside : (x : ℕ) → x % 32 ≢ 0 → map.get s.allocated x ≡ None
   pub beyond : (x : ℕ) → pages ≤ x → map.get s.allocated x ≡ None
   pub divided : Divides s
   pub coalesced : IsCoalesced s
 
-pub put_more : (old new : Layout) (pages page : ℕ) → IsPutTo old pages page → page < pages → new.allocated ≡ map.remove old.allocated page → new.pages ≡ old.pages → Divides new → IsCoalesced new → IsPutTo new pages (page + 1)
-put_more old new pages page h within e same divided coalesced = record {
+pub put_more : (old new : Layout) (pages segment : ℕ) → IsPutTo old pages segment → segment < pages / 32 → new.allocated ≡ map.remove old.allocated (segment * 32) → new.pages ≡ old.pages → Divides new → IsCoalesced new → IsPutTo new pages (segment + 1)
+put_more old new pages segment h within e same divided coalesced = record {
   same = same ∙ h.same;
-  given = λ x l. ap (λ m. map.get m x) e ∙ (elim (cases_eq x page) [ inl xp ↦ get_removed old.allocated page x xp | inr n ↦ get_past_remove old.allocated page x n ∙ h.given x (omega arith) ]);
-  rest = λ x l u. ap (λ m. map.get m x) e ∙ get_past_remove old.allocated page x (λ z. absurd (omega arith)) ∙ h.rest x (omega arith) u;
-  beyond = λ x l. ap (λ m. map.get m x) e ∙ get_past_remove old.allocated page x (λ z. absurd (omega arith)) ∙ h.beyond x l;
+  given = λ x l. ap (λ m. map.get m x) e ∙
+      (elim (cases_eq x (segment * 32)) [
+        | inl here ↦ get_removed old.allocated (segment * 32) x here
+        | inr n ↦ get_past_remove old.allocated (segment * 32) x n ∙
+            (elim (lt_or_ge x (segment * 32)) [ inl below ↦ h.given x below | inr g ↦ h.inside x (λ z. absurd (omega arith)) ])
+      ]);
+  rest = λ x l u z. ap (λ m. map.get m x) e ∙ get_past_remove old.allocated (segment * 32) x (λ q. absurd (omega arith)) ∙ h.rest x (omega arith) u z;
+  inside = λ x d. ap (λ m. map.get m x) e ∙ get_past_remove old.allocated (segment * 32) x (λ q. d (omega arith)) ∙ h.inside x d;
+  beyond = λ x l. ap (λ m. map.get m x) e ∙ get_past_remove old.allocated (segment * 32) x (λ q. absurd (omega arith)) ∙ h.beyond x l;
   divided = divided;
   coalesced = coalesced;
 }
 
-pub none_left : (s : Layout) (pages : ℕ) → IsPutTo s pages pages → (x : ℕ) → map.get s.allocated x ≡ None
-none_left s pages h x = elim (lt_or_ge x pages) [ inl l ↦ h.given x l | inr g ↦ h.beyond x g ]
+pub none_left : (s : Layout) (pages : ℕ) → pages % 32 ≡ 0 → IsPutTo s pages (pages / 32) → (x : ℕ) → map.get s.allocated x ≡ None
+none_left s pages whole h x = elim (lt_or_ge x pages) [ inl l ↦ h.given x (omega arith) | inr g ↦ h.beyond x g ]
 
 pub empty_allocated : (s : Layout) → ((x : ℕ) → map.get s.allocated x ≡ None) → s.allocated ≡ map.empty
 empty_allocated s none = maps_same _ _ (λ q. none q ∙ sym (map.get-empty nat_cmp q))

@@ -1,9 +1,11 @@
 //! The pages of one shard, in spans.
 ghost use Rattle.std.specs.Prelude.{
   ◌≡◌,
+  ◌≢◌,
   ℕ,
   ◌+◌,
   ◌-◌,
+  ◌*◌,
   ◌%◌,
   ◌<◌,
   ◌≤◌,
@@ -19,10 +21,11 @@ ghost use Rattle.std.specs.Prelude.{
   Some,
   None,
   min,
-  replicate,
 };
 ghost use Rattle.std.specs.FinMap as map;
+ghost use Rattle.std.specs.List.{repeat};
 ghost use Rattle.common_lemmas.specs.Lists.{delete};
+ghost use Rattle.layout.specs.Sizes.{segment_pages, segment_order};
 ghost use Rattle.span_lists.specs.Buddies.{buddy};
 ghost use Rattle.span_lists.specs.Layout.{
   Layout,
@@ -42,9 +45,11 @@ ghost use Rattle.span_lists.specs.Layout.{
   IsGreatest,
   IsBlocked,
 };
+ghost use Rattle.span_lists.specs.inside.Pages.{segment_states};
 ghost use Rattle.span_lists.specs.inside.Steps.{IsSplitTo, IsCoalescedTo};
 
 use index_lists::IndexLists;
+use layout::{SEGMENT_ORDER, SEGMENT_PAGES};
 use std::alloc::{AllocError, Global};
 use std::marker::Model;
 
@@ -99,8 +104,8 @@ impl Spans {
         ensures coalesced { IfOk result IsCoalesced }
     {
         let mut spans = Spans::all_allocated(alloc, pages)?;
-        for page in 0..pages {
-            spans.put(page, 0);
+        for segment in 0..pages / SEGMENT_PAGES {
+            spans.put(segment * SEGMENT_PAGES, SEGMENT_ORDER);
         }
         Ok(spans)
     }
@@ -182,16 +187,18 @@ impl Spans {
         self.free
     }
 
-    /// Each page is an allocated span.
+    /// The pages, cut into segments, each of which is an allocated span.
     fn all_allocated(alloc: Global, pages: u32) -> Result<Spans, AllocError>
-        requires { pages ≤ 65536 }
+        requires whole { pages % segment_pages ≡ 0 }
+        requires most { pages ≤ 65536 }
         ensures pages { IfOk result (λ spans. spans.pages ≡ pages) }
-        ensures each { IfOk result (λ spans. (page : ℕ) → page < pages → map.get spans.allocated page ≡ Some 0) }
+        ensures each { IfOk result (λ spans. (page : ℕ) → page < pages → page % segment_pages ≡ 0 → map.get spans.allocated page ≡ Some segment_order) }
+        ensures inside { IfOk result (λ spans. (page : ℕ) → page % segment_pages ≢ 0 → map.get spans.allocated page ≡ None) }
         ensures beyond { IfOk result (λ spans. (page : ℕ) → pages ≤ page → map.get spans.allocated page ≡ None) }
         ensures divided { IfOk result Divides }
         ensures coalesced { IfOk result IsCoalesced }
     {
-        let states = single_pages(alloc, pages)?;
+        let states = segments(alloc, pages / SEGMENT_PAGES)?;
         let lists = IndexLists::new(alloc, pages, GREATEST_ORDER as u32 + 1)?;
         Ok(Spans {
             pages,
@@ -373,12 +380,25 @@ fn buddy_of(first: u32, order: u8) -> u32
     first ^ span_pages(order)
 }
 
-fn single_pages(alloc: Global, pages: u32) -> Result<Vec<PageState>, AllocError>
-    ensures { IfOk result (λ states. states.items ≡ replicate pages (PageState.Allocated 0)) }
+/// The states of the pages of so many segments that are allocated spans.
+fn segments(alloc: Global, count: u32) -> Result<Vec<PageState>, AllocError>
+    requires { count * segment_pages ≤ 65536 }
+    ensures { IfOk result (λ states. states.items ≡ repeat count segment_states) }
 {
-    let mut states = Vec::with_capacity(alloc, pages as usize)?;
-    for _ in 0..pages {
-        states.push(PageState::Allocated(0))?;
+    let segment = segment();
+    let mut states = Vec::with_capacity(alloc, (count * SEGMENT_PAGES) as usize)?;
+    for _ in 0..count {
+        states.extend_from_slice(&segment)?;
     }
     Ok(states)
+}
+
+/// The states of the pages of a segment that is an allocated span.
+#[tactic(auto, unfolding(crate::specs::inside::Pages::segment_states))]
+fn segment() -> [PageState; SEGMENT_PAGES as usize]
+    ensures { result ≡ segment_states }
+{
+    let mut states = [PageState::Inside; SEGMENT_PAGES as usize];
+    states[0] = PageState::Allocated(SEGMENT_ORDER);
+    states
 }

@@ -1,9 +1,10 @@
 -- How the spans stand in a table of pages.
-use Rattle.std.specs.Prelude.{◌≡◌, ◌≢◌, ℕ, suc, ◌+◌, ◌<◌, ◌≤◌, ◌%◌, ◌^◌, ◌==◌, if◌then◌else◌, List, [], ◌∷◌, length, slice_index_or, Option, Some, None, sum_by}
+use Rattle.std.specs.Prelude.{◌≡◌, ◌≢◌, ℕ, suc, ◌+◌, ◌<◌, ◌≤◌, ◌%◌, ◌^◌, ◌==◌, if◌then◌else◌, List, [], ◌∷◌, length, slice_index_or, Option, Some, None, sum_by, replicate}
 use Rattle.std.specs.Ordering.{nat_cmp}
 use Rattle.std.specs.FinMap as map
 use Rattle.index_lists.specs.Lists.{Lists}
 use Rattle.common_lemmas.specs.Lists.{times}
+use Rattle.layout.specs.Sizes.{segment_order}
 use Rattle.span_lists.specs.Buddies.{buddy}
 use Rattle.span_lists.specs.Layout.{pages_from}
 use Rattle.span_lists.specs.declared.spans.PageState.{PageState}
@@ -44,6 +45,10 @@ allocated_entries p (Allocated k ∷ states) = (p, k) ∷ allocated_entries (suc
 
 unfoldable pub allocated_of : List PageState → map.FinMap nat_cmp ℕ
 allocated_of states = map.from_entries (allocated_entries 0 states)
+
+-- the pages of a segment that is an allocated span
+unfoldable pub segment_states : List PageState
+segment_states = Allocated segment_order ∷ replicate 31 Inside
 
 -- a span of the order begins at the page, and none within it
 pub record IsSpanAt (pages : ℕ) (at : ℕ → Option ℕ) (x k : ℕ) : Type 0 where

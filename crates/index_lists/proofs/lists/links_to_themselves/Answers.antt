@@ -9,5 +9,7 @@ range_more n = sym (map-id _) ∙ map-range_with_len_more (λ k. k) 0 n n (omega
 
 pub loop-index-preserved : goal.loop-index-preserved
 loop-index-preserved c =
+    let held = c.loop-index.invariant in
+    let put = c.push_reserved.ensures in
     let more = range_more c.loop-index.index in
-    c.in_ok-push.ensures.items ∙ ap (λ l. l ++ c.loop-index.index ∷ []) c.loop-index.invariant ∙ sym more
+    (put.items ∙ ap (λ l. l ++ c.loop-index.index ∷ []) held.0 ∙ sym more, put.len ∙ ap (λ n. n + 1) held.1, put.capacity ∙ held.2)
