@@ -203,22 +203,31 @@ entry_stands content i at is within here =
     entry_of_entries (little_number 2 (drop 10 content)) i (drop 24 content) (subst (λ k. i < k) (length-entries_in (little_number 2 (drop 10 content)) (drop 24 content)) within)
     ∙ (ap (λ t. entry_in t) (drop-drop (264 * i) 24 content) ∙ ap (λ m. entry_in (drop m content)) (sym here))
 
-pub key_length : (content : List ℕ) (i at : ℕ) → IsNode content → i < length (node_in content).entries → at ≡ 24 + 264 * i → little_number 2 (drop at content) ≤ 256
-key_length content i at is within here =
+-- the bytes of an entry in its content, and what is behind them
+abbrev pub behind_entry : TreeNode → ℕ → List ℕ
+behind_entry n i = concat (map entry_bytes (drop (suc i) n.entries)) ++ behind_entries n
+
+pub entry_bytes_stand : (content : List ℕ) (i at : ℕ) → IsNode content → i < length (node_in content).entries → at ≡ 24 + 264 * i
+    → drop at content ≡ entry_bytes (entry_at (node_in content) i) ++ behind_entry (node_in content) i
+entry_bytes_stand content i at is within here =
     let n = node_in content in let fits = is.node in let es : List Entry = n.entries in
     let e : Entry = get_or es i no_entry in
-    let e_fits = All-get_or IsEntry es i no_entry within fits.entries in
-    let behind : List ℕ = concat (map entry_bytes (drop (suc i) es)) ++ behind_entries n in
-    let there : drop at content ≡ entry_bytes e ++ behind =
     ap (λ m. drop m content) here
     ∙ (sym (drop-drop (264 * i) 24 content)
     ∙ (ap (λ t. drop (264 * i) (drop 24 t)) is.bytes
     ∙ (ap (λ t. drop (264 * i) t) (behind_header n)
     ∙ (behind_front 264 i (map entry_bytes es) (behind_entries n) (entries_wide es fits.entries) (let l = length-map es entry_bytes in omega arith)
     ∙ (ap (λ (t : List (List ℕ)). concat t ++ behind_entries n) (drop-map entry_bytes i es ∙ ap (λ (t : List Entry). map entry_bytes t) (drop_more es i no_entry within ∙ ap (λ k. e ∷ drop k es) {y = suc i} (omega arith)))
-    ∙ append_assoc (entry_bytes e) (concat (map entry_bytes (drop (suc i) es))) (behind_entries n)))))) in
+    ∙ append_assoc (entry_bytes e) (concat (map entry_bytes (drop (suc i) es))) (behind_entries n))))))
+
+pub key_length : (content : List ℕ) (i at : ℕ) → IsNode content → i < length (node_in content).entries → at ≡ 24 + 264 * i → little_number 2 (drop at content) ≤ 256
+key_length content i at is within here =
+    let n = node_in content in let fits = is.node in
+    let e : Entry = entry_at n i in
+    let e_fits = All-get_or IsEntry n.entries i no_entry within fits.entries in
+    let there = entry_bytes_stand content i at is within here in
     let short = e_fits.short_key in
-    subst (λ k. k ≤ 256) (sym (ap (λ t. little_number 2 t) there ∙ key_length_read e behind e_fits)) short
+    subst (λ k. k ≤ 256) (sym (ap (λ t. little_number 2 t) there ∙ key_length_read e (behind_entry n i) e_fits)) short
 
 place_of_places : (k i : ℕ) (bytes : List ℕ) → i < k → get_or (places_in k bytes) i no_place ≡ little_number 8 (drop (8 * i) bytes)
 unfolding places_in

@@ -9,4 +9,5 @@ pub mod Calls
 pub mod Started
 pub mod Written
 pub mod Rising
+pub mod FirstBytes
 pub mod Runs

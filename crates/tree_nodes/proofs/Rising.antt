@@ -3,7 +3,7 @@ use Rattle.std.proofs.Common.{◌≡◌, ℕ, zero, suc, ◌+◌, ◌<◌, ◌�
 use Rattle.std.proofs.lemmas.Cmp.{nat_list_cmp_total}
 use Rattle.std.proofs.lemmas.List.{length-take-le}
 use Rattle.std.proofs.lemmas.List.Elements.{All-nil, All-cons, All-head, All-tail, All-get_or, All-weaker}
-use Rattle.std.proofs.lemmas.List.Sums.{sum_by-cons, sum_by-take-drop}
+use Rattle.std.proofs.lemmas.List.Sums.{count_by-le-length, sum_by-cons, sum_by-take-drop}
 use Rattle.tree_nodes.specs.Nodes.{Entry}
 use Rattle.tree_nodes.specs.Order.{AreRising, IsBelow, count_below, key_cmp}
 
@@ -32,7 +32,7 @@ abbrev pub NotBelow : List ℕ → Entry → Type 0
 NotBelow key e = is_lt (key_cmp e.key key) ≡ false
 
 -- up to one whose key is below, all are
-pub below_upto : (key : List ℕ) (es : List Entry) (m : ℕ) (d : Entry) → AreRising es → m < length es → Below key (get_or es m d) → All (Below key) (take (suc m) es)
+below_upto : (key : List ℕ) (es : List Entry) (m : ℕ) (d : Entry) → AreRising es → m < length es → Below key (get_or es m d) → All (Below key) (take (suc m) es)
 below_upto key [] m d rising within below = absurd (omega arith)
 below_upto key (e ∷ es) zero d rising within below = All-cons (Below key) e [] below (All-nil (Below key))
 below_upto key (e ∷ es) (suc m) d rising within below =
@@ -40,7 +40,7 @@ below_upto key (e ∷ es) (suc m) d rising within below =
     All-cons (Below key) e (take (suc m) es) (less_less e.key (get_or es m d).key key later below) (below_upto key es m d rising.1 (omega arith) below)
 
 -- from one on whose key is not below, none is
-pub least_from : (key : List ℕ) (es : List Entry) (m : ℕ) (d : Entry) → AreRising es → m < length es → NotBelow key (get_or es m d) → All (NotBelow key) (drop m es)
+least_from : (key : List ℕ) (es : List Entry) (m : ℕ) (d : Entry) → AreRising es → m < length es → NotBelow key (get_or es m d) → All (NotBelow key) (drop m es)
 least_from key [] m d rising within least = absurd (omega arith)
 least_from key (e ∷ es) zero d rising within least =
     All-cons (NotBelow key) e es least (All-weaker (λ later. IsBelow e.key later.key) (NotBelow key) (λ later above. least_less e.key later.key key least above) es rising.0)
@@ -63,10 +63,18 @@ count_none key (e ∷ es) all =
     let whole : count_below (e ∷ es) key ≡ cond {A = ℕ} (is_lt (key_cmp e.key key)) 1 0 + count_below es key = sum_by-cons (λ x. cond (is_lt (key_cmp x.key key)) 1 0) e es in
     omega arith
 
-pub counted : (key : List ℕ) (es : List Entry) (n : ℕ) → n ≤ length es → All (Below key) (take n es) → All (NotBelow key) (drop n es) → n ≡ count_below es key
-counted key es n within below least =
-    let front = count_all key (take n es) below in
-    let many : length (take n es) ≡ n = length-take-le n es within in
-    let behind = count_none key (drop n es) least in
-    let whole : count_below (take n es) key + count_below (drop n es) key ≡ count_below es key = sum_by-take-drop (λ e. cond (is_lt (key_cmp e.key key)) 1 0) es n in
+-- one whose key is below has as many in front that are, and one whose key is not has none behind it
+pub at_least : (key : List ℕ) (es : List Entry) (m : ℕ) (d : Entry) → AreRising es → m < length es → Below key (get_or es m d) → suc m ≤ count_below es key
+at_least key es m d rising within below =
+    let front = count_all key (take (suc m) es) (below_upto key es m d rising within below) in
+    let many : length (take (suc m) es) ≡ suc m = length-take-le (suc m) es (omega arith) in
+    let whole : count_below (take (suc m) es) key + count_below (drop (suc m) es) key ≡ count_below es key = sum_by-take-drop (λ e. cond (is_lt (key_cmp e.key key)) 1 0) es (suc m) in
+    omega arith
+
+pub at_most : (key : List ℕ) (es : List Entry) (m : ℕ) (d : Entry) → AreRising es → m < length es → NotBelow key (get_or es m d) → count_below es key ≤ m
+at_most key es m d rising within least =
+    let behind = count_none key (drop m es) (least_from key es m d rising within least) in
+    let front : count_below (take m es) key ≤ length (take m es) = count_by-le-length (λ e. is_lt (key_cmp e.key key)) (take m es) in
+    let many : length (take m es) ≡ m = length-take-le m es (omega arith) in
+    let whole : count_below (take m es) key + count_below (drop m es) key ≡ count_below es key = sum_by-take-drop (λ e. cond (is_lt (key_cmp e.key key)) 1 0) es m in
     omega arith

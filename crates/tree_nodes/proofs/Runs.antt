@@ -1,12 +1,10 @@
 -- What is left of a node where several entries or children are taken away.
-use Rattle.std.proofs.Common.{◌≡◌, ℕ, zero, suc, ◌+◌, ◌-◌, ◌*◌, ◌<◌, ◌≤◌, ◌^◌, List, [], ◌∷◌, ◌++◌, All, length, take, drop, map, replicate, refl, ap, sym, subst, ◌∙◌, append_assoc, arith, length-append}
+use Rattle.std.proofs.Common.{◌≡◌, ℕ, zero, suc, ◌+◌, ◌-◌, ◌*◌, ◌<◌, ◌≤◌, ◌^◌, List, [], ◌++◌, All, length, take, drop, map, replicate, refl, ap, sym, ◌∙◌, append_assoc, arith, length-append}
 use Rattle.std.specs.List.{concat}
-use Rattle.std.proofs.Math.Nat.{mul-suc}
-use Rattle.std.proofs.lemmas.List.{append-nil, length-take-le, length-drop, length-map, length-replicate, map-append, replicate-append-replicate, take-append-drop, drop-drop}
+use Rattle.std.proofs.lemmas.List.{append-nil, length-take-le, length-drop, length-replicate, replicate-append-replicate, take-append-drop, drop-drop}
 use Rattle.std.proofs.lemmas.List.Elements.{All-append, All-take, All-drop, All-replicate}
-use Rattle.std.proofs.lemmas.List.Folds.{concat-append}
 use Rattle.byteorder.specs.Endian.{little_bytes}
-use Rattle.tree_nodes.specs.Nodes.{Entry, TreeNode, CanStand, IsNode, IsEntry, entries_bytes, entry_bytes, no_place, node_bytes, node_in}
+use Rattle.tree_nodes.specs.Nodes.{Entry, TreeNode, CanStand, IsNode, IsEntry, entry_bytes, no_place, node_bytes, node_in}
 use Rattle.tree_nodes.specs.inside.Splices.{over, taken_out}
 use Rattle.tree_nodes.proofs.Splices.{taken_out_parts}
 use Rattle.tree_nodes.proofs.Fields.{place_bytes, zeros}

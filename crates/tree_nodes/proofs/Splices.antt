@@ -1,6 +1,7 @@
 -- What is written over, put in and taken out, by the parts of a text.
-use Rattle.std.proofs.Common.{◌≡◌, ℕ, ◌+◌, List, ◌++◌, length, take, drop, refl, ap, sym, ◌∙◌, append_assoc, arith}
-use Rattle.std.proofs.lemmas.List.{take_at, drop_at, drop-drop, drop-take}
+use Rattle.std.proofs.Common.{◌≡◌, ℕ, ◌+◌, ◌≤◌, List, ◌++◌, length, take, drop, replicate, refl, ap, sym, ◌∙◌, append_assoc, arith, length-append}
+use Rattle.std.proofs.lemmas.List.{take_at, drop_at, drop-drop, length-drop, length-replicate, length-take-le, take-append-drop}
+use Rattle.std.proofs.Math.Seq.{take-add}
 use Rattle.tree_nodes.specs.inside.Splices.{over, put_in, taken_out}
 
 drop_two : (a b c : List ℕ) (m n k : ℕ) → length a ≡ m → length b ≡ n → m + n ≡ k → drop k (a ++ (b ++ c)) ≡ c
@@ -37,14 +38,57 @@ taken_out_parts a y x b bytes at moved is_a is_y is_x =
     ∙ (ap (λ t. a ++ (t ++ (bytes ++ drop (at + moved + m) whole))) (take_at x b moved is_x)
     ∙ ap (λ t. a ++ (x ++ (bytes ++ t))) (drop_three a y x b at m moved (at + moved + m) is_a is_y is_x (omega arith))))
 
--- what is put behind the others of a part, of which the first as many go, is taken out of the whole
-pub taken_behind : (at moved k : ℕ) (bytes content part : List ℕ) → k ≡ length bytes + moved → part ≡ drop (length bytes) (take k (drop at content)) ++ bytes
-    → take at content ++ (part ++ drop k (drop at content)) ≡ taken_out at moved bytes content
-taken_behind at moved k bytes content part sum is =
+length_part : (c : List ℕ) (from n : ℕ) → from + n ≤ length c → length (take n (drop from c)) ≡ n
+length_part c from n within = length-take-le n (drop from c) (let l = length-drop from c in omega arith)
+
+-- a part is written over another
+pub moved_over : (c : List ℕ) (from to n k : ℕ) → from + n ≤ length c → k ≡ n
+    → (take to c ++ take k (drop from c)) ++ drop (to + k) c ≡ over to (take n (drop from c)) c
+moved_over c from to n k within same =
+    let x : List ℕ = take n (drop from c) in
+    ap (λ i. (take to c ++ take i (drop from c)) ++ drop (to + i) c) same
+    ∙ (append_assoc (take to c) x (drop (to + n) c) ∙ ap (λ i. take to c ++ (x ++ drop (to + i) c)) (sym (length_part c from n within)))
+
+-- a part moves up, and bytes are written where it stood
+pub put_in_moved : (at moved : ℕ) (bytes c mid : List ℕ) → at + moved + length bytes ≤ length c → mid ≡ over (at + length bytes) (take moved (drop at c)) c
+    → over at bytes mid ≡ put_in at moved bytes c
+put_in_moved at moved bytes c mid within is =
     let m = length bytes in
-    let mid : drop m (take k (drop at content)) ≡ take moved (drop (at + m) content) =
-    ap (λ i. drop m (take i (drop at content))) sum ∙ (drop-take m moved (drop at content) ∙ ap (λ t. take moved t) (drop-drop m at content)) in
-    let tail : drop k (drop at content) ≡ drop (at + moved + m) content = drop-drop k at content ∙ ap (λ i. drop i content) {y = at + moved + m} (omega arith) in
-    ap (λ t. take at content ++ (t ++ drop k (drop at content))) (is ∙ ap (λ t. t ++ bytes) mid)
-    ∙ (ap (λ t. take at content ++ ((take moved (drop (at + m) content) ++ bytes) ++ t)) tail
-    ∙ ap (λ t. take at content ++ t) (append_assoc (take moved (drop (at + m) content)) bytes (drop (at + moved + m) content)))
+    let x : List ℕ = take moved (drop at c) in
+    let y : List ℕ = take m (drop at c) in
+    let b : List ℕ = x ++ drop (at + m + length x) c in
+    let length_x : length x ≡ moved = length_part c at moved (omega arith) in
+    let front : over (at + m) x c ≡ take at c ++ (y ++ b) = ap (λ t. t ++ b) (take-add at m c) ∙ append_assoc (take at c) y b in
+    ap (λ t. over at bytes t) (is ∙ front)
+    ∙ (over_parts (take at c) y b bytes at (length-take-le at c (omega arith)) (length_part c at m (omega arith))
+    ∙ ap (λ k. take at c ++ (bytes ++ (x ++ drop k c))) {x = at + m + length x} {y = at + moved + m} (omega arith))
+
+-- a part moves down, and bytes are written where it ended
+pub taken_out_moved : (at moved m : ℕ) (bytes c mid : List ℕ) → length bytes ≡ m → at + moved + m ≤ length c → mid ≡ over at (take moved (drop (at + m) c)) c
+    → over (at + moved) bytes mid ≡ taken_out at moved bytes c
+taken_out_moved at moved m bytes c mid length_bytes within is =
+    let x : List ℕ = take moved (drop (at + m) c) in
+    let d : List ℕ = drop (at + length x) c in
+    let length_x : length x ≡ moved = length_part c (at + m) moved (omega arith) in
+    let length_front : length (take at c) ≡ at = length-take-le at c (omega arith) in
+    let length_a : length (take at c ++ x) ≡ at + moved = length-append (take at c) x ∙ omega arith in
+    let length_y : length (take m d) ≡ length bytes = length_part c (at + length x) m (omega arith) ∙ sym length_bytes in
+    let parts : over at x c ≡ (take at c ++ x) ++ (take m d ++ drop m d) =
+    sym (append_assoc (take at c) x d) ∙ ap (λ t. (take at c ++ x) ++ t) (sym (take-append-drop m d)) in
+    let tail : drop m d ≡ drop (at + moved + m) c = drop-drop m (at + length x) c ∙ ap (λ k. drop k c) {x = at + length x + m} {y = at + moved + m} (omega arith) in
+    ap (λ t. over (at + moved) bytes t) (is ∙ parts)
+    ∙ (over_parts (take at c ++ x) (take m d) (drop m d) bytes (at + moved) length_a length_y
+    ∙ (ap (λ t. (take at c ++ x) ++ (bytes ++ t)) tail
+    ∙ (append_assoc (take at c) x (bytes ++ drop (at + moved + m) c)
+    ∙ ap (λ k. take at c ++ (take moved (drop (at + k) c) ++ (bytes ++ drop (at + moved + k) c))) (sym length_bytes))))
+
+-- a part holds one byte as often as it is long
+pub filled : (at k len byte : ℕ) (c part : List ℕ) → k ≡ len → at + len ≤ length c → part ≡ replicate (length (take k (drop at c))) byte
+    → take at c ++ (part ++ drop k (drop at c)) ≡ over at (replicate len byte) c
+filled at k len byte c part same within is =
+    let bytes : List ℕ = replicate len byte in
+    let length_bytes : length bytes ≡ len = length-replicate {A = ℕ} len byte in
+    let long : length (take k (drop at c)) ≡ len = length_part c at k (omega arith) ∙ same in
+    let tail : drop k (drop at c) ≡ drop (at + length bytes) c = drop-drop k at c ∙ ap (λ i. drop i c) {x = at + k} {y = at + length bytes} (omega arith) in
+    ap (λ t. take at c ++ (t ++ drop k (drop at c))) (is ∙ ap (λ n. replicate n byte) long)
+    ∙ ap (λ t. take at c ++ (bytes ++ t)) tail

@@ -1,2 +1,3 @@
 -- What only the private parts cite.
+pub mod Leads
 pub mod Splices

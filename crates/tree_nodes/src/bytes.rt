@@ -1,5 +1,5 @@
 //! Numbers read from bytes; bytes written over others, put in, and taken out.
-ghost use Rattle.std.specs.Prelude.{◌≡◌, ℕ, ◌+◌, ◌≤◌, ◌++◌, drop, length, replicate};
+ghost use Rattle.std.specs.Prelude.{◌≡◌, ℕ, ◌+◌, ◌≤◌, drop, length, replicate, take};
 ghost use Rattle.byteorder.specs.Endian.{little_bytes, little_number};
 ghost use Rattle.tree_nodes.specs.inside.Splices.{over, put_in, taken_out};
 
@@ -13,14 +13,24 @@ pub(crate) fn write_over(content: &mut [u8], at: usize, bytes: &[u8])
     content[at..at + bytes.len()].copy_from_slice(bytes);
 }
 
+/// Writes the `moved` bytes from `from` on over as many from `to` on.
+#[tactic(auto, using(crate::proofs::Splices::moved_over))]
+fn move_bytes(content: &mut [u8], from: usize, to: usize, moved: usize)
+    requires from { from + moved ≤ length content.old }
+    requires to { to + moved ≤ length content.old }
+    ensures bytes { content.new ≡ over to (take moved (drop from content.old)) content.old }
+    ensures len { length content.new ≡ length content.old }
+{
+    content.copy_within(from..from + moved, to);
+}
+
 /// Puts bytes in at `at`. The `moved` bytes from there on move up, over as many as are put in.
 pub(crate) fn put_at(content: &mut [u8], at: usize, moved: usize, bytes: &[u8])
     requires { at + moved + length bytes.now ≤ length content.old }
     ensures { content.new ≡ put_in at moved bytes.now content.old }
 {
-    let len = bytes.len();
-    content[at..at + moved + len].rotate_right(len);
-    content[at..at + len].copy_from_slice(bytes);
+    move_bytes(content, at, at + bytes.len(), moved);
+    write_over(content, at, bytes);
 }
 
 /// Takes as many bytes out at `at` as it is given. The `moved` bytes behind them move down, and these bytes stand behind those.
@@ -28,16 +38,8 @@ pub(crate) fn take_at(content: &mut [u8], at: usize, moved: usize, bytes: &[u8])
     requires { at + moved + length bytes.now ≤ length content.old }
     ensures { content.new ≡ taken_out at moved bytes.now content.old }
 {
-    push_behind(&mut content[at..at + moved + bytes.len()], bytes);
-}
-
-/// Puts bytes behind the others, of which the first as many go.
-fn push_behind(part: &mut [u8], bytes: &[u8])
-    requires { length bytes.now ≤ length part.old }
-    ensures { part.new ≡ drop (length bytes.now) part.old ++ bytes.now }
-{
-    part[..bytes.len()].copy_from_slice(bytes);
-    part.rotate_left(bytes.len());
+    move_bytes(content, at + bytes.len(), at, moved);
+    write_over(content, at + moved, bytes);
 }
 
 /// Takes `len` bytes out at `at`. The `moved` bytes behind them move down, and behind those stands as often the byte.
@@ -45,16 +47,16 @@ pub(crate) fn close_up(content: &mut [u8], at: usize, moved: usize, len: usize, 
     requires { at + moved + len ≤ length content.old }
     ensures { content.new ≡ taken_out at moved (replicate len byte) content.old }
 {
-    shift_down(&mut content[at..at + moved + len], len, byte);
+    move_bytes(content, at + len, at, moved);
+    fill_at(content, at + moved, len, byte);
 }
 
-/// Takes the first `len` bytes away, and puts the byte as often behind the others.
-fn shift_down(part: &mut [u8], len: usize, byte: u8)
-    requires { len ≤ length part.old }
-    ensures { part.new ≡ drop len part.old ++ replicate len byte }
+/// Writes a byte over `len` bytes from `at` on.
+fn fill_at(content: &mut [u8], at: usize, len: usize, byte: u8)
+    requires { at + len ≤ length content.old }
+    ensures { content.new ≡ over at (replicate len byte) content.old }
 {
-    fill_with(&mut part[..len], byte);
-    part.rotate_left(len);
+    fill_with(&mut content[at..at + len], byte);
 }
 
 /// Writes a byte over all.

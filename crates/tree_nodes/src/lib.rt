@@ -10,6 +10,7 @@ mod bytes;
 mod child_places;
 mod entries;
 mod law;
+mod leads;
 mod links;
 mod reading;
 mod search;
