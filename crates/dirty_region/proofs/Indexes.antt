@@ -1,12 +1,12 @@
 -- The index of a ring: what it finds, and how it goes on where puts come and go.
-use Rattle.std.proofs.Common.{◌≡◌, ◌≢◌, ◌↔◌, ℕ, zero, suc, ◌+◌, ◌-◌, ◌<◌, ◌≤◌, inl, inr, List, ◌∷◌, length, refl, sym, ap, subst, ◌∙◌, arith}
+use Rattle.std.proofs.Common.{◌≡◌, ◌≢◌, ◌↔◌, ℕ, zero, suc, Bool, true, false, ◌+◌, ◌-◌, ◌<◌, ◌≤◌, inl, inr, List, ◌∷◌, length, refl, sym, ap, subst, ◌∙◌, arith}
 use Rattle.std.proofs.lemmas.Bool.{cases_eq}
 use Rattle.cache_model.specs.Row.{Row}
 use Rattle.common_lemmas.specs.Lists.{times}
 use Rattle.common_lemmas.proofs.Counts.{times_here, times_there, length_below}
 use Rattle.common_lemmas.proofs.Orders.{trichotomy}
 use Rattle.key_table.specs.Table.{AreSame}
-use Rattle.lazy_index.specs.Lazy.{Lazy, Has, IsKeyed, IsLazyOf, rows_in}
+use Rattle.dirty_region.specs.inside.PutRows.{PutRows, Has, IsKeyed, IsPutIndexOf, rows_in}
 use Rattle.regions.specs.Segments.{RegionState}
 use Rattle.regions.specs.Stores.{Live}
 use Rattle.regions.specs.declared.place.Place.{Place}
@@ -16,11 +16,11 @@ use Rattle.dirty_region.proofs.Slots.{slot_inside, slot_apart, slot_next}
 use Rattle.dirty_region.proofs.Rings.{IsPushed, IsPopped}
 
 -- what stays an index where keys are moved
-abbrev pub Moves : Lazy → Type 0
+abbrev pub Moves : PutRows → Type 0
 Moves index = (before after : ℕ → List ℕ) → ((n : ℕ) → Has index n → after n ≡ before n) → IsKeyed before index → IsKeyed after index
 
 -- each row stands once
-abbrev pub Once : Lazy → Type 0
+abbrev pub Once : PutRows → Type 0
 Once index = (n : ℕ) → times n (rows_in index) ≤ 1
 
 -- what holds of the keys where they stand holds of the same region and places
@@ -35,23 +35,25 @@ newest_apart r live j k jl kl nj nk same = elim (trichotomy j k) [
   | inr h ↦ elim h [ inl below ↦ absurd (nj k below kl (sym same)) | inr above ↦ absurd (nk j above jl same) ]
 ]
 
--- an index of newest puts is one of their keys
-pub lazy_of : (r : RingState) (live : Live) (to : ℕ) (index : Lazy) → IsRingOf r live → to ≤ r.count → IsKeyedBy r live 0 to (IsNewest r live) index → IsLazyOf (HasSomePut live r.places) (key_at live r.places) index
-lazy_of r live to index of within by = record {
+-- an index of newest puts is one of their keys, and no two of them have one
+pub put_index_of : (r : RingState) (live : Live) (to : ℕ) (index : PutRows) → IsRingOf r live → to ≤ r.count → IsKeyedBy r live 0 to (IsNewest r live) index → IsPutIndexOf (HasSomePut live r.places) (key_at live r.places) index
+put_index_of r live to index of within by = record {
   readable = λ n h. (let w = by.has.only n h in let kl = w.2 in
       subst (λ m. HasSomePut live r.places m) (sym w.3) (position r w.0, of.puts w.0 (omega (arith, kl, within))));
-  apart = λ m n hm hn e.
-      (let v = by.has.only m hm in let w = by.has.only n hn in let jl = v.2 in let kl = w.2 in
-      let nj = (by.has.those v.0 v.1 v.2).0 (subst (Has index) v.3 hm) in
-      let nk = (by.has.those w.0 w.1 w.2).0 (subst (Has index) w.3 hn) in
-      let same : nth_key r live v.0 ≡ nth_key r live w.0 = sym (ap (key_at live r.places) v.3) ∙ (e ∙ ap (key_at live r.places) w.3) in
-      v.3 ∙ (ap (slot r) (newest_apart r live v.0 w.0 (omega (arith, jl, within)) (omega (arith, kl, within)) nj nk same) ∙ sym w.3));
   keyed = by.keyed;
 }
 
+apart : (r : RingState) (live : Live) (index : PutRows) → IsIndexOf r live index → (m n : ℕ) → Has index m → Has index n → key_at live r.places m ≡ key_at live r.places n → m ≡ n
+apart r live index by m n hm hn e =
+    let v = by.has.only m hm in let w = by.has.only n hn in
+    let nj = (by.has.those v.0 v.1 v.2).0 (subst (Has index) v.3 hm) in
+    let nk = (by.has.those w.0 w.1 w.2).0 (subst (Has index) w.3 hn) in
+    let same : nth_key r live v.0 ≡ nth_key r live w.0 = sym (ap (key_at live r.places) v.3) ∙ (e ∙ ap (key_at live r.places) w.3) in
+    v.3 ∙ (ap (slot r) (newest_apart r live v.0 w.0 v.2 w.2 nj nk same) ∙ sym w.3)
+
 -- ---- the same puts elsewhere
 
-pub keyed_elsewhere : (r u : RingState) (live after : Live) (from to : ℕ) (P Q : ℕ → Type 0) (index : Lazy) → Moves index → u.room ≡ r.room → ((k : ℕ) → slot u k ≡ slot r k)
+pub keyed_elsewhere : (r u : RingState) (live after : Live) (from to : ℕ) (P Q : ℕ → Type 0) (index : PutRows) → Moves index → u.room ≡ r.room → ((k : ℕ) → slot u k ≡ slot r k)
     → ((k : ℕ) → k < to → nth_key u after k ≡ nth_key r live k) → ((k : ℕ) → from ≤ k → k < to → P k ↔ Q k)
     → IsKeyedBy r live from to P index → IsKeyedBy u after from to Q index
 keyed_elsewhere r u live after from to P Q index moves room slots keys holds by = record {
@@ -75,7 +77,7 @@ newest_same r u live after k count low keys = (
 
 -- ---- a row goes
 
-pub has_less : (index after : Lazy) (n m : ℕ) → Once index → AreSame (rows_in index) (n ∷ rows_in after) → Has after m → Has index m × (m ≢ n)
+pub has_less : (index after : PutRows) (n m : ℕ) → Once index → AreSame (rows_in index) (n ∷ rows_in after) → Has after m → Has index m × (m ≢ n)
 has_less index after n m once same h = elim (cases_eq m n) [
   | inl e ↦
       absurd (let there : 1 ≤ times n (rows_in after) = subst (λ x. 1 ≤ times x (rows_in after)) e h in
@@ -83,12 +85,12 @@ has_less index after n m once same h = elim (cases_eq m n) [
   | inr far ↦ (let s = same m in let t = times_there m n (rows_in after) (λ e. far (sym e)) in (omega (arith, s, t, h), far))
 ]
 
-pub has_more : (index after : Lazy) (n m : ℕ) → AreSame (rows_in index) (n ∷ rows_in after) → Has index m → m ≢ n → Has after m
+pub has_more : (index after : PutRows) (n m : ℕ) → AreSame (rows_in index) (n ∷ rows_in after) → Has index m → m ≢ n → Has after m
 has_more index after n m same h far = (let s = same m in let t = times_there m n (rows_in after) (λ e. far (sym e)) in omega (arith, s, t, h))
 
 -- ---- the newest put of a key leaves
 
-pub forgotten : (r : RingState) (live : Live) (key : List ℕ) (n : ℕ) (index after : Lazy) → IsRingOf r live → IsIndexOf r live index → Has index n → key_at live r.places n ≡ key → Once index
+pub forgotten : (r : RingState) (live : Live) (key : List ℕ) (n : ℕ) (index after : PutRows) → IsRingOf r live → IsIndexOf r live index → Has index n → key_at live r.places n ≡ key → Once index
     → AreSame (rows_in index) (n ∷ rows_in after) → after.room ≡ index.room → IsKeyed (key_at live r.places) after → IsIndexBut key r live after
 forgotten r live key n index after of by has is once same room keyed = record {
   room = room ∙ by.room;
@@ -98,13 +100,13 @@ forgotten r live key n index after of by has is once same room keyed = record {
     those = λ k low high. (
       λ h.
           (let l = has_less index after n (slot r k) once same h in
-          ((by.has.those k low high).0 l.0, λ e. l.1 ((lazy_of r live r.count index of (omega arith) by).apart (slot r k) n l.0 has (e ∙ sym is)))),
+          ((by.has.those k low high).0 l.0, λ e. l.1 (apart r live index by (slot r k) n l.0 has (e ∙ sym is)))),
       λ p. has_more index after n (slot r k) same ((by.has.those k low high).1 p.0) (λ e. p.1 (ap (key_at live r.places) e ∙ is)),
     );
   };
 }
 
-pub none_forgotten : (r : RingState) (live : Live) (key : List ℕ) (index : Lazy) → IsIndexOf r live index → ((n : ℕ) → Has index n → key_at live r.places n ≢ key) → IsIndexBut key r live index
+pub none_forgotten : (r : RingState) (live : Live) (key : List ℕ) (index : PutRows) → IsIndexOf r live index → ((n : ℕ) → Has index n → key_at live r.places n ≢ key) → IsIndexBut key r live index
 none_forgotten r live key index by none = record {
   room = by.room;
   keyed = by.keyed;
@@ -116,11 +118,11 @@ none_forgotten r live key index by none = record {
 
 -- ---- the oldest put leaves, if it is there
 
-behind_from : (r : RingState) (index : Lazy) (n : ℕ) → n ≢ slot r 0 → ((k : ℕ) × (0 ≤ k) × (k < r.count) × (n ≡ slot r k)) → (k : ℕ) × (1 ≤ k) × (k < r.count) × (n ≡ slot r k)
+behind_from : (r : RingState) (index : PutRows) (n : ℕ) → n ≢ slot r 0 → ((k : ℕ) × (0 ≤ k) × (k < r.count) × (n ≡ slot r k)) → (k : ℕ) × (1 ≤ k) × (k < r.count) × (n ≡ slot r k)
 behind_from r index n far (zero, low, high, is) = absurd (far is)
 behind_from r index n far (suc k, low, high, is) = (suc k, omega arith, high, is)
 
-pub oldest_forgotten : (r : RingState) (live : Live) (index after : Lazy) → IsRingOf r live → 1 ≤ r.count → IsIndexOf r live index → Once index
+pub oldest_forgotten : (r : RingState) (live : Live) (index after : PutRows) → IsRingOf r live → 1 ≤ r.count → IsIndexOf r live index → Once index
     → AreSame (rows_in index) (slot r 0 ∷ rows_in after) → after.room ≡ index.room → IsKeyed (key_at live r.places) after → IsIndexBehind r live after
 oldest_forgotten r live index after of some by once same room keyed = record {
   room = room ∙ by.room;
@@ -136,7 +138,7 @@ oldest_forgotten r live index after of some by once same room keyed = record {
   };
 }
 
-pub oldest_absent : (r : RingState) (live : Live) (index : Lazy) → IsIndexOf r live index → ¬ (Has index (slot r 0)) → IsIndexBehind r live index
+pub oldest_absent : (r : RingState) (live : Live) (index : PutRows) → IsIndexOf r live index → ¬ (Has index (slot r 0)) → IsIndexBehind r live index
 oldest_absent r live index by none = record {
   room = by.room;
   keyed = by.keyed;
@@ -146,9 +148,15 @@ oldest_absent r live index by none = record {
   };
 }
 
+pub oldest_out : (was : Bool) (r : RingState) (live : Live) (index after : PutRows) → IsRingOf r live → 1 ≤ r.count → IsIndexOf r live index → Once index → after.room ≡ index.room → IsKeyed (key_at live r.places) after
+    → (was ≡ true → AreSame (rows_in index) (slot r 0 ∷ rows_in after)) → (was ≡ false → times (slot r 0) (rows_in index) ≡ 0) → (was ≡ false → after ≡ index) → IsIndexBehind r live after
+oldest_out true r live index after of some by once room keyed less absent unchanged = oldest_forgotten r live index after of some by once (less refl) room keyed
+oldest_out false r live index after of some by once room keyed less absent unchanged =
+    subst (IsIndexBehind r live) (sym (unchanged refl)) (oldest_absent r live index by (λ h. (let none = absent refl in omega (arith, none, h))))
+
 -- ---- the oldest put is gone
 
-pub index_popped : (r : RingState) (live after : Live) (index : Lazy) → IsRing r → Moves index → IsPopped r live after → IsIndexBehind r live index → IsIndexOf (popped r) after index
+pub index_popped : (r : RingState) (live after : Live) (index : PutRows) → IsRing r → Moves index → IsPopped r live after → IsIndexBehind r live index → IsIndexOf (popped r) after index
 index_popped r live after index is moves gone by =
     let few = is.few in
     let slots : (k : ℕ) → suc k < r.count → slot (popped r) k ≡ slot r (suc k) = λ k low. slot_next r k is (omega (arith, low, few)) in
@@ -181,7 +189,7 @@ index_popped r live after index is moves gone by =
 -- ---- the newest put enters
 
 -- the rows are below the room, each once, and the new one is none of them
-pub entry_fits : (r : RingState) (live : Live) (index : Lazy) → IsRingOf r live → 1 ≤ r.count → IsIndexBefore r live index → Once index → length (rows_in index) < index.room
+pub entry_fits : (r : RingState) (live : Live) (index : PutRows) → IsRingOf r live → 1 ≤ r.count → IsIndexBefore r live index → Once index → length (rows_in index) < index.room
 entry_fits r live index of some by once =
     let few = of.numbers.few in let n = slot r (r.count - 1) in
     let n_low : n < r.room = slot_inside r (r.count - 1) of.numbers (omega (arith, some, few)) in
@@ -206,13 +214,13 @@ entry_fits r live index of some by once =
     above : (m : ℕ) → r.room ≤ m → Has index m → ⊥
     above m high h = (let few = of.numbers.few in let w = by.has.only m h in let kl = w.2 in let s = slot_inside r w.0 of.numbers (omega (arith, kl, few)) in let is = w.3 in omega (arith, s, is, high))
 
-pub entry_new : (r : RingState) (live : Live) (index : Lazy) → 1 ≤ r.count → IsIndexBefore r live index → (n : ℕ) → Has index n → key_at live r.places n ≢ nth_key r live (r.count - 1)
+pub entry_new : (r : RingState) (live : Live) (index : PutRows) → 1 ≤ r.count → IsIndexBefore r live index → (n : ℕ) → Has index n → key_at live r.places n ≢ nth_key r live (r.count - 1)
 entry_new r live index some by n h e =
     let w = by.has.only n h in let kl = w.2 in
     let newest = (by.has.those w.0 w.1 w.2).0 (subst (Has index) w.3 h) in
     newest (r.count - 1) kl (omega (arith, some)) (sym e ∙ ap (key_at live r.places) w.3)
 
-pub entered : (r : RingState) (live : Live) (index after : Lazy) → IsRingOf r live → 1 ≤ r.count → IsIndexBefore r live index → AreSame (slot r (r.count - 1) ∷ rows_in index) (rows_in after)
+pub entered : (r : RingState) (live : Live) (index after : PutRows) → IsRingOf r live → 1 ≤ r.count → IsIndexBefore r live index → AreSame (slot r (r.count - 1) ∷ rows_in index) (rows_in after)
     → after.room ≡ index.room → IsKeyed (key_at live r.places) after → IsIndexOf r live after
 entered r live index after of some by same room keyed =
     let n = slot r (r.count - 1) in let few = of.numbers.few in
@@ -244,7 +252,7 @@ entered r live index after of some by same room keyed =
     }
 
 -- a put more stands, and the index has no put of its key
-pub index_pushed : (r : RingState) (live after : Live) (p : Place) (put : Row) (key : List ℕ) (index : Lazy) → Moves index → IsPushed r p put live after → put.key ≡ key
+pub index_pushed : (r : RingState) (live after : Live) (p : Place) (put : Row) (key : List ℕ) (index : PutRows) → Moves index → IsPushed r p put live after → put.key ≡ key
     → IsIndexBut key r live index → IsIndexBefore (pushed p r) after index
 index_pushed r live after p put key index moves is same by =
     let keys : (k : ℕ) → k < r.count → nth_key (pushed p r) after k ≡ nth_key r live k = λ k low. ap (λ (x : Row). x.key) (is.old k low) in

@@ -4,6 +4,7 @@ pub mod Slots
 pub mod Rings
 pub mod Moving
 pub mod Placed
+pub mod PutRows
 pub mod Indexes
 pub mod Stored
 pub mod Sought

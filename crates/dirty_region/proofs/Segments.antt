@@ -12,7 +12,7 @@ use Rattle.regions.specs.Counts.{live_total}
 use Rattle.regions.specs.Contents.{Keeps, item_if_live, live_at, standing_at}
 use Rattle.regions.specs.Stores.{Live}
 use Rattle.regions.specs.declared.place.Place.{Place}
-use Rattle.lazy_index.specs.Lazy.{Lazy}
+use Rattle.dirty_region.specs.inside.PutRows.{PutRows}
 use Rattle.dirty_region.specs.inside.Rings.{RingState, IsRingOf, listed, nth, puts_in, key_at}
 use Rattle.dirty_region.specs.inside.Indexed.{IsIndexOf}
 use Rattle.dirty_region.specs.inside.Consistent.{HasSpare, IsStored}
@@ -27,7 +27,7 @@ same_live r s keeps = λ i p. item_if_live (keeps p i)
 pub puts_kept : (ring : RingState) (r s : RegionState) → Keeps r s → puts_in ring (live_at s) ≡ puts_in ring (live_at r)
 puts_kept ring r s keeps = ap (puts_in ring) (same_live r s keeps)
 
-pub stored_kept : (ring : RingState) (index : Lazy) (r s : RegionState) (bytes : ℕ) → IsStored ring index r bytes → Keeps r s → live_total s ≡ live_total r → HasSpare s → IsStored ring index s bytes
+pub stored_kept : (ring : RingState) (index : PutRows) (r s : RegionState) (bytes : ℕ) → IsStored ring index r bytes → Keeps r s → live_total s ≡ live_total r → HasSpare s → IsStored ring index s bytes
 stored_kept ring index r s bytes h keeps total spare =
     let same = same_live r s keeps in record {
       ring_of = subst (IsRingOf ring) (sym same) h.ring_of;
@@ -133,7 +133,7 @@ spare_emptied r new spare most groups free = record {
 pub no_puts_left : (ring : RingState) (l : Live) → ring.count ≡ 0 → puts_in ring l ≡ []
 no_puts_left ring l none = ap (listed (nth ring l)) none
 
-pub stored_emptied : (ring : RingState) (index : Lazy) (r s : RegionState) (bytes : ℕ) → IsStored ring index r bytes → ring.count ≡ 0 → Moves index → ((p : Place) → standing_at s p ≡ None)
+pub stored_emptied : (ring : RingState) (index : PutRows) (r s : RegionState) (bytes : ℕ) → IsStored ring index r bytes → ring.count ≡ 0 → Moves index → ((p : Place) → standing_at s p ≡ None)
     → live_total s ≡ 0 → HasSpare s → IsStored ring index s bytes
 stored_emptied ring index r s bytes h none moves objects total spare =
     let old = ap live (no_puts_left ring (live_at r) none) in let sizes = h.sizes in let counted = h.counted in record {

@@ -13,7 +13,7 @@ use Rattle.regions.specs.Contents.{Item, item_if_live, live_at, size_of, standin
 use Rattle.regions.specs.Stores.{Live, found, store_of}
 use Rattle.regions.specs.declared.place.Place.{Place}
 use Rattle.compaction.specs.Emptied.{HoldsTheSame}
-use Rattle.lazy_index.specs.Lazy.{Lazy, Has, IsKeyed}
+use Rattle.dirty_region.specs.inside.PutRows.{PutRows, Has, IsKeyed}
 use Rattle.dirty_region.specs.State.{DirtyState, HoldsSegments}
 use Rattle.dirty_region.specs.inside.Rings.{RingState, IsRingOf, Drops, slot, position, popped, listed, nth, puts_in, place_of, bare, key_at, nowhere}
 use Rattle.dirty_region.specs.inside.Indexed.{IsKeyedBy, IsNewest, IsIndexOf, IsIndexBehind, nth_key}
@@ -47,7 +47,7 @@ segments_same r s same = record { most = ap (λ (x : Shape). x.most) same; piece
 
 -- ---- the oldest put goes
 
-pub stored_popped : (r : RingState) (index : Lazy) (old new : RegionState) (bytes left gone : ℕ) (p : Place) → IsRingOf r (live_at old) → 1 ≤ r.count
+pub stored_popped : (r : RingState) (index : PutRows) (old new : RegionState) (bytes left gone : ℕ) (p : Place) → IsRingOf r (live_at old) → 1 ≤ r.count
     → live (puts_in r (live_at old)) ≡ live_total old → bytes ≡ live_total old → HasSpare old → slice_get r.places (slot r 0) ≡ Some p → Drops p (live_at old) (live_at new)
     → IfSome (live_at old p) (λ item. gone ≡ size_of item) → live_total new + gone ≡ live_total old → shape new ≡ shape old → left ≡ bytes - gone
     → Moves index → IsIndexBehind r (live_at old) index → IsStored (popped r) index new left
@@ -91,7 +91,7 @@ pub puts_moved : (r u : RingState) (l m : Live) → IsRingOf r l → IsRingOf u 
 puts_moved r u l m of now rest same =
     ap (λ n. listed (nth u m) n) (ap (λ (x : RingState). x.count) rest) ∙ listed_same (nth u m) (nth r l) r.count (put_moved_on r u l m of now rest same)
 
-pub index_moved : (r u : RingState) (l m : Live) (index : Lazy) → Moves index → IsRingOf r l → IsRingOf u m → apart_from_places u ≡ apart_from_places r
+pub index_moved : (r u : RingState) (l m : Live) (index : PutRows) → Moves index → IsRingOf r l → IsRingOf u m → apart_from_places u ≡ apart_from_places r
     → ((n : ℕ) → store_of bare (place_of u) m n ≡ store_of bare (place_of r) l n) → IsIndexOf r l index → IsIndexOf u m index
 index_moved r u l m index moves of now rest same by =
     let count : u.count ≡ r.count = ap (λ (x : RingState). x.count) rest in
@@ -133,7 +133,7 @@ no_segments n = record { most = n; groups = replicate 1 idle; segments = replica
 abbrev pub no_puts : ℕ → RingState
 no_puts room = record { room = room; head = 0; count = 0; first = 0; places = replicate room nowhere }
 
-pub consistent_new : (ring : RingState) (index : Lazy) (r : RegionState) (rows n : ℕ) → ring ≡ no_puts rows → rows < 2 ^ 32 → r ≡ no_segments n → n ≤ 2048 → index.room ≡ rows → ((m : ℕ) → ¬ Has index m)
+pub consistent_new : (ring : RingState) (index : PutRows) (r : RegionState) (rows n : ℕ) → ring ≡ no_puts rows → rows < 2 ^ 32 → r ≡ no_segments n → n ≤ 2048 → index.room ≡ rows → ((m : ℕ) → ¬ Has index m)
     → ((key_of : ℕ → List ℕ) → IsKeyed key_of index) → IsConsistent ring index r 0 0 0
 consistent_new ring index r rows n is_ring small is_region most room none keyed =
     subst (λ (x : RingState). IsConsistent x index r 0 0 0) (sym is_ring)
@@ -190,7 +190,7 @@ size_small r l of k low =
     let small : size h.put.key h.put.value ≤ 13000 = omega (arith, key, value) in
     subst (λ (x : Row). size x.key x.value ≤ 13000) (sym put) small
 
-pub bytes_small : (r : RingState) (index : Lazy) (s : RegionState) (bytes : ℕ) → IsStored r index s bytes → bytes ≤ 13000 * 2 ^ 32
+pub bytes_small : (r : RingState) (index : PutRows) (s : RegionState) (bytes : ℕ) → IsStored r index s bytes → bytes ≤ 13000 * 2 ^ 32
 bytes_small r index s bytes h =
     let all = live_small (nth r (live_at s)) r.count (size_small r (live_at s) h.ring_of) in
     let few = h.ring_of.numbers.few in let small = h.ring_of.numbers.small in let sizes = h.sizes in let counted = h.counted in omega (arith, all, few, small, sizes, counted)
@@ -203,7 +203,7 @@ pub record IsSeen (room count bytes held : ℕ) (now : DirtyState) : Type 0 wher
   pub held_is : held_count now.region ≡ held
   pub total : live_total now.region ≡ bytes
 
-pub seen : (r : RingState) (index : Lazy) (s : RegionState) (bytes held out : ℕ) (now : DirtyState) → IsConsistent r index s bytes held out
+pub seen : (r : RingState) (index : PutRows) (s : RegionState) (bytes held out : ℕ) (now : DirtyState) → IsConsistent r index s bytes held out
     → (let d : DirtyState = record { room = r.room; queue = record { puts = puts_in r (live_at s); out = out }; region = s } in d ≡ now) → IsSeen r.room r.count bytes held now
 seen r index s bytes held out now is view = record {
   room_is = sym (ap (λ (x : DirtyState). x.room) view);

@@ -15,11 +15,11 @@ mod storing;
 
 use crate::line::GREATEST_LINE;
 use crate::objects::NewPut;
+use crate::put_index::PutIndex;
 use crate::put_keys::content_of;
 use crate::refusal::DirtyRefusal;
 use crate::ring::Ring;
 use crate::seeking::{forget, new_index, search};
-use lazy_index::LazyIndex;
 use region_room::room;
 use regions::Region;
 use row_bytes::{row_size, value_in};
@@ -32,7 +32,7 @@ use storing::{add_put, make_way};
 pub struct Dirty {
     region: Region,
     ring: Ring,
-    index: LazyIndex,
+    index: PutIndex,
     live: u64,
     held: u32,
     out: usize,

@@ -10,6 +10,7 @@
 mod dirty;
 mod line;
 mod objects;
+mod put_index;
 mod put_keys;
 mod refusal;
 mod ring;

@@ -4,7 +4,7 @@ ghost use Rattle.row_bytes.specs.Rows.{IsRow, row_in};
 ghost use Rattle.regions.specs.Contents.{live_at};
 ghost use Rattle.dirty_region.specs.inside.Rings.{HasSomePut, put_at};
 
-use lazy_index::Keys;
+use key_index::Keys;
 use regions::{Place, Region};
 use row_bytes::key_in;
 

@@ -1,30 +1,31 @@
 //! The index of the keys of puts.
 ghost use Rattle.std.specs.Prelude.{◌≡◌, ◌≢◌, ℕ, ◌-◌, ◌≤◌, List, IfOk, MatchResult};
 ghost use Rattle.key_table.specs.Table.{IsSpotFor};
-ghost use Rattle.lazy_index.specs.Lazy.{Has, IsKeyed, IsThere};
 ghost use Rattle.regions.specs.Contents.{live_at};
 ghost use Rattle.dirty_region.specs.inside.Rings.{IsRingOf, key_at};
+ghost use Rattle.dirty_region.specs.inside.PutRows.{Has, IsKeyed, IsThere};
 ghost use Rattle.dirty_region.specs.inside.Indexed.{IsIndexOf, IsIndexBefore, IsIndexBehind, IsIndexBut, nth_key};
 
+use crate::put_index::PutIndex;
 use crate::put_keys::{PutKeys, content_of};
 use crate::ring::Ring;
-use lazy_index::{LazyIndex, RowAt, Spot};
+use key_table::{RowAt, Spot};
 use regions::Region;
 use row_bytes::key_in;
 use std::alloc::{AllocError, Global};
 
 // An index of no puts, with room for so many.
-pub(crate) fn new_index(alloc: Global, room: u32) -> Result<LazyIndex, AllocError>
+pub(crate) fn new_index(alloc: Global, room: u32) -> Result<PutIndex, AllocError>
     ensures room { IfOk result (λ index. index.room ≡ room) }
     ensures none { IfOk result (λ index. (n : ℕ) → ¬ Has index n) }
     ensures keyed { IfOk result (λ index. (key_of : ℕ → List ℕ) → IsKeyed key_of index) }
 {
-    LazyIndex::new(alloc, room)
+    PutIndex::new(alloc, room)
 }
 
 // The slot of the newest put of a key, or the spot for one.
 pub(crate) fn search(
-    index: &LazyIndex,
+    index: &PutIndex,
     ring: &Ring,
     region: &Region,
     key: &[u8],
@@ -39,7 +40,7 @@ pub(crate) fn search(
 }
 
 // The newest put of a key leaves the index, if there is one. Answers the spot of the key.
-pub(crate) fn forget(index: &mut LazyIndex, ring: &Ring, region: &Region, key: &[u8]) -> Spot
+pub(crate) fn forget(index: &mut PutIndex, ring: &Ring, region: &Region, key: &[u8]) -> Spot
     requires ring { IsRingOf ring.now (live_at region.now) }
     requires index { IsIndexOf ring.now (live_at region.now) index.old }
     ensures spot { IsSpotFor key.now result }
@@ -50,13 +51,12 @@ pub(crate) fn forget(index: &mut LazyIndex, ring: &Ring, region: &Region, key: &
         Ok(found) => found,
         Err(spot) => return spot,
     };
-    let standing = index.standing(&keys(ring, region), found);
-    index.remove(standing);
+    index.remove(&keys(ring, region), key, found);
     Spot::new(key)
 }
 
 // The oldest put leaves the index, if it is the newest of its key.
-pub(crate) fn forget_oldest(index: &mut LazyIndex, ring: &Ring, region: &Region)
+pub(crate) fn forget_oldest(index: &mut PutIndex, ring: &Ring, region: &Region)
     requires some { 1 ≤ ring.now.count }
     requires ring { IsRingOf ring.now (live_at region.now) }
     requires index { IsIndexOf ring.now (live_at region.now) index.old }
@@ -65,18 +65,11 @@ pub(crate) fn forget_oldest(index: &mut LazyIndex, ring: &Ring, region: &Region)
     index.law();
     let slot = ring.slot(0);
     let key = key_in(content_of(region, ring.places(), slot));
-    let Ok(found) = search(index, ring, region, key) else {
-        return;
-    };
-    if found.row != slot {
-        return;
-    }
-    let standing = index.standing(&keys(ring, region), found);
-    index.remove(standing);
+    index.remove_row(&keys(ring, region), key, slot);
 }
 
 // The newest put enters the index, which has no other of its key.
-pub(crate) fn enter(index: &mut LazyIndex, ring: &Ring, region: &Region, spot: Spot)
+pub(crate) fn enter(index: &mut PutIndex, ring: &Ring, region: &Region, spot: Spot)
     requires some { 1 ≤ ring.now.count }
     requires ring { IsRingOf ring.now (live_at region.now) }
     requires spot { IsSpotFor (nth_key ring.now (live_at region.now) (ring.now.count - 1)) spot }

@@ -4,6 +4,8 @@
 #[cfg(test)]
 mod flushes;
 #[cfg(test)]
+mod one_tag;
+#[cfg(test)]
 mod plain;
 #[cfg(test)]
 mod puts;

@@ -5,7 +5,7 @@ use Rattle.regions.specs.Segments.{RegionState}
 use Rattle.regions.specs.Shapes.{shape, group_count, active_of, guards_of, held_count, free_count}
 use Rattle.regions.specs.Counts.{live_total}
 use Rattle.regions.specs.Contents.{live_at}
-use Rattle.lazy_index.specs.Lazy.{Lazy}
+use Rattle.dirty_region.specs.inside.PutRows.{PutRows}
 use Rattle.dirty_region.specs.Queues.{IsOut}
 use Rattle.dirty_region.specs.inside.Rings.{RingState, IsRingOf, puts_in}
 use Rattle.dirty_region.specs.inside.Indexed.{IsIndexOf}
@@ -19,14 +19,14 @@ pub record HasSpare (r : RegionState) : Type 0 where
   pub free : 2 ≤ held_count r → 1 ≤ free_count r
 
 -- the ring is the one of the live objects, whose bytes are so many, and the index the one of the ring
-pub record IsStored (ring : RingState) (index : Lazy) (r : RegionState) (bytes : ℕ) : Type 0 where
+pub record IsStored (ring : RingState) (index : PutRows) (r : RegionState) (bytes : ℕ) : Type 0 where
   pub ring_of : IsRingOf ring (live_at r)
   pub index_of : IsIndexOf ring (live_at r) index
   pub counted : bytes ≡ live_total r
   pub sizes : live (puts_in ring (live_at r)) ≡ live_total r
   pub spare : HasSpare r
 
-pub record IsConsistent (ring : RingState) (index : Lazy) (r : RegionState) (bytes held out : ℕ) : Type 0 where
+pub record IsConsistent (ring : RingState) (index : PutRows) (r : RegionState) (bytes held out : ℕ) : Type 0 where
   pub stored : IsStored ring index r bytes
   pub held_is : held ≡ held_count r
   pub out_is : IsOut out (puts_in ring (live_at r))

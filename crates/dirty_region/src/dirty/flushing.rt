@@ -12,9 +12,9 @@ ghost use Rattle.dirty_region.specs.State.{HoldsSegments};
 use super::Dirty;
 use super::storing::drop_oldest;
 use crate::line::{make_line, write_rest};
+use crate::put_index::PutIndex;
 use crate::put_keys::content_of;
 use crate::ring::Ring;
-use lazy_index::LazyIndex;
 use outside::{Failed, Sink};
 use regions::Region;
 use row_bytes::{key_in, put_in, value_in};
@@ -64,7 +64,7 @@ impl Dirty {
 fn take_out(
     region: &mut Region,
     ring: &mut Ring,
-    index: &mut LazyIndex,
+    index: &mut PutIndex,
     live_bytes: &mut u64,
     out: &mut usize,
 )

@@ -14,14 +14,15 @@ ghost use Rattle.dirty_region.specs.inside.Consistent.{HasSpare, IsStored};
 ghost use Rattle.dirty_region.specs.inside.NewPuts.{row_of, CanStand};
 
 use crate::objects::{NewPut, kill_put, place_put};
+use crate::put_index::PutIndex;
 use crate::ring::Ring;
 use crate::seeking::{enter, forget_oldest};
-use lazy_index::{LazyIndex, Spot};
+use key_table::Spot;
 use region_room::make_room;
 use regions::Region;
 
 // Makes room for an object of the size. The puts are the same, wherever they stand.
-pub(super) fn make_way(region: &mut Region, ring: &mut Ring, index: &LazyIndex, size: u32)
+pub(super) fn make_way(region: &mut Region, ring: &mut Ring, index: &PutIndex, size: u32)
     // A ring and its index, and an object that the segments surely hold.
     requires ring { IsRingOf ring.old (live_at region.old) }
     requires index { IsIndexOf ring.old (live_at region.old) index.now }
@@ -49,7 +50,7 @@ pub(super) fn make_way(region: &mut Region, ring: &mut Ring, index: &LazyIndex, 
 pub(super) fn add_put(
     region: &mut Region,
     ring: &mut Ring,
-    index: &mut LazyIndex,
+    index: &mut PutIndex,
     spot: Spot,
     put: NewPut<'_>,
 )
@@ -81,7 +82,7 @@ pub(super) fn add_put(
 pub(super) fn drop_oldest(
     region: &mut Region,
     ring: &mut Ring,
-    index: &mut LazyIndex,
+    index: &mut PutIndex,
     live_bytes: &mut u64,
 )
     requires some { 1 ≤ ring.old.count }
@@ -104,7 +105,7 @@ pub(super) fn drop_oldest(
 pub(super) fn drop_all(
     region: &mut Region,
     ring: &mut Ring,
-    index: &mut LazyIndex,
+    index: &mut PutIndex,
     live_bytes: &mut u64,
 )
     requires stored { IsStored ring.old index.old region.old live_bytes.old }

@@ -1,17 +1,17 @@
 use Rattle.std.proofs.Common.{◌≡◌, ◌≢◌, ℕ, sym, arith}
 use Rattle.std.specs.Prelude.{MatchResult}
 use Rattle.key_table.specs.Table.{IsSpotFor}
-use Rattle.lazy_index.specs.Lazy.{Has, IsThere, IsLazyOf}
+use Rattle.dirty_region.specs.inside.PutRows.{Has, IsThere, IsPutIndexOf}
 use Rattle.regions.specs.Contents.{live_at}
 use Rattle.dirty_region.specs.inside.Rings.{HasSomePut, key_at}
-use Rattle.dirty_region.proofs.Indexes.{lazy_of, at_keys}
+use Rattle.dirty_region.proofs.Indexes.{put_index_of, at_keys}
 use Rattle.dirty_region.proofs.seeking.search.Goals as goal
 
 pub find-requires : goal.find-requires
 find-requires c =
     let k = c.keys.result in
-    at_keys (λ s places. IsLazyOf (HasSomePut (live_at s) places) (key_at (live_at s) places) c.args.index.now) c.args.region.now k.region.now c.args.ring.now.places k.places.now
-    c.keys.ensures.region c.keys.ensures.places (lazy_of c.args.ring.now (live_at c.args.region.now) c.args.ring.now.count c.args.index.now c.requires.ring (omega arith) c.requires.index)
+    at_keys (λ s places. IsPutIndexOf (HasSomePut (live_at s) places) (key_at (live_at s) places) c.args.index.now) c.args.region.now k.region.now c.args.ring.now.places k.places.now
+    c.keys.ensures.region c.keys.ensures.places (put_index_of c.args.ring.now (live_at c.args.region.now) c.args.ring.now.count c.args.index.now c.requires.ring (omega arith) c.requires.index)
 
 pub returns : goal.returns
 returns c =
