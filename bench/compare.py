@@ -1,13 +1,14 @@
 #!/usr/bin/env python3
 """Times the program beside the unproved one, and prints a table.
 
-    bench/compare.py [-r ROUNDS] [CASE ...]
+    bench/compare.py [-r ROUNDS] [--small-pages] [CASE ...]
 
 It builds the unproved program (bench/unproved, by cargo) and makes the traces where they are missing, in bench/out. A CASE is TRACE:SHARDS:PAGES with a
 trace of bench/traces.py, or `paths`, whose keys are the paths of this machine's files. The two programs run in turn, ROUNDS times (default 5), with
 their output thrown away. Printed are the least user and system time together, the least time by the clock and the greatest memory, each with its ratio
 to the unproved program's, and how many rows went. Where none goes, both wrote the same bytes. The unproved program evicts where the live bytes exceed
-what its option --limit says: all of the pages but one segment.
+what its option --limit says: all of the pages but one segment. Both run as ./shardcache runs the program, with a C library that asks the system for
+large pages; with --small-pages neither does.
 """
 import filecmp
 import os
@@ -22,6 +23,7 @@ PROVED = f"{BENCH}/../crates/shardcache_main/out/shardcache_main"
 UNPROVED = f"{BENCH}/unproved/target/release/unproved"
 CASES = [f"{name}:1:{pages}" for name, pages in (("gen", 8192), ("small", 8192), ("manykeys", 16384), ("evict", 8192), ("churn", 8192), ("paths", 32768), ("scans", 8192))]
 CASES += ["gen:4:8192", "small:4:8192", "manykeys:4:8192", "evict:4:2048", "paths:4:8192"]
+os.environ["GLIBC_TUNABLES"] = "glibc.malloc.hugetlb=1"
 
 
 def trace_of(name):
@@ -84,6 +86,8 @@ def main():
     rounds = 5
     if words[:1] == ["-r"]:
         rounds, words = int(words[1]), words[2:]
+    if words[:1] == ["--small-pages"]:
+        del words[0], os.environ["GLIBC_TUNABLES"]
     if any(not re.fullmatch(r"\w+:\d+:\d+", it) for it in words):
         sys.exit(__doc__)
     os.makedirs(OUT, exist_ok=True)

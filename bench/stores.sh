@@ -3,10 +3,11 @@
 # map to the newest of each key, on the traces `small` and `puts` of bench/traces.py; `values` beside a hash map of vectors, on the
 # script `values`. First each writes its text to a file, and the two are compared byte for byte; then both run in turn with their
 # output thrown away. Printed are the least user and system time together, the least time by the clock and the greatest memory of
-# each, and the ratios.
+# each, and the ratios. Both run as ./shardcache runs the program, with a C library that asks the system for large pages.
 #   bench/stores.sh [RUNS] [PAGES]
 set -euo pipefail
 top=$(cd "$(dirname "${BASH_SOURCE[0]}")/.." && pwd)
+export GLIBC_TUNABLES=glibc.malloc.hugetlb=1
 runs=${1:-7}
 pages=${2:-8192}
 out=$top/bench/out
