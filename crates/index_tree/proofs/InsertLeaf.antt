@@ -1,5 +1,6 @@
 -- A key put into a leaf, and a leaf split.
-use Rattle.std.proofs.Common.{◌≡◌, ◌≢◌, ℕ, zero, suc, ◌<◌, ◌≤◌, ◌^◌, false, List, [], ◌∷◌, ◌++◌, All, length, take, drop, Option, Some, option_map, refl, sym, ap, subst, ◌∙◌, arith, length-append, Ordering, Less, Equal, Greater, is_lt, get_or, set, ◌+◌}
+use Rattle.std.proofs.Common.{◌≡◌, ◌≢◌, ℕ, zero, suc, ◌<◌, ◌≤◌, ◌^◌, false, option_map, refl, sym, ap, subst, ◌∙◌, arith, length-append, Ordering, Less, Equal, Greater, is_lt, get_or, set, ◌+◌}
+use Rattle.std.specs.Prelude.{List, [], ◌∷◌, ◌++◌, All, length, take, drop, Option, Some}
 use Rattle.std.specs.List.{insert}
 use Rattle.std.proofs.lemmas.List.{append-nil, drop_more, length-drop, length-set, length-take-le, set_split, take-append-drop}
 use Rattle.std.proofs.lemmas.List.Elements.{All-append, All-cons, All-drop, All-get_or, All-head, All-nil, All-set, All-take, All-weaker}

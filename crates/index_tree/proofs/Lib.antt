@@ -22,6 +22,7 @@ pub mod InsertWay
 pub mod InsertedLeaf
 pub mod InsertedTree
 pub mod LeafCuts
+pub mod LeafMends
 pub mod Lengths
 pub mod Lists
 pub mod Lives

@@ -96,7 +96,7 @@ listed_moved nodes from to room_from room_to far free t tree places listed = rec
 
 -- ---- a node was copied
 
-module _ (live : Live) (from to : Place) (r : RosterState) (is : IsRosterOf r (less to live)) (far : from ≢ to) (room_from : HasRoom from) (room_to : HasRoom to)
+module _ (live : Live) (from to : Place) (r : RosterState) (is : IsRosterOf r (less to live)) (far : from ≢ to) (room_to : HasRoom to)
     (item : Item) (at_from : live from ≡ Some item) (at_to : live to ≡ Some item) where
   few : Nodes
   few = nodes_of (less to live)
@@ -142,6 +142,9 @@ module _ (live : Live) (from to : Place) (r : RosterState) (is : IsRosterOf r (l
 
   pub from_among : Among from (places_of (nodes_of live) r.tree)
   from_among = standing from (node item) (ap (option_map node) from_live)
+
+  room_from : HasRoom from
+  room_from = place_room (nodes_of live) r.tree tree_in from from_among
 
   -- where a field names the place, the node is one of the tree, not the copy
   known_by : (field : Option TreeNode → ℕ) → field None ≡ no_place → field (nodes_of live from) ≢ link_to (Some from) → (q : Place) → field (nodes_of live q) ≡ link_to (Some from)

@@ -34,10 +34,11 @@ pub(crate) fn led_to(link: u64) -> Option<Place>
     })
 }
 
-/// The number of the parent of the node at a place.
+/// The number of the parent of the node at a place. Where a node stands, a number can lead.
 pub(crate) fn parent_at(region: &Region, at: Place) -> u64
     requires { HoldsNode (live_at region.now) at }
-    ensures { IfSome (nodes_of (live_at region.now) at) (λ node. result ≡ node.parent) }
+    ensures parent { IfSome (nodes_of (live_at region.now) at) (λ node. result ≡ node.parent) }
+    ensures room { links.HasRoom at }
 {
     tree_nodes::parent(region.bytes(at))
 }

@@ -12,6 +12,7 @@ mod filling;
 mod finding;
 mod inserting;
 mod law;
+mod leaves;
 mod mending;
 mod pairs;
 mod placing;

@@ -1,13 +1,10 @@
-//! Two nodes side by side, of which one has an entry too few, and their parent: their contents.
+//! Two inner nodes side by side, of which one has an entry too few, and their parent: their contents.
 ghost use Rattle.std.specs.Prelude.{◌≡◌, ℕ, ◌+◌, ◌<◌, ◌≤◌, ◌⊎◌, length};
 ghost use Rattle.tree_nodes.specs.Nodes as nodes;
 ghost use Rattle.tree_nodes.specs.Nodes.{IsNode, child_at, entry_at, node_in};
-ghost use Rattle.index_tree.specs.Links.{with_next};
 ghost use Rattle.index_tree.specs.Pairs as pairs;
 
-use tree_nodes::{
-    add, add_child, child, count, cut, cut_child, key, next_leaf, number, set_child, set_next_leaf,
-};
+use tree_nodes::{add, add_child, child, count, cut, cut_child, key, number, set_child};
 
 // Adds an entry of one node to another.
 fn copy_entry(from: &[u8], k: u16, to: &mut [u8], i: u16)
@@ -48,51 +45,6 @@ fn separate(from: &[u8], k: u16, parent: &mut [u8], j: u16)
     copy_key(from, k, parent, j);
 }
 
-/// The last entry of the left leaf becomes the first of the right one.
-pub(crate) fn give_right(parent: &mut [u8], j: u16, left: &mut [u8], right: &mut [u8])
-    requires parent { IsNode parent.old }
-    requires j { j < length (node_in parent.old).entries }
-    requires left { IsNode left.old }
-    requires some { 1 ≤ length (node_in left.old).entries }
-    requires right { IsNode right.old }
-    requires room { length (node_in right.old).entries < nodes.most_entries }
-    ensures parent { node_in parent.new
-        ≡ pairs.separated j (entry_at (node_in left.old) (pairs.last_of (node_in left.old))).key (node_in parent.old) }
-    ensures left { node_in left.new ≡ pairs.gives (pairs.last_of (node_in left.old)) (node_in left.old) }
-    ensures right { node_in right.new
-        ≡ pairs.gains 0 (entry_at (node_in left.old) (pairs.last_of (node_in left.old))) (node_in right.old) }
-    ensures holds_parent { IsNode parent.new }
-    ensures holds_left { IsNode left.new }
-    ensures holds_right { IsNode right.new }
-{
-    let last = count(left) - 1;
-    copy_entry(left, last, right, 0);
-    separate(left, last, parent, j);
-    cut(left, last);
-}
-
-/// The first entry of the right leaf becomes the last of the left one.
-pub(crate) fn give_left(parent: &mut [u8], j: u16, left: &mut [u8], right: &mut [u8])
-    requires parent { IsNode parent.old }
-    requires j { j < length (node_in parent.old).entries }
-    requires left { IsNode left.old }
-    requires room { length (node_in left.old).entries < nodes.most_entries }
-    requires right { IsNode right.old }
-    requires some { 2 ≤ length (node_in right.old).entries }
-    ensures parent { node_in parent.new ≡ pairs.separated j (entry_at (pairs.gives 0 (node_in right.old)) 0).key (node_in parent.old) }
-    ensures left { node_in left.new
-        ≡ pairs.gains (length (node_in left.old).entries) (entry_at (node_in right.old) 0) (node_in left.old) }
-    ensures right { node_in right.new ≡ pairs.gives 0 (node_in right.old) }
-    ensures holds_parent { IsNode parent.new }
-    ensures holds_left { IsNode left.new }
-    ensures holds_right { IsNode right.new }
-{
-    let end = count(left);
-    copy_entry(right, 0, left, end);
-    cut(right, 0);
-    separate(right, 0, parent, j);
-}
-
 // Adds all entries of one node behind those of another.
 fn copy_entries(from: &[u8], to: &mut [u8])
     requires from { IsNode from.now }
@@ -118,25 +70,6 @@ fn copy_children(from: &[u8], n: u16, to: &mut [u8], at: u16)
     for k in 0..n {
         set_child(to, at + k, child(from, k));
     }
-}
-
-/// All entries of the right leaf come behind those of the left one, which takes its place in the parent and among the leaves.
-pub(crate) fn join(parent: &mut [u8], j: u16, left: &mut [u8], right: &[u8])
-    requires parent { IsNode parent.old }
-    requires j { j < length (node_in parent.old).entries }
-    requires left { IsNode left.old }
-    requires right { IsNode right.now }
-    requires room { length (node_in left.old).entries + length (node_in right.now).entries ≤ nodes.most_entries }
-    ensures parent { node_in parent.new ≡ pairs.gives_child (j + 1) (pairs.gives j (node_in parent.old)) }
-    ensures left { node_in left.new
-        ≡ with_next (node_in right.now).next_leaf (pairs.takes (node_in right.now).entries (node_in left.old)) }
-    ensures holds_parent { IsNode parent.new }
-    ensures holds_left { IsNode left.new }
-{
-    copy_entries(right, left);
-    set_next_leaf(left, next_leaf(right));
-    cut(parent, j);
-    cut_child(parent, j + 1);
 }
 
 /// The last child of the left inner node becomes the first of the right one. The keys beside it turn.
@@ -215,35 +148,7 @@ pub(crate) fn join_above(parent: &mut [u8], j: u16, left: &mut [u8], right: &[u8
     cut_child(parent, j + 1);
 }
 
-/// Mends two leaves side by side of which one has an entry too few, and answers whether the right one is free now.
-pub(crate) fn mend(parent: &mut [u8], j: u16, left: &mut [u8], right: &mut [u8]) -> bool
-    requires parent { IsNode parent.old }
-    requires j { j < length (node_in parent.old).entries }
-    requires left { IsNode left.old }
-    requires right { IsNode right.old }
-    requires few { (length (node_in left.old).entries ≡ 7) ⊎ (length (node_in right.old).entries ≡ 7) }
-    requires some_left { 7 ≤ length (node_in left.old).entries }
-    requires some_right { 7 ≤ length (node_in right.old).entries }
-    ensures mended { pairs.AreMended result j (node_in parent.old) (node_in left.old) (node_in right.old)
-        (node_in parent.new) (node_in left.new) (node_in right.new) }
-    ensures holds_parent { IsNode parent.new }
-    ensures holds_left { IsNode left.new }
-    ensures holds_right { IsNode right.new }
-{
-    if count(left) > 8 {
-        give_right(parent, j, left, right);
-        return false;
-    }
-    if count(right) > 8 {
-        give_left(parent, j, left, right);
-        return false;
-    }
-    join(parent, j, left, right);
-    restart(right);
-    true
-}
-
-/// The same of inner nodes.
+/// Mends two inner nodes side by side of which one has an entry too few, and answers whether the right one is free now.
 pub(crate) fn mend_above(parent: &mut [u8], j: u16, left: &mut [u8], right: &mut [u8]) -> bool
     requires parent { IsNode parent.old }
     requires j { j < length (node_in parent.old).entries }
@@ -279,31 +184,4 @@ fn restart(node: &mut [u8])
 {
     tree_nodes::a_node_is_read_as_it_is_written();
     tree_nodes::start(node, 0);
-}
-
-/// Mends two inner nodes, or two leaves.
-pub(crate) fn mend_if(
-    above: bool,
-    parent: &mut [u8],
-    j: u16,
-    left: &mut [u8],
-    right: &mut [u8],
-) -> bool
-    requires parent { IsNode parent.old }
-    requires j { j < length (node_in parent.old).entries }
-    requires left { IsNode left.old }
-    requires right { IsNode right.old }
-    requires few { (length (node_in left.old).entries ≡ 7) ⊎ (length (node_in right.old).entries ≡ 7) }
-    requires some_left { 7 ≤ length (node_in left.old).entries }
-    requires some_right { 7 ≤ length (node_in right.old).entries }
-    ensures mended { pairs.AreMendedIf above result j (node_in parent.old) (node_in left.old) (node_in right.old)
-        (node_in parent.new) (node_in left.new) (node_in right.new) }
-    ensures holds_parent { IsNode parent.new }
-    ensures holds_left { IsNode left.new }
-    ensures holds_right { IsNode right.new }
-{
-    if above {
-        return mend_above(parent, j, left, right);
-    }
-    mend(parent, j, left, right)
 }

@@ -1,5 +1,5 @@
 //! A key taken away below a place, and nodes mended that have an entry too few then.
-ghost use Rattle.std.specs.Prelude.{◌≡◌, ◌≢◌, ◌+◌, ℕ, suc, ◌<◌, ◌≤◌, List, [], ◌∷◌, ◌++◌, Option, IfSome, IsSome, Some, cond, length};
+ghost use Rattle.std.specs.Prelude.{◌≡◌, ◌≢◌, ◌+◌, ℕ, suc, ◌<◌, ◌≤◌, List, [], ◌∷◌, ◌++◌, Option, IfSome, IsSome, Some, true, cond, length};
 ghost use Rattle.std.specs.Option.{option_to_list};
 ghost use Rattle.regions.specs.Contents.{live_at};
 ghost use Rattle.regions.specs.Stores.{SameBut};
@@ -13,7 +13,8 @@ ghost use Rattle.index_tree.specs.Mended.{Adopts, AreUneven, HasKids, IsMendedAt
 ghost use Rattle.index_tree.specs.Writes.{WritesNode, blank};
 
 use crate::fields::{child_of, count_at, led_to, link_to, set_parent_at};
-use crate::pairs::mend_if;
+use crate::leaves::mend_leaves;
+use crate::pairs::mend_above;
 use crate::search::{below_at, way_at};
 use crate::spares::Spares;
 use crate::writing::cut_run_at;
@@ -44,6 +45,34 @@ fn write_at(region: &mut Region, at: Place, content: &[u8])
     region.bytes_mut(at).copy_from_slice(content);
 }
 
+// Mends two inner nodes side by side of which one has an entry too few, and answers whether the right one is free now. The children
+// that they got have the old parent still.
+fn mend_inner(region: &mut Region, at: Place, j: u16, left: Place, right: Place) -> bool
+    requires at { HoldsNode (live_at region.old) at }
+    requires left { HoldsNode (live_at region.old) left }
+    requires right { HoldsNode (live_at region.old) right }
+    requires far_left { left ≢ at }
+    requires far_right { right ≢ at }
+    requires apart { right ≢ left }
+    requires uneven { AreUneven (nodes_of (live_at region.old)) j at left right }
+    ensures mended { IsMendedAt true result j at left right (nodes_of (live_at region.old)) (nodes_of (live_at region.new)) }
+    ensures three { OnlyThree at left right region.old region.new }
+{
+    let mut parent_content = content_at(region, at);
+    let mut left_content = content_at(region, left);
+    let mut right_content = content_at(region, right);
+    let joined = mend_above(
+        &mut parent_content,
+        j,
+        &mut left_content,
+        &mut right_content,
+    );
+    write_at(region, at, &parent_content);
+    write_at(region, left, &left_content);
+    write_at(region, right, &right_content);
+    joined
+}
+
 // Mends two nodes side by side of which one has an entry too few, and answers whether the right one is free now. The children that
 // they got have the old parent still.
 fn mend_pair(region: &mut Region, above: bool, at: Place, j: u16, left: Place, right: Place) -> bool
@@ -57,20 +86,10 @@ fn mend_pair(region: &mut Region, above: bool, at: Place, j: u16, left: Place, r
     ensures mended { IsMendedAt above result j at left right (nodes_of (live_at region.old)) (nodes_of (live_at region.new)) }
     ensures three { OnlyThree at left right region.old region.new }
 {
-    let mut parent_content = content_at(region, at);
-    let mut left_content = content_at(region, left);
-    let mut right_content = content_at(region, right);
-    let joined = mend_if(
-        above,
-        &mut parent_content,
-        j,
-        &mut left_content,
-        &mut right_content,
-    );
-    write_at(region, at, &parent_content);
-    write_at(region, left, &left_content);
-    write_at(region, right, &right_content);
-    joined
+    if above {
+        return mend_inner(region, at, j, left, right);
+    }
+    mend_leaves(region, at, j, left, right)
 }
 
 // Makes the node at a place the parent of each of its children.

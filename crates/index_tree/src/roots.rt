@@ -252,14 +252,6 @@ impl Roots {
     }
 }
 
-// A node that is live has a place that a number can lead to.
-fn has_room(region: &Region, at: Place)
-    requires { HoldsNode (live_at region.now) at }
-    ensures { links.HasRoom at }
-{
-    let _content = region.bytes(at);
-}
-
 impl Movers for Roots {
     ghost fits = { rosters.IsRosterOf };
 
@@ -274,10 +266,9 @@ impl Movers for Roots {
     ghost rest = { rosters.shape_of };
 
     fn moved(&mut self, store: &mut Region, _kind: u8, from: Place, to: Place) {
-        has_room(store, from);
-        has_room(store, to);
+        // The copy has the parent of what was copied.
+        let parent = led_to(parent_at(store, to));
         let front = self.front_of(store, from);
-        let parent = led_to(parent_at(store, from));
         mend_children(store, from, to);
         mend_front(store, front, from, to);
         mend_parent(store, parent, from, to);

@@ -12,7 +12,7 @@ ghost use Rattle.index_tree.specs.Ways.{IsOnWay, LeadsTo};
 use crate::fields::{child_of, count_at, led_to};
 use regions::{Place, Region};
 
-/// How many keys of the node at a place are below a key: at most five of them are read.
+/// How many keys of the node at a place are below a key: the first eight bytes of each are read, and at most five keys whole.
 pub(crate) fn below_at(region: &Region, at: Place, key: &[u8]) -> u16
     requires node { HoldsNode (live_at region.now) at }
     requires rising { IfSome (nodes_of (live_at region.now) at) (λ node. AreRising node.entries) }
@@ -48,7 +48,7 @@ fn has_at(region: &Region, at: Place, i: u16, key: &[u8]) -> bool
     i < count_at(region, at) && key_at(region, at, i) == key
 }
 
-/// Which child of the inner node at a place a key leads to: at most six of its keys are read.
+/// Which child of the inner node at a place a key leads to: at most six of its keys are read whole.
 pub(crate) fn way_at(region: &Region, at: Place, key: &[u8]) -> u16
     requires node { HoldsNode (live_at region.now) at }
     requires rising { IfSome (nodes_of (live_at region.now) at) (λ node. AreRising node.entries) }

@@ -24,14 +24,14 @@ returns-in_err-parent t c =
     let n = node_at nodes level r.above at r.sub in
     λ leaf rest e.
     subst (λ o. IsBefore nodes (places_of nodes s) leaf o) (sym c.from_residual.ensures)
-    (no_parent nodes s r.tree at level r.above r.among r.sub (parent_led nodes at n.node c.parent_at.result c.led_to.result n.is c.parent_at.ensures c.led_to.ensures ∙ c.in_err-parent.was) leaf rest e)
+    (no_parent nodes s r.tree at level r.above r.among r.sub (parent_led nodes at n.node c.parent_at.result c.led_to.result n.is c.parent_at.ensures.parent c.led_to.ensures ∙ c.in_err-parent.was) leaf rest e)
 
 pub child_index-i-requires-clause-node : goal.child_index-i-requires-clause-node
 child_index-i-requires-clause-node m c =
     let r = c.requires in let nodes = nodes_of (live_at c.args.region.now) in let t = c.args.self.now.tree in let at = c.args.at in let level = c.args.level in
     let n = node_at nodes level r.above at r.sub in
     let parent = c.in_ok-parent.parent in
-    let u = above_it nodes t r.tree at parent level r.above r.among r.sub (parent_led nodes at n.node c.parent_at.result c.led_to.result n.is c.parent_at.ensures c.led_to.ensures ∙ c.in_ok-parent.was) in
+    let u = above_it nodes t r.tree at parent level r.above r.among r.sub (parent_led nodes at n.node c.parent_at.result c.led_to.result n.is c.parent_at.ensures.parent c.led_to.ensures ∙ c.in_ok-parent.was) in
     r.holds parent (lives (live_at c.args.region.now) parent u.node u.is)
 
 pub child_index-i-requires-clause-there : goal.child_index-i-requires-clause-there
@@ -39,7 +39,7 @@ child_index-i-requires-clause-there m c =
     let r = c.requires in let nodes = nodes_of (live_at c.args.region.now) in let t = c.args.self.now.tree in let at = c.args.at in let level = c.args.level in
     let n = node_at nodes level r.above at r.sub in
     let parent = c.in_ok-parent.parent in
-    let u = above_it nodes t r.tree at parent level r.above r.among r.sub (parent_led nodes at n.node c.parent_at.result c.led_to.result n.is c.parent_at.ensures c.led_to.ensures ∙ c.in_ok-parent.was) in
+    let u = above_it nodes t r.tree at parent level r.above r.among r.sub (parent_led nodes at n.node c.parent_at.result c.led_to.result n.is c.parent_at.ensures.parent c.led_to.ensures ∙ c.in_ok-parent.was) in
     there_of (λ node. (k : ℕ) × (k ≤ length node.entries) × (child_at node k ≡ c.link_to.result)) nodes parent u.node u.is (u.index, u.within, u.child ∙ sym c.link_to.ensures)
 
 pub overflow_add-level : goal.overflow_add-level
@@ -47,7 +47,7 @@ overflow_add-level m c =
     let r = c.requires in let nodes = nodes_of (live_at c.args.region.now) in let t = c.args.self.now.tree in let at = c.args.at in let level = c.args.level in
     let n = node_at nodes level r.above at r.sub in
     let parent = c.in_ok-parent.parent in
-    let u = above_it nodes t r.tree at parent level r.above r.among r.sub (parent_led nodes at n.node c.parent_at.result c.led_to.result n.is c.parent_at.ensures c.led_to.ensures ∙ c.in_ok-parent.was) in
+    let u = above_it nodes t r.tree at parent level r.above r.among r.sub (parent_led nodes at n.node c.parent_at.result c.led_to.result n.is c.parent_at.ensures.parent c.led_to.ensures ∙ c.in_ok-parent.was) in
     let high = node_at nodes (suc level) u.higher parent u.sub in let small = high.stands.level in let is = high.level_is in
     omega (arith, small, is)
 
@@ -56,7 +56,7 @@ leaf_before-requires m c =
     let r = c.requires in let nodes = nodes_of (live_at c.args.region.now) in let t = c.args.self.now.tree in let at = c.args.at in let level = c.args.level in
     let n = node_at nodes level r.above at r.sub in
     let parent = c.in_ok-parent.parent in
-    let u = above_it nodes t r.tree at parent level r.above r.among r.sub (parent_led nodes at n.node c.parent_at.result c.led_to.result n.is c.parent_at.ensures c.led_to.ensures ∙ c.in_ok-parent.was) in
+    let u = above_it nodes t r.tree at parent level r.above r.among r.sub (parent_led nodes at n.node c.parent_at.result c.led_to.result n.is c.parent_at.ensures.parent c.led_to.ensures ∙ c.in_ok-parent.was) in
     let short = u.short in (
       omega (arith, short),
       record { holds = r.holds; tree = r.tree; among = u.among; above = u.higher; sub = subst (λ l. HasSubtree nodes l u.higher parent) {x = suc level} {y = level + 1} (omega arith) u.sub },
@@ -67,7 +67,7 @@ returns-then-i-eq0 m c = λ leaf rest e.
     (let r = c.requires in let nodes = nodes_of (live_at c.args.region.now) in let t = c.args.self.now.tree in let at = c.args.at in let level = c.args.level in
     let n = node_at nodes level r.above at r.sub in
     let parent = c.in_ok-parent.parent in
-    let u = above_it nodes t r.tree at parent level r.above r.among r.sub (parent_led nodes at n.node c.parent_at.result c.led_to.result n.is c.parent_at.ensures c.led_to.ensures ∙ c.in_ok-parent.was) in
+    let u = above_it nodes t r.tree at parent level r.above r.among r.sub (parent_led nodes at n.node c.parent_at.result c.led_to.result n.is c.parent_at.ensures.parent c.led_to.ensures ∙ c.in_ok-parent.was) in
     let link : child_in (nodes parent) 0 ≡ link_to (Some at) =
     ap (λ o. child_in o 0) u.is
     ∙ (ap (λ k. child_at u.node k) (sym c.if-i-eq0.true) ∙ (read_of (λ node. child_at node c.child_index-i.result ≡ c.link_to.result) nodes parent u.node u.is c.child_index-i.ensures.child ∙ c.link_to.ensures)) in
@@ -79,7 +79,7 @@ child_of-requires-clause-node m c =
     let r = c.requires in let nodes = nodes_of (live_at c.args.region.now) in let t = c.args.self.now.tree in let at = c.args.at in let level = c.args.level in
     let n = node_at nodes level r.above at r.sub in
     let parent = c.in_ok-parent.parent in
-    let u = above_it nodes t r.tree at parent level r.above r.among r.sub (parent_led nodes at n.node c.parent_at.result c.led_to.result n.is c.parent_at.ensures c.led_to.ensures ∙ c.in_ok-parent.was) in
+    let u = above_it nodes t r.tree at parent level r.above r.among r.sub (parent_led nodes at n.node c.parent_at.result c.led_to.result n.is c.parent_at.ensures.parent c.led_to.ensures ∙ c.in_ok-parent.was) in
     r.holds parent (lives (live_at c.args.region.now) parent u.node u.is)
 
 pub child_of-requires-clause-i : goal.child_of-requires-clause-i
@@ -87,7 +87,7 @@ child_of-requires-clause-i m c =
     let r = c.requires in let nodes = nodes_of (live_at c.args.region.now) in let t = c.args.self.now.tree in let at = c.args.at in let level = c.args.level in
     let n = node_at nodes level r.above at r.sub in
     let parent = c.in_ok-parent.parent in
-    let u = above_it nodes t r.tree at parent level r.above r.among r.sub (parent_led nodes at n.node c.parent_at.result c.led_to.result n.is c.parent_at.ensures c.led_to.ensures ∙ c.in_ok-parent.was) in
+    let u = above_it nodes t r.tree at parent level r.above r.among r.sub (parent_led nodes at n.node c.parent_at.result c.led_to.result n.is c.parent_at.ensures.parent c.led_to.ensures ∙ c.in_ok-parent.was) in
     let i = c.child_index-i.result in
     let up : i ≡ suc (i - 1) = (let some = c.if-i-eq0.false in omega (arith, some)) in
     let within : suc (i - 1) ≤ length u.node.entries = subst (λ k. k ≤ length u.node.entries) up (read_of (λ node. i ≤ length node.entries) nodes parent u.node u.is c.child_index-i.ensures.within) in
@@ -101,7 +101,7 @@ returns-in_err-before m c =
     let r = c.requires in let nodes = nodes_of (live_at c.args.region.now) in let t = c.args.self.now.tree in let at = c.args.at in let level = c.args.level in
     let n = node_at nodes level r.above at r.sub in
     let parent = c.in_ok-parent.parent in
-    let u = above_it nodes t r.tree at parent level r.above r.among r.sub (parent_led nodes at n.node c.parent_at.result c.led_to.result n.is c.parent_at.ensures c.led_to.ensures ∙ c.in_ok-parent.was) in
+    let u = above_it nodes t r.tree at parent level r.above r.among r.sub (parent_led nodes at n.node c.parent_at.result c.led_to.result n.is c.parent_at.ensures.parent c.led_to.ensures ∙ c.in_ok-parent.was) in
     let i = c.child_index-i.result in
     let up : i ≡ suc (i - 1) = (let some = c.if-i-eq0.false in omega (arith, some)) in
     let within : suc (i - 1) ≤ length u.node.entries = subst (λ k. k ≤ length u.node.entries) up (read_of (λ node. i ≤ length node.entries) nodes parent u.node u.is c.child_index-i.ensures.within) in
@@ -115,7 +115,7 @@ last_leaf-requires-clause-below m c =
     let r = c.requires in let nodes = nodes_of (live_at c.args.region.now) in let t = c.args.self.now.tree in let at = c.args.at in let level = c.args.level in
     let n = node_at nodes level r.above at r.sub in
     let parent = c.in_ok-parent.parent in
-    let u = above_it nodes t r.tree at parent level r.above r.among r.sub (parent_led nodes at n.node c.parent_at.result c.led_to.result n.is c.parent_at.ensures c.led_to.ensures ∙ c.in_ok-parent.was) in
+    let u = above_it nodes t r.tree at parent level r.above r.among r.sub (parent_led nodes at n.node c.parent_at.result c.led_to.result n.is c.parent_at.ensures.parent c.led_to.ensures ∙ c.in_ok-parent.was) in
     let i = c.child_index-i.result in
     let up : i ≡ suc (i - 1) = (let some = c.if-i-eq0.false in omega (arith, some)) in
     let within : suc (i - 1) ≤ length u.node.entries = subst (λ k. k ≤ length u.node.entries) up (read_of (λ node. i ≤ length node.entries) nodes parent u.node u.is c.child_index-i.ensures.within) in
@@ -131,7 +131,7 @@ returns m c =
     let r = c.requires in let nodes = nodes_of (live_at c.args.region.now) in let t = c.args.self.now.tree in let at = c.args.at in let level = c.args.level in
     let n = node_at nodes level r.above at r.sub in
     let parent = c.in_ok-parent.parent in
-    let u = above_it nodes t r.tree at parent level r.above r.among r.sub (parent_led nodes at n.node c.parent_at.result c.led_to.result n.is c.parent_at.ensures c.led_to.ensures ∙ c.in_ok-parent.was) in
+    let u = above_it nodes t r.tree at parent level r.above r.among r.sub (parent_led nodes at n.node c.parent_at.result c.led_to.result n.is c.parent_at.ensures.parent c.led_to.ensures ∙ c.in_ok-parent.was) in
     let i = c.child_index-i.result in
     let up : i ≡ suc (i - 1) = (let some = c.if-i-eq0.false in omega (arith, some)) in
     let within : suc (i - 1) ≤ length u.node.entries = subst (λ k. k ≤ length u.node.entries) up (read_of (λ node. i ≤ length node.entries) nodes parent u.node u.is c.child_index-i.ensures.within) in

@@ -33,7 +33,7 @@ returns-then-is_none c =
     let level : c.level_at.result ≡ n.0.level = read_of (λ node. c.level_at.result ≡ node.level) nodes at n.0 n.1 c.level_at.ensures in
     let low = c.if-level_at-gt0.false in
     before_top nodes t r.tree at n.0 r.there n.1 (omega (arith, level, low))
-    (parent_led nodes at n.0 c.parent_at.result c.led_to.result n.1 c.parent_at.ensures c.led_to.ensures ∙ is_none_by c.led_to.result c.if-is_none.ensures)
+    (parent_led nodes at n.0 c.parent_at.result c.led_to.result n.1 c.parent_at.ensures.parent c.led_to.ensures ∙ is_none_by c.led_to.result c.if-is_none.ensures)
 
 pub leaf_before-requires : goal.leaf_before-requires
 leaf_before-requires c =
@@ -43,7 +43,7 @@ leaf_before-requires c =
     let low = c.if-level_at-gt0.false in
     let some = is_some_by c.led_to.result c.if-is_none.ensures in
     let w = low_stands nodes t r.tree at n.0 some.0 r.there n.1 (omega (arith, level, low))
-    (parent_led nodes at n.0 c.parent_at.result c.led_to.result n.1 c.parent_at.ensures c.led_to.ensures ∙ some.1) in
+    (parent_led nodes at n.0 c.parent_at.result c.led_to.result n.1 c.parent_at.ensures.parent c.led_to.ensures ∙ some.1) in
     record { holds = r.nodes; tree = r.tree; among = w.2; above = w.0; sub = w.1 }
 
 pub returns : goal.returns
