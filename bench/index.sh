@@ -1,11 +1,12 @@
 #!/usr/bin/env bash
 # Nanoseconds per insertion, find and removal: the index of keys, std::map and std::unordered_map, over keys of several
 # kinds; and, with 300,000 rows at most, the index whose keys stand in nodes, and a std::map that has its keys. The least of some runs, user and
-# system time together, less that of a run of one step fewer. All run with a C library that asks the system for large pages.
+# system time together, less that of a run of one step fewer. All run with a C library that asks the system for large pages, and takes small memory
+# out of one piece of its own: so the segments of the nodes, which this program takes one by one, stand together as those of a range do.
 #   bench/index.sh [ROWS] [RUNS]        at most 524,288 rows
 set -euo pipefail
 top=$(cd "$(dirname "${BASH_SOURCE[0]}")/.." && pwd)
-export GLIBC_TUNABLES=glibc.malloc.hugetlb=1
+export GLIBC_TUNABLES=glibc.malloc.hugetlb=1:glibc.malloc.mmap_threshold=33554432
 rows=${1:-500000}
 runs=${2:-5}
 work=$(mktemp -d)
