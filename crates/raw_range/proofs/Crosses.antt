@@ -4,7 +4,7 @@ use base.Fraction.{full_share}
 use base.Shift.{Keyless}
 use denote.Builtin.{u8}
 use denote.Array.{Array}
-use denote.RawPtr.{Ptr, block_ptr, null_ptr, block_of, count_of}
+use denote.RawPtr.{Ptr, ◌+ₚ◌, block_ptr, null_ptr, block_of, count_of}
 use denote.Param.Send.{IsSend, part_keyless, array_send, sendable, Frees, struct_send, owning_send}
 use denote.RattleType.{RattleType}
 use denote.Struct.Declared as declared
@@ -12,12 +12,15 @@ use Rattle.std.specs.declared.alloc.Allocator.{Ghosts}
 use Rattle.std_alloc.proofs.SendSync.{Vec-send}
 use Rattle.raw_range.specs.contracts.memory.Unallocated as Unallocated
 use Rattle.raw_range.specs.contracts.memory.Run as Run
+use Rattle.raw_range.specs.contracts.memory.Held as Held
 use Rattle.raw_range.specs.contracts.memory.Unfilled as Unfilled
 use Rattle.raw_range.specs.contracts.memory.Sole as Sole
 use Rattle.raw_range.specs.contracts.memory.Sole.TheInside as Inside
 use Rattle.layout.specs.Extents.{Extent}
 use Rattle.raw_range.specs.inside.Covered.{is_allocated}
-use Rattle.raw_range.specs.inside.Ownership.{run_owns, room_owns, byte_owns, rest_owns}
+use Rattle.std.specs.Prelude.{Option, Some, None}
+use Rattle.raw_range.specs.Memory.{Lent}
+use Rattle.raw_range.specs.inside.Ownership.{run_owns, room_owns, byte_owns, rest_owns, held_owns}
 
 pub u8-send : IsSend u8
 u8-send = search sendable
@@ -55,3 +58,10 @@ unfilled-send = owning_send Unfilled.the_type tt (λ d. room_owns-keyless d.ptr 
 
 pub unallocated-send : IsSend Unallocated.the_row
 unallocated-send = owning_send Unallocated.the_type tt (λ d. rest_owns-keyless d.allocated (block_of d.ptr) (count_of d.ptr) 0 d.bytes) (λ k x w. tt)
+
+held_owns-keyless : (piece : Option Lent) → Keyless (held_owns piece)
+held_owns-keyless None = tt
+held_owns-keyless (Some piece) = run_owns-keyless (piece.home +ₚ piece.at) piece.bytes
+
+pub held-send : IsSend Held.the_row
+held-send = owning_send Held.the_type tt (λ d. held_owns-keyless d.piece) (λ k x w. tt)

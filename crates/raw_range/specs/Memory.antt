@@ -20,6 +20,16 @@ pub record Lent : Type 0 where
   pub at : ℕ
   pub bytes : List ℕ
 
+-- where a piece lies, whatever its bytes are: its range, the range's owner, its first byte there, and how many bytes it has
+pub record PieceSite : Type 0 where
+  pub home : Ptr
+  pub owner : ℕ
+  pub at : ℕ
+  pub len : ℕ
+
+abbrev pub site_of : Lent → PieceSite
+site_of p = record { home = p.home; owner = p.owner; at = p.at; len = length p.bytes }
+
 -- where a piece belongs
 abbrev pub extent_of : Lent → Extent
 extent_of p = extent p.at (length p.bytes)
@@ -36,7 +46,7 @@ remove_extent a extents = filter (λ b. not (b.start == a.start)) extents
 abbrev pub written : List ℕ → ℕ → List ℕ → List ℕ
 written bytes at ws = take at bytes ++ (ws ++ drop (at + length ws) bytes)
 
--- the two are stored as the tuples of their fields
+-- these are stored as the tuples of their fields
 abbrev pub memory_code : Coded Memory
 memory_code =
     code_by (Ptr × (ℕ × (ℕ × (List Extent × List ℕ)))) (coded× coded_ptr (coded× coded_ℕ (coded× coded_ℕ (coded× (coded_list extent_code) (coded_list coded_ℕ)))))
@@ -47,3 +57,8 @@ abbrev pub lent_code : Coded Lent
 lent_code =
     code_by (Ptr × (ℕ × (ℕ × List ℕ))) (coded× coded_ptr (coded× coded_ℕ (coded× coded_ℕ (coded_list coded_ℕ))))
     (λ p. (p.home, (p.owner, (p.at, p.bytes)))) (λ t. record { home = t.0; owner = t.1.0; at = t.1.1.0; bytes = t.1.1.1 }) (λ _. refl)
+
+abbrev pub site_code : Coded PieceSite
+site_code =
+    code_by (Ptr × (ℕ × (ℕ × ℕ))) (coded× coded_ptr (coded× coded_ℕ (coded× coded_ℕ coded_ℕ))) (λ p. (p.home, (p.owner, (p.at, p.len))))
+    (λ t. record { home = t.0; owner = t.1.0; at = t.1.1.0; len = t.1.1.1 }) (λ _. refl)

@@ -2,6 +2,7 @@
 //! back. This is the one crate with raw memory, and few short functions of it touch that memory.
 #![tactic(auto)]
 
+mod deposit;
 mod free_bytes;
 mod memory;
 mod parts;
@@ -10,5 +11,6 @@ mod range;
 #[cfg(test)]
 mod tests;
 
+pub use deposit::{Deposit, Site};
 pub use piece::Piece;
 pub use range::Range;

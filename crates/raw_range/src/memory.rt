@@ -1,10 +1,11 @@
 // The bytes of a range, apart from the right to free them. What takes no memory here is ghost state.
-ghost use Rattle.std.specs.Prelude.{◌≡◌, ℕ, ◌+◌, ◌≤◌, List, [], ◌∷◌, ◌++◌, length, take, drop, All, Contains};
+ghost use Rattle.std.specs.Prelude.{◌≡◌, ℕ, ◌+◌, ◌≤◌, List, [], ◌∷◌, ◌++◌, length, take, drop, All, Contains, Option, Some, None};
+ghost use Rattle.std.specs.Coded.{coded_option};
 ghost use base.Fml.{ftrue, fex, fwand, fsep, feq};
 ghost use denote.RawPtr.{Ptr, ◌+ₚ◌};
 ghost use Rattle.layout.specs.Extents.{Extent, extent, Disjoint, AreDisjoint};
-ghost use Rattle.raw_range.specs.Memory.{remove_extent, written};
-ghost use Rattle.raw_range.specs.inside.Ownership.{Buffer, buffer_code, IsPlaced, run_owns, room_owns, unallocated_owns};
+ghost use Rattle.raw_range.specs.Memory.{Lent, lent_code, remove_extent, written};
+ghost use Rattle.raw_range.specs.inside.Ownership.{Buffer, buffer_code, IsPlaced, run_owns, room_owns, unallocated_owns, held_owns};
 
 use std::alloc::Allocator;
 use std::marker::{Model, Move, Owns};
@@ -72,6 +73,16 @@ impl Model for Unallocated {
     ghost also_owns = { λ h. unallocated_owns h.ptr h.allocated h.bytes };
 }
 
+// The bytes of a piece, if there is one, which nothing else can reach.
+#[derive(Drop)]
+pub(crate) struct Held {
+    ghost piece: { Option Lent } by { coded_option lent_code },
+}
+
+impl Model for Held {
+    ghost also_owns = { λ h. held_owns h.piece };
+}
+
 unsafe impl Send for Run {}
 
 // A `&` to it shows nothing.
@@ -80,6 +91,35 @@ unsafe impl<A: Allocator + Send> Send for Sole<A> {}
 unsafe impl Send for Unfilled {}
 
 unsafe impl Send for Unallocated {}
+
+unsafe impl Send for Held {}
+
+impl Held {
+    // Those of no piece.
+    pub(crate) fn none() -> Held
+        ensures { result.piece ≡ None }
+    {
+        Held {}
+    }
+
+    // Those of a piece, by where it lies.
+    pub(crate) fn keep(home: *mut u8, owner: u32, at: u32, run: Run) -> Held
+        requires { run.ptr ≡ home +ₚ at }
+        ensures { result.piece ≡ Some (record { home = home; owner = owner; at = at; bytes = run.items }) }
+    {
+        let Run {} = run;
+        Held {}
+    }
+
+    // The bytes, which a piece has.
+    pub(crate) fn take(self) -> Run
+        requires { (piece : Lent) × (self.piece ≡ Some piece) }
+        ensures { (piece : Lent) → self.piece ≡ Some piece → (result.ptr ≡ piece.home +ₚ piece.at) × (result.items ≡ piece.bytes) }
+    {
+        let Held {} = self;
+        Run {}
+    }
+}
 
 impl Unfilled {
     // No byte at all.

@@ -1,14 +1,15 @@
 -- What the parts of a range own.
-use Rattle.std.specs.Prelude.{◌≡◌, refl, ℕ, ◌+◌, Bool, true, false, List, [], ◌∷◌, length}
+use Rattle.std.specs.Prelude.{◌≡◌, refl, ℕ, ◌+◌, Bool, true, false, List, [], ◌∷◌, length, Option, Some, None}
 use Rattle.std.specs.Coded.{Coded, code_by, coded×, coded_ℕ}
 use base.Fraction.{full_share}
 use base.Fml.{Fml, ftrue, fsep}
 use denote.Builtin.{u8}
 use denote.Array.{Array}
 use denote.Memory.{part_at}
-use denote.RawPtr.{Ptr, block_ptr, coded_ptr, lies_at, room_for, block_of, count_of}
+use denote.RawPtr.{Ptr, ◌+ₚ◌, block_ptr, coded_ptr, lies_at, room_for, block_of, count_of}
 use mir.Syntax.{w8, ty_int, ty_array}
 use Rattle.layout.specs.Extents.{Extent}
+use Rattle.raw_range.specs.Memory.{Lent}
 use Rattle.raw_range.specs.inside.Covered.{is_allocated}
 
 -- where a block's bytes begin, and how many there are
@@ -49,3 +50,8 @@ rest_owns allocated b o i (x ∷ xs) = fsep (byte_owns (is_allocated allocated i
 -- those of the bytes xs at p that are not allocated
 abbrev pub unallocated_owns : Ptr → List Extent → List ℕ → Fml
 unallocated_owns p allocated xs = rest_owns allocated (block_of p) (count_of p) 0 xs
+
+-- the bytes of a piece, if there is one
+abbrev pub held_owns : Option Lent → Fml
+held_owns None = ftrue
+held_owns (Some piece) = run_owns (piece.home +ₚ piece.at) piece.bytes
