@@ -67,12 +67,13 @@ impl<'f> LinkedBlock<'f> {
             ticket,
             head,
         } = self;
-        list.put_in(&mut pass, ticket, piece);
+        let site = piece.site();
+        list.put_in(&mut pass, ticket, piece.into_deposit());
         let found = list.swing(&mut pass, ticket, head);
         if found == head {
             return Ok(Released { list, pass });
         }
-        let piece = list.take_out(&mut pass, ticket);
+        let piece = site.join(list.take_out(&mut pass, ticket));
         Err(Raced {
             block: ForeignBlock {
                 list,

@@ -1,5 +1,6 @@
 //! What the owner does with a list: lending, taking whole, taking back, closing.
-ghost use Rattle.std.specs.Prelude.{◌≡◌, ℕ, List, [], IfOk, IfSome, IfNone, IsNone, All};
+ghost use Rattle.std.specs.Prelude.{◌≡◌, ℕ, List, [], IfOk, IfSome, IfNone, IsNone, All, None, replicate};
+ghost use Rattle.layout.specs.Sizes as sizes;
 ghost use Rattle.foreign_list.specs.OwnerSeats.{IsSeatOf, IsAtRest, IsIdle, all_idle, after_lend, after_take_whole, ComesBack};
 ghost use Rattle.foreign_list.specs.Blocks.{piece_id_of, IsFresh};
 
@@ -8,7 +9,8 @@ use crate::foreign::Foreign;
 use crate::idle_tickets::{ALL_IDLE, marked_idle, marked_lent};
 use crate::list_table::ListTable;
 use crate::owner_seat::OwnerSeat;
-use raw_range::Piece;
+use layout::TICKETS;
+use raw_range::{Piece, Site};
 use std::alloc::{AllocError, Global};
 use std::marker::Brand;
 
@@ -30,12 +32,14 @@ impl Foreign {
         ensures rest { IfOk result (λ r. IsAtRest r.0 r.1) }
     {
         let (table, seat) = ListTable::new(alloc)?;
+        let sites = no_sites(alloc)?;
         Ok((
             Foreign { table, owner },
             OwnerSeat {
                 seat,
                 idle: ALL_IDLE,
                 first: 0,
+                sites,
             },
         ))
     }
@@ -50,6 +54,7 @@ impl Foreign {
     {
         let pass = self.table.split::<Brand>(&mut seat.seat, ticket, &piece);
         seat.idle = marked_lent(seat.idle, ticket);
+        seat.sites[ticket as usize] = Some(piece.site());
         ForeignBlock {
             list: &self.table,
             pass,
@@ -80,10 +85,16 @@ impl Foreign {
             return None;
         }
         let ticket = (seat.first - 1) as u32;
-        let (next, piece) = self.table.bring_home(&mut seat.seat, ticket);
+        let (next, deposit) = self.table.bring_home(&mut seat.seat, ticket);
         seat.first = next;
         seat.idle = marked_idle(seat.idle, ticket);
-        Some(Returned { ticket, piece })
+        let Some(site) = seat.sites[ticket as usize] else {
+            unreachable!()
+        };
+        Some(Returned {
+            ticket,
+            piece: site.join(deposit),
+        })
     }
 
     /// Ends the list.
@@ -94,4 +105,11 @@ impl Foreign {
         drop(seat);
         drop(self);
     }
+}
+
+// No site for any ticket.
+fn no_sites(alloc: Global) -> Result<Vec<Option<Site>>, AllocError>
+    ensures { IfOk result (λ sites. sites.items ≡ replicate sizes.tickets None) }
+{
+    vec![in alloc; None; TICKETS as usize]
 }

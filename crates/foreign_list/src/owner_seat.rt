@@ -6,6 +6,7 @@ ghost use Rattle.foreign_list.specs.OwnerSeats.{IsIdle};
 use crate::idle_tickets::{is_marked, least_marked};
 use crate::list_table::TableSeat;
 use layout::TICKETS;
+use raw_range::Site;
 use std::marker::Model;
 
 /// The owner's side of a list. It says which tickets are idle, what was lent with each other one, and what was taken and
@@ -16,6 +17,8 @@ pub struct OwnerSeat {
     pub(crate) idle: u64,
     // The word that leads to the first of the walk.
     pub(crate) first: u64,
+    // Where the piece lies that was lent last with each ticket.
+    pub(crate) sites: Vec<Option<Site>>,
 }
 
 impl Model for OwnerSeat {
@@ -26,7 +29,7 @@ impl Model for OwnerSeat {
 
     ghost view = { λ s. state_of s.seat };
 
-    ghost invariant = { λ s. IsConsistentSeat s.seat s.idle s.first };
+    ghost invariant = { λ s. IsConsistentSeat s.seat s.idle s.first s.sites.items };
 }
 
 impl OwnerSeat {

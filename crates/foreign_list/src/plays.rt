@@ -7,7 +7,7 @@ ghost use Rattle.foreign_list.specs.inside.Plays.{of_pass, first_look, look_agai
 
 use crate::views::View;
 use atomic_table::{Play, Split};
-use raw_range::Piece;
+use raw_range::Deposit;
 use std::marker::{Brand, PhantomData};
 
 /// Which ticket is lent and with what. A call at `Brand` picks it from its `requires`.
@@ -35,42 +35,42 @@ impl<L: Lending> Split<View> for Lend<L> {
 
 pub(crate) struct FirstLook;
 
-impl Play<Option<Piece>, View> for FirstLook {
+impl Play<Deposit, View> for FirstLook {
     ghost then = { λ s m found n. of_pass first_look m.0 m found n };
 }
 
 pub(crate) struct LookAgain;
 
-impl Play<Option<Piece>, View> for LookAgain {
+impl Play<Deposit, View> for LookAgain {
     ghost then = { λ s m found n. of_pass look_again m.0 m found n };
 }
 
 pub(crate) struct Link;
 
-impl Play<Option<Piece>, View> for Link {
+impl Play<Deposit, View> for Link {
     ghost then = { λ s m found n. of_pass link m.0 m found n };
 }
 
 pub(crate) struct Swing;
 
-impl Play<Option<Piece>, View> for Swing {
+impl Play<Deposit, View> for Swing {
     ghost then = { λ s m found n. of_pass (Swung s.first) m.0 m found n };
 }
 
 pub(crate) struct TakeWhole;
 
-impl Play<Option<Piece>, View> for TakeWhole {
+impl Play<Deposit, View> for TakeWhole {
     ghost then = { λ s m found n. of_owner TookWhole m.0 m found n };
 }
 
 pub(crate) struct Walk;
 
-impl Play<Option<Piece>, View> for Walk {
+impl Play<Deposit, View> for Walk {
     ghost then = { λ s m found n. of_owner (WalkedOn (s.word - 1)) m.0 m found n };
 }
 
 pub(crate) struct Home;
 
-impl Play<Option<Piece>, View> for Home {
+impl Play<Deposit, View> for Home {
     ghost then = { λ s m found n. of_owner (λ d. go_home d.hand d) m.0 m found n };
 }

@@ -9,7 +9,7 @@ ghost use Rattle.foreign_list.specs.inside.Plays.{BroughtHome};
 ghost use Rattle.foreign_list.specs.inside.Seats.{IsAt, SameSeat, slots_held};
 
 use crate::list_table::{ListTable, TableSeat};
-use raw_range::Piece;
+use raw_range::Deposit;
 
 impl ListTable {
     // A look, which takes the slot where the pass has it not.
@@ -29,49 +29,40 @@ impl ListTable {
         }
     }
 
-    // The piece comes into the slot.
-    pub(crate) fn put_in(&self, seat: &mut TableSeat, ticket: u32, piece: Piece)
+    // The right to a piece's bytes comes into the slot.
+    pub(crate) fn put_in(&self, seat: &mut TableSeat, ticket: u32, deposit: Deposit)
         requires seat { IsAt self.now seat.old }
         requires slot { seat.old.me.1 ≡ (ticket, None) ∷ [] }
         ensures seat { SameSeat seat.old seat.new }
-        ensures slot { seat.new.me ≡ (seat.old.me.0, (ticket, Some piece) ∷ []) }
+        ensures slot { seat.new.me ≡ (seat.old.me.0, (ticket, deposit) ∷ []) }
     {
-        let was = self
-            .table
-            .shared
-            .exchange(seat, ticket as usize, Some(piece));
-        match was {
-            None => {}
-            Some(_) => unreachable!(),
-        }
+        self.table.shared.exchange(seat, ticket as usize, deposit);
     }
 
-    // The piece comes out of the slot.
-    pub(crate) fn take_out(&self, seat: &mut TableSeat, ticket: u32) -> Piece
+    // The right comes out of the slot.
+    pub(crate) fn take_out(&self, seat: &mut TableSeat, ticket: u32) -> Deposit
         requires seat { IsAt self.now seat.old }
         requires slot { (piece : Lent) × (seat.old.me.1 ≡ (ticket, Some piece) ∷ []) }
         ensures seat { SameSeat seat.old seat.new }
-        ensures piece { seat.old.me.1 ≡ (ticket, Some result) ∷ [] }
+        ensures deposit { seat.old.me.1 ≡ (ticket, result) ∷ [] }
         ensures slot { seat.new.me ≡ (seat.old.me.0, (ticket, None) ∷ []) }
     {
-        let was = self.table.shared.exchange(seat, ticket as usize, None);
-        match was {
-            Some(piece) => piece,
-            None => unreachable!(),
-        }
+        self.table
+            .shared
+            .exchange(seat, ticket as usize, Deposit::empty())
     }
 
-    // The first of the walk comes home: the word that leads to the next, and the piece.
-    pub(crate) fn bring_home(&self, seat: &mut TableSeat, ticket: u32) -> (u64, Piece)
+    // The first of the walk comes home: the word that leads to the next, and the right to the piece's bytes.
+    pub(crate) fn bring_home(&self, seat: &mut TableSeat, ticket: u32) -> (u64, Deposit)
         requires seat { IsAt self.now seat.old × IsOwner seat.old.me.0 × (seat.old.me.1 ≡ []) }
         requires first { (left : List ℕ) × ((ledger_of seat.old.me.0).walk ≡ ticket ∷ left) }
         requires hand { ((ledger_of seat.old.me.0).hand ≡ None) × (ticket < sizes.tickets) }
         ensures seat { SameSeat seat.old seat.new }
-        ensures home { BroughtHome ticket (ledger_of seat.old.me.0) result.0 result.1 seat.new.me }
+        ensures home { (piece : Lent) × (result.1 ≡ Some piece) × BroughtHome ticket (ledger_of seat.old.me.0) result.0 piece seat.new.me }
     {
         let next = self.walk_on(seat, ticket);
-        let piece = self.take_out(seat, ticket);
+        let deposit = self.take_out(seat, ticket);
         self.put_home(seat, ticket);
-        (next, piece)
+        (next, deposit)
     }
 }

@@ -1,5 +1,5 @@
 //! The nine kinds of step at the table.
-ghost use Rattle.std.specs.Prelude.{◌≡◌, ◌≢◌, ℕ, suc, ◌+◌, ◌<◌, ◌≤◌, List, [], ◌∷◌, true, false, length, Option, IfOk, Some, None, slice_get};
+ghost use Rattle.std.specs.Prelude.{◌≡◌, ◌≢◌, ℕ, suc, ◌+◌, ◌<◌, ◌≤◌, List, [], ◌∷◌, true, false, length, replicate, Option, IfOk, Some, None, slice_get};
 ghost use Rattle.layout.specs.Sizes as sizes;
 ghost use Rattle.raw_range.specs.Memory.{Lent};
 ghost use Rattle.foreign_list.specs.Blocks.{piece_id_of};
@@ -14,15 +14,17 @@ use crate::list_table::{ListTable, TableSeat};
 use crate::plays::{FirstLook, Home, Lend, Lending, Link, LookAgain, Swing, TakeWhole, Walk};
 use atomic_table::Table;
 use layout::{LIST_WORDS, TICKETS};
-use raw_range::Piece;
+use raw_range::{Deposit, Piece};
 use std::alloc::{AllocError, Global};
 
 impl ListTable {
     pub(crate) fn new(alloc: Global) -> Result<(ListTable, TableSeat), AllocError>
         ensures { IfOk result (λ r. IsAt r.0 r.1 × (r.1.me ≡ (Owner idle_ledger, []))) }
     {
-        let (table, seat) = Table::vacant(alloc, &[0; LIST_WORDS], TICKETS as usize, &())?;
-        Ok((ListTable { table }, seat))
+        match Table::new(alloc, &[0; LIST_WORDS], empty_slots(alloc)?, &()) {
+            Ok((table, seat)) => Ok((ListTable { table }, seat)),
+            Err(_) => Err(AllocError),
+        }
     }
 
     // 1: a pass is split off the owner's seat, with a ticket that is idle.
@@ -132,4 +134,15 @@ impl ListTable {
     {
         self.table.shared.load::<Home>(seat, ticket as usize + 1);
     }
+}
+
+// A slot for each ticket, with nothing in it.
+fn empty_slots(alloc: Global) -> Result<Vec<Deposit>, AllocError>
+    ensures { IfOk result (λ slots. slots.items ≡ replicate sizes.tickets None) }
+{
+    let mut slots = Vec::with_capacity(alloc, TICKETS as usize)?;
+    for _ in 0..TICKETS {
+        slots.push(Deposit::empty())?;
+    }
+    Ok(slots)
 }

@@ -2,7 +2,7 @@
 use Rattle.std.specs.Prelude.{◌≡◌, ◌≤◌, ◌<◌, ◌↔◌, ℕ, Bool, true, false, List, [], ◌∷◌, length, Option, Some, None, slice_get}
 use Rattle.std.specs.Int.{bit_at}
 use Rattle.layout.specs.Sizes as sizes
-use Rattle.raw_range.specs.Memory.{Lent}
+use Rattle.raw_range.specs.Memory.{Lent, PieceSite}
 use Rattle.atomic_table.specs.declared.shared.Seat.{Seat}
 use Rattle.atomic_table.specs.Seated.{TableId}
 use Rattle.foreign_list.specs.declared.piece_id.PieceId.{PieceId}
@@ -51,8 +51,16 @@ block_of id pass piece ticket =
 abbrev pub AreIdle : ℕ → List (Option PieceId) → Type 0
 AreIdle idle lent = (t : ℕ) → t < sizes.tickets → bit_at idle t ≡ 1 ↔ slice_get lent t ≡ Some None
 
--- the owner's seat, between its calls, with the tickets that are idle and the word that leads to the walk
-pub record IsConsistentSeat (seat : TableSeat) (idle first : ℕ) : Type 0 where
+-- where the piece lies that was lent
+abbrev pub site_in : PieceId → PieceSite
+site_in piece_id = record { home = piece_id.range; owner = piece_id.owner; at = piece_id.at; len = piece_id.len }
+
+-- each piece that is lent lies at the site of its ticket
+abbrev pub AreSites : List (Option PieceSite) → List (Option PieceId) → Type 0
+AreSites sites lent = (t : ℕ) (piece_id : PieceId) → slice_get lent t ≡ Some (Some piece_id) → slice_get sites t ≡ Some (Some (site_in piece_id))
+
+-- the owner's seat, between its calls, with the tickets that are idle, the word that leads to the walk, and the sites
+pub record IsConsistentSeat (seat : TableSeat) (idle first : ℕ) (sites : List (Option PieceSite)) : Type 0 where
   pub is_owner : IsOwner seat.me.0
   pub slots : seat.me.1 ≡ []
   pub hand : (ledger_of seat.me.0).hand ≡ None
@@ -60,6 +68,8 @@ pub record IsConsistentSeat (seat : TableSeat) (idle first : ℕ) : Type 0 where
   pub low : first ≤ sizes.tickets
   pub count : length (ledger_of seat.me.0).lent ≡ sizes.tickets
   pub idle_are : AreIdle idle (ledger_of seat.me.0).lent
+  pub site_count : length sites ≡ sizes.tickets
+  pub sites_are : AreSites sites (ledger_of seat.me.0).lent
 
 -- what the owner knows
 abbrev pub state_of : TableSeat → OwnerState
