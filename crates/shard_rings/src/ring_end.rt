@@ -115,16 +115,13 @@ impl<'f> ReceivingEnd<'f> {
         ensures rose { IfNone result (Rose self.old.empty self.new.empty) }
         ensures never_falls { self.old.empty ≤ self.new.empty }
     {
-        match self.ring.pop() {
-            Ok(packet) => {
-                self.count = self.count.saturating_add(1);
-                Some(packet)
-            }
-            Err(_) => {
-                self.empty = self.empty.saturating_add(1);
-                None
-            }
+        if self.ring.is_empty() {
+            self.empty = self.empty.saturating_add(1);
+            return None;
         }
+        let packet = self.ring.pop_known();
+        self.count = self.count.saturating_add(1);
+        Some(packet)
     }
 
     /// The next packet: with the other end of the ring beside it, none exactly where none is there.
