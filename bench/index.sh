@@ -3,6 +3,7 @@
 # kinds; and, with 300,000 rows at most, the index whose keys stand in nodes, and a std::map that has its keys. The least of some runs, user and
 # system time together, less that of a run of one step fewer. All run with a C library that asks the system for large pages, and takes small memory
 # out of one piece of its own: so the segments of the nodes, which this program takes one by one, stand together as those of a range do.
+# Of keys in nodes, and of the map that has them, also ranges of 32 keys, which are copied, one from each key.
 #   bench/index.sh [ROWS] [RUNS]        at most 524,288 rows
 set -euo pipefail
 top=$(cd "$(dirname "${BASH_SOURCE[0]}")/.." && pwd)
@@ -36,6 +37,10 @@ steps_of() {
         if [ -n "$before" ]; then awk -v s="$step" -v t="$((spent - before))" -v n="$rows" 'BEGIN { printf " %s %5.0f", s, t / n }'; fi
         before=$spent
     done
+    if [ "$name" = nodes ] || [ "$name" = string ]; then
+        before=$(time_of "$@" "$kind" "$rows" insert "${more[@]}")
+        awk -v t="$(($(time_of "$@" "$kind" "$rows" range "${more[@]}") - before))" -v n="$rows" 'BEGIN { printf " range %5.0f", t / n }'
+    fi
     echo ' ns'
 }
 for kind in random ascending descending prefix12 prefix200 mixed; do

@@ -1,7 +1,8 @@
 //! Puts rows into an index of keys, finds them and takes them out, to be timed.
 //!
 //! The words are a kind of keys, a number of rows, at most 524,288, and what is done: `keys` (they are made and no
-//! more), `insert`, `find` or `remove`, each after those before it. The kinds: `random`, `ascending` and `descending`
+//! more), `insert`, `find` or `remove`, each after those before it, or `range`, after `insert`: at the key of each row a
+//! range of 32 keys begins, in nodes alone. The kinds: `random`, `ascending` and `descending`
 //! are the order in which keys of ten bytes are put in; with `prefix12` and `prefix200` all keys begin with so many
 //! bytes that are the same, with `mixed` each with one of two prefixes, and these come in random order. With the word
 //! `nodes` behind them the keys stand in nodes in segments, at most 387,254 of them. It prints how many rows were put in,
@@ -31,8 +32,8 @@ fn main(rt: HostRuntime) -> io::Result<()> {
         None => 0,
     };
     let last = match env::args(&rt)?.nth(3) {
-        Some(word) => steps_of(word.as_str()),
-        None => 0,
+        Some(word) => Step::of(word.as_str()),
+        None => Step::Keys,
     };
     let nodes = env::args(&rt)?.nth(4).is_some();
     let arena = fill_arena(rt.alloc(), kind, rows)?;
@@ -58,18 +59,18 @@ struct Counts {
 }
 
 /// So many steps over an index of keys that stand elsewhere.
-fn run_index(alloc: Global, arena: &Arena, rows: u32, last: u32) -> Result<Counts, AllocError> {
+fn run_index(alloc: Global, arena: &Arena, rows: u32, last: Step) -> Result<Counts, AllocError> {
     let mut index = KeyIndex::new(alloc, rows)?;
-    if last >= 1 {
+    if last != Step::Keys {
         fill(&mut index, arena, rows);
     }
     let inserted = index.len();
-    let found = if last >= 2 {
+    let found = if last == Step::Find || last == Step::Remove {
         count_found(&index, arena, rows)
     } else {
         0
     };
-    let removed = if last >= 3 {
+    let removed = if last == Step::Remove {
         count_removed(&mut index, arena, rows)
     } else {
         0
@@ -82,15 +83,19 @@ fn run_index(alloc: Global, arena: &Arena, rows: u32, last: u32) -> Result<Count
 }
 
 /// The same over keys in nodes.
-fn run_nodes(alloc: Global, arena: &Arena, rows: u32, last: u32) -> Result<Counts, AllocError> {
+fn run_nodes(alloc: Global, arena: &Arena, rows: u32, last: Step) -> Result<Counts, AllocError> {
     let mut tree = Tree::open(alloc)?;
-    let inserted = if last >= 1 { tree.fill(arena, rows) } else { 0 };
-    let found = if last >= 2 {
-        tree.count_found(arena, rows)
-    } else {
+    let inserted = if last == Step::Keys {
         0
+    } else {
+        tree.fill(arena, rows)
     };
-    let removed = if last >= 3 {
+    let found = match last {
+        Step::Find | Step::Remove => tree.count_found(arena, rows),
+        Step::Range => tree.count_in_ranges(arena, rows),
+        Step::Keys | Step::Insert => 0,
+    };
+    let removed = if last == Step::Remove {
         tree.count_removed(arena, rows)
     } else {
         0
@@ -102,12 +107,25 @@ fn run_nodes(alloc: Global, arena: &Arena, rows: u32, last: u32) -> Result<Count
     })
 }
 
-/// How many of the steps a word asks for.
-fn steps_of(word: &str) -> u32 {
-    match word {
-        "insert" => 1,
-        "find" => 2,
-        "remove" => 3,
-        _ => 0,
+/// What is done last.
+#[derive(Clone, Copy, PartialEq, Eq)]
+enum Step {
+    Keys,
+    Insert,
+    Find,
+    Range,
+    Remove,
+}
+
+impl Step {
+    /// The step that a word asks for.
+    fn of(word: &str) -> Step {
+        match word {
+            "insert" => Step::Insert,
+            "find" => Step::Find,
+            "range" => Step::Range,
+            "remove" => Step::Remove,
+            _ => Step::Keys,
+        }
     }
 }

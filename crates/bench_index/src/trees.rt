@@ -7,12 +7,15 @@ use crate::arena::Arena;
 use crate::rounds::row_at;
 use index_tree::IndexTree;
 use key_index::Keys;
-use layout::{SEGMENT, SEGMENT_PAGES};
+use layout::{KEY_ROOM, MOST_KEYS, SEGMENT, SEGMENT_PAGES};
 use raw_range::{Piece, Range};
 use std::alloc::{AllocError, Global};
 
 /// The most segments: 387,254 keys have room.
 const SEGMENTS: u32 = 2048;
+
+/// The bytes for the keys of a range.
+const RANGE_ROOM: usize = (MOST_KEYS * KEY_ROOM) as usize;
 
 /// The piece of a segment, of a range of its own.
 fn piece(alloc: Global, owner: u32) -> Result<Piece, AllocError>
@@ -67,6 +70,20 @@ impl Tree {
             }
         }
         found
+    }
+
+    /// How many keys the ranges of at most 32 keys have that begin at those of so many rows, in that order.
+    pub fn count_in_ranges(&self, arena: &Arena, rows: u32) -> u32 {
+        let mut keys = [0u8; RANGE_ROOM];
+        let mut count = 0u32;
+        for at in 0..rows {
+            let row = row_at(at, rows);
+            if arena.has_key(row) {
+                let scanned = self.tree.range(arena.key(row), MOST_KEYS, &mut keys);
+                count = count.wrapping_add(scanned.keys);
+            }
+        }
+        count
     }
 
     /// How many of so many rows are taken out, in that order.
