@@ -1,17 +1,16 @@
 -- A key put in below an inner node of the segments.
-use Rattle.std.proofs.Common.{◌≡◌, ◌≢◌, ℕ, suc, ◌+◌, ◌-◌, ◌<◌, ◌≤◌, ◌^◌, List, [], ◌∷◌, ◌++◌, All, length, take, drop, map, get_or, replicate, Option, Some, option_map, refl, sym, ap, subst, ◌∙◌, arith, length-append}
+use Rattle.std.proofs.Common.{◌≡◌, ◌≢◌, ℕ, suc, ◌+◌, ◌-◌, ◌<◌, ◌≤◌, ◌^◌, List, [], ◌∷◌, ◌++◌, All, length, take, drop, map, get_or, Option, Some, option_map, sym, ap, subst, ◌∙◌, arith}
 use Rattle.std.specs.Prelude.{IfSome}
 use Rattle.std.specs.List.{insert}
-use Rattle.std.proofs.lemmas.List.{drop_more, get_or-take, length-drop, length-map, length-take-le, take-append-drop, take-map, drop-map, take_all, take_at, drop_at}
-use Rattle.std.proofs.lemmas.List.Edits.{length-insert}
-use Rattle.std.proofs.lemmas.List.Elements.{All-append, All-cons, All-drop, All-get_or, All-head, All-replicate, All-take}
+use Rattle.std.proofs.lemmas.List.{drop_more, get_or-take, length-map, take_all}
+use Rattle.std.proofs.lemmas.List.Elements.{All-append, All-cons, All-drop, All-get_or, All-head, All-take}
 use Rattle.regions.specs.Segments.{RegionState}
 use Rattle.regions.specs.Contents.{live_at}
 use Rattle.regions.specs.declared.place.Place.{Place}
-use Rattle.tree_nodes.specs.Nodes.{Entry, TreeNode, child_at, no_entry, no_place}
+use Rattle.tree_nodes.specs.Nodes.{Entry, TreeNode, child_at, no_place}
 use Rattle.index_tree.specs.Inserts.{Branch, Grows, IsRoom, IsSeparator, Row, Spread, Touched, entry_of, of_row, times}
 use Rattle.index_tree.specs.Links.{HasRoom, link_to, place_of_link}
-use Rattle.index_tree.specs.Splits.{AdoptsBeside, CutsInner, branch_of, lower_half, upper_half, upper_places, wide_children, widened}
+use Rattle.index_tree.specs.Splits.{AdoptsBeside, CutsInner, branch_of, lower_half, upper_half, upper_places, widened}
 use Rattle.index_tree.specs.Spots.{IsChildSpot}
 use Rattle.index_tree.specs.Store.{HoldsNode, nodes_of}
 use Rattle.index_tree.specs.Trees.{IsFrom, IsSubtree, IsUpTo, nodes_below}
@@ -19,15 +18,16 @@ use Rattle.index_tree.specs.Writes.{WritesNode}
 use Rattle.index_tree.specs.declared.split.Split.{Split}
 use Rattle.index_tree.proofs.Frame.{below_children, small_link}
 use Rattle.index_tree.proofs.FrameRows.{Opened, branch, gathered, left_in, links_of, open_node, right_in, row_room}
+use Rattle.index_tree.proofs.InsertHalves as halves
 use Rattle.index_tree.proofs.InsertInner.{grown_kept, grown_row, grown_split, grown_wider, own_kept}
-use Rattle.index_tree.proofs.InsertNode.{Half, entries_inserted, length-links, links_inserted, roots, separators_of}
+use Rattle.index_tree.proofs.InsertNode.{length-links, roots, separators_of}
 use Rattle.index_tree.proofs.InsertLeaf.{far_by_times}
 use Rattle.index_tree.proofs.InsertRows.{all_by_times, child_among, child_in, keyed, of_row_append, row_back, times_append, times_here, times_of_all, times_own, times_past}
 use Rattle.index_tree.proofs.InsertedLeaf.{times_get}
 use Rattle.index_tree.proofs.Moved.{room_of}
 use Rattle.index_tree.proofs.Places.{led_back}
 use Rattle.index_tree.proofs.Touches.{if_value, live_same, node_past, touched_among, touched_by, touched_then, value_of}
-use Rattle.index_tree.proofs.InsertWay.{drop_times, got_entry, got_link, rooms_back, roots_among, row_child, spot_left, spot_right}
+use Rattle.index_tree.proofs.InsertWay.{drop_times, got_link, rooms_back, roots_among, row_child, spot_left, spot_right}
 
 module _ (r : RegionState) (level : ℕ) (p : Place) (key : List ℕ) (number : ℕ) (parent : Option Place) (low high : Option (List ℕ))
     (sub : IsSubtree (nodes_of (live_at r)) (suc level) parent low high p) (from : IsFrom low (keyed key number)) (up : IsUpTo high (keyed key number))
@@ -196,9 +196,6 @@ module _ (r : RegionState) (level : ℕ) (p : Place) (key : List ℕ) (number : 
         sixteen : length o.branches ≡ 16
         sixteen = let c = count_here n many in let f = few in omega arith
 
-        seventeen : length wide ≡ 17
-        seventeen = length-insert o.branches i b within ∙ (let s = sixteen in omega arith)
-
         abbrev us : List Branch
         us = take 8 wide
 
@@ -209,13 +206,13 @@ module _ (r : RegionState) (level : ℕ) (p : Place) (key : List ℕ) (number : 
         vs = drop 9 wide
 
         parts : wide ≡ us ++ m ∷ vs
-        parts = sym (take-append-drop 8 wide) ∙ ap (λ (t : List Branch). us ++ t) (drop_more wide 8 b (let s = seventeen in omega arith))
+        parts = halves.parts (nodes_of (live_at r)) level parent low high p o i b within sixteen
 
         eight_us : length us ≡ 8
-        eight_us = length-take-le 8 wide (let s = seventeen in omega arith)
+        eight_us = halves.eight_us (nodes_of (live_at r)) level parent low high p o i b within sixteen
 
         eight_vs : length vs ≡ 8
-        eight_vs = length-drop 9 wide ∙ (let s = seventeen in omega arith)
+        eight_vs = halves.eight_vs (nodes_of (live_at r)) level parent low high p o i b within sixteen
 
         wide_row : Row (nodes_of (live_at a)) level (Some p) low o.first (us ++ m ∷ vs) high
         wide_row = subst (λ (t : List Branch). Row (nodes_of (live_at a)) level (Some p) low o.first t high) parts row.row
@@ -223,31 +220,9 @@ module _ (r : RegionState) (level : ℕ) (p : Place) (key : List ℕ) (number : 
         upper_row : Row (nodes_of (live_at a)) level (Some p) (Some m.entry.key) m.place vs high
         upper_row = row_back (nodes_of (live_at a)) level (Some p) low high o.first us m vs wide_row
 
-        -- the node's children
-        children : o.node.children ≡ links_of o.first o.branches
-        children =
-            let all = o.of.stands.children in
-            let s = sixteen in
-            let l = as_many in
-            sym (take_all (suc (length o.node.entries)) o.node.children (omega arith)) ∙ o.links
-
-        wide_links : wide_children i b o.node ≡ links_of o.first wide
-        wide_links = ap (λ (ls : List ℕ). insert ls (suc i) (link_to (Some b.place))) children ∙ links_inserted o.first o.branches i b
-
-        abbrev to_link : Branch → ℕ
-        to_link c = link_to (Some c.place)
-
-        lower_links : take 9 (wide_children i b o.node) ≡ links_of o.first us
-        lower_links = ap (λ (ls : List ℕ). take 9 ls) wide_links ∙ ap (λ (ls : List ℕ). link_to (Some o.first) ∷ ls) (take-map to_link 8 wide)
-
-        upper_links : drop 9 (wide_children i b o.node) ≡ links_of m.place vs
-        upper_links =
-            ap (λ (ls : List ℕ). drop 9 ls) wide_links
-            ∙ (drop-map to_link 8 wide ∙ ap (λ (t : List Branch). map to_link t) (drop_more wide 8 b (let s = seventeen in omega arith)))
-
         pub upper_is : upper_places i b o.node ≡ roots m.place vs
         upper_is =
-            ap (λ (ls : List ℕ). map place_of_link (take 9 ls)) upper_links
+            ap (λ (ls : List ℕ). map place_of_link (take 9 ls)) (halves.upper_links (nodes_of (live_at r)) level parent low high p o i b within sixteen)
             ∙ (ap (λ (ls : List ℕ). map place_of_link ls) (take_all 9 (links_of m.place vs) (let l = length-links m.place vs in let e = eight_vs in omega arith))
             ∙ rooms_back (nodes_of (live_at a)) level (Some p) (Some m.entry.key) high m.place vs upper_row)
 
@@ -338,55 +313,13 @@ module _ (r : RegionState) (level : ℕ) (p : Place) (key : List ℕ) (number : 
         pub upper_not_q : IfSome (nodes_of (live_at a) p) (λ node. times q (upper_places i b node) ≡ 0)
         upper_not_q = if_value (λ (t : TreeNode). times q (upper_places i b t) ≡ 0) (nodes_of (live_at a) p) o.node (now_is a (b ∷ []) left touched grown) (ap (λ (t : List Place). times q t) upper_is ∙ q_none)
 
-        wide_small : All (λ l. l < 2 ^ 64) (wide_children i b o.node)
-        wide_small =
-            let small : link_to (Some b.place) < 2 ^ 64 =
-            small_link (nodes_of (live_at r)) (nodes_of (live_at a)) (Some b.place) (row_room (nodes_of (live_at a)) level (Some p) b.place [] (Some b.entry.key) (right_in (map entry_of o.branches) high i) grown.spread.row.1) in
-            All-append (λ l. l < 2 ^ 64) (take (suc i) o.node.children) (link_to (Some b.place) ∷ drop (suc i) o.node.children) (All-take (λ l. l < 2 ^ 64) (suc i) o.node.children o.of.stands.places)
-            (All-cons (λ l. l < 2 ^ 64) (link_to (Some b.place)) (drop (suc i) o.node.children) small (All-drop (λ l. l < 2 ^ 64) (suc i) o.node.children o.of.stands.places))
-
-        wide_entries_are : insert o.node.entries i b.entry ≡ map entry_of wide
-        wide_entries_are = ap (λ (es : List Entry). insert es i b.entry) o.entries ∙ entries_inserted o.branches i b
-
-        abbrev nothing : List ℕ
-        nothing = replicate 8 no_place
-
-        -- nine links and no place behind them
-        nine_links : (xs : List ℕ) (first : Place) (bs : List Branch) → xs ≡ links_of first bs → length bs ≡ 8 → length xs ≡ 9
-        nine_links xs first bs is e = ap (λ (ls : List ℕ). length ls) is ∙ (length-links first bs ∙ ap suc e)
-
-        half_of : (xs : List ℕ) (es : List Entry) (first : Place) (bs : List Branch) → xs ≡ links_of first bs → length bs ≡ 8 → All (λ l. l < 2 ^ 64) xs → es ≡ map entry_of bs
-            → Half level (link_to parent) first bs (record o.node { entries = es; children = xs ++ replicate 8 no_place })
-        half_of xs es first bs is eight small entries = record {
-          level_is = o.of.level_is;
-          small_level = o.of.stands.level;
-          parent_is = o.of.parent_is;
-          small_parent = o.of.stands.parent;
-          entries = entries;
-          seventeen = length-append xs (replicate 8 no_place) ∙ (let n9 = nine_links xs first bs is eight in omega arith);
-          small = All-append (λ l. l < 2 ^ 64) xs (replicate 8 no_place) small (All-replicate (λ l. l < 2 ^ 64) 8 no_place (omega arith));
-          links = take_at xs (replicate 8 no_place) (suc (length bs)) (let n9 = nine_links xs first bs is eight in omega arith) ∙ is;
-          others = subst (λ (t : List ℕ). All (λ l. l ≡ no_place) t) (sym (drop_at xs (replicate 8 no_place) (suc (length bs)) (let n9 = nine_links xs first bs is eight in omega arith)))
-              (All-replicate (λ l. l ≡ no_place) 8 no_place refl);
-          next = o.inner.next;
-        }
-
-        half_left : Half level (link_to parent) o.first us (lower_half i b o.node)
-        half_left =
-            half_of (take 9 (wide_children i b o.node)) (take 8 (insert o.node.entries i b.entry)) o.first us lower_links eight_us (All-take (λ l. l < 2 ^ 64) 9 (wide_children i b o.node) wide_small)
-            (ap (λ (es : List Entry). take 8 es) wide_entries_are ∙ take-map entry_of 8 wide)
-
-        half_right : Half level (link_to parent) m.place vs (upper_half i b o.node)
-        half_right =
-            half_of (drop 9 (wide_children i b o.node)) (drop 9 (insert o.node.entries i b.entry)) m.place vs upper_links eight_vs (All-drop (λ l. l < 2 ^ 64) 9 (wide_children i b o.node) wide_small)
-            (ap (λ (es : List Entry). drop 9 es) wide_entries_are ∙ drop-map entry_of 9 wide)
-
-        middle_is : get_or (insert o.node.entries i b.entry) 8 no_entry ≡ m.entry
-        middle_is = ap (λ (es : List Entry). get_or es 8 no_entry) wide_entries_are ∙ got_entry wide 8 b (let s = seventeen in omega arith)
+        b_small : link_to (Some b.place) < 2 ^ 64
+        b_small =
+            small_link (nodes_of (live_at r)) (nodes_of (live_at a)) (Some b.place) (row_room (nodes_of (live_at a)) level (Some p) b.place [] (Some b.entry.key) (right_in (map entry_of o.branches) high i) grown.spread.row.1)
 
         middle_number : m.entry.number ≡ 0
         middle_number =
-            (All-get_or IsSeparator wide 8 b (let s = seventeen in omega arith)
+            (All-get_or IsSeparator wide 8 b (let s = halves.seventeen (nodes_of (live_at r)) level parent low high p o i b within sixteen in omega arith)
             (All-append IsSeparator (take i o.branches) (b ∷ drop i o.branches) (All-take IsSeparator i o.branches (separators_of (nodes_of (live_at r)) level parent low high p o))
             (All-cons IsSeparator b (drop i o.branches) (All-head IsSeparator b [] grown.separators) (All-drop IsSeparator i o.branches (separators_of (nodes_of (live_at r)) level parent low high p o))))).1
 
@@ -402,7 +335,7 @@ module _ (r : RegionState) (level : ℕ) (p : Place) (key : List ℕ) (number : 
           branch_is : branch m.entry q ≡ branch_of x
           branch_is =
               ap (λ k. branch (keyed m.entry.key k) q) middle_number
-              ∙ (ap (λ (t : Entry). branch (keyed t.key 0) q) (sym middle_is)
+              ∙ (ap (λ (t : Entry). branch (keyed t.key 0) q) (sym (halves.middle_is (nodes_of (live_at r)) level parent low high p o i b within sixteen))
               ∙ (ap (λ (k : List ℕ). branch (keyed k 0) q) (sym cut.key) ∙ ap (λ (y : Place). branch (keyed (take x.len x.key) 0) y) (sym cut.place)))
 
           pub split_grows : HasRoom q → Grows (nodes_of (live_at r)) (nodes_of (live_at e)) (suc level) parent low high p (branch_of x ∷ []) key number (drop (left - 1) spares)
@@ -410,7 +343,7 @@ module _ (r : RegionState) (level : ℕ) (p : Place) (key : List ℕ) (number : 
               subst (λ (t : Branch). Grows (nodes_of (live_at r)) (nodes_of (live_at e)) (suc level) parent low high p (t ∷ []) key number (drop (left - 1) spares)) branch_is
               (subst (λ (t : List Place). Grows (nodes_of (live_at r)) (nodes_of (live_at e)) (suc level) parent low high p (branch m.entry q ∷ []) key number t) (sym used_is)
               (grown_split (nodes_of (live_at r)) (nodes_of (live_at a)) level parent low high p o i within key number (drop left spares) least below (apart a (b ∷ []) left touched grown)
-              (nodes_of (live_at e)) b grown q us vs m room_q q_free parts eight_us eight_vs (lower_half i b o.node) (upper_half i b o.node) cut.here cut.behind half_left half_right
+              (nodes_of (live_at e)) b grown q us vs m room_q q_free parts eight_us eight_vs (lower_half i b o.node) (upper_half i b o.node) cut.here cut.behind (halves.half_left (nodes_of (live_at r)) level parent low high p o i b within sixteen b_small) (halves.half_right (nodes_of (live_at r)) level parent low high p o i b within sixteen b_small)
               adopted.adopted (λ y far_p far_q none. live_same a e y (adopted.others y far_p far_q none))))
 
           pub room_here : HasRoom q

@@ -12,6 +12,7 @@ pub mod GrownRoster
 pub mod InnerCuts
 pub mod InnerWrites
 pub mod InsertBelow
+pub mod InsertHalves
 pub mod InsertInner
 pub mod InsertLeaf
 pub mod InsertNode

@@ -1,6 +1,6 @@
 -- A key taken away below an inner node: the child to which it leads.
-use Rattle.std.proofs.Common.{◌≡◌, ◌≢◌, ℕ, zero, suc, ◌+◌, ◌-◌, ◌<◌, ◌≤◌, List, [], ◌∷◌, length, All, take, drop, map, Option, Some, None, refl, sym, ap, subst, ◌∙◌, arith}
-use Rattle.std.specs.Prelude.{IfSome, option_map}
+use Rattle.std.proofs.Common.{◌≡◌, ◌≢◌, ℕ, zero, suc, ◌+◌, ◌-◌, ◌<◌, ◌≤◌, List, [], ◌∷◌, length, All, take, drop, map, Option, Some, refl, sym, ap, subst, ◌∙◌, arith}
+use Rattle.std.specs.Prelude.{IfSome, IsSome, option_map}
 use Rattle.std.specs.Ordering.{is_lt}
 use Rattle.std.specs.List.{flat_map}
 use Rattle.regions.specs.declared.place.Place.{Place}
@@ -84,7 +84,7 @@ module _ (nodes : Nodes) (k : ℕ) (parent : Option Place) (low high : Option (L
       let b = among r in
       omega (arith, a, b)
 
-  child_number : number_of key (held_below nodes (suc k) (Some p)) ≡ number_of key (held_below nodes k (Some the_child))
+  pub child_number : number_of key (held_below nodes (suc k) (Some p)) ≡ number_of key (held_below nodes k (Some the_child))
   child_number =
       number_child nodes k parent low high p tree.0 tree.3 tree.5 key i leads_tree tree.1
       ∙ ap (λ (q : Place). number_of key (held_below nodes k (Some q))) same
@@ -99,8 +99,8 @@ module _ (nodes : Nodes) (k : ℕ) (parent : Option Place) (low high : Option (L
           (child_room nodes k parent low high p node_open i inside)
           (sym (tree.5 i leads_tree.within).1 ∙ (ap (λ (n : TreeNode). child_at n i) (some_same tree.1 node_open.is) ∙ child_link nodes k parent low high p node_open i inside))
 
-  pub child_can : number_of key (held_below nodes (suc k) (Some p)) ≢ None → CanLose nodes k the_child key
-  child_can there = record {
+  pub child_can : CanLose nodes k the_child key
+  child_can = record {
     parent = Some p;
     low = left_in low (map entry_of node_open.branches) i;
     high = right_in (map entry_of node_open.branches) high i;
@@ -108,7 +108,6 @@ module _ (nodes : Nodes) (k : ℕ) (parent : Option Place) (low high : Option (L
     from = child_from;
     up = child_up;
     once = child_once;
-    there = λ e. there (child_number ∙ e);
   }
 
   module _ (mid : Nodes) (freed : List Place)
@@ -148,11 +147,11 @@ pub record FoundIn (nodes : Nodes) (p : Place) (key : List ℕ) (n : ℕ) : Type
   pub above : AllAbove key (drop (n + 1) node.entries)
 
 pub leaf_found : (nodes : Nodes) (level : ℕ) (parent : Option Place) (low high : Option (List ℕ)) (p : Place) (key : List ℕ) (n : ℕ) → level ≡ 0 → IsSubtree nodes level parent low high p
-    → number_of key (held_below nodes level (Some p)) ≢ None → IfSome (nodes p) (λ node. n ≡ count_below node.entries key) → FoundIn nodes p key n
+    → IsSome (number_of key (entries_of (nodes p))) → IfSome (nodes p) (λ node. n ≡ count_below node.entries key) → FoundIn nodes p key n
 leaf_found nodes (suc level) parent low high p key n e tree there counted = absurd (omega arith)
 leaf_found nodes zero parent low high p key n e (node, is, here, of, none) there counted =
     let count : n ≡ count_below node.entries key = of_some_value (λ node. n ≡ count_below node.entries key) (nodes p) node is counted in
-    let found = found_at node key n of.rising count (λ gone. there (ap (λ (o : Option TreeNode). number_of key (entries_of o)) is ∙ gone)) in
+    let found = found_at node key n of.rising count (subst (λ (o : Option TreeNode). IsSome (number_of key (entries_of o))) is there) in
     let cut : SplitsAt node.entries key n = subst (λ k. SplitsAt node.entries key k) (sym count) (splits key node.entries of.rising) in
     record {
       node = node;
@@ -170,6 +169,13 @@ leaf_lost nodes new zero parent low high p key n e tree f now others =
     leaf_loses nodes new parent low high p key n tree
     (λ node is. subst (λ (x : TreeNode). (n < length x.entries) × ((entry_at x n).key ≡ key) × AllBelow key (take n x.entries) × AllAbove key (drop (n + 1) x.entries)) (some_same f.is is) (f.within, f.key_is, f.below, f.above)) now others
 
+pub is_there : (o : Option ℕ) (n : ℕ) → o ≡ Some n → IsSome o
+is_there o n is = subst (λ (x : Option ℕ). IsSome x) (sym is) refl
+
+-- what a leaf holds
+pub leaf_held : (nodes : Nodes) (level : ℕ) (p : Place) (key : List ℕ) → level ≡ 0 → number_of key (entries_of (nodes p)) ≡ number_of key (held_below nodes level (Some p))
+leaf_held nodes level p key e = ap (λ l. number_of key (held_below nodes l (Some p))) (sym e)
+
 -- ---- one step down
 
 -- what a step down to a child of this level gives
@@ -179,7 +185,8 @@ pub record Step (nodes : Nodes) (k level : ℕ) (parent : Option Place) (low hig
   pub sub : IsSubtree nodes k (Some p) lo hi child
   pub from : IsFrom lo (keyed key 0)
   pub up : IsUpTo hi (keyed key 0)
-  pub can : number_of key (held_below nodes level (Some p)) ≢ None → CanLose nodes k child key
+  pub can : CanLose nodes k child key
+  pub number : number_of key (held_below nodes level (Some p)) ≡ number_of key (held_below nodes k (Some child))
   pub kept : (mid : Nodes) (freed : List Place) → Loses nodes mid k (Some p) lo hi child key freed → fewest_entries ≤ length (entries_of (mid child)) → Loses nodes mid level parent low high p key freed
   pub short : (mid : Nodes) (freed : List Place) → Loses nodes mid k (Some p) lo hi child key freed → length (entries_of (mid child)) < 8 → IsShort nodes mid k parent low high p i key freed
   pub level_is : level ≡ suc k
@@ -200,6 +207,7 @@ led_step nodes (suc k) parent low high p key i some tree from up once leads link
             from = child_from nodes k parent low high p key i tree from up once leads;
             up = child_up nodes k parent low high p key i tree from up once leads;
             can = child_can nodes k parent low high p key i tree from up once leads;
+            number = child_number nodes k parent low high p key i tree from up once leads;
             kept = below_kept nodes k parent low high p key i tree from up once leads;
             short = below_short nodes k parent low high p key i tree from up once leads;
             level_is = refl;

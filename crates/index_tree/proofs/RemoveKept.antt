@@ -1,5 +1,6 @@
 -- A node whose child lost a key and has as many entries as it should; where the key is; and freed nodes in another order.
-use Rattle.std.proofs.Common.{◌≡◌, ◌≢◌, ℕ, suc, ◌+◌, ◌<◌, ◌≤◌, inl, inr, false, true≢false, List, [], ◌∷◌, ◌++◌, All, length, take, drop, map, get_or, Option, Some, None, refl, sym, ap, subst, ◌∙◌, arith, is_lt, Ordering, Less, Equal, Greater}
+use Rattle.std.proofs.Common.{◌≡◌, ℕ, suc, ◌+◌, ◌<◌, ◌≤◌, inl, inr, false, true≢false, List, [], ◌∷◌, ◌++◌, All, length, take, drop, map, get_or, Option, Some, None, refl, sym, ap, subst, ◌∙◌, arith, is_lt, Ordering, Less, Equal, Greater}
+use Rattle.std.specs.Prelude.{IsSome}
 use Rattle.std.specs.List.{flat_map}
 use Rattle.std.proofs.lemmas.Bool.{cases_lt}
 use Rattle.std.proofs.lemmas.List.{get_or-drop, length-drop, take-append-drop}
@@ -29,13 +30,16 @@ use Rattle.index_tree.proofs.RemovePair.{from_at, up_at}
 -- ---- where the key is
 
 -- the entry with a key that is there
-pub found_at : (node : TreeNode) (key : List ℕ) (n : ℕ) → AreRising node.entries → n ≡ count_below node.entries key → number_of key node.entries ≢ None
+pub found_at : (node : TreeNode) (key : List ℕ) (n : ℕ) → AreRising node.entries → n ≡ count_below node.entries key → IsSome (number_of key node.entries)
     → (n < length node.entries) × ((entry_at node n).key ≡ key)
 found_at node key n rise counted there = elim (cases_lt n (length node.entries)) [
   | inl within ↦ (within, same within)
-  | inr past ↦ absurd (there (sym (no_number node key n rise counted (λ h. let w = h.0 in omega (arith, w, past)))))
+  | inr past ↦ absurd (not_missing (no_number node key n rise counted (λ h. let w = h.0 in omega (arith, w, past))))
 ]
   where
+    not_missing : None ≡ number_of key node.entries → ⊥
+    not_missing gone = true≢false (sym (subst (λ (o : Option ℕ). IsSome o) (sym gone) there))
+
     same : n < length node.entries → (entry_at node n).key ≡ key
     same within =
         let e : Entry = get_or node.entries n no_entry in
@@ -50,8 +54,8 @@ found_at node key n rise counted there = elim (cases_lt n (length node.entries))
         go e least Less is at = absurd (true≢false (sym (ap is_lt is) ∙ least))
         go e least Equal is at = ap (λ (x : Entry). x.key) (sym at) ∙ tied e.key key is
         go e least Greater is at =
-            absurd (there (sym (no_number node key n rise counted
-            (λ h. let equal : key_cmp key key ≡ Greater = ap (λ (k : List ℕ). key_cmp k key) (sym h.1 ∙ ap (λ (x : Entry). x.key) (sym at)) ∙ is in not_greater key equal))))
+            absurd (not_missing (no_number node key n rise counted
+            (λ h. let equal : key_cmp key key ≡ Greater = ap (λ (k : List ℕ). key_cmp k key) (sym h.1 ∙ ap (λ (x : Entry). x.key) (sym at)) ∙ is in not_greater key equal)))
           where
             not_greater : (k : List ℕ) → key_cmp k k ≡ Greater → ⊥
             not_greater k e = let below = greater_less k k e in let clash : Greater ≡ Less = sym e ∙ below in cc

@@ -1,5 +1,5 @@
 -- A key taken out of a whole tree.
-use Rattle.std.proofs.Common.{◌≡◌, ◌≢◌, ℕ, ◌+◌, ◌-◌, ◌*◌, ◌≤◌, true≢false, List, [], ◌∷◌, length, Option, Some, None, refl, sym, ap, subst, ◌∙◌, arith, length-append, Ordering, Less, Equal, Greater}
+use Rattle.std.proofs.Common.{◌≡◌, ℕ, ◌+◌, ◌-◌, ◌*◌, ◌≤◌, true≢false, List, [], ◌∷◌, length, Option, Some, None, refl, sym, ap, subst, ◌∙◌, arith, length-append, Ordering, Less, Equal, Greater}
 use Rattle.std.specs.Prelude.{IsSome}
 use Rattle.std.specs.List.{sum}
 use Rattle.std.proofs.lemmas.List.Elements.{All-cons, All-nil, All-weaker}
@@ -32,13 +32,9 @@ use Rattle.index_tree.proofs.Settled.{consistent_settled}
 
 -- ---- what the removal asks
 
-is_none : (o : Option ℕ) → IsSome o → o ≢ None
-is_none None h e = true≢false (sym h)
-is_none (Some n) h e = (let clash : Some n ≡ None = e in cc)
-
-pub can_lose : (r : RosterState) (live : Live) → IsRosterOf r live → (root : Place) → r.tree.root ≡ Some root → (key : List ℕ) → IsSome (number_of key (held_below (nodes_of live) r.tree.level r.tree.root))
+pub can_lose : (r : RosterState) (live : Live) → IsRosterOf r live → (root : Place) → r.tree.root ≡ Some root → (key : List ℕ)
     → CanLose (nodes_of live) r.tree.level root key
-can_lose r live is root e key has = record {
+can_lose r live is root e key = record {
   parent = None;
   low = None;
   high = None;
@@ -51,8 +47,14 @@ can_lose r live is root e key has = record {
       let here : times q (nodes_below (nodes_of live) r.tree.level r.tree.root) ≡ times q (nodes_below (nodes_of live) r.tree.level (Some root)) =
       ap (λ (o : Option Place). times q (nodes_below (nodes_of live) r.tree.level o)) e in
       omega (arith, low, both, here));
-  there = is_none (number_of key (held_below (nodes_of live) r.tree.level (Some root))) (subst (λ (o : Option Place). IsSome (number_of key (held_below (nodes_of live) r.tree.level o))) e has);
 }
+
+-- the number of a key below the root is that in the index
+pub number_known : (r : RosterState) (live : Live) → IsRosterOf r live → (root : Place) → r.tree.root ≡ Some root → (level : ℕ) → level ≡ r.tree.level → (key : List ℕ)
+    → number_of key (held_below (nodes_of live) level (Some root)) ≡ number_of key r.known.index
+number_known r live is root e level same key =
+    ap (λ l. number_of key (held_below (nodes_of live) l (Some root))) same
+    ∙ (ap (λ (o : Option Place). number_of key (held_below (nodes_of live) r.tree.level o)) (sym e) ∙ ap (λ (x : Index). number_of key x) is.index)
 
 -- ---- how many keys there are then
 

@@ -3,7 +3,7 @@ use Rattle.std.specs.Prelude.{◌≡◌, ◌≢◌, ℕ, zero, suc, ◌+◌, ◌
 use Rattle.regions.specs.declared.place.Place.{Place}
 use Rattle.tree_nodes.specs.Nodes.{TreeNode, CanStand, child_at, no_place, started}
 use Rattle.tree_nodes.specs.Order.{AreRising}
-use Rattle.index_tree.specs.Indexes.{Index, number_of, without}
+use Rattle.index_tree.specs.Indexes.{Index, without}
 use Rattle.index_tree.specs.Inserts.{AreChained, Branch, Row, entry_of, first_link, of_row, times}
 use Rattle.index_tree.specs.Links.{Nodes, HasRoom, link_to}
 use Rattle.index_tree.specs.Trees.{IsFrom, IsSubtree, IsUpTo, entries_of, held_below, leaves_below, left_of, nodes_below, right_of}
@@ -75,7 +75,7 @@ pub record IsShort (nodes new : Nodes) (level : ℕ) (parent : Option Place) (lo
   pub loses : Loses nodes new level (Some p) (left_of node low i) (right_of node high i) child key freed
   pub seven : length (entries_of (new child)) ≡ 7
 
--- A key that is there can be taken away below a place: a subtree stands there, between two bounds that the key is between, and no
+-- A key can be taken away below a place, if it is there: a subtree stands there, between two bounds that the key is between, and no
 -- node of it is there twice.
 pub record CanLose (nodes : Nodes) (level : ℕ) (p : Place) (key : List ℕ) : Type 0 where
   pub parent : Option Place
@@ -85,4 +85,3 @@ pub record CanLose (nodes : Nodes) (level : ℕ) (p : Place) (key : List ℕ) : 
   pub from : IsFrom low (record { key = key; number = 0 })
   pub up : IsUpTo high (record { key = key; number = 0 })
   pub once : (r : Place) → times r (nodes_below nodes level (Some p)) ≤ 1
-  pub there : number_of key (held_below nodes level (Some p)) ≢ None

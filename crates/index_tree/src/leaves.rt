@@ -61,8 +61,8 @@ fn copy_entries(region: &mut Region, from: Place, to: Place)
     requires from { HoldsNode (live_at region.old) from }
     requires to { HoldsNode (live_at region.old) to }
     requires apart { from ≢ to }
-    requires room { (node other : TreeNode) → nodes_of (live_at region.old) to ≡ Some node → nodes_of (live_at region.old) from ≡ Some other
-        → length node.entries + length other.entries ≤ most_entries }
+    requires room { (node other : TreeNode) → nodes_of (live_at region.old) to ≡ Some node
+        → nodes_of (live_at region.old) from ≡ Some other → length node.entries + length other.entries ≤ most_entries }
     ensures { (node : TreeNode) → nodes_of (live_at region.old) from ≡ Some node
         → WritesNode to (pairs.takes node.entries) region.old region.new }
 {
@@ -125,8 +125,8 @@ fn append(region: &mut Region, from: Place, to: Place)
     requires from { HoldsNode (live_at region.old) from }
     requires to { HoldsNode (live_at region.old) to }
     requires apart { from ≢ to }
-    requires room { (node other : TreeNode) → nodes_of (live_at region.old) to ≡ Some node → nodes_of (live_at region.old) from ≡ Some other
-        → length node.entries + length other.entries ≤ most_entries }
+    requires room { (node other : TreeNode) → nodes_of (live_at region.old) to ≡ Some node
+        → nodes_of (live_at region.old) from ≡ Some other → length node.entries + length other.entries ≤ most_entries }
     ensures { (node : TreeNode) → nodes_of (live_at region.old) from ≡ Some node
         → WritesNode to (λ taker. with_next node.next_leaf (pairs.takes node.entries taker)) region.old region.new }
 {

@@ -1,14 +1,15 @@
 //! The removal of a key from a whole tree.
-ghost use Rattle.std.specs.Prelude.{◌≡◌, ℕ, ◌+◌, ◌<◌, ◌≤◌, List, None, Some, length};
+ghost use Rattle.std.specs.Prelude.{◌≡◌, ℕ, ◌+◌, ◌<◌, ◌≤◌, IfSome, IsNone, List, None, Some, length, option_map};
 ghost use Rattle.regions.specs.Contents.{live_at};
 ghost use Rattle.regions.specs.Stores.{SameBut};
 ghost use Rattle.regions.specs.declared.place.Place.{Place};
+ghost use Rattle.index_tree.specs.Indexes.{number_of};
 ghost use Rattle.index_tree.specs.Inserts.{times};
 ghost use Rattle.index_tree.specs.Links.{Nodes};
 ghost use Rattle.index_tree.specs.Prunes.{Prunes};
 ghost use Rattle.index_tree.specs.Removes.{CanLose, Loses};
 ghost use Rattle.index_tree.specs.Store.{nodes_of};
-ghost use Rattle.index_tree.specs.Trees.{IsSubtree, nodes_below};
+ghost use Rattle.index_tree.specs.Trees.{IsSubtree, held_below, nodes_below};
 ghost use Rattle.index_tree.specs.Writes.{blank};
 ghost use Rattle.index_tree.specs.inside.Climbs.{HoldNodes};
 
@@ -27,21 +28,29 @@ pub(crate) struct Pruned {
     pub(crate) freed: Spares,
 }
 
-/// Takes a key away from the tree below a root, where it is.
-pub(crate) fn remove_at_root(region: &mut Region, root: Place, level: u16, key: &[u8]) -> Pruned
+/// Takes a key away from the tree below a root, and gives its number with what is left. None where the key is not there: nothing
+/// changed.
+pub(crate) fn remove_at_root(
+    region: &mut Region,
+    root: Place,
+    level: u16,
+    key: &[u8],
+) -> Option<(u32, Pruned)>
     requires below { CanLose (nodes_of (live_at region.old)) level root key.now }
     requires whole { IsSubtree (nodes_of (live_at region.old)) level None None None root }
     requires low { level ≤ 5 }
     requires nodes { HoldNodes (live_at region.old) }
-    ensures pruned { Prunes (nodes_of (live_at region.old)) (nodes_of (live_at region.new)) level root result.level result.root
-        key.now result.freed }
-    ensures few { length result.freed ≤ level + 1 }
+    ensures number { option_map (λ left. left.0) result ≡ number_of key.now (held_below (nodes_of (live_at region.old)) level (Some root)) }
+    ensures unchanged { IsNone result → region.new ≡ region.old }
+    ensures pruned { IfSome result (λ left. Prunes (nodes_of (live_at region.old)) (nodes_of (live_at region.new)) level root
+        left.1.level left.1.root key.now left.1.freed) }
+    ensures few { IfSome result (λ left. length left.1.freed ≤ level + 1) }
     ensures nodes { HoldNodes (live_at region.new) }
     ensures same { SameBut blank region.old region.new }
 {
     let mut freed = Spares::new();
-    remove_below(region, root, level, key, &mut freed);
-    settle_root(region, root, level, freed)
+    let number = remove_below(region, root, level, key, &mut freed)?;
+    Some((number, settle_root(region, root, level, freed)))
 }
 
 /// A key was taken away below the root. A root without an entry goes: its only child, if it has one, is the root then.

@@ -1,21 +1,24 @@
 //! A key taken away below a place, and nodes mended that have an entry too few then.
-ghost use Rattle.std.specs.Prelude.{◌≡◌, ◌≢◌, ◌+◌, ℕ, suc, ◌<◌, ◌≤◌, List, [], ◌∷◌, ◌++◌, Option, IfSome, IsSome, Some, true, cond, length};
+ghost use Rattle.std.specs.Prelude.{◌≡◌, ◌≢◌, ◌+◌, ℕ, suc, ◌<◌, ◌≤◌, List, [], ◌∷◌, ◌++◌, length};
+ghost use Rattle.std.specs.Prelude.{Option, IfSome, IsNone, IsSome, Some, true, cond};
 ghost use Rattle.std.specs.Option.{option_to_list};
 ghost use Rattle.regions.specs.Contents.{live_at};
 ghost use Rattle.regions.specs.Stores.{SameBut};
 ghost use Rattle.regions.specs.declared.place.Place.{Place};
 ghost use Rattle.tree_nodes.specs.Nodes.{IsNode, node_in};
+ghost use Rattle.tree_nodes.specs.Order.{AreRising, count_below};
+ghost use Rattle.index_tree.specs.Indexes.{number_of};
 ghost use Rattle.index_tree.specs.Links.{Nodes};
 ghost use Rattle.index_tree.specs.Removes.{CanLose, IsShort, Loses};
-ghost use Rattle.index_tree.specs.Trees.{IsFrom, IsSubtree, IsUpTo};
+ghost use Rattle.index_tree.specs.Trees.{IsFrom, IsSubtree, IsUpTo, entries_of, held_below};
 ghost use Rattle.index_tree.specs.Store.{HoldsNode, nodes_of};
 ghost use Rattle.index_tree.specs.Mended.{Adopts, AreUneven, HasKids, IsMendedAt, OnlyThree};
-ghost use Rattle.index_tree.specs.Writes.{WritesNode, blank};
+ghost use Rattle.index_tree.specs.Writes.{WritesNode, blank, without_entries};
 
 use crate::fields::{child_of, count_at, led_to, link_to, set_parent_at};
 use crate::leaves::mend_leaves;
 use crate::pairs::mend_above;
-use crate::search::{below_at, way_at};
+use crate::search::{below_at, has_at, number_at, way_at};
 use crate::spares::Spares;
 use crate::writing::cut_run_at;
 use regions::{Place, Region};
@@ -146,18 +149,40 @@ fn freed_if(free: bool, place: Place) -> Option<Place>
     if free { Some(place) } else { None }
 }
 
-/// Takes a key that is there away below a place. Nodes that are free then come behind the others.
+// Takes a key away from the leaf at a place, and gives its number. None where the leaf has not the key.
+fn remove_in(region: &mut Region, leaf: Place, key: &[u8]) -> Option<u32>
+    requires node { HoldsNode (live_at region.old) leaf }
+    requires rising { IfSome (nodes_of (live_at region.old) leaf) (λ node. AreRising node.entries) }
+    ensures number { result ≡ number_of key.now (entries_of (nodes_of (live_at region.old) leaf)) }
+    ensures unchanged { IsNone result → region.new ≡ region.old }
+    ensures taken { IsSome result → (i : ℕ)
+        × IfSome (nodes_of (live_at region.old) leaf) (λ node. i ≡ count_below node.entries key.now)
+        × WritesNode leaf (without_entries i 1) region.old region.new }
+{
+    let i = below_at(region, leaf, key);
+    if !has_at(region, leaf, i, key) {
+        return None;
+    }
+    let number = number_at(region, leaf, i);
+    cut_run_at(region, leaf, i, 1);
+    Some(number)
+}
+
+/// Takes a key away below a place, and gives its number. Nodes that are free then come behind the others. None where the key is not
+/// there: nothing changed.
 pub(crate) fn remove_below(
     region: &mut Region,
     at: Place,
     level: u16,
     key: &[u8],
     freed: &mut Spares,
-)
+) -> Option<u32>
     requires below { CanLose (nodes_of (live_at region.old)) level at key.now }
     requires nodes { (p : Place) → IsSome (live_at region.old p) → HoldsNode (live_at region.old) p }
     requires room { length freed.old + level ≤ 8 }
-    ensures lost { (parent : Option Place) (low high : Option (List ℕ))
+    ensures number { result ≡ number_of key.now (held_below (nodes_of (live_at region.old)) level (Some at)) }
+    ensures unchanged { IsNone result → (region.new ≡ region.old) × (freed.new ≡ freed.old) }
+    ensures lost { IsSome result → (parent : Option Place) (low high : Option (List ℕ))
         → IsSubtree (nodes_of (live_at region.old)) level parent low high at
         → IsFrom low (record { key = key.now; number = 0 }) → IsUpTo high (record { key = key.now; number = 0 })
         → ((more : List Place) × ((freed.new ≡ freed.old ++ more)
@@ -167,19 +192,18 @@ pub(crate) fn remove_below(
     ensures same { SameBut blank region.old region.new }
 {
     if level == 0 {
-        let i = below_at(region, at, key);
-        cut_run_at(region, at, i, 1);
-        return;
+        return remove_in(region, at, key);
     }
     let i = way_at(region, at, key);
     let Some(child) = led_to(child_of(region, at, i)) else {
         unreachable!()
     };
-    remove_below(region, child, level - 1, key, freed);
+    let number = remove_below(region, child, level - 1, key, freed)?;
     if count_at(region, child) >= 8 {
-        return;
+        return Some(number);
     }
     if let Some(free) = mend_child(region, at, level - 1, i) {
         freed.push(free);
     }
+    Some(number)
 }

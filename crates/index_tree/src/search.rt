@@ -40,7 +40,7 @@ pub(crate) fn number_at(region: &Region, at: Place, i: u16) -> u32
 }
 
 /// Whether an entry of the node at a place is there and has a key.
-fn has_at(region: &Region, at: Place, i: u16, key: &[u8]) -> bool
+pub(crate) fn has_at(region: &Region, at: Place, i: u16, key: &[u8]) -> bool
     requires { HoldsNode (live_at region.now) at }
     ensures { IfSome (nodes_of (live_at region.now) at)
         (λ node. IsTrue result ↔ ((i < length node.entries) × ((entry_at node i).key ≡ key.now))) }

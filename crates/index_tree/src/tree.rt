@@ -190,22 +190,8 @@ impl IndexTree {
         ensures stay { Stay self.old.region self.new.region }
         ensures segments { HoldsSegments self.old.region self.new.region }
     {
-        let number = get(&self.region, self.roots.root(), self.roots.level(), key)?;
-        self.take_out(key);
-        Some(number)
-    }
-
-    // Takes a key away that is there.
-    fn take_out(&mut self, key: &[u8])
-        requires there { IsSome (indexes.number_of key.now (index_in self.old)) }
-        ensures index { index_in self.new ≡ indexes.without key.now (index_in self.old) }
-        ensures stay { Stay self.old.region self.new.region }
-        ensures segments { HoldsSegments self.old.region self.new.region }
-    {
-        let Some(root) = self.roots.root() else {
-            unreachable!()
-        };
-        let pruned = remove_at_root(&mut self.region, root, self.roots.level(), key);
+        let root = self.roots.root()?;
+        let (number, pruned) = remove_at_root(&mut self.region, root, self.roots.level(), key)?;
         self.roots.release(
             &self.region,
             pruned.root,
@@ -214,6 +200,7 @@ impl IndexTree {
         );
         self.roots.trim(&mut self.region);
         self.keys -= 1;
+        Some(number)
     }
 
     /// Writes the first `count` keys at or above one, each behind its length in two bytes.
