@@ -2,7 +2,6 @@
 use Rattle.std.proofs.Common.{◌≡◌, ℕ, zero, suc, ◌<◌, ◌≤◌, inl, inr, false, List, [], ◌∷◌, ◌++◌, length, take, drop, get_or, ap, subst, arith, Less}
 use Rattle.std.specs.Prelude.{All}
 use Rattle.std.specs.Ordering.{is_gt, is_lt}
-use Rattle.std.specs.declared.vec.Vec.{Vec}
 use Rattle.std.proofs.lemmas.Cmp.{nat_list_cmp_total, tied_itself}
 use Rattle.std.proofs.lemmas.List.Elements.{All-head, All-tail}
 use Rattle.key_index.specs.declared.entries.Entry.{Entry}
@@ -49,49 +48,49 @@ last_most key_of (e ∷ f ∷ entries) (suc k) d rising h = (most_less (key_of e
     above (x ∷ es) (suc k) h a = above es k (omega arith) a.1
 
 -- the first of a block is not above those from it on
-pub first_from : {Z : Type 0} (key_of : ℕ → List ℕ) (blocks : List (Vec Entry Z)) (k : ℕ) (d : Entry) → AreRising key_of (rows_of (entries_of blocks)) → All (λ b. 0 < length b.items) blocks → k < length blocks
+pub first_from : (key_of : ℕ → List ℕ) (blocks : List (List Entry)) (k : ℕ) (d : Entry) → AreRising key_of (rows_of (entries_of blocks)) → All (λ b. 0 < length b) blocks → k < length blocks
     → AreNotBelow key_of (key_of (get_or (entries_at blocks k) 0 d).row) (rows_of (entries_of (drop k blocks)))
-first_from {Z = Z} key_of [] k d rising full h = absurd (omega arith)
-first_from {Z = Z} key_of (b ∷ blocks) zero d rising full h = here b.items (entries_of blocks) (All-head (λ (v : Vec Entry Z). 0 < length v.items) b blocks full) rising
+first_from key_of [] k d rising full h = absurd (omega arith)
+first_from key_of (b ∷ blocks) zero d rising full h = here b (entries_of blocks) (All-head (λ (v : List Entry). 0 < length v) b blocks full) rising
   where
     here : (xs ys : List Entry) → 0 < length xs → AreRising key_of (rows_of (xs ++ ys)) → AreNotBelow key_of (key_of (get_or xs 0 d).row) (rows_of (xs ++ ys))
     here [] ys h r = absurd (omega arith)
     here (x ∷ xs) ys h r = first_rows key_of x.row (rows_of (xs ++ ys)) r
-first_from {Z = Z} key_of (b ∷ blocks) (suc k) d rising full h =
-    first_from key_of blocks k d (rising_rest key_of b blocks rising) (All-tail (λ (v : Vec Entry Z). 0 < length v.items) b blocks full) (omega arith)
+first_from key_of (b ∷ blocks) (suc k) d rising full h =
+    first_from key_of blocks k d (rising_rest key_of b blocks rising) (All-tail (λ (v : List Entry). 0 < length v) b blocks full) (omega arith)
 
 -- the first of a block is not below those before it
-pub first_upto : {Z : Type 0} (key_of : ℕ → List ℕ) (blocks : List (Vec Entry Z)) (k : ℕ) (d : Entry) → AreRising key_of (rows_of (entries_of blocks)) → All (λ b. 0 < length b.items) blocks → k < length blocks
+pub first_upto : (key_of : ℕ → List ℕ) (blocks : List (List Entry)) (k : ℕ) (d : Entry) → AreRising key_of (rows_of (entries_of blocks)) → All (λ b. 0 < length b) blocks → k < length blocks
     → AreAtMost key_of (key_of (get_or (entries_at blocks k) 0 d).row) (rows_of (entries_of (take k blocks)))
-first_upto {Z = Z} key_of blocks k d rising full h =
+first_upto key_of blocks k d rising full h =
     let key = key_of (get_or (entries_at blocks k) 0 d).row in
     each_weaker (λ r. key_cmp (key_of r) key ≡ Less) (λ r. is_gt (key_cmp (key_of r) key) ≡ false) (λ r e. most_less (key_of r) key e) (rows_of (entries_of (take k blocks)))
     (below_first key_of key blocks k d rising full h (λ low e. e))
 
-each_from : {Z : Type 0} (P : ℕ → Type 0) (blocks : List (Vec Entry Z)) (j k : ℕ) → j ≤ k → Each P (rows_of (entries_of (drop j blocks))) → Each P (rows_of (entries_at blocks k))
-each_from {Z = Z} P [] j k h e = tt
-each_from {Z = Z} P (b ∷ blocks) zero zero h e = each_left P (rows_of b.items) (rows_of (entries_of blocks)) (subst (Each P) (rows_append b.items (entries_of blocks)) e)
-each_from {Z = Z} P (b ∷ blocks) zero (suc k) h e = each_from P blocks zero k (omega arith) (each_right P (rows_of b.items) (rows_of (entries_of blocks)) (subst (Each P) (rows_append b.items (entries_of blocks)) e))
-each_from {Z = Z} P (b ∷ blocks) (suc j) zero h e = absurd (omega arith)
-each_from {Z = Z} P (b ∷ blocks) (suc j) (suc k) h e = each_from P blocks j k (omega arith) e
+each_from : (P : ℕ → Type 0) (blocks : List (List Entry)) (j k : ℕ) → j ≤ k → Each P (rows_of (entries_of (drop j blocks))) → Each P (rows_of (entries_at blocks k))
+each_from P [] j k h e = tt
+each_from P (b ∷ blocks) zero zero h e = each_left P (rows_of b) (rows_of (entries_of blocks)) (subst (Each P) (rows_append b (entries_of blocks)) e)
+each_from P (b ∷ blocks) zero (suc k) h e = each_from P blocks zero k (omega arith) (each_right P (rows_of b) (rows_of (entries_of blocks)) (subst (Each P) (rows_append b (entries_of blocks)) e))
+each_from P (b ∷ blocks) (suc j) zero h e = absurd (omega arith)
+each_from P (b ∷ blocks) (suc j) (suc k) h e = each_from P blocks j k (omega arith) e
 
-each_upto : {Z : Type 0} (P : ℕ → Type 0) (blocks : List (Vec Entry Z)) (j k : ℕ) → k < j → Each P (rows_of (entries_of (take j blocks))) → Each P (rows_of (entries_at blocks k))
-each_upto {Z = Z} P [] j k h e = tt
-each_upto {Z = Z} P (b ∷ blocks) zero k h e = absurd (omega arith)
-each_upto {Z = Z} P (b ∷ blocks) (suc j) zero h e = each_left P (rows_of b.items) (rows_of (entries_of (take j blocks))) (subst (Each P) (rows_append b.items (entries_of (take j blocks))) e)
-each_upto {Z = Z} P (b ∷ blocks) (suc j) (suc k) h e =
-    each_upto P blocks j k (omega arith) (each_right P (rows_of b.items) (rows_of (entries_of (take j blocks))) (subst (Each P) (rows_append b.items (entries_of (take j blocks))) e))
+each_upto : (P : ℕ → Type 0) (blocks : List (List Entry)) (j k : ℕ) → k < j → Each P (rows_of (entries_of (take j blocks))) → Each P (rows_of (entries_at blocks k))
+each_upto P [] j k h e = tt
+each_upto P (b ∷ blocks) zero k h e = absurd (omega arith)
+each_upto P (b ∷ blocks) (suc j) zero h e = each_left P (rows_of b) (rows_of (entries_of (take j blocks))) (subst (Each P) (rows_append b (entries_of (take j blocks))) e)
+each_upto P (b ∷ blocks) (suc j) (suc k) h e =
+    each_upto P blocks j k (omega arith) (each_right P (rows_of b) (rows_of (entries_of (take j blocks))) (subst (Each P) (rows_append b (entries_of (take j blocks))) e))
 
-low_at : {Z : Type 0} (key_of : ℕ → List ℕ) (key : List ℕ) (blocks : List (Vec Entry Z)) (j k l : ℕ) → j ≤ k → IsLowBound key_of key (rows_of (entries_of (drop j blocks))) l → IsLowBound key_of key (rows_of (entries_at blocks k)) l
+low_at : (key_of : ℕ → List ℕ) (key : List ℕ) (blocks : List (List Entry)) (j k l : ℕ) → j ≤ k → IsLowBound key_of key (rows_of (entries_of (drop j blocks))) l → IsLowBound key_of key (rows_of (entries_at blocks k)) l
 low_at key_of key blocks j k l h (inl e) = inl e
 low_at key_of key blocks j k l h (inr (r, above, most, s)) = inr (r, each_from (λ x. is_gt (key_cmp (key_of r) (key_of x)) ≡ false) blocks j k h above, most, s)
 
-high_at : {Z : Type 0} (key_of : ℕ → List ℕ) (key : List ℕ) (blocks : List (Vec Entry Z)) (j k l : ℕ) → k < j → IsHighBound key_of key (rows_of (entries_of (take j blocks))) l → IsHighBound key_of key (rows_of (entries_at blocks k)) l
+high_at : (key_of : ℕ → List ℕ) (key : List ℕ) (blocks : List (List Entry)) (j k l : ℕ) → k < j → IsHighBound key_of key (rows_of (entries_of (take j blocks))) l → IsHighBound key_of key (rows_of (entries_at blocks k)) l
 high_at key_of key blocks j k l h (inl e) = inl e
 high_at key_of key blocks j k l h (inr (r, below, least, s)) = inr (r, each_upto (λ x. is_gt (key_cmp (key_of x) (key_of r)) ≡ false) blocks j k h below, least, s)
 
 -- a key between two bounds shares bytes with each key of a block between them
-pub share_in : {Z : Type 0} (key_of : ℕ → List ℕ) (key : List ℕ) (blocks : List (Vec Entry Z)) (low high k l h m : ℕ) → low ≤ k → k < high → m ≤ l → m ≤ h
+pub share_in : (key_of : ℕ → List ℕ) (key : List ℕ) (blocks : List (List Entry)) (low high k l h m : ℕ) → low ≤ k → k < high → m ≤ l → m ≤ h
     → IsLowBound key_of key (rows_of (entries_of (drop low blocks))) l → IsHighBound key_of key (rows_of (entries_of (take high blocks))) h
     → All (λ e. Share m (key_of e.row) key) (entries_at blocks k)
 share_in key_of key blocks low high k l h m a b f g lows highs =
@@ -99,7 +98,7 @@ share_in key_of key blocks low high k l h m a b f g lows highs =
     (share_bounded key_of key (rows_of (entries_at blocks k)) l h m f g (low_at key_of key blocks low k l a lows) (high_at key_of key blocks high k h b highs))
 
 -- the entries of one block
-pub keyed_at : {Z : Type 0} (has_row : ℕ → Type 0) (key_of : ℕ → List ℕ) (blocks : List (Vec Entry Z)) (k : ℕ) → AreEntriesOf has_row key_of (entries_of blocks) → AreEntriesOf has_row key_of (entries_at blocks k)
+pub keyed_at : (has_row : ℕ → Type 0) (key_of : ℕ → List ℕ) (blocks : List (List Entry)) (k : ℕ) → AreEntriesOf has_row key_of (entries_of blocks) → AreEntriesOf has_row key_of (entries_at blocks k)
 keyed_at has_row key_of blocks k h = record {
   readable = all_at (λ e. has_row e.row) blocks k h.readable;
   bytes = all_at (λ e. AreBytes (key_of e.row)) blocks k h.bytes;
@@ -108,8 +107,8 @@ keyed_at has_row key_of blocks k h = record {
 }
 
 -- before all rows, where these are above a key
-pub place_first : {Z : Type 0} (key_of : ℕ → List ℕ) (key : List ℕ) (blocks : List (Vec Entry Z)) → AreAbove key_of key (rows_of (entries_of blocks)) → IsPlaceOf key_of key blocks 0 0
-place_first {Z = Z} key_of key blocks above = record {
+pub place_first : (key_of : ℕ → List ℕ) (key : List ℕ) (blocks : List (List Entry)) → AreAbove key_of key (rows_of (entries_of blocks)) → IsPlaceOf key_of key blocks 0 0
+place_first key_of key blocks above = record {
   before = tt;
   below = tt;
   at_least = each_weaker (λ r. key_cmp key (key_of r) ≡ Less) (λ r. is_lt (key_cmp (key_of r) key) ≡ false) (λ r e. above_least (key_of r) key e) (rows_of (entries_at blocks 0))

@@ -1,7 +1,6 @@
 -- The rows from a place on.
 use Rattle.std.proofs.Common.{◌≡◌, ℕ, zero, suc, ◌+◌, ◌<◌, ◌≤◌, List, [], ◌∷◌, ◌++◌, length, drop, slice_get, Some, None, refl, sym, ap, ◌∙◌, arith, add-one, inl, inr}
 use Rattle.std.specs.Prelude.{All}
-use Rattle.std.specs.declared.vec.Vec.{Vec}
 use Rattle.std.proofs.lemmas.List.{drop-map, drop_all}
 use Rattle.std.proofs.lemmas.Bool.{cases_lt}
 use Rattle.key_index.specs.declared.entries.Entry.{Entry}
@@ -19,37 +18,37 @@ use Rattle.key_index.proofs.KeyOrder.{greater, least_le}
 use Rattle.key_index.proofs.Found.{cut_at, front_below, back_least}
 use Rattle.key_index.proofs.Edits.{all_full, short_at}
 
-pub back_here : {Z : Type 0} (blocks : List (Vec Entry Z)) (k at : ℕ) (e : Entry) → Some e ≡ slice_get (entries_at blocks k) at → back blocks k at ≡ e.row ∷ back blocks k (at + 1)
+pub back_here : (blocks : List (List Entry)) (k at : ℕ) (e : Entry) → Some e ≡ slice_get (entries_at blocks k) at → back blocks k at ≡ e.row ∷ back blocks k (at + 1)
 back_here blocks k at e some =
     let after = rows_of (entries_of (drop (k + 1) blocks)) in
     ap (λ (xs : List ℕ). xs ++ after) (got (entries_at blocks k) at e some)
     ∙ ap (λ (xs : List ℕ). e.row ∷ (xs ++ after)) (sym (drop-map (λ (x : Entry). x.row) (at + 1) (entries_at blocks k)))
 
-from_block : {Z : Type 0} (blocks : List (Vec Entry Z)) (k : ℕ) → rows_of (entries_of (drop k blocks)) ≡ back blocks k 0
-from_block {Z = Z} blocks k = go blocks k ∙ ap (λ (n : ℕ). drop 0 (rows_of (entries_at blocks k)) ++ rows_of (entries_of (drop n blocks))) (sym (add-one k))
+from_block : (blocks : List (List Entry)) (k : ℕ) → rows_of (entries_of (drop k blocks)) ≡ back blocks k 0
+from_block blocks k = go blocks k ∙ ap (λ (n : ℕ). drop 0 (rows_of (entries_at blocks k)) ++ rows_of (entries_of (drop n blocks))) (sym (add-one k))
   where
-    go : (blocks : List (Vec Entry Z)) (k : ℕ) → rows_of (entries_of (drop k blocks)) ≡ drop 0 (rows_of (entries_at blocks k)) ++ rows_of (entries_of (drop (suc k) blocks))
+    go : (blocks : List (List Entry)) (k : ℕ) → rows_of (entries_of (drop k blocks)) ≡ drop 0 (rows_of (entries_at blocks k)) ++ rows_of (entries_of (drop (suc k) blocks))
     go [] zero = refl
     go [] (suc k) = refl
-    go (b ∷ blocks) zero = rows_append b.items (entries_of blocks)
+    go (b ∷ blocks) zero = rows_append b (entries_of blocks)
     go (b ∷ blocks) (suc k) = go blocks k
 
-pub back_none : {Z : Type 0} (blocks : List (Vec Entry Z)) (k at : ℕ) → None ≡ slice_get (entries_at blocks k) at → back blocks k at ≡ back blocks (k + 1) 0
+pub back_none : (blocks : List (List Entry)) (k at : ℕ) → None ≡ slice_get (entries_at blocks k) at → back blocks k at ≡ back blocks (k + 1) 0
 back_none blocks k at none =
     ap (λ (xs : List ℕ). xs ++ rows_of (entries_of (drop (k + 1) blocks))) (got_none (entries_at blocks k) at none) ∙ from_block blocks (k + 1)
 
-pub back_past : {Z : Type 0} (blocks : List (Vec Entry Z)) (k at : ℕ) → length blocks ≤ k → back blocks k at ≡ []
-back_past {Z = Z} blocks k at h =
+pub back_past : (blocks : List (List Entry)) (k at : ℕ) → length blocks ≤ k → back blocks k at ≡ []
+back_past blocks k at h =
     ap (λ (es : List Entry). drop at (rows_of es) ++ rows_of (entries_of (drop (k + 1) blocks))) (at_past blocks k h)
     ∙ ap (λ (xs : List ℕ). xs ++ rows_of (entries_of (drop (k + 1) blocks))) (none at)
-    ∙ ap (λ (bs : List (Vec Entry Z)). rows_of (entries_of bs)) (drop_all (k + 1) blocks (omega arith))
+    ∙ ap (λ (bs : List (List Entry)). rows_of (entries_of bs)) (drop_all (k + 1) blocks (omega arith))
   where
     none : (n : ℕ) → drop {A = ℕ} n [] ≡ []
     none zero = refl
     none (suc n) = refl
 
-pub back_end : {Z : Type 0} (blocks : List (Vec Entry Z)) (k : ℕ) → All IsBlock blocks → None ≡ slice_get (entries_at blocks k) 0 → back blocks k 0 ≡ []
-back_end {Z = Z} blocks k all none =
+pub back_end : (blocks : List (List Entry)) (k : ℕ) → All IsBlock blocks → None ≡ slice_get (entries_at blocks k) 0 → back blocks k 0 ≡ []
+back_end blocks k all none =
     elim (cases_lt k (length blocks)) [
       | inl l ↦ absurd (go (entries_at blocks k) none (some_at blocks k (all_full blocks all) l))
       | inr g ↦ back_past blocks k 0 g
@@ -59,8 +58,8 @@ back_end {Z = Z} blocks k all none =
     go [] e h = absurd (omega arith)
     go (x ∷ es) e h = cc
 
-pub got_within : {Z : Type 0} (blocks : List (Vec Entry Z)) (k at : ℕ) (e : Entry) → All IsBlock blocks → Some e ≡ slice_get (entries_at blocks k) at → at < 256
-got_within {Z = Z} blocks k at e all some = let short = short_at blocks k all in let within = go (entries_at blocks k) at some in omega (arith, short, within)
+pub got_within : (blocks : List (List Entry)) (k at : ℕ) (e : Entry) → All IsBlock blocks → Some e ≡ slice_get (entries_at blocks k) at → at < 256
+got_within blocks k at e all some = let short = short_at blocks k all in let within = go (entries_at blocks k) at some in omega (arith, short, within)
   where
     go : (es : List Entry) (at : ℕ) → Some e ≡ slice_get es at → at < length es
     go [] at h = absurd (let c : ⊥ = cc in c)
@@ -68,7 +67,7 @@ got_within {Z = Z} blocks k at e all some = let short = short_at blocks k all in
     go (x ∷ es) (suc at) h = let more = go es at h in omega (arith, more)
 
 -- the rows from a key's place on are those that are not below it
-pub kept_from : {Z : Type 0} (key_of : ℕ → List ℕ) (key : List ℕ) (blocks : List (Vec Entry Z)) (k at : ℕ) → IsPlaceOf key_of key blocks k at
+pub kept_from : (key_of : ℕ → List ℕ) (key : List ℕ) (blocks : List (List Entry)) (k at : ℕ) → IsPlaceOf key_of key blocks k at
     → back blocks k at ≡ filter (λ r. is_le (key_cmp key (key_of r))) (rows_of (entries_of blocks))
 kept_from key_of key blocks k at place =
     let p : ℕ → Bool = λ r. is_le (key_cmp key (key_of r)) in

@@ -1,6 +1,5 @@
 -- Blocks that are not too empty.
 use Rattle.std.proofs.Common.{◌≡◌, ℕ, zero, suc, ◌+◌, ◌-◌, ◌*◌, ◌<◌, ◌≤◌, List, [], ◌∷◌, ◌++◌, length, take, drop, get_or, set, refl, sym, ap, subst, ◌∙◌, arith, length-append, add-one}
-use Rattle.std.specs.declared.vec.Vec.{Vec}
 use Rattle.std.proofs.lemmas.List.{length-map}
 use Rattle.key_index.specs.declared.entries.Entry.{Entry}
 use Rattle.key_index.specs.Order.{Each}
@@ -22,13 +21,13 @@ few [] h = omega arith
 few (a ∷ []) h = omega arith
 few (a ∷ b ∷ lens) h = let more = few lens (dense_tail b lens h.1) in let here = h.0 in omega (arith, more, here)
 
-total_is : {Z : Type 0} (blocks : List (Vec Entry Z)) → total (lens_of blocks) ≡ length (entries_of blocks)
+total_is : (blocks : List (List Entry)) → total (lens_of blocks) ≡ length (entries_of blocks)
 unfolding total
 total_is [] = refl
-total_is (b ∷ blocks) = ap (λ n. length b.items + n) (total_is blocks) ∙ sym (length-append b.items (entries_of blocks))
+total_is (b ∷ blocks) = ap (λ n. length b + n) (total_is blocks) ∙ sym (length-append b (entries_of blocks))
 
-pub few_blocks : {Z : Type 0} (blocks : List (Vec Entry Z)) → AreDense (lens_of blocks) → 129 * length blocks ≤ 2 * length (entries_of blocks) + 129
-few_blocks {Z = Z} blocks h = let f = few (lens_of blocks) h in let t = total_is blocks in let l = length-map blocks (λ (b : Vec Entry Z). length b.items) in omega (arith, f, t, l)
+pub few_blocks : (blocks : List (List Entry)) → AreDense (lens_of blocks) → 129 * length blocks ≤ 2 * length (entries_of blocks) + 129
+few_blocks blocks h = let f = few (lens_of blocks) h in let t = total_is blocks in let l = length-map blocks (λ (b : List Entry). length b) in omega (arith, f, t, l)
 
 -- a block that grows
 pub dense_set : (lens : List ℕ) (k n : ℕ) → AreDense lens → get_or lens k 0 ≤ n → AreDense (set lens k n)

@@ -1,7 +1,6 @@
 -- What a place in blocks says of all rows.
 use Rattle.std.proofs.Common.{◌≡◌, ◌≢◌, ℕ, zero, suc, ◌+◌, ◌<◌, ◌≤◌, true, false, true≢false, List, [], ◌∷◌, ◌++◌, length, take, drop, get_or, slice_get, Some, None, refl, sym, ap, subst, ◌∙◌, arith, add-one, Less, is_lt, append_assoc}
 use Rattle.std.specs.Prelude.{All, Contains}
-use Rattle.std.specs.declared.vec.Vec.{Vec}
 use Rattle.std.proofs.lemmas.List.{take-append-drop}
 use Rattle.std.proofs.lemmas.List.Elements.{All-head, All-tail}
 use Rattle.key_index.specs.declared.entries.Entry.{Entry}
@@ -13,17 +12,17 @@ use Rattle.key_index.proofs.KeyOrder.{least_less, less_apart, above_apart, least
 use Rattle.key_index.proofs.RowOrder.{each_append, each_weaker, rising_left, rising_right}
 use Rattle.key_index.proofs.InBlocks.{rows_append, all_at}
 
-pub split_at : {Z : Type 0} (blocks : List (Vec Entry Z)) (k : ℕ) → entries_of blocks ≡ entries_of (take k blocks) ++ (entries_at blocks k ++ entries_of (drop (k + 1) blocks))
+pub split_at : (blocks : List (List Entry)) (k : ℕ) → entries_of blocks ≡ entries_of (take k blocks) ++ (entries_at blocks k ++ entries_of (drop (k + 1) blocks))
 split_at blocks k = subst (λ n. entries_of blocks ≡ entries_of (take k blocks) ++ (entries_at blocks k ++ entries_of (drop n blocks))) (sym (add-one k)) (go blocks k)
   where
-    go : {Z : Type 0} (blocks : List (Vec Entry Z)) (k : ℕ) → entries_of blocks ≡ entries_of (take k blocks) ++ (entries_at blocks k ++ entries_of (drop (suc k) blocks))
+    go : (blocks : List (List Entry)) (k : ℕ) → entries_of blocks ≡ entries_of (take k blocks) ++ (entries_at blocks k ++ entries_of (drop (suc k) blocks))
     go [] zero = refl
     go [] (suc k) = refl
     go (b ∷ blocks) zero = refl
-    go (b ∷ blocks) (suc k) = ap (λ es. b.items ++ es) (go blocks k) ∙ sym (append_assoc b.items (entries_of (take k blocks)) (entries_at blocks k ++ entries_of (drop (suc k) blocks)))
+    go (b ∷ blocks) (suc k) = ap (λ es. b ++ es) (go blocks k) ∙ sym (append_assoc b (entries_of (take k blocks)) (entries_at blocks k ++ entries_of (drop (suc k) blocks)))
 
 -- the rows are those before the place and those from it on
-pub cut_at : {Z : Type 0} (blocks : List (Vec Entry Z)) (k at : ℕ) → rows_of (entries_of blocks) ≡ front blocks k at ++ back blocks k at
+pub cut_at : (blocks : List (List Entry)) (k at : ℕ) → rows_of (entries_of blocks) ≡ front blocks k at ++ back blocks k at
 cut_at blocks k at =
     let a = rows_of (entries_of (take k blocks)) in
     let b = rows_of (entries_at blocks k) in
@@ -35,11 +34,11 @@ cut_at blocks k at =
     ∙ ap (λ xs. a ++ xs) (append_assoc (take at b) (drop at b) d)
     ∙ sym (append_assoc a (take at b) (drop at b ++ d))
 
-pub front_below : {Z : Type 0} (key_of : ℕ → List ℕ) (key : List ℕ) (blocks : List (Vec Entry Z)) (k at : ℕ) → IsPlaceOf key_of key blocks k at → AreBelow key_of key (front blocks k at)
+pub front_below : (key_of : ℕ → List ℕ) (key : List ℕ) (blocks : List (List Entry)) (k at : ℕ) → IsPlaceOf key_of key blocks k at → AreBelow key_of key (front blocks k at)
 front_below key_of key blocks k at h =
     each_append (λ r. key_cmp (key_of r) key ≡ Less) (rows_of (entries_of (take k blocks))) (take at (rows_of (entries_at blocks k))) h.before h.below
 
-pub back_least : {Z : Type 0} (key_of : ℕ → List ℕ) (key : List ℕ) (blocks : List (Vec Entry Z)) (k at : ℕ) → IsPlaceOf key_of key blocks k at → AreAtLeast key_of key (back blocks k at)
+pub back_least : (key_of : ℕ → List ℕ) (key : List ℕ) (blocks : List (List Entry)) (k at : ℕ) → IsPlaceOf key_of key blocks k at → AreAtLeast key_of key (back blocks k at)
 back_least key_of key blocks k at h =
     each_append (λ r. is_lt (key_cmp (key_of r) key) ≡ false) (drop at (rows_of (entries_at blocks k))) (rows_of (entries_of (drop (k + 1) blocks))) h.at_least
     (each_weaker (λ r. key_cmp key (key_of r) ≡ Less) (λ r. is_lt (key_cmp (key_of r) key) ≡ false) (λ r e. above_least (key_of r) key e) (rows_of (entries_of (drop (k + 1) blocks))) h.after)
@@ -74,7 +73,7 @@ got_none [] (suc at) h = refl
 got_none (x ∷ es) zero h = cc
 got_none (x ∷ es) (suc at) h = got_none es at h
 
-pub all_got : {Z : Type 0} (P : Entry → Type 0) (blocks : List (Vec Entry Z)) (k at : ℕ) (e : Entry) → Some e ≡ slice_get (entries_at blocks k) at → All P (entries_of blocks) → P e
+pub all_got : (P : Entry → Type 0) (blocks : List (List Entry)) (k at : ℕ) (e : Entry) → Some e ≡ slice_get (entries_at blocks k) at → All P (entries_of blocks) → P e
 all_got P blocks k at e h all = go (entries_at blocks k) at h (all_at P blocks k all)
   where
     go : (es : List Entry) (at : ℕ) → Some e ≡ slice_get es at → All P es → P e
@@ -86,21 +85,21 @@ absent_cut : (key_of : ℕ → List ℕ) (key : List ℕ) (rows xs ys : List ℕ
 absent_cut key_of key rows xs ys e below apart =
     subst (Each (λ r. key_of r ≢ key)) (sym e) (each_append (λ r. key_of r ≢ key) xs ys (each_weaker (λ r. key_cmp (key_of r) key ≡ Less) (λ r. key_of r ≢ key) (λ r f. less_apart (key_of r) key f) xs below) apart)
 
-apart_after : {Z : Type 0} (key_of : ℕ → List ℕ) (key : List ℕ) (blocks : List (Vec Entry Z)) (k at : ℕ) → IsPlaceOf key_of key blocks k at → Each (λ r. key_of r ≢ key) (rows_of (entries_of (drop (k + 1) blocks)))
+apart_after : (key_of : ℕ → List ℕ) (key : List ℕ) (blocks : List (List Entry)) (k at : ℕ) → IsPlaceOf key_of key blocks k at → Each (λ r. key_of r ≢ key) (rows_of (entries_of (drop (k + 1) blocks)))
 apart_after key_of key blocks k at h = each_weaker (λ r. key_cmp key (key_of r) ≡ Less) (λ r. key_of r ≢ key) (λ r f. above_apart key (key_of r) f) (rows_of (entries_of (drop (k + 1) blocks))) h.after
 
-pub none_at : {Z : Type 0} (key_of : ℕ → List ℕ) (key : List ℕ) (blocks : List (Vec Entry Z)) (k at : ℕ) → IsPlaceOf key_of key blocks k at
+pub none_at : (key_of : ℕ → List ℕ) (key : List ℕ) (blocks : List (List Entry)) (k at : ℕ) → IsPlaceOf key_of key blocks k at
     → None ≡ slice_get (entries_at blocks k) at → Each (λ r. key_of r ≢ key) (rows_of (entries_of blocks))
 none_at key_of key blocks k at h none =
     absent_cut key_of key (rows_of (entries_of blocks)) (front blocks k at) (back blocks k at) (cut_at blocks k at) (front_below key_of key blocks k at h)
     (subst (λ xs. Each (λ r. key_of r ≢ key) (xs ++ rows_of (entries_of (drop (k + 1) blocks)))) (sym (got_none (entries_at blocks k) at none)) (apart_after key_of key blocks k at h))
 
-pub rising_back : {Z : Type 0} (key_of : ℕ → List ℕ) (blocks : List (Vec Entry Z)) (k at : ℕ) → AreRising key_of (rows_of (entries_of blocks)) → AreRising key_of (drop at (rows_of (entries_at blocks k)))
+pub rising_back : (key_of : ℕ → List ℕ) (blocks : List (List Entry)) (k at : ℕ) → AreRising key_of (rows_of (entries_of blocks)) → AreRising key_of (drop at (rows_of (entries_at blocks k)))
 rising_back key_of blocks k at rising =
     rising_left key_of (drop at (rows_of (entries_at blocks k))) (rows_of (entries_of (drop (k + 1) blocks)))
     (rising_right key_of (front blocks k at) (back blocks k at) (subst (AreRising key_of) (cut_at blocks k at) rising))
 
-pub other_at : {Z : Type 0} (key_of : ℕ → List ℕ) (key : List ℕ) (blocks : List (Vec Entry Z)) (k at : ℕ) (e : Entry) → IsPlaceOf key_of key blocks k at
+pub other_at : (key_of : ℕ → List ℕ) (key : List ℕ) (blocks : List (List Entry)) (k at : ℕ) (e : Entry) → IsPlaceOf key_of key blocks k at
     → AreRising key_of (rows_of (entries_of blocks)) → Some e ≡ slice_get (entries_at blocks k) at → key_of e.row ≢ key → Each (λ r. key_of r ≢ key) (rows_of (entries_of blocks))
 other_at key_of key blocks k at e h rising some apart =
     let is = got (entries_at blocks k) at e some in
@@ -114,13 +113,13 @@ in_middle : (xs ys : List ℕ) (x : ℕ) → Contains (xs ++ x ∷ ys) x
 in_middle [] ys x = (0, omega arith, refl)
 in_middle (y ∷ xs) ys x = let m = in_middle xs ys x in (suc m.0, omega arith, m.2)
 
-pub found_at : {Z : Type 0} (blocks : List (Vec Entry Z)) (k at : ℕ) (e : Entry) → Some e ≡ slice_get (entries_at blocks k) at → Contains (rows_of (entries_of blocks)) e.row
+pub found_at : (blocks : List (List Entry)) (k at : ℕ) (e : Entry) → Some e ≡ slice_get (entries_at blocks k) at → Contains (rows_of (entries_of blocks)) e.row
 found_at blocks k at e some =
     let is = got (entries_at blocks k) at e some in
     subst (λ xs. Contains xs e.row) (sym (cut_at blocks k at ∙ ap (λ xs. front blocks k at ++ (xs ++ rows_of (entries_of (drop (k + 1) blocks)))) is))
     (in_middle (front blocks k at) (rows_of (drop (at + 1) (entries_at blocks k)) ++ rows_of (entries_of (drop (k + 1) blocks))) e.row)
 
-pub at_past : {Z : Type 0} (blocks : List (Vec Entry Z)) (k : ℕ) → length blocks ≤ k → entries_at blocks k ≡ []
+pub at_past : (blocks : List (List Entry)) (k : ℕ) → length blocks ≤ k → entries_at blocks k ≡ []
 at_past [] k h = refl
 at_past (b ∷ blocks) zero h = absurd (omega arith)
 at_past (b ∷ blocks) (suc k) h = at_past blocks k (omega arith)

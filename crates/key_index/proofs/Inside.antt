@@ -1,7 +1,6 @@
 -- A place inside a block.
 use Rattle.std.proofs.Common.{◌≡◌, ℕ, zero, suc, ◌+◌, ◌<◌, List, [], ◌∷◌, ◌++◌, length, take, drop, length-drop, get_or, subst, arith, Less}
 use Rattle.std.specs.Prelude.{All}
-use Rattle.std.specs.declared.vec.Vec.{Vec}
 use Rattle.std.proofs.lemmas.List.{length-map}
 use Rattle.key_index.specs.declared.entries.Entry.{Entry}
 use Rattle.key_index.specs.Order.{key_cmp, Each, AreAbove, AreBelow, AreRising}
@@ -22,10 +21,10 @@ above_rest key_of key [] rest some rising least = absurd (omega arith)
 above_rest key_of key (row ∷ rows) rest some rising least = each_right (λ r. key_cmp key (key_of r) ≡ Less) rows rest (above_first key_of key row (rows ++ rest) rising least.0)
 
 -- between two entries of a block a key stands among all rows
-pub place_inside : {Z : Type 0} (key_of : ℕ → List ℕ) (key : List ℕ) (blocks : List (Vec Entry Z)) (k at : ℕ) (d : Entry) → AreRising key_of (rows_of (entries_of blocks))
-    → All (λ b. 0 < length b.items) blocks → k < length blocks → 0 < at → at < length (entries_at blocks k)
+pub place_inside : (key_of : ℕ → List ℕ) (key : List ℕ) (blocks : List (List Entry)) (k at : ℕ) (d : Entry) → AreRising key_of (rows_of (entries_of blocks))
+    → All (λ b. 0 < length b) blocks → k < length blocks → 0 < at → at < length (entries_at blocks k)
     → AreBelow key_of key (take at (rows_of (entries_at blocks k))) → AreAtLeast key_of key (drop at (rows_of (entries_at blocks k))) → IsPlaceOf key_of key blocks k at
-place_inside {Z = Z} key_of key blocks k at d rising full h some within below least =
+place_inside key_of key blocks k at d rising full h some within below least =
     let es = entries_at blocks k in
     let first : ℕ = (get_or es 0 d).row in
     let less : key_cmp (key_of first) key ≡ Less = first_passed (λ r. key_cmp (key_of r) key ≡ Less) es at d some within below in

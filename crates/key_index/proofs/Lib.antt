@@ -1,3 +1,4 @@
+pub mod Parts
 pub mod KeyOrder
 pub mod RowOrder
 pub mod InBlocks
@@ -11,9 +12,11 @@ pub mod Unique
 pub mod Found
 pub mod Places
 pub mod Edits
+pub mod Divided
 pub mod Density
 pub mod Changed
 pub mod Relead
 pub mod Cursor
 pub mod Taken
 pub mod Settled
+pub mod Stocked

@@ -1,15 +1,14 @@
 -- Places in an index.
 use Rattle.std.proofs.Common.{◌≡◌, ◌≢◌, ℕ, zero, suc, ◌+◌, ◌<◌, ◌≤◌, List, [], ◌∷◌, ◌++◌, length, take, drop, slice_get, Some, refl, sym, ap, subst, ◌∙◌, arith, length-append, Less}
 use Rattle.std.specs.Prelude.{Contains}
-use Rattle.std.specs.declared.vec.Vec.{Vec}
-use Rattle.std.proofs.lemmas.List.{take-map, length-map, length-take-le, take-append-drop}
+use Rattle.std.proofs.lemmas.List.{length-map, length-take-le, take-append-drop}
 use Rattle.std.proofs.Math.Seq.{take-append_seam, drop-append_seam}
 use Rattle.key_index.specs.declared.entries.Entry.{Entry}
 use Rattle.key_index.specs.declared.place.Place.{Place}
 use Rattle.key_index.specs.Order.{key_cmp, Each, AreAbove, AreBelow}
 use Rattle.key_index.specs.Lead.{rows_of}
 use Rattle.key_index.specs.Index.{Index, joined, rank, IsPlaceFor, IsRowAt}
-use Rattle.key_index.specs.inside.Blocks.{contents, entries_of, entries_at, front, back, IsPlaceOf}
+use Rattle.key_index.specs.inside.Blocks.{entries_of, entries_at, front, back, IsPlaceOf}
 use Rattle.key_index.proofs.KeyOrder.{less_apart, above_apart}
 use Rattle.key_index.proofs.RowOrder.{each_right, each_append, each_weaker}
 use Rattle.key_index.proofs.Edits.{same_back}
@@ -17,23 +16,19 @@ use Rattle.key_index.proofs.Told.{meant}
 use Rattle.key_index.proofs.Changed.{cut_taken, inside_of}
 use Rattle.key_index.proofs.Found.{cut_at, front_below, back_least, above_others}
 
-length_contents : {Z : Type 0} (blocks : List (Vec Entry Z)) → length (contents blocks) ≡ length blocks
-length_contents [] = refl
-length_contents (b ∷ blocks) = ap suc (length_contents blocks)
-
 -- as many rows stand before a place as its rank says
-front_len : {Z : Type 0} (room : ℕ) (blocks : List (Vec Entry Z)) (place : Place) → place.at ≤ length (entries_at blocks place.block) → length (front blocks place.block place.at) ≡ rank (meant room blocks) place
-front_len {Z = Z} room blocks place within =
+front_len : (room : ℕ) (blocks : List (List Entry)) (place : Place) → place.at ≤ length (entries_at blocks place.block) → length (front blocks place.block place.at) ≡ rank (meant room blocks) place
+front_len room blocks place within =
     let k = place.block in
     let at = place.at in
     let rows = rows_of (entries_at blocks k) in
     let all = length-map (entries_at blocks k) (λ (e : Entry). e.row) in
     length-append (rows_of (entries_of (take k blocks))) (take at rows)
-    ∙ ap (λ (n : ℕ). n + length (take at rows)) (length-map (entries_of (take k blocks)) (λ (e : Entry). e.row) ∙ ap (λ (bs : List (List Entry)). length (joined bs)) (sym (take-map (λ (b : Vec Entry Z). b.items) k blocks)))
-    ∙ ap (λ (n : ℕ). length (joined (take k (contents blocks))) + n) (length-take-le at rows (omega (arith, all, within)))
+    ∙ ap (λ (n : ℕ). n + length (take at rows)) (length-map (entries_of (take k blocks)) (λ (e : Entry). e.row))
+    ∙ ap (λ (n : ℕ). length (joined (take k blocks)) + n) (length-take-le at rows (omega (arith, all, within)))
 
 -- these are the rows before it
-pub before_is : {Z : Type 0} (room : ℕ) (blocks : List (Vec Entry Z)) (place : Place) → place.at ≤ length (entries_at blocks place.block)
+pub before_is : (room : ℕ) (blocks : List (List Entry)) (place : Place) → place.at ≤ length (entries_at blocks place.block)
     → take (rank (meant room blocks) place) (rows_of (entries_of blocks)) ≡ front blocks place.block place.at
 before_is room blocks place within =
     let before = front blocks place.block place.at in
@@ -41,7 +36,7 @@ before_is room blocks place within =
     ap (λ (xs : List ℕ). take (rank (meant room blocks) place) xs) (cut_at blocks place.block place.at)
     ∙ ap (λ (n : ℕ). take n (before ++ behind)) (sym (front_len room blocks place within)) ∙ take-append_seam before behind
 
-pub behind_is : {Z : Type 0} (room : ℕ) (blocks : List (Vec Entry Z)) (place : Place) → place.at ≤ length (entries_at blocks place.block)
+pub behind_is : (room : ℕ) (blocks : List (List Entry)) (place : Place) → place.at ≤ length (entries_at blocks place.block)
     → drop (rank (meant room blocks) place) (rows_of (entries_of blocks)) ≡ back blocks place.block place.at
 behind_is room blocks place within =
     let before = front blocks place.block place.at in
@@ -50,43 +45,41 @@ behind_is room blocks place within =
     ∙ ap (λ (n : ℕ). drop n (before ++ behind)) (sym (front_len room blocks place within)) ∙ drop-append_seam before behind
 
 -- what a search of the index's blocks tells of a place for a key that no row has
-pub place_told : {Z : Type 0} (key_of : ℕ → List ℕ) (key : List ℕ) (room : ℕ) (blocks : List (Vec Entry Z)) (index : Index) (place : Place) → meant room blocks ≡ index
+pub place_told : (key_of : ℕ → List ℕ) (key : List ℕ) (room : ℕ) (blocks : List (List Entry)) (index : Index) (place : Place) → meant room blocks ≡ index
     → (0 < length blocks → place.block < length blocks) → place.at ≤ length (entries_at blocks place.block)
     → IsPlaceOf key_of key blocks place.block place.at → Each (λ r. key_of r ≢ key) (rows_of (entries_of blocks)) → IsPlaceFor key_of key index place
-place_told {Z = Z} key_of key room blocks index place view inside within is absent =
-    let n = length_contents blocks in
+place_told key_of key room blocks index place view inside within is absent =
     let k = place.block in
     let at = place.at in
     let others = each_right (λ r. key_of r ≢ key) (front blocks k at) (back blocks k at) (subst (Each (λ r. key_of r ≢ key)) (cut_at blocks k at) absent) in
     subst (λ (i : Index). IsPlaceFor key_of key i place) view (
     record {
-      within = record { block = λ some. subst (λ (m : ℕ). k < m) (sym n) (inside (subst (λ (m : ℕ). 0 < m) n some)); at = within };
+      within = record { block = inside; at = within };
       before = subst (AreBelow key_of key) (sym (before_is room blocks place within)) (front_below key_of key blocks k at is);
       behind = subst (AreAbove key_of key) (sym (behind_is room blocks place within)) (above_others key_of key (back blocks k at) (back_least key_of key blocks k at is) others);
     }
     )
 
 -- what a place says of the blocks
-pub record StandsAt {Z : Type 0} (key_of : ℕ → List ℕ) (key : List ℕ) (blocks : List (Vec Entry Z)) (k at : ℕ) : Type 0 where
+pub record StandsAt (key_of : ℕ → List ℕ) (key : List ℕ) (blocks : List (List Entry)) (k at : ℕ) : Type 0 where
   pub inside : 0 < length blocks → k < length blocks
   pub within : at ≤ length (entries_at blocks k)
   pub below : AreBelow key_of key (front blocks k at)
   pub above : AreAbove key_of key (back blocks k at)
 
-pub stands_at : {Z : Type 0} (key_of : ℕ → List ℕ) (key : List ℕ) (room : ℕ) (blocks : List (Vec Entry Z)) (index : Index) (place : Place) → meant room blocks ≡ index → IsPlaceFor key_of key index place
+pub stands_at : (key_of : ℕ → List ℕ) (key : List ℕ) (room : ℕ) (blocks : List (List Entry)) (index : Index) (place : Place) → meant room blocks ≡ index → IsPlaceFor key_of key index place
     → StandsAt key_of key blocks place.block place.at
 stands_at key_of key room blocks index place view told =
-    let n = length_contents blocks in
     let is = subst (λ (i : Index). IsPlaceFor key_of key i place) (sym view) told in
     record {
-      inside = λ some. subst (λ (m : ℕ). place.block < m) n (is.within.block (subst (λ (m : ℕ). 0 < m) (sym n) some));
+      inside = is.within.block;
       within = is.within.at;
       below = subst (AreBelow key_of key) (before_is room blocks place is.within.at) is.before;
       above = subst (AreAbove key_of key) (behind_is room blocks place is.within.at) is.behind;
     }
 
 -- the parts of other blocks with the same rows and the same front
-pub stand_still : {Z : Type 0} (key_of : ℕ → List ℕ) (key : List ℕ) (blocks others : List (Vec Entry Z)) (k at j to : ℕ) → StandsAt key_of key blocks k at → rows_of (entries_of others) ≡ rows_of (entries_of blocks) → front others j to ≡ front blocks k at
+pub stand_still : (key_of : ℕ → List ℕ) (key : List ℕ) (blocks others : List (List Entry)) (k at j to : ℕ) → StandsAt key_of key blocks k at → rows_of (entries_of others) ≡ rows_of (entries_of blocks) → front others j to ≡ front blocks k at
     → AreBelow key_of key (front others j to) × AreAbove key_of key (back others j to)
 stand_still key_of key blocks others k at j to is e f = (
   subst (AreBelow key_of key) (sym f) is.below,
@@ -114,7 +107,7 @@ there (y ∷ xs) zero x e = let same : x ≡ y = cc in (0, omega arith, sym same
 there (y ∷ xs) (suc n) x e = let m = there xs n x e in (let i = m.1 in (suc m.0, omega (arith, i), m.2))
 
 -- the row of the entry at a place stands there
-pub row_told : {Z : Type 0} (room : ℕ) (blocks : List (Vec Entry Z)) (index : Index) (place : Place) (e : Entry) → meant room blocks ≡ index → Some e ≡ slice_get (entries_at blocks place.block) place.at → IsRowAt index place e.row
+pub row_told : (room : ℕ) (blocks : List (List Entry)) (index : Index) (place : Place) (e : Entry) → meant room blocks ≡ index → Some e ≡ slice_get (entries_at blocks place.block) place.at → IsRowAt index place e.row
 row_told room blocks index place e view some =
     let at = (inside_of blocks place.block place.at e some).1 in
     subst (λ (i : Index). IsRowAt i place e.row) view (
@@ -126,7 +119,7 @@ row_told room blocks index place e view some =
     )
 
 -- the entry at a place where a row stands is the row's
-pub entry_told : {Z : Type 0} (room : ℕ) (blocks : List (Vec Entry Z)) (index : Index) (place : Place) (row : ℕ) → meant room blocks ≡ index → IsRowAt index place row
+pub entry_told : (room : ℕ) (blocks : List (List Entry)) (index : Index) (place : Place) (row : ℕ) → meant room blocks ≡ index → IsRowAt index place row
     → (e : Entry) × (Some e ≡ slice_get (entries_at blocks place.block) place.at) × (e.row ≡ row)
 entry_told room blocks index place row view told =
     let is = subst (λ (i : Index). IsRowAt i place row) (sym view) told in

@@ -1,9 +1,7 @@
 -- Blocks after one has lost an entry.
-use Rattle.std.proofs.Common.{◌≡◌, ℕ, zero, suc, ◌+◌, ◌-◌, ◌<◌, ◌≤◌, List, [], ◌∷◌, ◌++◌, length, take, drop, get_or, set, refl, sym, ap, subst, ◌∙◌, arith, add-one, leb, true, false}
-use Rattle.std.proofs.lemmas.Bool.Decides.{nat_tests}
+use Rattle.std.proofs.Common.{◌≡◌, ℕ, zero, suc, ◌+◌, ◌-◌, ◌<◌, List, [], ◌∷◌, ◌++◌, length, take, drop, get_or, set, refl, sym, ap, subst, ◌∙◌, arith, add-one}
 use Rattle.std.proofs.lemmas.List.{nil_from_length}
 use Rattle.std.specs.Prelude.{All}
-use Rattle.std.specs.declared.vec.Vec.{Vec}
 use Rattle.std.proofs.lemmas.List.{take-set, drop-set-lt, get_or-set_other, get_or-set_same, set-set, set-get_or, length-set, take-set-le}
 use Rattle.std.proofs.lemmas.List.Elements.{All-head, All-tail, All-nil, All-cons}
 use Rattle.key_index.specs.declared.entries.Entry.{Entry}
@@ -98,9 +96,9 @@ lost_stay lens k h left next before =
     )
 
 -- fit blocks that have entries
-pub all_blocks : {Z : Type 0} (blocks : List (Vec Entry Z)) → All IsFit blocks → Each (λ n. 0 < n) (lens_of blocks) → All IsBlock blocks
+pub all_blocks : (blocks : List (List Entry)) → All IsFit blocks → Each (λ n. 0 < n) (lens_of blocks) → All IsBlock blocks
 all_blocks [] fit some = All-nil IsBlock
-all_blocks (b ∷ blocks) fit some = (let here = All-head IsFit b blocks fit in All-cons IsBlock b blocks (some.0, here.0, here.1) (all_blocks blocks (All-tail IsFit b blocks fit) some.1))
+all_blocks (b ∷ blocks) fit some = (let here = All-head IsFit b blocks fit in All-cons IsBlock b blocks (some.0, here) (all_blocks blocks (All-tail IsFit b blocks fit) some.1))
 
 pub lost_from : (lens : List ℕ) (k n : ℕ) → AreDense lens → Each (λ n. 0 < n) lens → k < length lens → n + 1 ≡ get_or lens k 0 → HasLost (set lens k n) k
 lost_from lens k n dense some inside is =
@@ -109,25 +107,19 @@ lost_from lens k n dense some inside is =
     sym (ap (λ (x : ℕ). set (set lens k n) k (x + 1)) here ∙ set-set lens k n (n + 1) ∙ ap (λ (x : ℕ). set lens k x) is ∙ set-get_or lens k 0) in
     record { dense = subst AreDense same dense; some = subst (Each (λ n. 0 < n)) same some; inside = omega (arith, length-set lens k n, inside) }
 
-pub entries_drop : {Z : Type 0} (blocks : List (Vec Entry Z)) (k : ℕ) → k < length blocks → length (entries_at blocks k) ≡ 0 → entries_of (take k blocks ++ drop (suc k) blocks) ≡ entries_of blocks
+pub entries_drop : (blocks : List (List Entry)) (k : ℕ) → k < length blocks → length (entries_at blocks k) ≡ 0 → entries_of (take k blocks ++ drop (suc k) blocks) ≡ entries_of blocks
 entries_drop [] k h e = absurd (omega arith)
-entries_drop (b ∷ blocks) zero h e = ap (λ (es : List Entry). es ++ entries_of blocks) (sym (nil_from_length b.items e))
-entries_drop (b ∷ blocks) (suc k) h e = ap (λ (es : List Entry). b.items ++ es) (entries_drop blocks k (omega arith) e)
+entries_drop (b ∷ blocks) zero h e = ap (λ (es : List Entry). es ++ entries_of blocks) (sym (nil_from_length b e))
+entries_drop (b ∷ blocks) (suc k) h e = ap (λ (es : List Entry). b ++ es) (entries_drop blocks k (omega arith) e)
 
-pub lens_drop : {Z : Type 0} (blocks : List (Vec Entry Z)) (k : ℕ) → lens_of (take k blocks ++ drop (suc k) blocks) ≡ take k (lens_of blocks) ++ drop (suc k) (lens_of blocks)
+pub lens_drop : (blocks : List (List Entry)) (k : ℕ) → lens_of (take k blocks ++ drop (suc k) blocks) ≡ take k (lens_of blocks) ++ drop (suc k) (lens_of blocks)
 lens_drop [] zero = refl
 lens_drop [] (suc k) = refl
 lens_drop (b ∷ blocks) zero = refl
-lens_drop (b ∷ blocks) (suc k) = ap (λ (ns : List ℕ). length b.items ∷ ns) (lens_drop blocks k)
-
-pub le_true : (n m : ℕ) → leb n m ≡ true → n ≤ m
-le_true n m e = grind (arith, nat_tests)
-
-pub le_false : (n m : ℕ) → leb n m ≡ false → m < n
-le_false n m e = grind (arith, nat_tests)
+lens_drop (b ∷ blocks) (suc k) = ap (λ (ns : List ℕ). length b ∷ ns) (lens_drop blocks k)
 
 -- what a merge leaves
-merged : {Z : Type 0} (blocks : List (Vec Entry Z)) (k : ℕ)
+merged : (blocks : List (List Entry)) (k : ℕ)
     → take k (lens_of blocks) ++ (get_or (lens_of blocks) k 0 + get_or (lens_of blocks) (suc k) 0) ∷ drop (suc (suc k)) (lens_of blocks) ≡ take k (lens_of blocks) ++ (length (entries_at blocks k) + length (entries_at blocks (k + 1))) ∷ drop (k + 2) (lens_of blocks)
 merged blocks k =
     let l = lens_of blocks in
@@ -136,30 +128,30 @@ merged blocks k =
     ∙ ap (λ (x : ℕ). take k l ++ (length (entries_at blocks k) + x) ∷ drop (suc (suc k)) l) (len_at blocks (suc k) ∙ ap (λ (n : ℕ). length (entries_at blocks n)) (sym (add-one k)))
     ∙ ap (λ (n : ℕ). take k l ++ (length (entries_at blocks k) + length (entries_at blocks (k + 1))) ∷ drop n l) two
 
-pub mend_drop : {Z : Type 0} (blocks : List (Vec Entry Z)) (k : ℕ) → HasLost (lens_of blocks) k → length (entries_at blocks k) ≡ 0
+pub mend_drop : (blocks : List (List Entry)) (k : ℕ) → HasLost (lens_of blocks) k → length (entries_at blocks k) ≡ 0
     → AreDense (take k (lens_of blocks) ++ drop (suc k) (lens_of blocks)) × Each (λ n. 0 < n) (take k (lens_of blocks) ++ drop (suc k) (lens_of blocks))
 mend_drop blocks k lost none = lost_remove (lens_of blocks) k lost (len_at blocks k ∙ none)
 
-pub mend_merge : {Z : Type 0} (blocks : List (Vec Entry Z)) (k : ℕ) (lens : List ℕ) → HasLost (lens_of blocks) k → k + 1 < length blocks
+pub mend_merge : (blocks : List (List Entry)) (k : ℕ) (lens : List ℕ) → HasLost (lens_of blocks) k → k + 1 < length blocks
     → lens ≡ take k (lens_of blocks) ++ (length (entries_at blocks k) + length (entries_at blocks (k + 1))) ∷ drop (k + 2) (lens_of blocks) → AreDense lens × Each (λ n. 0 < n) lens
-mend_merge {Z = Z} blocks k lens lost inside is =
-    let r = lost_merge (lens_of blocks) k lost (omega (arith, inside, length-map blocks (λ (b : Vec Entry Z). length b.items))) in
+mend_merge blocks k lens lost inside is =
+    let r = lost_merge (lens_of blocks) k lost (omega (arith, inside, length-map blocks (λ (b : List Entry). length b))) in
     (subst AreDense (merged blocks k ∙ sym is) r.0, subst (Each (λ n. 0 < n)) (merged blocks k ∙ sym is) r.1)
 
-next_is : {Z : Type 0} (blocks : List (Vec Entry Z)) (k : ℕ) → (k + 1 < length blocks → 128 < length (entries_at blocks k) + length (entries_at blocks (k + 1))) → suc k < length (lens_of blocks)
+next_is : (blocks : List (List Entry)) (k : ℕ) → (k + 1 < length blocks → 128 < length (entries_at blocks k) + length (entries_at blocks (k + 1))) → suc k < length (lens_of blocks)
     → 128 < get_or (lens_of blocks) k 0 + get_or (lens_of blocks) (suc k) 0
-next_is {Z = Z} blocks k more i =
+next_is blocks k more i =
     let here = len_at blocks k in
     let behind = len_at blocks (suc k) ∙ ap (λ (n : ℕ). length (entries_at blocks n)) (sym (add-one k)) in
-    let much = more (omega (arith, i, length-map blocks (λ (b : Vec Entry Z). length b.items))) in
+    let much = more (omega (arith, i, length-map blocks (λ (b : List Entry). length b))) in
     omega (arith, here, behind, much)
 
-pub mend_first : {Z : Type 0} (blocks : List (Vec Entry Z)) → HasLost (lens_of blocks) 0 → 0 < length (entries_at blocks 0) → (0 + 1 < length blocks → 128 < length (entries_at blocks 0) + length (entries_at blocks (0 + 1)))
+pub mend_first : (blocks : List (List Entry)) → HasLost (lens_of blocks) 0 → 0 < length (entries_at blocks 0) → (0 + 1 < length blocks → 128 < length (entries_at blocks 0) + length (entries_at blocks (0 + 1)))
     → AreDense (lens_of blocks) × Each (λ n. 0 < n) (lens_of blocks)
 mend_first blocks lost left more =
     lost_stay (lens_of blocks) 0 lost (let l = len_at blocks 0 in omega (arith, l, left)) (next_is blocks 0 more) (λ z. absurd (omega arith))
 
-pub mend_join : {Z : Type 0} (blocks : List (Vec Entry Z)) (j : ℕ) (lens : List ℕ) → HasLost (lens_of blocks) (j + 1) → 0 < length (entries_at blocks (j + 1))
+pub mend_join : (blocks : List (List Entry)) (j : ℕ) (lens : List ℕ) → HasLost (lens_of blocks) (j + 1) → 0 < length (entries_at blocks (j + 1))
     → (j + 1 + 1 < length blocks → 128 < length (entries_at blocks (j + 1)) + length (entries_at blocks (j + 1 + 1)))
     → lens ≡ take j (lens_of blocks) ++ (length (entries_at blocks j) + length (entries_at blocks (j + 1))) ∷ drop (j + 2) (lens_of blocks) → AreDense lens × Each (λ n. 0 < n) lens
 mend_join blocks j lens lost left more is =
@@ -169,14 +161,14 @@ mend_join blocks j lens lost left more is =
     let r = lost_join (lens_of blocks) j lost2 (omega (arith, here, left)) (λ i. next_is blocks (suc j) (subst (λ n. n + 1 < length blocks → 128 < length (entries_at blocks n) + length (entries_at blocks (n + 1))) k more) i) in
     (subst AreDense (merged blocks j ∙ sym is) r.0, subst (Each (λ n. 0 < n)) (merged blocks j ∙ sym is) r.1)
 
-pub mend_stay : {Z : Type 0} (blocks : List (Vec Entry Z)) (j : ℕ) → HasLost (lens_of blocks) (j + 1) → 0 < length (entries_at blocks (j + 1))
+pub mend_stay : (blocks : List (List Entry)) (j : ℕ) → HasLost (lens_of blocks) (j + 1) → 0 < length (entries_at blocks (j + 1))
     → (j + 1 + 1 < length blocks → 128 < length (entries_at blocks (j + 1)) + length (entries_at blocks (j + 1 + 1)))
     → (j + 1 < length blocks → 128 < length (entries_at blocks j) + length (entries_at blocks (j + 1))) → j + 1 < length blocks
     → AreDense (lens_of blocks) × Each (λ n. 0 < n) (lens_of blocks)
-mend_stay {Z = Z} blocks j lost left more less inside =
+mend_stay blocks j lost left more less inside =
     let k = add-one j in
     let lost2 : HasLost (lens_of blocks) (suc j) = subst (HasLost (lens_of blocks)) k lost in
     let here = len_at blocks (suc j) ∙ ap (λ (n : ℕ). length (entries_at blocks n)) (sym k) in
-    let before : 128 < get_or (lens_of blocks) j 0 + get_or (lens_of blocks) (suc j) 0 = next_is blocks j less (omega (arith, inside, length-map blocks (λ (b : Vec Entry Z). length b.items))) in
+    let before : 128 < get_or (lens_of blocks) j 0 + get_or (lens_of blocks) (suc j) 0 = next_is blocks j less (omega (arith, inside, length-map blocks (λ (b : List Entry). length b))) in
     lost_stay (lens_of blocks) (suc j) lost2 (omega (arith, here, left)) (λ i. next_is blocks (suc j) (subst (λ n. n + 1 < length blocks → 128 < length (entries_at blocks n) + length (entries_at blocks (n + 1))) k more) i)
     (λ z. subst (λ n. 128 < get_or (lens_of blocks) n 0 + get_or (lens_of blocks) (suc j) 0) (let e : j ≡ suc j - 1 = omega arith in e) before)

@@ -1,14 +1,13 @@
 -- What contracts say of an index, and what its blocks say.
 use Rattle.std.proofs.Common.{◌≡◌, ℕ, List, [], ◌∷◌, refl, sym, subst}
 use Rattle.std.specs.Prelude.{All}
-use Rattle.std.specs.declared.vec.Vec.{Vec}
 use Rattle.std.proofs.lemmas.List.Elements.{All-head, All-tail, All-cons, All-nil}
 use Rattle.key_index.specs.declared.entries.Entry.{Entry}
 use Rattle.key_index.specs.Order.{Each, TakesOut}
 use Rattle.key_index.proofs.RowOrder.{each_append, each_left, each_right}
 use Rattle.key_index.specs.Lead.{rows_of, AreBytes}
 use Rattle.key_index.specs.Index.{Index, IsIndexOf}
-use Rattle.key_index.specs.inside.Blocks.{contents, entries_of, AreEntriesOf}
+use Rattle.key_index.specs.inside.Blocks.{entries_of, AreEntriesOf}
 use Rattle.key_index.proofs.Leads.{each_from_all, all_from_each}
 
 pub each_all : (P : ℕ → Type 0) (xs : List ℕ) → Each P xs → All P xs
@@ -20,11 +19,11 @@ all_each P [] all = tt
 all_each P (x ∷ xs) all = (All-head P x xs all, all_each P xs (All-tail P x xs all))
 
 -- an index that these blocks mean
-abbrev pub meant : {Z : Type 0} → ℕ → List (Vec Entry Z) → Index
-meant room blocks = record { rows = rows_of (entries_of blocks); room = room; kept = contents blocks }
+abbrev pub meant : ℕ → List (List Entry) → Index
+meant room blocks = record { rows = rows_of (entries_of blocks); room = room; kept = blocks }
 
 -- the entries of an index of these keys
-pub entries_told : {Z : Type 0} (has_row : ℕ → Type 0) (key_of : ℕ → List ℕ) (room : ℕ) (blocks : List (Vec Entry Z)) (index : Index) → meant room blocks ≡ index
+pub entries_told : (has_row : ℕ → Type 0) (key_of : ℕ → List ℕ) (room : ℕ) (blocks : List (List Entry)) (index : Index) → meant room blocks ≡ index
     → IsIndexOf has_row key_of index → AreEntriesOf has_row key_of (entries_of blocks)
 entries_told has_row key_of room blocks index view is =
     let told = subst (IsIndexOf has_row key_of) (sym view) is in
@@ -36,7 +35,7 @@ entries_told has_row key_of room blocks index view is =
     }
 
 -- an index of these keys, by its entries
-pub index_told : {Z : Type 0} (has_row : ℕ → Type 0) (key_of : ℕ → List ℕ) (room : ℕ) (blocks : List (Vec Entry Z)) → AreEntriesOf has_row key_of (entries_of blocks) → IsIndexOf has_row key_of (meant room blocks)
+pub index_told : (has_row : ℕ → Type 0) (key_of : ℕ → List ℕ) (room : ℕ) (blocks : List (List Entry)) → AreEntriesOf has_row key_of (entries_of blocks) → IsIndexOf has_row key_of (meant room blocks)
 index_told has_row key_of room blocks is =
     record {
       readable = each_all has_row (rows_of (entries_of blocks)) (each_from_all has_row (entries_of blocks) is.readable);

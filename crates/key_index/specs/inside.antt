@@ -1,4 +1,5 @@
 pub mod Blocks
+pub mod Stock
 pub mod Dense
 pub mod Shared
 pub mod Kept

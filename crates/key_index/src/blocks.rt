@@ -1,15 +1,17 @@
-//! Blocks of entries.
-ghost use Rattle.std.specs.Prelude.{◌≡◌, ℕ, ◌+◌, ◌-◌, ◌<◌, ◌≤◌, ◌++◌, ◌∷◌, [], List, length, take, drop, slice_get, slice_set, true, false, vec_len, vec_capacity, All, IfOk};
-ghost use Rattle.key_index.specs.inside.Dense.{AreDense, HasLost};
-ghost use Rattle.key_index.specs.inside.Kept.{AreInUse};
+//! Blocks of entries, in the room that is reserved for all of them at once.
+ghost use Rattle.std.specs.Prelude.{◌≡◌, ℕ, ◌+◌, ◌<◌, ◌≤◌, ◌++◌, ◌∷◌, [], length, take, drop, slice_index_or, slice_set};
+ghost use Rattle.std.specs.Prelude.{vec_len, vec_capacity, All, IfOk};
 ghost use Rattle.key_index.specs.Lead.{rows_of, IsLed};
-ghost use Rattle.key_index.specs.inside.Blocks.{entries_of, entries_at, front, lens_of, IsBlock, IsFit, IsSpare};
+ghost use Rattle.key_index.specs.inside.Blocks.{entries_of, entries_at, front, lens_of};
+ghost use Rattle.key_index.specs.inside.Stock.{AreStocked, standing};
 ghost use Rattle.std.specs.List.{insert, remove};
 
-use crate::entries::{Entry, refresh};
+use crate::copies::{close_up, copied, put_in, write_behind};
+use crate::entries::{Entry, NONE, refresh};
 use crate::keys::Keys;
 use crate::place::Place;
 use std::alloc::{AllocError, Global};
+use std::marker::Model;
 
 /// How many entries a block has at most.
 pub(crate) const BLOCK: usize = 256;
@@ -17,369 +19,281 @@ pub(crate) const BLOCK: usize = 256;
 /// How many entries two neighbours have more than, together.
 pub(crate) const HALF: usize = 128;
 
-/// The entry at a place, if there is one in its block.
-pub(crate) fn entry_at(blocks: &[Vec<Entry>], place: Place) -> Option<Entry>
-    ensures { result ≡ slice_get (entries_at blocks.now place.block) place.at }
-{
-    if place.block >= blocks.len() {
-        return None;
-    }
-    let entries = &blocks[place.block];
-    if place.at >= entries.len() {
-        return None;
-    }
-    Some(entries[place.at])
+/// Where a block stands, and how many entries it has.
+#[derive(Clone, Copy)]
+pub(crate) struct Slot {
+    pub(crate) at: u32,
+    pub(crate) len: u32,
 }
 
-/// Puts an entry at a place of a block that has room.
-pub(crate) fn put(blocks: &mut Vec<Vec<Entry>>, place: Place, entry: Entry)
-    // There is space for an entry more.
-    requires block { place.block < vec_len blocks.old }
-    requires at { place.at ≤ length (entries_at blocks.old.items place.block) }
-    requires room { length (entries_at blocks.old.items place.block) < 256 }
-    requires are_blocks { All IsBlock blocks.old.items }
-    // One entry more, at the place.
-    ensures entries { entries_of blocks.new.items ≡ entries_of (take place.block blocks.old.items)
-        ++ (insert (entries_at blocks.old.items place.block) place.at entry ++ entries_of (drop (place.block + 1) blocks.old.items)) }
-    ensures lens { lens_of blocks.new.items
-        ≡ slice_set (lens_of blocks.old.items) place.block (length (entries_at blocks.old.items place.block) + 1) }
-    // The blocks stay as many, none too empty.
-    ensures are_blocks { All IsBlock blocks.new.items }
-    ensures dense { AreDense (lens_of blocks.old.items) → AreDense (lens_of blocks.new.items) }
-    ensures len { vec_len blocks.new ≡ vec_len blocks.old }
-    ensures capacity { vec_capacity blocks.old ≤ vec_capacity blocks.new }
-{
-    let entries = &mut blocks[place.block];
-    entries.insert(place.at, entry).unwrap();
+/// Blocks in order.
+///
+/// The room of all of them is one vector, which is reserved when they are made. A page of it is touched when a block
+/// first comes to stand there. A block that goes out of use leaves its place to the next that comes into use.
+#[derive(Drop)]
+pub(crate) struct Blocks {
+    // the room of each block that ever came into use
+    store: Vec<[Entry; BLOCK]>,
+    order: Vec<Slot>,
+    // where in the store no block stands
+    free: Vec<u32>,
+    most: u32,
 }
 
-/// Cuts a full block in two.
-fn cut(blocks: &mut Vec<Vec<Entry>>, spare: &mut Vec<Vec<Entry>>, at: usize)
-    // A block to cut, and an empty one.
-    requires block { at < vec_len blocks.old }
-    requires full { length (entries_at blocks.old.items at) ≡ 256 }
-    requires room { vec_len blocks.old < vec_capacity blocks.old }
-    requires spare { 0 < vec_len spare.old }
-    requires are_blocks { All IsBlock blocks.old.items }
-    requires are_spare { All IsSpare spare.old.items }
-    // Its halves stand side by side.
-    ensures before { entries_of (take at blocks.new.items) ≡ entries_of (take at blocks.old.items) }
-    ensures upto { entries_of (take (at + 1) blocks.new.items) ≡ entries_of (take at blocks.old.items)
-        ++ take 128 (entries_at blocks.old.items at) }
-    ensures low { entries_at blocks.new.items at ≡ take 128 (entries_at blocks.old.items at) }
-    ensures high { entries_at blocks.new.items (at + 1) ≡ drop 128 (entries_at blocks.old.items at) }
-    // Together the blocks hold the same.
-    ensures entries { entries_of blocks.new.items ≡ entries_of blocks.old.items }
-    ensures lens { lens_of blocks.new.items ≡ take at (lens_of blocks.old.items)
-        ++ 128 ∷ 128 ∷ drop (at + 1) (lens_of blocks.old.items) }
-    // An empty one came into use.
-    ensures are_blocks { All IsBlock blocks.new.items }
-    ensures are_spare { All IsSpare spare.new.items }
-    ensures more { vec_len blocks.new ≡ vec_len blocks.old + 1 }
-    ensures fewer { vec_len spare.new + 1 ≡ vec_len spare.old }
-    ensures capacity { vec_capacity blocks.old ≤ vec_capacity blocks.new }
-    ensures spare_capacity { vec_capacity spare.old ≤ vec_capacity spare.new }
-{
-    let mut behind = spare.pop().unwrap();
-    let front = &mut blocks[at];
-    behind.extend_from_slice(&front[HALF..]).unwrap();
-    front.truncate(HALF);
-    blocks.insert(at + 1, behind).unwrap();
+impl Model for Blocks {
+    ghost use Rattle.key_index.specs.inside.Stock.{Stock, AreHeld, standing};
+    ghost use Rattle.std.specs.Prelude.{vec_capacity};
+
+    ghost Value = { Stock };
+
+    ghost view = { λ b. record { contents = standing b.store.items b.order.items; most = b.most } };
+
+    ghost invariant = { λ b. AreHeld b.store.items b.order.items b.free.items b.most
+        (vec_capacity b.store) (vec_capacity b.order) (vec_capacity b.free) };
 }
 
-/// Cuts a full block in two, and answers where a place in it is then.
-pub(crate) fn split(
-    blocks: &mut Vec<Vec<Entry>>,
-    spare: &mut Vec<Vec<Entry>>,
-    place: Place,
-) -> Place
-    // A block to cut, and an empty one.
-    requires block { place.block < vec_len blocks.old }
-    requires at { place.at ≤ 256 }
-    requires full { length (entries_at blocks.old.items place.block) ≡ 256 }
-    requires room { vec_len blocks.old < vec_capacity blocks.old }
-    requires spare { 0 < vec_len spare.old }
-    requires are_blocks { All IsBlock blocks.old.items }
-    requires are_spare { All IsSpare spare.old.items }
-    // Where the place is then.
-    ensures block { result.block < vec_len blocks.new }
-    ensures at { result.at ≤ 128 }
-    ensures half { length (entries_at blocks.new.items result.block) ≡ 128 }
-    ensures front { front blocks.new.items result.block result.at ≡ front blocks.old.items place.block place.at }
-    // Together the blocks hold the same.
-    ensures entries { entries_of blocks.new.items ≡ entries_of blocks.old.items }
-    ensures lens { lens_of blocks.new.items ≡ take place.block (lens_of blocks.old.items)
-        ++ 128 ∷ 128 ∷ drop (place.block + 1) (lens_of blocks.old.items) }
-    // An empty one came into use.
-    ensures are_blocks { All IsBlock blocks.new.items }
-    ensures are_spare { All IsSpare spare.new.items }
-    ensures more { vec_len blocks.new ≡ vec_len blocks.old + 1 }
-    ensures fewer { vec_len spare.new + 1 ≡ vec_len spare.old }
-    ensures capacity { vec_capacity blocks.old ≤ vec_capacity blocks.new }
-    ensures spare_capacity { vec_capacity spare.old ≤ vec_capacity spare.new }
+/// Takes a place for a block that comes into use.
+fn take_place(free: &mut Vec<u32>) -> u32
+    requires { 0 < vec_len free.old }
+    ensures places { free.old.items ≡ free.new.items ++ result ∷ [] }
+    ensures capacity { vec_capacity free.new ≡ vec_capacity free.old }
 {
-    cut(blocks, spare, place.block);
-    if place.at <= HALF {
-        return place;
-    }
-    Place {
-        block: place.block + 1,
-        at: place.at - HALF,
-        skip: place.skip,
+    free.pop().unwrap()
+}
+
+/// Gives the place of a block back that goes out of use.
+fn give_back(free: &mut Vec<u32>, place: u32)
+    requires { vec_len free.old < vec_capacity free.old }
+    ensures places { free.new.items ≡ free.old.items ++ place ∷ [] }
+    ensures capacity { vec_capacity free.old ≤ vec_capacity free.new }
+{
+    free.push(place).unwrap();
+}
+
+/// Sees to it that a place is free: if none is, the store grows by one.
+fn make_place(store: &mut Vec<[Entry; BLOCK]>, order: &[Slot], free: &mut Vec<u32>, most: u32)
+    requires stocked { AreStocked store.old.items order.now free.old.items }
+    requires room { length order.now < most }
+    requires store { most ≤ vec_capacity store.old }
+    requires free { most ≤ vec_capacity free.old }
+    ensures stocked { AreStocked store.new.items order.now free.new.items }
+    ensures same { standing store.new.items order.now ≡ standing store.old.items order.now }
+    ensures some { 0 < vec_len free.new }
+    ensures within { length store.old.items ≤ most → length store.new.items ≤ most }
+    ensures store { most ≤ vec_capacity store.new }
+    ensures free { most ≤ vec_capacity free.new }
+{
+    if free.is_empty() {
+        let place = store.len() as u32;
+        store.push([NONE; BLOCK]).unwrap();
+        give_back(free, place);
     }
 }
 
-/// Sees to it that the block of a place has room, and answers where the place is then.
-pub(crate) fn make_room(
-    blocks: &mut Vec<Vec<Entry>>,
-    spare: &mut Vec<Vec<Entry>>,
-    place: Place,
-) -> Place
-    // A place, and an empty block at hand.
-    requires block { place.block < vec_len blocks.old }
-    requires at { place.at ≤ length (entries_at blocks.old.items place.block) }
-    requires room { vec_len blocks.old < vec_capacity blocks.old }
-    requires spare { 0 < vec_len spare.old }
-    requires are_blocks { All IsBlock blocks.old.items }
-    requires are_spare { All IsSpare spare.old.items }
-    requires dense { AreDense (lens_of blocks.old.items) }
-    // Where the place is then.
-    ensures block { result.block < vec_len blocks.new }
-    ensures at { result.at ≤ length (entries_at blocks.new.items result.block) }
-    ensures room { length (entries_at blocks.new.items result.block) < 256 }
-    ensures front { front blocks.new.items result.block result.at ≡ front blocks.old.items place.block place.at }
-    // Together the blocks hold the same.
-    ensures entries { entries_of blocks.new.items ≡ entries_of blocks.old.items }
-    // No block is too empty or lost.
-    ensures are_blocks { All IsBlock blocks.new.items }
-    ensures are_spare { All IsSpare spare.new.items }
-    ensures dense { AreDense (lens_of blocks.new.items) }
-    ensures total { vec_len blocks.new + vec_len spare.new ≡ vec_len blocks.old + vec_len spare.old }
-    ensures capacity { vec_capacity blocks.old ≤ vec_capacity blocks.new }
-    ensures spare_capacity { vec_capacity spare.old ≤ vec_capacity spare.new }
-{
-    let len = blocks[place.block].len();
-    if len < BLOCK {
-        return place;
+impl Blocks {
+    /// No blocks, and room for so many.
+    pub(crate) fn new(alloc: Global, most: u32) -> Result<Blocks, AllocError>
+        ensures { IfOk result (λ made. made ≡ record { contents = []; most = most }) }
+    {
+        let store = Vec::with_capacity(alloc, most as usize)?;
+        let order = Vec::with_capacity(alloc, most as usize)?;
+        let free = Vec::with_capacity(alloc, most as usize)?;
+        Ok(Blocks {
+            store,
+            order,
+            free,
+            most,
+        })
     }
-    split(blocks, spare, place)
-}
 
-/// Takes a block into use, for an entry.
-pub(crate) fn begin(blocks: &mut Vec<Vec<Entry>>, spare: &mut Vec<Vec<Entry>>, entry: Entry)
-    // No block is in use yet.
-    requires empty { vec_len blocks.old ≡ 0 }
-    requires room { 0 < vec_capacity blocks.old }
-    requires spare { 0 < vec_len spare.old }
-    requires are_spare { All IsSpare spare.old.items }
-    // A block holds the entry alone.
-    ensures entries { entries_of blocks.new.items ≡ entry ∷ [] }
-    ensures len { vec_len blocks.new ≡ 1 }
-    ensures are_blocks { All IsBlock blocks.new.items }
-    // An empty one came into use.
-    ensures are_spare { All IsSpare spare.new.items }
-    ensures fewer { vec_len spare.new + 1 ≡ vec_len spare.old }
-    ensures capacity { vec_capacity blocks.old ≤ vec_capacity blocks.new }
-    ensures spare_capacity { vec_capacity spare.old ≤ vec_capacity spare.new }
-{
-    let mut block = spare.pop().unwrap();
-    block.push(entry).unwrap();
-    blocks.push(block).unwrap();
-}
-
-/// So many blocks that are not in use.
-pub(crate) fn spare_blocks(alloc: Global, count: usize) -> Result<Vec<Vec<Entry>>, AllocError>
-    ensures { IfOk result (λ made. (vec_len made ≡ count) × (count ≤ vec_capacity made) × All IsSpare made.items) }
-{
-    let mut spare = Vec::with_capacity(alloc, count)?;
-    for at in 0..count {
-        let _ = at;
-        spare.push(Vec::with_capacity(alloc, BLOCK)?)?;
+    /// How many blocks there are.
+    #[inline(always)]
+    pub(crate) fn len(&self) -> usize
+        ensures { result ≡ length self.now.contents }
+    {
+        self.order.len()
     }
-    Ok(spare)
-}
 
-/// Reads the leads of a full block anew, where its keys share many more bytes than its entries skip.
-pub(crate) fn sharpen<K: Keys>(blocks: &mut Vec<Vec<Entry>>, keys: &K, at: usize)
-    // A block of keys that can be read.
-    requires block { at < vec_len blocks.old }
-    requires readable { All (λ entry. K.has_row keys.now entry.row) (entries_of blocks.old.items) }
-    requires leads { All (IsLed (K.key_of keys.now)) (entries_of blocks.old.items) }
-    requires are_blocks { All IsBlock blocks.old.items }
-    // The order is as it was.
-    ensures rows { rows_of (entries_of blocks.new.items) ≡ rows_of (entries_of blocks.old.items) }
-    ensures front { (j : ℕ) → front blocks.new.items at j ≡ front blocks.old.items at j }
-    // Beside each stand eight bytes of its key.
-    ensures leads { All (IsLed (K.key_of keys.now)) (entries_of blocks.new.items) }
-    // The blocks are as long as before.
-    ensures lens { lens_of blocks.new.items ≡ lens_of blocks.old.items }
-    ensures are_blocks { All IsBlock blocks.new.items }
-    ensures len { vec_len blocks.new ≡ vec_len blocks.old }
-    ensures capacity { vec_capacity blocks.old ≤ vec_capacity blocks.new }
-{
-    let len = blocks[at].len();
-    if len < BLOCK {
-        return;
+    /// The entries of a block.
+    #[inline(always)]
+    pub(crate) fn entries(&self, at: usize) -> &[Entry]
+        requires { at < length self.now.contents }
+        ensures is { result.now ≡ entries_at self.now.contents at }
+        ensures few { length result.now ≤ 256 }
+    {
+        let slot = self.order[at];
+        &self.store[slot.at as usize][..slot.len as usize]
     }
-    let entries = &mut blocks[at];
-    refresh(entries, keys);
-}
 
-/// Takes the entry at a place out of its block, and answers how many the block has then.
-fn drop_entry(blocks: &mut Vec<Vec<Entry>>, place: Place) -> usize
-    // A place where an entry stands.
-    requires block { place.block < vec_len blocks.old }
-    requires at { place.at < length (entries_at blocks.old.items place.block) }
-    requires are_blocks { All IsBlock blocks.old.items }
-    // The entry is gone from its block.
-    ensures left { result + 1 ≡ length (entries_at blocks.old.items place.block) }
-    ensures entries { entries_of blocks.new.items ≡ entries_of (take place.block blocks.old.items)
-        ++ (remove (entries_at blocks.old.items place.block) place.at ++ entries_of (drop (place.block + 1) blocks.old.items)) }
-    ensures lens { lens_of blocks.new.items ≡ slice_set (lens_of blocks.old.items) place.block result }
-    // As many blocks, one of them perhaps empty.
-    ensures fit { All IsFit blocks.new.items }
-    ensures len { vec_len blocks.new ≡ vec_len blocks.old }
-    ensures capacity { vec_capacity blocks.old ≤ vec_capacity blocks.new }
-{
-    let entries = &mut blocks[place.block];
-    entries.remove(place.at);
-    entries.len()
-}
-
-/// Joins a block and the block behind it.
-fn merge(blocks: &mut Vec<Vec<Entry>>, spare: &mut Vec<Vec<Entry>>, at: usize)
-    // Two neighbours that go into one.
-    requires block { at + 1 < vec_len blocks.old }
-    requires small { length (entries_at blocks.old.items at) + length (entries_at blocks.old.items (at + 1)) ≤ 256 }
-    requires fit { All IsFit blocks.old.items }
-    requires are_spare { All IsSpare spare.old.items }
-    requires room { vec_len spare.old < vec_capacity spare.old }
-    // Together the blocks hold the same.
-    ensures entries { entries_of blocks.new.items ≡ entries_of blocks.old.items }
-    ensures lens { lens_of blocks.new.items ≡ take at (lens_of blocks.old.items)
-        ++ (length (entries_at blocks.old.items at) + length (entries_at blocks.old.items (at + 1))) ∷ drop (at + 2)
-        (lens_of blocks.old.items) }
-    // One block went out of use.
-    ensures fit { All IsFit blocks.new.items }
-    ensures are_spare { All IsSpare spare.new.items }
-    ensures fewer { vec_len blocks.new + 1 ≡ vec_len blocks.old }
-    ensures more { vec_len spare.new ≡ vec_len spare.old + 1 }
-    ensures capacity { vec_capacity blocks.old ≤ vec_capacity blocks.new }
-    ensures spare_capacity { vec_capacity spare.old ≤ vec_capacity spare.new }
-{
-    let mut behind = blocks.remove(at + 1);
-    let front = &mut blocks[at];
-    front.extend_from_slice(behind.as_slice()).unwrap();
-    behind.clear();
-    spare.push(behind).unwrap();
-}
-
-/// Whether a block and the block behind it have few entries together.
-fn can_join(blocks: &[Vec<Entry>], at: usize) -> bool
-    requires block { at < length blocks.now }
-    requires fit { All IsFit blocks.now }
-    ensures joins { result ≡ true → (at + 1 < length blocks.now) ×
-        (length (entries_at blocks.now at) + length (entries_at blocks.now (at + 1)) ≤ 128) }
-    ensures not { result ≡ false → at + 1 < length blocks.now
-        → 128 < length (entries_at blocks.now at) + length (entries_at blocks.now (at + 1)) }
-{
-    if at + 1 >= blocks.len() {
-        return false;
+    /// The first entry of a block.
+    #[inline(always)]
+    pub(crate) fn first(&self, at: usize) -> Entry
+        requires block { at < length self.now.contents }
+        requires some { 0 < length (entries_at self.now.contents at) }
+        ensures { result ≡ slice_index_or (entries_at self.now.contents at) 0 result }
+    {
+        self.entries(at)[0]
     }
-    let here = blocks[at].len();
-    let behind = blocks[at + 1].len();
-    here + behind <= HALF
-}
 
-/// Takes a block that has no entry out of use.
-fn drop_block(blocks: &mut Vec<Vec<Entry>>, spare: &mut Vec<Vec<Entry>>, at: usize)
-    // A block without an entry.
-    requires block { at < vec_len blocks.old }
-    requires empty { length (entries_at blocks.old.items at) ≡ 0 }
-    requires fit { All IsFit blocks.old.items }
-    requires are_spare { All IsSpare spare.old.items }
-    requires room { vec_len spare.old < vec_capacity spare.old }
-    // Together the others hold the same.
-    ensures entries { entries_of blocks.new.items ≡ entries_of blocks.old.items }
-    ensures lens { lens_of blocks.new.items ≡ remove (lens_of blocks.old.items) at }
-    // One block went out of use.
-    ensures fit { All IsFit blocks.new.items }
-    ensures are_spare { All IsSpare spare.new.items }
-    ensures fewer { vec_len blocks.new + 1 ≡ vec_len blocks.old }
-    ensures more { vec_len spare.new ≡ vec_len spare.old + 1 }
-    ensures capacity { vec_capacity blocks.old ≤ vec_capacity blocks.new }
-    ensures spare_capacity { vec_capacity spare.old ≤ vec_capacity spare.new }
-{
-    let block = blocks.remove(at);
-    spare.push(block).unwrap();
-}
+    /// Takes a block into use before all others. It has no entry yet.
+    pub(crate) fn open_first(&mut self)
+        requires room { length self.old.contents < self.old.most }
+        ensures contents { self.new.contents ≡ [] ∷ self.old.contents }
+        ensures most { self.new.most ≡ self.old.most }
+    {
+        make_place(
+            &mut self.store,
+            self.order.as_slice(),
+            &mut self.free,
+            self.most,
+        );
+        let place = take_place(&mut self.free);
+        self.order.insert(0, Slot { at: place, len: 0 }).unwrap();
+    }
 
-/// Mends the blocks after one has lost an entry: an empty block goes, and neighbours with few entries are
-/// joined. Answers the block that is no longer
-/// in use.
-fn settle(blocks: &mut Vec<Vec<Entry>>, spare: &mut Vec<Vec<Entry>>, at: usize) -> Option<usize>
-    // A block with an entry fewer.
-    requires block { at < vec_len blocks.old }
-    requires fit { All IsFit blocks.old.items }
-    requires are_spare { All IsSpare spare.old.items }
-    requires room { vec_len spare.old < vec_capacity spare.old }
-    requires lost { HasLost (lens_of blocks.old.items) at }
-    // Together the blocks hold the same.
-    ensures entries { entries_of blocks.new.items ≡ entries_of blocks.old.items }
-    // No block is too empty or lost.
-    ensures in_use { AreInUse blocks.new.items }
-    ensures are_spare { All IsSpare spare.new.items }
-    ensures total { vec_len blocks.new + vec_len spare.new ≡ vec_len blocks.old + vec_len spare.old }
-    ensures capacity { vec_capacity blocks.old ≤ vec_capacity blocks.new }
-    ensures spare_capacity { vec_capacity spare.old ≤ vec_capacity spare.new }
-{
-    let block = &blocks[at];
-    let len = block.len();
-    if len == 0 {
-        drop_block(blocks, spare, at);
-        return Some(at);
+    /// Takes a block into use behind another, and answers which it is. It has no entry yet.
+    pub(crate) fn open_behind(&mut self, at: usize) -> usize
+        requires at { at < length self.old.contents }
+        requires room { length self.old.contents < self.old.most }
+        ensures is { result ≡ at + 1 }
+        ensures contents { self.new.contents ≡ insert self.old.contents (at + 1) [] }
+        ensures most { self.new.most ≡ self.old.most }
+    {
+        make_place(
+            &mut self.store,
+            self.order.as_slice(),
+            &mut self.free,
+            self.most,
+        );
+        let place = take_place(&mut self.free);
+        let behind = at + 1;
+        self.order
+            .insert(behind, Slot { at: place, len: 0 })
+            .unwrap();
+        behind
     }
-    let joins = can_join(blocks.as_slice(), at);
-    if joins {
-        merge(blocks, spare, at);
-        return Some(at + 1);
-    }
-    if at == 0 {
-        return None;
-    }
-    let before = at - 1;
-    let joined = can_join(blocks.as_slice(), before);
-    if joined {
-        merge(blocks, spare, before);
-        return Some(at);
-    }
-    None
-}
 
-/// Takes the entry at a place out, and answers the block that is no longer in use then.
-pub(crate) fn take_out(
-    blocks: &mut Vec<Vec<Entry>>,
-    spare: &mut Vec<Vec<Entry>>,
-    place: Place,
-) -> Option<usize>
-    // A place where an entry stands.
-    requires block { place.block < vec_len blocks.old }
-    requires at { place.at < length (entries_at blocks.old.items place.block) }
-    requires are_blocks { All IsBlock blocks.old.items }
-    requires are_spare { All IsSpare spare.old.items }
-    requires dense { AreDense (lens_of blocks.old.items) }
-    requires room { vec_len spare.old < vec_capacity spare.old }
-    // The entry is gone from its block.
-    ensures entries { entries_of blocks.new.items ≡ entries_of (take place.block blocks.old.items)
-        ++ (remove (entries_at blocks.old.items place.block) place.at ++ entries_of (drop (place.block + 1) blocks.old.items)) }
-    // No block is too empty or lost.
-    ensures are_blocks { All IsBlock blocks.new.items }
-    ensures are_spare { All IsSpare spare.new.items }
-    ensures dense { AreDense (lens_of blocks.new.items) }
-    ensures total { vec_len blocks.new + vec_len spare.new ≡ vec_len blocks.old + vec_len spare.old }
-    ensures capacity { vec_capacity blocks.old ≤ vec_capacity blocks.new }
-    ensures spare_capacity { vec_capacity spare.old ≤ vec_capacity spare.new }
-{
-    drop_entry(blocks, place);
-    settle(blocks, spare, place.block)
+    /// Takes a block out of use.
+    pub(crate) fn close(&mut self, at: usize)
+        requires { at < length self.old.contents }
+        ensures contents { self.new.contents ≡ remove self.old.contents at }
+        ensures most { self.new.most ≡ self.old.most }
+    {
+        let slot = self.order.remove(at);
+        give_back(&mut self.free, slot.at);
+    }
+
+    /// Puts an entry at a place of a block that has room.
+    pub(crate) fn put(&mut self, place: Place, entry: Entry)
+        requires block { place.block < length self.old.contents }
+        requires at { place.at ≤ length (entries_at self.old.contents place.block) }
+        requires room { length (entries_at self.old.contents place.block) < 256 }
+        ensures contents { self.new.contents
+            ≡ slice_set self.old.contents place.block (insert (entries_at self.old.contents place.block) place.at entry) }
+        ensures most { self.new.most ≡ self.old.most }
+    {
+        let slot = self.order[place.block];
+        put_in(
+            self.store[slot.at as usize].as_mut_slice(),
+            slot.len as usize,
+            place.at,
+            entry,
+        );
+        self.order[place.block] = Slot {
+            at: slot.at,
+            len: slot.len + 1,
+        };
+    }
+
+    /// Takes the entry at a place out of its block.
+    pub(crate) fn drop_entry(&mut self, place: Place)
+        requires block { place.block < length self.old.contents }
+        requires at { place.at < length (entries_at self.old.contents place.block) }
+        ensures contents { self.new.contents
+            ≡ slice_set self.old.contents place.block (remove (entries_at self.old.contents place.block) place.at) }
+        ensures most { self.new.most ≡ self.old.most }
+    {
+        let slot = self.order[place.block];
+        close_up(
+            self.store[slot.at as usize].as_mut_slice(),
+            slot.len as usize,
+            place.at,
+        );
+        self.order[place.block] = Slot {
+            at: slot.at,
+            len: slot.len - 1,
+        };
+    }
+
+    /// Puts the entries of a block, from a place on, behind those of another too.
+    pub(crate) fn append(&mut self, target: usize, source: usize, from: usize)
+        requires target { target < length self.old.contents }
+        requires source { source < length self.old.contents }
+        requires from { from ≤ length (entries_at self.old.contents source) }
+        requires few { length (entries_at self.old.contents source) ≤ from + 128 }
+        requires room { length (entries_at self.old.contents target) + length (entries_at self.old.contents source) ≤ from + 256 }
+        ensures contents { self.new.contents ≡ slice_set self.old.contents target
+            (entries_at self.old.contents target ++ drop from (entries_at self.old.contents source)) }
+        ensures most { self.new.most ≡ self.old.most }
+    {
+        let entries = self.entries(source);
+        let count = entries.len() - from;
+        let part = copied(entries, from, count);
+        let slot = self.order[target];
+        write_behind(
+            self.store[slot.at as usize].as_mut_slice(),
+            slot.len as usize,
+            &part[..count],
+        );
+        self.order[target] = Slot {
+            at: slot.at,
+            len: slot.len + count as u32,
+        };
+    }
+
+    /// Leaves a block its first so many entries.
+    pub(crate) fn shorten(&mut self, at: usize, len: usize)
+        requires at { at < length self.old.contents }
+        requires len { len ≤ length (entries_at self.old.contents at) }
+        ensures contents { self.new.contents ≡ slice_set self.old.contents at (take len (entries_at self.old.contents at)) }
+        ensures most { self.new.most ≡ self.old.most }
+    {
+        let slot = self.order[at];
+        self.order[at] = Slot {
+            at: slot.at,
+            len: len as u32,
+        };
+    }
+
+    /// Takes all blocks out of use.
+    pub(crate) fn clear(&mut self)
+        ensures contents { self.new.contents ≡ [] }
+        ensures most { self.new.most ≡ self.old.most }
+    {
+        while self.len() > 0 {
+            self.close(self.len() - 1);
+        }
+    }
+
+    /// Reads the leads of a full block anew, where its keys share many more bytes than its entries skip.
+    pub(crate) fn sharpen<K: Keys>(&mut self, keys: &K, at: usize)
+        // A block of keys that can be read.
+        requires block { at < length self.old.contents }
+        requires readable { All (λ entry. K.has_row keys.now entry.row) (entries_of self.old.contents) }
+        requires leads { All (IsLed (K.key_of keys.now)) (entries_of self.old.contents) }
+        // The order is as it was.
+        ensures rows { rows_of (entries_of self.new.contents) ≡ rows_of (entries_of self.old.contents) }
+        ensures front { (j : ℕ) → front self.new.contents at j ≡ front self.old.contents at j }
+        // Beside each stand eight bytes of its key.
+        ensures leads { All (IsLed (K.key_of keys.now)) (entries_of self.new.contents) }
+        // The blocks are as many, and as long as before.
+        ensures lens { lens_of self.new.contents ≡ lens_of self.old.contents }
+        ensures most { self.new.most ≡ self.old.most }
+    {
+        let slot = self.order[at];
+        if (slot.len as usize) < BLOCK {
+            return;
+        }
+        refresh(self.store[slot.at as usize].as_mut_slice(), keys);
+    }
 }

@@ -1,5 +1,5 @@
 //! The entries of an index.
-ghost use Rattle.std.specs.Prelude.{◌≡◌, ◌≢◌, ℕ, ◌<◌, ◌≤◌, List, length, take, drop, map, true, false, vec_len, vec_capacity, All};
+ghost use Rattle.std.specs.Prelude.{◌≡◌, ◌≢◌, ℕ, ◌<◌, ◌≤◌, List, length, take, drop, map, true, false, All};
 ghost use Rattle.key_index.specs.Order.{key_cmp};
 ghost use Rattle.key_index.specs.Lead.{rows_of, AreBytes, IsLed};
 ghost use Rattle.key_index.specs.inside.Sought.{IsSought};
@@ -23,6 +23,13 @@ pub(crate) struct Entry {
     pub(crate) row: u32,
     pub(crate) skip: u32,
 }
+
+/// The entry of no row, which stands where no entry has been put yet.
+pub(crate) const NONE: Entry = Entry {
+    lead: 0,
+    row: 0,
+    skip: 0,
+};
 
 /// How many bytes an entry skips best whose key shares so many with its neighbours.
 pub(crate) fn best_skip(shared: usize) -> u32 {
@@ -132,11 +139,10 @@ pub(crate) fn has_key<K: Keys>(keys: &K, entry: Entry, key: &[u8]) -> bool
 }
 
 /// Reads the leads of entries anew, behind so many bytes.
-fn relead<K: Keys>(entries: &mut Vec<Entry>, keys: &K, skip: u32)
-    requires { All (λ entry. K.has_row keys.now entry.row) entries.old.items }
-    ensures rows { rows_of entries.new.items ≡ rows_of entries.old.items }
-    ensures leads { All (IsLed (K.key_of keys.now)) entries.new.items }
-    ensures capacity { vec_capacity entries.new ≡ vec_capacity entries.old }
+fn relead<K: Keys>(entries: &mut [Entry], keys: &K, skip: u32)
+    requires { All (λ entry. K.has_row keys.now entry.row) entries.old }
+    ensures rows { rows_of entries.new ≡ rows_of entries.old }
+    ensures leads { All (IsLed (K.key_of keys.now)) entries.new }
 {
     for at in 0..entries.len() {
         let row = entries[at].row;
@@ -153,12 +159,11 @@ pub(crate) fn shared_by<K: Keys>(keys: &K, first: Entry, last: Entry) -> usize
 }
 
 /// Reads the leads of entries anew, where their keys share many more bytes than the entries skip.
-pub(crate) fn refresh<K: Keys>(entries: &mut Vec<Entry>, keys: &K)
-    requires readable { All (λ entry. K.has_row keys.now entry.row) entries.old.items }
-    requires leads { All (IsLed (K.key_of keys.now)) entries.old.items }
-    ensures rows { rows_of entries.new.items ≡ rows_of entries.old.items }
-    ensures leads { All (IsLed (K.key_of keys.now)) entries.new.items }
-    ensures capacity { vec_capacity entries.new ≡ vec_capacity entries.old }
+pub(crate) fn refresh<K: Keys>(entries: &mut [Entry], keys: &K)
+    requires readable { All (λ entry. K.has_row keys.now entry.row) entries.old }
+    requires leads { All (IsLed (K.key_of keys.now)) entries.old }
+    ensures rows { rows_of entries.new ≡ rows_of entries.old }
+    ensures leads { All (IsLed (K.key_of keys.now)) entries.new }
 {
     if entries.is_empty() {
         return;

@@ -5,7 +5,7 @@
 ghost use Rattle.std.specs.Prelude.{◌≡◌, ℕ, ◌+◌, ◌*◌, ◌<◌, ◌≤◌, length, slice_index_or, All};
 ghost use Rattle.key_index.specs.inside.Blocks.{entries_of, entries_at};
 
-use crate::blocks::BLOCK;
+use crate::blocks::{BLOCK, Blocks};
 use crate::entries::{Entry, shared_by, sought_behind};
 use crate::keys::Keys;
 use crate::place::Place;
@@ -110,15 +110,15 @@ impl Hints {
     pub(crate) fn keep<K: Keys>(
         &mut self,
         keys: &K,
-        blocks: &[Vec<Entry>],
+        blocks: &Blocks,
         place: Place,
         before: usize,
         begun: usize,
     )
-        requires place { place.block < length blocks.now }
+        requires place { place.block < length blocks.now.contents }
         requires begun { begun ≤ before }
-        requires readable { All (λ entry. K.has_row keys.now entry.row) (entries_of blocks.now) }
-        requires full { All (λ block. 0 < length block.items) blocks.now }
+        requires readable { All (λ entry. K.has_row keys.now entry.row) (entries_of blocks.now.contents) }
+        requires full { All (λ block. 0 < length block) blocks.now.contents }
     {
         if place.at == 0 && place.block < self.leads.len() {
             self.leads[place.block] = lead_of_first(keys, blocks, place.block, self.skip);
@@ -129,10 +129,10 @@ impl Hints {
     }
 
     /// Notes that a block has come into use.
-    pub(crate) fn begin<K: Keys>(&mut self, keys: &K, blocks: &[Vec<Entry>], block: usize)
-        requires block { block < length blocks.now }
-        requires readable { All (λ entry. K.has_row keys.now entry.row) (entries_of blocks.now) }
-        requires full { All (λ block. 0 < length block.items) blocks.now }
+    pub(crate) fn begin<K: Keys>(&mut self, keys: &K, blocks: &Blocks, block: usize)
+        requires block { block < length blocks.now.contents }
+        requires readable { All (λ entry. K.has_row keys.now entry.row) (entries_of blocks.now.contents) }
+        requires full { All (λ block. 0 < length block) blocks.now.contents }
     {
         let first = first_of(keys, blocks, 0);
         let last = first_of(keys, blocks, blocks.len() - 1);
@@ -149,9 +149,9 @@ impl Hints {
     }
 
     /// Reads all anew, behind so many bytes.
-    pub(crate) fn read<K: Keys>(&mut self, keys: &K, blocks: &[Vec<Entry>], skip: u32)
-        requires readable { All (λ entry. K.has_row keys.now entry.row) (entries_of blocks.now) }
-        requires full { All (λ block. 0 < length block.items) blocks.now }
+    pub(crate) fn read<K: Keys>(&mut self, keys: &K, blocks: &Blocks, skip: u32)
+        requires readable { All (λ entry. K.has_row keys.now entry.row) (entries_of blocks.now.contents) }
+        requires full { All (λ block. 0 < length block) blocks.now.contents }
     {
         self.skip = skip;
         self.left = blocks.len();
@@ -182,22 +182,21 @@ impl Hints {
 }
 
 /// The first entry of a block.
-pub(crate) fn first_of<K: Keys>(keys: &K, blocks: &[Vec<Entry>], at: usize) -> Entry
-    requires block { at < length blocks.now }
-    requires readable { All (λ entry. K.has_row keys.now entry.row) (entries_of blocks.now) }
-    requires full { All (λ block. 0 < length block.items) blocks.now }
+pub(crate) fn first_of<K: Keys>(keys: &K, blocks: &Blocks, at: usize) -> Entry
+    requires block { at < length blocks.now.contents }
+    requires readable { All (λ entry. K.has_row keys.now entry.row) (entries_of blocks.now.contents) }
+    requires full { All (λ block. 0 < length block) blocks.now.contents }
     ensures readable { K.has_row keys.now result.row }
-    ensures first { result ≡ slice_index_or (entries_at blocks.now at) 0 result }
+    ensures first { result ≡ slice_index_or (entries_at blocks.now.contents at) 0 result }
 {
-    let block = &blocks[at];
-    block[0]
+    blocks.first(at)
 }
 
 /// Eight bytes of the first key of a block, behind so many.
-fn lead_of_first<K: Keys>(keys: &K, blocks: &[Vec<Entry>], at: usize, skip: u32) -> u64
-    requires block { at < length blocks.now }
-    requires readable { All (λ entry. K.has_row keys.now entry.row) (entries_of blocks.now) }
-    requires full { All (λ block. 0 < length block.items) blocks.now }
+fn lead_of_first<K: Keys>(keys: &K, blocks: &Blocks, at: usize, skip: u32) -> u64
+    requires block { at < length blocks.now.contents }
+    requires readable { All (λ entry. K.has_row keys.now entry.row) (entries_of blocks.now.contents) }
+    requires full { All (λ block. 0 < length block) blocks.now.contents }
 {
     let first = first_of(keys, blocks, at);
     sought_behind(keys.key(first.row), skip).lead

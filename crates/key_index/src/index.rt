@@ -3,14 +3,14 @@ ghost use Rattle.std.specs.Prelude.{◌≡◌, ◌≢◌, ◌⊎◌, ℕ, ◌+�
 ghost use Rattle.key_index.specs.Order.{AreRising, Each, PutsIn, TakesOut, rows_from};
 ghost use Rattle.key_index.specs.Index.{IsIndexOf, IsOrdered, IsPlaceFor, IsRowAt};
 
-use crate::blocks::{HALF, begin, entry_at, make_room, put, sharpen, spare_blocks, take_out};
-use crate::clearing::drop_all;
-use crate::entries::{Entry, entry_of, has_key};
+use crate::blocks::{Blocks, HALF};
+use crate::entries::{entry_of, has_key};
 use crate::hints::Hints;
 use crate::keys::Keys;
 use crate::place::{Place, RowAt};
 use crate::rows::Rows;
 use crate::search::seek;
+use crate::settling::{begin, entry_at, make_room, put, take_out};
 use std::alloc::{AllocError, Global};
 use std::marker::Model;
 
@@ -22,23 +22,21 @@ use std::marker::Model;
 pub struct KeyIndex {
     room: u32,
     count: u32,
-    blocks: Vec<Vec<Entry>>,
-    spare: Vec<Vec<Entry>>,
+    blocks: Blocks,
     hints: Hints,
 }
 
 impl Model for KeyIndex {
     ghost use Rattle.key_index.specs.Index.{Index};
     ghost use Rattle.key_index.specs.Lead.{rows_of};
-    ghost use Rattle.key_index.specs.inside.Blocks.{contents, entries_of};
+    ghost use Rattle.key_index.specs.inside.Blocks.{entries_of};
     ghost use Rattle.key_index.specs.inside.Kept.{AreKept};
-    ghost use Rattle.std.specs.Prelude.{vec_capacity};
 
     ghost Value = { Index };
 
-    ghost view = { λ a. record { rows = rows_of (entries_of a.blocks.items); room = a.room; kept = contents a.blocks.items } };
+    ghost view = { λ a. record { rows = rows_of (entries_of a.blocks.contents); room = a.room; kept = a.blocks.contents } };
 
-    ghost invariant = { λ a. AreKept a.room a.count a.blocks.items a.spare.items (vec_capacity a.blocks) (vec_capacity a.spare) };
+    ghost invariant = { λ a. AreKept a.room a.count a.blocks };
 }
 
 impl KeyIndex {
@@ -51,14 +49,12 @@ impl KeyIndex {
         ensures { IfOk result (λ made. made ≡ record { rows = []; room = room; kept = [] }) }
     {
         let count = room as usize * 2 / (HALF + 1) + 3;
-        let blocks = Vec::with_capacity(alloc, count)?;
-        let spare = spare_blocks(alloc, count)?;
+        let blocks = Blocks::new(alloc, count as u32)?;
         let hints = Hints::new(alloc, count)?;
         Ok(KeyIndex {
             room,
             count: 0,
             blocks,
-            spare,
             hints,
         })
     }
@@ -91,9 +87,8 @@ impl KeyIndex {
             (λ place. IsPlaceFor (K.key_of keys.now) key.now self.now place
             × All (λ row. K.key_of keys.now row ≢ key.now) self.now.rows) }
     {
-        let blocks = self.blocks.as_slice();
-        let place = seek(keys, blocks, key, self.hints.guess(key));
-        let Some(entry) = entry_at(blocks, place) else {
+        let place = seek(keys, &self.blocks, key, self.hints.guess(key));
+        let Some(entry) = entry_at(&self.blocks, place) else {
             return Err(place);
         };
         let found = has_key(keys, entry, key);
@@ -131,18 +126,17 @@ impl KeyIndex {
     {
         let entry = entry_of(keys, row, place.skip);
         self.count += 1;
-        if self.blocks.is_empty() {
-            begin(&mut self.blocks, &mut self.spare, entry);
-            self.hints.begin(keys, self.blocks.as_slice(), 0);
+        if self.blocks.len() == 0 {
+            begin(&mut self.blocks, entry);
+            self.hints.begin(keys, &self.blocks, 0);
             return;
         }
         let before = self.blocks.len();
         let behind = place.block + 1;
-        sharpen(&mut self.blocks, keys, place.block);
-        let place = make_room(&mut self.blocks, &mut self.spare, place);
+        self.blocks.sharpen(keys, place.block);
+        let place = make_room(&mut self.blocks, place);
         put(&mut self.blocks, place, entry);
-        self.hints
-            .keep(keys, self.blocks.as_slice(), place, before, behind);
+        self.hints.keep(keys, &self.blocks, place, before, behind);
     }
 
     /// Puts a row in whose key no row has. No memory is taken.
@@ -170,7 +164,7 @@ impl KeyIndex {
         ensures room { self.new.room ≡ self.old.room }
         ensures rows { TakesOut found.row self.old.rows self.new.rows }
     {
-        let ended = take_out(&mut self.blocks, &mut self.spare, found.place);
+        let ended = take_out(&mut self.blocks, found.place);
         self.count -= 1;
         self.hints.end(ended);
     }
@@ -195,7 +189,7 @@ impl KeyIndex {
     pub fn clear(&mut self)
         ensures { self.new ≡ record { rows = []; room = self.old.room; kept = [] } }
     {
-        drop_all(&mut self.blocks, &mut self.spare);
+        self.blocks.clear();
         self.count = 0;
         self.hints.clear();
     }
@@ -205,9 +199,8 @@ impl KeyIndex {
         requires { IsIndexOf (K.has_row keys.now) (K.key_of keys.now) self.now }
         ensures { result ≡ rows_from (K.key_of keys.now) key.now self.now.rows }
     {
-        let blocks = self.blocks.as_slice();
-        let place = seek(keys, blocks, key, self.hints.guess(key));
-        Rows::new(blocks, place)
+        let place = seek(keys, &self.blocks, key, self.hints.guess(key));
+        Rows::new(&self.blocks, place)
     }
 
     /// What holds of each index, whoever keeps the keys of its rows: nothing but these keys matters, so an index stays

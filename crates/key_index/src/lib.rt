@@ -11,7 +11,7 @@
 #![tactic(auto)]
 
 mod blocks;
-mod clearing;
+mod copies;
 mod entries;
 mod hints;
 mod index;
@@ -19,6 +19,7 @@ mod keys;
 mod place;
 mod rows;
 mod search;
+mod settling;
 mod shared;
 
 pub use index::KeyIndex;

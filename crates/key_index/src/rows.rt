@@ -2,15 +2,15 @@
 ghost use Rattle.std.specs.Prelude.{◌≡◌, ℕ, ◌+◌, ◌<◌, ◌≤◌, [], ◌∷◌, List, length, All, MatchOption};
 ghost use Rattle.key_index.specs.inside.Blocks.{back, IsBlock};
 
-use crate::blocks::entry_at;
-use crate::entries::Entry;
+use crate::blocks::Blocks;
 use crate::place::Place;
+use crate::settling::entry_at;
 use std::marker::Model;
 
 /// The rows from a place on, in order.
 #[derive(Drop)]
 pub struct Rows<'a> {
-    blocks: &'a [Vec<Entry>],
+    blocks: &'a Blocks,
     place: Place,
 }
 
@@ -20,16 +20,16 @@ impl<'a> Model for Rows<'a> {
 
     ghost Value = { List ℕ };
 
-    ghost view = { λ r. back r.blocks.now r.place.block r.place.at };
+    ghost view = { λ r. back r.blocks.now.contents r.place.block r.place.at };
 
-    ghost invariant = { λ r. All IsBlock r.blocks.now × (r.place.block ≤ length r.blocks.now) };
+    ghost invariant = { λ r. All IsBlock r.blocks.now.contents × (r.place.block ≤ length r.blocks.now.contents) };
 }
 
 impl<'a> Rows<'a> {
-    pub(crate) fn new(blocks: &'a [Vec<Entry>], place: Place) -> Rows<'a>
-        requires are_blocks { All IsBlock blocks.now }
-        requires within { place.block ≤ length blocks.now }
-        ensures { result ≡ back blocks.now place.block place.at }
+    pub(crate) fn new(blocks: &'a Blocks, place: Place) -> Rows<'a>
+        requires are_blocks { All IsBlock blocks.now.contents }
+        requires within { place.block ≤ length blocks.now.contents }
+        ensures { result ≡ back blocks.now.contents place.block place.at }
     {
         Rows { blocks, place }
     }

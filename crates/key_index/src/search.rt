@@ -5,6 +5,7 @@ ghost use Rattle.key_index.specs.Lead.{rows_of};
 ghost use Rattle.key_index.specs.inside.Blocks.{entries_of, entries_at, AreAtLeast, AreEntriesOf, IsPlaceOf};
 ghost use Rattle.key_index.specs.inside.Shared.{Share};
 
+use crate::blocks::Blocks;
 use crate::entries::{Entry, best_skip, compare, compare_keys, sought_as, sought_behind};
 use crate::hints::{first_of, guess_in, probe};
 use crate::keys::Keys;
@@ -94,14 +95,14 @@ fn count_in<K: Keys>(keys: &K, entries: &[Entry], key: &[u8], shared: usize) -> 
 
 /// How many blocks begin with an entry whose key is not above a key, and how many bytes the key shares with those of
 /// the last of these blocks.
-fn count_upto<K: Keys>(keys: &K, blocks: &[Vec<Entry>], key: &[u8], guess: usize) -> Passed
-    requires entries { AreEntriesOf (K.has_row keys.now) (K.key_of keys.now) (entries_of blocks.now) }
-    requires full { All (λ block. 0 < length block.items) blocks.now }
-    ensures within { result.count ≤ length blocks.now }
-    ensures below { AreBelow (K.key_of keys.now) key.now (rows_of (entries_of (take (result.count - 1) blocks.now))) }
-    ensures above { AreAbove (K.key_of keys.now) key.now (rows_of (entries_of (drop result.count blocks.now))) }
+fn count_upto<K: Keys>(keys: &K, blocks: &Blocks, key: &[u8], guess: usize) -> Passed
+    requires entries { AreEntriesOf (K.has_row keys.now) (K.key_of keys.now) (entries_of blocks.now.contents) }
+    requires full { All (λ block. 0 < length block) blocks.now.contents }
+    ensures within { result.count ≤ length blocks.now.contents }
+    ensures below { AreBelow (K.key_of keys.now) key.now (rows_of (entries_of (take (result.count - 1) blocks.now.contents))) }
+    ensures above { AreAbove (K.key_of keys.now) key.now (rows_of (entries_of (drop result.count blocks.now.contents))) }
     ensures shared { 0 < result.count
-        → All (λ entry. Share result.shared (K.key_of keys.now entry.row) key.now) (entries_at blocks.now (result.count - 1)) }
+        → All (λ entry. Share result.shared (K.key_of keys.now entry.row) key.now) (entries_at blocks.now.contents (result.count - 1)) }
 {
     let mut low = 0;
     let mut high = blocks.len();
@@ -110,8 +111,7 @@ fn count_upto<K: Keys>(keys: &K, blocks: &[Vec<Entry>], key: &[u8], guess: usize
     let mut sought = sought_behind(key, 0);
     while low < high {
         let middle = probe(low, high, guess);
-        let block = &blocks[middle];
-        let first = block[0];
+        let first = blocks.first(middle);
         let shared = fewer(low_shared, high_shared);
         sought = sought_as(key, sought, first.skip);
         let compared = compare(keys, first, key, shared, sought);
@@ -139,13 +139,13 @@ fn skip_among(entries: &[Entry], shared: usize) -> u32
 }
 
 /// Where a key stands or would stand, by halving.
-fn seek_all<K: Keys>(keys: &K, blocks: &[Vec<Entry>], key: &[u8], guess: usize) -> Place
-    requires entries { AreEntriesOf (K.has_row keys.now) (K.key_of keys.now) (entries_of blocks.now) }
-    requires full { All (λ block. 0 < length block.items) blocks.now }
-    ensures block { 0 < length blocks.now → result.block < length blocks.now }
-    ensures within { result.block ≤ length blocks.now }
-    ensures at { result.at ≤ length (entries_at blocks.now result.block) }
-    ensures place { IsPlaceOf (K.key_of keys.now) key.now blocks.now result.block result.at }
+fn seek_all<K: Keys>(keys: &K, blocks: &Blocks, key: &[u8], guess: usize) -> Place
+    requires entries { AreEntriesOf (K.has_row keys.now) (K.key_of keys.now) (entries_of blocks.now.contents) }
+    requires full { All (λ block. 0 < length block) blocks.now.contents }
+    ensures block { 0 < length blocks.now.contents → result.block < length blocks.now.contents }
+    ensures within { result.block ≤ length blocks.now.contents }
+    ensures at { result.at ≤ length (entries_at blocks.now.contents result.block) }
+    ensures place { IsPlaceOf (K.key_of keys.now) key.now blocks.now.contents result.block result.at }
 {
     let upto = count_upto(keys, blocks, key, guess);
     if upto.count == 0 {
@@ -156,7 +156,7 @@ fn seek_all<K: Keys>(keys: &K, blocks: &[Vec<Entry>], key: &[u8], guess: usize) 
         };
     }
     let block = upto.count - 1;
-    let entries = blocks[block].as_slice();
+    let entries = blocks.entries(block);
     let inside = count_in(keys, entries, key, upto.shared);
     let skip = skip_among(entries, inside.shared);
     Place {
@@ -167,13 +167,13 @@ fn seek_all<K: Keys>(keys: &K, blocks: &[Vec<Entry>], key: &[u8], guess: usize) 
 }
 
 /// Where a key stands or would stand, if that is between two entries of a block that is not the last one.
-fn seek_in<K: Keys>(keys: &K, blocks: &[Vec<Entry>], key: &[u8], block: usize) -> Option<Place>
-    requires entries { AreEntriesOf (K.has_row keys.now) (K.key_of keys.now) (entries_of blocks.now) }
-    requires full { All (λ block. 0 < length block.items) blocks.now }
-    requires block { block + 1 < length blocks.now }
+fn seek_in<K: Keys>(keys: &K, blocks: &Blocks, key: &[u8], block: usize) -> Option<Place>
+    requires entries { AreEntriesOf (K.has_row keys.now) (K.key_of keys.now) (entries_of blocks.now.contents) }
+    requires full { All (λ block. 0 < length block) blocks.now.contents }
+    requires block { block + 1 < length blocks.now.contents }
     ensures block { IfSome result (λ place. place.block ≡ block) }
-    ensures at { IfSome result (λ place. place.at ≤ length (entries_at blocks.now block)) }
-    ensures place { IfSome result (λ place. IsPlaceOf (K.key_of keys.now) key.now blocks.now block place.at) }
+    ensures at { IfSome result (λ place. place.at ≤ length (entries_at blocks.now.contents block)) }
+    ensures place { IfSome result (λ place. IsPlaceOf (K.key_of keys.now) key.now blocks.now.contents block place.at) }
 {
     let first = compare_keys(keys, first_of(keys, blocks, 0), key);
     if first.order.is_gt() {
@@ -185,7 +185,7 @@ fn seek_in<K: Keys>(keys: &K, blocks: &[Vec<Entry>], key: &[u8], block: usize) -
         return None;
     }
     let shared = fewer(first.shared, last.shared);
-    let entries = blocks[block].as_slice();
+    let entries = blocks.entries(block);
     let inside = count_in(keys, entries, key, shared);
     if inside.count == 0 || inside.count >= entries.len() {
         return None;
@@ -199,13 +199,13 @@ fn seek_in<K: Keys>(keys: &K, blocks: &[Vec<Entry>], key: &[u8], block: usize) -
 }
 
 /// Where a key stands or would stand. A guess, which may be any number, says behind how many blocks to look first.
-pub(crate) fn seek<K: Keys>(keys: &K, blocks: &[Vec<Entry>], key: &[u8], guess: usize) -> Place
-    requires entries { AreEntriesOf (K.has_row keys.now) (K.key_of keys.now) (entries_of blocks.now) }
-    requires full { All (λ block. 0 < length block.items) blocks.now }
-    ensures block { 0 < length blocks.now → result.block < length blocks.now }
-    ensures within { result.block ≤ length blocks.now }
-    ensures at { result.at ≤ length (entries_at blocks.now result.block) }
-    ensures place { IsPlaceOf (K.key_of keys.now) key.now blocks.now result.block result.at }
+pub(crate) fn seek<K: Keys>(keys: &K, blocks: &Blocks, key: &[u8], guess: usize) -> Place
+    requires entries { AreEntriesOf (K.has_row keys.now) (K.key_of keys.now) (entries_of blocks.now.contents) }
+    requires full { All (λ block. 0 < length block) blocks.now.contents }
+    ensures block { 0 < length blocks.now.contents → result.block < length blocks.now.contents }
+    ensures within { result.block ≤ length blocks.now.contents }
+    ensures at { result.at ≤ length (entries_at blocks.now.contents result.block) }
+    ensures place { IsPlaceOf (K.key_of keys.now) key.now blocks.now.contents result.block result.at }
 {
     if guess > 0 && guess < blocks.len() {
         if let Some(place) = seek_in(keys, blocks, key, guess - 1) {

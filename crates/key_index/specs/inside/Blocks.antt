@@ -1,8 +1,6 @@
 -- Blocks of entries.
 use Rattle.std.specs.Prelude.{◌≡◌, ℕ, ◌+◌, ◌<◌, ◌≤◌, false, List, ◌++◌, length, map, take, drop, All}
-use Rattle.std.specs.Vec.{vec_capacity}
 use Rattle.std.specs.Ordering.{is_lt}
-use Rattle.std.specs.declared.vec.Vec.{Vec}
 use Rattle.key_index.specs.declared.entries.Entry.{Entry}
 use Rattle.key_index.specs.Lead.{rows_of, AreBytes, IsLed}
 use Rattle.key_index.specs.Order.{key_cmp, Each, AreAbove, AreBelow, AreRising}
@@ -15,23 +13,19 @@ pub record AreEntriesOf (has_row : ℕ → Type 0) (key_of : ℕ → List ℕ) (
   pub leads : All (IsLed key_of) entries
   pub rising : AreRising key_of (rows_of entries)
 
--- what blocks hold
-abbrev pub contents : {Z : Type 0} → List (Vec Entry Z) → List (List Entry)
-contents blocks = map (λ block. block.items) blocks
-
 -- the entries of all blocks, one block after another
-abbrev pub entries_of : {Z : Type 0} → List (Vec Entry Z) → List Entry
-entries_of blocks = joined (contents blocks)
+abbrev pub entries_of : List (List Entry) → List Entry
+entries_of blocks = joined blocks
 
 -- the entries of one block
-abbrev pub entries_at : {Z : Type 0} → List (Vec Entry Z) → ℕ → List Entry
-entries_at blocks k = block_at (contents blocks) k
+abbrev pub entries_at : List (List Entry) → ℕ → List Entry
+entries_at blocks k = block_at blocks k
 
 -- the rows before a place in a block, and those from it on
-abbrev pub front : {Z : Type 0} → List (Vec Entry Z) → ℕ → ℕ → List ℕ
+abbrev pub front : List (List Entry) → ℕ → ℕ → List ℕ
 front blocks block at = rows_of (entries_of (take block blocks)) ++ take at (rows_of (entries_at blocks block))
 
-abbrev pub back : {Z : Type 0} → List (Vec Entry Z) → ℕ → ℕ → List ℕ
+abbrev pub back : List (List Entry) → ℕ → ℕ → List ℕ
 back blocks block at = drop at (rows_of (entries_at blocks block)) ++ rows_of (entries_of (drop (block + 1) blocks))
 
 -- the keys of these rows are not below a key
@@ -39,24 +33,20 @@ abbrev pub AreAtLeast : (ℕ → List ℕ) → List ℕ → List ℕ → Type 0
 AreAtLeast key_of key rows = Each (λ row. is_lt (key_cmp (key_of row) key) ≡ false) rows
 
 -- where a key stands or would stand
-pub record IsPlaceOf {Z : Type 0} (key_of : ℕ → List ℕ) (key : List ℕ) (blocks : List (Vec Entry Z)) (block at : ℕ) : Type 0 where
+pub record IsPlaceOf (key_of : ℕ → List ℕ) (key : List ℕ) (blocks : List (List Entry)) (block at : ℕ) : Type 0 where
   pub before : AreBelow key_of key (rows_of (entries_of (take block blocks)))
   pub below : AreBelow key_of key (take at (rows_of (entries_at blocks block)))
   pub at_least : AreAtLeast key_of key (drop at (rows_of (entries_at blocks block)))
   pub after : AreAbove key_of key (rows_of (entries_of (drop (block + 1) blocks)))
 
--- a block in use: it has an entry, and room for 256
-abbrev pub IsBlock : {Z : Type 0} → Vec Entry Z → Type 0
-IsBlock block = (0 < length block.items) × (length block.items ≤ 256) × (256 ≤ vec_capacity block)
-
--- a block not in use
-abbrev pub IsSpare : {Z : Type 0} → Vec Entry Z → Type 0
-IsSpare block = (length block.items ≡ 0) × (256 ≤ vec_capacity block)
+-- a block in use has an entry, and at most 256
+abbrev pub IsBlock : List Entry → Type 0
+IsBlock block = (0 < length block) × (length block ≤ 256)
 
 -- how many entries each block has
-abbrev pub lens_of : {Z : Type 0} → List (Vec Entry Z) → List ℕ
-lens_of blocks = map (λ block. length block.items) blocks
+abbrev pub lens_of : List (List Entry) → List ℕ
+lens_of blocks = map (λ block. length block) blocks
 
 -- a block that may have lost its last entry
-abbrev pub IsFit : {Z : Type 0} → Vec Entry Z → Type 0
-IsFit block = (length block.items ≤ 256) × (256 ≤ vec_capacity block)
+abbrev pub IsFit : List Entry → Type 0
+IsFit block = length block ≤ 256

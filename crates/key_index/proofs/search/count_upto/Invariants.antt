@@ -10,11 +10,11 @@ abbrev pub invariant-loop-low : goal.invariant-loop-low
 invariant-loop-low g l = record {
   sought : IsSought l.key l.sought;
   ordered : l.low ≤ l.high;
-  within : l.high ≤ length l.blocks;
-  below : AreBelow (g.K.Keys.key_of l.keys) l.key (rows_of (entries_of (take (l.low - 1) l.blocks)));
-  above : AreAbove (g.K.Keys.key_of l.keys) l.key (rows_of (entries_of (drop l.high l.blocks)));
-  low_bound : IsLowBound (g.K.Keys.key_of l.keys) l.key (rows_of (entries_of (drop (l.low - 1) l.blocks))) l.low_shared;
-  high_bound : IsHighBound (g.K.Keys.key_of l.keys) l.key (rows_of (entries_of (take l.high l.blocks))) l.high_shared;
+  within : l.high ≤ length l.blocks.contents;
+  below : AreBelow (g.K.Keys.key_of l.keys) l.key (rows_of (entries_of (take (l.low - 1) l.blocks.contents)));
+  above : AreAbove (g.K.Keys.key_of l.keys) l.key (rows_of (entries_of (drop l.high l.blocks.contents)));
+  low_bound : IsLowBound (g.K.Keys.key_of l.keys) l.key (rows_of (entries_of (drop (l.low - 1) l.blocks.contents))) l.low_shared;
+  high_bound : IsHighBound (g.K.Keys.key_of l.keys) l.key (rows_of (entries_of (take l.high l.blocks.contents))) l.high_shared;
 }
 
 abbrev pub decreases-loop-low : goal.decreases-loop-low

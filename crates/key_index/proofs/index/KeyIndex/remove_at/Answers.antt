@@ -16,16 +16,13 @@ use Rattle.key_index.proofs.index.KeyIndex.remove_at.Goals as goal
 
 pub invariant_of-self : goal.invariant_of-self
 invariant_of-self c =
-    let entry = entry_told c.self.inside.room c.self.inside.blocks.items c.args.self.now c.args.found.place c.args.found.row c.self.view_is c.requires in
+    let entry = entry_told c.self.inside.room c.self.inside.blocks.contents c.args.self.now c.args.found.place c.args.found.row c.self.view_is c.requires in
     let kept = c.self.invariant in
-    let more = one_more c.take_out-ended.new.blocks.items c.self.inside.blocks.items c.args.found.place.block c.args.found.place.at entry.0 entry.1 c.take_out-ended.ensures.entries in
+    let more = one_more c.take_out-ended.new.blocks.contents c.self.inside.blocks.contents c.args.found.place.block c.args.found.place.at entry.0 entry.1 c.take_out-ended.ensures.entries in
     record {
       are_blocks = c.take_out-ended.ensures.are_blocks;
-      are_spare = c.take_out-ended.ensures.are_spare;
       dense = c.take_out-ended.ensures.dense;
-      enough = omega (arith, kept.enough, c.take_out-ended.ensures.total, c.take_out-ended.new.spare.ok, c.take_out-ended.new.blocks.ok, c.self.inside.blocks.ok, c.self.inside.spare.ok);
-      blocks_fit = omega (arith, kept.blocks_fit, c.take_out-ended.ensures.total, c.take_out-ended.ensures.capacity, c.take_out-ended.new.spare.ok, c.take_out-ended.new.blocks.ok, c.self.inside.blocks.ok, c.self.inside.spare.ok);
-      spare_fit = omega (arith, kept.spare_fit, c.take_out-ended.ensures.total, c.take_out-ended.ensures.spare_capacity, c.take_out-ended.new.spare.ok, c.take_out-ended.new.blocks.ok, c.self.inside.blocks.ok, c.self.inside.spare.ok);
+      enough = omega (arith, kept.enough, c.take_out-ended.ensures.most);
       counted = omega (arith, more, kept.counted);
       within = omega (arith, kept.within);
     }
@@ -33,12 +30,12 @@ invariant_of-self c =
 pub returns-clause-ordered : goal.returns-clause-ordered
 returns-clause-ordered c = λ key_of after is same.
     let old = subst (IsOrdered key_of) (sym c.self.view_is) is in
-    let entry = entry_told c.self.inside.room c.self.inside.blocks.items c.args.self.now c.args.found.place c.args.found.row c.self.view_is c.requires in
-    let blocks = c.self.inside.blocks.items in
+    let entry = entry_told c.self.inside.room c.self.inside.blocks.contents c.args.self.now c.args.found.place c.args.found.row c.self.view_is c.requires in
+    let blocks = c.self.inside.blocks.contents in
     let k = c.args.found.place.block in
     let at = c.args.found.place.at in
     let Q : Entry → Type 0 = λ e. AreBytes (key_of e.row) in
-    let blocks_after = c.take_out-ended.new.blocks.items in
+    let blocks_after = c.take_out-ended.new.blocks.contents in
     moved_order key_of after (meant c.self.inside.room blocks_after) (all_each (λ row. after row ≡ key_of row) (rows_of (entries_of blocks_after)) same) (record {
       beside = refl;
       rising = subst (AreRising key_of) (sym (ap rows_of c.take_out-ended.ensures.entries ∙ rows_taken blocks k at))
@@ -50,8 +47,8 @@ returns-clause-ordered c = λ key_of after is same.
 
 pub returns-clause-rows : goal.returns-clause-rows
 returns-clause-rows c =
-    let entry = entry_told c.self.inside.room c.self.inside.blocks.items c.args.self.now c.args.found.place c.args.found.row c.self.view_is c.requires in
-    let blocks = c.self.inside.blocks.items in
+    let entry = entry_told c.self.inside.room c.self.inside.blocks.contents c.args.self.now c.args.found.place c.args.found.row c.self.view_is c.requires in
+    let blocks = c.self.inside.blocks.contents in
     let k = c.args.found.place.block in
     let at = c.args.found.place.at in
     record {
