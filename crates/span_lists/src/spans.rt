@@ -1,27 +1,6 @@
 //! The pages of one shard, in spans.
-ghost use Rattle.std.specs.Prelude.{
-  ◌≡◌,
-  ◌≢◌,
-  ℕ,
-  ◌+◌,
-  ◌-◌,
-  ◌*◌,
-  ◌%◌,
-  ◌<◌,
-  ◌≤◌,
-  ◌^◌,
-  ◌↔◌,
-  ◌∷◌,
-  slice_set,
-  IfOk,
-  IfSome,
-  IfNone,
-  IsNone,
-  IsTrue,
-  Some,
-  None,
-  min,
-};
+ghost use Rattle.std.specs.Prelude.{◌≡◌, ◌≢◌, ℕ, ◌+◌, ◌-◌, ◌*◌, ◌%◌, ◌<◌, ◌≤◌, ◌^◌, ◌↔◌, ◌∷◌};
+ghost use Rattle.std.specs.Prelude.{slice_set, IfOk, IfSome, IfNone, IsNone, IsTrue, Some, None, min};
 ghost use Rattle.std.specs.FinMap as map;
 ghost use Rattle.std.specs.List.{repeat};
 ghost use Rattle.common_lemmas.specs.Lists.{delete};
@@ -192,7 +171,8 @@ impl Spans {
         requires whole { pages % segment_pages ≡ 0 }
         requires most { pages ≤ 65536 }
         ensures pages { IfOk result (λ spans. spans.pages ≡ pages) }
-        ensures each { IfOk result (λ spans. (page : ℕ) → page < pages → page % segment_pages ≡ 0 → map.get spans.allocated page ≡ Some segment_order) }
+        ensures each { IfOk result (λ spans. (page : ℕ) → page < pages → page % segment_pages ≡ 0
+            → map.get spans.allocated page ≡ Some segment_order) }
         ensures inside { IfOk result (λ spans. (page : ℕ) → page % segment_pages ≢ 0 → map.get spans.allocated page ≡ None) }
         ensures beyond { IfOk result (λ spans. (page : ℕ) → pages ≤ page → map.get spans.allocated page ≡ None) }
         ensures divided { IfOk result Divides }
