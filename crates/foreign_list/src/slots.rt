@@ -58,7 +58,8 @@ impl ListTable {
         requires first { (left : List ℕ) × ((ledger_of seat.old.me.0).walk ≡ ticket ∷ left) }
         requires hand { ((ledger_of seat.old.me.0).hand ≡ None) × (ticket < sizes.tickets) }
         ensures seat { SameSeat seat.old seat.new }
-        ensures home { (piece : Lent) × (result.1 ≡ Some piece) × BroughtHome ticket (ledger_of seat.old.me.0) result.0 piece seat.new.me }
+        ensures home { (piece : Lent) × (result.1 ≡ Some piece)
+            × BroughtHome ticket (ledger_of seat.old.me.0) result.0 piece seat.new.me }
     {
         let next = self.walk_on(seat, ticket);
         let deposit = self.take_out(seat, ticket);

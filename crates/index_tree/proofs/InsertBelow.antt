@@ -343,7 +343,9 @@ module _ (r : RegionState) (level : ℕ) (p : Place) (key : List ℕ) (number : 
               subst (λ (t : Branch). Grows (nodes_of (live_at r)) (nodes_of (live_at e)) (suc level) parent low high p (t ∷ []) key number (drop (left - 1) spares)) branch_is
               (subst (λ (t : List Place). Grows (nodes_of (live_at r)) (nodes_of (live_at e)) (suc level) parent low high p (branch m.entry q ∷ []) key number t) (sym used_is)
               (grown_split (nodes_of (live_at r)) (nodes_of (live_at a)) level parent low high p o i within key number (drop left spares) least below (apart a (b ∷ []) left touched grown)
-              (nodes_of (live_at e)) b grown q us vs m room_q q_free parts eight_us eight_vs (lower_half i b o.node) (upper_half i b o.node) cut.here cut.behind (halves.half_left (nodes_of (live_at r)) level parent low high p o i b within sixteen b_small) (halves.half_right (nodes_of (live_at r)) level parent low high p o i b within sixteen b_small)
+              (nodes_of (live_at e)) b grown q us vs m room_q q_free parts eight_us eight_vs (lower_half i b o.node) (upper_half i b o.node) cut.here cut.behind
+              (halves.half_left (nodes_of (live_at r)) level parent low high p o i b within sixteen b_small)
+              (halves.half_right (nodes_of (live_at r)) level parent low high p o i b within sixteen b_small)
               adopted.adopted (λ y far_p far_q none. live_same a e y (adopted.others y far_p far_q none))))
 
           pub room_here : HasRoom q

@@ -40,7 +40,8 @@ pub(crate) fn remove_at_root(
     requires whole { IsSubtree (nodes_of (live_at region.old)) level None None None root }
     requires low { level ≤ 5 }
     requires nodes { HoldNodes (live_at region.old) }
-    ensures number { option_map (λ left. left.0) result ≡ number_of key.now (held_below (nodes_of (live_at region.old)) level (Some root)) }
+    ensures number { option_map (λ left. left.0) result
+        ≡ number_of key.now (held_below (nodes_of (live_at region.old)) level (Some root)) }
     ensures unchanged { IsNone result → region.new ≡ region.old }
     ensures pruned { IfSome result (λ left. Prunes (nodes_of (live_at region.old)) (nodes_of (live_at region.new)) level root
         left.1.level left.1.root key.now left.1.freed) }

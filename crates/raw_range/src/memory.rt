@@ -114,7 +114,8 @@ impl Held {
     // The bytes, which a piece has.
     pub(crate) fn take(self) -> Run
         requires { (piece : Lent) × (self.piece ≡ Some piece) }
-        ensures { (piece : Lent) → self.piece ≡ Some piece → (result.ptr ≡ piece.home +ₚ piece.at) × (result.items ≡ piece.bytes) }
+        ensures { (piece : Lent) → self.piece ≡ Some piece
+            → (result.ptr ≡ piece.home +ₚ piece.at) × (result.items ≡ piece.bytes) }
     {
         let Held {} = self;
         Run {}

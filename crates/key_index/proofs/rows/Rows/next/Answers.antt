@@ -13,7 +13,8 @@ returns-then-self-len c = let e : c.args.self.now ≡ [] = sym c.self.view_is �
 
 pub returns-in_default-found : goal.returns-in_default-found
 returns-in_default-found c =
-    let e : c.args.self.now ≡ [] = sym c.self.view_is ∙ back_none c.self.inside.blocks.now.contents c.self.inside.place.block c.self.inside.place.at c.in_default.ensures ∙ back_end c.self.inside.blocks.now.contents (c.self.inside.place.block + 1) c.self.invariant.0 c.in_default-found.ensures in (e, e)
+    let e : c.args.self.now ≡ [] = sym c.self.view_is ∙ back_none c.self.inside.blocks.now.contents c.self.inside.place.block c.self.inside.place.at c.in_default.ensures
+    ∙ back_end c.self.inside.blocks.now.contents (c.self.inside.place.block + 1) c.self.invariant.0 c.in_default-found.ensures in (e, e)
 
 pub returns : goal.returns
 returns c =

@@ -36,7 +36,13 @@ pub keep_spec : {M : Type 1} → statement M
 keep_spec 𝓤 𝓛 𝓜 𝓡 wired =
     let c = f.clauses 𝓛 𝓜.mem 𝓡.returns in
     let 𝓣 = tables 𝓤 𝓛.H 𝓜 𝓡 𝓡.env in
-    proved_at 𝓛 f.ended stayed c 𝓜 𝓡 (Goes-blank 𝓛 0 (plain (λ _. RawPtr)) yes (λ κs x w. tt), (Goes-blank 𝓛 0 (plain (λ _. u32)) yes (λ κs x w. tt), (Goes-blank 𝓛 0 (plain (λ _. u32)) yes (λ κs x w. tt), (Goes-blank 𝓛 0 (plain (λ _. Run.the_row)) yes (λ κs x w. tt), tt))))
+    proved_at 𝓛 f.ended stayed c 𝓜 𝓡 (
+      Goes-blank 𝓛 0 (plain (λ _. RawPtr)) yes (λ κs x w. tt),
+      (
+        Goes-blank 𝓛 0 (plain (λ _. u32)) yes (λ κs x w. tt),
+        (Goes-blank 𝓛 0 (plain (λ _. u32)) yes (λ κs x w. tt), (Goes-blank 𝓛 0 (plain (λ _. Run.the_row)) yes (λ κs x w. tt), tt)),
+      ),
+    )
     f.Key.name code.function (code.unfolded 𝓤 𝓛.H 𝓜 𝓡 wired) (λ z are.
     let a = z.0.3 in
     let vss = z.0.4 in
