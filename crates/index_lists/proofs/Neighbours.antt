@@ -1,19 +1,14 @@
 -- What the links of an index say of its neighbours in the list, and those of a sentinel of the ends.
-use Rattle.std.proofs.Common.{◌≡◌, ◌≢◌, ℕ, ◌+◌, ◌<◌, ◌≤◌, ◌⊎◌, inl, inr, List, [], ◌∷◌, length, get_or, slice_get, cond, Option, Some, None, eq-eqb, sym, ap, subst, ◌∙◌, arith}
-use Rattle.std.proofs.lemmas.Bool.{ne_eqb}
+use Rattle.std.proofs.Common.{◌≡◌, ◌≢◌, ℕ, ◌+◌, ◌<◌, ◌≤◌, ◌⊎◌, inl, inr, List, [], ◌∷◌, length, get_or, slice_get, cond, Option, Some, None, sym, ap, subst, ◌∙◌, arith}
 use Rattle.std.proofs.lemmas.Bool.Decides.{eqb_tells}
 use Rattle.std.specs.List.{last_or}
 use Rattle.common_lemmas.specs.Lists.{times}
 use Rattle.common_lemmas.proofs.Counts.{times_here, times_there, times_cons_le}
 use Rattle.index_lists.specs.Lists.{list_at, after, before, before_from}
 use Rattle.index_lists.specs.inside.Links.{Path, IsConsistent, rings_from, leads_to}
+use Rattle.index_lists.proofs.Paths.{last_held}
 use Rattle.index_lists.proofs.Linked.{lists_of}
-
-leads_end : (s x : ℕ) → x ≡ s → leads_to s x ≡ None
-leads_end s x e = ap (λ b. cond b None (Some x)) (eq-eqb x s e)
-
-leads_on : (s x : ℕ) → x ≢ s → leads_to s x ≡ Some x
-leads_on s x n = ap (λ b. cond b None (Some x)) (ne_eqb x s n)
+use Rattle.index_lists.proofs.Sentinels.{leads_end, leads_on}
 
 -- the link out of an index leads to the end, or to the index behind it
 after_on_path : (next prev : List ℕ) (a : ℕ) (xs : List ℕ) (b x : ℕ) → Path next prev a xs b → 1 ≤ times x xs → ((get_or next x 0 ≡ b) × (after x xs ≡ None)) ⊎ ((1 ≤ times (get_or next x 0) xs) × (after x xs ≡ Some (get_or next x 0)))
@@ -57,14 +52,6 @@ before_on_path next prev a o (y ∷ ys) b x p h =
 last_on_path : (next prev : List ℕ) (a : ℕ) (xs : List ℕ) (b : ℕ) → Path next prev a xs b → last_or (Some a) xs ≡ Some (get_or prev b 0)
 last_on_path next prev a [] b p = ap (λ w. Some w) (sym p.1)
 last_on_path next prev a (x ∷ xs) b p = last_on_path next prev x xs b p.2
-
-last_held : (next prev : List ℕ) (a : ℕ) (xs : List ℕ) (b : ℕ) → Path next prev a xs b → (get_or prev b 0 ≡ a) ⊎ (1 ≤ times (get_or prev b 0) xs)
-last_held next prev a [] b p = inl p.1
-last_held next prev a (y ∷ ys) b p =
-    inr (elim (last_held next prev y ys b p.2) [
-      | inl e ↦ subst (λ w. 1 ≤ times w (y ∷ ys)) (sym e) (let t = times_here y ys in omega (arith, t))
-      | inr q ↦ (let l = times_cons_le (get_or prev b 0) y ys in omega (arith, l, q))
-    ])
 
 -- an index of a list is not one that the list lacks
 held_is_other : (xs : List ℕ) (x y : ℕ) → 1 ≤ times x xs → times y xs ≡ 0 → x ≢ y

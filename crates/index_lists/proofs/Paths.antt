@@ -116,3 +116,12 @@ rings_of_paths s next prev (n ∷ ns) (xs ∷ lists) e lens paths =
     (λ k h. (let shift : s + suc k ≡ suc s + k = omega arith in subst (λ z. Path next prev z (get_or lists k []) z) shift (paths (suc k) (omega arith)))) in
     subst (λ m. walk m next (get_or next s 0) ∷ rings_from (suc s) next ns ≡ xs ∷ lists) (sym n_is)
     (ap (λ t. t ∷ rings_from (suc s) next ns) (walk_of_path next prev s xs s ring) ∙ ap (λ t. xs ∷ t) tail)
+
+-- the link back from the end leads to the start, or to an index of the list
+pub last_held : (next prev : List ℕ) (a : ℕ) (xs : List ℕ) (b : ℕ) → Path next prev a xs b → (get_or prev b 0 ≡ a) ⊎ (1 ≤ times (get_or prev b 0) xs)
+last_held next prev a [] b p = inl p.1
+last_held next prev a (y ∷ ys) b p =
+    inr (elim (last_held next prev y ys b p.2) [
+      | inl e ↦ subst (λ w. 1 ≤ times w (y ∷ ys)) (sym e) (let t = times_here y ys in omega (arith, t))
+      | inr q ↦ (let l = times_cons_le (get_or prev b 0) y ys in omega (arith, l, q))
+    ])

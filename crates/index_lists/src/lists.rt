@@ -1,7 +1,6 @@
 //! Lists of indices through arrays, linked both ways.
 ghost use Rattle.std.specs.Prelude.{
   ◌≡◌,
-  ℕ,
   ◌+◌,
   ◌-◌,
   ◌<◌,
@@ -9,7 +8,6 @@ ghost use Rattle.std.specs.Prelude.{
   ◌^◌,
   ◌∷◌,
   [],
-  List,
   length,
   replicate,
   slice_index,
@@ -20,11 +18,12 @@ ghost use Rattle.std.specs.Prelude.{
   None,
   Ok,
 };
-ghost use Rattle.std.specs.List.{range_with_len, last_or};
+ghost use Rattle.std.specs.List.{last_or};
 ghost use Rattle.common_lemmas.specs.Lists.{times, delete};
 ghost use Rattle.index_lists.specs.Lists.{list_at, after, before, with_list, IsAbsent};
-ghost use Rattle.index_lists.specs.inside.Links.{leads_to};
+ghost use Rattle.index_lists.specs.inside.Links.{number, with_link};
 
+use crate::links::Links;
 use std::alloc::{AllocError, Global};
 use std::marker::Model;
 
@@ -33,22 +32,22 @@ use std::marker::Model;
 pub struct IndexLists {
     indices: u32,
     // of each index in a list, and of each list behind the indices, the index after it
-    next: Vec<u32>,
+    next: Links,
     // and the index before it
-    prev: Vec<u32>,
+    prev: Links,
     lengths: Vec<u32>,
 }
 
 impl Model for IndexLists {
     ghost use Rattle.index_lists.specs.Lists.{Lists};
-    ghost use Rattle.index_lists.specs.inside.Links.{rings_from, IsConsistent};
+    ghost use Rattle.index_lists.specs.inside.Links.{rings_from, AreLinked};
 
     ghost Value = { Lists };
 
-    ghost view = { λ a. record { indices = a.indices; lists = rings_from a.indices a.next.items a.lengths.items } };
+    ghost view = { λ a. record { indices = a.indices; lists = rings_from a.indices a.next.links a.lengths.items } };
 
-    ghost invariant = { λ a. IsConsistent a.indices a.next.items a.prev.items a.lengths.items
-        (rings_from a.indices a.next.items a.lengths.items) };
+    ghost invariant = { λ a. AreLinked a.indices a.next a.prev a.lengths.items
+        (rings_from a.indices a.next.links a.lengths.items) };
 }
 
 impl IndexLists {
@@ -60,8 +59,8 @@ impl IndexLists {
         requires { indices + lists < 2 ^ 32 }
         ensures { IfOk result (λ made. made ≡ record { indices = indices; lists = replicate lists [] }) }
     {
-        let next = links_to_themselves(alloc, indices + lists)?;
-        let prev = links_to_themselves(alloc, indices + lists)?;
+        let next = Links::new(alloc, indices, lists)?;
+        let prev = Links::new(alloc, indices, lists)?;
         let lengths = zeros(alloc, lists)?;
         Ok(IndexLists {
             indices,
@@ -84,8 +83,7 @@ impl IndexLists {
         requires { list < length self.now.lists }
         ensures { result ≡ slice_get (list_at self.now list) 0 }
     {
-        let sentinel = self.indices + list;
-        neighbour(&self.next, sentinel, sentinel)
+        self.next.index_at(self.next.get(list), list)
     }
 
     /// The index at the back of the list.
@@ -93,8 +91,7 @@ impl IndexLists {
         requires { list < length self.now.lists }
         ensures { result ≡ last_or None (list_at self.now list) }
     {
-        let sentinel = self.indices + list;
-        neighbour(&self.prev, sentinel, sentinel)
+        self.prev.index_at(self.prev.get(list), list)
     }
 
     /// The index behind one that the list has, toward the back.
@@ -103,7 +100,8 @@ impl IndexLists {
         requires held { 1 ≤ times index (list_at self.now list) }
         ensures { result ≡ after index (list_at self.now list) }
     {
-        neighbour(&self.next, index, self.indices + list)
+        let place = self.next.place_of(index);
+        self.next.index_at(self.next.get(place), list)
     }
 
     /// The index before one that the list has, toward the front.
@@ -112,7 +110,8 @@ impl IndexLists {
         requires held { 1 ≤ times index (list_at self.now list) }
         ensures { result ≡ before index (list_at self.now list) }
     {
-        neighbour(&self.prev, index, self.indices + list)
+        let place = self.prev.place_of(index);
+        self.prev.index_at(self.prev.get(place), list)
     }
 
     /// Puts an index that is on no list in front of one.
@@ -122,10 +121,14 @@ impl IndexLists {
         requires absent { IsAbsent self.old index }
         ensures { self.new ≡ with_list self.old list (index ∷ list_at self.old list) }
     {
-        let sentinel = self.indices + list;
-        let first = self.next[sentinel as usize];
-        link(&mut self.next, &mut self.prev, index, first);
-        link(&mut self.next, &mut self.prev, sentinel, index);
+        self.next.reach(index + 1);
+        self.prev.reach(index + 1);
+        let place = self.next.place_of(index);
+        let first = self.next.get(list);
+        self.next.set(place, first);
+        self.prev.set(first, place);
+        self.next.set(list, place);
+        self.prev.set(place, list);
         self.lengths[list as usize] += 1;
     }
 
@@ -135,34 +138,23 @@ impl IndexLists {
         requires held { 1 ≤ times index (list_at self.old list) }
         ensures { self.new ≡ with_list self.old list (delete index (list_at self.old list)) }
     {
-        let after = self.next[index as usize];
-        let before = self.prev[index as usize];
+        let place = self.next.place_of(index);
+        let after = self.next.get(place);
+        let before = self.prev.get(place);
         link(&mut self.next, &mut self.prev, before, after);
         decrement(&mut self.lengths, list);
     }
 }
 
-/// Where the link of an index leads, and nowhere where that is its list's sentinel.
-fn neighbour(links: &Vec<u32>, index: u32, sentinel: u32) -> Option<u32>
-    requires { index < length links.now.items }
-    ensures { result ≡ leads_to sentinel (slice_index links.now.items index) }
+/// Lets one place come after another, both ways.
+fn link(next: &mut Links, prev: &mut Links, before: u32, after: u32)
+    requires before { before < next.old.lists + next.old.written }
+    requires after { after < prev.old.lists + prev.old.written }
+    ensures next { next.new ≡ with_link next.old (number next.old before) (number next.old after) }
+    ensures prev { prev.new ≡ with_link prev.old (number prev.old after) (number prev.old before) }
 {
-    let other = links[index as usize];
-    if other == sentinel {
-        return None;
-    }
-    Some(other)
-}
-
-/// Makes one index the one after another, both ways.
-fn link(next: &mut Vec<u32>, prev: &mut Vec<u32>, before: u32, after: u32)
-    requires before { before < length next.old.items }
-    requires after { after < length prev.old.items }
-    ensures next { next.new.items ≡ slice_set next.old.items before after }
-    ensures prev { prev.new.items ≡ slice_set prev.old.items after before }
-{
-    next[before as usize] = after;
-    prev[after as usize] = before;
+    next.set(before, after);
+    prev.set(after, before);
 }
 
 /// Counts one less.
@@ -172,17 +164,6 @@ fn decrement(lengths: &mut Vec<u32>, list: u32)
     ensures { lengths.new.items ≡ slice_set lengths.old.items list (slice_index lengths.old.items list - 1) }
 {
     lengths[list as usize] -= 1;
-}
-
-/// Links of which each leads to its own index.
-fn links_to_themselves(alloc: Global, len: u32) -> Result<Vec<u32>, AllocError>
-    ensures { IfOk result (λ links. links.items ≡ range_with_len 0 len) }
-{
-    let mut links = Vec::with_capacity(alloc, len as usize)?;
-    for index in 0..len {
-        links.push_reserved(index);
-    }
-    Ok(links)
 }
 
 fn zeros(alloc: Global, len: u32) -> Result<Vec<u32>, AllocError>

@@ -10,7 +10,7 @@ use Rattle.common_lemmas.proofs.Options.{some_or_none}
 use Rattle.small_pools.specs.inside.Tables.{Tables, class_at, first_of, mask_at, object_at, object_in, objects_of, list_of, stands_on, IsConsistent}
 use Rattle.small_pools.proofs.Maps.{get-map_below}
 
-all_alike : {A : Type 0} (n x : ℕ) (d : A) → get_or (replicate n d) x d ≡ d
+pub all_alike : {A : Type 0} (n x : ℕ) (d : A) → get_or (replicate n d) x d ≡ d
 all_alike zero x d = refl
 all_alike (suc n) zero d = refl
 all_alike (suc n) (suc x) d = all_alike n x d

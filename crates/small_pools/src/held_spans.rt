@@ -9,13 +9,9 @@ ghost use Rattle.std.specs.Prelude.{
   ◌≢◌,
   ◌^◌,
   ◌↔◌,
-  [],
-  List,
   length,
   slice_get,
   slice_index,
-  vec_len,
-  replicate,
   IfOk,
   IfSome,
   IfNone,
@@ -52,6 +48,7 @@ use crate::listing::{list_for, relist};
 use crate::masks::{all_free, least_free, occupied, released};
 use index_lists::IndexLists;
 use layout::PAGE;
+use lazy_table::LazyTable;
 use span_lists::Spans;
 use std::alloc::{AllocError, Global};
 use std::marker::Model;
@@ -61,11 +58,11 @@ use std::marker::Model;
 pub struct HeldSpans {
     pages: u32,
     // the class of each span that is held, at its first page
-    classes: Vec<Option<u8>>,
+    classes: LazyTable<Option<u8>>,
     // of each page of a span that is held, the span's first page
-    firsts: Vec<u32>,
+    firsts: LazyTable<u32>,
     // of each span, at its first page, the free slots
-    masks: Vec<u128>,
+    masks: LazyTable<u128>,
     // of each class the spans with a free slot
     lists: IndexLists,
 }
@@ -77,18 +74,23 @@ impl Model for HeldSpans {
 
     ghost coded = { objects_code };
 
-    ghost use Rattle.small_pools.specs.inside.Tables.{objects_of, IsConsistent};
+    ghost use Rattle.small_pools.specs.inside.Tables.{objects_of, IsConsistent, AreWritten};
 
     ghost view = { λ a. objects_of (record {
       pages = a.pages;
-      classes = a.classes.items;
-      firsts = a.firsts.items;
-      masks = a.masks.items;
+      classes = a.classes.entries;
+      firsts = a.firsts.entries;
+      masks = a.masks.entries;
       lists = a.lists;
     }) };
 
-    ghost invariant = { λ a. IsConsistent
-        (record { pages = a.pages; classes = a.classes.items; firsts = a.firsts.items; masks = a.masks.items; lists = a.lists }) };
+    ghost invariant = { λ a. IsConsistent (record {
+      pages = a.pages;
+      classes = a.classes.entries;
+      firsts = a.firsts.entries;
+      masks = a.masks.entries;
+      lists = a.lists;
+    }) × AreWritten a.classes.entries a.classes.written a.firsts.written a.masks.written };
 }
 
 impl HeldSpans {
@@ -103,9 +105,9 @@ impl HeldSpans {
         ensures none_allocated { IfOk result (λ pools. pools.allocated ≡ map.empty) }
         ensures objects { IfOk result AreObjects }
     {
-        let classes = no_classes(alloc, pages)?;
-        let firsts = zeros(alloc, pages)?;
-        let masks = no_masks(alloc, pages)?;
+        let classes = LazyTable::new(alloc, pages, None)?;
+        let firsts = LazyTable::new(alloc, pages, 0)?;
+        let masks = LazyTable::new(alloc, pages, 0)?;
         let lists = IndexLists::new(alloc, pages, CLASSES as u32)?;
         Ok(HeldSpans {
             pages,
@@ -163,8 +165,8 @@ impl HeldSpans {
         ensures pages { self.new.pages ≡ self.old.pages }
         ensures objects { AreObjects self.new }
     {
-        let first = self.firsts[(place / PAGE) as usize];
-        if let Some(class) = self.classes[first as usize] {
+        let first = self.firsts.get_written(place / PAGE);
+        if let Some(class) = self.classes.get_written(first) {
             let slot = (place - PAGE * first) / class_size(class);
             self.release(first, class, slot as u8);
         }
@@ -208,10 +210,13 @@ impl HeldSpans {
         ensures held { IfSome result (λ class. IsHeld self.now first class) }
         ensures unused { IfSome result (λ class. ¬ HasObject self.now first class) }
     {
-        let Some(class) = self.classes[first as usize] else {
+        let Some(class) = self.classes.get(first) else {
             return None;
         };
-        if !is_unused(self.masks[first as usize], all_free(class_capacity(class))) {
+        if !is_unused(
+            self.masks.get_written(first),
+            all_free(class_capacity(class)),
+        ) {
             return None;
         }
         Some(class)
@@ -270,10 +275,10 @@ impl HeldSpans {
         ensures has { HasObject self.new first class }
         ensures objects { AreObjects self.new }
     {
-        let before = self.masks[first as usize];
+        let before = self.masks.get_written(first);
         let slot = least_free(before);
         let mask = occupied(before, slot);
-        self.masks[first as usize] = mask;
+        self.masks.set_written(first, mask);
         relist(
             &mut self.lists,
             first,
@@ -290,8 +295,8 @@ impl HeldSpans {
         ensures moves { self.new ≡ record self.old { allocated = map.remove self.old.allocated (slot_place first class slot) } }
         ensures objects { AreObjects self.new }
     {
-        let before = self.masks[first as usize];
-        self.masks[first as usize] = released(before, slot);
+        let before = self.masks.get_written(first);
+        self.masks.set_written(first, released(before, slot));
         relist(
             &mut self.lists,
             first,
@@ -310,10 +315,15 @@ impl HeldSpans {
         ensures room { HasRoom self.new first class }
         ensures objects { AreObjects self.new }
     {
-        own(&mut self.firsts, first, 1 << class_order(class));
-        self.classes[first as usize] = Some(class);
-        self.masks[first as usize] = all_free(class_capacity(class));
         relist(&mut self.lists, first, None, Some(class as u32));
+        let end = span_end(first, class);
+        self.classes.reach(end);
+        self.firsts.reach(end);
+        self.masks.reach(end);
+        own(&mut self.firsts, first, end);
+        self.classes.set_written(first, Some(class));
+        self.masks
+            .set_written(first, all_free(class_capacity(class)));
     }
 
     /// Lets a span go that has no allocated object.
@@ -323,9 +333,9 @@ impl HeldSpans {
         ensures moves { self.new ≡ record self.old { held = map.remove self.old.held first } }
         ensures objects { AreObjects self.new }
     {
-        let mask = self.masks[first as usize];
+        let mask = self.masks.get_written(first);
         relist(&mut self.lists, first, list_for(class, mask), None);
-        self.classes[first as usize] = None;
+        self.classes.set_written(first, None);
     }
 }
 
@@ -344,38 +354,27 @@ fn is_unused(mask: u128, all: u128) -> bool
     mask == all
 }
 
-/// Makes a page the first one of so many.
-fn own(firsts: &mut Vec<u32>, first: u32, count: u32)
-    requires within { first + count ≤ vec_len firsts.old }
-    requires small { vec_len firsts.old ≤ most_pages }
-    ensures len { vec_len firsts.new ≡ vec_len firsts.old }
-    ensures mine { (page : ℕ) → first ≤ page → page < first + count → slice_index firsts.new.items page ≡ first }
-    ensures others { (page : ℕ) → (page < first) ⊎ (first + count ≤ page)
-        → slice_index firsts.new.items page ≡ slice_index firsts.old.items page }
+/// The page behind a span of the class.
+fn span_end(first: u32, class: u8) -> u32
+    requires class { class < 37 }
+    requires small { first + 2 ^ order_of class ≤ most_pages }
+    ensures { result ≡ first + 2 ^ order_of class }
 {
-    for page in first..first + count {
-        firsts[page as usize] = first;
+    first + (1 << class_order(class))
+}
+
+/// Makes a page the first one of those up to another.
+fn own(firsts: &mut LazyTable<u32>, first: u32, end: u32)
+    requires order { first ≤ end }
+    requires within { end ≤ length firsts.old.entries }
+    requires written { end ≤ firsts.old.written }
+    ensures written { firsts.new.written ≡ firsts.old.written }
+    ensures len { length firsts.new.entries ≡ length firsts.old.entries }
+    ensures mine { (page : ℕ) → first ≤ page → page < end → slice_index firsts.new.entries page ≡ first }
+    ensures others { (page : ℕ) → (page < first) ⊎ (end ≤ page)
+        → slice_index firsts.new.entries page ≡ slice_index firsts.old.entries page }
+{
+    for page in first..end {
+        firsts.set_written(page, first);
     }
-}
-
-fn no_classes(alloc: Global, pages: u32) -> Result<Vec<Option<u8>>, AllocError>
-    ensures { IfOk result (λ classes. classes.items ≡ replicate pages None) }
-{
-    let mut classes = Vec::with_capacity(alloc, pages as usize)?;
-    for _ in 0..pages {
-        classes.push(None)?;
-    }
-    Ok(classes)
-}
-
-fn zeros(alloc: Global, pages: u32) -> Result<Vec<u32>, AllocError>
-    ensures { IfOk result (λ firsts. firsts.items ≡ replicate pages 0) }
-{
-    vec![in alloc; 0; pages as usize]
-}
-
-fn no_masks(alloc: Global, pages: u32) -> Result<Vec<u128>, AllocError>
-    ensures { IfOk result (λ masks. masks.items ≡ replicate pages 0) }
-{
-    vec![in alloc; 0; pages as usize]
 }

@@ -45,7 +45,7 @@ inside_of (Free k) e = absurd (let clash : Some k ≡ None = e in cc)
 inside_of (Allocated k) e = absurd (let clash : Some k ≡ None = e in cc)
 
 -- no page is its own buddy
-buddy_apart : (x k : ℕ) → buddy x k ≢ x
+pub buddy_apart : (x k : ℕ) → buddy x k ≢ x
 buddy_apart x k e =
     let zero_is : 2 ^ k ≡ 0 = sym (xor_zero_l (2 ^ k)) ∙ ap (λ z. bit_xor z (2 ^ k)) (sym (xor_self x)) ∙ xor_assoc x x (2 ^ k) ∙ ap (λ z. bit_xor x z) e ∙ xor_self x in
     absurd (let pos = pow_pos k in omega (arith, pos, zero_is))
@@ -75,7 +75,7 @@ listed_remove lists states states' k b len small listed was none others j x h =
           ]))
     ]
 
-listed_push : (lists : List (List ℕ)) (states states' : List PageState) (k b : ℕ) → length lists ≡ 17 → k < 17 → IsListed lists states → state_at states' b ≡ Free k
+pub listed_push : (lists : List (List ℕ)) (states states' : List PageState) (k b : ℕ) → length lists ≡ 17 → k < 17 → IsListed lists states → state_at states' b ≡ Free k
     → ((j : ℕ) → mark j (state_at states b) ≡ 0) → ((z j : ℕ) → z ≢ b → mark j (state_at states' z) ≡ mark j (state_at states z))
     → IsListed (set lists k (b ∷ get_or lists k [])) states'
 listed_push lists states states' k b len small listed now none others j x h =

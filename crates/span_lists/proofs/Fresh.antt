@@ -1,158 +1,156 @@
--- Pages that are all allocated, segment by segment.
-use Rattle.std.proofs.Common.{◌≡◌, ◌≢◌, ℕ, zero, suc, ◌+◌, ◌-◌, ◌*◌, ◌/◌, ◌%◌, ◌^◌, ◌<◌, ◌≤◌, inl, inr, List, [], ◌++◌, length, get_or, replicate, Some, None, refl, sym, ap, subst, ◌∙◌, arith}
-use Rattle.std.proofs.Math.ListN.{get_or-append, length-append}
-use Rattle.std.proofs.lemmas.List.{get_or_past, get_or-append_right, append_assoc, append-nil, length-replicate}
-use Rattle.std.proofs.lemmas.List.Sums.{sum_by-append}
+-- Pages that are cut into free spans, the greatest first.
+use Rattle.std.proofs.Common.{◌≡◌, ◌≢◌, ℕ, zero, suc, ◌+◌, ◌%◌, ◌^◌, ◌<◌, ◌≤◌, inl, inr, Option, List, [], ◌∷◌, length, get_or, set, replicate, Some, None, refl, sym, ap, subst, ◌∙◌, arith, zero-add}
+use Rattle.std.proofs.Math.ListN.{length-set}
+use Rattle.std.proofs.lemmas.List.{length-replicate}
+use Rattle.std.proofs.lemmas.List.Sums.{sum_by-cons}
 use Rattle.std.proofs.lemmas.Bool.{cases_eq}
+use Rattle.std.proofs.lemmas.Nat.{pow_pos}
 use Rattle.std.specs.FinMap as map
-use Rattle.std.specs.List.{repeat}
 use Rattle.std.specs.Prelude.{sum_by}
-use Rattle.index_lists.specs.Lists.{Lists}
+use Rattle.index_lists.specs.Lists.{Lists, list_at, with_list}
 use Rattle.common_lemmas.proofs.Orders.{lt_or_ge}
+use Rattle.common_lemmas.proofs.Options.{some_is}
 use Rattle.common_lemmas.specs.Lists.{times}
 use Rattle.span_lists.specs.declared.spans.PageState.{PageState}
 use Rattle.span_lists.specs.declared.spans.PageState.TheVariants.{Inside, Free, Allocated}
-use Rattle.span_lists.specs.inside.Pages.{order_of, allocated_order_of, mark, allocated_pages_of, state_at, segment_states, IsSpanAt, IsConsistent, allocated_of}
-use Rattle.span_lists.proofs.Consistent.{pages_from-replicate}
-use Rattle.span_lists.proofs.AllocatedSpans.{get-allocated_of}
-use Rattle.common_lemmas.proofs.Options.{some_is}
+use Rattle.span_lists.specs.inside.Pages.{order_of, allocated_order_of, mark, allocated_pages_of, state_at, IsSpanAt, IsCut, IsConsistent, IsBegun, allocated_of}
+use Rattle.span_lists.specs.Buddies.{buddy}
+use Rattle.span_lists.proofs.Consistent.{pages_from-replicate, pages_from-more, listed_push, buddy_apart}
+use Rattle.span_lists.proofs.AllocatedSpans.{get-allocated_of, state_same, state_other}
 
--- ---- one segment
+-- ---- no page is cut yet
 
-all_inside : (m y : ℕ) → get_or (replicate m Inside) y Inside ≡ Inside
-all_inside zero y = refl
+all_inside : (m x : ℕ) → state_at (replicate m Inside) x ≡ Inside
+all_inside zero x = refl
 all_inside (suc m) zero = refl
-all_inside (suc m) (suc y) = all_inside m y
-
-segment_length : length segment_states ≡ 32
-unfolding segment_states
-segment_length = refl
-
-segment_sum : sum_by allocated_pages_of segment_states ≡ 32
-unfolding segment_states
-segment_sum = refl
-
-segment_first : (x : ℕ) → x ≡ 0 → state_at segment_states x ≡ Allocated 5
-unfolding segment_states
-segment_first zero e = refl
-segment_first (suc y) e = absurd (omega arith)
-
-segment_later : (x : ℕ) → x ≢ 0 → state_at segment_states x ≡ Inside
-unfolding segment_states
-segment_later zero n = absurd (n refl)
-segment_later (suc y) n = all_inside 31 y
-
--- ---- so many segments
-
-more : (n : ℕ) (xs : List PageState) → repeat n xs ++ xs ≡ repeat (suc n) xs
-more zero xs = sym (append-nil xs)
-more (suc n) xs = append_assoc xs (repeat n xs) xs ∙ ap (λ l. xs ++ l) (more n xs)
-
-pub segments_more : (n : ℕ) (xs : List PageState) → repeat n xs ++ xs ≡ repeat (n + 1) xs
-segments_more n xs = (let e : suc n ≡ n + 1 = omega arith in more n xs ∙ ap (λ k. repeat k xs) e)
-
-segments_length : (n : ℕ) → length (repeat n segment_states) ≡ n * 32
-segments_length zero = refl
-segments_length (suc n) = (let l = length-append segment_states (repeat n segment_states) in let one = segment_length in let rest = segments_length n in omega (arith, l, one, rest))
-
-segments_sum : (n : ℕ) → sum_by allocated_pages_of (repeat n segment_states) ≡ n * 32
-segments_sum zero = refl
-segments_sum (suc n) = (let s = sum_by-append allocated_pages_of segment_states (repeat n segment_states) in let one = segment_sum in let rest = segments_sum n in omega (arith, s, one, rest))
-
-state_low : (n x : ℕ) → x < 32 → state_at (repeat (suc n) segment_states) x ≡ state_at segment_states x
-state_low n x h = get_or-append segment_states (repeat n segment_states) Inside x (let l = segment_length in omega (arith, l))
-
-state_high : (n x : ℕ) → 32 ≤ x → state_at (repeat (suc n) segment_states) x ≡ state_at (repeat n segment_states) (x - 32)
-state_high n x h = get_or-append_right segment_states (repeat n segment_states) 32 x Inside segment_length h
-
-state_first : (n x : ℕ) → x % 32 ≡ 0 → x < n * 32 → state_at (repeat n segment_states) x ≡ Allocated 5
-state_first zero x e h = absurd (omega arith)
-state_first (suc n) x e h = elim (lt_or_ge x 32) [
-  | inl l ↦ state_low n x l ∙ segment_first x (omega arith)
-  | inr g ↦ state_high n x g ∙ state_first n (x - 32) (omega arith) (omega arith)
-]
-
-state_later : (n x : ℕ) → x % 32 ≢ 0 → state_at (repeat n segment_states) x ≡ Inside
-state_later zero x d = refl
-state_later (suc n) x d = elim (lt_or_ge x 32) [
-  | inl l ↦ state_low n x l ∙ segment_later x (λ e. d (omega arith))
-  | inr g ↦ state_high n x g ∙ state_later n (x - 32) (λ e. d (omega arith))
-]
-
-state_beyond : (n x : ℕ) → n * 32 ≤ x → state_at (repeat n segment_states) x ≡ Inside
-state_beyond n x h = get_or_past (repeat n segment_states) x Inside (let l = segments_length n in omega (arith, l))
-
--- where a span begins, it is a segment
-state_some : (n x k : ℕ) → order_of (state_at (repeat n segment_states) x) ≡ Some k → (x % 32 ≡ 0) × (x < n * 32) × (5 ≡ k)
-state_some n x k e = elim (cases_eq (x % 32) 0) [
-  | inl z ↦ elim (lt_or_ge x (n * 32)) [
-    | inl l ↦ (z, l, some_is (ap order_of (state_first n x z l)) e)
-    | inr g ↦ absurd (let clash : None ≡ Some k = sym (ap order_of (state_beyond n x g)) ∙ e in cc)
-  ]
-  | inr d ↦ absurd (let clash : None ≡ Some k = sym (ap order_of (state_later n x d)) ∙ e in cc)
-]
-
-no_mark : (n x k : ℕ) → mark k (state_at (repeat n segment_states) x) ≡ 0
-no_mark n x k = elim (cases_eq (x % 32) 0) [
-  | inl z ↦ elim (lt_or_ge x (n * 32)) [ inl l ↦ ap (mark k) (state_first n x z l) | inr g ↦ ap (mark k) (state_beyond n x g) ]
-  | inr d ↦ ap (mark k) (state_later n x d)
-]
-
-not_free : (n x k : ℕ) → state_at (repeat n segment_states) x ≢ Free k
-not_free n x k e = elim (cases_eq (x % 32) 0) [
-  | inl z ↦ elim (lt_or_ge x (n * 32)) [
-    | inl l ↦ (let clash : Allocated 5 ≡ Free k = sym (state_first n x z l) ∙ e in cc)
-    | inr g ↦ (let clash : Inside ≡ Free k = sym (state_beyond n x g) ∙ e in cc)
-  ]
-  | inr d ↦ (let clash : Inside ≡ Free k = sym (state_later n x d) ∙ e in cc)
-]
+all_inside (suc m) (suc x) = all_inside m x
 
 no_list : (m k : ℕ) → get_or (replicate {A = List ℕ} m []) k [] ≡ []
 no_list zero k = refl
 no_list (suc m) zero = refl
 no_list (suc m) (suc k) = no_list m k
 
-consistent_segments : (pages n : ℕ) → n * 32 ≡ pages → pages ≤ 65536 → IsConsistent pages (repeat n segment_states) (record { indices = pages; lists = replicate 17 [] }) 0
-consistent_segments pages n whole small =
-    let long : 2 ^ 5 ≡ 32 = refl in
+begun : (pages : ℕ) → IsBegun pages 0 17 (replicate pages Inside) (record { indices = pages; lists = replicate 17 [] })
+begun pages = record {
+  states_len = length-replicate {A = PageState} pages Inside;
+  indices = refl;
+  orders = length-replicate {A = List ℕ} 17 [];
+  cut = record {
+    spans = λ x k e. absurd (let clash : None ≡ Some k = sym (ap order_of (all_inside pages x)) ∙ e in cc);
+    covered = λ x l. absurd (omega arith);
+  };
+  beyond = λ x l. all_inside pages x;
+  least_order = λ x k e. absurd (let clash : Inside ≡ Free k = sym (all_inside pages x) ∙ e in cc);
+  one = λ x y k e d. absurd (let clash : Inside ≡ Free k = sym (all_inside pages x) ∙ e in cc);
+  none_allocated = λ x. ap allocated_order_of (all_inside pages x);
+  listed = λ k x l. ap (times x) (no_list 17 k) ∙ sym (ap (mark k) (all_inside pages x));
+  count = sym (pages_from-replicate 0 17);
+}
+
+pub begun_with_none : (pages : ℕ) (states : List PageState) (lists : Lists) → states ≡ replicate pages Inside → lists ≡ record { indices = pages; lists = replicate 17 [] } → IsBegun pages 0 17 states lists
+begun_with_none pages states lists es el =
+    subst (λ s. IsBegun pages 0 17 s lists) (sym es) (subst (λ l. IsBegun pages 0 17 (replicate pages Inside) l) (sym el) (begun pages))
+
+-- ---- one more span
+
+-- a span begins where the spans before it end
+cut_more : (end k : ℕ) (at at' : ℕ → Option ℕ) → IsCut end at → k ≤ 16 → end % 2 ^ k ≡ 0 → ((x : ℕ) → end ≤ x → at x ≡ None) → at' end ≡ Some k → ((x : ℕ) → x ≢ end → at' x ≡ at x) → IsCut (end + 2 ^ k) at'
+cut_more end k at at' h small aligned beyond here others = record {
+  spans = λ x j e. elim (cases_eq x end) [
+    | inl q ↦
+        (let made : IsSpanAt (end + 2 ^ k) at' end k = record { order = small; aligned = aligned; within = omega arith; alone = λ i l u. others i (λ z. absurd (omega arith)) ∙ beyond i (omega arith) } in
+        subst (λ z. IsSpanAt (end + 2 ^ k) at' z j) (sym q) (subst (λ z. IsSpanAt (end + 2 ^ k) at' end z) (some_is here (ap at' (sym q) ∙ e)) made))
+    | inr n ↦
+        (let s = h.spans x j (sym (others x n) ∙ e) in let w = s.within in
+        record { order = s.order; aligned = s.aligned; within = omega arith; alone = λ i l u. others i (λ z. absurd (omega arith)) ∙ s.alone i l u })
+  ];
+  covered = λ x l. elim (lt_or_ge x end) [
+    | inl below ↦ (let c = h.covered x below in let low = c.3 in (c.0, c.1, others c.0 (λ z. absurd (omega (arith, low, z, below))) ∙ c.2, c.3, c.4))
+    | inr g ↦ (end, k, here, g, l)
+  ];
+}
+
+pub begun_more : (pages first least k : ℕ) (states : List PageState) (lists : Lists) → IsBegun pages first least states lists → k < least → least ≤ 17 → first % 2 ^ k ≡ 0 → first < pages
+    → IsBegun pages (first + 2 ^ k) k (set states first (Free k)) (with_list lists k (first ∷ list_at lists k))
+begun_more pages first least k states lists h less most aligned within =
+    let n = h.states_len in let o = h.orders in
+    let inside : first < length states = omega (arith, n, within) in
+    let states' = set states first (Free k) in
+    let was : state_at states first ≡ Inside = h.beyond first (omega arith) in
+    let now : state_at states' first ≡ Free k = state_same states first first (Free k) inside refl in
+    let others : (y : ℕ) → y ≢ first → state_at states' y ≡ state_at states y = λ y d. state_other states first y (Free k) d in
+    let order_is : (y j : ℕ) → y ≡ first → state_at states' y ≡ Free j → k ≡ j = (λ y j q e. some_is (ap order_of (ap (state_at states') q ∙ now)) (ap order_of e)) in
+    let at : 2 ^ (0 + k) ≡ 2 ^ k = ap (λ z. 2 ^ z) (zero-add k) in
+    let more = pages_from-more 0 lists.lists k (first ∷ list_at lists k) (omega (arith, o, less, most)) (omega arith) in
+    let c = h.count in
     record {
-      small = small;
-      states_len = segments_length n ∙ whole;
-      indices = refl;
-      orders = length-replicate {A = List ℕ} 17 [];
-      cut = record {
-        spans = λ x k e. (let o = state_some n x k e in let z = o.0 in let l = o.1 in
-            subst (λ j. IsSpanAt pages (λ y. order_of (state_at (repeat n segment_states) y)) x j) o.2
-            (record { order = omega arith; aligned = aligned x z; within = omega (arith, long); alone = λ i low high. ap order_of (state_later n i (λ w. absurd (omega (arith, long)))) }));
-        covered = λ x l. (x / 32 * 32, 5, ap order_of (state_first n (x / 32 * 32) (omega arith) (omega arith)), omega arith, omega (arith, long));
-      };
-      listed = λ k x h. ap (times x) (no_list 17 k) ∙ sym (no_mark n x k);
-      coalesced = λ x k h e. absurd (not_free n x k e);
-      count = sym (pages_from-replicate 0 17);
-      total = (let s = segments_sum n in omega (arith, s));
+      states_len = length-set states first (Free k) ∙ h.states_len;
+      indices = h.indices;
+      orders = length-set lists.lists k _ ∙ h.orders;
+      cut = cut_more first k (λ x. order_of (state_at states x)) (λ x. order_of (state_at states' x)) h.cut (omega arith) aligned (λ x l. ap order_of (h.beyond x l)) (ap order_of now) (λ x d. ap order_of (others x d));
+      beyond = λ x l. (let pos = pow_pos k in others x (λ z. absurd (omega (arith, pos, l, z))) ∙ h.beyond x (omega arith));
+      least_order = λ x j e. elim (cases_eq x first) [
+        | inl q ↦ (let s = order_is x j q e in omega (arith, s))
+        | inr d ↦ (let low = h.least_order x j (sym (others x d) ∙ e) in omega (arith, low, less))
+      ];
+      one = λ x y j e d. elim (cases_eq x first) [
+        | inl qx ↦ elim (cases_eq y first) [
+          | inl qy ↦ qx ∙ sym qy
+          | inr ny ↦ absurd (let s = order_is x j qx e in let low = h.least_order y j (sym (others y ny) ∙ d) in omega (arith, s, low, less))
+        ]
+        | inr nx ↦ elim (cases_eq y first) [
+          | inl qy ↦ absurd (let s = order_is y j qy d in let low = h.least_order x j (sym (others x nx) ∙ e) in omega (arith, s, low, less))
+          | inr ny ↦ h.one x y j (sym (others x nx) ∙ e) (sym (others y ny) ∙ d)
+        ]
+      ];
+      none_allocated = λ x. elim (cases_eq x first) [
+        | inl q ↦ ap (λ z. allocated_order_of (state_at states' z)) q ∙ ap allocated_order_of now
+        | inr d ↦ ap allocated_order_of (others x d) ∙ h.none_allocated x
+      ];
+      listed = listed_push lists.lists states states' k first h.orders (omega arith) h.listed now (λ j. ap (mark j) was) (λ z j d. ap (mark j) (others z d));
+      count = omega (arith, c, more, at);
     }
-  where
-    aligned : (x : ℕ) → x % 32 ≡ 0 → x % 2 ^ 5 ≡ 0
-    aligned x z = z
 
--- ---- what the first function needs
+-- no span of an order begins
+pub begun_less : (pages first least less : ℕ) (states : List PageState) (lists : Lists) → IsBegun pages first least states lists → less ≤ least → IsBegun pages first less states lists
+begun_less pages first least less states lists h low = record {
+  states_len = h.states_len;
+  indices = h.indices;
+  orders = h.orders;
+  cut = h.cut;
+  beyond = h.beyond;
+  least_order = λ x k e. (let held = h.least_order x k e in omega (arith, held, low));
+  one = h.one;
+  none_allocated = h.none_allocated;
+  listed = h.listed;
+  count = h.count;
+}
 
-whole_segments : (pages : ℕ) → pages % 32 ≡ 0 → pages / 32 * 32 ≡ pages
-whole_segments pages whole = omega arith
+-- no list has a page at which no span begins
+pub absent_behind : (pages first least : ℕ) (states : List PageState) (lists : Lists) → IsBegun pages first least states lists → (k : ℕ) → k < length lists.lists → times first (list_at lists k) ≡ 0
+absent_behind pages first least states lists h k l = (let o = h.orders in h.listed k first (omega (arith, o, l))) ∙ ap (mark k) (h.beyond first (omega arith))
 
-pub consistent_new : (pages : ℕ) (states : List PageState) (lists : Lists) → pages % 32 ≡ 0 → pages ≤ 65536 → states ≡ repeat (pages / 32) segment_states → lists ≡ record { indices = pages; lists = replicate 17 [] } → IsConsistent pages states lists 0
-consistent_new pages states lists whole small es el =
-    subst (λ s. IsConsistent pages s lists 0) (sym es)
-    (subst (λ l. IsConsistent pages (repeat (pages / 32) segment_states) l 0) (sym el) (consistent_segments pages (pages / 32) (whole_segments pages whole) small))
+-- ---- all pages are cut
 
-state_of : (states : List PageState) (n x : ℕ) (v : PageState) → states ≡ repeat n segment_states → state_at (repeat n segment_states) x ≡ v → map.get (allocated_of states) x ≡ allocated_order_of v
-state_of states n x v e is = get-allocated_of states x ∙ ap (λ s. allocated_order_of (state_at s x)) e ∙ ap allocated_order_of is
+none_counted : (states : List PageState) → ((x : ℕ) → allocated_order_of (state_at states x) ≡ None) → sum_by allocated_pages_of states ≡ 0
+none_counted [] none = refl
+none_counted (Inside ∷ states) none = (let one = sum_by-cons allocated_pages_of Inside states in let rest = none_counted states (λ x. none (suc x)) in omega (arith, one, rest))
+none_counted (Free k ∷ states) none = (let one = sum_by-cons allocated_pages_of (Free k) states in let rest = none_counted states (λ x. none (suc x)) in omega (arith, one, rest))
+none_counted (Allocated k ∷ states) none = absurd (let clash : Some k ≡ None = none 0 in cc)
 
-pub each_allocated : (pages : ℕ) (states : List PageState) → pages % 32 ≡ 0 → states ≡ repeat (pages / 32) segment_states → (x : ℕ) → x < pages → x % 32 ≡ 0 → map.get (allocated_of states) x ≡ Some 5
-each_allocated pages states whole e x h z = state_of states (pages / 32) x (Allocated 5) e (state_first (pages / 32) x z (let w = whole_segments pages whole in omega (arith, w)))
+pub consistent_begun : (pages first least : ℕ) (states : List PageState) (lists : Lists) → IsBegun pages first least states lists → first ≡ pages → pages ≤ 65536 → IsConsistent pages states lists pages
+consistent_begun pages first least states lists h all small = record {
+  small = small;
+  states_len = h.states_len;
+  indices = h.indices;
+  orders = h.orders;
+  cut = subst (λ n. IsCut n (λ x. order_of (state_at states x))) all h.cut;
+  listed = h.listed;
+  coalesced = λ x k l e d. buddy_apart x k (sym (h.one x (buddy x k) k e d));
+  count = sym all ∙ h.count;
+  total = (let none = none_counted states h.none_allocated in omega (arith, none));
+}
 
-pub none_inside : (pages : ℕ) (states : List PageState) → states ≡ repeat (pages / 32) segment_states → (x : ℕ) → x % 32 ≢ 0 → map.get (allocated_of states) x ≡ None
-none_inside pages states e x d = state_of states (pages / 32) x Inside e (state_later (pages / 32) x d)
-
-pub none_beyond : (pages : ℕ) (states : List PageState) → states ≡ repeat (pages / 32) segment_states → (x : ℕ) → pages ≤ x → map.get (allocated_of states) x ≡ None
-none_beyond pages states e x h = state_of states (pages / 32) x Inside e (state_beyond (pages / 32) x (omega arith))
+-- no span is allocated
+pub map_of_none : (states : List PageState) → ((x : ℕ) → allocated_order_of (state_at states x) ≡ None) → (x : ℕ) → map.get (allocated_of states) x ≡ None
+map_of_none states none x = get-allocated_of states x ∙ none x

@@ -1,5 +1,5 @@
 -- How a request and a return go from one step to the next.
-use Rattle.std.proofs.Common.{◌≡◌, ◌≢◌, ℕ, ◌+◌, ◌*◌, ◌/◌, ◌%◌, ◌^◌, ◌<◌, ◌≤◌, ◌⊎◌, inl, inr, List, [], ◌∷◌, length, get_or, set, min, slice_get, Some, None, refl, sym, ap, subst, ◌∙◌, arith, get_or-set_other, get_or-set_same}
+use Rattle.std.proofs.Common.{◌≡◌, ◌≢◌, ℕ, ◌+◌, ◌^◌, ◌<◌, ◌≤◌, ◌⊎◌, inl, inr, List, [], ◌∷◌, length, get_or, set, min, slice_get, Some, None, refl, sym, ap, subst, ◌∙◌, arith, get_or-set_other, get_or-set_same}
 use Rattle.std.proofs.lemmas.Bool.{cases_eq}
 use Rattle.std.proofs.lemmas.Nat.{pow_pos}
 use Rattle.std.specs.Ordering.{nat_cmp}
@@ -12,7 +12,7 @@ use Rattle.span_lists.specs.Layout.{Layout, free_at, IsFree, IsAllocated, Divide
 use Rattle.span_lists.specs.inside.Steps.{IsSplitTo, IsCoalescedTo}
 use Rattle.common_lemmas.proofs.Powers.{start_is, start_of_start}
 use Rattle.span_lists.proofs.Halves.{buddy_ends}
-use Rattle.common_lemmas.proofs.Maps.{maps_same, get_inserted, get_past_insert, get_removed, get_past_remove, remove-insert, insert-remove}
+use Rattle.common_lemmas.proofs.Maps.{maps_same, get_inserted, get_past_insert, get_removed, remove-insert, insert-remove}
 
 -- ---- lists and maps that are written
 
@@ -195,35 +195,6 @@ orders_after old new first order k h none =
     (omega (arith, low, past), λ j from within. sym (h.upper j (omega (arith, past, from))) ∙ none j from within)
 
 -- ---- the first state
-
--- the segments below one are given back, and each other one is allocated
-pub record IsPutTo (s : Layout) (pages segment : ℕ) : Type 0 where
-  pub same : s.pages ≡ pages
-  pub given : (x : ℕ) → x < segment * 32 → map.get s.allocated x ≡ None
-  pub rest : (x : ℕ) → segment * 32 ≤ x → x < pages → x % 32 ≡ 0 → map.get s.allocated x ≡ Some 5
-  pub inside : (x : ℕ) → x % 32 ≢ 0 → map.get s.allocated x ≡ None
-  pub beyond : (x : ℕ) → pages ≤ x → map.get s.allocated x ≡ None
-  pub divided : Divides s
-  pub coalesced : IsCoalesced s
-
-pub put_more : (old new : Layout) (pages segment : ℕ) → IsPutTo old pages segment → segment < pages / 32 → new.allocated ≡ map.remove old.allocated (segment * 32) → new.pages ≡ old.pages → Divides new → IsCoalesced new → IsPutTo new pages (segment + 1)
-put_more old new pages segment h within e same divided coalesced = record {
-  same = same ∙ h.same;
-  given = λ x l. ap (λ m. map.get m x) e ∙
-      (elim (cases_eq x (segment * 32)) [
-        | inl here ↦ get_removed old.allocated (segment * 32) x here
-        | inr n ↦ get_past_remove old.allocated (segment * 32) x n ∙
-            (elim (lt_or_ge x (segment * 32)) [ inl below ↦ h.given x below | inr g ↦ h.inside x (λ z. absurd (omega arith)) ])
-      ]);
-  rest = λ x l u z. ap (λ m. map.get m x) e ∙ get_past_remove old.allocated (segment * 32) x (λ q. absurd (omega arith)) ∙ h.rest x (omega arith) u z;
-  inside = λ x d. ap (λ m. map.get m x) e ∙ get_past_remove old.allocated (segment * 32) x (λ q. d (omega arith)) ∙ h.inside x d;
-  beyond = λ x l. ap (λ m. map.get m x) e ∙ get_past_remove old.allocated (segment * 32) x (λ q. absurd (omega arith)) ∙ h.beyond x l;
-  divided = divided;
-  coalesced = coalesced;
-}
-
-pub none_left : (s : Layout) (pages : ℕ) → pages % 32 ≡ 0 → IsPutTo s pages (pages / 32) → (x : ℕ) → map.get s.allocated x ≡ None
-none_left s pages whole h x = elim (lt_or_ge x pages) [ inl l ↦ h.given x (omega arith) | inr g ↦ h.beyond x g ]
 
 pub empty_allocated : (s : Layout) → ((x : ℕ) → map.get s.allocated x ≡ None) → s.allocated ≡ map.empty
 empty_allocated s none = maps_same _ _ (λ q. none q ∙ sym (map.get-empty nat_cmp q))

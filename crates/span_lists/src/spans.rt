@@ -1,10 +1,8 @@
 //! The pages of one shard, in spans.
-ghost use Rattle.std.specs.Prelude.{◌≡◌, ◌≢◌, ℕ, ◌+◌, ◌-◌, ◌*◌, ◌%◌, ◌<◌, ◌≤◌, ◌^◌, ◌↔◌, ◌∷◌};
+ghost use Rattle.std.specs.Prelude.{◌≡◌, ℕ, ◌+◌, ◌-◌, ◌%◌, ◌<◌, ◌≤◌, ◌^◌, ◌↔◌, ◌∷◌};
 ghost use Rattle.std.specs.Prelude.{slice_set, IfOk, IfSome, IfNone, IsNone, IsTrue, Some, None, min};
 ghost use Rattle.std.specs.FinMap as map;
-ghost use Rattle.std.specs.List.{repeat};
 ghost use Rattle.common_lemmas.specs.Lists.{delete};
-ghost use Rattle.layout.specs.Sizes.{segment_pages, segment_order};
 ghost use Rattle.span_lists.specs.Buddies.{buddy};
 ghost use Rattle.span_lists.specs.Layout.{
   Layout,
@@ -24,11 +22,11 @@ ghost use Rattle.span_lists.specs.Layout.{
   IsGreatest,
   IsBlocked,
 };
-ghost use Rattle.span_lists.specs.inside.Pages.{segment_states};
+ghost use Rattle.span_lists.specs.inside.Pages.{allocated_order_of, state_at, IsConsistent, IsBegun};
 ghost use Rattle.span_lists.specs.inside.Steps.{IsSplitTo, IsCoalescedTo};
 
 use index_lists::IndexLists;
-use layout::{SEGMENT_ORDER, SEGMENT_PAGES};
+use lazy_table::LazyTable;
 use std::alloc::{AllocError, Global};
 use std::marker::Model;
 
@@ -47,7 +45,7 @@ pub enum PageState {
 #[derive(Drop)]
 pub struct Spans {
     pages: u32,
-    states: Vec<PageState>,
+    states: LazyTable<PageState>,
     lists: IndexLists,
     free: u32,
 }
@@ -61,9 +59,9 @@ impl Model for Spans {
 
     ghost use Rattle.span_lists.specs.inside.Pages.{allocated_of, IsConsistent};
 
-    ghost view = { λ a. record { pages = a.pages; free = a.lists.lists; allocated = allocated_of a.states.items } };
+    ghost view = { λ a. record { pages = a.pages; free = a.lists.lists; allocated = allocated_of a.states.entries } };
 
-    ghost invariant = { λ a. IsConsistent a.pages a.states.items a.lists a.free };
+    ghost invariant = { λ a. IsConsistent a.pages a.states.entries a.lists a.free };
 }
 
 impl Spans {
@@ -82,11 +80,15 @@ impl Spans {
         ensures divided { IfOk result Divides }
         ensures coalesced { IfOk result IsCoalesced }
     {
-        let mut spans = Spans::all_allocated(alloc, pages)?;
-        for segment in 0..pages / SEGMENT_PAGES {
-            spans.put(segment * SEGMENT_PAGES, SEGMENT_ORDER);
-        }
-        Ok(spans)
+        let mut states = LazyTable::new(alloc, pages, PageState::Inside)?;
+        let mut lists = IndexLists::new(alloc, pages, GREATEST_ORDER as u32 + 1)?;
+        cut(&mut states, &mut lists, pages);
+        Ok(Spans {
+            pages,
+            states,
+            lists,
+            free: pages,
+        })
     }
 
     /// What holds of the spans at each time.
@@ -166,28 +168,6 @@ impl Spans {
         self.free
     }
 
-    /// The pages, cut into segments, each of which is an allocated span.
-    fn all_allocated(alloc: Global, pages: u32) -> Result<Spans, AllocError>
-        requires whole { pages % segment_pages ≡ 0 }
-        requires most { pages ≤ 65536 }
-        ensures pages { IfOk result (λ spans. spans.pages ≡ pages) }
-        ensures each { IfOk result (λ spans. (page : ℕ) → page < pages → page % segment_pages ≡ 0
-            → map.get spans.allocated page ≡ Some segment_order) }
-        ensures inside { IfOk result (λ spans. (page : ℕ) → page % segment_pages ≢ 0 → map.get spans.allocated page ≡ None) }
-        ensures beyond { IfOk result (λ spans. (page : ℕ) → pages ≤ page → map.get spans.allocated page ≡ None) }
-        ensures divided { IfOk result Divides }
-        ensures coalesced { IfOk result IsCoalesced }
-    {
-        let states = segments(alloc, pages / SEGMENT_PAGES)?;
-        let lists = IndexLists::new(alloc, pages, GREATEST_ORDER as u32 + 1)?;
-        Ok(Spans {
-            pages,
-            states,
-            lists,
-            free: 0,
-        })
-    }
-
     /// Allocates a free span as it is.
     fn allocate(&mut self, first: u32, order: u8)
         requires order { order < 17 }
@@ -201,7 +181,7 @@ impl Spans {
         ensures coalesced { IsCoalesced self.new }
     {
         self.lists.remove(order as u32, first);
-        self.states[first as usize] = PageState::Allocated(order);
+        self.states.set(first, PageState::Allocated(order));
         self.free -= span_pages(order);
     }
 
@@ -218,7 +198,7 @@ impl Spans {
         ensures coalesced { IsCoalesced self.new }
     {
         self.lists.push_front(order as u32, first);
-        self.states[first as usize] = PageState::Free(order);
+        self.states.set(first, PageState::Free(order));
         self.free += span_pages(order);
     }
 
@@ -235,8 +215,8 @@ impl Spans {
         self.facts();
         let upper = first + span_pages(order);
         self.lists.push_front(order as u32, upper);
-        self.states[first as usize] = PageState::Allocated(order);
-        self.states[upper as usize] = PageState::Free(order);
+        self.states.set(first, PageState::Allocated(order));
+        self.states.set(upper, PageState::Free(order));
         self.free += span_pages(order);
     }
 
@@ -255,8 +235,8 @@ impl Spans {
         let other = buddy_of(first, order);
         let lower = first.min(other);
         let upper = first.max(other);
-        self.states[upper as usize] = PageState::Inside;
-        self.states[lower as usize] = PageState::Allocated(order + 1);
+        self.states.set(upper, PageState::Inside);
+        self.states.set(lower, PageState::Allocated(order + 1));
         lower
     }
 
@@ -291,7 +271,7 @@ impl Spans {
             return false;
         }
         let other = buddy_of(first, order);
-        other < self.pages && self.states[other as usize] == PageState::Free(order)
+        other < self.pages && self.states.get(other) == PageState::Free(order)
     }
 
     /// The span that a request for the order is cut from, and its order.
@@ -360,25 +340,23 @@ fn buddy_of(first: u32, order: u8) -> u32
     first ^ span_pages(order)
 }
 
-/// The states of the pages of so many segments that are allocated spans.
-fn segments(alloc: Global, count: u32) -> Result<Vec<PageState>, AllocError>
-    requires { count * segment_pages ≤ 65536 }
-    ensures { IfOk result (λ states. states.items ≡ repeat count segment_states) }
+/// Cuts so many pages into the greatest aligned spans that fit, from page 0 on, all of which are free.
+///
+/// Each has as many pages as one of the binary digits of their number stands for, the highest first.
+fn cut(states: &mut LazyTable<PageState>, lists: &mut IndexLists, pages: u32)
+    requires most { pages ≤ 65536 }
+    requires none { IsBegun pages 0 17 states.old.entries lists.old }
+    ensures consistent { IsConsistent pages states.new.entries lists.new pages }
+    ensures none_allocated { (page : ℕ) → allocated_order_of (state_at states.new.entries page) ≡ None }
 {
-    let segment = segment();
-    let mut states = Vec::with_capacity(alloc, (count * SEGMENT_PAGES) as usize)?;
-    for _ in 0..count {
-        states.extend_from_slice(&segment)?;
+    let mut first = 0;
+    let mut least = GREATEST_ORDER + 1;
+    while least > 0 {
+        least -= 1;
+        if first + span_pages(least) <= pages {
+            states.set(first, PageState::Free(least));
+            lists.push_front(least as u32, first);
+            first += span_pages(least);
+        }
     }
-    Ok(states)
-}
-
-/// The states of the pages of a segment that is an allocated span.
-#[tactic(auto, unfolding(crate::specs::inside::Pages::segment_states))]
-fn segment() -> [PageState; SEGMENT_PAGES as usize]
-    ensures { result ≡ segment_states }
-{
-    let mut states = [PageState::Inside; SEGMENT_PAGES as usize];
-    states[0] = PageState::Allocated(SEGMENT_ORDER);
-    states
 }

@@ -80,3 +80,13 @@ pub record IsConsistent (t : Tables) : Type 0 where
   pub owners : (first class x : ℕ) → class_at t first ≡ Some class → first ≤ x → x < first + 2 ^ order_of class → first_of t x ≡ first
   pub within : (first class slot : ℕ) → class_at t first ≡ Some class → capacity_of class ≤ slot → bit_at (mask_at t first) slot ≡ 0
   pub listed : (list x : ℕ) → list < 37 → times x (list_at t.lists list) ≡ stands_on (list_of (class_at t x) (mask_at t x)) list
+
+-- the pages of each span that is held are below a number
+abbrev pub HoldsBelow : List (Option ℕ) → ℕ → Type 0
+HoldsBelow classes end = (first class : ℕ) → slice_index_or classes first None ≡ Some class → first + 2 ^ order_of class ≤ end
+
+-- the entries of the pages of each span that is held are written in the three tables, of which so many are
+pub record AreWritten (held : List (Option ℕ)) (classes firsts masks : ℕ) : Type 0 where
+  pub classes_written : HoldsBelow held classes
+  pub firsts_written : HoldsBelow held firsts
+  pub masks_written : HoldsBelow held masks

@@ -1,10 +1,9 @@
 -- How the spans stand in a table of pages.
-use Rattle.std.specs.Prelude.{◌≡◌, ◌≢◌, ℕ, suc, ◌+◌, ◌<◌, ◌≤◌, ◌%◌, ◌^◌, ◌==◌, if◌then◌else◌, List, [], ◌∷◌, length, slice_index_or, Option, Some, None, sum_by, replicate}
+use Rattle.std.specs.Prelude.{◌≡◌, ◌≢◌, ℕ, suc, ◌+◌, ◌<◌, ◌≤◌, ◌%◌, ◌^◌, ◌==◌, if◌then◌else◌, List, [], ◌∷◌, length, slice_index_or, Option, Some, None, sum_by}
 use Rattle.std.specs.Ordering.{nat_cmp}
 use Rattle.std.specs.FinMap as map
 use Rattle.index_lists.specs.Lists.{Lists}
 use Rattle.common_lemmas.specs.Lists.{times}
-use Rattle.layout.specs.Sizes.{segment_order}
 use Rattle.span_lists.specs.Buddies.{buddy}
 use Rattle.span_lists.specs.Layout.{pages_from}
 use Rattle.span_lists.specs.declared.spans.PageState.{PageState}
@@ -46,10 +45,6 @@ allocated_entries p (Allocated k ∷ states) = (p, k) ∷ allocated_entries (suc
 unfoldable pub allocated_of : List PageState → map.FinMap nat_cmp ℕ
 allocated_of states = map.from_entries (allocated_entries 0 states)
 
--- the pages of a segment that is an allocated span
-unfoldable pub segment_states : List PageState
-segment_states = Allocated segment_order ∷ replicate 31 Inside
-
 -- a span of the order begins at the page, and none within it
 pub record IsSpanAt (pages : ℕ) (at : ℕ → Option ℕ) (x k : ℕ) : Type 0 where
   pub order : k ≤ 16
@@ -73,3 +68,16 @@ pub record IsConsistent (pages : ℕ) (states : List PageState) (lists : Lists) 
   pub coalesced : (x k : ℕ) → k < 16 → state_at states x ≡ Free k → state_at states (buddy x k) ≢ Free k
   pub count : free ≡ pages_from 0 lists.lists
   pub total : free + sum_by allocated_pages_of states ≡ pages
+
+-- the pages below one are cut into free spans, one at most of each order, and none of an order below one. No span begins behind them
+pub record IsBegun (pages first least : ℕ) (states : List PageState) (lists : Lists) : Type 0 where
+  pub states_len : length states ≡ pages
+  pub indices : lists.indices ≡ pages
+  pub orders : length lists.lists ≡ 17
+  pub cut : IsCut first (λ x. order_of (state_at states x))
+  pub beyond : (x : ℕ) → first ≤ x → state_at states x ≡ Inside
+  pub least_order : (x k : ℕ) → state_at states x ≡ Free k → least ≤ k
+  pub one : (x y k : ℕ) → state_at states x ≡ Free k → state_at states y ≡ Free k → x ≡ y
+  pub none_allocated : (x : ℕ) → allocated_order_of (state_at states x) ≡ None
+  pub listed : (k x : ℕ) → k < 17 → times x (slice_index_or lists.lists k []) ≡ mark k (state_at states x)
+  pub count : first ≡ pages_from 0 lists.lists

@@ -3,6 +3,8 @@ use Rattle.small_pools.proofs.held_spans.own.Given as goal
 
 abbrev pub invariant-loop-page : goal.invariant-loop-page
 invariant-loop-page l =
-    (length l.firsts.items ≡ length l.fn.firsts.items)
-    × ((x : ℕ) → l.first ≤ x → x < l.page → get_or l.firsts.items x 0 ≡ l.first)
-    × ((x : ℕ) → (x < l.first) ⊎ (l.page ≤ x) → get_or l.firsts.items x 0 ≡ get_or l.fn.firsts.items x 0)
+    (l.first ≤ l.page)
+    × (l.firsts.written ≡ l.fn.firsts.written)
+    × (length l.firsts.entries ≡ length l.fn.firsts.entries)
+    × ((x : ℕ) → l.first ≤ x → x < l.page → get_or l.firsts.entries x 0 ≡ l.first)
+    × ((x : ℕ) → (x < l.first) ⊎ (l.page ≤ x) → get_or l.firsts.entries x 0 ≡ get_or l.fn.firsts.entries x 0)

@@ -1,16 +1,29 @@
-use Rattle.std.proofs.Common.{◌<◌, length, None, sym, subst, ap, ◌∙◌, arith}
+use Rattle.std.proofs.Common.{◌+◌, ◌<◌, length, None, sym, subst, ap, ◌∙◌, arith}
 use Rattle.std.specs.List.{last_or}
 use Rattle.index_lists.specs.Lists.{Lists, list_at}
+use Rattle.index_lists.specs.inside.Links.{leads_to, number}
+use Rattle.index_lists.proofs.Linked.{back_read, back_end}
 use Rattle.index_lists.proofs.Neighbours.{back_is}
 use Rattle.index_lists.proofs.lists.IndexLists.back.Goals as goal
 
-pub neighbour-requires : goal.neighbour-requires
-neighbour-requires c =
+pub get-requires : goal.get-requires
+get-requires c =
     let list = subst (λ (s : Lists). c.args.list < length s.lists) (sym c.self.view_is) c.requires in
-    let len = c.self.invariant.prev_len in
-    omega arith
+    let lists = c.self.invariant.prev_lists in omega (arith, list, lists)
+
+pub index_at-requires-clause-list : goal.index_at-requires-clause-list
+index_at-requires-clause-list c =
+    let list = subst (λ (s : Lists). c.args.list < length s.lists) (sym c.self.view_is) c.requires in
+    let lists = c.self.invariant.prev_lists in omega (arith, list, lists)
+
+pub index_at-requires-clause-ring : goal.index_at-requires-clause-ring
+index_at-requires-clause-ring c =
+    let list = subst (λ (s : Lists). c.args.list < length s.lists) (sym c.self.view_is) c.requires in
+    back_end c.self.inside.indices c.self.inside.next c.self.inside.prev c.self.inside.lengths.items c.self.invariant c.args.list list (number c.self.inside.prev c.get.result) (back_read c.self.inside.indices c.self.inside.next c.self.inside.prev c.self.inside.lengths.items c.self.invariant c.args.list list c.get.result c.get.ensures)
 
 pub returns : goal.returns
 returns c =
     let list = subst (λ (s : Lists). c.args.list < length s.lists) (sym c.self.view_is) c.requires in
-    c.neighbour.ensures ∙ back_is c.self.inside.indices c.self.inside.next.items c.self.inside.prev.items c.self.inside.lengths.items c.self.invariant c.args.list list ∙ ap (λ s. last_or None (list_at s c.args.list)) c.self.view_is
+    c.index_at.ensures ∙ ap (λ n. leads_to (n + c.args.list) (number c.self.inside.prev c.get.result)) c.self.invariant.prev_indices
+    ∙ ap (leads_to (c.self.inside.indices + c.args.list)) (back_read c.self.inside.indices c.self.inside.next c.self.inside.prev c.self.inside.lengths.items c.self.invariant c.args.list list c.get.result c.get.ensures)
+    ∙ back_is c.self.inside.indices c.self.inside.next.links c.self.inside.prev.links c.self.inside.lengths.items c.self.invariant.consistent c.args.list list ∙ ap (λ s. last_or None (list_at s c.args.list)) c.self.view_is

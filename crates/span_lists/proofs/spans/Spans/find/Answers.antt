@@ -30,16 +30,16 @@ pub returns-clause-none : goal.returns-clause-none
 returns-clause-none c = subst (λ s. HasNone s c.args.order) c.self.view_is (λ k low high. c.loop-from.invariant k low (omega arith))
 
 pub returns-in-Some-clause-divided : goal.returns-in-Some-clause-divided
-returns-in-Some-clause-divided c = subst Divides c.self.view_is (divides_of c.self.inside.pages c.self.inside.states.items c.self.inside.lists c.self.inside.free c.self.invariant)
+returns-in-Some-clause-divided c = subst Divides c.self.view_is (divides_of c.self.inside.pages c.self.inside.states.entries c.self.inside.lists c.self.inside.free c.self.invariant)
 
 pub returns-in-Some-clause-coalesced : goal.returns-in-Some-clause-coalesced
-returns-in-Some-clause-coalesced c = subst IsCoalesced c.self.view_is (coalesced_of c.self.inside.pages c.self.inside.states.items c.self.inside.lists c.self.inside.free c.self.invariant)
+returns-in-Some-clause-coalesced c = subst IsCoalesced c.self.view_is (coalesced_of c.self.inside.pages c.self.inside.states.entries c.self.inside.lists c.self.inside.free c.self.invariant)
 
 pub returns-clause-divided : goal.returns-clause-divided
-returns-clause-divided c = subst Divides c.self.view_is (divides_of c.self.inside.pages c.self.inside.states.items c.self.inside.lists c.self.inside.free c.self.invariant)
+returns-clause-divided c = subst Divides c.self.view_is (divides_of c.self.inside.pages c.self.inside.states.entries c.self.inside.lists c.self.inside.free c.self.invariant)
 
 pub returns-clause-coalesced : goal.returns-clause-coalesced
-returns-clause-coalesced c = subst IsCoalesced c.self.view_is (coalesced_of c.self.inside.pages c.self.inside.states.items c.self.inside.lists c.self.inside.free c.self.invariant)
+returns-clause-coalesced c = subst IsCoalesced c.self.view_is (coalesced_of c.self.inside.pages c.self.inside.states.entries c.self.inside.lists c.self.inside.free c.self.invariant)
 
 pub returns-clause-blocked : goal.returns-clause-blocked
 returns-clause-blocked c =

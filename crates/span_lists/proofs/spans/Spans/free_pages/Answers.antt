@@ -5,4 +5,4 @@ use Rattle.span_lists.proofs.spans.Spans.free_pages.Goals as goal
 
 pub returns-clause-rest : goal.returns-clause-rest
 returns-clause-rest c = subst (λ (s : Layout). c.self.inside.free + allocated_pages s ≡ s.pages) c.self.view_is
-    (ap (λ n. n + allocated_pages (layout_of c.self.inside.pages c.self.inside.states.items c.self.inside.lists)) c.self.invariant.count ∙ pages_of _ _ _ _ c.self.invariant)
+    (ap (λ n. n + allocated_pages (layout_of c.self.inside.pages c.self.inside.states.entries c.self.inside.lists)) c.self.invariant.count ∙ pages_of _ _ _ _ c.self.invariant)

@@ -1,0 +1,2 @@
+-- Words that only the private functions cite.
+pub mod Entries
