@@ -5,6 +5,7 @@ pub mod Rings
 pub mod Moving
 pub mod Placed
 pub mod PutRows
+pub mod Marks
 pub mod Indexes
 pub mod Stored
 pub mod Sought

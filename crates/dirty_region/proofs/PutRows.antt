@@ -13,7 +13,7 @@ use Rattle.key_table.specs.declared.entries.Spot.{Spot}
 use Rattle.key_table.specs.Hash.{tag_of}
 use Rattle.key_table.specs.Table.{Table, AreSame, IsSpotFor, IsTableOf, IsTagged, IsTagOf, rows_of}
 use Rattle.key_table.specs.Table as tables
-use Rattle.dirty_region.specs.inside.PutRows.{PutRows, rows_in, Has, IsKeyed, IsPutIndexOf, IsThere, AreApart}
+use Rattle.dirty_region.specs.inside.PutRows.{PutRows, put_rows, rows_in, Has, IsKeyed, IsPutIndexOf, IsThere, AreApart, AreMarked}
 
 -- ---- how often a list has a number
 
@@ -95,9 +95,6 @@ stray_found key_of key index (Err spot) keyed none told = (
 )
 
 -- ---- rows come and go
-
-abbrev pub put_rows : Table → Index → PutRows
-put_rows table strays = record { room = table.room; table = table; strays = strays }
 
 pub none_listed : (n : ℕ) (xs : List ℕ) → length xs ≡ 0 → times n xs ≡ 0
 none_listed n [] e = refl

@@ -38,10 +38,10 @@ place_cases p q = elim (cases_eq p.segment q.segment) [
   | inr a ↦ inr (λ e. a (ap (λ (x : Place). x.segment) e))
 ]
 
-pub got_set : (xs : List Place) (n : ℕ) (p : Place) → n < length xs → slice_get (slice_set xs n p) n ≡ Some p
+pub got_set : {A : Type 0} (xs : List A) (n : ℕ) (p : A) → n < length xs → slice_get (slice_set xs n p) n ≡ Some p
 got_set xs n p h = slice_get-get_or (slice_set xs n p) n p (let e = length-set xs n p in omega (arith, e, h)) ∙ ap (λ x. Some x) (get_or-set_same xs n p p h)
 
-pub got_past_set : (xs : List Place) (n m : ℕ) (p : Place) → m ≢ n → slice_get (slice_set xs n p) m ≡ slice_get xs m
+pub got_past_set : {A : Type 0} (xs : List A) (n m : ℕ) (p : A) → m ≢ n → slice_get (slice_set xs n p) m ≡ slice_get xs m
 got_past_set xs n m p far =
     let len = length-set xs n p in
     elim (leb_tells (length xs) m) [

@@ -1,5 +1,5 @@
 //! Rows by their keys, for exact look-up.
-ghost use Rattle.std.specs.Prelude.{◌≡◌, ◌≢◌, ℕ, ◌<◌, ◌≤◌, ◌∷◌, [], List, length, true, false, IfOk, MatchResult};
+ghost use Rattle.std.specs.Prelude.{◌≡◌, ◌≢◌, ℕ, ◌<◌, ◌≤◌, ◌∷◌, [], List, length, replicate, true, false, IfOk, MatchResult};
 ghost use Rattle.common_lemmas.specs.Lists.{times};
 ghost use Rattle.key_index.specs.Index.{IsIndexOf, IsOrdered};
 ghost use Rattle.key_table.specs.Hash.{tag_of};
@@ -12,21 +12,23 @@ use std::alloc::{AllocError, Global};
 use std::marker::Model;
 
 // Rows that are found by their keys. Where the table refuses a row it is a stray, and a search that finds nothing in the
-// table asks the strays, as long as there are any.
+// table asks the strays, as long as there are any. A row that is not here is known without a look at the table.
 #[derive(Drop)]
 pub(crate) struct PutIndex {
     table: KeyTable,
     strays: KeyIndex,
+    // for each number whether a row that is here has it
+    marks: Vec<bool>,
 }
 
 impl Model for PutIndex {
-    ghost use Rattle.dirty_region.specs.inside.PutRows.{PutRows, AreApart};
+    ghost use Rattle.dirty_region.specs.inside.PutRows.{PutRows, AreApart, AreMarked, put_rows};
 
     ghost Value = { PutRows };
 
-    ghost view = { λ i. record { room = i.table.room; table = i.table; strays = i.strays } };
+    ghost view = { λ i. put_rows i.table i.strays };
 
-    ghost invariant = { λ i. AreApart i.table i.strays };
+    ghost invariant = { λ i. AreApart i.table i.strays × AreMarked i.marks.items (put_rows i.table i.strays) };
 }
 
 impl PutIndex {
@@ -38,7 +40,12 @@ impl PutIndex {
     {
         let table = KeyTable::new(alloc, room)?;
         let strays = KeyIndex::new(alloc, room)?;
-        Ok(PutIndex { table, strays })
+        let marks = no_marks(alloc, room)?;
+        Ok(PutIndex {
+            table,
+            strays,
+            marks,
+        })
     }
 
     // The row of a key, or the spot for one.
@@ -71,6 +78,7 @@ impl PutIndex {
         ensures rows { AreSame (row ∷ rows_in self.old) (rows_in self.new) }
         ensures keyed { IsKeyed (K.key_of keys.now) self.new }
     {
+        self.marks[row as usize] = true;
         let Err(_) = self.table.insert(spot, row) else {
             return;
         };
@@ -81,6 +89,7 @@ impl PutIndex {
     // table is asked for its key.
     pub(crate) fn remove_row<K: Keys>(&mut self, keys: &K, key: &[u8], row: u32) -> bool
         requires index { IsPutIndexOf (K.has_row keys.now) (K.key_of keys.now) self.old }
+        requires number { row < self.old.room }
         requires key { K.key_of keys.now row ≡ key.now }
         ensures room { self.new.room ≡ self.old.room }
         ensures rows { result ≡ true → AreSame (rows_in self.old) (row ∷ rows_in self.new) }
@@ -88,12 +97,16 @@ impl PutIndex {
         ensures unchanged { result ≡ false → self.new ≡ self.old }
         ensures keyed { (key_of : ℕ → List ℕ) → IsKeyed key_of self.old → IsKeyed key_of self.new }
     {
+        if !self.marks[row as usize] {
+            return false;
+        }
         self.remove(keys, key, Spot::new(key).of(row))
     }
 
     // The same, with the tag of the key.
     pub(crate) fn remove<K: Keys>(&mut self, keys: &K, key: &[u8], found: RowAt) -> bool
         requires index { IsPutIndexOf (K.has_row keys.now) (K.key_of keys.now) self.old }
+        requires number { found.row < self.old.room }
         requires tag { IsTagOf self.old.table found }
         requires key { K.key_of keys.now found.row ≡ key.now }
         ensures room { self.new.room ≡ self.old.room }
@@ -102,6 +115,7 @@ impl PutIndex {
         ensures unchanged { result ≡ false → self.new ≡ self.old }
         ensures keyed { (key_of : ℕ → List ℕ) → IsKeyed key_of self.old → IsKeyed key_of self.new }
     {
+        self.marks[found.row as usize] = false;
         if self.table.remove(found) {
             return true;
         }
@@ -113,10 +127,18 @@ impl PutIndex {
         ensures moved { (before after : ℕ → List ℕ) → ((n : ℕ) → Has self.now n → after n ≡ before n)
             → IsKeyed before self.now → IsKeyed after self.now }
         ensures once { (n : ℕ) → times n (rows_in self.now) ≤ 1 }
+        ensures low { (n : ℕ) → Has self.now n → n < self.now.room }
     {
         self.table.law();
         self.strays.law();
     }
+}
+
+// Marks for so many numbers, none of which a row has.
+fn no_marks(alloc: Global, room: u32) -> Result<Vec<bool>, AllocError>
+    ensures { IfOk result (λ marks. marks.items ≡ replicate room false) }
+{
+    vec![in alloc; false; room as usize]
 }
 
 // The stray of a key whose spot is given, or the spot.

@@ -1,5 +1,5 @@
 -- The rows of an index from key to put: those of a table, and the strays, which the table refused.
-use Rattle.std.specs.Prelude.{◌≡◌, ℕ, ◌+◌, ◌^◌, ◌<◌, ◌≤◌, List, ◌++◌}
+use Rattle.std.specs.Prelude.{◌≡◌, ◌↔◌, ℕ, ◌+◌, ◌^◌, ◌<◌, ◌≤◌, Bool, true, List, ◌++◌, length, Some, slice_get}
 use Rattle.common_lemmas.specs.Lists.{times}
 use Rattle.key_index.specs.Index.{Index, IsOrdered}
 use Rattle.key_table.specs.Table.{Table, rows_of, IsTagged, IsTagOf}
@@ -10,6 +10,9 @@ pub record PutRows : Type 0 where
   pub room : ℕ
   pub table : Table
   pub strays : Index
+
+abbrev pub put_rows : Table → Index → PutRows
+put_rows table strays = record { room = table.room; table = table; strays = strays }
 
 -- the rows of an index: those of the table and the strays
 abbrev pub rows_in : PutRows → List ℕ
@@ -39,3 +42,8 @@ pub record AreApart (table : Table) (strays : Index) : Type 0 where
   pub once : (n : ℕ) → times n (rows_of table.kept) + times n strays.rows ≤ 1
   pub room : strays.room ≡ table.room
   pub small : table.room < 2 ^ 32
+
+-- of each number below the room it is marked whether the index has its row
+pub record AreMarked (marks : List Bool) (index : PutRows) : Type 0 where
+  pub long : length marks ≡ index.room
+  pub are : (n : ℕ) → Has index n ↔ (slice_get marks n ≡ Some true)

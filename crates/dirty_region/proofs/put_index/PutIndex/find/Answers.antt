@@ -1,8 +1,8 @@
 use Rattle.std.proofs.Common.{◌≡◌, ◌≢◌, ℕ, sym, subst}
 use Rattle.std.specs.Prelude.{MatchResult}
 use Rattle.key_table.specs.Table.{IsSpotFor}
-use Rattle.dirty_region.specs.inside.PutRows.{PutRows, Has, IsPutIndexOf, IsThere}
-use Rattle.dirty_region.proofs.PutRows.{put_rows, table_of, strays_of, kept_there, stray_found}
+use Rattle.dirty_region.specs.inside.PutRows.{PutRows, put_rows, Has, IsPutIndexOf, IsThere}
+use Rattle.dirty_region.proofs.PutRows.{table_of, strays_of, kept_there, stray_found}
 use Rattle.dirty_region.proofs.put_index.PutIndex.find.Goals as goal
 
 pub find-requires : goal.find-requires

@@ -1,8 +1,8 @@
 use Rattle.std.proofs.Common.{◌≡◌, ℕ, ◌≤◌, sym, subst, arith}
 use Rattle.common_lemmas.specs.Lists.{times}
 use Rattle.key_table.specs.Table.{rows_of}
-use Rattle.dirty_region.specs.inside.PutRows.{PutRows, Has, IsKeyed, rows_in}
-use Rattle.dirty_region.proofs.PutRows.{put_rows, all_of, has_kept, has_stray, times-append}
+use Rattle.dirty_region.specs.inside.PutRows.{PutRows, put_rows, Has, IsKeyed, rows_in}
+use Rattle.dirty_region.proofs.PutRows.{all_of, has_kept, has_stray, times-append}
 use Rattle.dirty_region.proofs.put_index.PutIndex.law.Goals as goal
 
 pub returns-clause-moved : goal.returns-clause-moved
@@ -17,4 +17,4 @@ returns-clause-moved c before after same is =
 pub returns-clause-once : goal.returns-clause-once
 returns-clause-once c n =
     let i = c.self.inside in
-    subst (λ (v : PutRows). times n (rows_in v) ≤ 1) c.self.view_is (let o = c.self.invariant.once n in let t = times-append n (rows_of i.table.kept) i.strays.rows in omega (arith, o, t))
+    subst (λ (v : PutRows). times n (rows_in v) ≤ 1) c.self.view_is (let o = c.self.invariant.0.once n in let t = times-append n (rows_of i.table.kept) i.strays.rows in omega (arith, o, t))

@@ -21,7 +21,9 @@ loop-list-preserved c =
     let rest = c.args.lists + c.args.indices - (at + 1) in
     let left : c.args.lists + c.args.indices - at ≡ suc rest = omega (arith, low) in
     let written = ap (λ (t : Table ℕ). t.written) c.set.ensures in let most = c.loop-list.invariant.2 in
-    (ap (λ (t : Table ℕ). t.entries) c.set.ensures ∙ ap (λ l. set l at at) (c.loop-list.invariant.0 ∙ ap (begun 0 at) left) ∙ ap (set (begun 0 at (suc rest)) at) (let here : at ≡ 0 + at = omega arith in here) ∙ one_more 0 at rest, omega (arith, written), omega (arith, written, most, low))
+    let entries = ap (λ (t : Table ℕ). t.entries) c.set.ensures ∙ ap (λ l. set l at at) (c.loop-list.invariant.0 ∙ ap (begun 0 at) left) in
+    let here : at ≡ 0 + at = omega arith in
+    (entries ∙ ap (set (begun 0 at (suc rest)) at) here ∙ one_more 0 at rest, omega (arith, written), omega (arith, written, most, low))
 
 pub invariant_of-result : goal.invariant_of-result
 invariant_of-result c =

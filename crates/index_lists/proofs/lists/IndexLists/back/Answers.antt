@@ -18,12 +18,12 @@ index_at-requires-clause-list c =
 
 pub index_at-requires-clause-ring : goal.index_at-requires-clause-ring
 index_at-requires-clause-ring c =
-    let list = subst (λ (s : Lists). c.args.list < length s.lists) (sym c.self.view_is) c.requires in
-    back_end c.self.inside.indices c.self.inside.next c.self.inside.prev c.self.inside.lengths.items c.self.invariant c.args.list list (number c.self.inside.prev c.get.result) (back_read c.self.inside.indices c.self.inside.next c.self.inside.prev c.self.inside.lengths.items c.self.invariant c.args.list list c.get.result c.get.ensures)
+    let i = c.self.inside in let list = subst (λ (s : Lists). c.args.list < length s.lists) (sym c.self.view_is) c.requires in
+    back_end i.indices i.next i.prev i.lengths.items c.self.invariant c.args.list list (number i.prev c.get.result) (back_read i.indices i.next i.prev i.lengths.items c.self.invariant c.args.list list c.get.result c.get.ensures)
 
 pub returns : goal.returns
 returns c =
-    let list = subst (λ (s : Lists). c.args.list < length s.lists) (sym c.self.view_is) c.requires in
-    c.index_at.ensures ∙ ap (λ n. leads_to (n + c.args.list) (number c.self.inside.prev c.get.result)) c.self.invariant.prev_indices
-    ∙ ap (leads_to (c.self.inside.indices + c.args.list)) (back_read c.self.inside.indices c.self.inside.next c.self.inside.prev c.self.inside.lengths.items c.self.invariant c.args.list list c.get.result c.get.ensures)
-    ∙ back_is c.self.inside.indices c.self.inside.next.links c.self.inside.prev.links c.self.inside.lengths.items c.self.invariant.consistent c.args.list list ∙ ap (λ s. last_or None (list_at s c.args.list)) c.self.view_is
+    let i = c.self.inside in let list = subst (λ (s : Lists). c.args.list < length s.lists) (sym c.self.view_is) c.requires in
+    c.index_at.ensures ∙ ap (λ n. leads_to (n + c.args.list) (number i.prev c.get.result)) c.self.invariant.prev_indices
+    ∙ ap (leads_to (i.indices + c.args.list)) (back_read i.indices i.next i.prev i.lengths.items c.self.invariant c.args.list list c.get.result c.get.ensures)
+    ∙ back_is i.indices i.next.links i.prev.links i.lengths.items c.self.invariant.consistent c.args.list list ∙ ap (λ s. last_or None (list_at s c.args.list)) c.self.view_is

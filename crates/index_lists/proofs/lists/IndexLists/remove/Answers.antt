@@ -7,9 +7,9 @@ use Rattle.index_lists.proofs.lists.IndexLists.remove.Goals as goal
 
 pub place_of-place-requires : goal.place_of-place-requires
 place_of-place-requires c =
-    let list = subst (λ (s : Lists). c.args.list < length s.lists) (sym c.self.view_is) c.requires.list in
+    let i = c.self.inside in let list = subst (λ (s : Lists). c.args.list < length s.lists) (sym c.self.view_is) c.requires.list in
     let held = subst (λ (s : Lists). 1 ≤ times c.args.index (list_at s c.args.list)) (sym c.self.view_is) c.requires.held in
-    let within = held_within c.self.inside.indices c.self.inside.next.links c.self.inside.prev.links c.self.inside.lengths.items c.args.list c.args.index c.self.invariant.consistent list held in
+    let within = held_within i.indices i.next.links i.prev.links i.lengths.items c.args.list c.args.index c.self.invariant.consistent list held in
     let same = c.self.invariant.next_indices in omega (arith, within, same)
 
 pub get-after-requires : goal.get-after-requires
@@ -27,33 +27,46 @@ get-before-requires c =
 
 pub link-requires-clause-before : goal.link-requires-clause-before
 link-requires-clause-before c =
-    let list = subst (λ (s : Lists). c.args.list < length s.lists) (sym c.self.view_is) c.requires.list in
+    let i = c.self.inside in let list = subst (λ (s : Lists). c.args.list < length s.lists) (sym c.self.view_is) c.requires.list in
     let held = subst (λ (s : Lists). 1 ≤ times c.args.index (list_at s c.args.list)) (sym c.self.view_is) c.requires.held in
-    before_written c.self.inside.indices c.self.inside.next c.self.inside.prev c.self.inside.lengths.items c.self.invariant c.args.list c.args.index list held c.get-before.result (c.get-before.ensures ∙ ap (λ i. get_or c.self.inside.prev.links i 0) (number_back c.self.inside.indices c.self.inside.next c.self.inside.prev c.self.inside.lengths.items c.self.invariant c.args.list c.args.index list held c.place_of-place.result ∙ c.place_of-place.ensures.number))
+    let back = number_back i.indices i.next i.prev i.lengths.items c.self.invariant c.args.list c.args.index list held c.place_of-place.result in
+    let before = c.get-before.ensures ∙ ap (λ n. get_or i.prev.links n 0) (back ∙ c.place_of-place.ensures.number) in
+    before_written i.indices i.next i.prev i.lengths.items c.self.invariant c.args.list c.args.index list held c.get-before.result before
 
 pub link-requires-clause-after : goal.link-requires-clause-after
 link-requires-clause-after c =
-    let list = subst (λ (s : Lists). c.args.list < length s.lists) (sym c.self.view_is) c.requires.list in
+    let i = c.self.inside in let list = subst (λ (s : Lists). c.args.list < length s.lists) (sym c.self.view_is) c.requires.list in
     let held = subst (λ (s : Lists). 1 ≤ times c.args.index (list_at s c.args.list)) (sym c.self.view_is) c.requires.held in
-    after_written c.self.inside.indices c.self.inside.next c.self.inside.prev c.self.inside.lengths.items c.self.invariant c.args.list c.args.index list held c.get-after.result (c.get-after.ensures ∙ ap (λ i. get_or c.self.inside.next.links i 0) c.place_of-place.ensures.number)
+    let after = c.get-after.ensures ∙ ap (λ n. get_or i.next.links n 0) c.place_of-place.ensures.number in
+    after_written i.indices i.next i.prev i.lengths.items c.self.invariant c.args.list c.args.index list held c.get-after.result after
 
 pub decrement-requires-clause-some : goal.decrement-requires-clause-some
 decrement-requires-clause-some c =
-    let list = subst (λ (s : Lists). c.args.list < length s.lists) (sym c.self.view_is) c.requires.list in
+    let i = c.self.inside in let list = subst (λ (s : Lists). c.args.list < length s.lists) (sym c.self.view_is) c.requires.list in
     let held = subst (λ (s : Lists). 1 ≤ times c.args.index (list_at s c.args.list)) (sym c.self.view_is) c.requires.held in
-    some_length c.self.inside.indices c.self.inside.next.links c.self.inside.prev.links c.self.inside.lengths.items c.args.list c.args.index c.self.invariant.consistent list held
+    some_length i.indices i.next.links i.prev.links i.lengths.items c.args.list c.args.index c.self.invariant.consistent list held
 
 pub invariant_of-self : goal.invariant_of-self
 invariant_of-self c =
-    let list = subst (λ (s : Lists). c.args.list < length s.lists) (sym c.self.view_is) c.requires.list in
+    let i = c.self.inside in let list = subst (λ (s : Lists). c.args.list < length s.lists) (sym c.self.view_is) c.requires.list in
     let held = subst (λ (s : Lists). 1 ≤ times c.args.index (list_at s c.args.list)) (sym c.self.view_is) c.requires.held in
-    keeps_linked _ _ _ _ _
-    (all_removed c.self.inside.indices c.self.inside.next c.self.inside.prev c.self.inside.lengths.items c.self.invariant c.args.list c.args.index list held c.link.new.next c.link.new.prev c.decrement.new.lengths.items c.get-before.result c.get-after.result (c.get-before.ensures ∙ ap (λ i. get_or c.self.inside.prev.links i 0) (number_back c.self.inside.indices c.self.inside.next c.self.inside.prev c.self.inside.lengths.items c.self.invariant c.args.list c.args.index list held c.place_of-place.result ∙ c.place_of-place.ensures.number)) (c.get-after.ensures ∙ ap (λ i. get_or c.self.inside.next.links i 0) c.place_of-place.ensures.number) c.link.ensures.next c.link.ensures.prev c.decrement.ensures)
+    let back = number_back i.indices i.next i.prev i.lengths.items c.self.invariant c.args.list c.args.index list held c.place_of-place.result in
+    let before = c.get-before.ensures ∙ ap (λ n. get_or i.prev.links n 0) (back ∙ c.place_of-place.ensures.number) in
+    let after = c.get-after.ensures ∙ ap (λ n. get_or i.next.links n 0) c.place_of-place.ensures.number in
+    let removed =
+    all_removed i.indices i.next i.prev i.lengths.items c.self.invariant c.args.list c.args.index list held c.link.new.next c.link.new.prev c.decrement.new.lengths.items
+    c.get-before.result c.get-after.result before after c.link.ensures.next c.link.ensures.prev c.decrement.ensures in
+    keeps_linked _ _ _ _ _ removed
 
 pub returns : goal.returns
 returns c =
-    let list = subst (λ (s : Lists). c.args.list < length s.lists) (sym c.self.view_is) c.requires.list in
+    let i = c.self.inside in let list = subst (λ (s : Lists). c.args.list < length s.lists) (sym c.self.view_is) c.requires.list in
     let held = subst (λ (s : Lists). 1 ≤ times c.args.index (list_at s c.args.list)) (sym c.self.view_is) c.requires.held in
-    lists_are _ _ _ _ _
-    (all_removed c.self.inside.indices c.self.inside.next c.self.inside.prev c.self.inside.lengths.items c.self.invariant c.args.list c.args.index list held c.link.new.next c.link.new.prev c.decrement.new.lengths.items c.get-before.result c.get-after.result (c.get-before.ensures ∙ ap (λ i. get_or c.self.inside.prev.links i 0) (number_back c.self.inside.indices c.self.inside.next c.self.inside.prev c.self.inside.lengths.items c.self.invariant c.args.list c.args.index list held c.place_of-place.result ∙ c.place_of-place.ensures.number)) (c.get-after.ensures ∙ ap (λ i. get_or c.self.inside.next.links i 0) c.place_of-place.ensures.number) c.link.ensures.next c.link.ensures.prev c.decrement.ensures).consistent
+    let back = number_back i.indices i.next i.prev i.lengths.items c.self.invariant c.args.list c.args.index list held c.place_of-place.result in
+    let before = c.get-before.ensures ∙ ap (λ n. get_or i.prev.links n 0) (back ∙ c.place_of-place.ensures.number) in
+    let after = c.get-after.ensures ∙ ap (λ n. get_or i.next.links n 0) c.place_of-place.ensures.number in
+    let removed =
+    all_removed i.indices i.next i.prev i.lengths.items c.self.invariant c.args.list c.args.index list held c.link.new.next c.link.new.prev c.decrement.new.lengths.items
+    c.get-before.result c.get-after.result before after c.link.ensures.next c.link.ensures.prev c.decrement.ensures in
+    lists_are _ _ _ _ _ removed.consistent
     ∙ ap (λ s. with_list s c.args.list (delete c.args.index (list_at s c.args.list))) c.self.view_is

@@ -61,7 +61,9 @@ invariant_of-self c =
     c.own.ensures.len c.own.ensures.mine c.own.ensures.others in
     let classes = ap (λ (t : Table (Option ℕ)). t.entries) c.set_written.ensures ∙ ap (λ (t : Table (Option ℕ)). set t.entries c.args.first (Some c.args.class)) c.reach.ensures in
     let masks = ap (λ (t : Table ℕ). t.entries) c.set_written-2.ensures ∙ ap (λ (t : Table ℕ). set t.entries c.args.first c.all_free.result) c.reach-3.ensures in
-    let within : c.args.first < length c.self.inside.classes.entries = (let inside = subst (λ (s : Objects). c.args.first + 2 ^ order_of c.args.class ≤ s.pages) (sym c.self.view_is) c.requires.inside in let len = c.self.invariant.0.classes_len in let pos = pow_pos (order_of c.args.class) in omega (arith, inside, len, pos)) in (
+    let inside = subst (λ (s : Objects). c.args.first + 2 ^ order_of c.args.class ≤ s.pages) (sym c.self.view_is) c.requires.inside in
+    let len = c.self.invariant.0.classes_len in let pos = pow_pos (order_of c.args.class) in
+    let within : c.args.first < length c.self.inside.classes.entries = omega (arith, inside, len, pos) in (
       (added c.self.invariant.0 c.self.view_is c.args.first c.args.class c.all_free.result c.set_written.new.self.entries c.own.new.firsts.entries c.set_written-2.new.self.entries c.relist.new.lists
           c.requires.class c.requires.inside c.requires.clear owned c.class_capacity.result c.class_capacity.ensures.value c.all_free.ensures.free c.all_free.ensures.none classes masks
           (record { stands = c.relist.ensures.stands; others = c.relist.ensures.others; indices = c.relist.ensures.indices; lists = c.relist.ensures.lists })).step.consistent,

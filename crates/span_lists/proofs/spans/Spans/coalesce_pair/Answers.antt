@@ -21,7 +21,8 @@ set-requires-2 c =
 
 pub invariant_of-self : goal.invariant_of-self
 invariant_of-self c =
-    rw ((ap (λ (t : Table PageState). t.entries) c.set-2.ensures), (ap (λ (t : Table PageState). t.entries) c.set.ensures)) (pair_coalesced c.self.invariant c.requires.order c.requires.allocated c.requires.buddy c.buddy_of-other.ensures c.min-lower.ensures c.max-upper.ensures c.self.view_is).consistent
+    let after = pair_coalesced c.self.invariant c.requires.order c.requires.allocated c.requires.buddy c.buddy_of-other.ensures c.min-lower.ensures c.max-upper.ensures c.self.view_is in
+    rw ((ap (λ (t : Table PageState). t.entries) c.set-2.ensures), (ap (λ (t : Table PageState). t.entries) c.set.ensures)) after.consistent
 
 pub returns-clause-first : goal.returns-clause-first
 returns-clause-first c =
