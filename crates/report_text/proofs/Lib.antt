@@ -1,10 +1,13 @@
 pub mod Answered
 pub mod Fronts
 pub mod Gathered
+pub mod Joined
 pub mod Keys
 pub mod KeysOfReplies
+pub mod Merged
 pub mod Outputs
 pub mod Places
 pub mod Sent
+pub mod Taken
 pub mod Tallied
 pub mod Texts

@@ -1,4 +1,5 @@
 pub mod Found
+pub mod Merged
 pub mod Output
 pub mod Places
 pub mod Spells

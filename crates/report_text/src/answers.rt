@@ -1,11 +1,11 @@
 //! The lines of the answers, as they are read from the logs.
-ghost use Rattle.std.specs.Prelude.{◌≡◌, ◌⊎◌, ◌+◌, ◌^◌, ◌<◌, ◌≤◌, ℕ, true, false, List, ◌∷◌, map, take, flat_map, Some};
+ghost use Rattle.std.specs.Prelude.{◌≡◌, ◌⊎◌, ◌+◌, ◌^◌, ◌<◌, ◌≤◌, ℕ, true, false, List, ◌∷◌, map, flat_map, Some};
 ghost use Rattle.std.specs.List.{slice_get};
 ghost use Rattle.layout.specs.Sizes.{most_keys};
 ghost use Rattle.trace_text.specs.Operation.{operation};
-ghost use Rattle.trace_text.specs.Parts.{is_scan, most_shards};
+ghost use Rattle.trace_text.specs.Parts.{is_scan};
 ghost use Rattle.cache_model.specs.Answer.{join};
-ghost use Rattle.cache_model.specs.Apply.{Reply, Keys, in_order};
+ghost use Rattle.cache_model.specs.Apply.{Reply, Keys};
 ghost use Rattle.cache_model.specs.Logged.{IsRead};
 ghost use Rattle.cache_model.specs.Report.{line, answer_text};
 ghost use Rattle.cache_model.specs.Spelled.{spelled};
@@ -13,10 +13,10 @@ ghost use Rattle.report_text.specs.inside.Found.{HasFound};
 ghost use Rattle.report_text.specs.inside.Output.{Writes, output};
 ghost use Rattle.report_text.specs.inside.Spells.{HasLegalKeys};
 
-use crate::found::{Found, add_found};
+use crate::found::joined_keys;
 use crate::lines::put_reply_line;
 use crate::writer::Writer;
-use cache_model::{one_shard_answers_alone, sort_keys};
+use cache_model::one_shard_answers_alone;
 use outside::{Failed, Sink};
 use run_log::ReplyLog;
 use trace_text::{Command, Kind};
@@ -62,19 +62,6 @@ fn put_keys_line<K: Sink>(
     writer.end_line()
 }
 
-fn sort_found(found: &mut Found)
-    ensures { map (λ key. key.now) found.new.items ≡ in_order (map (λ key. key.now) found.old.items) }
-{
-    sort_keys(found.as_mut_slice());
-}
-
-/// The first so many keys, or all of them.
-fn first_keys<'s, 'l>(keys: &'s [&'l [u8]], count: u32) -> &'s [&'l [u8]]
-    ensures { result.now ≡ take count keys.now }
-{
-    &keys[..keys.len().min(count as usize)]
-}
-
 /// The line of the answer to a scan: the first keys in byte order of those that `shards` shards found.
 fn put_scan<K: Sink>(
     writer: &mut Writer<'_, K>,
@@ -83,18 +70,15 @@ fn put_scan<K: Sink>(
     log: &ReplyLog,
     first: u32,
 ) -> Result<(), Failed>
-    requires most { shards ≤ most_shards }
+    requires few { command.now.count ≤ most_keys }
     requires room { first + shards < 2 ^ 32 }
     requires replied { (lists : List (List (List ℕ))) × HasFound log.now.replies first shards lists }
     ensures { (lists : List (List (List ℕ))) → HasFound log.now.replies first shards lists →
         Writes result (output K.written K.faults writer.old) (output K.written K.faults writer.new) (line
         (answer_text (command.now.number, Keys (join command.now.count lists)))) }
 {
-    let mut found = Found::new();
-    add_found(&mut found, log, first, shards);
-    sort_found(&mut found);
-    let keys = first_keys(found.as_slice(), command.count);
-    put_keys_line(writer, command.number, keys)
+    let keys = joined_keys(log, first, shards, command.count);
+    put_keys_line(writer, command.number, keys.as_slice())
 }
 
 /// Whether the answer is joined from the replies of several shards.
@@ -115,7 +99,6 @@ pub(crate) fn put_answer<K: Sink>(
     first: u32,
 ) -> Result<(), Failed>
     requires some { 1 ≤ shards }
-    requires most { shards ≤ most_shards }
     requires few { command.now.count ≤ most_keys }
     requires room { first + shards < 2 ^ 32 }
     requires read { (bytes : List ℕ) × (longest : ℕ) × (answer : ℕ × Reply)

@@ -1,38 +1,34 @@
 //! The keys that the shards found in a scan.
-ghost use Rattle.std.specs.Prelude.{◌≡◌, ◌+◌, ◌*◌, ◌^◌, ◌<◌, ◌≤◌, ℕ, List, [], ◌++◌, length, map, flat_map, Some};
+ghost use Rattle.std.specs.Prelude.{◌≡◌, ◌+◌, ◌^◌, ◌<◌, ◌≤◌, ℕ, List, length, map, Some};
+ghost use Rattle.std.specs.Ordering.{nat_cmp};
+ghost use Rattle.std.specs.Cmp.Lexicographic.{slice_cmp};
 ghost use Rattle.std.specs.List.{slice_get};
-ghost use Rattle.arrayvec.specs.ArrayVec.{array_vec_len};
+ghost use Rattle.std.specs.List.Sorted.{IsPermutation, IsSorted};
 ghost use Rattle.layout.specs.Sizes.{most_keys};
-ghost use Rattle.trace_text.specs.Parts.{most_shards};
+ghost use Rattle.cache_model.specs.Answer.{join};
 ghost use Rattle.cache_model.specs.Apply.{Keys};
 ghost use Rattle.cache_model.specs.KeyBody.{AreKeys};
 ghost use Rattle.cache_model.specs.Spelled.{spelled};
-ghost use Rattle.report_text.specs.inside.Found.{HasFound};
+ghost use Rattle.report_text.specs.inside.Found.{AreFoundAt, HasFound};
 
-use arrayvec::ArrayVec;
-use layout::MOST_KEYS;
+use crate::merging::{Found, first_of_both};
+use cache_model::sorted_keys_are_in_order;
 use run_log::{ReplyLog, next_key};
-use trace_text::MOST_SHARDS;
 
-const MOST_FOUND: usize = (MOST_KEYS * MOST_SHARDS) as usize;
-
-/// The keys, where they stand in the log.
-pub(crate) type Found<'l> = ArrayVec<&'l [u8], MOST_FOUND>;
-
-/// Adds the keys of a body.
-fn add_keys<'l>(found: &mut Found<'l>, body: &'l [u8])
-    requires keys { (keys : List (List ℕ)) × AreKeys body.now keys
-        × (array_vec_len found.old + length keys ≤ most_keys * most_shards) }
+/// The keys of a body.
+fn keys_of(body: &[u8]) -> Found<'_>
+    requires keys { (keys : List (List ℕ)) × AreKeys body.now keys × (length keys ≤ most_keys) }
     requires short { length body.now < 2 ^ 32 }
-    ensures { (keys : List (List ℕ)) → AreKeys body.now keys
-        → map (λ key. key.now) found.new.items ≡ map (λ key. key.now) found.old.items ++ keys }
+    ensures { (keys : List (List ℕ)) → AreKeys body.now keys → map (λ key. key.now) result.items ≡ keys }
 {
+    let mut keys = Found::new();
     let mut at = 0;
     while let Some(span) = next_key(body, at) {
         let end = span.start + span.len;
-        found.push(&body[span.start as usize..end as usize]);
+        keys.push(&body[span.start as usize..end as usize]);
         at = end;
     }
+    keys
 }
 
 /// The body of a reply of keys.
@@ -46,16 +42,42 @@ fn keys_at(log: &ReplyLog, part: u32) -> &[u8]
     body
 }
 
-/// Adds the keys that `shards` shards found, whose replies stand in a log from a part on.
-pub(crate) fn add_found<'l>(found: &mut Found<'l>, log: &'l ReplyLog, first: u32, shards: u32)
-    requires none { found.old.items ≡ [] }
-    requires most { shards ≤ most_shards }
+/// Puts keys in the order of their bytes, where they are not in it.
+fn order_keys(keys: &mut [&[u8]])
+    ensures same { IsPermutation (map (λ key. key.now) keys.old) (map (λ key. key.now) keys.new) }
+    ensures sorted { IsSorted (slice_cmp nat_cmp) (map (λ key. key.now) keys.new) }
+{
+    if !keys.is_sorted() {
+        keys.sort_unstable();
+    }
+}
+
+/// The keys that one shard found, in the order of their bytes.
+fn keys_in_order(log: &ReplyLog, part: u32) -> Found<'_>
+    requires { (keys : List (List ℕ)) × AreFoundAt log.now.replies part keys }
+    ensures same { (keys : List (List ℕ)) → AreFoundAt log.now.replies part keys
+        → IsPermutation keys (map (λ key. key.now) result.items) }
+    ensures sorted { IsSorted (slice_cmp nat_cmp) (map (λ key. key.now) result.items) }
+{
+    let mut keys = keys_of(keys_at(log, part));
+    order_keys(keys.as_mut_slice());
+    keys
+}
+
+/// The first `count` keys, in the order of their bytes, of those that `shards` shards found, whose replies stand in a log
+/// from a part on.
+pub(crate) fn joined_keys(log: &ReplyLog, first: u32, shards: u32, count: u32) -> Found<'_>
+    requires few { count ≤ most_keys }
     requires room { first + shards < 2 ^ 32 }
     requires replied { (lists : List (List (List ℕ))) × HasFound log.now.replies first shards lists }
     ensures { (lists : List (List (List ℕ))) → HasFound log.now.replies first shards lists
-        → map (λ key. key.now) found.new.items ≡ flat_map (λ keys. keys) lists }
+        → map (λ key. key.now) result.items ≡ join count lists }
 {
+    sorted_keys_are_in_order();
+    let mut found = Found::new();
     for part in first..first + shards {
-        add_keys(found, keys_at(log, part));
+        let keys = keys_in_order(log, part);
+        found = first_of_both(keys.as_slice(), found.as_slice(), count);
     }
+    found
 }

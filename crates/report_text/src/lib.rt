@@ -6,6 +6,7 @@
 mod answers;
 mod found;
 mod lines;
+mod merging;
 mod place;
 mod report;
 mod summary;

@@ -13,3 +13,9 @@ pub record HasFound (log : List (Option (ReplyKind × List ℕ))) (first n : ℕ
   pub logged : (k : ℕ) (d : List (List ℕ)) → k < length lists → slice_get log (first + k) ≡ Some (Some (spelled (Keys (slice_index_or lists k d))))
   pub few : All (λ keys. length keys ≤ most_keys) lists
   pub legal : All (All IsKey) lists
+
+-- a part of the log is the reply of one shard, with these keys
+pub record AreFoundAt (log : List (Option (ReplyKind × List ℕ))) (part : ℕ) (keys : List (List ℕ)) : Type 0 where
+  pub logged : slice_get log part ≡ Some (Some (spelled (Keys keys)))
+  pub few : length keys ≤ most_keys
+  pub legal : All IsKey keys

@@ -1,13 +1,13 @@
--- The keys so far were added, and the others are the rest.
+-- The keys so far were taken, and the others are the rest.
 use Rattle.std.proofs.Common.{ℕ, ◌-◌, ◌≤◌, List, drop, length}
 use Rattle.cache_model.specs.KeyBody.{AreKeys}
 use Rattle.report_text.proofs.Gathered.{AreGathered}
-use Rattle.report_text.proofs.found.add_keys.Given as goal
+use Rattle.report_text.proofs.found.keys_of.Given as goal
 
 abbrev pub invariant-loop-span : goal.invariant-loop-span
 invariant-loop-span l = record {
   within : l.at ≤ length l.body;
-  gathered : (keys : List (List ℕ)) → AreKeys l.body keys → AreGathered l.fn.found.items l.found.items (drop l.at l.body) keys;
+  gathered : (keys : List (List ℕ)) → AreKeys l.body keys → AreGathered l.keys.items (drop l.at l.body) keys;
 }
 
 abbrev pub decreases-loop-span : goal.decreases-loop-span
