@@ -1,6 +1,9 @@
 -- The answer to one command, as its replies stand in a log.
 use Rattle.std.proofs.Common.{◌≡◌, ◌⊎◌, ℕ, ◌+◌, ◌<◌, ◌≤◌, Bool, true, false, List, [], ◌∷◌, length, map, get_or, Some, inl, inr, refl, subst, sym, ap, ◌∙◌, arith}
+use Rattle.std.specs.Ordering.{nat_cmp}
+use Rattle.std.specs.Cmp.Lexicographic.{slice_cmp}
 use Rattle.std.specs.List.{slice_get}
+use Rattle.std.specs.List.Sorted.{IsStrictlySortedBy}
 use Rattle.std.specs.Prelude.{All}
 use Rattle.std.proofs.lemmas.List.{get_or-map, length-map}
 use Rattle.std.proofs.lemmas.List.Elements.{All-head, All-map}
@@ -44,13 +47,14 @@ keys-of reply = keys_in (Some reply)
 record IsOfScan (count : ℕ) (reply : Reply) : Type 0 where
   is : reply ≡ Keys (keys-of reply)
   few : length (keys-of reply) ≤ count
+  rising : IsStrictlySortedBy (slice_cmp nat_cmp) (keys-of reply)
   legal : All IsKey (keys-of reply)
 
 of-scan : (kind : Kind) (longest : ℕ) (key : List ℕ) (count : ℕ) (reply : Reply) → is_scan kind ≡ true → FitsKind kind longest key count reply → IsOfScan count reply
 of-scan kinds.Put longest key count reply scan fits = cc scan
 of-scan kinds.Get longest key count reply scan fits = cc scan
 of-scan kinds.Erase longest key count reply scan fits = cc scan
-of-scan kinds.Scan longest key count (Keys keys) scan fits = record { is = refl; few = fits.few; legal = fits.lengths }
+of-scan kinds.Scan longest key count (Keys keys) scan fits = record { is = refl; few = fits.few; rising = fits.rising; legal = fits.lengths }
 of-scan kinds.Scan longest key count Stored scan fits = absurd fits
 of-scan kinds.Scan longest key count Replaced scan fits = absurd fits
 of-scan kinds.Scan longest key count (Value value) scan fits = absurd fits
@@ -127,6 +131,7 @@ read_joined longest n operation log first answer scan few p =
             p.logged k Stored within ∙ ap (λ r. Some (Some (spelled r))) ((each k Stored within).is)
             ∙ ap (λ keys. Some (Some (spelled (Keys keys)))) (sym (get_or-map keys-of p.replies k Stored d within));
         few = All-map (λ (keys : List (List ℕ)). length keys ≤ 32) keys-of p.replies (λ k d below. omega (arith, (each k d below).few, few));
+        rising = All-map (IsStrictlySortedBy (slice_cmp nat_cmp)) keys-of p.replies (λ k d below. (each k d below).rising);
         legal = All-map (All IsKey) keys-of p.replies (λ k d below. (each k d below).legal);
       };
       joined = joined.1;

@@ -2,8 +2,9 @@
 use Rattle.std.proofs.Common.{◌≡◌, ℕ, ◌+◌, ◌-◌, ◌≤◌, ◌<◌, List, [], ◌++◌, length, take, get_or, arith, sym, ap, ◌∙◌, subst, nat_cmp, IsPermutation, IsSorted}
 use Rattle.std.specs.Cmp.Lexicographic.{slice_cmp}
 use Rattle.std.specs.List.{flat_map, slice_get}
+use Rattle.std.specs.List.Sorted.{IsStrictlySortedBy}
 use Rattle.std.proofs.lemmas.List.{flat_map_more, take_all, take_more}
-use Rattle.std.proofs.lemmas.List.Sorted.{IsPermutation-append_left, IsPermutation-append_right, IsPermutation-trans}
+use Rattle.std.proofs.lemmas.List.Sorted.{IsPermutation-append_left, IsPermutation-trans}
 use Rattle.cache_model.specs.Answer.{join}
 use Rattle.cache_model.specs.Apply.{in_order}
 use Rattle.cache_model.specs.OwnParts.{Log}
@@ -37,27 +38,25 @@ next-list : (lists : List (List (List ℕ))) (k : ℕ) → k < length lists → 
 next-list lists k below =
     ap (flat_map (λ keys. keys)) (take_more lists k [] below) ∙ sym (flat_map_more (λ (keys : List (List ℕ)). keys) [] (take k lists) (get_or lists k []))
 
-with-keys : (all keys sorted : List (List ℕ)) (count : ℕ) (found after : List (List ℕ)) → AreFirst all count found → IsPermutation keys sorted → IsSorted (slice_cmp nat_cmp) sorted
-    → after ≡ take count (merged sorted found) → AreFirst (all ++ keys) count after
-with-keys all keys sorted count found after p same rises is = record {
-  ordered = merged sorted p.ordered;
+with-keys : (all keys : List (List ℕ)) (count : ℕ) (found after : List (List ℕ)) → AreFirst all count found → IsStrictlySortedBy (slice_cmp nat_cmp) keys
+    → after ≡ take count (merged keys found) → AreFirst (all ++ keys) count after
+with-keys all keys count found after p rising is = record {
+  ordered = merged keys p.ordered;
   same =
-      IsPermutation-trans (all ++ keys) (p.ordered ++ keys) (merged sorted p.ordered) (IsPermutation-append_left keys all p.ordered p.same)
-      (IsPermutation-trans (p.ordered ++ keys) (p.ordered ++ sorted) (merged sorted p.ordered) (IsPermutation-append_right p.ordered keys sorted same) (all_are sorted p.ordered));
-  sorted = merged_sorted sorted p.ordered rises p.sorted;
-  first = is ∙ ap (λ list. take count (merged sorted list)) p.first ∙ first_are count sorted p.ordered;
+      IsPermutation-trans (all ++ keys) (p.ordered ++ keys) (merged keys p.ordered) (IsPermutation-append_left keys all p.ordered p.same) (all_are keys p.ordered);
+  sorted = merged_sorted keys p.ordered rising p.sorted;
+  first = is ∙ ap (λ list. take count (merged keys list)) p.first ∙ first_are count keys p.ordered;
 }
 
-pub next_first : (log : Log) (first n part count : ℕ) (lists : List (List (List ℕ))) (sorted found after : List (List ℕ)) → HasFound log first n lists → first ≤ part → part < first + n
-    → AreFirst (before lists first part) count found → IsPermutation (get_or lists (part - first) []) sorted → IsSorted (slice_cmp nat_cmp) sorted
-    → after ≡ take count (merged sorted found) → AreFirst (before lists first (part + 1)) count after
-next_first log first n part count lists sorted found after p from to so-far same rises is =
+pub next_first : (log : Log) (first n part count : ℕ) (lists : List (List (List ℕ))) (found after : List (List ℕ)) → HasFound log first n lists → first ≤ part → part < first + n
+    → AreFirst (before lists first part) count found → after ≡ take count (merged (get_or lists (part - first) []) found) → AreFirst (before lists first (part + 1)) count after
+next_first log first n part count lists found after p from to so-far is =
     let within : part - first < length lists = omega (arith, p.many) in
     let more : part + 1 - first ≡ part - first + 1 = omega arith in
     let next : before lists first (part + 1) ≡ before lists first part ++ get_or lists (part - first) [] =
     ap (λ k. flat_map (λ keys. keys) (take k lists)) more ∙ next-list lists (part - first) within in
     subst (λ all. AreFirst all count after) (sym next)
-    (with-keys (before lists first part) (get_or lists (part - first) []) sorted count found after so-far same rises is)
+    (with-keys (before lists first part) (get_or lists (part - first) []) count found after so-far (p.rising (part - first) [] within) is)
 
 -- with those of all shards they are the joined keys
 pub all_first : ((keys sorted : List (List ℕ)) → IsPermutation keys sorted → IsSorted (slice_cmp nat_cmp) sorted → in_order keys ≡ sorted)

@@ -1,15 +1,12 @@
 -- Two lists of keys made one: what its first keys are, that it has all of the keys, and that it is in order where both are.
-use Rattle.std.proofs.Common.{◌≡◌, ◌+◌, ◌<◌, ◌≤◌, ◌∷◌, ◌++◌, ◌∙◌}
-use Rattle.std.proofs.Common.{ℕ, zero, suc, Bool, true, false, cond, List, [], length, take, get_or, arith, refl, sym, ap, add-one, append-nil, take-take, Some, Ordering, Less, Equal, Greater, is_le, is_lt, nat_cmp, IsPermutation, IsSorted}
-use denote.Ref.{Bor}
-use Rattle.std.specs.List.{AllAdjacentBelow}
-use Rattle.std.specs.Ordering.{is_some_and, ordering_reverse}
-use Rattle.std.specs.Cmp.Lexicographic.{lists_agrees, slice_cmp, slice_partial_cmp}
+use Rattle.std.proofs.Common.{◌≡◌, ℕ, ◌≤◌, zero, suc, Bool, true, false, cond, List, [], ◌∷◌, ◌++◌, take, arith, refl, ap, ◌∙◌, add-one, append-nil, take-take, Ordering, Less, Equal, Greater, is_le, is_lt, nat_cmp, IsPermutation, IsSorted}
+use Rattle.std.specs.Ordering.{ordering_reverse}
+use Rattle.std.specs.Cmp.Lexicographic.{slice_cmp}
+use Rattle.std.specs.List.Sorted.{IsStrictlySortedBy}
 use Rattle.std.proofs.lemmas.Cmp.{nat_list_cmp_total}
 use Rattle.std.proofs.lemmas.List.Sorted.{IsPermutation-cons, IsPermutation-middle, IsPermutation-refl, IsPermutation-trans}
 use Rattle.cache_model.specs.Apply.{is_at_most}
 use Rattle.report_text.specs.inside.Merged.{merged, put_among}
-use Rattle.report_text.proofs.Gathered.{texts}
 
 -- ---- the first keys of both lists need the first of the others alone
 
@@ -121,31 +118,12 @@ from_index (a ∷ b ∷ keys) sorted =
     let rest : IsSorted (slice_cmp nat_cmp) (b ∷ keys) = λ k d from within. rw add-one (rw add-one at (sorted (suc k) d (omega arith) (omega (arith, within)))) in
     (ap is_le (nat_list_cmp_total.antisymm a b) ∙ not_below (slice_cmp nat_cmp b a) (sorted 0 a (omega arith) (omega arith)), from_index (b ∷ keys) rest)
 
-pub merged_sorted : (keys others : List (List ℕ)) → IsSorted (slice_cmp nat_cmp) keys → IsSorted (slice_cmp nat_cmp) others → IsSorted (slice_cmp nat_cmp) (merged keys others)
-merged_sorted keys others sorted others-sorted =
-    by_index (merged keys others) (ordered-merged keys others (from_index keys sorted) (from_index others others-sorted))
+from_rising : (keys : List (List ℕ)) → IsStrictlySortedBy (slice_cmp nat_cmp) keys → AreInOrder keys
+unfolding IsStrictlySortedBy
+from_rising [] rising = tt
+from_rising (a ∷ []) rising = (tt, tt)
+from_rising (a ∷ b ∷ keys) rising = (ap is_le rising.0.0, from_rising (b ∷ keys) rising.1)
 
--- ---- keys as they stand in a log
-
--- each is at most the next
-in_turn : (keys : List (Bor (List ℕ))) → ((k : ℕ) (d : Bor (List ℕ)) → k + 1 < length keys → is_at_most (get_or keys k d).now (get_or keys (k + 1) d).now ≡ true) → AreInOrder (texts keys)
-in_turn [] each = tt
-in_turn (a ∷ []) each = (tt, tt)
-in_turn (a ∷ b ∷ keys) each = (each 0 a (omega arith), in_turn (b ∷ keys) (λ k d within. rw add-one (rw add-one at (each (suc k) d (omega (arith, within))))))
-
--- as a sort says it
-pub from_sort : (keys : List (Bor (List ℕ))) → IsSorted (λ a b. slice_cmp nat_cmp a.now b.now) keys → IsSorted (slice_cmp nat_cmp) (texts keys)
-from_sort keys sorted =
-    by_index (texts keys)
-    (in_turn keys (λ k d within.
-    let a = (get_or keys k d).now in
-    let b = (get_or keys (k + 1) d).now in
-    ap is_le (nat_list_cmp_total.antisymm a b) ∙ not_below (slice_cmp nat_cmp b a) (sorted k d (omega arith) within)))
-
--- as a look at each and the next says it
-pub from_look : (keys : List (Bor (List ℕ))) → AllAdjacentBelow (λ a b. is_some_and is_le (slice_partial_cmp (λ x y. Some (nat_cmp x y)) a.now b.now) ≡ true) keys (length keys)
-    → IsSorted (slice_cmp nat_cmp) (texts keys)
-from_look keys each =
-    by_index (texts keys)
-    (in_turn keys (λ k d within.
-    sym (ap (is_some_and is_le) (lists_agrees (λ x y. refl) (get_or keys k d).now (get_or keys (k + 1) d).now)) ∙ each k d within))
+pub merged_sorted : (keys others : List (List ℕ)) → IsStrictlySortedBy (slice_cmp nat_cmp) keys → IsSorted (slice_cmp nat_cmp) others → IsSorted (slice_cmp nat_cmp) (merged keys others)
+merged_sorted keys others rising others-sorted =
+    by_index (merged keys others) (ordered-merged keys others (from_rising keys rising) (from_index others others-sorted))

@@ -1,9 +1,6 @@
 //! The keys that the shards found in a scan.
 ghost use Rattle.std.specs.Prelude.{◌≡◌, ◌+◌, ◌^◌, ◌<◌, ◌≤◌, ℕ, List, length, map, Some};
-ghost use Rattle.std.specs.Ordering.{nat_cmp};
-ghost use Rattle.std.specs.Cmp.Lexicographic.{slice_cmp};
 ghost use Rattle.std.specs.List.{slice_get};
-ghost use Rattle.std.specs.List.Sorted.{IsPermutation, IsSorted};
 ghost use Rattle.layout.specs.Sizes.{most_keys};
 ghost use Rattle.cache_model.specs.Answer.{join};
 ghost use Rattle.cache_model.specs.Apply.{Keys};
@@ -42,26 +39,12 @@ fn keys_at(log: &ReplyLog, part: u32) -> &[u8]
     body
 }
 
-/// Puts keys in the order of their bytes, where they are not in it.
-fn order_keys(keys: &mut [&[u8]])
-    ensures same { IsPermutation (map (λ key. key.now) keys.old) (map (λ key. key.now) keys.new) }
-    ensures sorted { IsSorted (slice_cmp nat_cmp) (map (λ key. key.now) keys.new) }
-{
-    if !keys.is_sorted() {
-        keys.sort_unstable();
-    }
-}
-
-/// The keys that one shard found, in the order of their bytes.
-fn keys_in_order(log: &ReplyLog, part: u32) -> Found<'_>
+/// The keys that one shard found.
+fn shard_keys(log: &ReplyLog, part: u32) -> Found<'_>
     requires { (keys : List (List ℕ)) × AreFoundAt log.now.replies part keys }
-    ensures same { (keys : List (List ℕ)) → AreFoundAt log.now.replies part keys
-        → IsPermutation keys (map (λ key. key.now) result.items) }
-    ensures sorted { IsSorted (slice_cmp nat_cmp) (map (λ key. key.now) result.items) }
+    ensures { (keys : List (List ℕ)) → AreFoundAt log.now.replies part keys → map (λ key. key.now) result.items ≡ keys }
 {
-    let mut keys = keys_of(keys_at(log, part));
-    order_keys(keys.as_mut_slice());
-    keys
+    keys_of(keys_at(log, part))
 }
 
 /// The first `count` keys, in the order of their bytes, of those that `shards` shards found, whose replies stand in a log
@@ -76,7 +59,7 @@ pub(crate) fn joined_keys(log: &ReplyLog, first: u32, shards: u32, count: u32) -
     sorted_keys_are_in_order();
     let mut found = Found::new();
     for part in first..first + shards {
-        let keys = keys_in_order(log, part);
+        let keys = shard_keys(log, part);
         found = first_of_both(keys.as_slice(), found.as_slice(), count);
     }
     found

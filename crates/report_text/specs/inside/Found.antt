@@ -1,6 +1,9 @@
 -- What the shards found in a scan, as a log has it.
 use Rattle.std.specs.Prelude.{◌≡◌, ℕ, ◌+◌, ◌<◌, ◌≤◌, List, length, All, Option, Some}
+use Rattle.std.specs.Ordering.{nat_cmp}
+use Rattle.std.specs.Cmp.Lexicographic.{slice_cmp}
 use Rattle.std.specs.List.{slice_get, slice_index_or}
+use Rattle.std.specs.List.Sorted.{IsStrictlySortedBy}
 use Rattle.layout.specs.Sizes.{most_keys}
 use Rattle.cache_model.specs.declared.reply_kind.ReplyKind.{ReplyKind}
 use Rattle.cache_model.specs.Apply.{Keys}
@@ -12,6 +15,7 @@ pub record HasFound (log : List (Option (ReplyKind × List ℕ))) (first n : ℕ
   pub many : length lists ≡ n
   pub logged : (k : ℕ) (d : List (List ℕ)) → k < length lists → slice_get log (first + k) ≡ Some (Some (spelled (Keys (slice_index_or lists k d))))
   pub few : All (λ keys. length keys ≤ most_keys) lists
+  pub rising : All (IsStrictlySortedBy (slice_cmp nat_cmp)) lists
   pub legal : All (All IsKey) lists
 
 -- a part of the log is the reply of one shard, with these keys
