@@ -26,6 +26,12 @@ pub enum ReadStop {
 // How many bytes a read asks for at most.
 const PIECE: usize = 64 * 1024;
 
+// How many the first read asks for.
+const FIRST_PIECE: usize = 4 * 1024;
+
+// What room for a read is made of, copied as a whole.
+static ZEROS: [u8; PIECE] = [0; PIECE];
+
 /// Reads to the end of the input, of at most `limit` bytes.
 ///
 /// # Errors
@@ -115,8 +121,9 @@ fn read_at<S: Source>(source: &mut S, bytes: &mut [u8], at: usize) -> Result<usi
     source.read(&mut bytes[at..])
 }
 
-// Makes room for a read of a piece after the first `filled` bytes, up to `most` bytes in all. The
-// memory doubles; the zeros reach only as far as the next read.
+// Makes room for a read after the first `filled` bytes, up to `most` bytes in all. It asks for as many as
+// were read, up to a piece, so that short inputs touch little. The memory doubles; the zeros reach only as
+// far as the next read.
 fn make_room(bytes: &mut Vec<u8>, filled: usize, most: usize) -> Result<(), AllocError>
     // Where the next bytes go.
     requires within { filled ≤ vec_len bytes.old }
@@ -132,7 +139,7 @@ fn make_room(bytes: &mut Vec<u8>, filled: usize, most: usize) -> Result<(), Allo
     ensures bound { vec_len bytes.new ≤ most }
     ensures room { OnOk result (filled < vec_len bytes.new) }
 {
-    let end = (filled + PIECE).min(most);
+    let end = (filled + filled.clamp(FIRST_PIECE, PIECE)).min(most);
     if end <= bytes.len() {
         return Ok(());
     }
@@ -140,5 +147,5 @@ fn make_room(bytes: &mut Vec<u8>, filled: usize, most: usize) -> Result<(), Allo
         let capacity = bytes.capacity().saturating_mul(2).min(most).max(end);
         bytes.reserve_exact(capacity - bytes.len())?;
     }
-    bytes.resize(end, 0)
+    bytes.extend_from_slice(&ZEROS[..end - bytes.len()])
 }

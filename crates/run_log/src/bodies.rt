@@ -9,7 +9,7 @@ use std::marker::Model;
 /// A body of fewer bytes is copied whatever stands there already.
 const LONG: usize = 128;
 
-/// How many places of long bodies are remembered.
+/// How many places of long bodies are remembered, where there is room for one.
 const SLOTS: usize = 16_384;
 
 /// The bytes of bodies. A long one that stands there already, as a value does that is read again, is not copied a second time,
@@ -29,8 +29,7 @@ impl Model for Bodies {
 
     ghost view = { λ b. record { bytes = b.bytes.items; room = b.room } };
 
-    ghost invariant = { λ b. (vec_len b.bytes + b.room ≤ vec_capacity b.bytes) × (vec_len b.bytes + b.room < 2 ^ 32)
-        × (vec_len b.starts ≡ 16384) };
+    ghost invariant = { λ b. (vec_len b.bytes + b.room ≤ vec_capacity b.bytes) × (vec_len b.bytes + b.room < 2 ^ 32) };
 }
 
 impl Bodies {
@@ -38,10 +37,11 @@ impl Bodies {
     pub(crate) fn new(alloc: Global, room: u32) -> Result<Bodies, AllocError>
         ensures { IfOk result (λ bodies. bodies ≡ record { bytes = []; room = room }) }
     {
+        let slots = if (room as usize) < LONG { 0 } else { SLOTS };
         Ok(Bodies {
             bytes: Vec::with_capacity(alloc, room as usize)?,
             room,
-            starts: Vec::from_elem(alloc, 0, SLOTS)?,
+            starts: Vec::from_elem(alloc, 0, slots)?,
         })
     }
 
@@ -59,12 +59,14 @@ impl Bodies {
             return append(&mut self.bytes, body);
         }
         let slot = slot_of(body);
-        let start = self.starts[slot];
-        if stands_at(self.bytes.as_slice(), body, start) {
-            return start;
+        let remembered = self.starts.get(slot).copied().unwrap_or(0);
+        if stands_at(self.bytes.as_slice(), body, remembered) {
+            return remembered;
         }
         let start = append(&mut self.bytes, body);
-        self.starts[slot] = start;
+        if let Some(place) = self.starts.get_mut(slot) {
+            *place = start;
+        }
         start
     }
 
@@ -105,7 +107,6 @@ fn append(bytes: &mut Vec<u8>, body: &[u8]) -> u32
 /// The slot of a long body: by its length and its first and last eight bytes.
 fn slot_of(body: &[u8]) -> usize
     requires { 128 ≤ length body.now }
-    ensures { result < 16384 }
 {
     let first = LittleEndian::read_u64(body);
     let last = LittleEndian::read_u64(&body[body.len() - 8..]);
