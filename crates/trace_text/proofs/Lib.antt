@@ -3,6 +3,7 @@ pub mod Cuts
 pub mod LinesRead
 pub mod PartCounts
 pub mod Offsets
+pub mod PlacesRead
 pub mod PlainText
 pub mod Routes
 pub mod Tallies

@@ -27,10 +27,10 @@ pub record Reads (bytes : List ℕ) (commands : List Command) (rest : List ℕ) 
       ≡ with_front (operations bytes commands) (operations_of (length commands + 1) (command_lines line (lines rest)))
 
 -- a line that is passed over, and one that is not
-lines_passed : (text : List ℕ) (texts : List (List ℕ)) (line : ℕ) → is_passed text ≡ true → command_lines line (text ∷ texts) ≡ command_lines (line + 1) texts
+pub lines_passed : (text : List ℕ) (texts : List (List ℕ)) (line : ℕ) → is_passed text ≡ true → command_lines line (text ∷ texts) ≡ command_lines (line + 1) texts
 lines_passed text texts line e = ap (λ b. cond (not b) ((line, text) ∷ command_lines (line + 1) texts) (command_lines (line + 1) texts)) e
 
-lines_kept : (text : List ℕ) (texts : List (List ℕ)) (line : ℕ) → is_passed text ≡ false
+pub lines_kept : (text : List ℕ) (texts : List (List ℕ)) (line : ℕ) → is_passed text ≡ false
     → command_lines line (text ∷ texts) ≡ (line, text) ∷ command_lines (line + 1) texts
 lines_kept text texts line e = ap (λ b. cond (not b) ((line, text) ∷ command_lines (line + 1) texts) (command_lines (line + 1) texts)) e
 
@@ -44,7 +44,7 @@ with_front-with_front a b (Err refusal) = refl
 with_front-with_front a b (Ok operations) = ap Ok (sym (append_assoc a b operations))
 
 -- an end of an end is an end
-rest_of_rest : (a b c : List ℕ) → IsRestOf a b → IsRestOf b c → IsRestOf a c
+pub rest_of_rest : (a b c : List ℕ) → IsRestOf a b → IsRestOf b c → IsRestOf a c
 rest_of_rest a b c outer inner =
     let e : length a - length c ≡ length a - length b + (length b - length c) = omega arith in
     (omega arith, rw (e, ← drop-drop (length b - length c) (length a - length b) a, outer.1) inner.1)
@@ -56,13 +56,13 @@ number_read (Err cause) number line operation e = cc
 number_read (Ok fields) number line operation e =
     let same : numbered number line fields ≡ operation = cc in ap (λ o. o.number) (sym same)
 
-number_where : (full : Bool) (reading : Result Fields Cause) (number line : ℕ) (refusal : Refusal) (operation : Operation)
+pub number_where : (full : Bool) (reading : Result Fields Cause) (number line : ℕ) (refusal : Refusal) (operation : Operation)
     → cond full (Err refusal) (numbered_reading number line reading) ≡ Ok operation → operation.number ≡ number
 number_where true reading number line refusal operation e = cc
 number_where false reading number line refusal operation e = number_read reading number line operation e
 
 -- the next command has the next number
-numbered_push : (commands : List Command) (command : Command) → AreNumbered commands → command.number ≡ length commands + 1
+pub numbered_push : (commands : List Command) (command : Command) → AreNumbered commands → command.number ≡ length commands + 1
     → AreNumbered (commands ++ command ∷ [])
 numbered_push commands command so_far next k d within =
     let le : k < length commands + 1 = rw length-append at within in

@@ -1,5 +1,5 @@
 -- Where commands go, as it is written down while a trace is read.
-use Rattle.std.proofs.Common.{◌≡◌, ℕ, ◌+◌, ◌-◌, ◌<◌, ◌≤◌, ◌%◌, List, [], ◌∷◌, ◌++◌, length, map, get_or, arith, sym, ap, ◌∙◌}
+use Rattle.std.proofs.Common.{◌≡◌, ℕ, suc, ◌+◌, ◌-◌, ◌<◌, ◌≤◌, ◌%◌, List, [], ◌∷◌, ◌++◌, length, map, get_or, arith, refl, sym, ap, ◌∙◌}
 use Rattle.std.proofs.Math.Nat.{mod-lt}
 use Rattle.std.proofs.lemmas.List.{get_or-map, length-map, map-append}
 use Rattle.trace_text.specs.declared.command.Command.{Command}
@@ -8,8 +8,8 @@ use Rattle.trace_text.specs.declared.route.Route.{Route}
 use Rattle.trace_text.specs.Operation.{Operation, operation, operations}
 use Rattle.trace_text.specs.Parsed.{AreNumbered}
 use Rattle.trace_text.specs.Parts.{hash, origin}
-use Rattle.trace_text.specs.inside.Found.{LiesAt}
-use Rattle.trace_text.specs.inside.Routes.{AddsRoute, IsRouteAt, route, routes}
+use Rattle.trace_text.specs.inside.Found.{IsKeyAt, LiesAt}
+use Rattle.trace_text.specs.inside.Routes.{AddsRoute, AreRoutedAt, route, route_of, routes}
 use Rattle.trace_text.proofs.LinesRead.{Reads}
 use Rattle.trace_text.proofs.Offsets.{lies_within}
 
@@ -24,11 +24,13 @@ abbrev pub no_route : Route
 no_route = record { kind = Put; owner = 0 }
 
 -- a command more, and its route
-pub adds_route : (n : ℕ) (text : List ℕ) (start : ℕ) (commands : List Command) (old : List Route) (command : Command) (to : Route)
-    → IsRouteAt n text start command to → AddsRoute n text start commands old (commands ++ command ∷ []) (old ++ to ∷ [])
-adds_route n text start commands old command to is bytes lies are =
+pub adds_route : (n : ℕ) (text : List ℕ) (start : ℕ) (commands : List Command) (old : List Route) (command : Command) (key : List ℕ)
+    (to : Route) → IsKeyAt text start command key → to ≡ route_of n command.kind key
+    → AddsRoute n text start commands old (commands ++ command ∷ []) (old ++ to ∷ [])
+adds_route n text start commands old command key to is goes bytes lies are =
+    let here : to ≡ route n (operation bytes command) = goes ∙ ap (route_of n command.kind) (sym (is bytes lies)) in
     ap (λ list. list ++ to ∷ []) are
-    ∙ ap (λ r. routes n (operations bytes commands) ++ r ∷ []) (is bytes lies)
+    ∙ ap (λ r. routes n (operations bytes commands) ++ r ∷ []) here
     ∙ sym (map-append (route n) (operations bytes commands) (operation bytes command ∷ []))
     ∙ ap (map (route n)) (sym (map-append (operation bytes) commands (command ∷ [])))
 
@@ -63,3 +65,14 @@ pub owner_below : (n : ℕ) (trace : List Operation) (to : List Route) (at : ℕ
     → (get_or to at e).owner < n
 owner_below n trace to at e some are within =
     rw (route_at n trace to at e no_operation are within) (mod-lt (hash (get_or trace at no_operation).key) some)
+
+-- where each stands at its place, they are all of them
+pub routes_from_each : (n : ℕ) (bytes : List ℕ) (commands : List Command) (to : List Route) → length to ≡ length commands
+    → AreRoutedAt bytes commands n to → to ≡ routes n (operations bytes commands)
+routes_from_each n bytes [] [] many each = refl
+routes_from_each n bytes [] (t ∷ to) many each = absurd (omega (arith, many))
+routes_from_each n bytes (c ∷ commands) [] many each = absurd (omega (arith, many))
+routes_from_each n bytes (c ∷ commands) (t ∷ to) many each =
+    let here : t ≡ route n (operation bytes c) = each 0 c t (omega arith) in
+    let later = routes_from_each n bytes commands to (omega (arith, many)) (λ k d e within. each (suc k) d e (omega (arith, within))) in
+    ap (λ r. r ∷ to) here ∙ ap (λ rest. route n (operation bytes c) ∷ rest) later

@@ -1,4 +1,5 @@
 pub mod Counted
 pub mod Found
+pub mod Places
 pub mod Plain
 pub mod Routes

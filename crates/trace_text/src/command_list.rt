@@ -39,6 +39,26 @@ impl CommandList {
         }
     }
 
+    /// Commands that are there already.
+    pub(crate) fn of(commands: Vec<Command>) -> CommandList
+        ensures { result ≡ commands.items }
+    {
+        let mut gets = 0usize;
+        let mut scans = 0usize;
+        let mut longest = 0u32;
+        for command in commands.as_slice() {
+            gets += usize::from(command.kind.is_get());
+            scans += usize::from(command.kind.is_scan());
+            longest = max(longest, command.value.len);
+        }
+        CommandList {
+            commands,
+            gets,
+            scans,
+            longest,
+        }
+    }
+
     pub(crate) fn push(&mut self, command: Command) -> Result<(), AllocFailed<Command>>
         ensures { OnOk result (self.new ≡ self.old ++ command ∷ []) }
     {

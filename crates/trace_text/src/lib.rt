@@ -1,7 +1,7 @@
 //! The trace: its bytes, the commands that they spell, and where the parts of a command are done.
 //!
-//! A trace is read once, by [`parse`]. A [`Trace`] keeps its bytes, and each [`Command`] says where its
-//! key and its value stand in them; no text is copied.
+//! A trace is read once, by [`parse`], or on threads by [`parse_on`]. A [`Trace`] keeps its bytes, and each [`Command`]
+//! says where its key and its value stand in them; no text is copied.
 #![tactic(auto)]
 
 mod command;
@@ -10,6 +10,7 @@ mod line;
 mod parts;
 mod plain;
 mod reading;
+mod reading_on;
 mod refusal;
 mod route;
 mod trace;
@@ -17,5 +18,6 @@ mod trace;
 pub use command::{Command, Kind, Span};
 pub use parts::{MOST_SHARDS, Needs, origin_of, owner_of};
 pub use reading::parse;
+pub use reading_on::parse_on;
 pub use refusal::{Cause, ParseRefusal};
 pub use trace::Trace;

@@ -1,8 +1,8 @@
 //! The reading of a trace.
 ghost use Rattle.std.specs.Prelude.{◌≡◌, ℕ, ◌+◌, ◌<◌, ◌≤◌, ◌^◌, ◌∷◌, length, IfOk, IfErr, OnOk, Ok, Err, IsTrue};
-ghost use Rattle.trace_text.specs.inside.Found.{AddsLine, IsCommandAt, IsRestOf, LiesAt, RefusesLine};
+ghost use Rattle.trace_text.specs.inside.Found.{AddsLine, IsCommandAt, IsKeyAt, IsRestOf, LiesAt, RefusesLine};
 ghost use Rattle.trace_text.specs.inside.Plain.{IsPlain};
-ghost use Rattle.trace_text.specs.inside.Routes.{AddsRoute, IsRouteAt, routes};
+ghost use Rattle.trace_text.specs.inside.Routes.{AddsRoute, routes};
 ghost use Rattle.trace_text.specs.Operation.{operations};
 ghost use Rattle.trace_text.specs.Parsed.{AreSpelled, trace_in};
 ghost use Rattle.trace_text.specs.Parts.{most_shards};
@@ -20,7 +20,7 @@ use crate::trace::Trace;
 use std::alloc::Global;
 
 /// The most commands of a trace.
-const MOST_COMMANDS: usize = 1_048_576;
+pub(crate) const MOST_COMMANDS: usize = 1_048_576;
 
 /// The most bytes of replies to a trace.
 const MOST_REPLIES: u64 = 536_870_912;
@@ -47,7 +47,7 @@ fn strip_cr(text: &[u8]) -> &[u8]
 }
 
 /// The first line of a text, what follows its LF, and whether the line's bytes are known to be those of a value.
-fn cut_line(text: &[u8]) -> (&[u8], &[u8], bool)
+pub(crate) fn cut_line(text: &[u8]) -> (&[u8], &[u8], bool)
     ensures front { LiesAt text.now 0 result.0.now }
     ensures rest { IsRestOf text.now result.1.now }
     ensures progress { 0 < length text.now → length result.1.now < length text.now }
@@ -64,22 +64,19 @@ fn cut_line(text: &[u8]) -> (&[u8], &[u8], bool)
     }
 }
 
-/// The command on a line that begins at `start` of the trace, and where it goes.
-fn command_at(
+/// The command on a line that begins at `start` of the trace, and its key.
+pub(crate) fn command_at(
     text: &[u8],
     sound: bool,
     start: usize,
     number: u32,
     line: u32,
-    shards: u32,
-) -> Result<(Command, Route), Cause>
+) -> Result<(Command, &[u8]), Cause>
     requires sound { IsTrue sound → IsPlain text.now }
     requires end { start + length text.now < 2 ^ 32 }
     requires few { number ≤ most_commands }
-    requires some_shards { 1 ≤ shards }
-    requires most_shards { shards ≤ most_shards }
     ensures found { IfOk result (λ found. IsCommandAt text.now start number line found.0) }
-    ensures route { IfOk result (λ found. IsRouteAt shards text.now start found.0 found.1) }
+    ensures key { IfOk result (λ found. IsKeyAt text.now start found.0 found.1.now) }
     ensures refused { IfErr result (λ cause. line_reading (number, (line, text.now)) ≡ Err (AtLine line cause)) }
 {
     let found = fields_of(text, sound)?;
@@ -97,7 +94,7 @@ fn command_at(
         },
         count: found.count,
     };
-    Ok((command, Route::new(found.kind, found.key, shards)))
+    Ok((command, found.key))
 }
 
 /// Adds the command on a line that begins at `start` of the trace, and its route, or passes the line over.
@@ -130,8 +127,9 @@ fn add_line(
             cause: Cause::TooManyCommands,
         });
     }
-    match command_at(text, sound, start, commands.len() as u32 + 1, line, shards) {
-        Ok((command, route)) => {
+    match command_at(text, sound, start, commands.len() as u32 + 1, line) {
+        Ok((command, key)) => {
+            let route = Route::new(command.kind, key, shards);
             commands.push(command)?;
             routes.push(route)?;
             Ok(())
@@ -167,6 +165,37 @@ fn commands_of(
     Ok((commands, routes))
 }
 
+/// The trace of the commands that the bytes spell, where the replies to them have room.
+pub(crate) fn trace_over(
+    bytes: Vec<u8>,
+    commands: CommandList,
+    where_to: Vec<Route>,
+    shards: u32,
+) -> Result<Trace, ParseRefusal>
+    requires short { length bytes.items ≤ most_trace_bytes }
+    requires some_shards { 1 ≤ shards }
+    requires most_shards { shards ≤ most_shards }
+    requires spelled { AreSpelled bytes.items commands }
+    requires routed { where_to.items ≡ routes shards (operations bytes.items commands) }
+    ensures bytes { IfOk result (λ trace. trace.bytes ≡ bytes.items) }
+    ensures shards { IfOk result (λ trace. trace.shards ≡ shards) }
+    ensures read { IfOk result (λ trace. trace_of bytes.items shards ≡ Ok (trace_in trace)) }
+    ensures refused { IfErr result (λ refusal. IsRefusedAs refusal (trace_of bytes.items shards)) }
+{
+    if replies_room(&commands, shards) > MOST_REPLIES {
+        return Err(ParseRefusal::Trace {
+            line: 0,
+            cause: Cause::RepliesTooLarge,
+        });
+    }
+    Ok(Trace {
+        bytes,
+        commands,
+        shards,
+        routes: where_to,
+    })
+}
+
 /// Reads a trace of at most [`MOST_TRACE_BYTES`] bytes for a run with `shards` shards, 1 to 16.
 ///
 /// The bytes are cut at each LF, what stands behind the last LF is a line too, and one CR at a line's end is dropped.
@@ -188,16 +217,5 @@ pub fn parse(alloc: Global, bytes: Vec<u8>, shards: u32) -> Result<Trace, ParseR
     ensures refused { IfErr result (λ refusal. IsRefusedAs refusal (trace_of bytes.items shards)) }
 {
     let (commands, routes) = commands_of(alloc, bytes.as_slice(), shards)?;
-    if replies_room(&commands, shards) > MOST_REPLIES {
-        return Err(ParseRefusal::Trace {
-            line: 0,
-            cause: Cause::RepliesTooLarge,
-        });
-    }
-    Ok(Trace {
-        bytes,
-        commands,
-        shards,
-        routes,
-    })
+    trace_over(bytes, commands, routes, shards)
 }

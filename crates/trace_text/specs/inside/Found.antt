@@ -6,7 +6,7 @@ use Rattle.trace_text.specs.declared.refusal.Cause.{Cause}
 use Rattle.trace_text.specs.declared.refusal.ParseRefusal.{ParseRefusal}
 use Rattle.trace_text.specs.declared.refusal.ParseRefusal.TheVariants as refusals
 use Rattle.trace_text.specs.Line.{Fields, is_passed, key_fault, value_fault}
-use Rattle.trace_text.specs.Operation.{operation}
+use Rattle.trace_text.specs.Operation.{operation, part}
 use Rattle.trace_text.specs.Parsed.{HasItsFields, LiesWithin}
 use Rattle.trace_text.specs.Reading.{AtLine, line_reading}
 
@@ -43,6 +43,10 @@ IsRestOf text rest = (length rest ≤ length text) × (drop (length text - lengt
 abbrev pub IsCommandAt : List ℕ → ℕ → ℕ → ℕ → Command → Type 0
 IsCommandAt text start number line command = (bytes : List ℕ) → LiesAt bytes start text
     → (line_reading (number, (line, text)) ≡ Ok (operation bytes command)) × LiesWithin bytes command
+
+-- the command's key, in whatever bytes its line stands at this offset
+abbrev pub IsKeyAt : List ℕ → ℕ → Command → List ℕ → Type 0
+IsKeyAt text start command key = (bytes : List ℕ) → LiesAt bytes start text → part bytes command.key ≡ key
 
 -- a line adds its command, or is passed over
 abbrev pub AddsLine : List ℕ → ℕ → ℕ → List Command → List Command → Type 0

@@ -1,5 +1,5 @@
 -- Where commands go, as it is written down while a trace is read.
-use Rattle.std.specs.Prelude.{◌≡◌, ℕ, List, map}
+use Rattle.std.specs.Prelude.{◌≡◌, ℕ, ◌<◌, List, length, map, slice_index_or}
 use Rattle.trace_text.specs.declared.command.Command.{Command}
 use Rattle.trace_text.specs.declared.command.Kind.{Kind}
 use Rattle.trace_text.specs.declared.route.Route.{Route}
@@ -18,14 +18,15 @@ route n operation = route_of n operation.kind operation.key
 abbrev pub routes : ℕ → List Operation → List Route
 routes n operations = map (route n) operations
 
--- a line's command goes there, in whatever bytes the line stands at this offset
-abbrev pub IsRouteAt : ℕ → List ℕ → ℕ → Command → Route → Type 0
-IsRouteAt n text start command where_to = (bytes : List ℕ) → LiesAt bytes start text → where_to ≡ route n (operation bytes command)
-
 -- a line that adds a command adds its route
 abbrev pub AddsRoute : ℕ → List ℕ → ℕ → List Command → List Route → List Command → List Route → Type 0
 AddsRoute n text start commands old more new = (bytes : List ℕ) → LiesAt bytes start text
     → old ≡ routes n (operations bytes commands) → new ≡ routes n (operations bytes more)
+
+-- each command's route stands at its place
+abbrev pub AreRoutedAt : List ℕ → List Command → ℕ → List Route → Type 0
+AreRoutedAt bytes commands n where_to = (k : ℕ) (d : Command) (e : Route) → k < length where_to
+    → slice_index_or where_to k e ≡ route n (operation bytes (slice_index_or commands k d))
 
 -- a trace with the routes of its commands
 pub record IsRouted (trace : Parsed) (where_to : List Route) : Type 0 where

@@ -20,7 +20,5 @@ returns-clause-found c bytes lies =
       },
     )
 
-pub returns-clause-route : goal.returns-clause-route
-returns-clause-route c bytes lies =
-    let key = lies_in_outer bytes c.args.text.now _ c.args.start _ lies c.in_ok-found.ensures.offsets.key in
-    rw key.1 c.new.ensures
+pub returns-clause-key : goal.returns-clause-key
+returns-clause-key c bytes lies = (lies_in_outer bytes c.args.text.now _ c.args.start _ lies c.in_ok-found.ensures.offsets.key).1
