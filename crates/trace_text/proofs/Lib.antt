@@ -6,5 +6,6 @@ pub mod Offsets
 pub mod PlacesRead
 pub mod PlainText
 pub mod Routes
+pub mod ShardCounts
 pub mod Tallies
 pub mod TraceRead

@@ -9,7 +9,7 @@ use Rattle.trace_text.specs.Operation.{Operation}
 use Rattle.trace_text.specs.Trace.{Trace}
 use Rattle.trace_text.specs.Parts.{done_at, has_part, hash, here_parts, is_scan, issued, origin, own_parts, owner, parts}
 
-abbrev one_if : Bool → ℕ
+abbrev pub one_if : Bool → ℕ
 one_if b = cond b 1 0
 
 -- a sum of sums, in either order
@@ -22,7 +22,7 @@ sum_by-add f g [] = refl
 sum_by-add f g (x ∷ xs) =
     rw (sum_by-cons (λ y. f y + g y) x xs, sum_by-cons f x xs, sum_by-cons g x xs, sum_by-add f g xs) (omega arith)
 
-sum_by-cong : {X : Type 0} (f g : X → ℕ) (xs : List X) → ((x : X) → f x ≡ g x) → sum_by f xs ≡ sum_by g xs
+pub sum_by-cong : {X : Type 0} (f g : X → ℕ) (xs : List X) → ((x : X) → f x ≡ g x) → sum_by f xs ≡ sum_by g xs
 sum_by-cong f g [] same = refl
 sum_by-cong f g (x ∷ xs) same = rw (sum_by-cons f x xs, sum_by-cons g x xs, same x, sum_by-cong f g xs same) refl
 

@@ -3,3 +3,4 @@ pub mod Found
 pub mod Places
 pub mod Plain
 pub mod Routes
+pub mod ShardCounts

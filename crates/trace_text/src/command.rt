@@ -1,6 +1,6 @@
 //! What a command is.
 ghost use Rattle.std.specs.Prelude.{◌≡◌, if◌then◌else◌};
-ghost use Rattle.trace_text.specs.Parts.{is_get, is_put, is_scan};
+ghost use Rattle.trace_text.specs.Parts.{is_get, is_scan};
 
 /// What a command does.
 #[derive(Clone, Copy, Debug, PartialEq, Eq)]
@@ -12,12 +12,6 @@ pub enum Kind {
 }
 
 impl Kind {
-    pub(crate) fn is_put(self) -> bool
-        ensures { result ≡ is_put self }
-    {
-        matches!(self, Kind::Put)
-    }
-
     pub(crate) fn is_get(self) -> bool
         ensures { result ≡ is_get self }
     {

@@ -13,6 +13,7 @@ mod reading;
 mod reading_on;
 mod refusal;
 mod route;
+mod shard_counts;
 mod trace;
 
 pub use command::{Command, Kind, Span};

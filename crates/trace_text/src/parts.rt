@@ -2,7 +2,7 @@
 ghost use Rattle.std.specs.Prelude.{◌≡◌, ℕ, ◌+◌, ◌%◌, ◌<◌, ◌≤◌, List, length, count_by, fold, max, if◌then◌else◌, All};
 ghost use Rattle.trace_text.specs.Parsed.{LiesWithin, trace_in};
 ghost use Rattle.trace_text.specs.Operation.{operations};
-ghost use Rattle.trace_text.specs.Parts.{most_shards, hash, owner, origin, is_put, is_get, is_scan, issued, done_at, own_parts, here_parts, here_puts, longest_value, reply_bytes, replies_room};
+ghost use Rattle.trace_text.specs.Parts.{most_shards, hash, owner, origin, is_get, is_scan, issued, done_at, own_parts, here_parts, here_puts, longest_value, reply_bytes, replies_room};
 ghost use Rattle.trace_text.specs.Reading.{most_commands};
 ghost use Rattle.trace_text.specs.Trace.{trace_with};
 
@@ -81,28 +81,14 @@ impl Trace {
         ensures reply_bytes { result.reply_bytes ≡ reply_bytes (trace_in self.now) shards shard }
     {
         self.commands();
-        let routes = self.routes();
-        let mut own_parts = 0;
-        let mut here_parts = 0;
-        let mut here_puts = 0;
-        let mut gets = 0;
-        let mut scans = 0;
-        let mut origin = 0;
-        for route in routes {
-            let is_own = origin == shard;
-            let owns = route.is_owned_by(shard);
-            own_parts += own_parts_of(route.kind, is_own, shards);
-            here_parts += u32::from(route.has_part(shard));
-            here_puts += u32::from(route.kind.is_put() & owns);
-            gets += u32::from(route.kind.is_get() & is_own);
-            scans += u32::from(route.kind.is_scan() & is_own);
-            origin = origin_after(origin, shards);
-        }
+        let scans = self.commands.scans() as u32;
+        let own_gets = self.issued.of(shard, Kind::Get);
+        let own_scans = self.issued.of(shard, Kind::Scan);
         Needs {
-            own_parts,
-            here_parts,
-            here_puts,
-            reply_bytes: gets * self.longest_value() + scans * (shards * SCAN_ROOM),
+            own_parts: self.issued.other_than_scans(shard) + own_scans * shards,
+            here_parts: self.owned.other_than_scans(shard) + scans,
+            here_puts: self.owned.of(shard, Kind::Put),
+            reply_bytes: own_gets * self.longest_value() + own_scans * (shards * SCAN_ROOM),
         }
     }
 
@@ -128,14 +114,8 @@ pub(crate) fn replies_room(commands: &CommandList, shards: u32) -> u64
     gets * u64::from(commands.longest_value()) + scans * u64::from(shards * SCAN_ROOM)
 }
 
-fn own_parts_of(kind: Kind, is_own: bool, shards: u32) -> u32
-    ensures { result ≡ (if is_own then (if is_scan kind then shards else 1) else 0) }
-{
-    if is_own { kind.parts(shards) } else { 0 }
-}
-
 /// The origin of the command behind one of this origin.
-fn origin_after(origin: u32, shards: u32) -> u32
+pub(crate) fn origin_after(origin: u32, shards: u32) -> u32
     requires below { origin < shards }
     requires most { shards ≤ most_shards }
     ensures { (at : ℕ) → origin ≡ at % shards → result ≡ (at + 1) % shards }

@@ -12,10 +12,11 @@ ghost use Rattle.trace_text.specs.Reading.{AtLine, is_cr, line_reading, lines, m
 use crate::command::{Command, Span};
 use crate::command_list::CommandList;
 use crate::line::{cut_at_lf, fields_of, is_passed};
-use crate::parts::replies_room;
+use crate::parts::{origin_after, replies_room};
 use crate::plain::plain_front;
 use crate::refusal::{Cause, ParseRefusal};
 use crate::route::Route;
+use crate::shard_counts::ShardCounts;
 use crate::trace::Trace;
 use std::alloc::Global;
 
@@ -165,7 +166,7 @@ fn commands_of(
     Ok((commands, routes))
 }
 
-/// The trace of the commands that the bytes spell, where the replies to them have room.
+/// The trace of these commands, which the bytes spell, and of their routes; refused where the replies would be too large.
 pub(crate) fn trace_over(
     bytes: Vec<u8>,
     commands: CommandList,
@@ -188,11 +189,21 @@ pub(crate) fn trace_over(
             cause: Cause::RepliesTooLarge,
         });
     }
+    let mut owned = ShardCounts::new();
+    let mut issued = ShardCounts::new();
+    let mut origin = 0;
+    for route in where_to.as_slice() {
+        owned.add(u32::from(route.owner), route.kind);
+        issued.add(origin, route.kind);
+        origin = origin_after(origin, shards);
+    }
     Ok(Trace {
         bytes,
         commands,
         shards,
         routes: where_to,
+        owned,
+        issued,
     })
 }
 

@@ -202,7 +202,7 @@ fn routes_on<R: Threads + Sync>(
 /// `threads` threads, at least 1.
 ///
 /// One thread cuts the lines, and all read their fields; so it is for traces of many lines. Where the system makes no thread,
-/// the lines are read one after another.
+/// the lines are read one after another. With one thread it is [`parse`].
 ///
 /// # Errors
 ///
@@ -224,6 +224,9 @@ pub fn parse_on<R: Threads + Sync>(
     ensures read { IfOk result (λ trace. trace_of bytes.items shards ≡ Ok (trace_in trace)) }
     ensures refused { IfErr result (λ refusal. IsRefusedAs refusal (trace_of bytes.items shards)) }
 {
+    if threads == 1 {
+        return parse(alloc, bytes, shards);
+    }
     let Some(commands) = commands_on(rt, alloc, threads, bytes.as_slice())? else {
         return parse(alloc, bytes, shards);
     };

@@ -5,11 +5,12 @@ ghost use Rattle.trace_text.specs.Operation.{Operation, part};
 ghost use Rattle.trace_text.specs.Parsed.{trace_in, AreNumbered, IsWellFormed, LiesWithin};
 ghost use Rattle.trace_text.specs.Parts.{has_part, is_scan, most_shards, owner, replies_room};
 ghost use Rattle.trace_text.specs.Reading.{most_commands, most_replies, trace_of};
-ghost use Rattle.trace_text.specs.inside.Routes.{route, routes};
+ghost use Rattle.trace_text.specs.inside.Routes.{route};
 
 use crate::command::Command;
 use crate::command_list::CommandList;
 use crate::route::Route;
+use crate::shard_counts::ShardCounts;
 use std::marker::Model;
 
 /// The commands of a trace, with its bytes. Contracts see the bytes, the commands, and the number of
@@ -21,6 +22,10 @@ pub struct Trace {
     pub(crate) shards: u32,
     // One for each command.
     pub(crate) routes: Vec<Route>,
+    // The commands by the shard that owns the key.
+    pub(crate) owned: ShardCounts,
+    // The commands by the shard that issues them.
+    pub(crate) issued: ShardCounts,
 }
 
 impl Model for Trace {
@@ -31,7 +36,8 @@ impl Model for Trace {
 
     ghost view = { λ t. record { bytes = t.bytes.items; commands = t.commands; shards = t.shards } };
 
-    ghost invariant = { λ t. IsRouted (record { bytes = t.bytes.items; commands = t.commands; shards = t.shards }) t.routes.items };
+    ghost invariant = { λ t. IsRouted (record { bytes = t.bytes.items; commands = t.commands; shards = t.shards })
+        t.routes.items t.owned.counts t.issued.counts };
 }
 
 impl Trace {
@@ -74,13 +80,6 @@ impl Trace {
     {
         let start = command.value.start as usize;
         &self.bytes[start..start + command.value.len as usize]
-    }
-
-    /// Where the commands go, in order.
-    pub(crate) fn routes(&self) -> &[Route]
-        ensures { result.now ≡ routes self.now.shards (trace_in self.now).operations }
-    {
-        self.routes.as_slice()
     }
 
     /// Where the command at this place goes.

@@ -5,8 +5,9 @@ use Rattle.trace_text.specs.declared.command.Kind.{Kind}
 use Rattle.trace_text.specs.declared.route.Route.{Route}
 use Rattle.trace_text.specs.Operation.{Operation, operation, operations}
 use Rattle.trace_text.specs.Parsed.{IsConsistent, Parsed}
-use Rattle.trace_text.specs.Parts.{owner}
+use Rattle.trace_text.specs.Parts.{origin, owner}
 use Rattle.trace_text.specs.inside.Found.{LiesAt}
+use Rattle.trace_text.specs.inside.ShardCounts.{AreCountsBy}
 
 -- of n shards: a command's kind, and the owner of its key
 abbrev pub route_of : ℕ → Kind → List ℕ → Route
@@ -28,7 +29,16 @@ abbrev pub AreRoutedAt : List ℕ → List Command → ℕ → List Route → Ty
 AreRoutedAt bytes commands n where_to = (k : ℕ) (d : Command) (e : Route) → k < length where_to
     → slice_index_or where_to k e ≡ route n (operation bytes (slice_index_or commands k d))
 
--- a trace with the routes of its commands
-pub record IsRouted (trace : Parsed) (where_to : List Route) : Type 0 where
+-- the counts by the shard that owns the key, and by the one that issues the command, of n shards
+abbrev pub AreOwned : ℕ → List Operation → List ℕ → Type 0
+AreOwned n operations counts = AreCountsBy (λ operation. owner operation.key n) operations counts
+
+abbrev pub AreIssued : ℕ → List Operation → List ℕ → Type 0
+AreIssued n operations counts = AreCountsBy (λ operation. origin operation.number n) operations counts
+
+-- a trace with the routes of its commands, and their counts
+pub record IsRouted (trace : Parsed) (where_to : List Route) (owned issued : List ℕ) : Type 0 where
   pub consistent : IsConsistent trace
   pub routes_are : where_to ≡ routes trace.shards (operations trace.bytes trace.commands)
+  pub owned_are : AreOwned trace.shards (operations trace.bytes trace.commands) owned
+  pub issued_are : AreIssued trace.shards (operations trace.bytes trace.commands) issued

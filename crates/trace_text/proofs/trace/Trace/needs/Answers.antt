@@ -1,84 +1,122 @@
--- One command more.
-use Rattle.std.proofs.Common.{◌≡◌, ◌≤◌, ◌+◌, ◌*◌, [], length, get_or, ap, arith, sym, ◌∙◌}
-use Rattle.std.proofs.lemmas.List.{length-map}
-use Rattle.trace_text.specs.declared.command.Kind.TheVariants.{Put}
-use Rattle.trace_text.specs.declared.command.Command.{Command}
-use Rattle.trace_text.specs.declared.route.Route.{Route}
-use Rattle.trace_text.specs.Operation.{Operation, operation, operations}
+-- What a shard needs, by the counts of the trace.
+use Rattle.std.proofs.Common.{◌≡◌, ◌≤◌, ◌+◌, ◌*◌, arith, sym, ◌∙◌}
+use Rattle.std.proofs.Math.Nat.{mul-le-mul_right}
 use Rattle.layout.specs.Sizes.{scan_room}
+use Rattle.trace_text.specs.declared.command.Kind.TheVariants.{Put, Get, Erase, Scan}
+use Rattle.trace_text.specs.Operation.{operations}
 use Rattle.trace_text.specs.Parsed.{trace_in}
-use Rattle.trace_text.specs.Parts.{done_at, issued, longest_value, most_shards, replies_room}
+use Rattle.trace_text.specs.Parts.{here_parts, is_scan, most_shards, own_parts, reply_bytes}
 use Rattle.trace_text.specs.Reading.{most_replies}
-use Rattle.trace_text.specs.inside.Routes.{routes}
-use Rattle.trace_text.proofs.Routes.{length-routes, no_command, no_operation, no_route, origin_at, route_at}
-use Rattle.trace_text.proofs.Tallies.{tallied_next, tallied_lists, tallied_room, bool_byte-one_if, one_if}
+use Rattle.trace_text.specs.Trace.{trace_with}
+use Rattle.trace_text.specs.inside.Routes.{AreIssued, AreOwned}
+use Rattle.trace_text.specs.inside.ShardCounts.{slot}
+use Rattle.trace_text.proofs.PartCounts.{done_is, issued_is}
+use Rattle.trace_text.proofs.ShardCounts.{here_parts_are, here_puts_are, issued_few, own_parts_are, owned_few, reply_bytes_are}
+use Rattle.trace_text.proofs.Tallies.{count_in, share_fits}
 use Rattle.trace_text.proofs.trace.Trace.needs.Goals as goal
 
-pub loop-route-preserved : goal.loop-route-preserved
-loop-route-preserved c =
-    let trace = c.args.self.now in
-    let n = c.args.shards in
-    let ops = operations trace.bytes trace.commands in
-    let to = c.routes-routes.result.now in
-    let i = c.loop-route.route-index in
-    let from = c.loop-route.invariant.origin in
-    let few : n ≤ most_shards = rw c.requires.parsed_for c.commands.ensures.most_shards in
-    let are : to ≡ routes n ops = rw c.requires.parsed_for c.routes-routes.ensures in
-    let many : length to ≡ length trace.commands = ap length are ∙ length-routes n trace.bytes trace.commands in
-    let also : length ops ≡ length trace.commands = length-map trace.commands (operation trace.bytes) in
-    let numbered = rw c.commands.ensures.value at c.commands.ensures.numbered in
-    let owns = c.is_owned_by-owns.ensures in
-    let puts = rw (owns, c.is_put.ensures) at c.from-here_puts.ensures in
-    let gets = rw c.is_get.ensures at c.from-gets.ensures in
-    let scans = rw c.is_scan.ensures at c.from-scans.ensures in
-    record {
-      origin = c.origin_after-origin.ensures i from;
-      tallied = tallied_next ops i no_operation (get_or to i no_route) n c.args.shard c.loop-route.origin _ _ _ _ _ _ _ _ _ _
-          (omega (arith, many, also, c.loop-route-test.true)) few c.loop-route.invariant.tallied
-          (route_at n ops to i no_route no_operation are c.loop-route-test.true)
-          (from ∙ sym (origin_at trace.bytes trace.commands n i no_command no_operation numbered (omega (arith, many, c.loop-route-test.true))))
-          c.own_parts_of-own_parts.ensures
-          (c.from-here_parts.ensures ∙ bool_byte-one_if _ ∙ ap one_if c.has_part.ensures)
-          (puts ∙ bool_byte-one_if _)
-          (gets ∙ bool_byte-one_if _)
-          (scans ∙ bool_byte-one_if _);
-    }
+pub other_than_scans-requires-clause-few : goal.other_than_scans-requires-clause-few
+other_than_scans-requires-clause-few c = issued_few _ _ _ _ c.self.invariant
 
--- all were counted
-ended : (c : goal.After-longest_value) → length (operations c.args.self.now.bytes c.args.self.now.commands) ≤ c.loop-route.route-index
-ended c =
-    let trace = c.args.self.now in
-    let are : c.routes-routes.result.now ≡ routes trace.shards (operations trace.bytes trace.commands) = c.routes-routes.ensures in
-    let many = ap length are ∙ length-routes trace.shards trace.bytes trace.commands in
-    let also = length-map trace.commands (operation trace.bytes) in
-    omega (arith, many, also, c.loop-route-test.false)
-
-room : (c : goal.After-longest_value)
-    → c.loop-route.gets * longest_value (trace_in c.args.self.now) + c.loop-route.scans * (c.args.shards * scan_room) ≤ most_replies
-room c =
-    let trace = c.args.self.now in
-    let fits : replies_room (trace_in trace) c.args.shards ≤ most_replies = rw c.requires.parsed_for c.commands.ensures.room in
-    let counted = tallied_room (operations trace.bytes trace.commands) _ _ _ _ _ _ _ _ (ended c) c.loop-route.invariant.tallied in
-    omega (arith, counted, fits)
+pub other_than_scans-requires-2-clause-few : goal.other_than_scans-requires-2-clause-few
+other_than_scans-requires-2-clause-few c = owned_few _ _ _ _ c.self.invariant
 
 pub overflow_mul-result : goal.overflow_mul-result
-overflow_mul-result c = let most = room c in rw c.longest_value.ensures (omega (arith, most))
-
-pub overflow_mul-result-3 : goal.overflow_mul-result-3
-overflow_mul-result-3 c = let most = room c in omega (arith, most)
+overflow_mul-result c =
+    let few = issued_few _ _ _ _ c.self.invariant (slot c.args.shard Scan) in
+    let most : c.args.shards ≤ most_shards = rw c.requires.parsed_for c.commands.ensures.most_shards in
+    rw c.of-own_scans.ensures (omega (arith, mul-le-mul_right c.args.shards few, most))
 
 pub overflow_add-result : goal.overflow_add-result
-overflow_add-result c = let most = room c in rw c.longest_value.ensures (omega (arith, most))
+overflow_add-result c =
+    let few = issued_few _ _ _ _ c.self.invariant in
+    let most : c.args.shards ≤ most_shards = rw c.requires.parsed_for c.commands.ensures.most_shards in
+    rw (c.of-own_scans.ensures, c.other_than_scans.ensures) (omega (
+      arith,
+      mul-le-mul_right c.args.shards (few (slot c.args.shard Scan)),
+      most,
+      few (slot c.args.shard Put),
+      few (slot c.args.shard Get),
+      few (slot c.args.shard Erase),
+    ))
 
-lists : (c : goal.After-longest_value)
-    → (c.loop-route.own_parts ≡ issued (trace_in c.args.self.now) c.args.shards c.args.shard)
-    × (c.loop-route.here_parts ≡ done_at (trace_in c.args.self.now) c.args.shards c.args.shard)
-lists c =
-    let some : 1 ≤ c.args.shards = rw c.requires.parsed_for c.commands.ensures.some_shards in
-    tallied_lists (operations c.args.self.now.bytes c.args.self.now.commands) _ _ _ _ _ _ _ _ (ended c) some c.loop-route.invariant.tallied
+pub overflow_add-result-2 : goal.overflow_add-result-2
+overflow_add-result-2 c =
+    let few = owned_few _ _ _ _ c.self.invariant in
+    rw c.other_than_scans-2.ensures (omega (
+      arith,
+      few (slot c.args.shard Put),
+      few (slot c.args.shard Get),
+      few (slot c.args.shard Erase),
+      c.scans-scans.ensures.most,
+      c.self.invariant.consistent.spelled.few,
+    ))
+
+issued_here : (c : goal.After-longest_value)
+    → AreIssued c.args.shards (trace_in c.args.self.now).operations c.self.inside.issued.counts
+issued_here c = rw (c.requires.parsed_for, ← c.self.view_is) c.self.invariant.issued_are
+
+owned_here : (c : goal.After-longest_value)
+    → AreOwned c.args.shards (trace_in c.args.self.now).operations c.self.inside.owned.counts
+owned_here c = rw (c.requires.parsed_for, ← c.self.view_is) c.self.invariant.owned_are
+
+bytes : (c : goal.After-longest_value)
+    → c.of-own_gets.result * c.longest_value.result + c.of-own_scans.result * (c.args.shards * scan_room)
+    ≡ reply_bytes (trace_in c.args.self.now) c.args.shards c.args.shard
+bytes c =
+    rw (c.of-own_gets.ensures, c.of-own_scans.ensures, c.longest_value.ensures)
+    (reply_bytes_are (trace_in c.args.self.now) c.args.shards c.args.shard _ (issued_here c))
+
+room : (c : goal.After-longest_value)
+    → c.of-own_gets.result * c.longest_value.result + c.of-own_scans.result * (c.args.shards * scan_room) ≤ most_replies
+room c =
+    let fits = rw (← c.requires.parsed_for) at c.commands.ensures.room in
+    let share = share_fits (trace_in c.args.self.now) c.args.shards c.args.shard in
+    rw (bytes c) (omega (arith, share, fits))
+
+pub overflow_mul-result-2 : goal.overflow_mul-result-2
+overflow_mul-result-2 c = let most = room c in omega (arith, most)
+
+pub overflow_mul-result-4 : goal.overflow_mul-result-4
+overflow_mul-result-4 c = let most = room c in omega (arith, most)
+
+pub overflow_add-result-3 : goal.overflow_add-result-3
+overflow_add-result-3 c = let most = room c in omega (arith, most)
+
+own : (c : goal.After-longest_value)
+    → c.other_than_scans.result + c.of-own_scans.result * c.args.shards ≡ own_parts (trace_in c.args.self.now) c.args.shards c.args.shard
+own c =
+    rw (c.other_than_scans.ensures, c.of-own_scans.ensures)
+    (own_parts_are (trace_in c.args.self.now) c.args.shards c.args.shard _ (issued_here c))
+
+here : (c : goal.After-longest_value)
+    → c.other_than_scans-2.result + c.scans-scans.result ≡ here_parts (trace_in c.args.self.now) c.args.shards c.args.shard
+here c =
+    let inside = c.self.inside in
+    let trace = trace_with (operations inside.bytes.items inside.commands) in
+    let scans = c.scans-scans.ensures.value ∙ count_in inside.bytes.items (λ o. is_scan o.kind) inside.commands in
+    rw (c.requires.parsed_for, ← c.self.view_is, c.other_than_scans-2.ensures, scans)
+    (here_parts_are trace inside.shards c.args.shard _ c.self.invariant.owned_are)
+
+pub returns-clause-own_parts : goal.returns-clause-own_parts
+returns-clause-own_parts c = own c
+
+pub returns-clause-here_parts : goal.returns-clause-here_parts
+returns-clause-here_parts c = here c
+
+pub returns-clause-here_puts : goal.returns-clause-here_puts
+returns-clause-here_puts c =
+    c.of.ensures ∙ here_puts_are (trace_in c.args.self.now) c.args.shards c.args.shard _ (owned_here c)
+
+pub returns-clause-reply_bytes : goal.returns-clause-reply_bytes
+returns-clause-reply_bytes c = bytes c
 
 pub returns-clause-issued : goal.returns-clause-issued
-returns-clause-issued c = (lists c).0
+returns-clause-issued c =
+    let some = rw (← c.requires.parsed_for) at c.commands.ensures.some_shards in
+    own c ∙ sym (issued_is (trace_in c.args.self.now) c.args.shards c.args.shard some)
 
 pub returns-clause-done_here : goal.returns-clause-done_here
-returns-clause-done_here c = (lists c).1
+returns-clause-done_here c =
+    let some = rw (← c.requires.parsed_for) at c.commands.ensures.some_shards in
+    here c ∙ sym (done_is (trace_in c.args.self.now) c.args.shards c.args.shard some)
