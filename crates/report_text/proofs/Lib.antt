@@ -7,7 +7,9 @@ pub mod KeysOfReplies
 pub mod Merged
 pub mod Outputs
 pub mod Places
+pub mod Rounds
 pub mod Sent
+pub mod Stretches
 pub mod Taken
 pub mod Tallied
 pub mod Texts

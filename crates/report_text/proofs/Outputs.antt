@@ -46,6 +46,10 @@ Writes-then {r = Err e} {a} {b} {c} {s} {t} p q = record {
   never_falls = omega (arith, p.never_falls, q.never_falls);
 }
 
+-- a text, and then what stands in the block
+pub Writes-last : {T E : Type 0} {u : T} {r : Result T E} {a b c : Output} {s : List ℕ} → Writes {T = T} {E = E} (Ok u) a b s → Writes r b c [] → Writes r a c s
+Writes-last {r = r} {a = a} {c = c} {s = s} p q = subst (Writes r a c) (append-nil s) (Writes-then p q)
+
 -- a failure in the first of two texts is a failure in the two
 pub Writes-stop : {T E : Type 0} {e : E} {a b : Output} {s : List ℕ} (t : List ℕ) → Writes {T = T} {E = E} (Err e) a b s → Writes {T = T} {E = E} (Err e) a b (s ++ t)
 Writes-stop {a = a} {b = b} {s = s} t p = record {

@@ -44,3 +44,8 @@ module _ {K T E X : Type 0} (bytes : K → Option (List ℕ)) (count : K → ℕ
   Sent-from old new name r a b begins named ends some before after wrote =
       let last : new ≡ b.sink.now = ends (sym named ∙ sym (wrote some.0 some.1).same_sink) in
       subst (λ k. Sent old k r) (sym last) (subst (λ k. Sent k b.sink.now r) begins (sent r a b some before after wrote))
+
+-- a text that hangs on nothing
+pub OnOk-plain : {T E : Type 0} (A : Type 0) (r : Result T E) → OnOk r (Unit {0} → Unit {0} → A) → OnOk r A
+OnOk-plain A (Ok v) p = p tt tt
+OnOk-plain A (Err e) p = tt

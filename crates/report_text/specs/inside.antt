@@ -1,7 +1,9 @@
 pub mod Found
 pub mod Merged
 pub mod Output
+pub mod Pieces
 pub mod Places
 pub mod Spells
+pub mod Stretches
 pub mod Tallies
 pub mod Words

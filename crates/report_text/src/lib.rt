@@ -1,18 +1,24 @@
 //! The report of a run: the answer to each command, the journal of each shard, and what each shard
-//! holds at the end. See [`write_report`]. The summary of a run has numbers in place of answers and journals; see
-//! [`write_summary`].
+//! holds at the end. See [`write_report`], and [`write_report_on`], which makes pieces of it on threads. The summary of a run
+//! has numbers in place of answers and journals; see [`write_summary`].
 #![tactic(auto)]
 
 mod answers;
 mod found;
+mod held;
+mod journal_texts;
 mod lines;
 mod merging;
+mod pieces;
 mod place;
 mod report;
+mod side_by_side;
+mod stretch;
 mod summary;
 mod tally;
 mod writer;
 
 pub use report::write_report;
 pub use run_log::ShardLine;
+pub use side_by_side::write_report_on;
 pub use summary::write_summary;

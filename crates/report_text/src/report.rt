@@ -12,14 +12,13 @@ ghost use Rattle.report_text.specs.Views.{journals_in, occupancies_in, replies_i
 ghost use Rattle.report_text.specs.inside.Output.{Writes, output};
 
 use crate::ShardLine;
-use crate::answers::put_answer;
 use crate::lines::{finish, put_journal};
-use crate::place::next_replies;
+use crate::stretch::{all_commands, put_stretch};
 use crate::writer::Writer;
 use cache_model::answers_are_read_by_command;
 use outside::{Failed, Sink};
 use run_log::{Journal, ReplyLog};
-use trace_text::{MOST_SHARDS, Trace};
+use trace_text::Trace;
 
 /// Writes the report of a run of `trace` on `shards` shards, 1 to 16, each with its log, its journal and
 /// its line. Each line of the report ends with LF:
@@ -68,7 +67,7 @@ pub fn write_report<K: Sink>(
     finish(&mut writer, lines)
 }
 
-fn put_answers<K: Sink>(
+pub(crate) fn put_answers<K: Sink>(
     writer: &mut Writer<'_, K>,
     trace: &Trace,
     shards: u32,
@@ -82,15 +81,13 @@ fn put_answers<K: Sink>(
         (λ answer. line (answer_text answer)) answers) }
 {
     answers_are_read_by_command();
-    let mut places = [0; MOST_SHARDS as usize];
-    for (index, command) in trace.commands().iter().enumerate() {
-        let (log, first) = next_replies(&mut places, trace, index, logs);
-        put_answer(writer, command, shards, log, first)?;
-    }
-    Ok(())
+    put_stretch(writer, trace, shards, logs, &all_commands(trace))
 }
 
-fn put_journals<K: Sink>(writer: &mut Writer<'_, K>, journals: &[Journal]) -> Result<(), Failed>
+pub(crate) fn put_journals<K: Sink>(
+    writer: &mut Writer<'_, K>,
+    journals: &[Journal],
+) -> Result<(), Failed>
     ensures { Writes result (output K.written K.faults writer.old) (output K.written K.faults writer.new)
         (flat_map (λ journal. line (journal_text journal)) (enumerate_from 0 (journals_in journals.now))) }
 {

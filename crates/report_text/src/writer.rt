@@ -6,8 +6,11 @@ use arrayvec::ArrayVec;
 use itoa::Buffer as Digits;
 use outside::{Failed, Sink, write_all};
 
+/// The bytes of a block.
+const BLOCK: usize = 16_384;
+
 /// The text that the sink was not given yet.
-type Block = ArrayVec<u8, 65536>;
+type Block = ArrayVec<u8, BLOCK>;
 
 /// Adds `text` into the block, and answers whether it fits there.
 fn try_add(block: &mut Block, text: &[u8]) -> bool

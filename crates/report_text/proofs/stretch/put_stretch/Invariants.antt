@@ -1,20 +1,20 @@
 -- The lines of the answers so far were added, and the places are those of the next command.
-use Rattle.std.proofs.Common.{ℕ, List, take}
-use Rattle.std.specs.List.{flat_map}
+use Rattle.std.proofs.Common.{ℕ, ◌≤◌, List}
 use Rattle.cache_model.specs.Apply.{Reply}
 use Rattle.cache_model.specs.Logged.{AreLogged}
-use Rattle.cache_model.specs.Report.{line, answer_text}
 use Rattle.trace_text.specs.Parsed.{trace_in}
 use Rattle.report_text.specs.Views.{replies_in}
 use Rattle.report_text.specs.inside.Output.{output}
 use Rattle.report_text.specs.inside.Places.{ArePlaces}
+use Rattle.report_text.specs.inside.Stretches.{answer_lines}
 use Rattle.report_text.proofs.Outputs.{Added}
-use Rattle.report_text.proofs.report.put_answers.Given as goal
+use Rattle.report_text.proofs.stretch.put_stretch.Given as goal
 
 abbrev pub invariant-loop-index : goal.invariant-loop-index
 invariant-loop-index g l = record {
+  from : l.stretch.from ≤ l.index;
+  to : l.index ≤ l.stretch.to;
   places : ArePlaces (trace_in l.trace) l.trace.shards l.index l.places;
   added : (answers : List (ℕ × Reply)) → AreLogged (trace_in l.trace) l.shards (replies_in l.logs) answers →
-      Added (output g.K.Sink.written g.K.Sink.faults l.fn.writer) (output g.K.Sink.written g.K.Sink.faults l.writer)
-      (flat_map (λ answer. line (answer_text answer)) (take l.index answers));
+      Added (output g.K.Sink.written g.K.Sink.faults l.fn.writer) (output g.K.Sink.written g.K.Sink.faults l.writer) (answer_lines answers l.stretch.from l.index);
 }

@@ -1,0 +1,123 @@
+//! The lines of the journals, made in memory of their own.
+ghost use Rattle.std.specs.Prelude.{◌≡◌, ◌<◌, ℕ, length, flat_map, vec_len, IfOk, OnOk, OnErr};
+ghost use Rattle.std.specs.List.{enumerate_from, slice_index_or};
+ghost use Rattle.std.specs.Io.KnownBytes.{Appends};
+ghost use Rattle.layout.specs.Counts.{Rose};
+ghost use Rattle.cache_model.specs.Report.{line, journal_text};
+ghost use Rattle.report_text.specs.Views.{journals_in};
+ghost use Rattle.report_text.specs.inside.Output.{Writes, output};
+ghost use Rattle.report_text.specs.inside.Pieces.{SaysJournal};
+
+use crate::held::Held;
+use crate::lines::put_journal;
+use crate::report::put_journals;
+use crate::writer::Writer;
+use outside::{Failed, Sink};
+use run_log::Journal;
+use std::alloc::{AllocError, Global};
+use std::thread;
+use std::thread::Threads;
+
+/// The lines of all journals, made side by side.
+pub(crate) fn put_journals_on<R: Threads + Sync, K: Sink>(
+    rt: &R,
+    alloc: Global,
+    threads: usize,
+    writer: &mut Writer<'_, K>,
+    journals: &[Journal],
+) -> Result<(), Failed>
+    requires threads { 0 < threads }
+    ensures { Writes result (output K.written K.faults writer.old) (output K.written K.faults writer.new)
+        (flat_map (λ journal. line (journal_text journal)) (enumerate_from 0 (journals_in journals.now))) }
+{
+    let Ok(mut texts) = empty_texts(alloc, journals.len()) else {
+        return put_journals(writer, journals);
+    };
+    make_journals(rt, threads, &mut texts, journals);
+    put_made_journals(writer, journals, &texts)
+}
+
+/// Texts with nothing in them.
+fn empty_texts(alloc: Global, count: usize) -> Result<Vec<Held>, AllocError>
+    ensures { IfOk result (λ texts. vec_len texts ≡ count) }
+{
+    let mut texts = Vec::with_capacity(alloc, count)?;
+    for _ in 0..count {
+        texts.push(Held::new(alloc))?;
+    }
+    Ok(texts)
+}
+
+/// Gives the sink the line of a shard's journal.
+fn write_journal<K: Sink>(sink: &mut K, shard: u64, journal: &Journal) -> Result<(), Failed>
+    ensures written { OnOk result (Appends (K.written sink.old) (K.written sink.new) (line (journal_text (shard, journal.now.entries)))) }
+    ensures failed { OnErr result (Rose (K.faults sink.old) (K.faults sink.new)) }
+{
+    let mut writer = Writer::new(sink);
+    put_journal(&mut writer, shard, journal)?;
+    writer.flush()
+}
+
+/// Writes the line of a shard's journal into memory.
+fn make_journal(text: &mut Held, shard: usize, journal: &Journal)
+    ensures { SaysJournal shard journal.now text.new }
+{
+    text.clear();
+    let _ = write_journal(text, shard as u64, journal);
+}
+
+/// Writes the line of each journal into its memory, on at most so many threads.
+fn make_journals<R: Threads + Sync>(
+    rt: &R,
+    threads: usize,
+    texts: &mut [Held],
+    journals: &[Journal],
+)
+    requires threads { 0 < threads }
+    requires one_each { length texts.old ≡ length journals.now }
+    ensures len { length texts.new ≡ length texts.old }
+    ensures says { (k : ℕ) (d : Held) (e : _) → k < length journals.now
+        → SaysJournal k (slice_index_or journals.now k e) (slice_index_or texts.new k d) }
+{
+    thread::for_each_mut(
+        rt,
+        texts,
+        threads,
+        &|shard, text| make_journal(text, shard, &journals[shard]),
+    );
+}
+
+/// The line of a journal, which is written straight to the sink where memory was refused for it.
+fn put_made_journal<K: Sink>(
+    writer: &mut Writer<'_, K>,
+    shard: usize,
+    journal: &Journal,
+    text: &Held,
+) -> Result<(), Failed>
+    requires { SaysJournal shard journal.now text.now }
+    ensures { Writes result (output K.written K.faults writer.old) (output K.written K.faults writer.new)
+        (line (journal_text (shard, journal.now.entries))) }
+{
+    match text.whole() {
+        Some(text) => writer.put(text),
+        None => put_journal(writer, shard as u64, journal),
+    }
+}
+
+/// The lines of all journals, in order.
+fn put_made_journals<K: Sink>(
+    writer: &mut Writer<'_, K>,
+    journals: &[Journal],
+    texts: &[Held],
+) -> Result<(), Failed>
+    requires one_each { length texts.now ≡ length journals.now }
+    requires says { (k : ℕ) (d : Held) (e : _) → k < length journals.now
+        → SaysJournal k (slice_index_or journals.now k e) (slice_index_or texts.now k d) }
+    ensures { Writes result (output K.written K.faults writer.old) (output K.written K.faults writer.new)
+        (flat_map (λ journal. line (journal_text journal)) (enumerate_from 0 (journals_in journals.now))) }
+{
+    for (shard, journal) in journals.iter().enumerate() {
+        put_made_journal(writer, shard, journal, &texts[shard])?;
+    }
+    Ok(())
+}
