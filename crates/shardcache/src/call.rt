@@ -29,7 +29,7 @@ use shard_node::Gates;
 use std::alloc::Global;
 use std::sync::Wait;
 use std::thread::Threads;
-use trace_text::{ParseRefusal, Trace, parse};
+use trace_text::{ParseRefusal, Trace, parse_on};
 use value_script::{Script, ScriptRefusal, parse_script};
 use values_mode::{open_values, write_values};
 
@@ -73,7 +73,7 @@ where
         gates,
     ) {
         Ok(ran) => Outcome {
-            status: write_output(sink, settings, trace, &ran),
+            status: write_output(rt, alloc, sink, settings, trace, &ran),
             ran: Some(ran),
         },
         Err(_) => Outcome::without_run(Status::Memory),
@@ -156,7 +156,7 @@ where
     ensures ending { EndsRun (view settings) result.status result.ran bytes.items (K.written sink.old) (K.written sink.new) }
     ensures fault { result.status ≡ Status.WriteFault → Rose (K.faults sink.old) (K.faults sink.new) }
 {
-    match parse(alloc, bytes, settings.shards) {
+    match parse_on(rt, alloc, settings.threads(), bytes, settings.shards) {
         Ok(trace) => run_parsed(rt, alloc, settings, &trace, sink, gates),
         Err(ParseRefusal::Trace { line, cause }) => {
             Outcome::without_run(refuse(alloc, sink, line, cause))

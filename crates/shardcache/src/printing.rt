@@ -17,9 +17,10 @@ use crate::settings::{Mode, Settings};
 use crate::status::Status;
 use cache_model::{a_report_has_its_lines, answers_are_read_by_command, replies_hold_what_was_put};
 use outside::{Failed, Sink, write_all};
-use report_text::{write_report, write_summary};
+use report_text::{write_report_on, write_summary};
 use shard_node::Ran;
 use std::alloc::Global;
+use std::thread::Threads;
 use trace_text::{Cause, Trace};
 use value_script::Cause as ScriptCause;
 
@@ -72,7 +73,9 @@ pub(crate) fn refuse_script<K: Sink>(
 }
 
 /// Writes the report of what the shards did.
-pub(crate) fn report_run<K: Sink>(
+pub(crate) fn report_run<R: Threads + Sync, K: Sink>(
+    rt: &R,
+    alloc: Global,
     sink: &mut K,
     settings: Settings,
     trace: &Trace,
@@ -84,7 +87,10 @@ pub(crate) fn report_run<K: Sink>(
         (report (trace_in trace.now) settings.shards settings.pages (journals_in ran.now.journals)) }
     ensures fault { result ≡ Status.WriteFault → Rose (K.faults sink.old) (K.faults sink.new) }
 {
-    match write_report(
+    match write_report_on(
+        rt,
+        alloc,
+        settings.threads(),
         sink,
         trace,
         settings.shards,
@@ -124,7 +130,9 @@ pub(crate) fn summarize_run<K: Sink>(
 }
 
 /// Writes what the mode says of a run.
-pub(crate) fn write_output<K: Sink>(
+pub(crate) fn write_output<R: Threads + Sync, K: Sink>(
+    rt: &R,
+    alloc: Global,
     sink: &mut K,
     settings: Settings,
     trace: &Trace,
@@ -142,7 +150,7 @@ pub(crate) fn write_output<K: Sink>(
     a_report_has_its_lines();
     answers_are_read_by_command();
     match settings.mode {
-        Mode::Run | Mode::Sim => report_run(sink, settings, trace, ran),
+        Mode::Run | Mode::Sim => report_run(rt, alloc, sink, settings, trace, ran),
         Mode::Gen => summarize_run(sink, settings, trace, ran),
         Mode::Dirty | Mode::Index | Mode::Values => unreachable!(),
     }

@@ -1,5 +1,5 @@
 //! What the words of the command line ask.
-ghost use Rattle.std.specs.Prelude.{◌≡◌, ◌≤◌, true, IfOk, IfSome, map, option_map, string_bytes};
+ghost use Rattle.std.specs.Prelude.{◌≡◌, ◌<◌, ◌≤◌, true, IfOk, IfSome, map, option_map, string_bytes};
 ghost use Rattle.layout.specs.Sizes.{ArePages};
 ghost use Rattle.clap.specs.Words.{first_of, found_of, rows_of};
 ghost use Rattle.trace_text.specs.Parts.{most_shards};
@@ -43,6 +43,18 @@ pub struct Settings {
     pub number: u32,
     /// The commands of a made trace.
     pub commands: u32,
+}
+
+impl Settings {
+    /// On how many threads a trace is read and a report is written: as many as shards run on.
+    pub(crate) fn threads(self) -> usize
+        ensures { 0 < result }
+    {
+        match self.mode {
+            Mode::Run => (self.shards as usize).max(1),
+            _ => 1,
+        }
+    }
 }
 
 /// The value of an argument.

@@ -7,6 +7,7 @@ ghost use Rattle.cache_model.specs.Logged.{AreLogged};
 ghost use Rattle.cache_model.specs.Spelled.{spelled};
 ghost use Rattle.trace_text.specs.declared.command.Kind.TheVariants as CommandKind;
 
+mod side_by_side;
 mod two_shards;
 mod written;
 
@@ -109,9 +110,9 @@ fn log_of(
     let commands = trace.commands();
     one_shard_answers_alone();
     assert!(rt; commands.len() == replies.len());
-    assert!(rt; replies.len() <= 10);
+    assert!(rt; replies.len() <= 20_000);
     let longest = trace.longest_value();
-    let mut log = ReplyLog::new(alloc, replies.len() as u32, 1000)?;
+    let mut log = ReplyLog::new(alloc, replies.len() as u32, 2_000_000)?;
     for (part, (kind, body)) in replies.iter().enumerate() {
         assert!(rt; body.len() <= 100);
         let command = &commands[part];
@@ -135,11 +136,11 @@ fn journal_of(alloc: Global, entries: &[Entry]) -> Result<Journal, AllocError> {
 }
 
 /// A trace of these commands, for one shard.
-fn trace_of(rt: &impl Abort, alloc: Global, input: &str) -> Result<Trace, Fail>
+fn trace_of(rt: &impl Abort, alloc: Global, input: &[u8]) -> Result<Trace, Fail>
     ensures { IfOk result (λ trace. trace.shards ≡ 1) }
 {
-    let bytes = input.as_bytes().to_vec(alloc)?;
-    assert!(rt; bytes.len() <= 1000);
+    let bytes = input.to_vec(alloc)?;
+    assert!(rt; bytes.len() <= 200_000);
     Ok(parse(alloc, bytes, 1)?)
 }
 
@@ -156,7 +157,7 @@ fn writes_of_one(
     want: Result<(), Failed>,
     text: &[u8],
 ) -> Result<bool, Fail> {
-    let trace = trace_of(rt, alloc, input)?;
+    let trace = trace_of(rt, alloc, input.as_bytes())?;
     let logs = [log_of(rt, alloc, &trace, replies)?];
     let journals = [journal_of(alloc, entries)?];
     let run = Run {

@@ -3,7 +3,7 @@ ghost use Rattle.std.specs.Prelude.{◌≡◌, [], ◌∷◌};
 ghost use Rattle.trace_text.specs.Parts.{hash};
 
 use std::test::Fail;
-use trace_text::{MOST_SHARDS, owner_of, parse};
+use trace_text::{Cause, MOST_SHARDS, ParseRefusal, owner_of, parse, parse_on};
 
 // The hash of each key, by the definition that `owner_of` is proved to follow.
 fn hashes_of_keys()
@@ -67,6 +67,37 @@ fn a_trace_tells_where_its_commands_go(rt: HostRuntime) -> Result<(), Fail> {
         assert_eq!(rt; trace.is_scan(at), is_scan);
         assert_eq!(rt; trace.has_part(at, 0), is_at_0);
         assert_eq!(rt; trace.has_part(at, 1), is_at_1);
+    }
+    Ok(())
+}
+
+#[test]
+fn lines_are_read_on_threads_in_their_order(rt: HostRuntime) -> Result<(), Fail> {
+    let lines = b"put a 12\nget bc\n# none\n\nscan d 3\r\nerase e\n".repeat(rt.alloc(), 100)?;
+    for threads in [1, 2, 3, 7] {
+        let bytes = lines.to_vec(rt.alloc())?;
+        assert!(rt; bytes.len() <= 10_000);
+        let trace = parse_on(&rt, rt.alloc(), threads, bytes, 3)?;
+        assert_eq!(rt; trace.commands().len(), 400);
+        for (at, command) in trace.commands().iter().enumerate() {
+            let (line, key) = [(1, "a"), (2, "bc"), (5, "d"), (6, "e")][at % 4];
+            assert_eq!(rt; command.number as usize, at + 1);
+            assert_eq!(rt; command.line as usize, at / 4 * 6 + line);
+            assert!(rt; trace.key(command) == key.as_bytes());
+        }
+    }
+    Ok(())
+}
+
+#[test]
+fn the_first_refused_line_is_named_on_threads(rt: HostRuntime) -> Result<(), Fail> {
+    let bytes = b"put a 1\nget\nput a\n".to_vec(rt.alloc())?;
+    assert!(rt; bytes.len() <= 1000);
+    match parse_on(&rt, rt.alloc(), 2, bytes, 2) {
+        Err(ParseRefusal::Trace { line, cause }) => {
+            assert_eq!(rt; (line, cause), (2, Cause::MissingField));
+        }
+        _ => assert!(rt; false, "not refused"),
     }
     Ok(())
 }

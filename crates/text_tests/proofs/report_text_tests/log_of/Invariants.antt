@@ -9,5 +9,5 @@ use Rattle.text_tests.proofs.report_text_tests.log_of.Given as goal
 abbrev pub invariant-loop-part : goal.invariant-loop-part
 invariant-loop-part g l = record {
   filled : IsFilled (longest_value (trace_in l.trace)) (map (operation l.trace.bytes) l.commands) l.log.replies l.part (length l.replies - l.part);
-  room : 1000 ≤ l.log.room + 100 * l.part;
+  room : 2000000 ≤ l.log.room + 100 * l.part;
 }

@@ -1,0 +1,63 @@
+//! A report whose pieces are made on threads.
+use super::{journal_of, log_of, trace_of};
+use cache_model::{Entry, ReplyKind};
+use outside::MemorySink;
+use report_text::{ShardLine, write_report_on};
+use std::alloc::{AllocError, Global};
+use std::test::Fail;
+
+/// So many gets, each of which finds nothing.
+const GETS: u32 = 20_000;
+
+/// The report of these gets on one shard.
+fn text_of_gets(alloc: Global) -> Result<Vec<u8>, AllocError> {
+    let mut answers = Vec::new(alloc);
+    let mut journal = Vec::from_slice(alloc, b"journal 0")?;
+    for number in 1..=GETS {
+        let answer = format!(in alloc; "{number} missing\n")?;
+        answers.extend_from_slice(answer.as_bytes())?;
+        let entry = format!(in alloc; " {number}")?;
+        journal.extend_from_slice(entry.as_bytes())?;
+    }
+    answers.extend_from_slice(&journal)?;
+    answers.extend_from_slice(b"\nshard 0 rows 0 live 0 lent 0 back 0\n")?;
+    Ok(answers)
+}
+
+#[test]
+fn a_report_that_is_made_in_pieces_has_all_of_them_in_order(rt: HostRuntime) -> Result<(), Fail> {
+    let gets = b"get a\n".repeat(rt.alloc(), GETS as usize)?;
+    let trace = trace_of(&rt, rt.alloc(), &gets)?;
+    let missing: (ReplyKind, &[u8]) = (ReplyKind::Missing, b"");
+    let replies = vec![in rt.alloc(); missing; GETS as usize]?;
+    let logs = [log_of(&rt, rt.alloc(), &trace, &replies)?];
+    let mut entries = Vec::new(rt.alloc());
+    for number in 1..=GETS {
+        entries.push(Entry::Done(number))?;
+    }
+    let journals = [journal_of(rt.alloc(), &entries)?];
+    let line = ShardLine {
+        rows: 0,
+        live: 0,
+        lent: 0,
+        back: 0,
+    };
+    let text = text_of_gets(rt.alloc())?;
+    for threads in [1, 2, 3, 5] {
+        let mut sink = MemorySink::new(rt.alloc(), 1_000_000)?;
+        let met = write_report_on(
+            &rt,
+            rt.alloc(),
+            threads,
+            &mut sink,
+            &trace,
+            1,
+            &logs,
+            &journals,
+            &[line],
+        );
+        assert_eq!(rt; met, Ok(()));
+        assert!(rt; sink.bytes() == text.as_slice());
+    }
+    Ok(())
+}
