@@ -3,12 +3,12 @@
 
     bench/refused_memory.py [PAGES]
 
-The program runs a short trace on 1, 2 and 4 shards of PAGES pages (default 1,280) again and again, on threads and on one thread:
+The program runs two traces on 1, 2 and 4 shards of PAGES pages (default 1,280) again and again, on threads and on one thread:
 first with all its memory, then with its first allocation refused, then with its second, until there is none to refuse. Each time
-no byte may be left that was not freed; where one was refused, the status is that of want of memory and nothing is written.
-
-What is allocated to start a thread is not refused: the last allocation for each shard but one, and those of the system. Where a
-thread cannot be started the run goes on without it: `bench/refused_threads.py` sees to that. g++ is needed.
+no byte may be left that was not freed. Where one was refused, the status is that of want of memory and nothing is written; but a
+thread that cannot be started is done without, and so is memory for a piece of the report: then the run ends with its report. A
+short trace has no pieces, so there these are the threads that read it, twice one for each shard but the first, and as many for
+the shards. `bench/refused_threads.py` refuses threads as the system does. g++ is needed.
 """
 import os
 import subprocess
@@ -17,15 +17,17 @@ import tempfile
 
 BENCH = os.path.dirname(os.path.abspath(__file__))
 CRATE = os.path.join(BENCH, "..", "crates", "shardcache_main")
-TRACE = b"put a 1\nput b 2\nget a\nscan a 32\nerase b\nput b 3\nget b\nscan b 1\n"
+SHORT = b"put a 1\nput b 2\nget a\nscan a 32\nerase b\nput b 3\nget b\nscan b 1\n"
+# more commands than a piece of the report has
+LONG = SHORT * 2_000
 MODES = [["run"], *([mode, "--shards", shards] for mode in ("sim", "run") for shards in ("2", "4"))]
 DONE, MEMORY = 0, 6
 
 
-def is_report(output, shards):
+def is_report(output, trace, shards):
     """Whether the output has a line for each command, a journal for each shard, and a line for each whose blocks all came back."""
     lines = output.decode().splitlines()
-    commands = TRACE.count(b"\n")
+    commands = trace.count(b"\n")
     ends = [line.split() for line in lines[commands + shards:]]
     return len(lines) == commands + 2 * shards and all(end[0] == "shard" and end[7] == end[9] for end in ends)
 
@@ -38,26 +40,41 @@ def main():
         shim, counted = os.path.join(folder, "refused.so"), os.path.join(folder, "counted")
         subprocess.run(["g++", "-O2", "-shared", "-fPIC", "-o", shim, os.path.join(BENCH, "refused_memory.cpp")], check=True)
 
-        def run(words, refused):
+        def run(words, trace, refused):
             """Status, output, allocations asked for, and bytes not freed."""
             given = {"LD_PRELOAD": shim, "COUNTED": counted, "REFUSED": str(refused)}
             words = [os.path.join(CRATE, "out", "shardcache_main"), *words, "--pages", pages]
-            ran = subprocess.run(words, input=TRACE, stdout=subprocess.PIPE, env=given, check=False)
+            ran = subprocess.run(words, input=trace, stdout=subprocess.PIPE, env=given, check=False)
             with open(counted, encoding="ascii") as file:
                 return ran.returncode, ran.stdout, *map(int, file.read().split())
 
-        for words in MODES:
+        def refuse_each(words, trace):
+            """How many allocations there are, and how many of them the run did without."""
             shards = int(words[-1]) if len(words) > 1 else 1
             said = " ".join(words)
-            status, report, asked, left = run(words, 0)
-            if status != DONE or not is_report(report, shards) or left != 0:
+            status, report, asked, left = run(words, trace, 0)
+            if status != DONE or not is_report(report, trace, shards) or left != 0:
                 sys.exit(f"{said}: with all its memory: status {status}, {left} bytes not freed")
-            of_threads = shards - 1 if words[0] == "run" else 0
-            for number in range(1, asked - of_threads + 1):
-                status, output, _, left = run(words, number)
-                if (status, output, left) != (MEMORY, b"", 0):
+            without = 0
+            for number in range(1, asked + 1):
+                status, output, _, left = run(words, trace, number)
+                if status == DONE and is_report(output, trace, shards) and left == 0:
+                    without += 1
+                elif (status, output, left) != (MEMORY, b"", 0):
                     sys.exit(f"{said}: allocation {number} refused: status {status}, {len(output)} bytes written, {left} bytes not freed")
-            print(f"{said}: each of {asked - of_threads} allocations was refused in turn: want of memory, nothing written, nothing left")
+            return asked, without
+
+        for words in MODES:
+            of_threads = 3 * (int(words[-1]) - 1) if words[0] == "run" and len(words) > 1 else 0
+            said = " ".join(words)
+            asked, without = refuse_each(words, SHORT)
+            if without != of_threads:
+                sys.exit(f"{said}: {without} allocations were done without, where {of_threads} threads are started")
+            print(f"{said}: each of {asked} allocations was refused in turn: want of memory for {asked - without}, a report for {without}, nothing left")
+            asked, without = refuse_each(words, LONG)
+            if (without > 0) != (of_threads > 0):
+                sys.exit(f"{said}: {without} allocations of a long run were done without")
+            print(f"{said}: a longer trace: want of memory for {asked - without}, a report for {without}, nothing left")
 
 
 main()
