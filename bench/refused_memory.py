@@ -18,7 +18,7 @@ import tempfile
 BENCH = os.path.dirname(os.path.abspath(__file__))
 CRATE = os.path.join(BENCH, "..", "crates", "shardcache_main")
 SHORT = b"put a 1\nput b 2\nget a\nscan a 32\nerase b\nput b 3\nget b\nscan b 1\n"
-# more commands than a piece of the report has
+# so many commands that pieces of the report are made on threads
 LONG = SHORT * 2_000
 MODES = [["run"], *([mode, "--shards", shards] for mode in ("sim", "run") for shards in ("2", "4"))]
 DONE, MEMORY = 0, 6

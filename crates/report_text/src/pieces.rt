@@ -24,13 +24,31 @@ use std::thread::Threads;
 use trace_text::Trace;
 
 /// How many commands a piece has, but for the last ones.
-pub(crate) const PIECE: usize = 8_192;
+const PIECE: usize = 1_024;
+
+/// How many bytes the lines of one thread's pieces may have in a round, but for those of scans.
+const ROUND: usize = 8 * 1024 * 1024;
+
+/// The most bytes of a line that are not the value's.
+const FRAME: usize = 32;
+
+/// The most pieces of one thread in a round.
+const MOST_PIECES: usize = 64;
 
 /// Some of the commands, and the lines of their answers.
 #[derive(Drop)]
 pub(crate) struct Piece {
     stretch: Stretch,
     text: Held,
+}
+
+/// How many pieces one thread makes in a round: as many as have room there, whatever the values, but one at least.
+pub(crate) fn pieces_each(trace: &Trace) -> usize
+    ensures some { 0 < result }
+    ensures few { result ≤ 64 }
+{
+    let line = trace.longest_value() as usize + FRAME;
+    (ROUND / (PIECE * line)).clamp(1, MOST_PIECES)
 }
 
 /// Pieces with no commands.

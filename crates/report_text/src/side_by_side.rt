@@ -13,7 +13,7 @@ ghost use Rattle.report_text.specs.inside.Output.{Writes, output};
 use crate::ShardLine;
 use crate::journal_texts::put_journals_on;
 use crate::lines::finish;
-use crate::pieces::{PIECE, Piece, begin_round, empty_pieces, make_pieces, put_pieces};
+use crate::pieces::{Piece, begin_round, empty_pieces, make_pieces, pieces_each, put_pieces};
 use crate::report::{put_answers, write_report};
 use crate::writer::Writer;
 use cache_model::answers_are_read_by_command;
@@ -23,14 +23,18 @@ use std::alloc::Global;
 use std::thread::Threads;
 use trace_text::{MOST_SHARDS, Trace};
 
+/// A report of no more answers is not worth the threads.
+const FEW: usize = 8_192;
+
 /// Writes the report as [`write_report`](crate::write_report) does, pieces of it made on at most `threads` threads.
 ///
-/// The commands are taken in rounds. In each the threads write the lines of the answers to 8,192 commands each into memory
-/// of their own, and then one thread gives the sink these texts in order. The lines of the journals are made so too, one a
-/// shard. Where there is one thread, or no more commands than that, nothing is made apart.
+/// The commands are taken in rounds. In each the threads write the lines of the answers to 1,024 to 65,536 commands each, the
+/// fewer the longer the values, into memory of their own, 1,024 a piece, and then one thread gives the sink these texts in
+/// order. The lines of the journals are made so too, one a shard. Where there is one thread, or no more than 8,192 commands,
+/// nothing is made apart.
 ///
-/// The memory is taken from `alloc` and given back before the call returns: first the texts of one round, at most `threads`
-/// times the lines of 8,192 commands, and then those of the journals; a text may have room for twice its bytes. Where
+/// The memory is taken from `alloc` and given back before the call returns: first the texts of one round, some 8 MiB for each
+/// thread or the lines of 1,024 commands, and then those of the journals; a text may have room for twice its bytes. Where
 /// memory is refused for some lines, they are written straight to the sink in their place. Where the system makes no thread,
 /// the pieces are made one after another.
 ///
@@ -66,7 +70,7 @@ pub fn write_report_on<R: Threads + Sync, K: Sink>(
     ensures failed { OnErr result (Rose (K.faults sink.old) (K.faults sink.new)) }
     ensures never_falls { K.faults sink.old ≤ K.faults sink.new }
 {
-    if threads == 1 || trace.commands().len() <= PIECE {
+    if threads == 1 || trace.commands().len() <= FEW {
         return write_report(sink, trace, shards, logs, journals, lines);
     }
     let mut writer = Writer::new(sink);
@@ -93,7 +97,10 @@ fn put_answers_on<R: Threads + Sync, K: Sink>(
         Writes result (output K.written K.faults writer.old) (output K.written K.faults writer.new) (flat_map
         (λ answer. line (answer_text answer)) answers) }
 {
-    match empty_pieces(alloc, threads) {
+    match empty_pieces(
+        alloc,
+        threads.min(MOST_SHARDS as usize) * pieces_each(trace),
+    ) {
         Ok(mut pieces) => put_rounds(
             rt,
             threads,

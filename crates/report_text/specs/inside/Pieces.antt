@@ -25,7 +25,7 @@ SaysJournal shard journal held = held.faults ≡ 0 → held.bytes.items ≡ line
 
 -- how many commands a piece has, but for the last ones
 abbrev pub piece_commands : ℕ
-piece_commands = 8192
+piece_commands = 1024
 
 -- where piece k of a round begins that starts at a command, of so many commands
 abbrev pub begins : ℕ → ℕ → ℕ → ℕ
