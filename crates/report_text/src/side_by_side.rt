@@ -34,9 +34,9 @@ const FEW: usize = 8_192;
 /// nothing is made apart.
 ///
 /// The memory is taken from `alloc` and given back before the call returns: first the texts of one round, some 8 MiB for each
-/// thread or the lines of 1,024 commands, and then those of the journals; a text may have room for twice its bytes. Where
-/// memory is refused for some lines, they are written straight to the sink in their place. Where the system makes no thread,
-/// the pieces are made one after another.
+/// thread or the lines of 1,024 commands, and the keys that scans found beside that, and then those of the journals; a text may
+/// have room for twice its bytes. Where memory is refused for some lines, they are written straight to the sink in their place.
+/// Where the system makes no thread, the pieces are made one after another.
 ///
 /// # Errors
 ///

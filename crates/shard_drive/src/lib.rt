@@ -11,6 +11,7 @@
 
 mod by_words;
 mod driven;
+mod round;
 mod scheduled;
 mod threads;
 

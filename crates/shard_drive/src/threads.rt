@@ -6,16 +6,13 @@ ghost use Rattle.shard_node.specs.Turns.{IsDone, IsSameNode};
 ghost use Rattle.shard_drive.specs.Drives.{AtEach};
 
 use crate::driven::{Driven, have_finished};
+use crate::round::{Round, spins_of};
 use crossbeam_utils::Backoff;
 use shard_node::{Gate, Node, Turn};
 use shard_rings::RingLink;
 use std::sync::Wait;
 use std::thread;
 use std::thread::Threads;
-
-/// How many turns in which nothing moved a node makes one after another before its driver leaves it to the next round. All but
-/// the first few yield the processor.
-const IDLE_TURNS: u32 = 10_000;
 
 /// Drives each node on a thread of its own, turn by turn, until all are done. It returns only then, and whether it returns is not
 /// promised. Where the system makes no thread, or fewer than nodes, they are driven one after another, round by round.
@@ -44,47 +41,56 @@ pub(crate) fn finish_all<R: Threads + Wait + Sync, N: Driven + Send>(
     ensures done { All N.is_done nodes.new }
     ensures lasting { AtEach (λ _ a b. N.lasting b ≡ N.lasting a) nodes.old nodes.new }
 {
+    let spins = spins_of(rt, threads);
     'rounds: for _ in rt.forever() {
         if have_finished(nodes) {
             return;
         }
-        drive_round(rt, nodes, threads);
+        drive_round(rt, nodes, threads, spins);
     }
     unreachable!()
 }
 
 /// Drives each of them once, on at most so many threads, and one after another where no threads can be made.
-fn drive_round<R: Threads + Wait + Sync, N: Driven + Send>(rt: &R, nodes: &mut [N], threads: usize)
+fn drive_round<R: Threads + Wait + Sync, N: Driven + Send>(
+    rt: &R,
+    nodes: &mut [N],
+    threads: usize,
+    spins: u32,
+)
     requires threads { 0 < threads }
     requires stands { All N.stands nodes.old }
     ensures stands { All N.stands nodes.new }
     ensures lasting { AtEach (λ _ a b. N.lasting b ≡ N.lasting a) nodes.old nodes.new }
 {
-    thread::for_each_mut(rt, nodes, threads, &|_, node| drive_one(rt, node));
+    let round = Round::new(nodes.len(), spins);
+    thread::for_each_mut(rt, nodes, threads, &|_, node| drive_one(rt, node, &round));
 }
 
-/// Drives one until it is done, or until nothing moved for long: it may wait for one that is driven only after it. After a turn
-/// in which nothing moved it pauses, longer each time.
-pub(crate) fn drive_one<R: Wait, N: Driven>(rt: &R, node: &mut N)
+/// Drives one until it is done, or leaves it where nothing moved for long and it may wait for one that is not driven. After a turn
+/// in which nothing moved it pauses.
+pub(crate) fn drive_one<R: Wait, N: Driven>(rt: &R, node: &mut N, round: &Round)
     requires { N.stands node.old }
     ensures stands { N.stands node.new }
     ensures lasting { N.lasting node.new ≡ N.lasting node.old }
 {
-    let pause = Backoff::new();
+    round.begin();
+    let backoff = Backoff::new();
     let mut idle = 0;
     'turns: for _ in rt.forever() {
         match node.step() {
             Turn::Done => return,
             Turn::Idle => {
-                if idle == IDLE_TURNS {
+                if round.may_leave(idle) {
+                    round.leave();
                     return;
                 }
-                idle += 1;
-                pause.snooze();
+                round.pause(rt, &backoff, idle);
+                idle = idle.saturating_add(1);
             }
             Turn::Moved | Turn::Stray { .. } => {
                 idle = 0;
-                pause.reset();
+                backoff.reset();
             }
         }
     }

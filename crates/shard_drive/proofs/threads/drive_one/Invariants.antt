@@ -1,4 +1,4 @@
-use Rattle.std.proofs.Common.{◌≡◌, ◌≤◌}
+use Rattle.std.proofs.Common.{◌≡◌}
 use Rattle.shard_drive.proofs.threads.drive_one.Given as goal
 
 -- it stands, and what no turn changes is as it was
@@ -8,5 +8,4 @@ invariant-turns g l = record {
   is_finite : (goal.iterator-turns g).is_finite l.iterator';
   stands : g.N.Driven.stands l.node;
   lasting : g.N.Driven.lasting l.node ≡ g.N.Driven.lasting l.fn.node;
-  idle : l.idle ≤ 10000;
 }
