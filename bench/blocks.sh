@@ -1,5 +1,5 @@
 #!/usr/bin/env bash
-# Nanoseconds for a block that is passed to another thread and given back there: lent blocks of crates/bench_blocks, and
+# Nanoseconds for a block that is passed to another thread and given back there: lent blocks of crates/timed, and
 # malloc and free of glibc and, where they are installed, of jemalloc and mimalloc, in turn. The least of some runs.
 #   bench/blocks.sh [BLOCKS] [RUNS]
 set -euo pipefail
@@ -8,11 +8,11 @@ blocks=${1:-1000000}
 runs=${2:-7}
 work=$(mktemp -d)
 trap 'rm -rf "$work"' EXIT
-(cd "$top/crates/bench_blocks" && rt run >"$work/build.log" 2>&1) || { cat "$work/build.log" >&2; exit 1; }
+(cd "$top/crates/timed" && rt run -- blocks 1000 >"$work/build.log" 2>&1) || { cat "$work/build.log" >&2; exit 1; }
 g++ -O2 -pthread -o "$work/malloc_blocks" "$top/bench/malloc_blocks.cpp"
 
 names=(lent glibc)
-lent=("$top/crates/bench_blocks/out/bench_blocks")
+lent=("$top/crates/timed/out/timed" blocks)
 glibc=("$work/malloc_blocks")
 for library in jemalloc.so.2 mimalloc.so.2 mimalloc.so.2.0; do
     for folder in /usr/lib/*-linux-gnu; do

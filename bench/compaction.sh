@@ -11,11 +11,11 @@ runs=${2:-5}
 kept=50
 work=$(mktemp -d)
 trap 'rm -rf "$work"' EXIT
-# Why crates/bench_compaction/stdout is what it is: with values of 1,000 bytes a row has 8 + 32 + 8 + 1,000 = 1,048, so
+# Why crates/timed/stdout has the line of `compaction` that it has: with values of 1,000 bytes a row has 8 + 32 + 8 + 1,000 = 1,048, so
 # a segment of 131,072 has room for 125, and four of the six are filled by 500, of which 250 stay. All four are sparse
 # then, and 250 rows fill two others, so each of them moves, and once. Two segments hold them, one stays free, and the
 # three others are taken out.
-(cd "$top/crates/bench_compaction" && rt run -- 6 1000 50 1 500 >"$work/build.log" 2>&1) || { cat "$work/build.log" >&2; exit 1; }
+(cd "$top/crates/timed" && rt run -- compaction 6 1000 50 1 500 >"$work/build.log" 2>&1) || { cat "$work/build.log" >&2; exit 1; }
 g++ -O2 -std=c++17 -o "$work/copy_objects" "$top/bench/copy_objects.cpp"
 
 # the time of a run, in nanoseconds
@@ -37,6 +37,6 @@ row() {
     }'
 }
 for bytes in 100 1000 10000; do
-    row compact "$bytes" "$top/crates/bench_compaction/out/bench_compaction"
+    row compact "$bytes" "$top/crates/timed/out/timed" compaction
     row memcpy "$bytes" "$work/copy_objects"
 done

@@ -1,4 +1,4 @@
-// Copies the objects that stay in crates/bench_compaction by memcpy, from a list of their places into other memory.
+// Copies the objects that stay in the part `compaction` of crates/timed by memcpy, from a list of their places into other memory.
 //   copy_objects SEGMENTS BYTES KEPT COPY        COPY is 1 where they are copied
 #include <cstdint>
 #include <cstdio>

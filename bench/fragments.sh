@@ -12,9 +12,9 @@ mebibytes=${1:-8}
 runs=${2:-5}
 work=$(mktemp -d)
 trap 'rm -rf "$work"' EXIT
-# crates/bench_fragments/stdout: three values of 65,536 bytes are set, and five times one of them again.
-(cd "$top/crates/bench_fragments" && rt run -- put 65536 3 8 5 >"$work/build.log" 2>&1) || { cat "$work/build.log" >&2; exit 1; }
-program=$top/crates/bench_fragments/out/bench_fragments
+# The line of `fragments` in crates/timed/stdout: three values of 65,536 bytes are set, and five times one of them again.
+(cd "$top/crates/timed" && rt run -- fragments put 65536 3 8 5 >"$work/build.log" 2>&1) || { cat "$work/build.log" >&2; exit 1; }
+program=$top/crates/timed/out/timed
 segments=$((mebibytes * 8))
 moved=$((4 << 30))
 
@@ -29,10 +29,10 @@ row() {
     words="$bytes $names $segments"
     others="$bytes $buffers $segments"
     for _ in $(seq "$runs"); do
-        rest=$(least "$rest" "$(time_of "$program" "$step" $words 0)")
-        all=$(least "$all" "$(time_of "$program" "$step" $words "$times")")
-        none=$(least "$none" "$(time_of "$program" "$copy" $others 0)")
-        copied=$(least "$copied" "$(time_of "$program" "$copy" $others "$times")")
+        rest=$(least "$rest" "$(time_of "$program" fragments "$step" $words 0)")
+        all=$(least "$all" "$(time_of "$program" fragments "$step" $words "$times")")
+        none=$(least "$none" "$(time_of "$program" fragments "$copy" $others 0)")
+        copied=$(least "$copied" "$(time_of "$program" fragments "$copy" $others "$times")")
     done
     awk -v n="$name" -v v="$bytes" -v k="$names" -v m="$((times * bytes))" -v t="$((all - rest))" -v c="$((copied - none))" 'BEGIN {
         printf "%-11s %4d values of %7d bytes: %6.2f GB a second, memcpy %6.2f, ratio %5.2f\n", n, k, v, m / t, m / c, c / t

@@ -12,7 +12,7 @@ rows=${1:-500000}
 runs=${2:-5}
 work=$(mktemp -d)
 trap 'rm -rf "$work"' EXIT
-(cd "$top/crates/bench_index" && rt run -- random 1000 remove >"$work/build.log" 2>&1) || { cat "$work/build.log" >&2; exit 1; }
+(cd "$top/crates/timed" && rt run -- index random 1000 remove >"$work/build.log" 2>&1) || { cat "$work/build.log" >&2; exit 1; }
 g++ -O2 -std=c++17 -o "$work/index_maps" "$top/bench/index_maps.cpp"
 
 # the least time of some runs, in nanoseconds
@@ -44,12 +44,12 @@ steps_of() {
     echo ' ns'
 }
 for kind in random ascending descending prefix12 prefix200 mixed; do
-    steps_of index "$kind" "$top/crates/bench_index/out/bench_index"
+    steps_of index "$kind" "$top/crates/timed/out/timed" index
     steps_of map "$kind" "$work/index_maps" map
     steps_of hash "$kind" "$work/index_maps" hash
 done
 if [ "$rows" -gt 300000 ]; then rows=300000; fi
 for kind in random ascending descending prefix12 prefix200 mixed; do
-    steps_of nodes "$kind" "$top/crates/bench_index/out/bench_index"
+    steps_of nodes "$kind" "$top/crates/timed/out/timed" index
     steps_of string "$kind" "$work/index_maps" string
 done

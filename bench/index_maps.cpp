@@ -1,4 +1,4 @@
-// The steps of crates/bench_index over a structure of the C++ library.
+// The steps of the part `index` of crates/timed over a structure of the C++ library.
 //   index_maps map|hash|string KIND ROWS keys|insert|find|range|remove
 // map is std::map, whose keys are in order; hash is std::unordered_map, whose keys are not. Both see keys that stand elsewhere;
 // string is a std::map that has its keys.

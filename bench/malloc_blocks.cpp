@@ -1,5 +1,5 @@
 // Passes blocks of 64 bytes from one thread to another over a ring of 32, by the process's malloc and free: one thread
-// allocates, the other frees. Each writes a block's first and last byte or reads them, as crates/bench_blocks does.
+// allocates, the other frees. Each writes a block's first and last byte or reads them, as crates/timed does.
 //   malloc_blocks BLOCKS
 #include <atomic>
 #include <cstdint>

@@ -1,4 +1,4 @@
-// The sequence of crates/bench_pools over whatever malloc the process has (LD_PRELOAD names another).
+// The sequence of the part `pools` of crates/timed over whatever malloc the process has (LD_PRELOAD names another).
 //   malloc_pairs ROUNDS [OBJECTS REPLACEMENTS]
 #include <cstdint>
 #include <cstdio>

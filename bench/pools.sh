@@ -11,7 +11,7 @@ runs=${2:-5}
 objects=400000
 work=$(mktemp -d)
 trap 'rm -rf "$work"' EXIT
-(cd "$top/crates/bench_pools" && rt run >"$work/build.log" 2>&1) || { cat "$work/build.log" >&2; exit 1; }
+(cd "$top/crates/timed" && rt run -- pools 100 20 50 >"$work/build.log" 2>&1) || { cat "$work/build.log" >&2; exit 1; }
 g++ -O2 -o "$work/malloc_pairs" "$top/bench/malloc_pairs.cpp"
 
 # the least time of some runs, in nanoseconds
@@ -34,7 +34,7 @@ row() {
     awk -v n="$name" -v a="$((nested - empty))" -v b="$((replaced - filled))" -v p="$pairs" \
         'BEGIN { printf "%-10s nested %6.1f ns a pair, replaced at random %6.1f ns\n", n, a / p, b / p }'
 }
-row pools "$top/crates/bench_pools/out/bench_pools"
+row pools "$top/crates/timed/out/timed" pools
 row glibc "$work/malloc_pairs"
 for name in jemalloc mimalloc; do
     library=/usr/lib/x86_64-linux-gnu/lib$name.so.2

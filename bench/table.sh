@@ -9,7 +9,7 @@ rows=${1:-500000}
 runs=${2:-5}
 log=$(mktemp)
 trap 'rm -f "$log"' EXIT
-(cd "$top/crates/bench_table" && rt run -- table 1000 remove >"$log" 2>&1) || { cat "$log" >&2; exit 1; }
+(cd "$top/crates/timed" && rt run -- table table 1000 remove >"$log" 2>&1) || { cat "$log" >&2; exit 1; }
 
 # the least time of some runs, in nanoseconds
 time_of() {
@@ -26,9 +26,9 @@ time_of() {
 steps_of() {
     local kind=$1 rows=$2 before spent
     shift 2
-    before=$(time_of "$top/crates/bench_table/out/bench_table" "$kind" "$rows" keys)
+    before=$(time_of "$top/crates/timed/out/timed" table "$kind" "$rows" keys)
     for step in "$@"; do
-        spent=$(time_of "$top/crates/bench_table/out/bench_table" "$kind" "$rows" "$step")
+        spent=$(time_of "$top/crates/timed/out/timed" table "$kind" "$rows" "$step")
         echo "$kind $rows $step $(((spent - before) / rows))"
         before=$spent
     done

@@ -1,6 +1,0 @@
-use Rattle.key_index.specs.Index.{IsIndexOf}
-use Rattle.bench_index.specs.Arena.{has_row, key_of}
-use Rattle.bench_index.proofs.rounds.fill.Given as goal
-
-abbrev pub invariant-loop-row : goal.invariant-loop-row
-invariant-loop-row l = IsIndexOf (has_row l.arena) (key_of l.arena) l.index

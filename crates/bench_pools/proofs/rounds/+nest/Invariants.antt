@@ -1,5 +1,0 @@
--- Each object stands one deeper.
-use Rattle.bench_pools.proofs.rounds.+nest.Given as goal
-
-abbrev pub decreases-nest : goal.decreases-nest
-decreases-nest l = l.depth

@@ -1,6 +1,0 @@
-use Rattle.lazy_index.specs.Lazy.{IsLazyOf}
-use Rattle.bench_table.specs.Arena.{has_row, key_of}
-use Rattle.bench_table.proofs.both_rounds.count_removed.Given as goal
-
-abbrev pub invariant-loop-at : goal.invariant-loop-at
-invariant-loop-at l = IsLazyOf (has_row l.arena) (key_of l.arena) l.index

@@ -1,0 +1,6 @@
+use Rattle.small_pools.specs.Objects.{AreHeldIn}
+use Rattle.timed.specs.Live.{AreLive}
+use Rattle.timed.proofs.pools.live.fill.Given as goal
+
+abbrev pub invariant-loop : goal.invariant-loop
+invariant-loop l = AreHeldIn l.pools l.spans × AreLive l.pools.allocated l.live.items

@@ -1,0 +1,3 @@
+pub mod IndexArena
+pub mod Live
+pub mod TableArena
