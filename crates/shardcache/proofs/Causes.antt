@@ -8,11 +8,11 @@ use Rattle.value_script.specs.Order.{Order}
 use Rattle.value_script.specs.Reading.{Refusal as ScriptRefusal, script_of}
 use Rattle.value_script.specs.Reading as script_refusal
 use Rattle.shard_node.specs.Rans.{RanState}
-use Rattle.shardcache.specs.declared.settings.mode.Mode.{Mode}
-use Rattle.shardcache.specs.declared.settings.mode.Mode.TheVariants.{Run, Sim, Gen, Dirty, Index, Values}
+use Rattle.settings.specs.declared.settings.mode.Mode.{Mode}
+use Rattle.settings.specs.declared.settings.mode.Mode.TheVariants.{Run, Sim, Gen, Dirty, Index, Values}
 use Rattle.shardcache.specs.declared.status.Status.{Status}
 use Rattle.shardcache.specs.declared.status.Status.TheVariants as status
-use Rattle.shardcache.specs.Settings.{Settings, settings}
+use Rattle.settings.specs.Settings.{Settings, settings}
 use Rattle.shardcache.specs.Table.{Does, FollowsTable, IsReadOut, IsScriptReadOut, ReadsScript, ReadsTrace, Refuses, is_accepted}
 use Rattle.shardcache.specs.TraceFor.{trace_for}
 use Rattle.shardcache.proofs.TableRows.{is_too_long, is_too_long_script}

@@ -4,6 +4,4 @@ pub mod Reported
 pub mod Runs
 pub mod Scheduled
 pub mod TableRows
-mod Numbers
-mod Words
 mod Unbroken

@@ -19,9 +19,9 @@ use Rattle.cache_model.specs.Report.{IsReportOf, Occupancy, answers, journal_tex
 use Rattle.cache_model.specs.Unbroken.{IsUnbroken, is_unbroken}
 use Rattle.report_text.specs.Views.{journals_in, replies_in}
 use Rattle.shard_node.specs.Rans.{RanState}
-use Rattle.shardcache.specs.declared.settings.Settings.{Settings as Found}
-use Rattle.shardcache.specs.declared.settings.mode.Mode.TheVariants.{Run, Sim, Gen}
-use Rattle.shardcache.specs.Settings.{view}
+use Rattle.settings.specs.declared.settings.Settings.{Settings as Found}
+use Rattle.settings.specs.declared.settings.mode.Mode.TheVariants.{Run, Sim, Gen}
+use Rattle.settings.specs.Settings.{view}
 use Rattle.shardcache.specs.Table.{IsOutput, IsRecordOf, Reports}
 use Rattle.shardcache.specs.inside.Finished.{IsRunOf}
 use Rattle.shardcache.proofs.Unbroken.{key-unbroken, value-unbroken}

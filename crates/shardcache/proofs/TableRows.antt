@@ -12,11 +12,11 @@ use Rattle.value_script.specs.Reading.{script_of}
 use Rattle.values_mode.specs.Text.{values_text}
 use Rattle.value_script.specs.Reading as script_refusal
 use Rattle.shard_node.specs.Rans.{RanState}
-use Rattle.shardcache.specs.declared.settings.mode.Mode.{Mode}
-use Rattle.shardcache.specs.declared.settings.mode.Mode.TheVariants.{Run, Sim, Gen, Dirty, Index, Values}
+use Rattle.settings.specs.declared.settings.mode.Mode.{Mode}
+use Rattle.settings.specs.declared.settings.mode.Mode.TheVariants.{Run, Sim, Gen, Dirty, Index, Values}
 use Rattle.shardcache.specs.declared.status.Status.{Status}
 use Rattle.shardcache.specs.declared.status.Status.TheVariants as status
-use Rattle.shardcache.specs.Settings.{Settings, settings}
+use Rattle.settings.specs.Settings.{Settings, settings}
 use Rattle.shardcache.specs.Table.{Does, FollowsTable, IsOutput, IsReadOut, Reads, ReadsTrace, Refuses, Writes, WritesAll}
 use Rattle.shardcache.specs.TraceFor.{refusal_text, trace_for}
 use Rattle.shardcache.specs.inside.Ending.{Accepts, AcceptsTrace, EndsOutput, EndsRun, EndsTrace, EndsWith, RefusesLine, RefusesTrace}

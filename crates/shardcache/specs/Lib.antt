@@ -1,5 +1,4 @@
 pub mod Codes
-pub mod Settings
 pub mod Table
 pub mod TraceFor
 pub mod inside

@@ -7,7 +7,7 @@ use Rattle.cache_model.specs.Report.{line}
 use Rattle.value_script.specs.Causes.{cause_name as script_cause_name}
 use Rattle.value_script.specs.Reading.{Refusal as ScriptRefusal}
 use Rattle.value_script.specs.Reading as script_refusal
-use Rattle.shardcache.specs.Settings.{Settings}
+use Rattle.settings.specs.Settings.{Settings}
 
 -- what the settings make of the bytes of a trace: the trace, or why there is none
 abbrev pub trace_for : Settings → List ℕ → Result Trace Refusal

@@ -8,23 +8,23 @@ ghost use Rattle.trace_text.specs.Parts.{most_shards};
 ghost use Rattle.layout.specs.Sizes.{ArePages, most_trace_bytes};
 ghost use Rattle.value_script.specs.Script.{script_in};
 ghost use Rattle.values_mode.specs.Text.{values_text};
-ghost use Rattle.shardcache.specs.Settings.{Settings as Wanted, most_made_commands, settings as settings_of, view};
+ghost use Rattle.settings.specs.Settings.{Settings as Wanted, most_made_commands, settings as settings_of, view};
 ghost use Rattle.shardcache.specs.Table.{FollowsTable, Reads, is_accepted};
 ghost use Rattle.shardcache.specs.inside.Ending.{EndsRun, EndsTrace, EndsWith, Runs};
-ghost use Rattle.shardcache.specs.declared.settings.mode.Mode.{Mode as Modes};
+ghost use Rattle.settings.specs.declared.settings.mode.Mode.{Mode as Modes};
 
 use crate::outcome::Outcome;
 use crate::printing::{
     refuse, refuse_script, too_long, write_line, write_output, written_or_fault,
 };
 use crate::run::{Order, run_trace};
-use crate::settings::{Mode, Settings, settings_of};
 use crate::status::Status;
 use dirty_mode::{open_dirty, write_dirty};
 use index_mode::{open_index, write_index};
 use layout::MOST_TRACE_BYTES;
 use made_trace::make_trace;
 use outside::{ReadStop, Sink, Source, read_all};
+use settings::{Mode, Settings, settings_of};
 use shard_node::Gates;
 use std::alloc::Global;
 use std::sync::Wait;

@@ -9,7 +9,6 @@ mod call;
 mod outcome;
 mod printing;
 mod run;
-mod settings;
 mod status;
 
 pub use call::shardcache;

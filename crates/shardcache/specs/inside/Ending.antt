@@ -11,11 +11,11 @@ use Rattle.value_script.specs.Reading as script_refusal
 use Rattle.value_script.specs.declared.refusal.Cause.{Cause as ScriptCause}
 use Rattle.values_mode.specs.Text.{values_text}
 use Rattle.shard_node.specs.Rans.{RanState}
-use Rattle.shardcache.specs.declared.settings.mode.Mode.{Mode}
-use Rattle.shardcache.specs.declared.settings.mode.Mode.TheVariants.{Run, Sim, Gen, Dirty, Index, Values}
+use Rattle.settings.specs.declared.settings.mode.Mode.{Mode}
+use Rattle.settings.specs.declared.settings.mode.Mode.TheVariants.{Run, Sim, Gen, Dirty, Index, Values}
 use Rattle.shardcache.specs.declared.status.Status.{Status}
 use Rattle.shardcache.specs.declared.status.Status.TheVariants as status
-use Rattle.shardcache.specs.Settings.{Settings}
+use Rattle.settings.specs.Settings.{Settings}
 use Rattle.shardcache.specs.Table.{IsOutput}
 use Rattle.shardcache.specs.TraceFor.{refusal_text, script_refusal_text, trace_for}
 

@@ -1,7 +1,7 @@
 -- The table, where the words ask for a trace that is made.
 use Rattle.std.proofs.Common.{arith}
 use Rattle.shardcache.specs.declared.status.Status.TheVariants as status
-use Rattle.shardcache.specs.Settings.{view}
+use Rattle.settings.specs.Settings.{view}
 use Rattle.shardcache.proofs.TableRows.{does_made, ends_as, follows_ending, follows_run, refuses_long_made, refuses_made, takes_none}
 use Rattle.shardcache.proofs.call.make_and_run.Goals as goal
 

@@ -1,5 +1,5 @@
 -- A script is run.
-use Rattle.shardcache.specs.Settings.{view}
+use Rattle.settings.specs.Settings.{view}
 use Rattle.shardcache.proofs.TableRows.{ends_as, ends_as_play}
 use Rattle.shardcache.proofs.call.play_bytes.Goals as goal
 

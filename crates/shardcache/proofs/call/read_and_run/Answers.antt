@@ -1,7 +1,7 @@
 -- The table, where the words ask for what is read.
 use Rattle.std.proofs.Common.{refl}
 use Rattle.shardcache.specs.declared.status.Status.TheVariants as status
-use Rattle.shardcache.specs.Settings.{view}
+use Rattle.settings.specs.Settings.{view}
 use Rattle.shardcache.proofs.TableRows.{does_read, ends_as, follows_ending, follows_run, refuses_long, refuses_read}
 use Rattle.shardcache.proofs.call.read_and_run.Goals as goal
 

@@ -1,6 +1,6 @@
 -- A trace is run, or a line is refused.
 use Rattle.std.proofs.Common.{inl, inr, refl}
-use Rattle.shardcache.specs.Settings.{view}
+use Rattle.settings.specs.Settings.{view}
 use Rattle.shardcache.proofs.TableRows.{ends_as, ends_as_run, refuses_line}
 use Rattle.shardcache.proofs.call.run_bytes.Goals as goal
 

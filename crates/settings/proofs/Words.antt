@@ -11,7 +11,7 @@ use Rattle.clap.specs.declared.error.Error.{Error}
 use Rattle.clap.specs.declared.error.kind.ErrorKind.{ErrorKind}
 use Rattle.clap.specs.declared.error.kind.ErrorKind.TheVariants.{OutOfMemory}
 use Rattle.clap.specs.declared.parser.matches.ArgMatches.{ArgMatches}
-use Rattle.shardcache.specs.Settings.{Settings, settings_in, command, settings}
+use Rattle.settings.specs.Settings.{Settings, settings_in, command, settings}
 
 simple : is_simple command ≡ true
 unfolding command

@@ -1,7 +1,7 @@
 //! The words, as clap reads them.
 ghost use Rattle.std.specs.Prelude.{◌≡◌, IfOk, false};
 ghost use Rattle.clap.specs.Words.{app_of, rule_of};
-ghost use Rattle.shardcache.specs.Settings.{command, option_rule, word_rule};
+ghost use Rattle.settings.specs.Settings.{command, option_rule, word_rule};
 
 use clap::{Arg, ArgAction, Command};
 use std::alloc::{AllocError, Global};

@@ -3,8 +3,8 @@ use Rattle.std.proofs.Common.{◌≡◌, ◌∙◌, ap, ap₂, codes, rules, tru
 use Rattle.std.proofs.lemmas.Result.{IfOk-weaker}
 use Rattle.clap.specs.Simple.{app_of, app_of_fields, on_top, with_rule}
 use Rattle.clap.specs.Walk.{rule_of}
-use Rattle.shardcache.specs.Settings.{command, option_rule, program, word_rule}
-use Rattle.shardcache.proofs.settings.command.command.Goals as goal
+use Rattle.settings.specs.Settings.{command, option_rule, program, word_rule}
+use Rattle.settings.proofs.settings.command.command.Goals as goal
 
 pub returns : goal.returns
 unfolding command

@@ -1,7 +1,7 @@
 -- What clap makes of the words, and what they ask.
 use Rattle.std.proofs.Common.{◌∙◌, map, string_bytes, sym}
-use Rattle.shardcache.proofs.Words.{found_in, refused_in}
-use Rattle.shardcache.proofs.settings.settings_of.Goals as goal
+use Rattle.settings.proofs.Words.{found_in, refused_in}
+use Rattle.settings.proofs.settings.settings_of.Goals as goal
 
 pub returns-in-Ok-clause-settings : goal.returns-in-Ok-clause-settings
 returns-in-Ok-clause-settings c =

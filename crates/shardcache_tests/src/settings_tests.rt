@@ -1,5 +1,6 @@
 //! Words that ask for something, and words that do not.
-use super::*;
+use settings::{Mode, Settings, settings_of};
+use std::alloc::{AllocError, Global};
 use std::test::Fail;
 
 /// What the words of a line ask for.

@@ -1,7 +1,7 @@
 -- The number that was parsed.
 use Rattle.std.proofs.Common.{◌∙◌, sym}
-use Rattle.shardcache.proofs.Numbers.{parsed}
-use Rattle.shardcache.proofs.settings.number.number_of.Goals as goal
+use Rattle.settings.proofs.Numbers.{parsed}
+use Rattle.settings.proofs.settings.number.number_of.Goals as goal
 
 pub returns-then-is_number : goal.returns-then-is_number
 returns-then-is_number c =

@@ -3,7 +3,7 @@ ghost use Rattle.std.specs.Prelude.{◌≡◌, ◌<◌, ◌≤◌, true, IfOk, I
 ghost use Rattle.layout.specs.Sizes.{ArePages};
 ghost use Rattle.clap.specs.Words.{first_of, found_of, rows_of};
 ghost use Rattle.trace_text.specs.Parts.{most_shards};
-ghost use Rattle.shardcache.specs.Settings.{are_shards, most_made_commands, settings, settings_in, view};
+ghost use Rattle.settings.specs.Settings.{are_shards, most_made_commands, settings, settings_in, view};
 
 mod command;
 mod mode;
@@ -18,9 +18,6 @@ use mode::{are_shards, mode_of};
 use number::number_within;
 use std::alloc::{AllocError, Global};
 use trace_text::MOST_SHARDS;
-
-#[cfg(test)]
-mod tests;
 
 /// The pages of a shard where none are asked for.
 const DEFAULT_PAGES: u32 = 8192;
@@ -47,7 +44,7 @@ pub struct Settings {
 
 impl Settings {
     /// On how many threads a trace is read and a report is written: as many as shards run on.
-    pub(crate) fn threads(self) -> usize
+    pub fn threads(self) -> usize
         ensures { 0 < result }
     {
         match self.mode {

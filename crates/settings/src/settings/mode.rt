@@ -1,6 +1,6 @@
 //! The modes of the program.
 ghost use Rattle.std.specs.Prelude.{◌≡◌};
-ghost use Rattle.shardcache.specs.Settings.{are_shards, mode_of};
+ghost use Rattle.settings.specs.Settings.{are_shards, mode_of};
 
 /// What the program does.
 #[derive(Clone, Copy, Debug, PartialEq, Eq)]

@@ -11,9 +11,9 @@ use Rattle.clap.specs.Walk.{Row, Rule, first_of, is_empty}
 use Rattle.clap.specs.declared.builder.action.ArgAction.TheVariants.{Set}
 use Rattle.layout.specs.Sizes.{fewest_pages, most_pages, segment_pages}
 use Rattle.trace_text.specs.Parts.{most_shards}
-use Rattle.shardcache.specs.declared.settings.Settings.{Settings as Found}
-use Rattle.shardcache.specs.declared.settings.mode.Mode.{Mode}
-use Rattle.shardcache.specs.declared.settings.mode.Mode.TheVariants.{Run, Sim, Gen, Dirty, Index, Values}
+use Rattle.settings.specs.declared.settings.Settings.{Settings as Found}
+use Rattle.settings.specs.declared.settings.mode.Mode.{Mode}
+use Rattle.settings.specs.declared.settings.mode.Mode.TheVariants.{Run, Sim, Gen, Dirty, Index, Values}
 
 pub record Settings : Type 0 where
   pub mode : Mode
