@@ -1,6 +1,5 @@
 -- What a caller sees of a node: one shard at work on its parts of a trace.
-use Rattle.std.specs.Prelude.{ℕ, Bool, List, Option, ◌==◌, not, filter}
-use Rattle.std.specs.List.{range_with_len}
+use Rattle.std.specs.Prelude.{ℕ, Bool, List, Option}
 use Rattle.trace_text.specs.Operation.{Operation}
 use Rattle.trace_text.specs.Trace.{Trace}
 use Rattle.run_log.specs.JournalState.{JournalState}
@@ -9,10 +8,7 @@ use Rattle.foreign_list.specs.Blocks.{Block}
 use Rattle.shard_rings.specs.Lanes.{Lanes}
 use Rattle.reclaim.specs.Spaces.{SpaceState}
 use Rattle.shard_node.specs.declared.waiting.Waiting.{Waiting}
-
--- the shards of n other than s, in rising order
-abbrev pub others : ℕ → ℕ → List ℕ
-others n s = filter (λ q. not (q == s)) (range_with_len 0 n)
+pub use Rattle.part_lemmas.specs.Exchange.{others}
 
 -- What a node keeps of a peer in place of whole lists: it tells how far the two are with each other.
 pub record Keeping : Type 0 where

@@ -1,8 +1,8 @@
 //! Another shard, as a node deals with it.
 ghost use Rattle.std.specs.Prelude.{◌≡◌};
 
-use crate::rest::Rest;
 use foreign_list::ForeignBlock;
+use shard_parts::Rest;
 
 /// Another shard: the link toward it, what waits, and what is expected of it.
 #[derive(Drop)]

@@ -25,19 +25,19 @@ use Rattle.shard_node.specs.Standing.{InStanding, ReleasesAll, blocks, is_block,
 use Rattle.shard_node.specs.inside.Peers.{peer_state}
 use Rattle.shard_node.specs.inside.Receives.{IsReply, IsNoReply, OwesReply, TriesReply, block_of, next_answer}
 use Rattle.shard_node.specs.inside.Releases.{Releases, Tries}
-use Rattle.shard_node.specs.inside.Rest.{all_of, log_of}
+use Rattle.part_lemmas.specs.Rest.{all_of, log_of}
 use Rattle.shard_node.specs.inside.Shards.{HasCursors, IsConsistent, issued_by, node_state}
 use Rattle.shard_node.specs.inside.Steps.{IsStep}
-use Rattle.shard_node.specs.inside.Work.{bodies}
+use Rattle.part_lemmas.specs.Work.{bodies}
 use Rattle.shard_node.proofs.Standing.Strays.{ReceivesStray, stray_with}
-use Rattle.shard_node.proofs.OwnParts.LogPlaces.{at_shard, place_at, reply-logged, set-other}
+use Rattle.part_lemmas.proofs.OwnParts.LogPlaces.{at_shard, place_at, reply-logged, set-other}
 use Rattle.shard_node.proofs.Standing.Peerwise.{StandsWith, receives_one, stays}
 use Rattle.shard_node.proofs.Standing.Plans.{plans_same}
 use Rattle.shard_node.proofs.Turning.Releases.{one_try}
-use Rattle.shard_node.proofs.Replies.BodyLengths.{fits_short}
-use Rattle.shard_node.proofs.OwnParts.WorkLeft.{bodies-cons}
+use Rattle.part_lemmas.proofs.Packets.BodyLengths.{fits_short}
+use Rattle.part_lemmas.proofs.OwnParts.WorkLeft.{bodies-cons}
 use Rattle.shard_node.proofs.Replies.Logged.{get_first, taken_with}
-use Rattle.shard_node.proofs.Standing.Taken.{takes_none}
+use Rattle.part_lemmas.proofs.Packets.Taken.{takes_none}
 use Rattle.shard_node.proofs.Replies.TakesReplies.{IsPlaced, MovesOn, first_is, get_set_other, peer_moved, same_all, same_log}
 
 -- a packet more, and its block

@@ -28,7 +28,7 @@ use Rattle.shard_node.specs.inside.Peers.{peer_state}
 use Rattle.shard_node.specs.inside.Sends.{IsRefused, IsSent}
 use Rattle.shard_node.specs.inside.Shards.{AreUnanswered, HasAsked, IsConsistent, issued_by, node_state}
 use Rattle.shard_node.specs.inside.Steps.{IsStep}
-use Rattle.shard_node.specs.inside.Work.{bodies, puts_among}
+use Rattle.part_lemmas.specs.Work.{bodies, puts_among}
 use Rattle.shard_node.proofs.Standing.Strays.{stray_with}
 use Rattle.shard_node.proofs.Standing.Consistent.{peers_differ}
 use Rattle.shard_node.proofs.Standing.Peerwise.{StandsWith, all_but, all_stand, each_stands, receives_one, stays}

@@ -21,10 +21,10 @@ use Rattle.shard_node.specs.Standing.{AreReplies, InStanding, blocks, done_for, 
 use Rattle.shard_node.specs.inside.Receives.{block_of}
 use Rattle.shard_node.specs.inside.Releases.{Releases, Tries}
 use Rattle.shard_node.proofs.Standing.Strays.{ReceivesStray, stray_with, none-taken}
-use Rattle.shard_node.proofs.Requests.DueNext.{due-next, taken-most}
+use Rattle.part_lemmas.proofs.Packets.DueNext.{due-next, taken-most}
 use Rattle.shard_node.proofs.Standing.Peerwise.{StandsWith, all_but, all_stand, each_stands, receives_one, stays}
 use Rattle.shard_node.proofs.Turning.Releases.{one_try}
-use Rattle.shard_node.proofs.Standing.Taken.{requests_more}
+use Rattle.part_lemmas.proofs.Packets.Taken.{requests_more}
 use Rattle.shard_node.proofs.Replies.Logged.{get_first}
 
 -- a packet more is a block more, where it is one

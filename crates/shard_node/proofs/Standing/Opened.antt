@@ -24,9 +24,9 @@ use Rattle.shard_node.specs.Standing.{waiting_request}
 use Rattle.shard_node.specs.Links.{IsUnused}
 use Rattle.shard_node.specs.inside.Opening.{IsNewPeer}
 use Rattle.shard_node.specs.inside.Shards.{AreUnanswered, HasRoom, IsConsistent, issued_by}
-use Rattle.shard_node.specs.inside.Work.{bodies, puts_among}
-use Rattle.shard_node.proofs.OwnParts.IssuedParts.{AreCounted, AreOfPeers}
-use Rattle.shard_node.proofs.OwnParts.WorkLeft.{here-parts, here-puts, reply-room, split-off}
+use Rattle.part_lemmas.specs.Work.{bodies, puts_among}
+use Rattle.part_lemmas.proofs.OwnParts.IssuedParts.{AreCounted, AreOfPeers}
+use Rattle.part_lemmas.proofs.OwnParts.WorkLeft.{here-parts, here-puts, reply-room, split-off}
 
 -- A sum over the peers is one over the other shards.
 

@@ -26,9 +26,9 @@ use Rattle.shard_node.specs.Links.{IsUnused}
 use Rattle.shard_node.specs.inside.Opening.{IsNewPeer}
 use Rattle.shard_node.specs.inside.Peers.{peer_state}
 use Rattle.shard_node.specs.inside.Shards.{issued_by, node_state}
-use Rattle.shard_node.proofs.OwnParts.BegunParts.{count-issued}
+use Rattle.part_lemmas.proofs.OwnParts.BegunParts.{count-issued}
 use Rattle.shard_node.proofs.Standing.Consistent.{peer_below}
-use Rattle.shard_node.proofs.OwnParts.IssuedParts.{AreCounted, AreOfPeers}
+use Rattle.part_lemmas.proofs.OwnParts.IssuedParts.{AreCounted, AreOfPeers}
 use Rattle.shard_node.proofs.Standing.Opened.{IsOpened, none-begun, opens-consistent, so-many, waiting-none}
 use Rattle.shard_node.proofs.Standing.Peerwise.{StandsItself, StandsWith, all_stand}
 

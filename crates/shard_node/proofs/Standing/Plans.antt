@@ -8,7 +8,7 @@ use Rattle.shard_node.specs.declared.shard.Shard.{Shard}
 use Rattle.shard_node.specs.Due.{operations_for}
 use Rattle.shard_node.specs.Standing.{begun_at, waiting_request}
 use Rattle.shard_node.specs.inside.Shards.{IsConsistent, issued_by, node_state}
-use Rattle.shard_node.specs.inside.Work.{bodies, puts_among}
+use Rattle.part_lemmas.specs.Work.{bodies, puts_among}
 use Rattle.shard_node.proofs.Standing.Stands.{sums-agree}
 
 -- what holds of two lists place by place holds of what is seen of them

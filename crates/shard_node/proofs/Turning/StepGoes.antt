@@ -24,7 +24,7 @@ use Rattle.shard_node.specs.inside.Peers.{peer_state}
 use Rattle.shard_node.specs.inside.Receives.{TriesReply, block_of, next_ask}
 use Rattle.shard_node.specs.inside.Releases.{CountsOn}
 use Rattle.shard_node.specs.inside.Serves.{EndsExpected, EndsRequest, TriesRequest}
-use Rattle.shard_node.proofs.OwnParts.Growth.{done-more}
+use Rattle.part_lemmas.proofs.OwnParts.Growth.{done-more}
 use Rattle.shard_node.proofs.Turning.Packets.{one_more_so, sums_rise, sums_still}
 use Rattle.std.proofs.lemmas.List.Sums.{sum_by-set}
 use Rattle.shard_node.proofs.Turning.PeerGoes.{goes_join, goes_same}

@@ -29,7 +29,7 @@ use Rattle.shard_node.specs.inside.Peers.{peer_state}
 use Rattle.shard_node.specs.inside.Receives.{IsNoReply, IsReply, TriesReply, next_answer}
 use Rattle.shard_node.specs.inside.Serves.{IsNoRequest, MayAsk, TriesRequest, due_next}
 use Rattle.shard_node.specs.inside.Shards.{HasCursors, node_state}
-use Rattle.shard_node.proofs.Requests.DueNext.{due-next, due_for, taken-most}
+use Rattle.part_lemmas.proofs.Packets.DueNext.{due-next, due_for, taken-most}
 use Rattle.shard_node.proofs.Standing.Peerwise.{StandsWith, each_stands}
 use Rattle.shard_node.proofs.Replies.Logged.{get_first}
 use Rattle.shard_node.proofs.Turning.TellsStrays.{one-more, takes_as_many}

@@ -4,7 +4,7 @@ use Rattle.shard_memory.specs.Tickets.{tickets_out}
 use Rattle.shard_node.specs.declared.peer.Peer.{Peer}
 use Rattle.shard_node.specs.declared.shard.Shard.{Shard}
 use Rattle.shard_node.specs.Turns.{IsEmpty}
-use Rattle.shard_node.specs.inside.Own.{own_log}
+use Rattle.shard_parts.specs.Own.{own_log}
 
 -- no more comes of the peer, it has answered all, and nothing is left to send to it
 pub record HasEnded {L : Type 0} (peer : Peer L) : Type 0 where

@@ -14,7 +14,7 @@ use Rattle.shard_node.specs.Due.{operations_for}
 use Rattle.shard_node.specs.Nodes.{NodeState, others}
 use Rattle.shard_node.specs.Standing.{begun_at, waiting_request}
 use Rattle.shard_node.specs.inside.Peers.{peer_state}
-use Rattle.shard_node.specs.inside.Work.{bodies, puts_among}
+use Rattle.part_lemmas.specs.Work.{bodies, puts_among}
 
 module _ {L G : Type 0} where
   abbrev pub node_state : Shard L G → NodeState L G

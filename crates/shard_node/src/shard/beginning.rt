@@ -2,7 +2,7 @@
 ghost use Rattle.std.specs.Prelude.{◌≡◌, ◌≢◌, ◌↔◌, ℕ, ◌<◌, false, Contains, Some, None, IsTrue};
 ghost use Rattle.std.specs.List.{slice_get};
 ghost use Rattle.shard_node.specs.Nodes.{others};
-ghost use Rattle.shard_node.specs.inside.Own.{IsFirstPart, own_log};
+ghost use Rattle.shard_parts.specs.Own.{IsFirstPart, own_log};
 ghost use Rattle.shard_memory.specs.Tickets.{HasIdle};
 ghost use Rattle.shard_memory.specs.declared.share.Share.{Share as Shares};
 ghost use Rattle.layout.specs.Counts.{Rose};

@@ -14,15 +14,14 @@ ghost use Rattle.shard_node.specs.inside.Shards.{node_state, IsConsistent};
 
 use super::Shard;
 use crate::gate::Gate;
-use crate::own::Own;
 use crate::peer::Peer;
 use crate::refusal::NodeRefusal;
-use crate::rest::Rest;
 use cache_model::issued_parts_are_counted;
 use foreign_list::{Foreign, OwnerSeat, Tally};
 use layout::{KEY_ROOM, MOST_KEYS};
 use reclaim::Space;
 use run_log::{Journal, ReplyLog};
+use shard_parts::{Own, Rest};
 use shard_rings::Link;
 use std::alloc::{AllocError, Global};
 use trace_text::Trace;

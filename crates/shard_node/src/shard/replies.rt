@@ -17,7 +17,6 @@ ghost use Rattle.shard_node.specs.inside.Shards.{IsConsistent, node_state};
 ghost use Rattle.shard_node.specs.inside.Steps.{IsStep};
 
 use super::Shard;
-use crate::expected::expected_reply;
 use crate::gate::Gate;
 use crate::peer::Peer;
 use crate::release::release;
@@ -25,6 +24,7 @@ use crate::seen::Seen;
 use crate::stray_packet::{StrayPacket, Tried};
 use foreign_list::{ForeignBlock, Tally};
 use run_log::ReplyLog;
+use shard_parts::expected_reply;
 use shard_rings::{Ask, Lane, Link, Packet, message_number};
 use trace_text::Trace;
 

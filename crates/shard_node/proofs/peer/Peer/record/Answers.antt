@@ -2,7 +2,7 @@ use Rattle.std.proofs.Common.{◌≡◌, length, subst, sym, ap, Some, None, ari
 use Rattle.std.specs.List.{slice_get}
 use Rattle.trace_text.specs.Operation.{operation}
 use Rattle.cache_model.specs.Bodies.{most_of_body}
-use Rattle.shard_node.proofs.Replies.BodyLengths.{fits_short}
+use Rattle.part_lemmas.proofs.Packets.BodyLengths.{fits_short}
 use Rattle.shard_node.proofs.peer.Peer.record.Goals as goal
 
 pub record-requires-clause-part : goal.record-requires-clause-part

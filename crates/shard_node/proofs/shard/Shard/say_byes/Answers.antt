@@ -2,7 +2,7 @@ use Rattle.std.proofs.Common.{refl, ◌≡◌, ◌<◌, ◌↔◌, IsTrue, arith
 use Rattle.shard_rings.specs.Lanes.{on}
 use Rattle.std.specs.Vec.{with_items}
 use Rattle.std.proofs.lemmas.List.{with_items_is}
-use Rattle.shard_node.specs.inside.Own.{own_log}
+use Rattle.shard_parts.specs.Own.{own_log}
 use Rattle.shard_node.specs.inside.Peers.{Each, SaysBye}
 use Rattle.shard_node.specs.inside.Peers.{peer_state}
 use Rattle.shard_node.proofs.Standing.PeerPairs.{seen_pairs}

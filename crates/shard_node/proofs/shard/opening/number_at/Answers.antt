@@ -1,5 +1,5 @@
 use Rattle.std.proofs.Common.{arith}
-use Rattle.shard_node.proofs.Cursors.OtherPlaces.{at-above, at-below}
+use Rattle.part_lemmas.proofs.Cursors.OtherPlaces.{at-above, at-below}
 use Rattle.shard_node.proofs.shard.opening.number_at.Goals as goal
 
 pub returns-then-at-shard-clause-place : goal.returns-then-at-shard-clause-place

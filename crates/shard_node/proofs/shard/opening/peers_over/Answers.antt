@@ -3,7 +3,7 @@ use Rattle.std.specs.List.{All}
 use Rattle.std.specs.Vec.Iter.{into_iter_items}
 use Rattle.shard_node.specs.inside.Opening.{IsNewPeer}
 use Rattle.shard_node.specs.Nodes.{others}
-use Rattle.shard_node.proofs.Standing.OpenedPeers.{all-more, all-others, one-more, over-all, over-more}
+use Rattle.part_lemmas.proofs.OwnParts.OpenedPeers.{all-more, all-others, one-more, over-all, over-more}
 use Rattle.shard_node.proofs.shard.opening.peers_over.Goals as goal
 
 pub loop-link-preserved : goal.loop-link-preserved

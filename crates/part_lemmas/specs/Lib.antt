@@ -1,0 +1,4 @@
+pub mod Exchange
+pub mod Due
+pub mod Rest
+pub mod Work

@@ -1,0 +1,3 @@
+pub mod OwnNext
+pub mod RisingKeys
+pub mod FitsByBody
