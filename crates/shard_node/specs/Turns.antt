@@ -13,16 +13,14 @@ use Rattle.shard_rings.specs.Lanes.{on, Traffic}
 use Rattle.shard_rings.specs.declared.link.Lane.{Lane}
 use Rattle.shard_rings.specs.declared.link.Lane.TheVariants.{Requests, Replies}
 use Rattle.shard_rings.specs.declared.link.Packet.{Packet}
-use Rattle.shard_node.specs.declared.stray_packet.StrayPacket.{StrayPacket}
+use Rattle.shard_parts.specs.declared.stray_packet.StrayPacket.{StrayPacket}
 use Rattle.shard_node.specs.declared.turn.Turn.{Turn}
 use Rattle.shard_node.specs.declared.turn.Turn.TheVariants.{Moved, Idle, Done, Stray}
 use Rattle.shard_node.specs.Nodes.{NodeState, PeerState}
 use Rattle.shard_node.specs.declared.waiting.Waiting.{Waiting}
 pub use Rattle.part_lemmas.specs.Due.{expected_number, expected_said}
+pub use Rattle.part_lemmas.specs.Exchange.{IsEmpty}
 use Rattle.shard_node.specs.Due.{AnswersNot, Takes, due, is_next, number_in, operations_for, requests_taken, said}
-
-abbrev pub IsEmpty : {A : Type 0} → Option A → Type 0
-IsEmpty option = option ≡ None
 
 -- the place k of two lists
 abbrev pub AtPlace : {A : Type 0} → List A → List A → ℕ → (A → A → Type 0) → Type 0

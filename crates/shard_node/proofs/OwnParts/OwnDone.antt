@@ -23,13 +23,13 @@ use Rattle.shard_memory.specs.Tickets.{tickets_out}
 use Rattle.shard_rings.specs.Lanes.{LinkEnd, Traffic}
 use Rattle.reclaim.specs.Spaces.{SpaceState}
 use Rattle.reclaim.specs.Works.{pressure}
-use Rattle.shard_node.specs.declared.peer.Peer.{Peer}
+use Rattle.shard_parts.specs.declared.peer.Peer.{Peer}
 use Rattle.shard_node.specs.declared.shard.Shard.{Shard}
 use Rattle.shard_node.specs.Nodes.{PeerState}
 use Rattle.shard_node.specs.Due.{operations_for}
 use Rattle.shard_parts.specs.Own.{OwnState}
 use Rattle.shard_node.specs.inside.Parts.{DoesPart}
-use Rattle.shard_node.specs.inside.Peers.{peer_state}
+use Rattle.shard_parts.specs.Peers.{peer_state}
 use Rattle.part_lemmas.specs.Rest.{RestState}
 use Rattle.shard_node.specs.inside.Shards.{node_state, issued_by, bodies_left, parts_left, puts_left, HasAsked, HasRoom, IsConsistent}
 use Rattle.shard_node.specs.inside.Steps.{IsStep}

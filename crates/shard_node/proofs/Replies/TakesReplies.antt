@@ -11,12 +11,12 @@ use Rattle.cache_model.specs.Bodies.{most_of_body}
 use Rattle.cache_model.specs.OwnParts.{issued_parts}
 use Rattle.run_log.specs.Replies.{Replies}
 use Rattle.shard_rings.specs.Lanes.{LinkEnd, Traffic}
-use Rattle.shard_node.specs.declared.peer.Peer.{Peer}
+use Rattle.shard_parts.specs.declared.peer.Peer.{Peer}
 use Rattle.shard_node.specs.declared.shard.Shard.{Shard}
 use Rattle.shard_node.specs.Nodes.{PeerState}
 use Rattle.shard_node.specs.Due.{operations_for}
-use Rattle.shard_node.specs.inside.Peers.{peer_state}
-use Rattle.shard_node.specs.inside.Receives.{next_answer}
+use Rattle.shard_parts.specs.Peers.{peer_state}
+use Rattle.shard_parts.specs.Receives.{next_answer}
 use Rattle.part_lemmas.specs.Rest.{RestState, all_of, log_of}
 use Rattle.shard_node.specs.inside.Shards.{AreUnanswered, HasCursors, IsConsistent, issued_by, node_state}
 use Rattle.part_lemmas.specs.Work.{bodies, puts_among}

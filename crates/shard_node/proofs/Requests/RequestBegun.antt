@@ -16,7 +16,7 @@ use Rattle.shard_rings.specs.Lanes.{LinkEnd, Traffic}
 use Rattle.shard_rings.specs.Request.{request}
 use Rattle.reclaim.specs.Spaces.{SpaceState}
 use Rattle.reclaim.specs.Works.{EvictsForBlock, floor_of}
-use Rattle.shard_node.specs.declared.peer.Peer.{Peer}
+use Rattle.shard_parts.specs.declared.peer.Peer.{Peer}
 use Rattle.shard_node.specs.declared.shard.Shard.{Shard}
 use Rattle.shard_node.specs.declared.waiting.Waiting.{Waiting}
 use Rattle.shard_node.specs.Nodes.{others}

@@ -20,16 +20,16 @@ use Rattle.shard_rings.specs.declared.link.Lane.TheVariants as lanes
 use Rattle.shard_rings.specs.declared.link.Packet.{Packet}
 use Rattle.reclaim.specs.Spaces.{SpaceState}
 use Rattle.reclaim.specs.Works.{floor_of}
-use Rattle.shard_node.specs.declared.stray_packet.StrayPacket.{StrayPacket}
-use Rattle.shard_node.specs.declared.stray_packet.Tried.{Tried}
-use Rattle.shard_node.specs.declared.stray_packet.Tried.TheVariants.{Nothing, Expected, Other}
-use Rattle.shard_node.specs.declared.peer.Peer.{Peer}
+use Rattle.shard_parts.specs.declared.stray_packet.StrayPacket.{StrayPacket}
+use Rattle.shard_parts.specs.declared.stray_packet.Tried.{Tried}
+use Rattle.shard_parts.specs.declared.stray_packet.Tried.TheVariants.{Nothing, Expected, Other}
+use Rattle.shard_parts.specs.declared.peer.Peer.{Peer}
 use Rattle.shard_node.specs.declared.shard.Shard.{Shard}
 use Rattle.shard_node.specs.Nodes.{NodeState, PeerState}
 use Rattle.shard_node.specs.Due.{is_same, said}
 use Rattle.shard_node.specs.Standing.{InStanding}
-use Rattle.shard_node.specs.inside.Peers.{peer_state}
-use Rattle.shard_node.specs.inside.Receives.{TakesNone, next_ask}
+use Rattle.shard_parts.specs.Peers.{peer_state}
+use Rattle.shard_parts.specs.Receives.{TakesNone, next_ask}
 use Rattle.part_lemmas.specs.Rest.{RestState}
 use Rattle.shard_node.specs.inside.Serves.{EndsExpected, EndsRequest, HearsBye, IsDoneFor, IsNoRequest, MayAsk, Serves, TriesRequest, due_next}
 use Rattle.shard_node.specs.inside.Shards.{AreUnanswered, HasAsked, HasCursors, IsConsistent, bodies_left, node_state, parts_left, puts_left}

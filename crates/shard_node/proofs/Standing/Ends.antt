@@ -26,11 +26,11 @@ use Rattle.shard_node.specs.Nodes.{NodeState, PeerState, others}
 use Rattle.shard_node.specs.Due.{operations_for}
 use Rattle.shard_node.specs.Standing.{InStanding, KnowsItsPlace, LogsWhatCame, begun_at, done_for, logged_at}
 use Rattle.shard_node.specs.Turns.{HasParted, IsDone}
-use Rattle.shard_node.specs.declared.peer.Peer.{Peer}
+use Rattle.shard_parts.specs.declared.peer.Peer.{Peer}
 use Rattle.shard_node.specs.declared.shard.Shard.{Shard}
 use Rattle.shard_node.specs.inside.Endings.{HasEnded, IsAtEnd}
 use Rattle.shard_parts.specs.Own.{own_log}
-use Rattle.shard_node.specs.inside.Peers.{peer_state}
+use Rattle.shard_parts.specs.Peers.{peer_state}
 use Rattle.shard_node.specs.inside.Shards.{IsConsistent, issued_by, node_state}
 use Rattle.part_lemmas.proofs.OwnParts.BegunParts.{commands-found, count-issued, place-more}
 use Rattle.shard_node.proofs.Standing.Byes.{same_own_log}

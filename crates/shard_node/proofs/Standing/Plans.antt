@@ -3,7 +3,7 @@ use Rattle.std.proofs.Common.{◌≡◌, ℕ, zero, suc, ◌<◌, ◌≤◌, Lis
 use Rattle.std.specs.declared.alloc.Global.{Global}
 use Rattle.std.proofs.lemmas.List.Sums.{sum_by-cons}
 use Rattle.trace_text.specs.Parsed.{trace_in}
-use Rattle.shard_node.specs.declared.peer.Peer.{Peer}
+use Rattle.shard_parts.specs.declared.peer.Peer.{Peer}
 use Rattle.shard_node.specs.declared.shard.Shard.{Shard}
 use Rattle.shard_node.specs.Due.{operations_for}
 use Rattle.shard_node.specs.Standing.{begun_at, waiting_request}
