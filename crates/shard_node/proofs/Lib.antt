@@ -1,5 +1,4 @@
 pub mod OwnParts
-pub mod Cursors
 pub mod Requests
 pub mod Replies
 pub mod Standing

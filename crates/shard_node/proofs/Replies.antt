@@ -1,8 +1,5 @@
 -- Replies: which fit, how they are taken and how they are sent.
 pub mod Sends
-pub mod RisingKeys
-pub mod FitsByBody
-pub mod BodyLengths
 pub mod Logged
 pub mod TakesReplies
 pub mod TakesPackets

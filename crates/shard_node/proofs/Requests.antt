@@ -2,7 +2,6 @@
 pub mod Served
 pub mod Askable
 pub mod NextAsk
-pub mod DueNext
 pub mod Serving
 pub mod DoesNext
 pub mod SendsRequest

@@ -1,13 +1,11 @@
 -- What a node is in standing with its peers, and what keeps it so.
 pub mod Peerwise
 pub mod Stands
-pub mod Taken
 pub mod Strays
 pub mod Plans
 pub mod Consistent
 pub mod Byes
 pub mod Ends
-pub mod OpenedPeers
 pub mod Opened
 pub mod OpenedStands
 pub mod SeenPeers

@@ -1,13 +1,10 @@
 -- The steps of a turn, and what it answers.
-pub mod Releases
-pub mod Each
 pub mod Steps
 pub mod Joins
 pub mod AsksGate
 pub mod TellsStrays
 pub mod StraysCame
 pub mod TurnTold
-pub mod Packets
 pub mod PeerGoes
 pub mod Frees
 pub mod StepGoes

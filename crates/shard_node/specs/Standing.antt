@@ -1,11 +1,10 @@
 -- A node in good standing: what holds of it after each turn, whatever its links and its gate answer.
-use Rattle.std.specs.Prelude.{◌≡◌, ℕ, ◌+◌, ◌-◌, ◌==◌, ◌↔◌, Bool, true, false, not, List, [], ◌∷◌, ◌++◌, length, map, filter, take, drop, replicate, count_by, sum_by, min, All, if◌then◌else◌, Option, Some, None}
+use Rattle.std.specs.Prelude.{◌≡◌, ℕ, ◌+◌, ◌-◌, ◌==◌, ◌↔◌, true, not, List, [], ◌∷◌, ◌++◌, length, map, filter, take, drop, replicate, count_by, sum_by, min, All, if◌then◌else◌, Option, Some, None}
 use Rattle.std.specs.List.{zip}
 use Rattle.std.specs.Option.{option_map}
 use mathlib.Core.List.{IsPrefix}
 use Rattle.layout.specs.Sizes.{dense}
 use Rattle.trace_text.specs.Parts.{origin, parts}
-use Rattle.cache_model.specs.declared.entry.Entry.{Entry}
 use Rattle.cache_model.specs.declared.reply_kind.ReplyKind.{ReplyKind}
 use Rattle.cache_model.specs.Apply.{Reply}
 use Rattle.cache_model.specs.Legal.{EvictsAbove, cache_after, done, reply_at}
@@ -15,17 +14,13 @@ use Rattle.cache_model.specs.Spelled.{spelled}
 use Rattle.foreign_list.specs.Blocks.{Block}
 use Rattle.layout.specs.Counts.{raised, greatest_count}
 use Rattle.shard_memory.specs.Tickets.{tickets_out}
-use Rattle.shard_rings.specs.Reply.{HoldsReply}
 use Rattle.shard_rings.specs.declared.link.Packet.{Packet}
 use Rattle.shard_rings.specs.declared.link.Packet.TheVariants.{Block as InBlock, Bye}
 use Rattle.shard_rings.specs.Lanes.{Traffic}
 use Rattle.shard_node.specs.Nodes.{NodeState, PeerState}
 use Rattle.shard_node.specs.declared.waiting.Waiting.{Waiting}
 use Rattle.shard_node.specs.Due.{Takes, due, operations_for, requests_taken, said}
-
--- the commands of one origin that a journal has done, in order
-abbrev pub done_for : ℕ → ℕ → List Entry → List ℕ
-done_for n o journal = filter (λ i. origin i n == o) (done journal)
+pub use Rattle.part_lemmas.specs.Exchange.{AreReplies, blocks, done_for, is_block, one_if}
 
 -- the parts of its own that the node began so far, and those of them that another shard does
 abbrev pub begun_parts : {L G : Type 0} → NodeState L G → List (ℕ × ℕ)
@@ -34,29 +29,9 @@ begun_parts node = take node.begun (issued_parts node.trace node.shards node.sha
 abbrev pub begun_at : {L G : Type 0} → NodeState L G → ℕ → List (ℕ × ℕ)
 begun_at node q = filter (λ part. part.1 == q) (begun_parts node)
 
--- Blocks.
-
-abbrev pub is_block : Packet → Bool
-is_block (InBlock block) = true
-is_block Bye = false
-
-abbrev pub blocks : List Packet → ℕ
-blocks packets = count_by is_block packets
-
-abbrev pub one_if : {A : Type 0} → Option A → ℕ
-one_if None = 0
-one_if (Some a) = 1
-
 -- what the log has of the parts that shard q does, in order
 abbrev pub logged_at : {L G : Type 0} → NodeState L G → ℕ → List (Option (ReplyKind × List ℕ))
 logged_at node q = map (λ entry. entry.1) (filter (λ entry. entry.0.1 == q) (zip (issued_parts node.trace node.shards node.shard) node.log.replies))
-
--- the packets are the replies to the first of these commands, each in its block
-abbrev pub AreReplies : (ℕ → Option Reply) → List Packet → List ℕ → Type 0
-AreReplies reply [] numbers = Unit {0}
-AreReplies reply (InBlock block ∷ packets) (i ∷ numbers) =
-    ((answer : Reply) × (reply i ≡ Some answer) × HoldsReply block.piece.bytes i answer) × AreReplies reply packets numbers
-AreReplies reply (packet ∷ packets) numbers = ⊥
 
 -- the reply that waits to be sent to a peer, as a list of at most one packet
 abbrev pub waiting_reply : Option Block → List Packet

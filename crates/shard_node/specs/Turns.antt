@@ -1,7 +1,6 @@
 -- What a turn answers, and exactly when.
 use Rattle.std.specs.Prelude.{◌≡◌, ◌≢◌, ℕ, ◌-◌, ◌<◌, ◌⊎◌, false, List, ◌∷◌, ◌++◌, length, map, All, Option, Some, None, IsSome}
 use Rattle.std.specs.List.{slice_get}
-use Rattle.trace_text.specs.Operation.{Operation}
 use Rattle.cache_model.specs.Apply.{Reply}
 use Rattle.cache_model.specs.Legal.{done}
 use Rattle.cache_model.specs.OwnParts.{issued_parts}
@@ -14,28 +13,18 @@ use Rattle.shard_rings.specs.Lanes.{on, Traffic}
 use Rattle.shard_rings.specs.declared.link.Lane.{Lane}
 use Rattle.shard_rings.specs.declared.link.Lane.TheVariants.{Requests, Replies}
 use Rattle.shard_rings.specs.declared.link.Packet.{Packet}
-use Rattle.shard_node.specs.declared.stray_packet.StrayPacket.{StrayPacket}
+use Rattle.shard_parts.specs.declared.stray_packet.StrayPacket.{StrayPacket}
 use Rattle.shard_node.specs.declared.turn.Turn.{Turn}
 use Rattle.shard_node.specs.declared.turn.Turn.TheVariants.{Moved, Idle, Done, Stray}
 use Rattle.shard_node.specs.Nodes.{NodeState, PeerState}
 use Rattle.shard_node.specs.declared.waiting.Waiting.{Waiting}
-use Rattle.shard_node.specs.Due.{AnswersNot, Takes, due, is_next, number_in, number_said, operations_for, requests_taken, said}
-
-abbrev pub IsEmpty : {A : Type 0} → Option A → Type 0
-IsEmpty option = option ≡ None
+pub use Rattle.part_lemmas.specs.Due.{expected_number, expected_said}
+pub use Rattle.part_lemmas.specs.Exchange.{IsEmpty}
+use Rattle.shard_node.specs.Due.{AnswersNot, Takes, due, is_next, number_in, operations_for, requests_taken, said}
 
 -- the place k of two lists
 abbrev pub AtPlace : {A : Type 0} → List A → List A → ℕ → (A → A → Type 0) → Type 0
 AtPlace {A} old new k R = (a b : A) → slice_get old k ≡ Some a → slice_get new k ≡ Some b → R a b
-
--- the number of the packet that was expected; Bye has 0, and so has what comes where nothing was
-abbrev pub expected_number : Option Operation → ℕ
-expected_number None = 0
-expected_number (Some operation) = operation.number
-
-abbrev pub expected_said : Option (Option (List ℕ)) → ℕ
-expected_said None = 0
-expected_said (Some what) = number_said what
 
 -- One node's turn, from `old` to `new`. Its links tell what went over them and what they counted, and its gate how often it
 -- held.

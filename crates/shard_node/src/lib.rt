@@ -9,25 +9,14 @@
 //! What the nodes of a run say together, once all of them are done, is a law: [`done_nodes_agree`].
 #![tactic(auto)]
 
-mod expected;
-mod fitting;
 mod gate;
 mod law;
 mod node;
-mod own;
 mod parts;
-mod peer;
-mod peer_steps;
-mod place;
 mod ran;
 mod refusal;
-mod release;
-mod rest;
-mod rising;
 mod seen;
-mod send;
 mod shard;
-mod stray_packet;
 mod trace_mark;
 mod turn;
 mod waiting;

@@ -14,7 +14,6 @@ ghost use Rattle.shard_node.specs.Turns.{IsAnswer, IsDone, IsSameNode};
 ghost use Rattle.shard_node.specs.declared.turn.Turn.{Turn as Turns};
 
 use crate::gate::Gate;
-use crate::peer::Peer;
 use crate::ran::Ran;
 use crate::refusal::NodeRefusal;
 use crate::shard::Shard;
@@ -23,6 +22,7 @@ use foreign_list::{Foreign, OwnerSeat};
 use layout::LINE_WORDS;
 use reclaim::Space;
 use run_log::ShardLine;
+use shard_parts::Peer;
 use shard_rings::Link;
 use std::alloc::Global;
 use std::marker::Model;

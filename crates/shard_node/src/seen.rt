@@ -2,8 +2,8 @@
 ghost use Rattle.std.specs.Prelude.{◌≡◌, ◌||◌, false, None};
 ghost use Rattle.shard_node.specs.inside.Seen.{answer_of, first_stray, has_come};
 
-use crate::stray_packet::{StrayPacket, Tried};
 use crate::turn::Turn;
+use shard_parts::{StrayPacket, Tried};
 
 /// Whether something moved in a turn so far, and the first packet that was not expected.
 #[derive(Clone, Copy, Debug, PartialEq, Eq)]

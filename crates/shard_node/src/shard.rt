@@ -14,15 +14,12 @@ mod requests;
 mod turning;
 
 use crate::gate::Gate;
-use crate::own::Own;
-use crate::peer::Peer;
-use crate::peer_steps::{release_all, say_byes, send_replies};
-use crate::rest::Rest;
 use crate::waiting::Waiting;
 use cache_model::issued_parts_are_counted;
 use foreign_list::Tally;
 use reclaim::Space;
 use run_log::{Journal, ReplyLog};
+use shard_parts::{Own, Peer, Rest, release_all, say_byes, send_replies};
 use shard_rings::Link;
 use trace_text::Trace;
 

@@ -23,28 +23,28 @@ use Rattle.shard_memory.specs.Tickets.{tickets_out}
 use Rattle.shard_rings.specs.Lanes.{LinkEnd, Traffic}
 use Rattle.reclaim.specs.Spaces.{SpaceState}
 use Rattle.reclaim.specs.Works.{pressure}
-use Rattle.shard_node.specs.declared.peer.Peer.{Peer}
+use Rattle.shard_parts.specs.declared.peer.Peer.{Peer}
 use Rattle.shard_node.specs.declared.shard.Shard.{Shard}
 use Rattle.shard_node.specs.Nodes.{PeerState}
 use Rattle.shard_node.specs.Due.{operations_for}
-use Rattle.shard_node.specs.inside.Own.{OwnState}
+use Rattle.shard_parts.specs.Own.{OwnState}
 use Rattle.shard_node.specs.inside.Parts.{DoesPart}
-use Rattle.shard_node.specs.inside.Peers.{peer_state}
-use Rattle.shard_node.specs.inside.Rest.{RestState}
+use Rattle.shard_parts.specs.Peers.{peer_state}
+use Rattle.part_lemmas.specs.Rest.{RestState}
 use Rattle.shard_node.specs.inside.Shards.{node_state, issued_by, bodies_left, parts_left, puts_left, HasAsked, HasRoom, IsConsistent}
 use Rattle.shard_node.specs.inside.Steps.{IsStep}
-use Rattle.shard_node.specs.inside.Work.{bodies, puts_among}
-use Rattle.shard_node.proofs.OwnParts.BegunParts.{begun-other, operation-of, place-more}
-use Rattle.shard_node.proofs.OwnParts.Growth.{Laws, evictions}
-use Rattle.shard_node.proofs.OwnParts.IssuedParts.{AreOfPeers}
-use Rattle.shard_node.proofs.OwnParts.LogPlaces.{place_at}
-use Rattle.shard_node.proofs.OwnParts.NextPart.{TellsNumbers}
-use Rattle.shard_node.proofs.Cursors.OtherPlaces.{all-other}
+use Rattle.part_lemmas.specs.Work.{bodies, puts_among}
+use Rattle.part_lemmas.proofs.OwnParts.BegunParts.{begun-other, operation-of, place-more}
+use Rattle.part_lemmas.proofs.OwnParts.Growth.{Laws, evictions}
+use Rattle.part_lemmas.proofs.OwnParts.IssuedParts.{AreOfPeers}
+use Rattle.part_lemmas.proofs.OwnParts.LogPlaces.{place_at}
+use Rattle.part_lemmas.proofs.OwnParts.NextPart.{TellsNumbers}
+use Rattle.part_lemmas.proofs.Cursors.OtherPlaces.{all-other}
 use Rattle.shard_node.proofs.OwnParts.OwnStands.{DoesOwn, KeepsReplied, own_stands}
-use Rattle.shard_node.proofs.Cursors.Places.{numbered}
-use Rattle.shard_node.proofs.Cursors.Rests.{first-dropped}
-use Rattle.shard_node.proofs.OwnParts.ShortRows.{AreShort, KeepsRows, body-left, few-after, is_short_key, is_short_value, short-after, short-body, short-put}
-use Rattle.shard_node.proofs.OwnParts.WorkLeft.{bodies-left, puts-left}
+use Rattle.part_lemmas.proofs.Cursors.Places.{numbered}
+use Rattle.part_lemmas.proofs.Cursors.Rests.{first-dropped}
+use Rattle.part_lemmas.proofs.OwnParts.ShortRows.{AreShort, KeepsRows, body-left, few-after, is_short_key, is_short_value, short-after, short-body, short-put}
+use Rattle.part_lemmas.proofs.OwnParts.WorkLeft.{bodies-left, puts-left}
 
 pub get-other : {A : Type 0} (xs : List A) (j k : ℕ) (v : A) → k ≢ j → slice_get (slice_set xs j v) k ≡ slice_get xs k
 get-other [] j k v other = refl

@@ -7,9 +7,9 @@ use Rattle.trace_text.specs.Operation.{operation}
 use Rattle.trace_text.specs.Parsed.{Parsed, trace_in}
 use Rattle.cache_model.specs.OwnParts.{issued_parts}
 use Rattle.shard_node.specs.declared.shard.Shard.{Shard}
-use Rattle.shard_node.specs.inside.Own.{own_log}
+use Rattle.shard_parts.specs.Own.{own_log}
 use Rattle.shard_node.specs.inside.Shards.{issued_by, IsConsistent}
-use Rattle.shard_node.proofs.Cursors.Places.{length-operations, operation-at}
+use Rattle.part_lemmas.proofs.Cursors.Places.{length-operations, operation-at}
 
 -- its own parts are those that it issues
 pub own-log-is : {L G : Type 0} (shard : Shard L G) → IsConsistent shard → own_log shard.own ≡ issued_by shard

@@ -25,14 +25,14 @@ use Rattle.shard_node.specs.Nodes.{NodeState, PeerState}
 use Rattle.shard_node.specs.Due.{operations_for}
 use Rattle.shard_node.specs.Standing.{InStanding, done_for}
 use Rattle.shard_node.specs.inside.Parts.{DoesPart}
-use Rattle.shard_node.proofs.OwnParts.Alone.{none-out}
-use Rattle.shard_node.proofs.OwnParts.BegunParts.{asked-same, begun-other, place-more}
-use Rattle.shard_node.proofs.OwnParts.Growth.{Laws, above-more, done_for-other, leads-more, of_others, of_others-own, pressure-low, reply-of, reply-other, then_done}
-use Rattle.shard_node.proofs.OwnParts.IssuedParts.{AreOfPeers}
-use Rattle.shard_node.proofs.OwnParts.LogPlaces.{at_shard, own-logged, place_at, set-other}
-use Rattle.shard_node.proofs.OwnParts.NextPart.{TellsNumbers, command-at, not-done, origin-at, then-served}
+use Rattle.part_lemmas.proofs.OwnParts.Alone.{none-out}
+use Rattle.part_lemmas.proofs.OwnParts.BegunParts.{asked-same, begun-other, place-more}
+use Rattle.part_lemmas.proofs.OwnParts.Growth.{Laws, above-more, done_for-other, leads-more, of_others, of_others-own, pressure-low, reply-of, reply-other, then_done}
+use Rattle.part_lemmas.proofs.OwnParts.IssuedParts.{AreOfPeers}
+use Rattle.part_lemmas.proofs.OwnParts.LogPlaces.{at_shard, own-logged, place_at, set-other}
+use Rattle.part_lemmas.proofs.OwnParts.NextPart.{TellsNumbers, command-at, not-done, origin-at, then-served}
 use Rattle.shard_node.proofs.Standing.Peerwise.{StandsItself, StandsWith, all_stand, each_stands, itself_stands, later, stays}
-use Rattle.shard_node.proofs.Cursors.Places.{IsNumbered}
+use Rattle.part_lemmas.proofs.Cursors.Places.{IsNumbered}
 
 -- That a journal keeps what it replied is a law.
 abbrev pub KeepsReplied : Type 0

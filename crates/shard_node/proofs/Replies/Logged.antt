@@ -16,7 +16,7 @@ use Rattle.shard_node.specs.Nodes.{NodeState, PeerState}
 use Rattle.shard_node.specs.Due.{Answers, Takes, due, operations_for, requests_taken, said}
 use Rattle.shard_node.specs.Standing.{AreReplies, blocks, done_for, logged_at, one_if, waiting_reply, waiting_request}
 use Rattle.shard_node.proofs.Standing.Peerwise.{StandsWith, later}
-use Rattle.shard_node.proofs.Standing.Taken.{takes_one}
+use Rattle.part_lemmas.proofs.Packets.Taken.{takes_one}
 
 pub get_first : {X : Type 0} (xs : List X) (n : ℕ) → slice_get (drop n xs) 0 ≡ slice_get xs n
 get_first [] zero = refl

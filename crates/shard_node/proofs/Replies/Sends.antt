@@ -13,7 +13,7 @@ use Rattle.shard_rings.specs.declared.link.Packet.TheVariants.{Block as InBlock,
 use Rattle.shard_node.specs.Nodes.{NodeState, PeerState}
 use Rattle.shard_node.specs.Due.{Takes, due, operations_for, requests_taken, said}
 use Rattle.shard_node.specs.Standing.{InStanding, AreReplies, blocks, done_for, held_of, one_if, received_from, waiting_reply, waiting_request}
-use Rattle.shard_node.specs.inside.Sends.{SendsHeld}
+use Rattle.part_lemmas.specs.Sends.{SendsHeld}
 use Rattle.shard_node.proofs.Standing.Peerwise.{StandsWith, all_stand, each_stands, stays}
 use Rattle.shard_node.proofs.Standing.Stands.{sums-agree}
 

@@ -3,11 +3,11 @@ use Rattle.std.proofs.Common.{◌≡◌, ℕ, ◌<◌, length, map, get_or, slic
 use Rattle.std.specs.Vec.{with_item}
 use Rattle.std.proofs.lemmas.List.{get_or-map, length-map, length-set, map-set}
 use Rattle.shard_rings.specs.Lanes.{LinkEnd, Traffic}
-use Rattle.shard_node.specs.declared.peer.Peer.{Peer}
+use Rattle.shard_parts.specs.declared.peer.Peer.{Peer}
 use Rattle.shard_node.specs.declared.shard.Shard.{Shard}
 use Rattle.shard_node.specs.Nodes.{PeerState}
 use Rattle.shard_node.specs.Standing.{InStanding}
-use Rattle.shard_node.specs.inside.Peers.{SendsReply, peer_state}
+use Rattle.shard_parts.specs.Peers.{SendsReply, peer_state}
 use Rattle.shard_node.specs.inside.Shards.{IsConsistent, node_state}
 use Rattle.shard_node.specs.inside.Steps.{IsStep}
 use Rattle.shard_node.proofs.Standing.Consistent.{SameWork, ends-same, one_changed, work_stays}

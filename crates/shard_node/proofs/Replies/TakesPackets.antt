@@ -15,29 +15,29 @@ use Rattle.run_log.specs.Replies.{Replies}
 use Rattle.shard_rings.specs.Lanes.{LinkEnd, Lanes, Traffic}
 use Rattle.shard_rings.specs.declared.link.Packet.{Packet}
 use Rattle.shard_rings.specs.declared.link.Packet.TheVariants.{Block as InBlock, Bye}
-use Rattle.shard_node.specs.declared.stray_packet.Tried.{Tried}
-use Rattle.shard_node.specs.declared.stray_packet.Tried.TheVariants.{Nothing, Expected, Other}
-use Rattle.shard_node.specs.declared.peer.Peer.{Peer}
+use Rattle.shard_parts.specs.declared.stray_packet.Tried.{Tried}
+use Rattle.shard_parts.specs.declared.stray_packet.Tried.TheVariants.{Nothing, Expected, Other}
+use Rattle.shard_parts.specs.declared.peer.Peer.{Peer}
 use Rattle.shard_node.specs.declared.shard.Shard.{Shard}
 use Rattle.shard_node.specs.Nodes.{PeerState}
 use Rattle.shard_node.specs.Due.{Answers, AnswersNot, Takes, due, operations_for, requests_taken}
 use Rattle.shard_node.specs.Standing.{InStanding, ReleasesAll, blocks, is_block, logged_at, one_if, received_from}
-use Rattle.shard_node.specs.inside.Peers.{peer_state}
-use Rattle.shard_node.specs.inside.Receives.{IsReply, IsNoReply, OwesReply, TriesReply, block_of, next_answer}
-use Rattle.shard_node.specs.inside.Releases.{Releases, Tries}
-use Rattle.shard_node.specs.inside.Rest.{all_of, log_of}
+use Rattle.shard_parts.specs.Peers.{peer_state}
+use Rattle.shard_parts.specs.Receives.{IsReply, IsNoReply, OwesReply, TriesReply, block_of, next_answer}
+use Rattle.part_lemmas.specs.Releases.{Releases, Tries}
+use Rattle.part_lemmas.specs.Rest.{all_of, log_of}
 use Rattle.shard_node.specs.inside.Shards.{HasCursors, IsConsistent, issued_by, node_state}
 use Rattle.shard_node.specs.inside.Steps.{IsStep}
-use Rattle.shard_node.specs.inside.Work.{bodies}
+use Rattle.part_lemmas.specs.Work.{bodies}
 use Rattle.shard_node.proofs.Standing.Strays.{ReceivesStray, stray_with}
-use Rattle.shard_node.proofs.OwnParts.LogPlaces.{at_shard, place_at, reply-logged, set-other}
+use Rattle.part_lemmas.proofs.OwnParts.LogPlaces.{at_shard, place_at, reply-logged, set-other}
 use Rattle.shard_node.proofs.Standing.Peerwise.{StandsWith, receives_one, stays}
 use Rattle.shard_node.proofs.Standing.Plans.{plans_same}
-use Rattle.shard_node.proofs.Turning.Releases.{one_try}
-use Rattle.shard_node.proofs.Replies.BodyLengths.{fits_short}
-use Rattle.shard_node.proofs.OwnParts.WorkLeft.{bodies-cons}
+use Rattle.part_lemmas.proofs.Packets.Releases.{one_try}
+use Rattle.part_lemmas.proofs.Packets.BodyLengths.{fits_short}
+use Rattle.part_lemmas.proofs.OwnParts.WorkLeft.{bodies-cons}
 use Rattle.shard_node.proofs.Replies.Logged.{get_first, taken_with}
-use Rattle.shard_node.proofs.Standing.Taken.{takes_none}
+use Rattle.part_lemmas.proofs.Packets.Taken.{takes_none}
 use Rattle.shard_node.proofs.Replies.TakesReplies.{IsPlaced, MovesOn, first_is, get_set_other, peer_moved, same_all, same_log}
 
 -- a packet more, and its block

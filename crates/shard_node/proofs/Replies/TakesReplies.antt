@@ -11,22 +11,22 @@ use Rattle.cache_model.specs.Bodies.{most_of_body}
 use Rattle.cache_model.specs.OwnParts.{issued_parts}
 use Rattle.run_log.specs.Replies.{Replies}
 use Rattle.shard_rings.specs.Lanes.{LinkEnd, Traffic}
-use Rattle.shard_node.specs.declared.peer.Peer.{Peer}
+use Rattle.shard_parts.specs.declared.peer.Peer.{Peer}
 use Rattle.shard_node.specs.declared.shard.Shard.{Shard}
 use Rattle.shard_node.specs.Nodes.{PeerState}
 use Rattle.shard_node.specs.Due.{operations_for}
-use Rattle.shard_node.specs.inside.Peers.{peer_state}
-use Rattle.shard_node.specs.inside.Receives.{next_answer}
-use Rattle.shard_node.specs.inside.Rest.{RestState, all_of, log_of}
+use Rattle.shard_parts.specs.Peers.{peer_state}
+use Rattle.shard_parts.specs.Receives.{next_answer}
+use Rattle.part_lemmas.specs.Rest.{RestState, all_of, log_of}
 use Rattle.shard_node.specs.inside.Shards.{AreUnanswered, HasCursors, IsConsistent, issued_by, node_state}
-use Rattle.shard_node.specs.inside.Work.{bodies, puts_among}
+use Rattle.part_lemmas.specs.Work.{bodies, puts_among}
 use Rattle.shard_node.proofs.Standing.Consistent.{peer_is_other, peers_differ}
 use Rattle.shard_node.specs.Standing.{ReleasesAll, begun_at, logged_at, waiting_request}
 use Rattle.shard_node.specs.inside.Steps.{IsStep}
 use Rattle.shard_node.proofs.Standing.Peerwise.{StandsWith, all_but, all_stand, each_stands, stays}
 use Rattle.shard_node.proofs.Standing.Plans.{same_seen, seen_each}
 use Rattle.shard_node.proofs.Standing.Stands.{sums-agree}
-use Rattle.shard_node.proofs.OwnParts.WorkLeft.{bodies-cons}
+use Rattle.part_lemmas.proofs.OwnParts.WorkLeft.{bodies-cons}
 
 -- what the cursor of a peer's answers says of its place in the log
 pub record IsPlaced (rest : RestState) : Type 0 where

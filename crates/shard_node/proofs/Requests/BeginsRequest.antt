@@ -28,10 +28,10 @@ use Rattle.shard_node.specs.declared.waiting.Waiting.{Waiting}
 use Rattle.shard_node.specs.Nodes.{NodeState, PeerState}
 use Rattle.shard_node.specs.Due.{due, operations_for, said}
 use Rattle.shard_node.specs.Standing.{InStanding, blocks, done_for, is_block, waiting_request}
-use Rattle.shard_node.proofs.OwnParts.BegunParts.{asked-more, begun-more, begun-other}
-use Rattle.shard_node.proofs.OwnParts.Growth.{Laws, done_for-evicted, evictions, floor-low, leads-evicted, of_others, of_others-evicted, reply-evicted}
-use Rattle.shard_node.proofs.OwnParts.LogPlaces.{own-stays, place_at}
-use Rattle.shard_node.proofs.OwnParts.NextPart.{front-taken, taken-front, taken-more}
+use Rattle.part_lemmas.proofs.OwnParts.BegunParts.{asked-more, begun-more, begun-other}
+use Rattle.part_lemmas.proofs.OwnParts.Growth.{Laws, done_for-evicted, evictions, floor-low, leads-evicted, of_others, of_others-evicted, reply-evicted}
+use Rattle.part_lemmas.proofs.OwnParts.LogPlaces.{own-stays, place_at}
+use Rattle.part_lemmas.proofs.OwnParts.NextPart.{front-taken, taken-front, taken-more}
 use Rattle.shard_node.proofs.Standing.Peerwise.{StandsItself, StandsWith, all_stand, each_stands, itself_stands, later, stays}
 use Rattle.shard_node.proofs.Requests.SendsRequest.{waits-for, waits-not}
 

@@ -22,12 +22,12 @@ use Rattle.reclaim.specs.Works.{DoesAbove, floor_of}
 use Rattle.shard_node.specs.Nodes.{NodeState, PeerState}
 use Rattle.shard_node.specs.Due.{due, is_next, is_same, operations_for, requests_taken, said}
 use Rattle.shard_node.specs.Standing.{InStanding, done_for, one_if}
-use Rattle.shard_node.specs.inside.Receives.{block_of}
-use Rattle.shard_node.proofs.OwnParts.Growth.{Laws, done_for-more, done_for-other, floor-low, leads-more, of_others, of_others-more, reply-of, reply-other, then_done}
-use Rattle.shard_node.proofs.OwnParts.LogPlaces.{own-stays}
-use Rattle.shard_node.proofs.OwnParts.NextPart.{TellsNumbers, command-at, not-done, origin-at}
+use Rattle.shard_parts.specs.Receives.{block_of}
+use Rattle.part_lemmas.proofs.OwnParts.Growth.{Laws, done_for-more, done_for-other, floor-low, leads-more, of_others, of_others-more, reply-of, reply-other, then_done}
+use Rattle.part_lemmas.proofs.OwnParts.LogPlaces.{own-stays}
+use Rattle.part_lemmas.proofs.OwnParts.NextPart.{TellsNumbers, command-at, not-done, origin-at}
 use Rattle.shard_node.proofs.Standing.Peerwise.{StandsWith, Replies_on, all_but, all_stand, each_stands, later, receives_one, stays}
-use Rattle.shard_node.proofs.Cursors.Places.{IsNumbered}
+use Rattle.part_lemmas.proofs.Cursors.Places.{IsNumbered}
 use Rattle.shard_node.proofs.Requests.Served.{served_with}
 use Rattle.shard_node.proofs.Requests.Serving.{Receives, blocks-came, blocks-held, is-due, tried}
 use Rattle.shard_node.proofs.Replies.Logged.{get_first}

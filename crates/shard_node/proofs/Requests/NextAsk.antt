@@ -22,11 +22,11 @@ use Rattle.shard_rings.specs.declared.link.Packet.TheVariants.{Block as InBlock}
 use Rattle.reclaim.specs.Lending.{LendsBlock}
 use Rattle.reclaim.specs.Spaces.{SpaceState}
 use Rattle.reclaim.specs.Works.{DoesAbove, floor_of}
-use Rattle.shard_node.specs.declared.stray_packet.Tried.{Tried}
-use Rattle.shard_node.specs.declared.stray_packet.Tried.TheVariants.{Nothing, Expected, Other}
-use Rattle.shard_node.specs.declared.peer.Peer.{Peer}
+use Rattle.shard_parts.specs.declared.stray_packet.Tried.{Tried}
+use Rattle.shard_parts.specs.declared.stray_packet.Tried.TheVariants.{Nothing, Expected, Other}
+use Rattle.shard_parts.specs.declared.peer.Peer.{Peer}
 use Rattle.shard_node.specs.Due.{is_same, number_in, number_said, said}
-use Rattle.shard_node.specs.inside.Receives.{next_ask}
+use Rattle.shard_parts.specs.Receives.{next_ask}
 use Rattle.shard_node.specs.inside.Serves.{EndsExpected, EndsRequest, IsDoneFor, due_next}
 use Rattle.shard_node.proofs.Requests.Askable.{does_operation, same_number}
 

@@ -16,24 +16,24 @@ use Rattle.shard_rings.specs.Lanes.{LinkEnd, Traffic}
 use Rattle.shard_rings.specs.Request.{request}
 use Rattle.reclaim.specs.Spaces.{SpaceState}
 use Rattle.reclaim.specs.Works.{EvictsForBlock, floor_of}
-use Rattle.shard_node.specs.declared.peer.Peer.{Peer}
+use Rattle.shard_parts.specs.declared.peer.Peer.{Peer}
 use Rattle.shard_node.specs.declared.shard.Shard.{Shard}
 use Rattle.shard_node.specs.declared.waiting.Waiting.{Waiting}
 use Rattle.shard_node.specs.Nodes.{others}
 use Rattle.shard_node.specs.Due.{operations_for}
 use Rattle.shard_node.specs.Standing.{waiting_request}
-use Rattle.shard_node.specs.inside.Own.{OwnState}
+use Rattle.shard_parts.specs.Own.{OwnState}
 use Rattle.shard_node.specs.inside.Shards.{node_state, issued_by, HasAsked, HasRoom, IsConsistent}
 use Rattle.shard_node.specs.inside.Steps.{IsStep}
 use Rattle.shard_node.proofs.Requests.BeginsRequest.{begins}
-use Rattle.shard_node.proofs.OwnParts.BegunParts.{begun-more, begun-other, next-command, place-other}
-use Rattle.shard_node.proofs.OwnParts.Growth.{Laws}
-use Rattle.shard_node.proofs.OwnParts.IssuedParts.{AreOfPeers}
-use Rattle.shard_node.proofs.OwnParts.LogPlaces.{place_at}
-use Rattle.shard_node.proofs.Cursors.OtherPlaces.{other-there}
+use Rattle.part_lemmas.proofs.OwnParts.BegunParts.{begun-more, begun-other, next-command, place-other}
+use Rattle.part_lemmas.proofs.OwnParts.Growth.{Laws}
+use Rattle.part_lemmas.proofs.OwnParts.IssuedParts.{AreOfPeers}
+use Rattle.part_lemmas.proofs.OwnParts.LogPlaces.{place_at}
+use Rattle.part_lemmas.proofs.Cursors.OtherPlaces.{other-there}
 use Rattle.shard_node.proofs.OwnParts.OwnDone.{CountsRows}
 use Rattle.shard_node.proofs.Requests.SendsRequest.{waits-for, waits-not}
-use Rattle.shard_node.proofs.OwnParts.ShortRows.{short-left}
+use Rattle.part_lemmas.proofs.OwnParts.ShortRows.{short-left}
 
 -- The request of the next own part, of this command, was made, and waits: the part is begun.
 pub record MakesRequest {L G : Type 0} (shard : Shard L G) (space : SpaceState) (journal : JournalState) (own : OwnState) (waiting : Waiting) (command : Command) : Type 0 where

@@ -18,17 +18,17 @@ use Rattle.shard_rings.specs.Request.{request}
 use Rattle.shard_rings.specs.declared.link.Lane.TheVariants as lanes
 use Rattle.shard_rings.specs.declared.link.Packet.{Packet}
 use Rattle.shard_rings.specs.declared.link.Packet.TheVariants.{Block as InBlock}
-use Rattle.shard_node.specs.declared.peer.Peer.{Peer}
+use Rattle.shard_parts.specs.declared.peer.Peer.{Peer}
 use Rattle.shard_node.specs.declared.shard.Shard.{Shard}
 use Rattle.shard_node.specs.declared.waiting.Waiting.{Waiting}
 use Rattle.shard_node.specs.Nodes.{NodeState, PeerState, others}
 use Rattle.shard_node.specs.Due.{Takes, due, operations_for, requests_taken, said}
 use Rattle.shard_node.specs.Standing.{InStanding, AreReplies, ReleasesAll, blocks, done_for, one_if, waiting_reply, waiting_request}
-use Rattle.shard_node.specs.inside.Peers.{peer_state}
-use Rattle.shard_node.specs.inside.Sends.{IsRefused, IsSent}
+use Rattle.shard_parts.specs.Peers.{peer_state}
+use Rattle.part_lemmas.specs.Sends.{IsRefused, IsSent}
 use Rattle.shard_node.specs.inside.Shards.{AreUnanswered, HasAsked, IsConsistent, issued_by, node_state}
 use Rattle.shard_node.specs.inside.Steps.{IsStep}
-use Rattle.shard_node.specs.inside.Work.{bodies, puts_among}
+use Rattle.part_lemmas.specs.Work.{bodies, puts_among}
 use Rattle.shard_node.proofs.Standing.Strays.{stray_with}
 use Rattle.shard_node.proofs.Standing.Consistent.{peers_differ}
 use Rattle.shard_node.proofs.Standing.Peerwise.{StandsWith, all_but, all_stand, each_stands, receives_one, stays}

@@ -21,7 +21,7 @@ use Rattle.shard_node.specs.Due.{Takes, due, is_next, operations_for, requests_t
 use Rattle.shard_node.specs.Standing.{AreReplies, blocks, done_for, one_if, waiting_reply, waiting_request}
 use Rattle.shard_node.proofs.Standing.Peerwise.{StandsWith, Replies_on, are_kept, later}
 use Rattle.shard_node.proofs.Replies.Logged.{drop_one_more, get_first}
-use Rattle.shard_node.proofs.Standing.Taken.{requests_more}
+use Rattle.part_lemmas.proofs.Packets.Taken.{requests_more}
 
 -- what an element at a place says of the first ones
 take_one_more : {X : Type 0} (xs : List X) (n : ℕ) (x : X) → slice_get xs n ≡ Some x → take (n + 1) xs ≡ take n xs ++ x ∷ []

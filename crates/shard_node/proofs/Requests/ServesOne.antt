@@ -20,31 +20,31 @@ use Rattle.shard_rings.specs.declared.link.Lane.TheVariants as lanes
 use Rattle.shard_rings.specs.declared.link.Packet.{Packet}
 use Rattle.reclaim.specs.Spaces.{SpaceState}
 use Rattle.reclaim.specs.Works.{floor_of}
-use Rattle.shard_node.specs.declared.stray_packet.StrayPacket.{StrayPacket}
-use Rattle.shard_node.specs.declared.stray_packet.Tried.{Tried}
-use Rattle.shard_node.specs.declared.stray_packet.Tried.TheVariants.{Nothing, Expected, Other}
-use Rattle.shard_node.specs.declared.peer.Peer.{Peer}
+use Rattle.shard_parts.specs.declared.stray_packet.StrayPacket.{StrayPacket}
+use Rattle.shard_parts.specs.declared.stray_packet.Tried.{Tried}
+use Rattle.shard_parts.specs.declared.stray_packet.Tried.TheVariants.{Nothing, Expected, Other}
+use Rattle.shard_parts.specs.declared.peer.Peer.{Peer}
 use Rattle.shard_node.specs.declared.shard.Shard.{Shard}
 use Rattle.shard_node.specs.Nodes.{NodeState, PeerState}
 use Rattle.shard_node.specs.Due.{is_same, said}
 use Rattle.shard_node.specs.Standing.{InStanding}
-use Rattle.shard_node.specs.inside.Peers.{peer_state}
-use Rattle.shard_node.specs.inside.Receives.{TakesNone, next_ask}
-use Rattle.shard_node.specs.inside.Rest.{RestState}
+use Rattle.shard_parts.specs.Peers.{peer_state}
+use Rattle.shard_parts.specs.Receives.{TakesNone, next_ask}
+use Rattle.part_lemmas.specs.Rest.{RestState}
 use Rattle.shard_node.specs.inside.Serves.{EndsExpected, EndsRequest, HearsBye, IsDoneFor, IsNoRequest, MayAsk, Serves, TriesRequest, due_next}
 use Rattle.shard_node.specs.inside.Shards.{AreUnanswered, HasAsked, HasCursors, IsConsistent, bodies_left, node_state, parts_left, puts_left}
 use Rattle.shard_node.specs.inside.Steps.{IsStep}
-use Rattle.shard_node.specs.inside.Work.{bodies, puts_among}
+use Rattle.part_lemmas.specs.Work.{bodies, puts_among}
 use Rattle.shard_node.proofs.Standing.Consistent.{SameWork, ends-same, goes_on, maps-agree, none_alone, one_changed, peer_is_other, peers_differ, work_stays}
 use Rattle.shard_node.proofs.Requests.DoesNext.{DoesNext, IsApart, request_done, served}
-use Rattle.shard_node.proofs.OwnParts.Growth.{Laws, evictions}
-use Rattle.shard_node.proofs.OwnParts.NextPart.{TellsNumbers}
+use Rattle.part_lemmas.proofs.OwnParts.Growth.{Laws, evictions}
+use Rattle.part_lemmas.proofs.OwnParts.NextPart.{TellsNumbers}
 use Rattle.shard_node.proofs.OwnParts.OwnDone.{CountsRows}
 use Rattle.shard_node.proofs.Standing.Peerwise.{all_but}
-use Rattle.shard_node.proofs.Cursors.Places.{numbered}
+use Rattle.part_lemmas.proofs.Cursors.Places.{numbered}
 use Rattle.shard_node.proofs.Requests.Serving.{Receives, stray_came, bye_came, linked, none_came, parted}
-use Rattle.shard_node.proofs.OwnParts.ShortRows.{AreShort, KeepsRows, few-after, short-after, short-put}
-use Rattle.shard_node.proofs.OwnParts.WorkLeft.{puts-left}
+use Rattle.part_lemmas.proofs.OwnParts.ShortRows.{AreShort, KeepsRows, few-after, short-after, short-put}
+use Rattle.part_lemmas.proofs.OwnParts.WorkLeft.{puts-left}
 
 none-some : {X B : Type 0} (x : X) → None ≡ Some x → B
 none-some {X} {B} x e = absurd (let clash : None ≡ Some x = e in cc)

@@ -18,13 +18,13 @@ use Rattle.shard_rings.specs.declared.link.Packet.TheVariants.{Block as InBlock,
 use Rattle.shard_node.specs.Nodes.{NodeState, PeerState}
 use Rattle.shard_node.specs.Due.{Takes, due, is_next, is_same, operations_for, requests_taken, said}
 use Rattle.shard_node.specs.Standing.{AreReplies, InStanding, blocks, done_for, held_of, is_block, one_if, received_from, waiting_reply, waiting_request}
-use Rattle.shard_node.specs.inside.Receives.{block_of}
-use Rattle.shard_node.specs.inside.Releases.{Releases, Tries}
+use Rattle.shard_parts.specs.Receives.{block_of}
+use Rattle.part_lemmas.specs.Releases.{Releases, Tries}
 use Rattle.shard_node.proofs.Standing.Strays.{ReceivesStray, stray_with, none-taken}
-use Rattle.shard_node.proofs.Requests.DueNext.{due-next, taken-most}
+use Rattle.part_lemmas.proofs.Packets.DueNext.{due-next, taken-most}
 use Rattle.shard_node.proofs.Standing.Peerwise.{StandsWith, all_but, all_stand, each_stands, receives_one, stays}
-use Rattle.shard_node.proofs.Turning.Releases.{one_try}
-use Rattle.shard_node.proofs.Standing.Taken.{requests_more}
+use Rattle.part_lemmas.proofs.Packets.Releases.{one_try}
+use Rattle.part_lemmas.proofs.Packets.Taken.{requests_more}
 use Rattle.shard_node.proofs.Replies.Logged.{get_first}
 
 -- a packet more is a block more, where it is one

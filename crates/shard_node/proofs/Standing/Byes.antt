@@ -13,17 +13,17 @@ use Rattle.shard_rings.specs.declared.link.Packet.TheVariants.{Bye}
 use Rattle.shard_node.specs.Nodes.{NodeState, PeerState}
 use Rattle.shard_node.specs.Due.{Takes, due, operations_for, requests_taken, said}
 use Rattle.shard_node.specs.Standing.{InStanding, AreReplies, blocks, begun_at, done_for, held_of, is_block, one_if, received_from, waiting_reply, waiting_request}
-use Rattle.shard_node.specs.inside.Sends.{TriesBye}
-use Rattle.shard_node.specs.declared.peer.Peer.{Peer}
+use Rattle.part_lemmas.specs.Sends.{TriesBye}
+use Rattle.shard_parts.specs.declared.peer.Peer.{Peer}
 use Rattle.shard_node.specs.declared.shard.Shard.{Shard}
 use Rattle.trace_text.specs.Parsed.{trace_in}
 use Rattle.cache_model.specs.OwnParts.{issued_parts}
-use Rattle.shard_node.specs.inside.Own.{own_log}
-use Rattle.shard_node.specs.inside.Peers.{Each, SaysBye, peer_state}
+use Rattle.shard_parts.specs.Own.{own_log}
+use Rattle.shard_parts.specs.Peers.{Each, SaysBye, peer_state}
 use Rattle.shard_node.specs.inside.Shards.{IsConsistent, issued_by, node_state}
 use Rattle.shard_node.specs.inside.Steps.{IsStep}
-use Rattle.shard_node.proofs.OwnParts.BegunParts.{count-issued}
-use Rattle.shard_node.proofs.OwnParts.IssuedParts.{AreOfPeers}
+use Rattle.part_lemmas.proofs.OwnParts.BegunParts.{count-issued}
+use Rattle.part_lemmas.proofs.OwnParts.IssuedParts.{AreOfPeers}
 use Rattle.shard_node.proofs.Standing.Consistent.{peer_below}
 use Rattle.shard_node.proofs.Standing.Plans.{plans_same, same_seen, seen_each}
 use Rattle.shard_node.proofs.Standing.Strays.{stray_with}

@@ -11,16 +11,16 @@ use Rattle.std.proofs.lemmas.List.Elements.{filter_passes}
 use Rattle.trace_text.specs.Parsed.{trace_in}
 use Rattle.run_log.specs.JournalState.{JournalState}
 use Rattle.reclaim.specs.Spaces.{IsSameSpace, SpaceState}
-use Rattle.shard_node.specs.declared.peer.Peer.{Peer}
+use Rattle.shard_parts.specs.declared.peer.Peer.{Peer}
 use Rattle.shard_node.specs.declared.shard.Shard.{Shard}
 use Rattle.shard_node.specs.Due.{operations_for}
 use Rattle.shard_node.specs.Standing.{begun_at, waiting_request}
-use Rattle.shard_node.specs.inside.Peers.{peer_state}
+use Rattle.shard_parts.specs.Peers.{peer_state}
 use Rattle.shard_node.specs.Nodes.{others}
-use Rattle.shard_node.specs.inside.Work.{bodies, puts_among}
-use Rattle.shard_node.proofs.Cursors.OtherPlaces.{other-below}
+use Rattle.part_lemmas.specs.Work.{bodies, puts_among}
+use Rattle.part_lemmas.proofs.Cursors.OtherPlaces.{other-below}
 use Rattle.shard_node.specs.inside.Shards.{AreUnanswered, HasAsked, HasCursors, IsConsistent, bodies_left, node_state, parts_left, puts_left}
-use Rattle.shard_node.proofs.OwnParts.ShortRows.{AreShort}
+use Rattle.part_lemmas.proofs.OwnParts.ShortRows.{AreShort}
 use Rattle.shard_node.proofs.Standing.Stands.{sums-agree}
 
 -- numbers that go up, from m on

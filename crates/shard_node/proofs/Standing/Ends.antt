@@ -26,19 +26,19 @@ use Rattle.shard_node.specs.Nodes.{NodeState, PeerState, others}
 use Rattle.shard_node.specs.Due.{operations_for}
 use Rattle.shard_node.specs.Standing.{InStanding, KnowsItsPlace, LogsWhatCame, begun_at, done_for, logged_at}
 use Rattle.shard_node.specs.Turns.{HasParted, IsDone}
-use Rattle.shard_node.specs.declared.peer.Peer.{Peer}
+use Rattle.shard_parts.specs.declared.peer.Peer.{Peer}
 use Rattle.shard_node.specs.declared.shard.Shard.{Shard}
 use Rattle.shard_node.specs.inside.Endings.{HasEnded, IsAtEnd}
-use Rattle.shard_node.specs.inside.Own.{own_log}
-use Rattle.shard_node.specs.inside.Peers.{peer_state}
+use Rattle.shard_parts.specs.Own.{own_log}
+use Rattle.shard_parts.specs.Peers.{peer_state}
 use Rattle.shard_node.specs.inside.Shards.{IsConsistent, issued_by, node_state}
-use Rattle.shard_node.proofs.OwnParts.BegunParts.{commands-found, count-issued, place-more}
+use Rattle.part_lemmas.proofs.OwnParts.BegunParts.{commands-found, count-issued, place-more}
 use Rattle.shard_node.proofs.Standing.Byes.{same_own_log}
-use Rattle.shard_node.proofs.OwnParts.Counts.{counts_more}
-use Rattle.shard_node.proofs.OwnParts.IssuedParts.{AreOfPeers}
-use Rattle.shard_node.proofs.OwnParts.LogPlaces.{at-cons, at_shard}
-use Rattle.shard_node.proofs.OwnParts.NextPart.{TellsNumbers}
-use Rattle.shard_node.proofs.Cursors.Places.{IsNumbered, numbered}
+use Rattle.part_lemmas.proofs.OwnParts.Counts.{counts_more}
+use Rattle.part_lemmas.proofs.OwnParts.IssuedParts.{AreOfPeers}
+use Rattle.part_lemmas.proofs.OwnParts.LogPlaces.{at-cons, at_shard}
+use Rattle.part_lemmas.proofs.OwnParts.NextPart.{TellsNumbers}
+use Rattle.part_lemmas.proofs.Cursors.Places.{IsNumbered, numbered}
 
 -- A log, shard by shard.
 

@@ -16,17 +16,17 @@ use Rattle.cache_model.specs.Holds.{RowsHold}
 use Rattle.shard_memory.specs.Tickets.{tickets_out}
 use Rattle.shard_rings.specs.Lanes.{Traffic}
 use Rattle.reclaim.specs.Spaces.{IsUnguarded}
-use Rattle.shard_node.specs.declared.peer.Peer.{Peer}
+use Rattle.shard_parts.specs.declared.peer.Peer.{Peer}
 use Rattle.shard_node.specs.declared.shard.Shard.{Shard}
 use Rattle.shard_node.specs.Nodes.{others}
 use Rattle.shard_node.specs.Due.{operations_for}
 use Rattle.shard_node.specs.Standing.{waiting_request}
 use Rattle.shard_node.specs.Links.{IsUnused}
-use Rattle.shard_node.specs.inside.Opening.{IsNewPeer}
+use Rattle.shard_parts.specs.Opening.{IsNewPeer}
 use Rattle.shard_node.specs.inside.Shards.{AreUnanswered, HasRoom, IsConsistent, issued_by}
-use Rattle.shard_node.specs.inside.Work.{bodies, puts_among}
-use Rattle.shard_node.proofs.OwnParts.IssuedParts.{AreCounted, AreOfPeers}
-use Rattle.shard_node.proofs.OwnParts.WorkLeft.{here-parts, here-puts, reply-room, split-off}
+use Rattle.part_lemmas.specs.Work.{bodies, puts_among}
+use Rattle.part_lemmas.proofs.OwnParts.IssuedParts.{AreCounted, AreOfPeers}
+use Rattle.part_lemmas.proofs.OwnParts.WorkLeft.{here-parts, here-puts, reply-room, split-off}
 
 -- A sum over the peers is one over the other shards.
 

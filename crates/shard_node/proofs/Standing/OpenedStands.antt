@@ -18,17 +18,17 @@ use Rattle.cache_model.specs.Spelled.{spelled}
 use Rattle.shard_rings.specs.Lanes.{Lanes, Traffic}
 use Rattle.shard_rings.specs.Request.{request}
 use Rattle.shard_rings.specs.declared.link.Packet.{Packet}
-use Rattle.shard_node.specs.declared.peer.Peer.{Peer}
+use Rattle.shard_parts.specs.declared.peer.Peer.{Peer}
 use Rattle.shard_node.specs.declared.shard.Shard.{Shard}
 use Rattle.shard_node.specs.Due.{Takes, due, operations_for, requests_taken, said}
 use Rattle.shard_node.specs.Standing.{AreReplies, InStanding, asked_of_others, blocks, done_for, done_for_others, held_of, logged_at, one_if, received_from, waiting_reply, waiting_request}
 use Rattle.shard_node.specs.Links.{IsUnused}
-use Rattle.shard_node.specs.inside.Opening.{IsNewPeer}
-use Rattle.shard_node.specs.inside.Peers.{peer_state}
+use Rattle.shard_parts.specs.Opening.{IsNewPeer}
+use Rattle.shard_parts.specs.Peers.{peer_state}
 use Rattle.shard_node.specs.inside.Shards.{issued_by, node_state}
-use Rattle.shard_node.proofs.OwnParts.BegunParts.{count-issued}
+use Rattle.part_lemmas.proofs.OwnParts.BegunParts.{count-issued}
 use Rattle.shard_node.proofs.Standing.Consistent.{peer_below}
-use Rattle.shard_node.proofs.OwnParts.IssuedParts.{AreCounted, AreOfPeers}
+use Rattle.part_lemmas.proofs.OwnParts.IssuedParts.{AreCounted, AreOfPeers}
 use Rattle.shard_node.proofs.Standing.Opened.{IsOpened, none-begun, opens-consistent, so-many, waiting-none}
 use Rattle.shard_node.proofs.Standing.Peerwise.{StandsItself, StandsWith, all_stand}
 

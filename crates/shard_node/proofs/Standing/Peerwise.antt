@@ -16,7 +16,7 @@ use Rattle.shard_rings.specs.declared.link.Packet.{Packet}
 use Rattle.shard_rings.specs.declared.link.Packet.TheVariants.{Block as InBlock, Bye}
 use Rattle.shard_node.specs.Nodes.{NodeState, PeerState}
 use Rattle.shard_node.specs.declared.waiting.Waiting.{Waiting}
-use Rattle.shard_node.specs.inside.Releases.{Releases}
+use Rattle.part_lemmas.specs.Releases.{Releases}
 use Rattle.shard_node.specs.Due.{due, said}
 use Rattle.shard_node.specs.Standing.{InStanding, LeadsToItsRows, DoesItsOwnInOrder, LogsItsOwn, LendsOneEach, ReleasesAll}
 use Rattle.shard_node.specs.Standing.{AsksInOrder, ServesInOrder, RepliesInOrder, LogsWhatCame, SendsEachRequest, SendsEachReply, KnowsItsPlace, AreReplies, begun_at, blocks, done_for, held_of, logged_at, received_from, waiting_reply, waiting_request}

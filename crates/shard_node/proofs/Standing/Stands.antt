@@ -9,7 +9,7 @@ use Rattle.layout.specs.Counts.{raised}
 use Rattle.shard_memory.specs.Tickets.{tickets_out}
 use Rattle.shard_node.specs.Nodes.{NodeState, PeerState}
 use Rattle.shard_node.specs.Standing.{InStanding, held_of, received_from}
-use Rattle.shard_node.specs.inside.Releases.{Releases}
+use Rattle.part_lemmas.specs.Releases.{Releases}
 use Rattle.shard_node.proofs.Standing.Peerwise.{StandsWith, all_stand, each_stands, stays}
 
 sum-of-two : {X : Type 0} (f : X → ℕ) (x y : X) (xs ys : List X) → f y ≡ f x → sum_by f ys ≡ sum_by f xs → sum_by f (y ∷ ys) ≡ sum_by f (x ∷ xs)

@@ -11,7 +11,7 @@ use Rattle.shard_node.specs.Nodes.{NodeState, PeerState}
 use Rattle.shard_node.specs.Due.{Takes, due, is_next, operations_for, requests_taken, said}
 use Rattle.shard_node.specs.Standing.{AreReplies, blocks, done_for, one_if, waiting_reply, waiting_request}
 use Rattle.shard_node.proofs.Standing.Peerwise.{StandsWith}
-use Rattle.shard_node.proofs.Standing.Taken.{requests_more}
+use Rattle.part_lemmas.proofs.Packets.Taken.{requests_more}
 
 -- a packet more on the lane of requests that is not the next one: as many were taken as before
 pub none-taken : (due : List (Option (List ℕ))) (packets : List Packet) (packet : Packet) → is_next due (requests_taken due packets) packet ≡ false

@@ -28,18 +28,18 @@ use Rattle.shard_node.specs.Due.{Takes, due, operations_for, requests_taken, sai
 use Rattle.shard_node.specs.Standing.{AreReplies, InStanding, begun_at, done_for, logged_at, one_if, waiting_request}
 use Rattle.shard_node.specs.Together.{Agree, AreTogether, IsPeer, journals_of, logs_of}
 use Rattle.shard_node.specs.Turns.{HasParted, IsDone}
-use Rattle.shard_node.proofs.OwnParts.BegunParts.{count-issued}
-use Rattle.shard_node.proofs.OwnParts.IssuedParts.{AreOfPeers}
-use Rattle.shard_node.proofs.OwnParts.LogPlaces.{at-length, at_shard}
-use Rattle.shard_node.proofs.OwnParts.NextPart.{TellsNumbers}
-use Rattle.shard_node.proofs.Cursors.OtherPlaces.{other-below, other-there}
+use Rattle.part_lemmas.proofs.OwnParts.BegunParts.{count-issued}
+use Rattle.part_lemmas.proofs.OwnParts.IssuedParts.{AreOfPeers}
+use Rattle.part_lemmas.proofs.OwnParts.LogPlaces.{at-length, at_shard}
+use Rattle.part_lemmas.proofs.OwnParts.NextPart.{TellsNumbers}
+use Rattle.part_lemmas.proofs.Cursors.OtherPlaces.{other-below, other-there}
 use Rattle.shard_node.proofs.Standing.Peerwise.{StandsWith, each_stands}
-use Rattle.shard_node.proofs.Cursors.Places.{IsNumbered}
-use Rattle.shard_node.proofs.Together.Lent.{all-back, but-one, counted-each, sum-agree}
-use Rattle.shard_node.proofs.Together.Lists.{all-unmapped, contains-mapped, contains-unmapped, is-there}
-use Rattle.shard_node.proofs.Together.Logs.{all-at-shard, holds-replies, issued-below, of-all-parts}
-use Rattle.shard_node.proofs.Together.Replies.{IsOneReply, all-taken, replies-received, replies-there, replies-told}
-use Rattle.shard_node.proofs.Together.Requests.{all-served, blocks-told, own-all, requests-received}
+use Rattle.part_lemmas.proofs.Cursors.Places.{IsNumbered}
+use Rattle.part_lemmas.proofs.Together.Lent.{all-back, but-one, counted-each, sum-agree}
+use Rattle.part_lemmas.proofs.Together.Lists.{all-unmapped, contains-mapped, contains-unmapped, is-there}
+use Rattle.part_lemmas.proofs.Together.Logs.{all-at-shard, holds-replies, issued-below, of-all-parts}
+use Rattle.part_lemmas.proofs.Together.Replies.{IsOneReply, all-taken, replies-received, replies-there, replies-told}
+use Rattle.part_lemmas.proofs.Together.Requests.{all-served, blocks-told, own-all, requests-received}
 
 -- What node a, done, tells of its parts of a trace: of those that it did itself, and of the blocks that it lent.
 record Itself (trace : Trace) (n pages a : ℕ) (entries : List Entry) (log : List (Option (ReplyKind × List ℕ))) (begun lends : ℕ) : Type 0 where

@@ -9,7 +9,7 @@ use Rattle.shard_node.specs.declared.shard.Shard.{Shard}
 use Rattle.shard_node.specs.Nodes.{NodeState}
 use Rattle.shard_node.specs.Standing.{InStanding}
 use Rattle.shard_node.specs.inside.Moves.{done_in, Goes, ReceivesNone, Rises}
-use Rattle.shard_node.specs.inside.Own.{own_log}
+use Rattle.shard_parts.specs.Own.{own_log}
 use Rattle.shard_node.specs.inside.Shards.{issued_by, node_state, IsConsistent}
 use Rattle.shard_node.specs.inside.Steps.{IsStep}
 use Rattle.shard_node.proofs.Standing.Byes.{same_own_log}
@@ -23,7 +23,7 @@ use Rattle.reclaim.specs.Spaces.{SpaceState}
 use Rattle.layout.specs.Counts.{Rose}
 use Rattle.shard_node.specs.declared.waiting.Waiting.{Waiting}
 use Rattle.shard_node.specs.Turns.{IsHeldBack}
-use Rattle.shard_node.specs.inside.Own.{IsFirstPart}
+use Rattle.shard_parts.specs.Own.{IsFirstPart}
 use Rattle.shard_node.specs.inside.Moves.{HeldUp, HoldsBack, Pairs}
 use Rattle.shard_node.proofs.OwnParts.OwnLog.{own-log-is}
 use Rattle.shard_node.proofs.Standing.PeerPairs.{pairs_so}

@@ -6,14 +6,14 @@ use Rattle.foreign_list.specs.Blocks.{Block}
 use Rattle.shard_rings.specs.Lanes.{Lanes, on, Traffic}
 use Rattle.shard_rings.specs.declared.link.Lane.{Lane}
 use Rattle.shard_rings.specs.declared.link.Lane.TheVariants.{Requests, Replies}
-use Rattle.shard_node.specs.declared.peer.Peer.{Peer}
+use Rattle.shard_parts.specs.declared.peer.Peer.{Peer}
 use Rattle.shard_node.specs.Nodes.{NodeState}
 use Rattle.shard_node.specs.Standing.{one_if}
 use Rattle.shard_node.specs.Turns.{IsEmpty, Raced}
 use Rattle.shard_node.specs.inside.Moves.{Frees}
-use Rattle.shard_node.specs.inside.Peers.{Each, TriesHeld, held, held_by_all, peer_state}
-use Rattle.shard_node.specs.inside.Releases.{Releases, Tries, held_count}
-use Rattle.shard_node.proofs.Turning.Packets.{one_rose, sums_still}
+use Rattle.shard_parts.specs.Peers.{Each, TriesHeld, held, held_by_all, peer_state}
+use Rattle.part_lemmas.specs.Releases.{Releases, Tries, held_count}
+use Rattle.part_lemmas.proofs.Packets.Passed.{one_rose, sums_still}
 use Rattle.shard_node.proofs.Requests.Served.{get_map}
 
 pub tries_fewer : (a b : Option Block) (x y : ℕ) → Tries a b x y → one_if b ≤ one_if a
@@ -33,19 +33,6 @@ or_fewer false true a b c d first second low high = (λ is. let e = second.0 ref
 or_fewer false false a b c d first second low high = (
   λ is. absurd (true≢false (sym is)),
   λ less. elim (cases_order b a) [
-    | inl same ↦ second.1 (omega (arith, same, less))
-    | inr (inl fewer) ↦ first.1 fewer
-    | inr (inr more) ↦ absurd (omega (arith, more, low))
-  ],
-)
-
--- so far, and now
-pub or_falls : (p q : Bool) (x y z : ℕ) → (IsTrue p ↔ (y < x)) → (IsTrue q ↔ (z < y)) → y ≤ x → z ≤ y → (IsTrue (p || q) ↔ (z < x))
-or_falls true q x y z first second low high = (λ is. let e = first.0 refl in omega (arith, e, high), λ less. refl)
-or_falls false true x y z first second low high = (λ is. let e = second.0 refl in omega (arith, e, low), λ less. refl)
-or_falls false false x y z first second low high = (
-  λ is. absurd (true≢false (sym is)),
-  λ less. elim (cases_order y x) [
     | inl same ↦ second.1 (omega (arith, same, less))
     | inr (inl fewer) ↦ first.1 fewer
     | inr (inr more) ↦ absurd (omega (arith, more, low))

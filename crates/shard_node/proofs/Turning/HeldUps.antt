@@ -15,17 +15,17 @@ use Rattle.shard_rings.specs.Request.{request}
 use Rattle.shard_rings.specs.declared.link.Lane.TheVariants.{Requests, Replies}
 use Rattle.shard_rings.specs.declared.link.Packet.{Packet}
 use Rattle.shard_rings.specs.declared.link.Packet.TheVariants.{Block as InBlock, Bye}
-use Rattle.shard_node.specs.declared.stray_packet.Tried.{Tried}
-use Rattle.shard_node.specs.declared.peer.Peer.{Peer}
+use Rattle.shard_parts.specs.declared.stray_packet.Tried.{Tried}
+use Rattle.shard_parts.specs.declared.peer.Peer.{Peer}
 use Rattle.shard_node.specs.Nodes.{NodeState, PeerState}
 use Rattle.shard_node.specs.Due.{said}
 use Rattle.shard_node.specs.Standing.{blocks, is_block}
 use Rattle.shard_node.specs.inside.Moves.{Goes, GoesOn, HeldUp, NonePassed, Pairs, ReplyLacks, ReplyWaits, RequestLacks, SameWith, packets, packets_with}
-use Rattle.shard_node.specs.inside.Peers.{SaysBye, SendsReply, held, peer_state}
-use Rattle.shard_node.specs.inside.Receives.{TriesReply}
-use Rattle.shard_node.specs.inside.Sends.{SendsHeld, TriesBye}
+use Rattle.shard_parts.specs.Peers.{SaysBye, SendsReply, held, peer_state}
+use Rattle.shard_parts.specs.Receives.{TriesReply}
+use Rattle.part_lemmas.specs.Sends.{SendsHeld, TriesBye}
 use Rattle.shard_node.specs.inside.Serves.{TriesRequest}
-use Rattle.shard_node.proofs.Turning.Packets.{packets_came, packets_sent, sums_still}
+use Rattle.part_lemmas.proofs.Packets.Passed.{packets_came, packets_sent, sums_still}
 
 -- a count that rose, in a while in which it never fell
 pub rose-on : (a b c d : ℕ) → a ≤ b → Rose b c → c ≤ d → Rose a d

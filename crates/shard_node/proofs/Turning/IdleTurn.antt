@@ -23,7 +23,7 @@ use Rattle.shard_node.specs.Standing.{InStanding}
 use Rattle.shard_node.specs.Turns.{HasBegunAll, HasCause, IsEmpty, IsHeldUp, IsIdle, Owes, Raced}
 use Rattle.shard_node.specs.inside.Moves.{ByeWaits, Goes, GoesOn, HeldUp, HoldsBack, NonePassed, RacesAll, ReplyLacks, ReplyWaits, RequestLacks, SameWith, done_in, packets_of, packets_with}
 use Rattle.shard_node.proofs.Turning.HeldUps.{fewer_blocks, rose-on, same_pairs}
-use Rattle.shard_node.proofs.Turning.Packets.{packets_same, sums_rise}
+use Rattle.part_lemmas.proofs.Packets.Passed.{packets_same, sums_rise}
 use Rattle.shard_node.proofs.Turning.PeerGoes.{goes_join}
 use Rattle.shard_node.proofs.Standing.PeerPairs.{pair_at, pair_there}
 use Rattle.shard_node.proofs.Standing.Peerwise.{StandsWith, each_stands}

@@ -8,19 +8,19 @@ use Rattle.shard_rings.specs.Lanes.{LinkEnd, Lanes, NoneFell, on, Traffic}
 use Rattle.shard_rings.specs.declared.link.Lane.{Lane}
 use Rattle.shard_rings.specs.declared.link.Lane.TheVariants.{Requests, Replies}
 use Rattle.shard_rings.specs.declared.link.Packet.{Packet}
-use Rattle.shard_node.specs.declared.stray_packet.Tried.{Tried}
-use Rattle.shard_node.specs.declared.stray_packet.Tried.TheVariants.{Nothing, Expected, Other}
-use Rattle.shard_node.specs.declared.peer.Peer.{Peer}
+use Rattle.shard_parts.specs.declared.stray_packet.Tried.{Tried}
+use Rattle.shard_parts.specs.declared.stray_packet.Tried.TheVariants.{Nothing, Expected, Other}
+use Rattle.shard_parts.specs.declared.peer.Peer.{Peer}
 use Rattle.shard_node.specs.Nodes.{PeerState}
 use Rattle.shard_node.specs.Turns.{IsEmpty}
 use Rattle.shard_node.specs.inside.Moves.{GoesOn, SameWith, packets, packets_with}
-use Rattle.shard_node.specs.inside.Peers.{HoldsOther, SaysBye, SendsReply, held, peer_state}
-use Rattle.shard_node.specs.inside.Receives.{TriesReply}
-use Rattle.shard_node.specs.inside.Releases.{Tries, TriesBoth}
+use Rattle.shard_parts.specs.Peers.{HoldsOther, SaysBye, SendsReply, held, peer_state}
+use Rattle.shard_parts.specs.Receives.{TriesReply}
+use Rattle.part_lemmas.specs.Releases.{Tries, TriesBoth}
 use Rattle.shard_node.specs.inside.Seen.{has_come}
-use Rattle.shard_node.specs.inside.Sends.{IsRefused, IsSent, SendsHeld, TriesBye}
+use Rattle.part_lemmas.specs.Sends.{IsRefused, IsSent, SendsHeld, TriesBye}
 use Rattle.shard_node.specs.inside.Serves.{TriesRequest}
-use Rattle.shard_node.proofs.Turning.Packets.{packets_came, packets_same, packets_sent}
+use Rattle.part_lemmas.proofs.Packets.Passed.{packets_came, packets_same, packets_sent}
 
 none-fell : (a : Lanes ℕ) → NoneFell a a
 none-fell a = (omega arith, omega arith)

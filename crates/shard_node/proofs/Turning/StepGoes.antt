@@ -15,22 +15,22 @@ use Rattle.reclaim.specs.Lending.{ComeHome, LendsBlock}
 use Rattle.reclaim.specs.Spaces.{SpaceState}
 use Rattle.shard_rings.specs.Lanes.{LinkEnd, Traffic}
 use Rattle.shard_rings.specs.declared.link.Packet.{Packet}
-use Rattle.shard_node.specs.declared.stray_packet.Tried.{Tried}
-use Rattle.shard_node.specs.declared.stray_packet.Tried.TheVariants.{Nothing, Expected, Other}
-use Rattle.shard_node.specs.declared.peer.Peer.{Peer}
+use Rattle.shard_parts.specs.declared.stray_packet.Tried.{Tried}
+use Rattle.shard_parts.specs.declared.stray_packet.Tried.TheVariants.{Nothing, Expected, Other}
+use Rattle.shard_parts.specs.declared.peer.Peer.{Peer}
 use Rattle.shard_node.specs.Nodes.{NodeState, PeerState}
 use Rattle.shard_node.specs.inside.Moves.{Goes, Rises, done_in, packets, packets_by_all, packets_of, packets_with}
-use Rattle.shard_node.specs.inside.Peers.{peer_state}
-use Rattle.shard_node.specs.inside.Receives.{TriesReply, block_of, next_ask}
-use Rattle.shard_node.specs.inside.Releases.{CountsOn}
+use Rattle.shard_parts.specs.Peers.{peer_state}
+use Rattle.shard_parts.specs.Receives.{TriesReply, block_of, next_ask}
+use Rattle.part_lemmas.specs.Releases.{CountsOn}
 use Rattle.shard_node.specs.inside.Serves.{EndsExpected, EndsRequest, TriesRequest}
-use Rattle.shard_node.proofs.OwnParts.Growth.{done-more}
-use Rattle.shard_node.proofs.Turning.Packets.{one_more_so, sums_rise, sums_still}
+use Rattle.part_lemmas.proofs.OwnParts.Growth.{done-more}
+use Rattle.part_lemmas.proofs.Packets.Passed.{one_more_so, sums_rise, sums_still}
 use Rattle.std.proofs.lemmas.List.Sums.{sum_by-set}
 use Rattle.shard_node.proofs.Turning.PeerGoes.{goes_join, goes_same}
 use Rattle.shard_node.proofs.Standing.PeerPairs.{pairs_join, pairs_same}
 use Rattle.shard_node.proofs.Standing.Plans.{sum_seen}
-use Rattle.shard_node.proofs.Turning.Releases.{counts_on, one_try}
+use Rattle.part_lemmas.proofs.Packets.Releases.{counts_on, one_try}
 
 pub no_more : (n : ℕ) → (more : ℕ) × CountsOn more n n
 no_more n = (0, λ most. omega (arith, most))

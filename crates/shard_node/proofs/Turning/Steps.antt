@@ -9,15 +9,15 @@ use Rattle.reclaim.specs.Spaces.{SpaceState}
 use Rattle.layout.specs.Counts.{raised}
 use Rattle.shard_memory.specs.Tickets.{tickets_out}
 use Rattle.shard_rings.specs.Lanes.{LinkEnd, Traffic}
-use Rattle.shard_node.specs.declared.peer.Peer.{Peer}
+use Rattle.shard_parts.specs.declared.peer.Peer.{Peer}
 use Rattle.shard_node.specs.declared.shard.Shard.{Shard}
 use Rattle.shard_node.specs.Nodes.{PeerState}
 use Rattle.shard_node.specs.Standing.{InStanding, held_of}
 use Rattle.shard_node.specs.Turns.{IsDone}
-use Rattle.shard_node.specs.inside.Peers.{Each, HoldsOther, SendsReply, held_by_all, peer_state}
+use Rattle.shard_parts.specs.Peers.{Each, HoldsOther, SendsReply, held_by_all, peer_state}
 use Rattle.shard_node.specs.inside.Shards.{node_state, IsConsistent}
 use Rattle.shard_node.specs.inside.Steps.{IsStep}
-use Rattle.shard_node.specs.inside.Releases.{Releases}
+use Rattle.part_lemmas.specs.Releases.{Releases}
 use Rattle.shard_node.proofs.Standing.Peerwise.{all_stand, each_stands}
 use Rattle.shard_node.proofs.Standing.Plans.{plans_same, same_seen, seen_each, sum_seen}
 use Rattle.shard_node.proofs.Replies.Sends.{SentReply, keeps_replies, replies_sent}

@@ -15,21 +15,21 @@ use Rattle.shard_rings.specs.declared.link.Lane.{Lane}
 use Rattle.shard_rings.specs.declared.link.Lane.TheVariants.{Requests, Replies}
 use Rattle.shard_rings.specs.declared.link.Packet.{Packet}
 use Rattle.reclaim.specs.Spaces.{SpaceState}
-use Rattle.shard_node.specs.declared.stray_packet.StrayPacket.{StrayPacket}
-use Rattle.shard_node.specs.declared.stray_packet.Tried.{Tried}
-use Rattle.shard_node.specs.declared.stray_packet.Tried.TheVariants.{Nothing, Expected, Other}
-use Rattle.shard_node.specs.declared.peer.Peer.{Peer}
+use Rattle.shard_parts.specs.declared.stray_packet.StrayPacket.{StrayPacket}
+use Rattle.shard_parts.specs.declared.stray_packet.Tried.{Tried}
+use Rattle.shard_parts.specs.declared.stray_packet.Tried.TheVariants.{Nothing, Expected, Other}
+use Rattle.shard_parts.specs.declared.peer.Peer.{Peer}
 use Rattle.shard_node.specs.declared.shard.Shard.{Shard}
 use Rattle.shard_node.specs.Nodes.{NodeState, PeerState}
 use Rattle.shard_node.specs.Due.{Answers, AnswersNot, due, is_next, is_same, number_in, number_said, operations_for, requests_taken, said}
 use Rattle.shard_node.specs.Standing.{InStanding}
 use Rattle.shard_node.specs.Turns.{IsStray, expected_number, expected_said}
 use Rattle.shard_node.specs.inside.Moves.{ReceivesOneStray, TriedSays}
-use Rattle.shard_node.specs.inside.Peers.{peer_state}
-use Rattle.shard_node.specs.inside.Receives.{IsNoReply, IsReply, TriesReply, next_answer}
+use Rattle.shard_parts.specs.Peers.{peer_state}
+use Rattle.shard_parts.specs.Receives.{IsNoReply, IsReply, TriesReply, next_answer}
 use Rattle.shard_node.specs.inside.Serves.{IsNoRequest, MayAsk, TriesRequest, due_next}
 use Rattle.shard_node.specs.inside.Shards.{HasCursors, node_state}
-use Rattle.shard_node.proofs.Requests.DueNext.{due-next, due_for, taken-most}
+use Rattle.part_lemmas.proofs.Packets.DueNext.{due-next, due_for, taken-most}
 use Rattle.shard_node.proofs.Standing.Peerwise.{StandsWith, each_stands}
 use Rattle.shard_node.proofs.Replies.Logged.{get_first}
 use Rattle.shard_node.proofs.Turning.TellsStrays.{one-more, takes_as_many}

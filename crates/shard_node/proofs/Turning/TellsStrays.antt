@@ -10,9 +10,9 @@ use Rattle.shard_rings.specs.Lanes.{on, Traffic}
 use Rattle.shard_rings.specs.declared.link.Lane.{Lane}
 use Rattle.shard_rings.specs.declared.link.Lane.TheVariants.{Requests, Replies}
 use Rattle.shard_rings.specs.declared.link.Packet.{Packet}
-use Rattle.shard_node.specs.declared.stray_packet.StrayPacket.{StrayPacket}
-use Rattle.shard_node.specs.declared.stray_packet.Tried.{Tried}
-use Rattle.shard_node.specs.declared.stray_packet.Tried.TheVariants.{Nothing, Expected, Other}
+use Rattle.shard_parts.specs.declared.stray_packet.StrayPacket.{StrayPacket}
+use Rattle.shard_parts.specs.declared.stray_packet.Tried.{Tried}
+use Rattle.shard_parts.specs.declared.stray_packet.Tried.TheVariants.{Nothing, Expected, Other}
 use Rattle.shard_node.specs.Nodes.{NodeState, PeerState}
 use Rattle.shard_node.specs.Due.{AnswersNot, Takes, due, is_next, number_in, operations_for, requests_taken}
 use Rattle.shard_node.specs.Turns.{HasStray, IsStray, IsFirstOf, IsSameNode, NoneStray, NoneOf, expected_number, expected_said}

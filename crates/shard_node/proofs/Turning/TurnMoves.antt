@@ -10,10 +10,10 @@ use Rattle.shard_rings.specs.declared.link.Packet.{Packet}
 use Rattle.shard_node.specs.Nodes.{NodeState, PeerState}
 use Rattle.shard_node.specs.Turns.{HasCause, HasMoved}
 use Rattle.shard_node.specs.inside.Moves.{Frees, Goes, GoesOn, Rises, packets_of, packets_with}
-use Rattle.shard_node.specs.inside.Releases.{CountsOn}
-use Rattle.shard_node.proofs.Turning.Packets.{one_rose}
+use Rattle.part_lemmas.specs.Releases.{CountsOn}
+use Rattle.part_lemmas.proofs.Packets.Passed.{one_rose}
 use Rattle.shard_node.proofs.Standing.PeerPairs.{pair_at, pair_there}
-use Rattle.shard_node.proofs.Turning.Releases.{counts_on}
+use Rattle.part_lemmas.proofs.Packets.Releases.{counts_on}
 use Rattle.shard_node.proofs.Turning.StepGoes.{all_go, packets_rise}
 
 pub or_true : (a b : Bool) → IsTrue (a || b) → IsTrue a ⊎ IsTrue b

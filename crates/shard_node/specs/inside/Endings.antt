@@ -1,19 +1,10 @@
 -- When a shard is at its end, as its fields tell.
-use Rattle.std.specs.Prelude.{◌≡◌, true, [], length, All}
+use Rattle.std.specs.Prelude.{◌≡◌, length, All}
 use Rattle.shard_memory.specs.Tickets.{tickets_out}
-use Rattle.shard_node.specs.declared.peer.Peer.{Peer}
 use Rattle.shard_node.specs.declared.shard.Shard.{Shard}
 use Rattle.shard_node.specs.Turns.{IsEmpty}
-use Rattle.shard_node.specs.inside.Own.{own_log}
-
--- no more comes of the peer, it has answered all, and nothing is left to send to it
-pub record HasEnded {L : Type 0} (peer : Peer L) : Type 0 where
-  pub heard : peer.has_heard_bye ≡ true
-  pub told : peer.has_sent_bye ≡ true
-  pub released_request : IsEmpty peer.held_request
-  pub released_reply : IsEmpty peer.held_reply
-  pub replied : IsEmpty peer.reply
-  pub answered : peer.answers.left ≡ []
+use Rattle.shard_parts.specs.Own.{own_log}
+pub use Rattle.shard_parts.specs.Receives.{HasEnded}
 
 -- no request waits, no own part is left to begin, all tickets are idle, and each peer has ended
 pub record IsAtEnd {L G : Type 0} (shard : Shard L G) : Type 0 where

@@ -8,27 +8,21 @@ use Rattle.layout.specs.Counts.{Rose}
 use Rattle.shard_rings.specs.Lanes.{NoneFell, on, Traffic}
 use Rattle.shard_rings.specs.declared.link.Lane.{Lane}
 use Rattle.shard_rings.specs.declared.link.Packet.{Packet}
-use Rattle.shard_node.specs.declared.stray_packet.StrayPacket.{StrayPacket}
-use Rattle.shard_node.specs.declared.stray_packet.Tried.{Tried}
-use Rattle.shard_node.specs.declared.peer.Peer.{Peer}
-use Rattle.shard_node.specs.declared.stray_packet.Tried.TheVariants.{Nothing, Expected, Other}
+use Rattle.shard_parts.specs.declared.stray_packet.StrayPacket.{StrayPacket}
+use Rattle.shard_parts.specs.declared.stray_packet.Tried.{Tried}
+use Rattle.shard_parts.specs.declared.stray_packet.Tried.TheVariants.{Nothing, Expected, Other}
 use Rattle.shard_node.specs.Nodes.{NodeState, PeerState}
 use Rattle.shard_node.specs.declared.waiting.Waiting.{Waiting}
 use Rattle.shard_node.specs.Standing.{InStanding}
 use Rattle.shard_node.specs.Turns.{ForSome, HasBegunAll, HasReleased, IsStray, IsEmpty, IsFirstStray, IsHeldBack, NoneStray, Raced}
-use Rattle.shard_node.specs.inside.Releases.{CountsOn}
+use Rattle.part_lemmas.specs.Releases.{CountsOn}
+pub use Rattle.part_lemmas.specs.Exchange.{packets}
+pub use Rattle.shard_parts.specs.Peers.{packets_by_all}
 
 -- two lists are as long, and so with the two elements at each place
 pub record Pairs {X : Type 0} (R : ℕ → X → X → Type 0) (xs ys : List X) : Type 0 where
   pub long : length ys ≡ length xs
   pub each : (k : ℕ) (d : X) → k < length xs → R k (slice_index_or xs k d) (slice_index_or ys k d)
-
--- how many packets went over a link, either way
-abbrev pub packets : Traffic → ℕ
-packets t = (length t.sent.requests + length t.sent.replies) + (length t.received.requests + length t.received.replies)
-
-abbrev pub packets_by_all : {L : Type 0} → (L → Traffic) → List (Peer L) → ℕ
-packets_by_all traffic peers = sum_by (λ peer. packets (traffic peer.link)) peers
 
 module _ {L : Type 0} (traffic : L → Traffic) where
   abbrev pub packets_with : PeerState L → ℕ

@@ -1,8 +1,8 @@
 -- What a turn has seen so far.
 use Rattle.std.specs.Prelude.{Bool, true, false, Option, Some, None}
-use Rattle.shard_node.specs.declared.stray_packet.StrayPacket.{StrayPacket}
-use Rattle.shard_node.specs.declared.stray_packet.Tried.{Tried}
-use Rattle.shard_node.specs.declared.stray_packet.Tried.TheVariants.{Nothing, Expected, Other}
+use Rattle.shard_parts.specs.declared.stray_packet.StrayPacket.{StrayPacket}
+use Rattle.shard_parts.specs.declared.stray_packet.Tried.{Tried}
+use Rattle.shard_parts.specs.declared.stray_packet.Tried.TheVariants.{Nothing, Expected, Other}
 use Rattle.shard_node.specs.declared.turn.Turn.{Turn}
 use Rattle.shard_node.specs.declared.turn.Turn.TheVariants.{Moved, Idle, Stray}
 

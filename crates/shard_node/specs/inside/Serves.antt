@@ -1,6 +1,5 @@
 -- What a peer asks, and what becomes of it.
-use Rattle.std.specs.Prelude.{◌≡◌, ℕ, ◌⊎◌, true, false, List, drop, Contains, Option, Some, None}
-use Rattle.std.specs.Option.{option_map}
+use Rattle.std.specs.Prelude.{◌≡◌, ℕ, ◌⊎◌, true, false, drop, Contains, Option, Some, None}
 use Rattle.trace_text.specs.Operation.{Operation}
 use Rattle.trace_text.specs.Parsed.{trace_in}
 use Rattle.cache_model.specs.Apply.{Reply}
@@ -9,26 +8,21 @@ use Rattle.run_log.specs.JournalState.{JournalState}
 use Rattle.shard_memory.specs.declared.share.Share.TheVariants as shares
 use Rattle.shard_rings.specs.Lanes.{LinkEnd, Traffic}
 use Rattle.shard_rings.specs.Reply.{HoldsReply}
-use Rattle.shard_rings.specs.Request.{request}
 use Rattle.shard_rings.specs.declared.link.Lane.TheVariants as lanes
 use Rattle.shard_rings.specs.declared.link.Packet.{Packet}
 use Rattle.reclaim.specs.Spaces.{SpaceState}
 use Rattle.reclaim.specs.Lending.{LendsBlock}
 use Rattle.reclaim.specs.Works.{DoesAbove, floor_of}
-use Rattle.shard_node.specs.declared.stray_packet.StrayPacket.{StrayPacket}
-use Rattle.shard_node.specs.declared.stray_packet.Tried.{Tried}
-use Rattle.shard_node.specs.declared.stray_packet.Tried.TheVariants.{Nothing, Expected, Other}
-use Rattle.shard_node.specs.declared.peer.Peer.{Peer}
+use Rattle.shard_parts.specs.declared.stray_packet.StrayPacket.{StrayPacket}
+use Rattle.shard_parts.specs.declared.stray_packet.Tried.{Tried}
+use Rattle.shard_parts.specs.declared.stray_packet.Tried.TheVariants.{Nothing, Expected, Other}
+use Rattle.shard_parts.specs.declared.peer.Peer.{Peer}
 use Rattle.shard_node.specs.Due.{is_same, number_in, number_said, said}
-use Rattle.shard_node.specs.Turns.{IsEmpty}
-use Rattle.shard_node.specs.inside.Receives.{Came, TakesNone, block_of, next_ask}
-use Rattle.shard_node.specs.inside.Releases.{Tries}
+use Rattle.shard_parts.specs.Receives.{Came, TakesNone, block_of, next_ask}
+pub use Rattle.shard_parts.specs.Receives.{MayAsk, due_next}
+use Rattle.part_lemmas.specs.Releases.{Tries}
 
 module _ {L : Type 0} where
-  -- what the next packet of the peer should say: the request of the next command, or Bye where none is left
-  abbrev pub due_next : Peer L → Option (List ℕ)
-  due_next peer = option_map request (next_ask peer)
-
   -- The next request came and was done: its reply waits to be sent.
   pub record IsDoneFor (operation : Operation) (old new : Peer L) (space space' : SpaceState) (journal journal' : JournalState) : Type 0 where
     pub of_trace : Contains (trace_in old.asks.trace).operations operation
@@ -71,12 +65,6 @@ module _ {L : Type 0} where
   EndsRequest packet old new space space' journal journal' Expected =
       (is_same (due_next old) (said packet) ≡ true) × EndsExpected (next_ask old) old new space space' journal journal'
   EndsRequest packet old new space space' journal journal' (Other stray) = IsNoRequest packet old new space space' journal journal' stray
-
-  -- more requests may come, no block of theirs waits to be released, and no reply waits to be sent
-  pub record MayAsk (peer : Peer L) : Type 0 where
-    pub unheard : peer.has_heard_bye ≡ false
-    pub released : IsEmpty peer.held_request
-    pub replied : IsEmpty peer.reply
 
 module _ {L : Type 0} (traffic : L → Traffic) (end : L → LinkEnd) where
   -- a packet came on the lane of requests, and its block was tried once

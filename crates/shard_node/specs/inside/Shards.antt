@@ -7,14 +7,14 @@ use Rattle.trace_text.specs.Parts.{longest_value}
 use Rattle.cache_model.specs.Holds.{RowsHold}
 use Rattle.cache_model.specs.OwnParts.{issued_parts}
 use Rattle.reclaim.specs.Spaces.{IsUnguarded}
-use Rattle.shard_node.specs.declared.peer.Peer.{Peer}
+use Rattle.shard_parts.specs.declared.peer.Peer.{Peer}
 use Rattle.shard_node.specs.declared.shard.Shard.{Shard}
 use Rattle.shard_node.specs.declared.waiting.Waiting.{Waiting}
 use Rattle.shard_node.specs.Due.{operations_for}
 use Rattle.shard_node.specs.Nodes.{NodeState, others}
 use Rattle.shard_node.specs.Standing.{begun_at, waiting_request}
-use Rattle.shard_node.specs.inside.Peers.{peer_state}
-use Rattle.shard_node.specs.inside.Work.{bodies, puts_among}
+use Rattle.shard_parts.specs.Peers.{peer_state}
+use Rattle.part_lemmas.specs.Work.{bodies, puts_among}
 
 module _ {L G : Type 0} where
   abbrev pub node_state : Shard L G → NodeState L G

@@ -2,7 +2,7 @@
 ghost use Rattle.std.specs.Prelude.{◌≡◌, ◌≢◌, ◌↔◌, ℕ, ◌<◌, false, Contains, Some, None, IsTrue};
 ghost use Rattle.std.specs.List.{slice_get};
 ghost use Rattle.shard_node.specs.Nodes.{others};
-ghost use Rattle.shard_node.specs.inside.Own.{IsFirstPart, own_log};
+ghost use Rattle.shard_parts.specs.Own.{IsFirstPart, own_log};
 ghost use Rattle.shard_memory.specs.Tickets.{HasIdle};
 ghost use Rattle.shard_memory.specs.declared.share.Share.{Share as Shares};
 ghost use Rattle.layout.specs.Counts.{Rose};
@@ -16,13 +16,13 @@ ghost use Rattle.shard_node.specs.inside.Steps.{IsStep};
 use super::Shard;
 use crate::gate::Gate;
 use crate::parts::do_part;
-use crate::send::send;
 use crate::waiting::Waiting;
 use cache_model::{
     a_journal_goes_on, evictions_are_counted, evictions_in_turn_are_legal,
     issued_parts_are_counted, replies_hold_what_was_put,
 };
 use shard_memory::Share;
+use shard_parts::send;
 use shard_rings::{Ask, Lane, Link};
 use trace_text::Command;
 

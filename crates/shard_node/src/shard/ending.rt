@@ -1,14 +1,14 @@
 //! When a shard is done.
-ghost use Rattle.std.specs.Prelude.{◌↔◌, All, IsTrue};
+ghost use Rattle.std.specs.Prelude.{◌↔◌, IsTrue};
 ghost use Rattle.shard_node.specs.Standing.{InStanding};
 ghost use Rattle.shard_node.specs.Turns.{IsDone};
-ghost use Rattle.shard_node.specs.inside.Endings.{HasEnded, IsAtEnd};
+ghost use Rattle.shard_node.specs.inside.Endings.{IsAtEnd};
 ghost use Rattle.shard_node.specs.inside.Shards.{node_state, IsConsistent};
 
 use super::Shard;
 use crate::gate::Gate;
-use crate::peer::Peer;
 use cache_model::{a_journal_goes_on, issued_parts_are_counted};
+use shard_parts::all_ended;
 use shard_rings::Link;
 
 impl<'f, L: Link<'f> + Drop, G: Gate + Drop> Shard<'f, L, G> {
@@ -35,30 +35,5 @@ impl<'f, L: Drop, G: Drop> Shard<'f, L, G> {
             && self.own.are_all_begun()
             && self.space.tickets_out() == 0
             && all_ended(self.peers.as_slice())
-    }
-}
-
-fn all_ended<'f, L: Drop>(peers: &[Peer<'f, L>]) -> bool
-    ensures { IsTrue result ↔ All HasEnded peers.now }
-{
-    for peer in peers {
-        if !peer.has_ended() {
-            return false;
-        }
-    }
-    true
-}
-
-impl<'f, L: Drop> Peer<'f, L> {
-    /// Whether no more comes of the peer, it has answered all, and nothing is left to send to it.
-    fn has_ended(&self) -> bool
-        ensures { IsTrue result ↔ HasEnded self.now }
-    {
-        self.has_heard_bye
-            && self.has_sent_bye
-            && self.held_request.is_none()
-            && self.held_reply.is_none()
-            && self.reply.is_none()
-            && self.answers.first().is_none()
     }
 }

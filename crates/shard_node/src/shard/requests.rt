@@ -7,25 +7,20 @@ ghost use Rattle.shard_memory.specs.declared.share.Share.{Share as Shares};
 ghost use Rattle.shard_rings.specs.declared.link.Packet.TheVariants.{Block as InBlock, Bye};
 ghost use Rattle.reclaim.specs.Spaces.{IsUnguarded, SpaceState};
 ghost use Rattle.run_log.specs.JournalState.{JournalState};
-ghost use Rattle.shard_node.specs.declared.stray_packet.Tried.{Tried as Tries};
 ghost use Rattle.std.specs.List.{slice_get};
 ghost use Rattle.shard_rings.specs.declared.link.Lane.{Lane as AnyLane};
 ghost use Rattle.shard_rings.specs.declared.link.Lane.TheVariants.{Replies, Requests};
-ghost use Rattle.shard_node.specs.Due.{number_said};
 ghost use Rattle.shard_node.specs.Standing.{InStanding};
 ghost use Rattle.shard_node.specs.inside.Moves.{packets_of, Goes, HeldUp, NonePassed, ReceivesNone, ReceivesOne, RequestLacks, ReceivesOneStray, Tells, TriedSays};
 ghost use Rattle.shard_node.specs.inside.Seen.{has_come};
-ghost use Rattle.shard_node.specs.inside.Receives.{next_ask};
-ghost use Rattle.shard_node.specs.inside.Serves.{EndsRequest, MayAsk, TriesRequest, due_next};
+ghost use Rattle.shard_parts.specs.Receives.{next_ask};
+ghost use Rattle.shard_node.specs.inside.Serves.{EndsRequest, MayAsk, TriesRequest};
 ghost use Rattle.shard_node.specs.inside.Shards.{IsConsistent, node_state};
 ghost use Rattle.shard_node.specs.inside.Steps.{IsStep};
 
 use super::Shard;
 use crate::gate::Gate;
-use crate::peer::Peer;
-use crate::release::release;
 use crate::seen::Seen;
-use crate::stray_packet::{StrayPacket, Tried};
 use cache_model::{
     a_journal_goes_on, evictions_are_counted, evictions_in_turn_are_legal,
     replies_hold_what_was_put,
@@ -34,6 +29,7 @@ use foreign_list::{ForeignBlock, Tally};
 use reclaim::Space;
 use run_log::Journal;
 use shard_memory::Share;
+use shard_parts::{Peer, Tried, release};
 use shard_rings::{Ask, Lane, Link, Packet, is_request, message_number};
 use trace_text::Trace;
 
@@ -147,7 +143,7 @@ impl<'f, L: Link<'f> + Drop, G: Gate + Drop> Shard<'f, L, G> {
         self.space.facts();
         let trace = self.trace;
         let (space, journal, tally) = (&mut self.space, &mut self.journal, &mut self.tally);
-        let tried = self.peers[at].serve(trace, space, journal, tally);
+        let tried = serve(&mut self.peers[at], trace, space, journal, tally);
         self.space.facts();
         tried
     }
@@ -166,96 +162,75 @@ impl<'f, L: Link<'f> + Drop, G: Gate + Drop> Shard<'f, L, G> {
     }
 }
 
-impl<'f, L: Link<'f> + Drop> Peer<'f, L> {
-    /// Whether more requests may come, no block of theirs waits to be released, and no reply waits to be sent.
-    fn may_ask(&self) -> bool
-        ensures { IsTrue result ↔ MayAsk self.now }
-    {
-        !self.has_heard_bye && self.held_request.is_none() && self.reply.is_none()
-    }
-
-    /// Receives a packet on the lane of requests. What is asked next is done, and its reply waits; another packet is set aside, and
-    /// answered.
-    fn serve(
-        &mut self,
-        trace: &Trace,
-        space: &mut Space<'f>,
-        journal: &mut Journal,
-        tally: &mut Tally,
-    ) -> Tried
-        requires may { MayAsk self.old }
-        requires trace { self.old.asks.trace ≡ trace.now }
-        requires idle { HasIdle space.old.lent Shares.Reply }
-        requires unguarded { IsUnguarded space.old }
-        requires room { (d : Operation) → next_ask self.old ≡ Some d → is_put d.kind ≡ true
-            → length space.old.rows < space.old.room }
-        requires spare { (d : Operation) → next_ask self.old ≡ Some d → length space.old.rows + 1 ≤ journal.old.spare }
-        ensures { TriesRequest
-            L.traffic L.end self.old self.new space.old space.new journal.old journal.new tally.old tally.new result }
-    {
-        match self.link.receive(Lane::Requests) {
-            None => Tried::Nothing,
-            Some(Packet::Bye) => self.hear_bye(),
-            Some(Packet::Block(block)) => {
-                let tried = self.answer(trace, &block, space, journal);
-                self.held_request = release(block, tally);
-                tried
-            }
+/// Receives a packet of a peer on the lane of requests. What is asked next is done, and its reply waits; another packet is set aside, and
+/// answered.
+fn serve<'f, L: Link<'f> + Drop>(
+    peer: &mut Peer<'f, L>,
+    trace: &Trace,
+    space: &mut Space<'f>,
+    journal: &mut Journal,
+    tally: &mut Tally,
+) -> Tried
+    requires may { MayAsk peer.old }
+    requires trace { peer.old.asks.trace ≡ trace.now }
+    requires idle { HasIdle space.old.lent Shares.Reply }
+    requires unguarded { IsUnguarded space.old }
+    requires room { (d : Operation) → next_ask peer.old ≡ Some d → is_put d.kind ≡ true
+        → length space.old.rows < space.old.room }
+    requires spare { (d : Operation) → next_ask peer.old ≡ Some d → length space.old.rows + 1 ≤ journal.old.spare }
+    ensures { TriesRequest
+        L.traffic L.end peer.old peer.new space.old space.new journal.old journal.new tally.old tally.new result }
+{
+    match peer.link.receive(Lane::Requests) {
+        None => Tried::Nothing,
+        Some(Packet::Bye) => hear_bye(peer),
+        Some(Packet::Block(block)) => {
+            let tried = answer(peer, trace, &block, space, journal);
+            peer.held_request = release(block, tally);
+            tried
         }
     }
 }
 
-impl<'f, L: Drop> Peer<'f, L> {
-    fn hear_bye(&mut self) -> Tried
-        ensures ends { (space : SpaceState) (journal : JournalState)
-            → EndsRequest Bye self.old self.new space space journal journal result }
-        ensures same { self.new ≡ record self.old { has_heard_bye = self.new.has_heard_bye } }
-    {
-        if self.asks.first().is_some() {
-            return self.unexpected_request(0);
-        }
-        self.has_heard_bye = true;
-        Tried::Expected
+/// Hears Bye, where no request is left to come.
+fn hear_bye<'f, L: Drop>(peer: &mut Peer<'f, L>) -> Tried
+    ensures ends { (space : SpaceState) (journal : JournalState)
+        → EndsRequest Bye peer.old peer.new space space journal journal result }
+    ensures same { peer.new ≡ record peer.old { has_heard_bye = peer.new.has_heard_bye } }
+{
+    if peer.asks.first().is_some() {
+        return peer.unexpected_request(0);
     }
+    peer.has_heard_bye = true;
+    Tried::Expected
+}
 
-    /// Does what the block asks, where that is what comes next; the reply waits.
-    fn answer(
-        &mut self,
-        trace: &Trace,
-        block: &ForeignBlock<'f>,
-        space: &mut Space<'f>,
-        journal: &mut Journal,
-    ) -> Tried
-        requires trace { self.old.asks.trace ≡ trace.now }
-        requires idle { HasIdle space.old.lent Shares.Reply }
-        requires unguarded { IsUnguarded space.old }
-        requires room { (d : Operation) → next_ask self.old ≡ Some d → is_put d.kind ≡ true
-            → length space.old.rows < space.old.room }
-        requires spare { (d : Operation) → next_ask self.old ≡ Some d → length space.old.rows + 1 ≤ journal.old.spare }
-        ensures ends { EndsRequest (InBlock block.now) self.old self.new space.old space.new journal.old journal.new result }
-        ensures same { self.new ≡ record self.old { reply = self.new.reply; asks = self.new.asks } }
-    {
-        let bytes = block.bytes();
-        let Some(command) = self.asks.first() else {
-            return self.unexpected_request(message_number(bytes));
-        };
-        let ask = Ask::of(trace, command);
-        if !is_request(&ask, bytes) {
-            return self.unexpected_request(message_number(bytes));
-        }
-        self.reply = space.reply_block(&ask, journal).ok();
-        self.asks.pass();
-        Tried::Expected
+/// Does what the block asks, where that is what comes next; the reply waits.
+fn answer<'f, L: Drop>(
+    peer: &mut Peer<'f, L>,
+    trace: &Trace,
+    block: &ForeignBlock<'f>,
+    space: &mut Space<'f>,
+    journal: &mut Journal,
+) -> Tried
+    requires trace { peer.old.asks.trace ≡ trace.now }
+    requires idle { HasIdle space.old.lent Shares.Reply }
+    requires unguarded { IsUnguarded space.old }
+    requires room { (d : Operation) → next_ask peer.old ≡ Some d → is_put d.kind ≡ true
+        → length space.old.rows < space.old.room }
+    requires spare { (d : Operation) → next_ask peer.old ≡ Some d → length space.old.rows + 1 ≤ journal.old.spare }
+    ensures ends { EndsRequest (InBlock block.now) peer.old peer.new space.old space.new journal.old journal.new result }
+    ensures same { peer.new ≡ record peer.old { reply = peer.new.reply; asks = peer.new.asks } }
+{
+    let bytes = block.bytes();
+    let Some(command) = peer.asks.first() else {
+        return peer.unexpected_request(message_number(bytes));
+    };
+    let ask = Ask::of(trace, command);
+    if !is_request(&ask, bytes) {
+        return peer.unexpected_request(message_number(bytes));
     }
-
-    /// A packet of this number in place of what is expected.
-    fn unexpected_request(&self, found: u32) -> Tried
-        ensures { result ≡ Tries.Other (record { peer = self.now.shard; expected = number_said (due_next self.now); found = found }) }
-    {
-        Tried::Other(StrayPacket {
-            peer: self.shard,
-            expected: self.asks.number(),
-            found,
-        })
-    }
+    peer.reply = space.reply_block(&ask, journal).ok();
+    peer.asks.pass();
+    Tried::Expected
 }

@@ -1,5 +1,5 @@
 use Rattle.trace_text.specs.Parsed.{trace_in}
-use Rattle.shard_node.proofs.Cursors.Places.{numbered}
+use Rattle.part_lemmas.proofs.Cursors.Places.{numbered}
 use Rattle.shard_node.proofs.Together.AllDone.{agree}
 use Rattle.shard_node.proofs.law.done_nodes_agree.Goals as goal
 

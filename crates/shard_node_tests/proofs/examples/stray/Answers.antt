@@ -11,7 +11,7 @@ use Rattle.shard_rings.specs.declared.link.Lane.TheVariants.{Requests, Replies}
 use Rattle.shard_node.specs.Nodes.{NodeState, PeerState}
 use Rattle.cache_model.specs.Examples.{put_b}
 use Rattle.shard_node_tests.specs.Examples.{at_start, packet, put_request, of_number_3, to_the_owner}
-use Rattle.shard_node.specs.declared.stray_packet.StrayPacket.{StrayPacket}
+use Rattle.shard_parts.specs.declared.stray_packet.StrayPacket.{StrayPacket}
 use Rattle.shard_node.specs.Due.{is_next, number_in}
 use Rattle.shard_node.specs.Turns.{IsStray, HasStray, HasNone, HasParted, IsDone, IsFirstStray}
 use Rattle.shard_node_tests.proofs.examples.stray.Goals as goal

@@ -10,7 +10,7 @@ use Rattle.shard_node.proofs.Requests.RequestBegun.{request_begun}
 use Rattle.shard_node.proofs.Standing.PeerPairs.{pairs_same}
 use Rattle.cache_model.specs.Legal.{done}
 use Rattle.shard_memory.specs.declared.share.Share.{Share as Shares}
-use Rattle.shard_node.proofs.OwnParts.Growth.{done-evicted}
+use Rattle.part_lemmas.proofs.OwnParts.Growth.{done-evicted}
 use Rattle.shard_node.proofs.Turning.PeerGoes.{goes_same}
 use Rattle.shard_node.proofs.Turning.StepGoes.{lends_more, no_more, stays_goes}
 use Rattle.shard_node.specs.inside.Moves.{Goes}

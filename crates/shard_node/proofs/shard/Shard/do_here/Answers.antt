@@ -15,16 +15,16 @@ use Rattle.shard_node.proofs.OwnParts.OwnLog.{next-is-left, operation-there}
 use Rattle.shard_node.proofs.Standing.PeerPairs.{pairs_same}
 use Rattle.std.proofs.lemmas.List.{length-append}
 use Rattle.cache_model.specs.Legal.{done}
-use Rattle.shard_node.proofs.OwnParts.Growth.{done-more}
+use Rattle.part_lemmas.proofs.OwnParts.Growth.{done-more}
 use Rattle.shard_node.proofs.Turning.PeerGoes.{goes_same}
 use Rattle.shard_node.proofs.Turning.StepGoes.{home_more, no_more}
 use Rattle.std.specs.List.{slice_get}
 use Rattle.trace_text.specs.Operation.{Operation}
 use Rattle.trace_text.specs.Parsed.{trace_in}
-use Rattle.shard_node.proofs.OwnParts.BegunParts.{operation-of}
+use Rattle.part_lemmas.proofs.OwnParts.BegunParts.{operation-of}
 use Rattle.shard_node.specs.Due.{operations_for}
 use Rattle.shard_node.specs.inside.Shards.{issued_by}
-use Rattle.shard_node.proofs.OwnParts.LogPlaces.{place_at}
+use Rattle.part_lemmas.proofs.OwnParts.LogPlaces.{place_at}
 use Rattle.shard_node.proofs.shard.Shard.do_here.Goals as goal
 use Rattle.shard_node.proofs.Replies.Logged.{get_first}
 

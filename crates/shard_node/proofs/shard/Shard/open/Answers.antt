@@ -2,7 +2,7 @@ use Rattle.std.proofs.Common.{◌∙◌, None, refl}
 use Rattle.shard_node.specs.declared.shard.Shard.{Shard}
 use Rattle.shard_node.specs.Links.{IsUnused}
 use Rattle.shard_node.proofs.Standing.Opened.{IsOpened, opens-consistent}
-use Rattle.shard_node.proofs.Standing.OpenedPeers.{all-of}
+use Rattle.part_lemmas.proofs.OwnParts.OpenedPeers.{all-of}
 use Rattle.shard_node.proofs.Standing.OpenedStands.{opens-standing}
 use Rattle.shard_node.proofs.shard.Shard.open.Given.{Over}
 use Rattle.shard_node.proofs.shard.Shard.open.Goals as goal

@@ -1,5 +1,5 @@
 use Rattle.std.proofs.Common.{arith}
-use Rattle.shard_node.proofs.Cursors.OtherPlaces.{other-is, place-above, place-below}
+use Rattle.part_lemmas.proofs.Cursors.OtherPlaces.{other-is, place-above, place-below}
 use Rattle.shard_node.proofs.shard.Shard.place_of.Goals as goal
 
 pub overflow_sub-result : goal.overflow_sub-result

@@ -2,12 +2,12 @@ use Rattle.std.proofs.Common.{◌≤◌, ◌≡◌, ◌<◌, arith, refl, length
 use Rattle.shard_rings.specs.Lanes.{on}
 use Rattle.std.specs.Vec.{with_items}
 use Rattle.std.proofs.lemmas.List.{with_items_is}
-use Rattle.shard_node.specs.inside.Peers.{Each, HoldsOther, held_by_all}
-use Rattle.shard_node.specs.inside.Releases.{Releases}
-use Rattle.shard_node.specs.inside.Peers.{peer_state}
+use Rattle.shard_parts.specs.Peers.{Each, HoldsOther, held_by_all}
+use Rattle.part_lemmas.specs.Releases.{Releases}
+use Rattle.shard_parts.specs.Peers.{peer_state}
 use Rattle.shard_node.proofs.Standing.PeerPairs.{seen_pairs}
 use Rattle.shard_node.proofs.Turning.Steps.{releases}
-use Rattle.shard_node.specs.inside.Peers.{TriesHeld}
+use Rattle.shard_parts.specs.Peers.{TriesHeld}
 use Rattle.shard_node.specs.inside.Shards.{node_state}
 use Rattle.shard_node.proofs.Turning.Frees.{frees, not_less, races}
 use Rattle.shard_node.proofs.Turning.PeerGoes.{released_same, releases_goes}

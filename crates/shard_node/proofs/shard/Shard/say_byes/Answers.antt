@@ -2,9 +2,9 @@ use Rattle.std.proofs.Common.{refl, ◌≡◌, ◌<◌, ◌↔◌, IsTrue, arith
 use Rattle.shard_rings.specs.Lanes.{on}
 use Rattle.std.specs.Vec.{with_items}
 use Rattle.std.proofs.lemmas.List.{with_items_is}
-use Rattle.shard_node.specs.inside.Own.{own_log}
-use Rattle.shard_node.specs.inside.Peers.{Each, SaysBye}
-use Rattle.shard_node.specs.inside.Peers.{peer_state}
+use Rattle.shard_parts.specs.Own.{own_log}
+use Rattle.shard_parts.specs.Peers.{Each, SaysBye}
+use Rattle.shard_parts.specs.Peers.{peer_state}
 use Rattle.shard_node.proofs.Standing.PeerPairs.{seen_pairs}
 use Rattle.shard_node.proofs.Standing.Byes.{bye_received, is_none_so, says_byes, same_own_log}
 use Rattle.shard_node.specs.inside.Moves.{packets_by_all}

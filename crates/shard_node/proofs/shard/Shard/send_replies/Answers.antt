@@ -2,8 +2,8 @@ use Rattle.std.proofs.Common.{refl, ◌≡◌, ◌<◌, ◌↔◌, IsTrue, arith
 use Rattle.shard_rings.specs.Lanes.{on}
 use Rattle.std.specs.Vec.{with_items}
 use Rattle.std.proofs.lemmas.List.{with_items_is}
-use Rattle.shard_node.specs.inside.Peers.{Each, SendsReply}
-use Rattle.shard_node.specs.inside.Peers.{peer_state}
+use Rattle.shard_parts.specs.Peers.{Each, SendsReply}
+use Rattle.shard_parts.specs.Peers.{peer_state}
 use Rattle.shard_node.proofs.Standing.PeerPairs.{seen_pairs}
 use Rattle.shard_node.proofs.Replies.Sends.{keeps_replies}
 use Rattle.shard_node.proofs.Turning.Steps.{sends_replies}

@@ -2,7 +2,7 @@
 use Rattle.std.proofs.Common.{arith, refl, sym, ap, ◌∙◌}
 use Rattle.std.proofs.lemmas.List.{get_or_default}
 use Rattle.shard_rings.specs.Lanes.{on}
-use Rattle.shard_node.specs.inside.Peers.{peer_state}
+use Rattle.shard_parts.specs.Peers.{peer_state}
 use Rattle.shard_node.proofs.Standing.PeerPairs.{one_pair, set_elsewhere}
 use Rattle.shard_node.proofs.Replies.Sends.{keeps_replies}
 use Rattle.shard_node.proofs.Replies.SendsOne.{sends_one}

@@ -3,14 +3,14 @@ use Rattle.std.specs.Vec.{with_item}
 use Rattle.trace_text.specs.Parsed.{trace_in}
 use Rattle.shard_rings.specs.Lanes.{on}
 use Rattle.shard_node.specs.Due.{operations_for}
-use Rattle.shard_node.specs.inside.Peers.{peer_state}
+use Rattle.shard_parts.specs.Peers.{peer_state}
 use Rattle.shard_node.specs.inside.Shards.{HasCursors}
 use Rattle.shard_node.specs.inside.Steps.{IsStep}
 use Rattle.shard_node.proofs.Standing.PeerPairs.{one_pair, one_pair_in}
 use Rattle.shard_node.proofs.Requests.SendsRequest.{at_place, few_owed, goes_elsewhere, request_sent, request_waits}
 use Rattle.shard_node.proofs.Replies.TakesReplies.{same_all}
 use Rattle.shard_rings.specs.declared.link.Lane.TheVariants.{Requests}
-use Rattle.shard_node.proofs.Turning.Packets.{packets_same, packets_sent}
+use Rattle.part_lemmas.proofs.Packets.Passed.{packets_same, packets_sent}
 use Rattle.shard_node.proofs.Turning.PeerGoes.{asked_goes, goes_same, refused_goes}
 use Rattle.shard_node.proofs.Turning.StepGoes.{never_so, no_more, one_so}
 use Rattle.shard_node.specs.declared.waiting.Waiting.{Waiting}

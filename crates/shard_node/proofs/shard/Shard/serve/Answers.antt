@@ -9,7 +9,7 @@ use Rattle.shard_node.proofs.Turning.TellsStrays.{none_here, none_join, one_here
 use Rattle.shard_node.specs.inside.Seen.{has_come}
 use Rattle.shard_node.proofs.Turning.StepGoes.{all_go, packets_rise, stays_goes, tries_so_far}
 use Rattle.std.proofs.lemmas.List.{length-map}
-use Rattle.shard_node.specs.inside.Peers.{peer_state}
+use Rattle.shard_parts.specs.Peers.{peer_state}
 use Rattle.shard_node.proofs.Turning.HeldUps.{held_next, held_start, request_lacks_lasts}
 use Rattle.shard_node.proofs.shard.Shard.serve.Goals as goal
 

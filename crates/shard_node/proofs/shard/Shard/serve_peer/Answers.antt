@@ -1,6 +1,6 @@
 -- A reply that was sent takes nothing from what came.
 use Rattle.std.proofs.Common.{ap, arith, refl, subst}
-use Rattle.shard_node.specs.declared.stray_packet.Tried.TheVariants.{Expected}
+use Rattle.shard_parts.specs.declared.stray_packet.Tried.TheVariants.{Expected}
 use Rattle.shard_node.specs.inside.Moves.{ReceivesOneStray, TriedSays}
 use Rattle.shard_rings.specs.declared.link.Lane.TheVariants.{Replies, Requests}
 use Rattle.shard_node.specs.inside.Shards.{node_state}

@@ -2,7 +2,7 @@ use Rattle.std.proofs.Common.{arith, true≢false, sym, ap, subst, ◌∙◌, re
 use Rattle.std.specs.Vec.{with_item}
 use Rattle.std.proofs.lemmas.List.{set-get_or}
 use Rattle.shard_rings.specs.declared.link.Lane.TheVariants.{Replies}
-use Rattle.shard_node.specs.inside.Peers.{peer_state}
+use Rattle.shard_parts.specs.Peers.{peer_state}
 use Rattle.shard_node.specs.inside.Shards.{HasCursors, node_state}
 use Rattle.shard_node.proofs.Turning.StraysCame.{nothing_came, one_reply, reply_alone, reply_tells}
 use Rattle.shard_node.proofs.Standing.PeerPairs.{one_pair, seen_there, set_elsewhere, set_seen}

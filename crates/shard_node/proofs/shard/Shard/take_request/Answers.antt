@@ -1,11 +1,11 @@
 -- A packet of a peer is received and done.
 use Rattle.std.proofs.Common.{ap, arith, inl, length, ◌≡◌, get_or, refl, sym, subst, ◌∙◌}
-use Rattle.shard_node.specs.inside.Peers.{peer_state}
+use Rattle.shard_parts.specs.Peers.{peer_state}
 use Rattle.shard_node.proofs.Turning.StraysCame.{one_request, request_alone, request_tells}
 use Rattle.shard_node.proofs.Standing.PeerPairs.{one_pair, seen_there, set_elsewhere, set_seen}
 use Rattle.std.proofs.lemmas.List.{get_or_default}
 use Rattle.trace_text.specs.Parsed.{AreNumbered}
-use Rattle.shard_node.specs.declared.peer.Peer.{Peer}
+use Rattle.shard_parts.specs.declared.peer.Peer.{Peer}
 use Rattle.shard_node.specs.inside.Serves.{MayAsk}
 use Rattle.std.specs.Vec.{with_item}
 use Rattle.shard_node.specs.inside.Shards.{HasCursors, node_state}
@@ -47,7 +47,7 @@ returns-clause-step g c =
     let within = c.requires.peer in
     let here : (d : Peer g.row.L.Denot) → get_or self.peers.items c.args.at d ≡ old = λ d. get_or_default self.peers.items c.args.at d old within ∙ sym c.index_mut.ensures.value in
     let may : MayAsk old = subst (λ (p : Peer g.row.L.Denot). MayAsk p) (c.index.ensures ∙ here c.index.result.now) (c.may_ask.ensures.0 c.if-not-may_ask.false) in
-    serves_one g.L.Link.traffic g.L.Link.end self c.args.at old c.serve-tried.new.self within here c.requires.consistent
+    serves_one g.L.Link.traffic g.L.Link.end self c.args.at old c.serve-tried.new.peer within here c.requires.consistent
     (record {
       leads = c.a_journal_goes_on.ensures.leads;
       replied = c.a_journal_goes_on.ensures.replied;
@@ -64,16 +64,16 @@ returns-clause-replies g c =
     let self = c.args.self.now in
     let old : Peer g.row.L.Denot = c.index_mut.result.now in
     let traffic = g.L.Link.traffic in
-    one_pair peer_state _ self.peers.items c.args.at old c.serve-tried.new.self c.requires.peer (sym c.index_mut.ensures.value) (λ k a apart. (refl, refl))
+    one_pair peer_state _ self.peers.items c.args.at old c.serve-tried.new.peer c.requires.peer (sym c.index_mut.ensures.value) (λ k a apart. (refl, refl))
     (request_alone traffic g.L.Link.end g.G.Gate.holds _ _ _ _ _ _ _ _ _ c.serve-tried.ensures)
 
 pub returns-clause-one : goal.returns-clause-one
 returns-clause-one g c =
-    one_pair peer_state _ c.args.self.now.peers.items c.args.at c.index_mut.result.now c.serve-tried.new.self c.requires.peer (sym c.index_mut.ensures.value) (λ k a apart. omega arith)
+    one_pair peer_state _ c.args.self.now.peers.items c.args.at c.index_mut.result.now c.serve-tried.new.peer c.requires.peer (sym c.index_mut.ensures.value) (λ k a apart. omega arith)
     (one_request g.L.Link.traffic g.L.Link.end g.G.Gate.holds _ _ _ _ _ _ _ _ _ c.serve-tried.ensures)
 
 pub returns-clause-others : goal.returns-clause-others
-returns-clause-others g c k apart = set_elsewhere peer_state c.args.self.now.peers.items c.args.at c.serve-tried.new.self k apart
+returns-clause-others g c k apart = set_elsewhere peer_state c.args.self.now.peers.items c.args.at c.serve-tried.new.peer k apart
 
 pub returns-clause-tells : goal.returns-clause-tells
 returns-clause-tells g c stands =
@@ -83,9 +83,9 @@ returns-clause-tells g c stands =
     let here : (d : Peer g.row.L.Denot) → get_or self.peers.items c.args.at d ≡ old = λ d. get_or_default self.peers.items c.args.at d old c.requires.peer ∙ sym c.index_mut.ensures.value in
     let may : MayAsk old = subst (λ (p : Peer g.row.L.Denot). MayAsk p) (c.index.ensures ∙ here c.index.result.now) (c.may_ask.ensures.0 c.if-not-may_ask.false) in
     request_tells traffic g.L.Link.end g.G.Gate.holds self
-    (node_state (record self { peers = with_item self.peers c.args.at c.serve-tried.new.self; space = c.serve-tried.new.space; journal = c.serve-tried.new.journal; tally = c.serve-tried.new.tally }))
-    c.args.at old c.serve-tried.new.self
-    (seen_there peer_state self.peers.items c.args.at old c.requires.peer (here old)) (set_seen peer_state self.peers.items c.args.at c.serve-tried.new.self c.requires.peer) stands
+    (node_state (record self { peers = with_item self.peers c.args.at c.serve-tried.new.peer; space = c.serve-tried.new.space; journal = c.serve-tried.new.journal; tally = c.serve-tried.new.tally }))
+    c.args.at old c.serve-tried.new.peer
+    (seen_there peer_state self.peers.items c.args.at old c.requires.peer (here old)) (set_seen peer_state self.peers.items c.args.at c.serve-tried.new.peer c.requires.peer) stands
     self.space c.serve-tried.new.space self.journal c.serve-tried.new.journal self.tally c.serve-tried.new.tally c.serve-tried.result may c.serve-tried.ensures
 
 pub returns-clause-goes : goal.returns-clause-goes
@@ -94,7 +94,7 @@ returns-clause-goes g c =
     let traffic = g.L.Link.traffic in
     let rises = served_rises traffic g.L.Link.end _ _ _ _ _ _ _ _ _ c.facts.ensures.backs c.serve-tried.ensures in
     record {
-      peers = one_pair peer_state _ self.peers.items c.args.at c.index_mut.result.now c.serve-tried.new.self c.requires.peer (sym c.index_mut.ensures.value) (λ k a apart. goes_same traffic (peer_state a))
+      peers = one_pair peer_state _ self.peers.items c.args.at c.index_mut.result.now c.serve-tried.new.peer c.requires.peer (sym c.index_mut.ensures.value) (λ k a apart. goes_same traffic (peer_state a))
           (served_goes traffic g.L.Link.end _ _ _ _ _ _ _ _ _ c.serve-tried.ensures);
       done = rises.2;
       backs = rises.0;
@@ -105,7 +105,7 @@ returns-clause-goes g c =
 pub returns-clause-moved : goal.returns-clause-moved
 returns-clause-moved g c =
     let traffic = g.L.Link.traffic in
-    one_so traffic _ c.args.self.now.peers.items c.args.at c.index_mut.result.now c.serve-tried.new.self c.requires.peer (sym c.index_mut.ensures.value)
+    one_so traffic _ c.args.self.now.peers.items c.args.at c.index_mut.result.now c.serve-tried.new.peer c.requires.peer (sym c.index_mut.ensures.value)
     (served_more traffic g.L.Link.end _ _ _ _ _ _ _ _ _ c.serve-tried.ensures)
 
 pub returns-clause-held_up : goal.returns-clause-held_up
@@ -114,12 +114,12 @@ returns-clause-held_up g c quiet =
     let traffic = g.L.Link.traffic in
     let old = c.index_mut.result.now in
     let here = sym c.index_mut.ensures.value in
-    let n = served_none traffic g.L.Link.end _ _ _ _ _ _ _ _ _ c.serve-tried.ensures (one_none traffic self.peers.items c.args.at old c.serve-tried.new.self c.requires.peer here quiet) in
+    let n = served_none traffic g.L.Link.end _ _ _ _ _ _ _ _ _ c.serve-tried.ensures (one_none traffic self.peers.items c.args.at old c.serve-tried.new.peer c.requires.peer here quiet) in
     record {
       request = refl;
       begun = refl;
       gate = refl;
       space = n.2;
       done = ap (λ j. length (done j.entries)) n.3;
-      peers = one_pair peer_state _ self.peers.items c.args.at old c.serve-tried.new.self c.requires.peer here (λ k a apart. (refl, λ is. absurd (apart is))) (n.0, λ is unheard none replied. inl n.1);
+      peers = one_pair peer_state _ self.peers.items c.args.at old c.serve-tried.new.peer c.requires.peer here (λ k a apart. (refl, λ is. absurd (apart is))) (n.0, λ is unheard none replied. inl n.1);
     }

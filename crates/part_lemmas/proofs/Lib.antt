@@ -1,0 +1,4 @@
+pub mod Cursors
+pub mod OwnParts
+pub mod Packets
+pub mod Together

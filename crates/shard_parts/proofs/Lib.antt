@@ -1,0 +1,4 @@
+pub mod OwnNext
+pub mod RisingKeys
+pub mod FitsByBody
+pub mod Each

@@ -1,0 +1,5 @@
+pub mod Own
+pub mod Peers
+pub mod Receives
+pub mod Opening
+pub mod inside

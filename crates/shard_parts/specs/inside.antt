@@ -1,0 +1,3 @@
+-- What only the private parts cite.
+pub mod Rising
+pub mod Fitting
