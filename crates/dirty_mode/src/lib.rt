@@ -14,4 +14,4 @@ mod text;
 
 pub use law::puts_are_flushed_in_order;
 pub use store::{DirtyStore, open_dirty};
-pub use text::write_dirty;
+pub use text::{run_dirty, write_dirty};

@@ -1,10 +1,10 @@
 //! What is written of a trace.
-ghost use Rattle.std.specs.Prelude.{◌≡◌, ◌≤◌, ◌++◌, [], codes, decimal, OnOk, OnErr};
+ghost use Rattle.std.specs.Prelude.{◌≡◌, ◌≤◌, ◌++◌, [], codes, decimal, IfOk, OnOk, OnErr};
 ghost use Rattle.std.specs.Io.KnownBytes.{Appends};
 ghost use Rattle.outside.specs.Moves.{AppendsFront};
 ghost use Rattle.layout.specs.Counts.{Rose};
 ghost use Rattle.trace_text.specs.Parsed.{trace_in};
-ghost use Rattle.layout.specs.Sizes.{greatest_object};
+ghost use Rattle.layout.specs.Sizes.{ArePages, greatest_object};
 ghost use Rattle.regions.specs.Shapes.{held_count};
 ghost use Rattle.region_room.specs.Room as bound;
 ghost use Rattle.dirty_mode.specs.DirtyText.{dirty_text, text_of, lines_from, put_count};
@@ -13,13 +13,40 @@ ghost use Rattle.dirty_mode.specs.inside.Held.{whole, Keeps};
 
 use crate::answers::write_count;
 use crate::commands::do_commands;
-use crate::store::{DirtyStore, close, put_count};
+use crate::store::{DirtyStore, close, open_dirty, put_count};
 use dirty_region::Dirty;
 use layout::SEGMENT_PAGES;
 use outside::{Failed, Sink};
 use region_room::room;
+use std::alloc::{AllocError, Global};
 use text_block::{Block, hand_over};
 use trace_text::Trace;
+
+/// Opens a store of so many pages for a trace, and runs the trace on it as [`write_dirty`] does.
+///
+/// # Errors
+/// `AllocError` where memory is not found; then nothing was written. Else what [`write_dirty`] answers.
+pub fn run_dirty<K: Sink>(
+    alloc: Global,
+    trace: &Trace,
+    pages: u32,
+    sink: &mut K,
+) -> Result<Result<(), Failed>, AllocError>
+    requires { ArePages pages }
+
+    // The whole text, or a front of it.
+    ensures written { IfOk result (λ done. OnOk done
+        (Appends (K.written sink.old) (K.written sink.new) (dirty_text (trace_in trace.now) pages))) }
+    ensures front { IfOk result (λ done. OnErr done
+        (AppendsFront (K.written sink.old) (K.written sink.new) (dirty_text (trace_in trace.now) pages))) }
+    ensures failed { IfOk result (λ done. OnErr done (Rose (K.faults sink.old) (K.faults sink.new))) }
+
+    // Nothing, where memory is not found.
+    ensures unchanged { OnErr result (sink.new ≡ sink.old) }
+{
+    let store = open_dirty(alloc, trace, pages)?;
+    Ok(write_dirty(store, trace, sink))
+}
 
 /// Runs a trace on a store that was opened for it, and writes what is said of it: each put as it is flushed, the oldest ones first,
 /// each get as it comes, and how many puts there were. The store's memory is given back.

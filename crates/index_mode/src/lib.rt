@@ -13,4 +13,4 @@ mod text;
 
 pub use law::texts_are_as_worked;
 pub use store::{IndexStore, open_index};
-pub use text::write_index;
+pub use text::{run_index, write_index};

@@ -1,9 +1,9 @@
 //! What is written of a trace.
-ghost use Rattle.std.specs.Prelude.{◌≡◌, ◌*◌, ◌≤◌, [], length, OnOk, OnErr};
+ghost use Rattle.std.specs.Prelude.{◌≡◌, ◌*◌, ◌≤◌, [], length, IfOk, OnOk, OnErr};
 ghost use Rattle.std.specs.Io.KnownBytes.{Appends};
 ghost use Rattle.outside.specs.Moves.{AppendsFront};
 ghost use Rattle.layout.specs.Counts.{Rose};
-ghost use Rattle.layout.specs.Sizes.{key_room, most_keys};
+ghost use Rattle.layout.specs.Sizes.{ArePages, key_room, most_keys};
 ghost use Rattle.trace_text.specs.Parsed.{trace_in};
 ghost use Rattle.regions.specs.Shapes.{held_count};
 ghost use Rattle.index_tree.specs.Sizes.{most};
@@ -13,12 +13,39 @@ ghost use Rattle.index_mode.specs.inside.Held.{IsServing};
 ghost use Rattle.mode_lemmas.specs.Writing.{WritesTo};
 
 use crate::commands::do_commands;
-use crate::store::{IndexStore, close};
+use crate::store::{IndexStore, close, open_index};
 use index_tree::IndexTree;
 use layout::SEGMENT_PAGES;
 use outside::{Failed, Sink};
+use std::alloc::{AllocError, Global};
 use text_block::{Block, hand_over};
 use trace_text::Trace;
+
+/// Opens an index on so many pages, and runs a trace on it as [`write_index`] does.
+///
+/// # Errors
+/// `AllocError` where memory is not found; then nothing was written. Else what [`write_index`] answers.
+pub fn run_index<K: Sink>(
+    alloc: Global,
+    trace: &Trace,
+    pages: u32,
+    sink: &mut K,
+) -> Result<Result<(), Failed>, AllocError>
+    requires { ArePages pages }
+
+    // The whole text, or a front of it.
+    ensures written { IfOk result (λ done. OnOk done
+        (Appends (K.written sink.old) (K.written sink.new) (index_text (trace_in trace.now) pages))) }
+    ensures front { IfOk result (λ done. OnErr done
+        (AppendsFront (K.written sink.old) (K.written sink.new) (index_text (trace_in trace.now) pages))) }
+    ensures failed { IfOk result (λ done. OnErr done (Rose (K.faults sink.old) (K.faults sink.new))) }
+
+    // Nothing, where memory is not found.
+    ensures unchanged { OnErr result (sink.new ≡ sink.old) }
+{
+    let store = open_index(alloc, pages)?;
+    Ok(write_index(store, trace, sink))
+}
 
 /// Runs a trace on an index, and writes the answer to each command and how many keys are held at the end. The index's memory is
 /// given back.

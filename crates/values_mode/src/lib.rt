@@ -10,4 +10,4 @@ mod store;
 mod writing;
 
 pub use store::{ValueStore, open_values};
-pub use writing::write_values;
+pub use writing::{run_values, write_values};

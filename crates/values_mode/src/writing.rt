@@ -1,7 +1,8 @@
 //! The text of a script.
-ghost use Rattle.std.specs.Prelude.{◌≡◌, ◌≤◌, [], ◌++◌, length, vec_capacity, OnOk, OnErr};
+ghost use Rattle.std.specs.Prelude.{◌≡◌, ◌≤◌, [], ◌++◌, length, vec_capacity, IfOk, OnOk, OnErr};
 ghost use Rattle.std.specs.Io.KnownBytes.{Appends};
 ghost use Rattle.layout.specs.Counts.{Rose};
+ghost use Rattle.layout.specs.Sizes.{ArePages};
 ghost use Rattle.outside.specs.Moves.{AppendsFront};
 ghost use Rattle.regions.specs.Shapes.{held_count};
 ghost use Rattle.region_room.specs.Room.{room};
@@ -14,10 +15,37 @@ ghost use Rattle.values_mode.specs.inside.Steps.{Adds, IsServing};
 use crate::answers::{answer, put_last};
 use crate::block::{hand_over, make_room};
 use crate::segments::close;
-use crate::store::ValueStore;
+use crate::store::{ValueStore, open_values};
 use fragments::Fragments;
 use outside::{Failed, Sink};
+use std::alloc::{AllocError, Global};
 use value_script::{Command, Script};
+
+/// Opens a store of so many pages, and does the commands of a script as [`write_values`] does.
+///
+/// # Errors
+/// `AllocError` where memory is not found; then nothing was written. Else what [`write_values`] answers.
+pub fn run_values<K: Sink>(
+    alloc: Global,
+    script: &Script,
+    pages: u32,
+    sink: &mut K,
+) -> Result<Result<(), Failed>, AllocError>
+    requires { ArePages pages }
+
+    // The whole text, or a front of it.
+    ensures written { IfOk result (λ done. OnOk done
+        (Appends (K.written sink.old) (K.written sink.new) (values_text (script_in script.now) pages))) }
+    ensures front { IfOk result (λ done. OnErr done
+        (AppendsFront (K.written sink.old) (K.written sink.new) (values_text (script_in script.now) pages))) }
+    ensures failed { IfOk result (λ done. OnErr done (Rose (K.faults sink.old) (K.faults sink.new))) }
+
+    // Nothing, where memory is not found.
+    ensures unchanged { OnErr result (sink.new ≡ sink.old) }
+{
+    let store = open_values(alloc, pages)?;
+    Ok(write_values(store, script, sink))
+}
 
 /// Does the commands of a script, writes their answers and what is held at the end, and gives the memory back.
 ///
