@@ -2,9 +2,9 @@
 //!
 //! A node does the parts that other shards ask of it, and issues its own, turn by turn. A turn waits for nobody. Here stand
 //! what holds of a node between turns and what a turn may answer ([`specs/Standing.antt`], [`specs/Turns.antt`]), the gate
-//! that an own command waits for, the record of a run, the cursors over the trace, the turn (`src/shard/turning.rt`), and the node
-//! itself ([`Node`], `src/node.rt`): it is opened with all the memory that it takes, turned until it is done, and finished into the
-//! record of the run.
+//! that an own command waits for, the record of a run, the turn (`src/shard/turning.rt`), and the node itself ([`Node`],
+//! `src/node.rt`): it is opened with all the memory that it takes, turned until it is done, and finished into the record of the run.
+//! What it does without its space stands in `shard_parts`: the cursors over the trace, and how it deals with another shard.
 //!
 //! What the nodes of a run say together, once all of them are done, is a law: [`done_nodes_agree`].
 #![tactic(auto)]

@@ -1,5 +1,5 @@
 //! The step that takes the replies of other shards.
-ghost use Rattle.std.specs.Prelude.{◌≡◌, ◌≢◌, ◌⊎◌, ◌↔◌, ℕ, ◌<◌, ◌≤◌, length, true, None, Some, IsTrue};
+ghost use Rattle.std.specs.Prelude.{◌≡◌, ◌≢◌, ◌⊎◌, ◌↔◌, ℕ, ◌<◌, length, IsTrue};
 ghost use Rattle.std.specs.List.{slice_get};
 ghost use Rattle.shard_rings.specs.declared.link.Lane.TheVariants.{Replies, Requests};
 ghost use Rattle.shard_node.specs.Standing.{InStanding};

@@ -162,8 +162,8 @@ impl<'f, L: Link<'f> + Drop, G: Gate + Drop> Shard<'f, L, G> {
     }
 }
 
-/// Receives a packet of a peer on the lane of requests. What is asked next is done, and its reply waits; another packet is set aside, and
-/// answered.
+/// Receives a packet of a peer on the lane of requests. What is asked next is done, and its reply waits; another packet is set
+/// aside, and answered.
 fn serve<'f, L: Link<'f> + Drop>(
     peer: &mut Peer<'f, L>,
     trace: &Trace,
