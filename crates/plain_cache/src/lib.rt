@@ -11,6 +11,3 @@ pub use cache_model::{
 };
 pub use plain::{Plain, floor_of};
 pub use run_log::{Journal, ReplyLog, append_keys, next_key};
-
-#[cfg(test)]
-mod tests;

@@ -1,9 +1,8 @@
 //! Tests of `compaction`: segments are emptied and freed, and each name keeps its content.
 ghost use Rattle.std.specs.Prelude.{◌≡◌, ◌<◌, ◌≤◌, length, true, IfOk};
-ghost use Rattle.layout.specs.Sizes as sizes;
 ghost use Rattle.slab.specs.Slab.{get};
 ghost use Rattle.object_log.specs.Objects.{IsSize};
-ghost use Rattle.regions.specs.Shapes.{shape, held_count, HasGroup};
+ghost use Rattle.regions.specs.Shapes.{HasGroup};
 ghost use Rattle.regions.specs.Contents.{live_at, Keeps};
 ghost use Rattle.rows_tests.specs.Names.{AreNamed};
 
@@ -13,11 +12,10 @@ mod names;
 mod steps;
 mod two_groups;
 
-use crate::pieces::piece;
+use crate::pieces::add_segments;
 use calls::size_of;
 use compaction::{Compacted, compact_in, compact_one, pass};
 use names::{Names, content, kill, put};
-use raw_range::Piece;
 use regions::Region;
 use std::alloc::{AllocError, Global};
 use std::test::Fail;
@@ -39,17 +37,8 @@ fn new_shelf(alloc: Global, groups: u32) -> Result<Shelf, AllocError>
     requires { (1 ≤ groups) × (groups ≤ 8) }
     ensures { IfOk result (λ s. AreNamed (get s.names.places) (live_at s.region)) }
 {
-    let first = piece(alloc, 0)?;
-    let second = piece(alloc, 1)?;
-    let third = piece(alloc, 2)?;
-    let fourth = piece(alloc, 3)?;
-    let fifth = piece(alloc, 4)?;
     let mut region = Region::new(alloc, 5, groups)?;
-    region.add_segment(first);
-    region.add_segment(second);
-    region.add_segment(third);
-    region.add_segment(fourth);
-    add_to_groups(&mut region, groups, fifth);
+    add_segments(alloc, &mut region, segments_of(groups))?;
     Ok(Shelf {
         region,
         names: Names::new(alloc),
@@ -58,15 +47,11 @@ fn new_shelf(alloc: Global, groups: u32) -> Result<Shelf, AllocError>
     })
 }
 
-/// The piece becomes one segment more where there are two groups or more.
-fn add_to_groups(region: &mut Region, groups: u32, piece: Piece)
-    requires room { held_count region.old < (shape region.old).most }
-    requires segment { length piece.bytes ≡ sizes.segment }
-    ensures { Keeps region.old region.new }
+/// How many segments there are for so many groups.
+fn segments_of(groups: u32) -> u32
+    ensures { result ≤ 5 }
 {
-    if groups > 1 {
-        region.add_segment(piece);
-    }
+    if groups > 1 { 5 } else { 4 }
 }
 
 /// Whether the shelf has the group.
@@ -229,12 +214,14 @@ fn wrong_of(alloc: Global, groups: u32, steps: &[Step<'_>]) -> Result<Option<usi
     requires { (1 ≤ groups) × (groups ≤ 8) }
 {
     let mut shelf = new_shelf(alloc, groups)?;
-    Ok(first_wrong(alloc, &mut shelf, steps))
+    let wrong = first_wrong(alloc, &mut shelf, steps);
+    drop(shelf);
+    Ok(wrong)
 }
 
 #[test]
 fn the_sparsest_segment_is_emptied_and_the_other_stays(rt: HostRuntime) -> Result<(), Fail> {
-    let steps = [
+    const STEPS: &[Step] = &[
         Step::Fill(7, 0),
         Step::Fill(8, 1),
         Step::GoOn(2),
@@ -256,13 +243,13 @@ fn the_sparsest_segment_is_emptied_and_the_other_stays(rt: HostRuntime) -> Resul
         Step::IsClosed(1, false),
         Step::IsKept(0, 0),
     ];
-    assert_eq!(rt; wrong(rt.alloc(), &steps)?, None);
+    assert_eq!(rt; wrong(rt.alloc(), STEPS)?, None);
     Ok(())
 }
 
 #[test]
 fn nothing_moves_until_the_last_of_three_guards_is_gone(rt: HostRuntime) -> Result<(), Fail> {
-    let steps = [
+    const STEPS: &[Step] = &[
         Step::Fill(7, 0),
         Step::GoOn(1),
         Step::Kill(&[0, 1, 2, 3, 4, 5, 6, 7, 8]),
@@ -280,15 +267,20 @@ fn nothing_moves_until_the_last_of_three_guards_is_gone(rt: HostRuntime) -> Resu
         Step::Compact(Some(Compacted::Freed)),
         Step::IsClosed(0, false),
     ];
-    assert_eq!(rt; wrong(rt.alloc(), &steps)?, None);
+    assert_eq!(rt; wrong(rt.alloc(), STEPS)?, None);
     Ok(())
 }
 
 /// Whether the content is of an object of the size, each byte of it but for the name being this one.
 fn is_filled(content: &[u8], size: u32, byte: u8) -> bool {
-    content.len() >= 8
-        && content.len() + 8 == size as usize
-        && content[8..].iter().all(|b| *b == byte)
+    match content.get(8..) {
+        Some(rest) => rest.len() + 16 == size as usize && is_each(rest, byte),
+        None => false,
+    }
+}
+
+fn is_each(bytes: &[u8], byte: u8) -> bool {
+    bytes.iter().all(|b| *b == byte)
 }
 
 /// Whether the name is held as it should be: its object's size and byte, or nothing.
@@ -316,7 +308,7 @@ fn are_held(shelf: &Shelf) -> bool
 
 #[test]
 fn dead_objects_stay_behind_and_live_ones_keep_their_order(rt: HostRuntime) -> Result<(), Fail> {
-    let steps = [
+    const STEPS: &[Step] = &[
         Step::Fill(7, 0),
         Step::Fill(8, 1),
         Step::Fill(9, 2),
@@ -344,7 +336,7 @@ fn dead_objects_stay_behind_and_live_ones_keep_their_order(rt: HostRuntime) -> R
         Step::CompactAll(Some(Compacted::Freed)),
         Step::Compact(Some(Compacted::NoneSparse)),
     ];
-    assert_eq!(rt; wrong(rt.alloc(), &steps)?, None);
+    assert_eq!(rt; wrong(rt.alloc(), STEPS)?, None);
     Ok(())
 }
 
@@ -367,7 +359,7 @@ fn place_each(alloc: Global, shelf: &mut Shelf) -> Result<(), AllocError>
 
 #[test]
 fn objects_of_each_size_are_moved(rt: HostRuntime) -> Result<(), Fail> {
-    let steps = [
+    const STEPS: &[Step] = &[
         Step::GoOn(0),
         Step::PlaceEach(21),
         Step::GoOn(1),
@@ -378,7 +370,7 @@ fn objects_of_each_size_are_moved(rt: HostRuntime) -> Result<(), Fail> {
         Step::IsClosed(0, false),
         Step::AreHeld,
     ];
-    assert_eq!(rt; wrong(rt.alloc(), &steps)?, None);
+    assert_eq!(rt; wrong(rt.alloc(), STEPS)?, None);
     Ok(())
 }
 

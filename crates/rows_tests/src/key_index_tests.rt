@@ -1,5 +1,5 @@
 //! Tests of `key_index`: kinds of keys and orders of insertion, against a sorted vector.
-ghost use Rattle.std.specs.Prelude.{◌≡◌, ℕ, ◌<◌, ◌≤◌, length};
+ghost use Rattle.std.specs.Prelude.{◌≡◌, ℕ, ◌<◌, ◌≤◌, length, IfOk};
 ghost use Rattle.key_index.specs.Index.{IsIndexOf};
 
 use key_index::{KeyIndex, Keys};
@@ -151,26 +151,39 @@ fn key_of(alloc: Global, kind: u32, number: u32) -> Result<Vec<u8>, AllocError> 
 
 const ROWS: u32 = 401;
 
+/// The number in the key of a row below 401, in an order.
+fn number_of(row: u32, order: u32) -> u32
+    requires { row < 401 }
+{
+    match order {
+        0 => row,
+        1 => ROWS - 1 - row,
+        _ => row * 97 % ROWS,
+    }
+}
+
 /// Keys of a kind, in an order.
-fn shelf_of(alloc: Global, kind: u32, order: u32) -> Result<Shelf, AllocError> {
+fn shelf_of(alloc: Global, kind: u32, order: u32) -> Result<Shelf, AllocError>
+    ensures { IfOk result (λ shelf. length shelf.keys.items ≡ 401) }
+{
     let mut keys = Vec::new(alloc);
     for row in 0..ROWS {
-        let number = match order {
-            0 => row,
-            1 => ROWS - 1 - row,
-            _ => row * 97 % ROWS,
-        };
-        keys.push(key_of(alloc, kind, number)?)?;
+        keys.push(key_of(alloc, kind, number_of(row, order))?)?;
     }
     Ok(Shelf { keys })
 }
 
-/// The keys and rows of a shelf, or each third of them, in order.
-fn sorted(alloc: Global, shelf: &Shelf, step: usize) -> Result<Vec<(Vec<u8>, u32)>, AllocError> {
+/// The keys and rows of the first rows of a shelf, or each third of them, in order.
+fn sorted(
+    alloc: Global,
+    shelf: &Shelf,
+    rows: u32,
+    step: u32,
+) -> Result<Vec<(Vec<u8>, u32)>, AllocError> {
     let mut sorted = Vec::new(alloc);
     let mut number: u32 = 0;
-    for (row, key) in shelf.keys.iter().enumerate() {
-        if row % step.max(1) == 0 {
+    for key in &shelf.keys {
+        if number < rows && number % step.max(1) == 0 {
             sorted.push((key.clone()?, number))?;
         }
         number = number.wrapping_add(1);
@@ -204,23 +217,28 @@ fn agrees<K: Keys>(index: &KeyIndex, keys: &K, wanted: &[(Vec<u8>, u32)]) -> boo
 /// Whether an index of keys of a kind agrees with a sorted vector: filled in an order, thinned and filled again.
 fn is_right(alloc: Global, kind: u32, order: u32) -> Result<bool, AllocError> {
     let shelf = shelf_of(alloc, kind, order)?;
-    let all = sorted(alloc, &shelf, 1)?;
-    let thirds = sorted(alloc, &shelf, 3)?;
-    if shelf.keys.len() > 10_000 {
-        return Ok(false);
-    }
-    let rows = shelf.keys.len() as u32;
-    let mut index = KeyIndex::new(alloc, rows)?;
-    fill(&mut index, &shelf, rows);
-    if !agrees(&index, &shelf, &all) {
-        return Ok(false);
-    }
-    thin(&mut index, &shelf, rows);
-    if !agrees(&index, &shelf, &thirds) {
-        return Ok(false);
-    }
-    fill(&mut index, &shelf, rows);
-    Ok(agrees(&index, &shelf, &all))
+    let all = sorted(alloc, &shelf, ROWS, 1)?;
+    let thirds = sorted(alloc, &shelf, ROWS, 3)?;
+    let mut index = KeyIndex::new(alloc, ROWS)?;
+    Ok(agree(&mut index, &shelf, &all, &thirds) == [true; 3])
+}
+
+/// Whether an index agrees with a list once it is filled, with another one once it is thinned, and with the first again.
+fn agree<K: Keys>(
+    index: &mut KeyIndex,
+    keys: &K,
+    all: &[(Vec<u8>, u32)],
+    thirds: &[(Vec<u8>, u32)],
+) -> [bool; 3]
+    requires index { IsIndexOf (K.has_row keys.now) (K.key_of keys.now) index.old }
+    requires readable { (row : ℕ) → row < 401 → K.has_row keys.now row }
+{
+    fill(index, keys, ROWS);
+    let filled = agrees(index, keys, all);
+    thin(index, keys, ROWS);
+    let thinned = agrees(index, keys, thirds);
+    fill(index, keys, ROWS);
+    [filled, thinned, agrees(index, keys, all)]
 }
 
 #[test]
@@ -236,35 +254,14 @@ fn rows_are_in_the_order_of_a_sorted_vector(rt: HostRuntime) -> Result<(), Fail>
     Ok(())
 }
 
-/// The keys and rows of the first rows of a shelf, in order.
-fn sorted_first(
-    alloc: Global,
-    shelf: &Shelf,
-    rows: u32,
-) -> Result<Vec<(Vec<u8>, u32)>, AllocError> {
-    let mut sorted = Vec::new(alloc);
-    let mut number: u32 = 0;
-    for key in &shelf.keys {
-        if number < rows {
-            sorted.push((key.clone()?, number))?;
-        }
-        number = number.wrapping_add(1);
-    }
-    sorted.sort()?;
-    Ok(sorted)
-}
-
 /// Whether an index takes as many rows as it has room for, and no more.
 fn is_filled(alloc: Global, room: u32, order: u32) -> Result<bool, AllocError> {
     let shelf = shelf_of(alloc, 1, order)?;
-    let wanted = sorted_first(alloc, &shelf, room)?;
-    if shelf.keys.len() > 10_000 {
-        return Ok(false);
-    }
-    let rows = shelf.keys.len() as u32;
+    let wanted = sorted(alloc, &shelf, room, 1)?;
     let mut index = KeyIndex::new(alloc, room)?;
-    fill(&mut index, &shelf, rows);
-    Ok(index.len() == room && index.room() == room && agrees(&index, &shelf, &wanted))
+    fill(&mut index, &shelf, ROWS);
+    let found = (index.len(), index.room(), agrees(&index, &shelf, &wanted));
+    Ok(found == (room, room, true))
 }
 
 #[test]
@@ -284,9 +281,10 @@ fn as_many_rows_as_there_is_room_for(rt: HostRuntime) -> Result<(), Fail> {
 fn an_index_with_room_for_no_row(rt: HostRuntime) -> Result<(), Fail> {
     let shelf = shelf_of(rt.alloc(), 0, 0)?;
     let mut index = KeyIndex::new(rt.alloc(), 0)?;
-    assert!(rt; index.room() == 0 && index.len() == 0);
-    assert!(rt; index.find(&shelf, b"k0000").is_none());
-    assert!(rt; index.remove(&shelf, b"k0000").is_none());
-    assert!(rt; index.rows_from(&shelf, b"").next().is_none());
+    assert_eq!(rt; (index.room(), index.len()), (0, 0));
+    let found = index.find(&shelf, b"k0000");
+    let removed = index.remove(&shelf, b"k0000");
+    let next = index.rows_from(&shelf, b"").next();
+    assert_eq!(rt; [found, removed, next], [None; 3]);
     Ok(())
 }

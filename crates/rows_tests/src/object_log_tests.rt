@@ -24,12 +24,15 @@ fn the_first_object_is_laid_byte_for_byte(rt: HostRuntime) -> Result<(), Fail> {
     let mut segment = Vec::from_elem(rt.alloc(), 255u8, 131_072)?;
     let segment = segment.as_mut_slice();
     let first = lay(segment);
-    assert_eq!(rt; (first.state, first.kind, first.size), (1, 1, 48));
-    assert!(rt; has(segment, 0, &[1, 1, 0, 0, 48, 0, 0, 0]));
-    assert!(rt; has(segment, 8, &[0; 48]));
-    assert!(rt; has(segment, 56, &[255]));
+    let laid = [
+        has(segment, 0, &[1, 1, 0, 0, 48, 0, 0, 0]),
+        has(segment, 8, &[0; 48]),
+        has(segment, 56, &[255]),
+    ];
     kill(segment, 0);
-    assert!(rt; has(segment, 0, &[2, 1, 0, 0, 48, 0, 0, 0, 0]));
+    let killed = has(segment, 0, &[2, 1, 0, 0, 48, 0, 0, 0, 0]);
+    assert_eq!(rt; (first.state, first.kind, first.size), (1, 1, 48));
+    assert_eq!(rt; (laid, killed), ([true; 3], true));
     Ok(())
 }
 
@@ -55,14 +58,13 @@ fn fill(segment: &mut [u8], size: u32, last: u32) -> (u32, u64)
 #[test]
 fn a_segment_is_filled_with_and_without_room_for_the_end(rt: HostRuntime) -> Result<(), Fail> {
     let mut segment = Vec::from_elem(rt.alloc(), 255u8, 131_072)?;
-    let (used, sum) = fill(segment.as_mut_slice(), 16, 8088);
-    assert_eq!(rt; used, 131_064);
-    // 12,296 times 0 to 10, and 122,976.
-    assert_eq!(rt; sum, 799_256);
-    assert!(rt; has(segment.as_slice(), 131_064, &[0; 8]));
-    let (used, sum) = fill(segment.as_mut_slice(), 16, 8096);
-    assert_eq!(rt; used, 131_072);
-    assert_eq!(rt; sum, 799_256);
-    assert!(rt; has(segment.as_slice(), 122_976, &[1, 2, 0, 0, 0xa0, 0x1f, 0, 0]));
+    let with_room = fill(segment.as_mut_slice(), 16, 8088);
+    let end = has(segment.as_slice(), 131_064, &[0; 8]);
+    let without = fill(segment.as_mut_slice(), 16, 8096);
+    let last = has(segment.as_slice(), 122_976, &[1, 2, 0, 0, 0xa0, 0x1f, 0, 0]);
+    // The sum is of 12,296 times 0 to 10, and 122,976.
+    assert_eq!(rt; with_room, (131_064, 799_256));
+    assert_eq!(rt; without, (131_072, 799_256));
+    assert_eq!(rt; (end, last), (true, true));
     Ok(())
 }

@@ -4,7 +4,7 @@ ghost use Rattle.std.specs.Prelude.{◌≤◌};
 mod calls;
 mod steps;
 
-use crate::pieces::piece;
+use crate::pieces::add_segments;
 use regions::Region;
 use std::alloc::{AllocError, Global};
 use std::test::Fail;
@@ -14,13 +14,8 @@ use steps::{NOT_CLOSED, Step, first_wrong};
 fn three_segments(alloc: Global, groups: u32) -> Result<Region, AllocError>
     requires { (1 ≤ groups) × (groups ≤ 8) }
 {
-    let first = piece(alloc, 0)?;
-    let second = piece(alloc, 1)?;
-    let third = piece(alloc, 2)?;
     let mut region = Region::new(alloc, 3, groups)?;
-    region.add_segment(first);
-    region.add_segment(second);
-    region.add_segment(third);
+    add_segments(alloc, &mut region, 3)?;
     Ok(region)
 }
 
@@ -41,7 +36,7 @@ fn wrong_of(alloc: Global, groups: u32, steps: &[Step<'_>]) -> Result<Option<usi
 
 #[test]
 fn a_segment_is_filled_with_and_without_room_for_the_end(rt: HostRuntime) -> Result<(), Fail> {
-    let steps = [
+    const STEPS: &[Step] = &[
         Step::GoOn(0),
         Step::PutTen,
         Step::Put(1, 12_296, None),
@@ -55,13 +50,13 @@ fn a_segment_is_filled_with_and_without_room_for_the_end(rt: HostRuntime) -> Res
         Step::Put(1, 8104, Some((1, 122_960))),
         Step::Left(8),
     ];
-    assert_eq!(rt; wrong(rt.alloc(), &steps)?, None);
+    assert_eq!(rt; wrong(rt.alloc(), STEPS)?, None);
     Ok(())
 }
 
 #[test]
 fn a_content_is_written_through_and_its_neighbours_stand(rt: HostRuntime) -> Result<(), Fail> {
-    let steps = [
+    const STEPS: &[Step] = &[
         Step::GoOn(0),
         Step::WriteBoth,
         Step::SpendTen,
@@ -77,13 +72,13 @@ fn a_content_is_written_through_and_its_neighbours_stand(rt: HostRuntime) -> Res
         Step::Has(0, 56, &[9; 8]),
         Step::Has(0, 64, &[2, 1, 0, 0, 0x08, 0x30, 0, 0, 0]),
     ];
-    assert_eq!(rt; wrong(rt.alloc(), &steps)?, None);
+    assert_eq!(rt; wrong(rt.alloc(), STEPS)?, None);
     Ok(())
 }
 
 #[test]
 fn a_closed_segment_is_freed_once_none_of_its_objects_lives(rt: HostRuntime) -> Result<(), Fail> {
-    let steps = [
+    const STEPS: &[Step] = &[
         Step::GoOn(0),
         Step::Put(1, 48, Some((0, 0))),
         Step::SpendTen,
@@ -114,19 +109,19 @@ fn a_closed_segment_is_freed_once_none_of_its_objects_lives(rt: HostRuntime) -> 
         Step::ClosedLive(&[48, NOT_CLOSED, NOT_CLOSED]),
         Step::Sparse(1),
     ];
-    assert_eq!(rt; wrong(rt.alloc(), &steps)?, None);
+    assert_eq!(rt; wrong(rt.alloc(), STEPS)?, None);
     Ok(())
 }
 
 #[test]
 fn a_dead_object_is_served_under_three_nested_guards(rt: HostRuntime) -> Result<(), Fail> {
-    let steps = [
+    const STEPS: &[Step] = &[
         Step::GoOn(0),
         Step::ServesDead(Some(true)),
         Step::Guards(1),
         Step::ServesDead(None),
     ];
-    assert_eq!(rt; wrong(rt.alloc(), &steps)?, None);
+    assert_eq!(rt; wrong(rt.alloc(), STEPS)?, None);
     Ok(())
 }
 
@@ -134,7 +129,7 @@ fn a_dead_object_is_served_under_three_nested_guards(rt: HostRuntime) -> Result<
 fn objects_of_the_least_and_of_the_greatest_size_stand_side_by_side(
     rt: HostRuntime,
 ) -> Result<(), Fail> {
-    let steps = [
+    const STEPS: &[Step] = &[
         Step::GoOn(0),
         Step::Put(1, 16, Some((0, 0))),
         Step::Put(2, 24, Some((0, 16))),
@@ -151,13 +146,13 @@ fn objects_of_the_least_and_of_the_greatest_size_stand_side_by_side(
         Step::Has(0, 40, &[1, 3, 0, 0, 0, 0x30, 0, 0]),
         Step::Has(0, 12_328, &[1, 255, 0, 0, 0x08, 0x30, 0, 0]),
     ];
-    assert_eq!(rt; wrong(rt.alloc(), &steps)?, None);
+    assert_eq!(rt; wrong(rt.alloc(), STEPS)?, None);
     Ok(())
 }
 
 #[test]
 fn a_content_is_copied_into_the_active_segment(rt: HostRuntime) -> Result<(), Fail> {
-    let steps = [
+    const STEPS: &[Step] = &[
         Step::GoOn(0),
         Step::WriteBoth,
         Step::CopyFirst(0, None),
@@ -175,13 +170,13 @@ fn a_content_is_copied_into_the_active_segment(rt: HostRuntime) -> Result<(), Fa
         Step::Has(1, 48, &[2, 1, 0, 0, 0x08, 0x30, 0, 0]),
         Step::ClosedLive(&[64, 48, NOT_CLOSED]),
     ];
-    assert_eq!(rt; wrong(rt.alloc(), &steps)?, None);
+    assert_eq!(rt; wrong(rt.alloc(), STEPS)?, None);
     Ok(())
 }
 
 #[test]
 fn a_content_is_copied_beside_its_object(rt: HostRuntime) -> Result<(), Fail> {
-    let steps = [
+    const STEPS: &[Step] = &[
         Step::GoOn(0),
         Step::CopyBeside,
         Step::SpendTen,
@@ -189,13 +184,13 @@ fn a_content_is_copied_beside_its_object(rt: HostRuntime) -> Result<(), Fail> {
         Step::Has(0, 0, &[1, 1, 0, 0, 48, 0, 0, 0]),
         Step::Has(0, 48, &[1, 2, 0, 0, 48, 0, 0, 0, 7, 7]),
     ];
-    assert_eq!(rt; wrong(rt.alloc(), &steps)?, None);
+    assert_eq!(rt; wrong(rt.alloc(), STEPS)?, None);
     Ok(())
 }
 
 #[test]
 fn the_last_free_segment_stays_until_all_is_given_up(rt: HostRuntime) -> Result<(), Fail> {
-    let steps = [
+    const STEPS: &[Step] = &[
         Step::TakeFree(Some(2)),
         Step::TakeFree(Some(1)),
         Step::TakeFree(None),
@@ -203,13 +198,13 @@ fn the_last_free_segment_stays_until_all_is_given_up(rt: HostRuntime) -> Result<
         Step::GiveUp(Some(0)),
         Step::GiveUp(None),
     ];
-    assert_eq!(rt; wrong(rt.alloc(), &steps)?, None);
+    assert_eq!(rt; wrong(rt.alloc(), STEPS)?, None);
     Ok(())
 }
 
 #[test]
 fn two_groups_share_the_free_segments(rt: HostRuntime) -> Result<(), Fail> {
-    let steps = [
+    const STEPS: &[Step] = &[
         // Without an active segment nothing is left and nothing fits.
         Step::LeftIn(1, 0),
         Step::PutIn(1, 1, 16, None),
@@ -233,13 +228,13 @@ fn two_groups_share_the_free_segments(rt: HostRuntime) -> Result<(), Fail> {
         Step::SparseIn(1, 1),
         Step::SparseIn(0, 0),
     ];
-    assert_eq!(rt; wrong_of(rt.alloc(), 2, &steps)?, None);
+    assert_eq!(rt; wrong_of(rt.alloc(), 2, STEPS)?, None);
     Ok(())
 }
 
 #[test]
 fn a_guard_keeps_the_segments_of_its_group_alone(rt: HostRuntime) -> Result<(), Fail> {
-    let steps = [
+    const STEPS: &[Step] = &[
         Step::GoOnIn(0, 0),
         Step::GoOnIn(1, 1),
         Step::SpendTenIn(1),
@@ -256,13 +251,13 @@ fn a_guard_keeps_the_segments_of_its_group_alone(rt: HostRuntime) -> Result<(), 
         Step::UnguardIn(1),
     ];
     // The last one finds no guard.
-    assert_eq!(rt; wrong_of(rt.alloc(), 2, &steps)?, Some(13));
+    assert_eq!(rt; wrong_of(rt.alloc(), 2, STEPS)?, Some(13));
     Ok(())
 }
 
 #[test]
 fn a_segment_is_freed_under_a_guard_of_another_group(rt: HostRuntime) -> Result<(), Fail> {
-    let steps = [
+    const STEPS: &[Step] = &[
         Step::GoOnIn(1, 0),
         Step::SpendTenIn(1),
         Step::GoOnIn(1, 1),
@@ -278,6 +273,6 @@ fn a_segment_is_freed_under_a_guard_of_another_group(rt: HostRuntime) -> Result<
         Step::ActiveIn(0, None),
         Step::ActiveIn(1, None),
     ];
-    assert_eq!(rt; wrong_of(rt.alloc(), 2, &steps)?, None);
+    assert_eq!(rt; wrong_of(rt.alloc(), 2, STEPS)?, None);
     Ok(())
 }

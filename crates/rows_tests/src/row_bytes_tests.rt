@@ -25,18 +25,20 @@ fn a_row_is_read_again(rt: HostRuntime) -> Result<(), Fail> {
     let mut content = [0; 40];
     let links = Links { newer: 1, older: 2 };
     write_row(&mut content, 7, 300, links, b"key", b"v");
-    assert!(rt; number_in(&content) == 7 && put_in(&content) == 300);
-    assert!(rt; key_in(&content) == b"key".as_slice() && value_in(&content) == b"v".as_slice());
-    assert!(rt; newer_in(&content) == 1 && older_in(&content) == 2);
+    assert_eq!(rt; (number_in(&content), put_in(&content)), (7, 300));
+    assert!(rt; key_in(&content) == b"key".as_slice());
+    assert!(rt; value_in(&content) == b"v".as_slice());
+    assert_eq!(rt; (newer_in(&content), older_in(&content)), (1, 2));
     Ok(())
 }
 
 #[test]
 fn sizes_are_whole_multiples_of_eight(rt: HostRuntime) -> Result<(), Fail> {
-    assert!(rt;
-        row_size(b"a", b"") == 48
-            && row_size(b"a", b"1234567") == 48
-            && row_size(b"a", b"12345678") == 56
-    );
+    let sizes = [
+        row_size(b"a", b""),
+        row_size(b"a", b"1234567"),
+        row_size(b"a", b"12345678"),
+    ];
+    assert_eq!(rt; sizes, [48, 48, 56]);
     Ok(())
 }

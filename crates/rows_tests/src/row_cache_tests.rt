@@ -16,7 +16,7 @@ use steps::{Step, wrong_of_two};
 
 #[test]
 fn the_least_recent_row_goes(rt: HostRuntime) -> Result<(), Fail> {
-    let steps = [
+    const STEPS: &[Step] = &[
         Step::Put(b"b", b"", 1, Some(Put::Stored)),
         Step::Put(b"a", b"", 2, Some(Put::Stored)),
         Step::Size(2, 96),
@@ -28,13 +28,13 @@ fn the_least_recent_row_goes(rt: HostRuntime) -> Result<(), Fail> {
         Step::EvictLast(None),
         Step::Size(0, 0),
     ];
-    assert_eq!(rt; wrong_of_two(rt.alloc(), &steps)?, None);
+    assert_eq!(rt; wrong_of_two(rt.alloc(), STEPS)?, None);
     Ok(())
 }
 
 #[test]
 fn a_put_replaces_and_an_erase_removes(rt: HostRuntime) -> Result<(), Fail> {
-    let steps = [
+    const STEPS: &[Step] = &[
         Step::Put(b"a", b"one", 1, Some(Put::Stored)),
         Step::Put(b"a", b"abc", 2, Some(Put::Replaced)),
         Step::Size(1, 48),
@@ -45,13 +45,13 @@ fn a_put_replaces_and_an_erase_removes(rt: HostRuntime) -> Result<(), Fail> {
         Step::Erase(b"a", false),
         Step::Size(0, 0),
     ];
-    assert_eq!(rt; wrong_of_two(rt.alloc(), &steps)?, None);
+    assert_eq!(rt; wrong_of_two(rt.alloc(), STEPS)?, None);
     Ok(())
 }
 
 #[test]
 fn a_full_cache_takes_another_key_once_a_row_went(rt: HostRuntime) -> Result<(), Fail> {
-    let steps = [
+    const STEPS: &[Step] = &[
         Step::Put(b"a", b"1", 1, Some(Put::Stored)),
         Step::Put(b"b", b"22", 2, Some(Put::Stored)),
         Step::Put(b"c", b"333", 3, None),
@@ -61,13 +61,13 @@ fn a_full_cache_takes_another_key_once_a_row_went(rt: HostRuntime) -> Result<(),
         Step::EvictLast(Some(4)),
         Step::Size(1, 48),
     ];
-    assert_eq!(rt; wrong_of_two(rt.alloc(), &steps)?, None);
+    assert_eq!(rt; wrong_of_two(rt.alloc(), STEPS)?, None);
     Ok(())
 }
 
 #[test]
 fn a_guard_keeps_the_value_of_a_row_that_went(rt: HostRuntime) -> Result<(), Fail> {
-    let steps = [
+    const STEPS: &[Step] = &[
         Step::Put(b"a", b"abc", 1, Some(Put::Stored)),
         Step::Keeps(b"a", b"abc", b"xyz", Some(true)),
         Step::Size(1, 48),
@@ -76,6 +76,6 @@ fn a_guard_keeps_the_value_of_a_row_that_went(rt: HostRuntime) -> Result<(), Fai
         Step::Unguard,
         Step::Compact(Some(Compacted::NoneSparse)),
     ];
-    assert_eq!(rt; wrong_of_two(rt.alloc(), &steps)?, None);
+    assert_eq!(rt; wrong_of_two(rt.alloc(), STEPS)?, None);
     Ok(())
 }

@@ -9,6 +9,8 @@ mod made_trace_tests;
 #[cfg(test)]
 mod outside_tests;
 #[cfg(test)]
+mod plain_cache_tests;
+#[cfg(test)]
 mod report_text_tests;
 #[cfg(test)]
 mod run_log_tests;

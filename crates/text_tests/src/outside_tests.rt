@@ -1,14 +1,37 @@
 //! What no contract says: that memory is there, and that the devices of std are read and written.
+ghost use Rattle.std.specs.Prelude.{◌≤◌};
 
 use outside::{
     Failed, MemorySink, MemorySource, ReadSource, ReadStop, Source, WriteSink, read_all, write_all,
 };
+use std::alloc::Global;
 use std::io::{BufWriter, Error, ErrorKind, Read, Write};
+use std::process::Abort;
 use std::test::Fail;
+
+// Reads a source that gives one byte a call, and of which the call that is named fails.
+fn expect_read(
+    rt: &impl Abort,
+    alloc: Global,
+    input: &str,
+    limit: u32,
+    failing: u64,
+    want: Result<&str, ReadStop>,
+) -> Result<(), Fail>
+    requires { limit ≤ 4 }
+{
+    let bytes = input.as_bytes().to_vec(alloc)?;
+    let mut source = MemorySource::new(bytes, 1, vec![in alloc; failing]?);
+    let got = read_all(alloc, &mut source, limit);
+    match want {
+        Ok(text) => assert_eq!(rt; got?.as_slice(), text.as_bytes(), "{input:?}"),
+        Err(stop) => assert!(rt; got.is_err_and(|met| met == stop), "{input:?}"),
+    }
+    Ok(())
+}
 
 #[test]
 fn reading_ends_at_the_end_or_the_limit_or_a_fault(rt: HostRuntime) -> Result<(), Fail> {
-    // Each source gives one byte a call, and the call that is named fails.
     for (input, limit, failing, want) in [
         ("", 0, 9, Ok("")),
         ("abcd", 4, 9, Ok("abcd")),
@@ -20,14 +43,23 @@ fn reading_ends_at_the_end_or_the_limit_or_a_fault(rt: HostRuntime) -> Result<()
         ("abcd", 4, 6, Ok("abcd")),
         ("abcde", 4, 6, Err(ReadStop::TooLong)),
     ] {
-        let bytes = input.as_bytes().to_vec(rt.alloc())?;
-        let mut source = MemorySource::new(bytes, 1, vec![in rt.alloc(); failing]?);
-        let got = read_all(rt.alloc(), &mut source, limit);
-        match want {
-            Ok(text) => assert_eq!(rt; got?.as_slice(), text.as_bytes(), "{input:?}"),
-            Err(stop) => assert!(rt; got.is_err_and(|met| met == stop), "{input:?}"),
-        }
+        expect_read(&rt, rt.alloc(), input, limit, failing, want)?;
     }
+    Ok(())
+}
+
+// Writes a piece into a sink with so much room.
+fn expect_written(
+    rt: &impl Abort,
+    alloc: Global,
+    (room, piece): (usize, &str),
+    want: Result<(), Failed>,
+    bytes: &str,
+) -> Result<(), Fail> {
+    let mut sink = MemorySink::new(alloc, room)?;
+    let wrote = write_all(&mut sink, piece.as_bytes());
+    assert!(rt; wrote == want, "{piece:?} in {room}");
+    assert_eq!(rt; sink.bytes(), bytes.as_bytes(), "{piece:?} in {room}");
     Ok(())
 }
 
@@ -39,12 +71,7 @@ fn a_full_sink_keeps_the_front_of_a_piece(rt: HostRuntime) -> Result<(), Fail> {
         (3, "abc", Ok(()), "abc"),
         (3, "abcde", Err(Failed), "abc"),
     ] {
-        let mut sink = MemorySink::new(rt.alloc(), room)?;
-        assert!(rt;
-            write_all(&mut sink, piece.as_bytes()) == want,
-            "{piece:?} in {room}"
-        );
-        assert_eq!(rt; sink.bytes(), bytes.as_bytes(), "{piece:?} in {room}");
+        expect_written(&rt, rt.alloc(), (room, piece), want, bytes)?;
     }
     Ok(())
 }
@@ -115,11 +142,11 @@ impl Write for Unsteady {
 fn an_interruption_is_no_fault(rt: HostRuntime) -> Result<(), Fail> {
     let mut source = ReadSource::new(Unsteady { calls: 0 });
     let mut into = [0; 9];
-    assert!(rt; source.read(&mut into) == Ok(1));
-    assert!(rt; source.read(&mut into) == Err(Failed));
+    let read = [source.read(&mut into), source.read(&mut into)];
+    assert!(rt; read == [Ok(1), Err(Failed)]);
 
     let mut sink = WriteSink::new(Unsteady { calls: 0 });
-    assert!(rt; write_all(&mut sink, b"a") == Ok(()));
-    assert!(rt; write_all(&mut sink, b"b") == Err(Failed));
+    let wrote = [write_all(&mut sink, b"a"), write_all(&mut sink, b"b")];
+    assert!(rt; wrote == [Ok(()), Err(Failed)]);
     Ok(())
 }

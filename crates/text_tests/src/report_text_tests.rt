@@ -208,10 +208,10 @@ fn check_report(
 #[test]
 fn a_report_has_the_answers_the_journal_and_the_shard(rt: HostRuntime) -> Result<(), Fail> {
     use ReplyKind::{Erased, Keys, Missing, Replaced, Stored, Value};
-    for (input, replies, occupancy, text) in [
+    const REPORTS: [(&str, &[(ReplyKind, &[u8])], (u32, u64), &str); 4] = [
         (
             "put a abc\nget a\n",
-            [(Stored, b"".as_slice()), (Value, b"abc")].as_slice(),
+            &[(Stored, b""), (Value, b"abc")],
             (1, 48),
             "1 stored\n2 value abc\njournal 0 1 2\nshard 0 rows 1 live 48 lent 0 back 0\n",
         ),
@@ -247,7 +247,8 @@ fn a_report_has_the_answers_the_journal_and_the_shard(rt: HostRuntime) -> Result
             (2, 96),
             "1 stored\n2 stored\n3 value 1\n4 keys b c\n5 keys\n6 missing\njournal 0 1 2 3 4 5 6\nshard 0 rows 2 live 96 lent 0 back 0\n",
         ),
-    ] {
+    ];
+    for (input, replies, occupancy, text) in REPORTS {
         check_report(
             &rt,
             rt.alloc(),
@@ -316,7 +317,7 @@ fn a_report_longer_than_a_block_is_complete(rt: HostRuntime) -> Result<(), Fail>
 fn a_summary_counts_answers_and_evictions(rt: HostRuntime) -> Result<(), Fail> {
     use ReplyKind::{Erased, Keys, Missing, Replaced, Stored, Value};
     let input = "put a 1\nput a 2\nget a\nerase a\nerase a\nget a\nscan a 3\n";
-    let replies: [(ReplyKind, &[u8]); 7] = [
+    const REPLIES: &[(ReplyKind, &[u8])] = &[
         (Stored, b""),
         (Replaced, b""),
         (Value, b"2"),
@@ -325,7 +326,7 @@ fn a_summary_counts_answers_and_evictions(rt: HostRuntime) -> Result<(), Fail> {
         (Missing, b""),
         (Keys, b""),
     ];
-    let entries = [Entry::Done(1), Entry::Evicted(1), Entry::Evicted(2)];
+    const ENTRIES: &[Entry] = &[Entry::Done(1), Entry::Evicted(1), Entry::Evicted(2)];
     let line = ShardLine {
         rows: 5,
         live: 240,
@@ -342,8 +343,8 @@ fn a_summary_counts_answers_and_evictions(rt: HostRuntime) -> Result<(), Fail> {
             rt.alloc(),
             Form::Summary,
             input,
-            &replies,
-            &entries,
+            REPLIES,
+            ENTRIES,
             line,
             room,
             want,

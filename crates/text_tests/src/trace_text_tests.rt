@@ -2,8 +2,10 @@
 ghost use Rattle.std.specs.Prelude.{◌≡◌, [], ◌∷◌};
 ghost use Rattle.trace_text.specs.Parts.{hash};
 
+use std::alloc::Global;
+use std::process::Abort;
 use std::test::Fail;
-use trace_text::{Cause, MOST_SHARDS, ParseRefusal, owner_of, parse, parse_on};
+use trace_text::{Cause, MOST_SHARDS, ParseRefusal, Trace, owner_of, parse, parse_on};
 
 // The hash of each key, by the definition that `owner_of` is proved to follow.
 fn hashes_of_keys()
@@ -14,6 +16,14 @@ fn hashes_of_keys()
     ensures of_d { hash (100 ∷ []) ≡ 12638183902020757363 }
 {}
 
+// The owner among so many shards is the hash modulo their number.
+fn expect_owners(rt: &impl Abort, key: &[u8], hashed: u64) {
+    for shards in 1..=MOST_SHARDS {
+        let owner = u64::from(owner_of(key, shards));
+        assert_eq!(rt; owner, hashed % u64::from(shards));
+    }
+}
+
 #[test]
 fn a_key_has_its_hash(rt: HostRuntime) -> Result<(), Fail> {
     for (key, hashed, of_2, of_16) in [
@@ -23,15 +33,19 @@ fn a_key_has_its_hash(rt: HostRuntime) -> Result<(), Fail> {
         ("c", 0xaf63_de4c_8601_eff2, 0, 2),
         ("d", 0xaf63_d94c_8601_e773, 1, 3),
     ] {
-        for shards in 1..=MOST_SHARDS {
-            let owner = u64::from(owner_of(key.as_bytes(), shards));
-            assert_eq!(rt; owner, hashed % u64::from(shards));
-        }
-        assert_eq!(rt; owner_of(key.as_bytes(), 2), of_2);
-        assert_eq!(rt; owner_of(key.as_bytes(), 16), of_16);
+        expect_owners(&rt, key.as_bytes(), hashed);
+        let owners = (owner_of(key.as_bytes(), 2), owner_of(key.as_bytes(), 16));
+        assert_eq!(rt; owners, (of_2, of_16));
     }
     hashes_of_keys();
     Ok(())
+}
+
+// The longest value of these lines.
+fn longest_of(rt: &impl Abort, alloc: Global, input: &str) -> Result<u32, Fail> {
+    let bytes = input.as_bytes().to_vec(alloc)?;
+    assert!(rt; bytes.len() <= 1000);
+    Ok(parse(alloc, bytes, 1)?.longest_value())
 }
 
 #[test]
@@ -41,12 +55,18 @@ fn the_longest_value_counts(rt: HostRuntime) -> Result<(), Fail> {
         ("get a\nput a \n", 0),
         ("put a abc\nput b abcde\nput c ab\nscan abcdefgh 3\n", 5),
     ] {
-        let bytes = input.as_bytes().to_vec(rt.alloc())?;
-        assert!(rt; bytes.len() <= 1000);
-        let trace = parse(rt.alloc(), bytes, 1)?;
-        assert_eq!(rt; trace.longest_value(), longest);
+        assert_eq!(rt; longest_of(&rt, rt.alloc(), input)?, longest);
     }
     Ok(())
+}
+
+// The owner of the key of the command at a place, whether it is a scan, and whether each of two shards has a part of it.
+fn parts_of(rt: &impl Abort, trace: &Trace, at: usize) -> (u32, bool, [bool; 2])
+    requires { trace.now.shards ≡ 2 }
+{
+    assert!(rt; at < trace.commands().len());
+    let parts = [trace.has_part(at, 0), trace.has_part(at, 1)];
+    (trace.owner(at), trace.is_scan(at), parts)
 }
 
 #[test]
@@ -56,19 +76,26 @@ fn a_trace_tells_where_its_commands_go(rt: HostRuntime) -> Result<(), Fail> {
         .to_vec(rt.alloc())?;
     assert!(rt; bytes.len() <= 1000);
     let trace = parse(rt.alloc(), bytes, 2)?;
-    for (at, owner, is_scan, is_at_0, is_at_1) in [
-        (0, 0, false, true, false),
-        (1, 1, false, false, true),
-        (2, 0, true, true, true),
-        (3, 1, false, false, true),
+    for (at, parts) in [
+        (0, (0, false, [true, false])),
+        (1, (1, false, [false, true])),
+        (2, (0, true, [true, true])),
+        (3, (1, false, [false, true])),
     ] {
-        assert!(rt; at < trace.commands().len());
-        assert_eq!(rt; trace.owner(at), owner);
-        assert_eq!(rt; trace.is_scan(at), is_scan);
-        assert_eq!(rt; trace.has_part(at, 0), is_at_0);
-        assert_eq!(rt; trace.has_part(at, 1), is_at_1);
+        assert_eq!(rt; parts_of(&rt, &trace, at), parts);
     }
     Ok(())
+}
+
+// The four commands come again and again, on lines of which six stand for four.
+fn expect_commands(rt: &impl Abort, trace: &Trace) {
+    assert_eq!(rt; trace.commands().len(), 400);
+    for (at, command) in trace.commands().iter().enumerate() {
+        let (line, key) = [(1, "a"), (2, "bc"), (5, "d"), (6, "e")][at % 4];
+        let place = (command.number as usize, command.line as usize);
+        assert_eq!(rt; place, (at + 1, at / 4 * 6 + line));
+        assert!(rt; trace.key(command) == key.as_bytes());
+    }
 }
 
 #[test]
@@ -78,13 +105,7 @@ fn lines_are_read_on_threads_in_their_order(rt: HostRuntime) -> Result<(), Fail>
         let bytes = lines.to_vec(rt.alloc())?;
         assert!(rt; bytes.len() <= 10_000);
         let trace = parse_on(&rt, rt.alloc(), threads, bytes, 3)?;
-        assert_eq!(rt; trace.commands().len(), 400);
-        for (at, command) in trace.commands().iter().enumerate() {
-            let (line, key) = [(1, "a"), (2, "bc"), (5, "d"), (6, "e")][at % 4];
-            assert_eq!(rt; command.number as usize, at + 1);
-            assert_eq!(rt; command.line as usize, at / 4 * 6 + line);
-            assert!(rt; trace.key(command) == key.as_bytes());
-        }
+        expect_commands(&rt, &trace);
     }
     Ok(())
 }

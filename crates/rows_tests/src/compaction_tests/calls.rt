@@ -28,22 +28,34 @@ fn one_call(alloc: Global, shelf: &mut Shelf, random: &mut Lcg64Xsh32) -> Result
     let byte = (draw >> 24) as u8;
     let name = random.next_word() as usize % 32;
     match draw % 8 {
-        0..=2 => {
-            let size = size_of(random.next_word());
-            if shelf.region.free_segments() > 1 {
-                go_on(shelf, 0);
-            }
-            if let Some(name) = place(alloc, shelf, 0, size, byte)? {
-                note(&mut shelf.held, name, Some((size, byte)))?;
-            }
-        }
-        3..=5 => {
-            kill(&mut shelf.region, &mut shelf.names, name);
-            note(&mut shelf.held, name, None)?;
-        }
-        _ => write_one(alloc, shelf, name, byte)?,
+        0..=2 => put_one(alloc, shelf, size_of(random.next_word()), byte),
+        3..=5 => kill_one(shelf, name),
+        _ => write_one(alloc, shelf, name, byte),
     }
-    Ok(())
+}
+
+/// Places an object of the size and the byte in group 0.
+fn put_one(alloc: Global, shelf: &mut Shelf, size: u32, byte: u8) -> Result<(), AllocError>
+    requires size { IsSize size }
+    requires fits { AreNamed (get shelf.old.names.places) (live_at shelf.old.region) }
+    ensures fits { AreNamed (get shelf.new.names.places) (live_at shelf.new.region) }
+{
+    if shelf.region.free_segments() > 1 {
+        go_on(shelf, 0);
+    }
+    match place(alloc, shelf, 0, size, byte)? {
+        Some(name) => note(&mut shelf.held, name, Some((size, byte))),
+        None => Ok(()),
+    }
+}
+
+/// The object of the name dies.
+pub(super) fn kill_one(shelf: &mut Shelf, name: usize) -> Result<(), AllocError>
+    requires fits { AreNamed (get shelf.old.names.places) (live_at shelf.old.region) }
+    ensures fits { AreNamed (get shelf.new.names.places) (live_at shelf.new.region) }
+{
+    kill(&mut shelf.region, &mut shelf.names, name);
+    note(&mut shelf.held, name, None)
 }
 
 /// Writes the byte over the content of the name.
@@ -86,29 +98,56 @@ fn freed_in_a_thousand_calls(
 {
     let mut freed = 0u32;
     for _ in 0..1000 {
-        if random.next_word() % 32 > 0 {
-            one_call(alloc, shelf, random)?;
-            continue;
-        }
-        if !are_held(shelf) {
+        let Some(more) = freed_in_a_call(alloc, shelf, random)? else {
             return Ok(None);
-        }
-        if compact_all(shelf) == Some(Compacted::Freed) {
-            freed = freed.saturating_add(1);
-        }
-        if !are_held(shelf) {
-            return Ok(None);
-        }
+        };
+        freed = freed.saturating_add(more);
     }
     Ok(Some(freed))
 }
 
+/// The same of one call, of which one in 32 is a pass.
+fn freed_in_a_call(
+    alloc: Global,
+    shelf: &mut Shelf,
+    random: &mut Lcg64Xsh32,
+) -> Result<Option<u32>, AllocError>
+    requires fits { AreNamed (get shelf.old.names.places) (live_at shelf.old.region) }
+    ensures fits { AreNamed (get shelf.new.names.places) (live_at shelf.new.region) }
+{
+    if random.next_word() % 32 > 0 {
+        one_call(alloc, shelf, random)?;
+        return Ok(Some(0));
+    }
+    Ok(freed_in_a_pass(shelf))
+}
+
+fn freed_in_a_pass(shelf: &mut Shelf) -> Option<u32>
+    requires fits { AreNamed (get shelf.old.names.places) (live_at shelf.old.region) }
+    ensures fits { AreNamed (get shelf.new.names.places) (live_at shelf.new.region) }
+{
+    let before = are_held(shelf);
+    let freed = compact_all(shelf) == Some(Compacted::Freed);
+    if before && are_held(shelf) {
+        Some(u32::from(freed))
+    } else {
+        None
+    }
+}
+
+/// The segment with which a group begins, and how many are freed then.
+fn drawn_calls(alloc: Global) -> Result<(Option<u32>, Option<u32>), AllocError> {
+    let mut shelf = new_shelf(alloc, 1)?;
+    let mut random = Lcg64Xsh32::new(7, 1);
+    let active = go_on(&mut shelf, 0);
+    let freed = freed_in_a_thousand_calls(alloc, &mut shelf, &mut random);
+    drop(shelf);
+    Ok((active, freed?))
+}
+
 #[test]
 fn each_name_keeps_its_content_through_a_thousand_calls(rt: HostRuntime) -> Result<(), Fail> {
-    let mut shelf = new_shelf(rt.alloc(), 1)?;
-    let mut random = Lcg64Xsh32::new(7, 1);
-    assert_eq!(rt; go_on(&mut shelf, 0), Some(0));
-    let freed = freed_in_a_thousand_calls(rt.alloc(), &mut shelf, &mut random)?;
-    assert!(rt; freed > Some(10));
+    let (active, freed) = drawn_calls(rt.alloc())?;
+    assert_eq!(rt; (active, freed > Some(10)), (Some(0), true));
     Ok(())
 }

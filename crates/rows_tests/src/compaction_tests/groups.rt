@@ -6,7 +6,7 @@ use std::test::Fail;
 
 #[test]
 fn a_guarded_group_stays_and_the_other_is_compacted(rt: HostRuntime) -> Result<(), Fail> {
-    let steps = [
+    const STEPS: &[Step] = &[
         Step::FillIn(0, 7, 0),
         Step::FillIn(1, 8, 1),
         Step::GoOnIn(0, 2),
@@ -35,13 +35,13 @@ fn a_guarded_group_stays_and_the_other_is_compacted(rt: HostRuntime) -> Result<(
         Step::Free(3),
         Step::Compact(Some(Compacted::NoneSparse)),
     ];
-    assert_eq!(rt; wrong_of(rt.alloc(), 2, &steps)?, None);
+    assert_eq!(rt; wrong_of(rt.alloc(), 2, STEPS)?, None);
     Ok(())
 }
 
 #[test]
 fn of_equals_the_lower_number_goes_first_whatever_its_group(rt: HostRuntime) -> Result<(), Fail> {
-    let steps = [
+    const STEPS: &[Step] = &[
         Step::FillIn(1, 7, 0),
         Step::FillIn(0, 8, 1),
         Step::GoOnIn(0, 2),
@@ -59,7 +59,7 @@ fn of_equals_the_lower_number_goes_first_whatever_its_group(rt: HostRuntime) -> 
         Step::PlaceOf(18, Some((2, 0))),
         Step::PlaceOf(19, Some((2, 12_296))),
     ];
-    assert_eq!(rt; wrong_of(rt.alloc(), 2, &steps)?, None);
+    assert_eq!(rt; wrong_of(rt.alloc(), 2, STEPS)?, None);
     Ok(())
 }
 
@@ -67,7 +67,7 @@ fn of_equals_the_lower_number_goes_first_whatever_its_group(rt: HostRuntime) -> 
 fn the_sparsest_of_one_group_is_emptied_where_another_has_a_sparser_one(
     rt: HostRuntime,
 ) -> Result<(), Fail> {
-    let steps = [
+    const STEPS: &[Step] = &[
         Step::FillIn(0, 7, 0),
         Step::FillIn(1, 8, 1),
         Step::GoOnIn(0, 2),
@@ -86,13 +86,13 @@ fn the_sparsest_of_one_group_is_emptied_where_another_has_a_sparser_one(
         Step::GuardIn(1),
         Step::CompactIn(1, Some(Compacted::Guarded)),
     ];
-    assert_eq!(rt; wrong_of(rt.alloc(), 2, &steps)?, None);
+    assert_eq!(rt; wrong_of(rt.alloc(), 2, STEPS)?, None);
     Ok(())
 }
 
 #[test]
 fn a_pass_closes_the_spent_segment_of_the_lowest_group(rt: HostRuntime) -> Result<(), Fail> {
-    let steps = [
+    const STEPS: &[Step] = &[
         Step::FillIn(1, 7, 0),
         Step::FillIn(0, 8, 1),
         Step::FillIn(1, 9, 2),
@@ -113,6 +113,6 @@ fn a_pass_closes_the_spent_segment_of_the_lowest_group(rt: HostRuntime) -> Resul
         Step::Holds(34, 12_296, 10),
         Step::Holds(25, 12_296, 9),
     ];
-    assert_eq!(rt; wrong_of(rt.alloc(), 2, &steps)?, None);
+    assert_eq!(rt; wrong_of(rt.alloc(), 2, STEPS)?, None);
     Ok(())
 }

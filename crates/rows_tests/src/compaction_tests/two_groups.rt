@@ -3,8 +3,8 @@ ghost use Rattle.slab.specs.Slab.{get};
 ghost use Rattle.regions.specs.Contents.{live_at};
 ghost use Rattle.rows_tests.specs.Names.{AreNamed};
 
-use super::calls::{size_of, write_one};
-use super::names::{kill, place_of};
+use super::calls::{kill_one, size_of, write_one};
+use super::names::place_of;
 use super::{
     Shelf, are_held, compact, compact_all, compact_group, go_on, guard, is_kept, keep, new_shelf,
     note, place, unguard,
@@ -74,19 +74,19 @@ fn one_call(
     let group = random.next_word() % 2;
     let name = random.next_word() as usize % 128;
     match draw % 16 {
-        0..=6 => put_one(alloc, shelf, drawn, group, random)?,
-        7..=11 => {
-            kill(&mut shelf.region, &mut shelf.names, name);
-            note(&mut shelf.held, name, None)?;
+        0..=6 => put_one(alloc, shelf, drawn, group, random),
+        7..=11 => kill_one(shelf, name),
+        12..=13 => write_one(alloc, shelf, name, (draw >> 24) as u8),
+        14 => {
+            guard(shelf, group);
+            Ok(())
         }
-        12..=13 => write_one(alloc, shelf, name, (draw >> 24) as u8)?,
-        14 => guard(shelf, group),
         _ => {
             unguard(shelf, 0);
             unguard(shelf, 1);
+            Ok(())
         }
     }
-    Ok(())
 }
 
 fn put_one(
@@ -183,22 +183,30 @@ fn goes_well(
     Ok(true)
 }
 
+/// The segments with which two groups begin, whether all goes well then, how many segments were freed, and how often a guard
+/// stood in the way.
+fn drawn_steps(alloc: Global) -> Result<([Option<u32>; 2], bool, u32, u32), AllocError> {
+    let mut shelf = new_shelf(alloc, 2)?;
+    let mut random = Lcg64Xsh32::new(7, 1);
+    let active = [go_on(&mut shelf, 0), go_on(&mut shelf, 1)];
+    let mut drawn = Drawn {
+        groups: Vec::new(alloc),
+        freed: 0,
+        guarded: 0,
+    };
+    let well = goes_well(alloc, &mut shelf, &mut drawn, &mut random);
+    let (freed, guarded) = (drawn.freed, drawn.guarded);
+    drop(drawn);
+    drop(shelf);
+    Ok((active, well?, freed, guarded))
+}
+
 #[test]
 fn each_name_keeps_its_content_and_its_group_through_ten_thousand_steps(
     rt: HostRuntime,
 ) -> Result<(), Fail> {
-    let mut shelf = new_shelf(rt.alloc(), 2)?;
-    let mut random = Lcg64Xsh32::new(7, 1);
-    assert_eq!(rt; go_on(&mut shelf, 0), Some(0));
-    assert_eq!(rt; go_on(&mut shelf, 1), Some(1));
-    let mut drawn = Drawn {
-        groups: Vec::new(rt.alloc()),
-        freed: 0,
-        guarded: 0,
-    };
-    let well = goes_well(rt.alloc(), &mut shelf, &mut drawn, &mut random)?;
-    assert!(rt; well);
-    assert!(rt; drawn.freed > 10);
-    assert!(rt; drawn.guarded > 10);
+    let (active, well, freed, guarded) = drawn_steps(rt.alloc())?;
+    assert_eq!(rt; active, [Some(0), Some(1)]);
+    assert_eq!(rt; (well, freed > 10, guarded > 10), (true, true, true));
     Ok(())
 }

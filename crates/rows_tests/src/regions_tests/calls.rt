@@ -82,7 +82,12 @@ pub(super) fn write_both(region: &mut Region) -> bool {
     };
     region.bytes_mut(second).fill(9);
     overwrite(region, first, &[7; 40]);
-    region.bytes(first) == [7u8; 40].as_slice() && region.bytes(second) == [9u8; 8].as_slice()
+    let sevens = has_sevens(region.bytes(first));
+    sevens & (region.bytes(second) == [9u8; 8].as_slice())
+}
+
+fn has_sevens(content: &[u8]) -> bool {
+    content == [7u8; 40].as_slice()
 }
 
 // An object that dies at once.
@@ -173,12 +178,11 @@ pub(super) fn serves_dead(region: &mut Region) -> Option<bool> {
     region.guard(0);
     region.guard(0);
     region.kill(place);
-    let three = region.bytes(place) == [7u8; 40].as_slice();
+    let three = has_sevens(region.bytes(place));
     region.unguard(0);
-    let two = region.bytes(place) == [7u8; 40].as_slice();
+    let two = has_sevens(region.bytes(place));
     region.unguard(0);
-    let one = region.bytes(place) == [7u8; 40].as_slice();
-    Some(three && two && one)
+    Some(three & two & has_sevens(region.bytes(place)))
 }
 
 // A copy of the live object behind those of the active segment, and where it stands.
@@ -219,7 +223,7 @@ pub(super) fn copy_beside(region: &mut Region) -> bool {
     };
     overwrite(region, first, &[7; 40]);
     region.copy(first, second);
-    region.bytes(first) == [7u8; 40].as_slice() && region.bytes(second) == [7u8; 40].as_slice()
+    has_sevens(region.bytes(first)) & has_sevens(region.bytes(second))
 }
 
 // The owner of a piece.

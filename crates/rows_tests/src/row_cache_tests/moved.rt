@@ -66,14 +66,14 @@ fn halve(alloc: Global, trial: &mut Trial) -> Result<bool, AllocError> {
 
 /// Whether the rows that are left stand before and after one of the two segments is freed.
 fn stand_moved(alloc: Global, trial: &mut Trial) -> Result<bool, AllocError> {
-    let steps = [
+    const STEPS: &[Step] = &[
         Step::Free(1, 131_072),
         Step::Compact(Some(Compacted::Freed)),
         Step::Free(2, 69_592),
         Step::Size(10, 122_960),
     ];
     let stood = odd_rows_stand(alloc, trial)?;
-    let moved = first_wrong(trial, &steps).is_none();
+    let moved = first_wrong(trial, STEPS).is_none();
     Ok(stood && moved && odd_rows_stand(alloc, trial)?)
 }
 

@@ -26,17 +26,22 @@ fn key_of(number: u32) -> [u8; 16] {
     key
 }
 
+/// Takes a row of the key, where there is room and the table takes it.
+fn insert(table: &mut KeyTable, key: &[u8], row: u32)
+    requires { row < 200 }
+{
+    if table.len() < table.room() {
+        let _taken = table.insert(Spot::new(key), row);
+    }
+}
+
 /// Of how many keys of one tag a table takes the rows, and of how many of the numbers alone.
 fn taken(alloc: Global) -> Result<(u32, u32), AllocError> {
     let mut colliding = KeyTable::new(alloc, 200)?;
     let mut others = KeyTable::new(alloc, 200)?;
     for row in 0..200u32 {
-        if colliding.len() < colliding.room() {
-            let _taken = colliding.insert(Spot::new(&key_of(row)), row);
-        }
-        if others.len() < others.room() {
-            let _taken = others.insert(Spot::new(row.to_le_bytes().as_slice()), row);
-        }
+        insert(&mut colliding, &key_of(row), row);
+        insert(&mut others, row.to_le_bytes().as_slice(), row);
     }
     Ok((colliding.len(), others.len()))
 }

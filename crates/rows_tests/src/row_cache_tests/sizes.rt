@@ -65,14 +65,14 @@ fn count_fronts(trial: &Trial, key: &[u8]) -> u32 {
 
 /// Whether two of the fronts of a key, which fill the cache, are erased, and no other.
 fn two_go(trial: &mut Trial, key: &[u8]) -> bool {
-    let steps = [
+    const STEPS: &[Step] = &[
         Step::Size(256, 76_800),
         Step::Put(&[255], b"", 8, Some(Put::Replaced)),
         Step::Put(&[254], b"", 9, None),
         Step::Erase(&[255], true),
         Step::Erase(&[255, 255], true),
     ];
-    first_wrong(trial, &steps).is_none() && count_fronts(trial, key) == 254
+    first_wrong(trial, STEPS).is_none() && count_fronts(trial, key) == 254
 }
 
 /// How many fronts of the longest key are stored, how many have their values, and whether two of them go.

@@ -1,8 +1,8 @@
 //! A report whose pieces are made on threads.
+use super::written::{Run, writes_on};
 use super::{journal_of, log_of, trace_of};
 use cache_model::{Entry, ReplyKind};
-use outside::MemorySink;
-use report_text::{ShardLine, write_report_on};
+use report_text::ShardLine;
 use std::alloc::{AllocError, Global};
 use std::test::Fail;
 
@@ -24,6 +24,15 @@ fn text_of_gets(alloc: Global) -> Result<Vec<u8>, AllocError> {
     Ok(answers)
 }
 
+/// What is done of these gets, in order.
+fn entries_of_gets(alloc: Global) -> Result<Vec<Entry>, AllocError> {
+    let mut entries = Vec::new(alloc);
+    for number in 1..=GETS {
+        entries.push(Entry::Done(number))?;
+    }
+    Ok(entries)
+}
+
 #[test]
 fn a_report_that_is_made_in_pieces_has_all_of_them_in_order(rt: HostRuntime) -> Result<(), Fail> {
     let gets = b"get a\n".repeat(rt.alloc(), GETS as usize)?;
@@ -31,33 +40,23 @@ fn a_report_that_is_made_in_pieces_has_all_of_them_in_order(rt: HostRuntime) -> 
     let missing: (ReplyKind, &[u8]) = (ReplyKind::Missing, b"");
     let replies = vec![in rt.alloc(); missing; GETS as usize]?;
     let logs = [log_of(&rt, rt.alloc(), &trace, &replies)?];
-    let mut entries = Vec::new(rt.alloc());
-    for number in 1..=GETS {
-        entries.push(Entry::Done(number))?;
-    }
-    let journals = [journal_of(rt.alloc(), &entries)?];
+    let journals = [journal_of(rt.alloc(), &entries_of_gets(rt.alloc())?)?];
     let line = ShardLine {
         rows: 0,
         live: 0,
         lent: 0,
         back: 0,
     };
+    let run = Run {
+        trace: &trace,
+        shards: 1,
+        logs: &logs,
+        journals: &journals,
+        lines: &[line],
+    };
     let text = text_of_gets(rt.alloc())?;
     for threads in [1, 2, 3, 5] {
-        let mut sink = MemorySink::new(rt.alloc(), 1_000_000)?;
-        let met = write_report_on(
-            &rt,
-            rt.alloc(),
-            threads,
-            &mut sink,
-            &trace,
-            1,
-            &logs,
-            &journals,
-            &[line],
-        );
-        assert_eq!(rt; met, Ok(()));
-        assert!(rt; sink.bytes() == text.as_slice());
+        assert!(rt; writes_on(&rt, rt.alloc(), threads, &run, &text)?);
     }
     Ok(())
 }

@@ -8,9 +8,6 @@ use Rattle.rows_tests.proofs.compaction_tests.new_shelf.Goals as goal
 
 pub returns : goal.returns
 returns c =
-    let none : (p : Place) → standing_at c.add_to_groups.new.region p ≡ None =
-    λ p.
-    c.add_to_groups.ensures p ∙ c.add_segment-4.ensures.objects p ∙ c.add_segment-3.ensures.objects p ∙ c.add_segment-2.ensures.objects p ∙ c.add_segment.ensures.objects p
-    ∙ none-stands c.in_ok-region.region 5 p (ap (λ r. r.segments) c.in_ok-region.ensures)
-    in
-    named-none (get c.new-2.result.places) (live_at c.add_to_groups.new.region) c.new-2.ensures (λ p. ap item_if_live (none p))
+    let none : (p : Place) → standing_at c.add_segments.new.region p ≡ None =
+    λ p. c.in_ok-add_segments.ensures p ∙ none-stands c.in_ok-region.region 5 p (ap (λ r. r.segments) c.in_ok-region.ensures) in
+    named-none (get c.new-2.result.places) (live_at c.add_segments.new.region) c.new-2.ensures (λ p. ap item_if_live (none p))
