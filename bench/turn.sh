@@ -8,14 +8,14 @@ turns=${1:-1000000}
 runs=${2:-7}
 work=$(mktemp -d)
 trap 'rm -rf "$work"' EXIT
-(cd "$top/crates/bench_turns" && rt run -- 1000 turns >"$work/build.log" 2>&1) || { cat "$work/build.log" >&2; exit 1; }
+(cd "$top/crates/timed" && rt run -- turns 1000 turns >"$work/build.log" 2>&1) || { cat "$work/build.log" >&2; exit 1; }
 
 # the least time of some runs, in nanoseconds
 time_of() {
     local least=
     for _ in $(seq "$runs"); do
         local spent
-        spent=$( { TIMEFORMAT='%U %S'; time "$top/crates/bench_turns/out/bench_turns" "$turns" "$1" >/dev/null; } 2>&1 | awk '{ printf "%.0f", ($1 + $2) * 1e9 }')
+        spent=$( { TIMEFORMAT='%U %S'; time "$top/crates/timed/out/timed" turns "$turns" "$1" >/dev/null; } 2>&1 | awk '{ printf "%.0f", ($1 + $2) * 1e9 }')
         if [ -z "$least" ] || [ "$spent" -lt "$least" ]; then least=$spent; fi
     done
     echo "$least"

@@ -1,6 +1,6 @@
 //! The parts that are timed, one at a time, by the scripts of bench/.
 //!
-//! The first word is the part: `pools`, `index`, `table`, `blocks`, `compaction` or `fragments`. The others are
+//! The first word is the part: `pools`, `index`, `table`, `blocks`, `compaction`, `fragments` or `turns`. The others are
 //! those of the part's `run`, in their order; a number that is none is 0. Each prints a line of what it did, which is the same
 //! in each run; a script measures the time. `all` does a little of each.
 #![tactic(auto)]
@@ -11,6 +11,7 @@ mod index;
 mod pools;
 mod rounds;
 mod table;
+mod turns;
 mod values;
 
 use std::alloc::{AllocError, Global};
@@ -24,7 +25,7 @@ fn main(rt: HostRuntime) -> io::Result<()> {
         words.push(word)?;
     }
     let mut lines = Vec::new(rt.alloc());
-    if word_of(&words, 1) == "all" {
+    if word(&words, 1) == "all" {
         add_all(&rt, rt.alloc(), &mut lines)?;
     } else {
         lines.push(line_of(&rt, rt.alloc(), &words)?)?;
@@ -36,7 +37,7 @@ fn main(rt: HostRuntime) -> io::Result<()> {
 }
 
 /// The word at a place, or an empty one.
-fn word_of(words: &[String], at: usize) -> &str {
+fn word(words: &[String], at: usize) -> &str {
     match words.get(at) {
         Some(word) => word.as_str(),
         None => "",
@@ -44,8 +45,8 @@ fn word_of(words: &[String], at: usize) -> &str {
 }
 
 /// The number that the word at a place spells, or 0.
-fn number_of(words: &[String], at: usize) -> u32 {
-    word_of(words, at).parse::<u32>().unwrap_or(0)
+fn number(words: &[String], at: usize) -> u32 {
+    word(words, at).parse::<u32>().unwrap_or(0)
 }
 
 /// Runs the part that the first word names.
@@ -54,22 +55,34 @@ fn line_of<R: Threads + Wait + Sync>(
     alloc: Global,
     words: &[String],
 ) -> Result<String, AllocError> {
-    let number = |at: usize| number_of(words, at);
-    let word = |at: usize| word_of(words, at);
-    match word(1) {
-        "pools" => pools::run(alloc, number(2), number(3), number(4)),
-        "index" => index::run(alloc, word(2), number(3), word(4), word(5) == "nodes"),
-        "table" => table::run(alloc, word(2), number(3), word(4)),
-        "blocks" => blocks::run(rt, alloc, number(2), word(3)),
+    match word(words, 1) {
+        "pools" => pools::run(alloc, number(words, 2), number(words, 3), number(words, 4)),
+        "index" => index::run(
+            alloc,
+            word(words, 2),
+            number(words, 3),
+            word(words, 4),
+            word(words, 5) == "nodes",
+        ),
+        "table" => table::run(alloc, word(words, 2), number(words, 3), word(words, 4)),
+        "blocks" => blocks::run(rt, alloc, number(words, 2), word(words, 3)),
         "compaction" => compacted::run(
             alloc,
-            number(2),
-            number(3),
-            number(4),
-            number(5) == 1,
-            number(6),
+            number(words, 2),
+            number(words, 3),
+            number(words, 4),
+            number(words, 5) == 1,
+            number(words, 6),
         ),
-        "fragments" => values::run(alloc, word(2), number(3), number(4), number(5), number(6)),
+        "fragments" => values::run(
+            alloc,
+            word(words, 2),
+            number(words, 3),
+            number(words, 4),
+            number(words, 5),
+            number(words, 6),
+        ),
+        "turns" => turns::run(alloc, number(words, 2), word(words, 3)),
         _ => String::from_str(alloc, "no such part"),
     }
 }
@@ -89,5 +102,6 @@ fn add_all<R: Threads + Wait + Sync>(
     lines.push(blocks::run(rt, alloc, 33_334, "three")?)?;
     lines.push(compacted::run(alloc, 6, 1000, 50, true, 500)?)?;
     lines.push(values::run(alloc, "put", 65_536, 3, 8, 5)?)?;
+    lines.push(turns::run(alloc, 1000, "turns")?)?;
     Ok(())
 }

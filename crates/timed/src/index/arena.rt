@@ -1,5 +1,4 @@
 //! Keys of one length.
-ghost use Rattle.std.specs.Prelude.{◌≡◌, true};
 
 use super::kinds::Kind;
 use crate::rounds::RowKeys;

@@ -1,5 +1,4 @@
 //! Keys that look like chance, and keys of one hash.
-ghost use Rattle.std.specs.Prelude.{◌≡◌, true};
 
 use crate::rounds::RowKeys;
 use key_index::Keys;
