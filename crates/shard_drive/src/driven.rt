@@ -1,5 +1,5 @@
 //! What can be driven.
-ghost use Rattle.std.specs.Prelude.{◌≡◌, ℕ, ◌<◌, ◌≤◌, length, slice_set, true, All};
+ghost use Rattle.std.specs.Prelude.{◌≡◌, ◌↔◌, ℕ, ◌<◌, ◌≤◌, length, slice_set, All, IsTrue};
 ghost use Rattle.std.specs.List.{slice_index_or};
 ghost use Rattle.layout.specs.Counts.{counted, greatest_count};
 ghost use Rattle.shard_node.specs.Standing.{InStanding};
@@ -31,7 +31,7 @@ pub(crate) trait Driven {
 
     /// Whether it is done.
     fn has_finished(&self) -> bool
-        ensures { stands self.now → result ≡ true → is_done self.now };
+        ensures { stands self.now → (IsTrue result ↔ is_done self.now) };
 
     /// How many turns it made.
     fn turns_made(&self) -> u64
@@ -75,7 +75,7 @@ pub(crate) fn turn_of<N: Driven>(nodes: &mut [N], k: usize)
 /// Whether all are done.
 pub(crate) fn have_finished<N: Driven>(nodes: &[N]) -> bool
     requires { All N.stands nodes.now }
-    ensures { result ≡ true → All N.is_done nodes.now }
+    ensures { IsTrue result ↔ All N.is_done nodes.now }
 {
     for node in nodes {
         if !node.has_finished() {
