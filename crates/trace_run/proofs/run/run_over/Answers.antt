@@ -5,9 +5,9 @@ use Rattle.trace_text.specs.Parsed.{trace_in}
 use Rattle.shard_rings.specs.Links.{traffic_of}
 use Rattle.shard_node.specs.Standing.{InStanding}
 use Rattle.shard_run.specs.Opening.{AreAtRest}
-use Rattle.shardcache.specs.inside.Finished.{IsRunOf}
-use Rattle.shardcache.proofs.Runs.{all-standing, driven-after}
-use Rattle.shardcache.proofs.run.run_over.Goals as goal
+use Rattle.trace_run.specs.Finished.{IsRunOf}
+use Rattle.trace_run.proofs.Runs.{all-standing, driven-after}
+use Rattle.trace_run.proofs.run.run_over.Goals as goal
 
 pub drive-requires-clause-standing : goal.drive-requires-clause-standing
 drive-requires-clause-standing g c κs within =

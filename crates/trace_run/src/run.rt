@@ -10,10 +10,7 @@ ghost use Rattle.shard_drive.specs.Drives.{AtEach};
 ghost use Rattle.shard_run.specs.Opening.{AreAtRest};
 ghost use Rattle.shard_run.specs.Remaining.{IsRoomFor};
 ghost use Rattle.shard_run.specs.Running.{WereDriven};
-ghost use Rattle.shardcache.specs.inside.Finished.{IsRunOf};
-
-#[cfg(test)]
-mod tests;
+ghost use Rattle.trace_run.specs.Finished.{IsRunOf};
 
 use cache_model::logs_hold_the_answers;
 use foreign_list::{Foreign, OwnerSeat};

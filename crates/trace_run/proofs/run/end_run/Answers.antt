@@ -1,8 +1,8 @@
 -- From nodes that are done to what they left.
 use Rattle.std.proofs.Common.{subst}
 use Rattle.trace_text.specs.Parsed.{AreNumbered}
-use Rattle.shardcache.proofs.Runs.{run_of}
-use Rattle.shardcache.proofs.run.end_run.Goals as goal
+use Rattle.trace_run.proofs.Runs.{run_of}
+use Rattle.trace_run.proofs.run.end_run.Goals as goal
 
 pub returns-clause-run : goal.returns-clause-run
 returns-clause-run g c =

@@ -18,8 +18,8 @@ use Rattle.shard_node.specs.Turns.{IsDone, IsSameNode}
 use Rattle.shard_drive.specs.Drives.{AtEach}
 use Rattle.shard_run.specs.Opening.{AreOpened}
 use Rattle.shard_run.specs.Running.{IsRun, WereDriven, journals_of, logs_of}
-use Rattle.shardcache.specs.inside.Finished.{IsRunOf}
-use Rattle.shardcache.proofs.Numbered.{command_at, numbered}
+use Rattle.trace_run.specs.Finished.{IsRunOf}
+use Rattle.trace_run.proofs.Numbered.{command_at, numbered}
 
 -- the law of logs, as its function promises it
 abbrev pub LogLaw : Type 0
