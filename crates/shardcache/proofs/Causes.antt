@@ -13,7 +13,7 @@ use Rattle.settings.specs.declared.settings.mode.Mode.TheVariants.{Run, Sim, Gen
 use Rattle.shardcache.specs.declared.status.Status.{Status}
 use Rattle.shardcache.specs.declared.status.Status.TheVariants as status
 use Rattle.settings.specs.Settings.{Settings, settings}
-use Rattle.shardcache.specs.Table.{Does, FollowsTable, IsReadOut, IsScriptReadOut, ReadsScript, ReadsTrace, Refuses, is_accepted}
+use Rattle.shardcache.specs.Table.{Does, FollowsTable, IsReadOut, IsScriptReadOut, Reads, ReadsScript, ReadsTrace, Refuses, is_accepted}
 use Rattle.shardcache.specs.TraceFor.{trace_for}
 use Rattle.shardcache.proofs.TableRows.{is_too_long, is_too_long_script}
 
@@ -44,60 +44,61 @@ script_same meaning bytes taken left took reads = go meaning reads.script reads.
     go (Err script_refusal.TooLong) is out = let few = few_taken bytes taken left took in is_too_long_script bytes (omega (arith, few, out))
     go (Err (script_refusal.AtLine number cause)) is out = ap script_of (sym (all_taken bytes taken left took out)) ∙ is
 
--- what was done was accepted, and what was refused was not
-does_accepted : (mode : Mode) (found : Settings) (bytes taken : List ℕ) (left : Option (List ℕ)) (ran : Option RanState) (text : List ℕ) → Consumes (Some bytes) left taken
-    → Does mode found taken left ran text → is_accepted mode found bytes ≡ true
-does_accepted Run found bytes taken left ran text took does = ap is_ok (read_same found (Ok does.0) bytes taken left took does.1)
-does_accepted Sim found bytes taken left ran text took does = ap is_ok (read_same found (Ok does.0) bytes taken left took does.1)
-does_accepted Gen found bytes taken left ran text took does = ap is_ok does.1.trace
-does_accepted Dirty found bytes taken left ran text took does = ap is_ok (read_same found (Ok does.0) bytes taken left took does.1)
-does_accepted Index found bytes taken left ran text took does = ap is_ok (read_same found (Ok does.0) bytes taken left took does.1)
-does_accepted Values found bytes taken left ran text took does = ap is_ok (script_same (Ok does.0) bytes taken left took does.1)
+of_source : (bytes taken : List ℕ) (before left : Option (List ℕ)) → before ≡ Some bytes → Consumes before left taken → Consumes (Some bytes) left taken
+of_source bytes taken before left is took = subst (λ b. Consumes b left taken) is took
 
-refuses_accepted : (mode : Mode) (found : Settings) (bytes taken : List ℕ) (left : Option (List ℕ)) (text : List ℕ) → Consumes (Some bytes) left taken
+-- what was done was accepted, and what was refused was not
+does_accepted : (mode : Mode) (found : Settings) (bytes taken : List ℕ) (before left : Option (List ℕ)) (ran : Option RanState) (text : List ℕ) → (Reads mode → before ≡ Some bytes) → Consumes before left taken
+    → Does mode found taken left ran text → is_accepted mode found bytes ≡ true
+does_accepted Run found bytes taken before left ran text told took does = ap is_ok (read_same found (Ok does.0) bytes taken left (of_source bytes taken before left (told tt) took) does.1)
+does_accepted Sim found bytes taken before left ran text told took does = ap is_ok (read_same found (Ok does.0) bytes taken left (of_source bytes taken before left (told tt) took) does.1)
+does_accepted Gen found bytes taken before left ran text told took does = ap is_ok does.1.trace
+does_accepted Dirty found bytes taken before left ran text told took does = ap is_ok (read_same found (Ok does.0) bytes taken left (of_source bytes taken before left (told tt) took) does.1)
+does_accepted Index found bytes taken before left ran text told took does = ap is_ok (read_same found (Ok does.0) bytes taken left (of_source bytes taken before left (told tt) took) does.1)
+does_accepted Values found bytes taken before left ran text told took does = ap is_ok (script_same (Ok does.0) bytes taken left (of_source bytes taken before left (told tt) took) does.1)
+
+refuses_accepted : (mode : Mode) (found : Settings) (bytes taken : List ℕ) (before left : Option (List ℕ)) (text : List ℕ) → (Reads mode → before ≡ Some bytes) → Consumes before left taken
     → Refuses mode found taken left text → is_accepted mode found bytes ≡ false
-refuses_accepted Run found bytes taken left text took refuses = ap is_ok (read_same found (Err refuses.0) bytes taken left took refuses.1)
-refuses_accepted Sim found bytes taken left text took refuses = ap is_ok (read_same found (Err refuses.0) bytes taken left took refuses.1)
-refuses_accepted Gen found bytes taken left text took refuses = ap is_ok refuses.1.trace
-refuses_accepted Dirty found bytes taken left text took refuses = ap is_ok (read_same found (Err refuses.0) bytes taken left took refuses.1)
-refuses_accepted Index found bytes taken left text took refuses = ap is_ok (read_same found (Err refuses.0) bytes taken left took refuses.1)
-refuses_accepted Values found bytes taken left text took refuses = ap is_ok (script_same (Err refuses.0) bytes taken left took refuses.1)
+refuses_accepted Run found bytes taken before left text told took refuses = ap is_ok (read_same found (Err refuses.0) bytes taken left (of_source bytes taken before left (told tt) took) refuses.1)
+refuses_accepted Sim found bytes taken before left text told took refuses = ap is_ok (read_same found (Err refuses.0) bytes taken left (of_source bytes taken before left (told tt) took) refuses.1)
+refuses_accepted Gen found bytes taken before left text told took refuses = ap is_ok refuses.1.trace
+refuses_accepted Dirty found bytes taken before left text told took refuses = ap is_ok (read_same found (Err refuses.0) bytes taken left (of_source bytes taken before left (told tt) took) refuses.1)
+refuses_accepted Index found bytes taken before left text told took refuses = ap is_ok (read_same found (Err refuses.0) bytes taken left (of_source bytes taken before left (told tt) took) refuses.1)
+refuses_accepted Values found bytes taken before left text told took refuses = ap is_ok (script_same (Err refuses.0) bytes taken left (of_source bytes taken before left (told tt) took) refuses.1)
 
 one_wanted : (found wanted : Settings) (words : List (List ℕ)) → settings words ≡ Some found → settings words ≡ Some wanted → found ≡ wanted
 one_wanted found wanted words is asked = let e : Some found ≡ Some wanted = sym is ∙ asked in cc
 
-pub accepted : (answered : Status) (ran : Option RanState) (words : List (List ℕ)) (before left before_sink after_sink : Option (List ℕ)) (bytes : List ℕ) (wanted : Settings)
-    → FollowsTable answered ran words before left before_sink after_sink → before ≡ Some bytes → settings words ≡ Some wanted
+pub accepted : (failed : Type 0) (answered : Status) (ran : Option RanState) (words : List (List ℕ)) (before left before_sink after_sink : Option (List ℕ)) (bytes : List ℕ) (wanted : Settings)
+    → FollowsTable failed answered ran words before left before_sink after_sink → (Reads wanted.mode → before ≡ Some bytes) → settings words ≡ Some wanted
     → is_accepted wanted.mode wanted bytes ≡ true → (answered ≡ status.ReadFault → ⊥) → (answered ≡ status.WriteFault → ⊥)
     → (answered ≡ status.Done) ⊎ (answered ≡ status.Memory)
-accepted status.Done ran words before left before_sink after_sink bytes wanted follows is asked ok no_read no_write = inl refl
-accepted status.Usage ran words before left before_sink after_sink bytes wanted follows is asked ok no_read no_write =
+accepted failed status.Done ran words before left before_sink after_sink bytes wanted follows is asked ok no_read no_write = inl refl
+accepted failed status.Usage ran words before left before_sink after_sink bytes wanted follows is asked ok no_read no_write =
     let none : settings words ≡ None = follows.row.1 in absurd (let e : None ≡ Some wanted = sym none ∙ asked in cc)
-accepted status.Refused ran words before left before_sink after_sink bytes wanted follows is asked ok no_read no_write =
+accepted failed status.Refused ran words before left before_sink after_sink bytes wanted follows is asked ok no_read no_write =
     let row = follows.row in
-    let took = subst (λ b. Consumes b left follows.taken) is follows.took in
-    let no : is_accepted row.1.mode row.1 bytes ≡ false = refuses_accepted row.1.mode row.1 bytes follows.taken left follows.text took row.3 in
+    let no : is_accepted row.1.mode row.1 bytes ≡ false = refuses_accepted row.1.mode row.1 bytes follows.taken before left follows.text (λ reads. is (subst (λ w. Reads w.mode) (one_wanted row.1 wanted words row.2 asked) reads)) follows.took row.3 in
     let yes : is_accepted row.1.mode row.1 bytes ≡ true = subst (λ w. is_accepted w.mode w bytes ≡ true) (sym (one_wanted row.1 wanted words row.2 asked)) ok in
     let e : false ≡ true = sym no ∙ yes in
     cc
-accepted status.ReadFault ran words before left before_sink after_sink bytes wanted follows is asked ok no_read no_write = absurd (no_read refl)
-accepted status.WriteFault ran words before left before_sink after_sink bytes wanted follows is asked ok no_read no_write = absurd (no_write refl)
-accepted status.Memory ran words before left before_sink after_sink bytes wanted follows is asked ok no_read no_write = inr refl
+accepted failed status.ReadFault ran words before left before_sink after_sink bytes wanted follows is asked ok no_read no_write = absurd (no_read refl)
+accepted failed status.WriteFault ran words before left before_sink after_sink bytes wanted follows is asked ok no_read no_write = absurd (no_write refl)
+accepted failed status.Memory ran words before left before_sink after_sink bytes wanted follows is asked ok no_read no_write = inr refl
 
-pub refused : (answered : Status) (ran : Option RanState) (words : List (List ℕ)) (before left before_sink after_sink : Option (List ℕ)) (bytes : List ℕ) (wanted : Settings)
-    → FollowsTable answered ran words before left before_sink after_sink → before ≡ Some bytes → settings words ≡ Some wanted
+pub refused : (failed : Type 0) (answered : Status) (ran : Option RanState) (words : List (List ℕ)) (before left before_sink after_sink : Option (List ℕ)) (bytes : List ℕ) (wanted : Settings)
+    → FollowsTable failed answered ran words before left before_sink after_sink → (Reads wanted.mode → before ≡ Some bytes) → settings words ≡ Some wanted
     → is_accepted wanted.mode wanted bytes ≡ false → (answered ≡ status.ReadFault → ⊥) → (answered ≡ status.WriteFault → ⊥)
     → (answered ≡ status.Refused) ⊎ (answered ≡ status.Memory)
-refused status.Done ran words before left before_sink after_sink bytes wanted follows is asked err no_read no_write =
+refused failed status.Done ran words before left before_sink after_sink bytes wanted follows is asked err no_read no_write =
     let row = follows.row in
-    let took = subst (λ b. Consumes b left follows.taken) is follows.took in
-    let yes : is_accepted row.0.mode row.0 bytes ≡ true = does_accepted row.0.mode row.0 bytes follows.taken left ran follows.text took row.2 in
+    let yes : is_accepted row.0.mode row.0 bytes ≡ true = does_accepted row.0.mode row.0 bytes follows.taken before left ran follows.text (λ reads. is (subst (λ w. Reads w.mode) (one_wanted row.0 wanted words row.1 asked) reads)) follows.took row.2 in
     let no : is_accepted row.0.mode row.0 bytes ≡ false = subst (λ w. is_accepted w.mode w bytes ≡ false) (sym (one_wanted row.0 wanted words row.1 asked)) err in
     let e : false ≡ true = sym no ∙ yes in
     cc
-refused status.Usage ran words before left before_sink after_sink bytes wanted follows is asked err no_read no_write =
+refused failed status.Usage ran words before left before_sink after_sink bytes wanted follows is asked err no_read no_write =
     let none : settings words ≡ None = follows.row.1 in absurd (let e : None ≡ Some wanted = sym none ∙ asked in cc)
-refused status.Refused ran words before left before_sink after_sink bytes wanted follows is asked err no_read no_write = inl refl
-refused status.ReadFault ran words before left before_sink after_sink bytes wanted follows is asked err no_read no_write = absurd (no_read refl)
-refused status.WriteFault ran words before left before_sink after_sink bytes wanted follows is asked err no_read no_write = absurd (no_write refl)
-refused status.Memory ran words before left before_sink after_sink bytes wanted follows is asked err no_read no_write = inr refl
+refused failed status.Refused ran words before left before_sink after_sink bytes wanted follows is asked err no_read no_write = inl refl
+refused failed status.ReadFault ran words before left before_sink after_sink bytes wanted follows is asked err no_read no_write = absurd (no_read refl)
+refused failed status.WriteFault ran words before left before_sink after_sink bytes wanted follows is asked err no_read no_write = absurd (no_write refl)
+refused failed status.Memory ran words before left before_sink after_sink bytes wanted follows is asked err no_read no_write = inr refl

@@ -22,22 +22,22 @@ use Rattle.shardcache.specs.TraceFor.{refusal_text, trace_for}
 use Rattle.shardcache.specs.inside.Ending.{Accepts, AcceptsTrace, EndsOutput, EndsRun, EndsTrace, EndsWith, RefusesLine, RefusesTrace}
 
 -- what was written to its end is as the table says
-writes_all : (wanted : Status) (words : List (List ℕ)) (taken : List ℕ) (left : Option (List ℕ)) (ran : Option RanState) (text : List ℕ)
-    → WritesAll wanted words taken left ran text → Writes wanted words taken left ran text
-writes_all status.Done words taken left ran text row = row
-writes_all status.Usage words taken left ran text row = row
-writes_all status.Refused words taken left ran text row = row
-writes_all status.ReadFault words taken left ran text row = row
-writes_all status.WriteFault words taken left ran text row = absurd row
-writes_all status.Memory words taken left ran text row = absurd row
+writes_all : (failed : Type 0) (wanted : Status) (words : List (List ℕ)) (taken : List ℕ) (left : Option (List ℕ)) (ran : Option RanState) (text : List ℕ)
+    → WritesAll failed wanted words taken left ran text → Writes failed wanted words taken left ran text
+writes_all failed status.Done words taken left ran text row = row
+writes_all failed status.Usage words taken left ran text row = row
+writes_all failed status.Refused words taken left ran text row = row
+writes_all failed status.ReadFault words taken left ran text row = row
+writes_all failed status.WriteFault words taken left ran text row = absurd row
+writes_all failed status.Memory words taken left ran text row = absurd row
 
 -- a text that was written where nothing was run, or a front of it, or nothing
-pub follows_ending : (answered wanted : Status) (ran : Option RanState) (words : List (List ℕ)) (before left before_sink after_sink : Option (List ℕ)) (taken text : List ℕ)
-    → ran ≡ None → Consumes before left taken → WritesAll wanted words taken left ran text → EndsWith answered wanted before_sink after_sink text
-    → FollowsTable answered ran words before left before_sink after_sink
-follows_ending answered wanted ran words before left before_sink after_sink taken text none took row (inl (is, wrote)) =
-    record { taken = taken; text = text; took = took; wrote = wrote; row = rw is (writes_all wanted words taken left ran text row) }
-follows_ending answered wanted ran words before left before_sink after_sink taken text none took row (inr (inl (is, front))) =
+pub follows_ending : (failed : Type 0) (answered wanted : Status) (ran : Option RanState) (words : List (List ℕ)) (before left before_sink after_sink : Option (List ℕ)) (taken text : List ℕ)
+    → ran ≡ None → Consumes before left taken → WritesAll failed wanted words taken left ran text → EndsWith answered wanted before_sink after_sink text
+    → FollowsTable failed answered ran words before left before_sink after_sink
+follows_ending failed answered wanted ran words before left before_sink after_sink taken text none took row (inl (is, wrote)) =
+    record { taken = taken; text = text; took = took; wrote = wrote; row = rw is (writes_all failed wanted words taken left ran text row) }
+follows_ending failed answered wanted ran words before left before_sink after_sink taken text none took row (inr (inl (is, front))) =
     record {
       taken = taken;
       text = take front.count text;
@@ -45,7 +45,7 @@ follows_ending answered wanted ran words before left before_sink after_sink take
       wrote = front.appended;
       row = rw is (wanted, drop front.count text, rw (take-append-drop front.count text) row);
     }
-follows_ending answered wanted ran words before left before_sink after_sink taken text none took row (inr (inr (is, wrote))) =
+follows_ending failed answered wanted ran words before left before_sink after_sink taken text none took row (inr (inr (is, wrote))) =
     record { taken = taken; text = []; took = took; wrote = wrote; row = rw is (none, refl) }
 
 -- the status is that of the outcome
@@ -54,12 +54,12 @@ pub ends_as : (answered other wanted : Status) (before after : Option (List ℕ)
 ends_as answered other wanted before after text is ends = subst (λ s. EndsWith s wanted before after text) (sym is) ends
 
 -- what a mode says of a run, or a front of it
-follows_output : (answered : Status) (ran : Option RanState) (words : List (List ℕ)) (before left before_sink after_sink : Option (List ℕ)) (taken text : List ℕ)
-    → Consumes before left taken → WritesAll status.Done words taken left ran text → EndsOutput answered before_sink after_sink text
-    → FollowsTable answered ran words before left before_sink after_sink
-follows_output answered ran words before left before_sink after_sink taken text took row (inl (is, wrote)) =
+follows_output : (failed : Type 0) (answered : Status) (ran : Option RanState) (words : List (List ℕ)) (before left before_sink after_sink : Option (List ℕ)) (taken text : List ℕ)
+    → Consumes before left taken → WritesAll failed status.Done words taken left ran text → EndsOutput answered before_sink after_sink text
+    → FollowsTable failed answered ran words before left before_sink after_sink
+follows_output failed answered ran words before left before_sink after_sink taken text took row (inl (is, wrote)) =
     record { taken = taken; text = text; took = took; wrote = wrote; row = rw is row }
-follows_output answered ran words before left before_sink after_sink taken text took row (inr (is, front)) =
+follows_output failed answered ran words before left before_sink after_sink taken text took row (inr (is, front)) =
     record {
       taken = taken;
       text = take front.count text;
@@ -69,16 +69,16 @@ follows_output answered ran words before left before_sink after_sink taken text 
     }
 
 -- what a mode takes was accepted and its text written, or it was refused
-pub follows_run : (found : Settings) (answered : Status) (ran : Option RanState) (words : List (List ℕ)) (before left before_sink after_sink : Option (List ℕ)) (taken bytes : List ℕ)
+pub follows_run : (failed : Type 0) (found : Settings) (answered : Status) (ran : Option RanState) (words : List (List ℕ)) (before left before_sink after_sink : Option (List ℕ)) (taken bytes : List ℕ)
     → Consumes before left taken → settings words ≡ Some found
     → ((text : List ℕ) → Accepts found.mode found bytes ran text → Does found.mode found taken left ran text)
     → ((text : List ℕ) → RefusesLine found.mode found bytes text → Refuses found.mode found taken left text)
-    → EndsRun found answered ran bytes before_sink after_sink → FollowsTable answered ran words before left before_sink after_sink
-follows_run found answered ran words before left before_sink after_sink taken bytes took asked does refuses (inl (text, accepted, written)) =
-    follows_output answered ran words before left before_sink after_sink taken text took (found, asked, does text accepted) written
-follows_run found answered ran words before left before_sink after_sink taken bytes took asked does refuses (inr (inl (text, none, refused, written))) =
-    follows_ending answered status.Refused ran words before left before_sink after_sink taken text none took (none, found, asked, refuses text refused) written
-follows_run found answered ran words before left before_sink after_sink taken bytes took asked does refuses (inr (inr (is, none, wrote))) =
+    → EndsRun found answered ran bytes before_sink after_sink → FollowsTable failed answered ran words before left before_sink after_sink
+follows_run failed found answered ran words before left before_sink after_sink taken bytes took asked does refuses (inl (text, accepted, written)) =
+    follows_output failed answered ran words before left before_sink after_sink taken text took (found, asked, does text accepted) written
+follows_run failed found answered ran words before left before_sink after_sink taken bytes took asked does refuses (inr (inl (text, none, refused, written))) =
+    follows_ending failed answered status.Refused ran words before left before_sink after_sink taken text none took (none, found, asked, refuses text refused) written
+follows_run failed found answered ran words before left before_sink after_sink taken bytes took asked does refuses (inr (inr (is, none, wrote))) =
     record { taken = taken; text = []; took = took; wrote = wrote; row = rw is (none, refl) }
 
 -- ---- what is read
@@ -220,7 +220,7 @@ appends_none None = tt
 appends_none (Some xs) = sym (append-nil xs)
 
 -- memory ran out before anything was read
-pub follows_nothing : (answered : Status) (ran : Option RanState) (words : List (List ℕ)) (left sink : Option (List ℕ)) → answered ≡ status.Memory → ran ≡ None
-    → FollowsTable answered ran words left left sink sink
-follows_nothing answered ran words left sink is none =
+pub follows_nothing : (failed : Type 0) (answered : Status) (ran : Option RanState) (words : List (List ℕ)) (left sink : Option (List ℕ)) → answered ≡ status.Memory → ran ≡ None
+    → FollowsTable failed answered ran words left left sink sink
+follows_nothing failed answered ran words left sink is none =
     record { taken = []; text = []; took = takes_none left; wrote = appends_none sink; row = rw is (none, refl) }

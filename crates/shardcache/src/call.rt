@@ -251,7 +251,8 @@ where
     requires most { settings.shards ≤ most_shards }
     requires pages { ArePages settings.pages }
     ensures table { (words : List (List ℕ)) → settings_of words ≡ Some (view settings)
-        → FollowsTable result.status result.ran words (S.left source.old) (S.left source.new) (K.written sink.old) (K.written sink.new) }
+        → FollowsTable (Rose (S.faults source.old) (S.faults source.new)) result.status result.ran words
+            (S.left source.old) (S.left source.new) (K.written sink.old) (K.written sink.new) }
     ensures read_fault { result.status ≡ Status.ReadFault → Rose (S.faults source.old) (S.faults source.new) }
     ensures write_fault { result.status ≡ Status.WriteFault → Rose (K.faults sink.old) (K.faults sink.new) }
 {
@@ -285,8 +286,8 @@ where
     requires pages { ArePages settings.pages }
 
     // What is written and left, by status.
-    ensures table { (words : List (List ℕ)) (source : Option (List ℕ)) → settings_of words ≡ Some (view settings)
-        → FollowsTable result.status result.ran words source source (K.written sink.old) (K.written sink.new) }
+    ensures table { (words : List (List ℕ)) (source : Option (List ℕ)) (before after : ℕ) → settings_of words ≡ Some (view settings)
+        → FollowsTable (Rose before after) result.status result.ran words source source (K.written sink.old) (K.written sink.new) }
 
     // Only the sink can fail.
     ensures no_read_fault { result.status ≢ Status.ReadFault }
@@ -336,20 +337,20 @@ where
     S: Source,
     K: Sink,
     G: Gates,
-    ensures headline { FollowsTable result.status result.ran (map (λ word. string_bytes word) words.now) (S.left source.old)
-        (S.left source.new) (K.written sink.old) (K.written sink.new) }
+    ensures headline { FollowsTable (Rose (S.faults source.old) (S.faults source.new)) result.status result.ran
+        (map (λ word. string_bytes word) words.now) (S.left source.old) (S.left source.new) (K.written sink.old) (K.written sink.new) }
     ensures read_fault { result.status ≡ Status.ReadFault → Rose (S.faults source.old) (S.faults source.new) }
     ensures write_fault { result.status ≡ Status.WriteFault → Rose (K.faults sink.old) (K.faults sink.new) }
     ensures usage { settings_of (map (λ word. string_bytes word) words.now) ≡ None
         → (result.status ≡ Status.Usage) ⊎ ((result.status ≡ Status.WriteFault) ⊎ (result.status ≡ Status.Memory)) }
 
     // Where no fault rose, a trace is run and what is no trace is refused, unless memory runs out.
-    ensures accepted { (bytes : List ℕ) (wanted : Wanted) → S.left source.old ≡ Some bytes
+    ensures accepted { (bytes : List ℕ) (wanted : Wanted) → (Reads wanted.mode → S.left source.old ≡ Some bytes)
         → settings_of (map (λ word. string_bytes word) words.now) ≡ Some wanted
         → is_accepted wanted.mode wanted bytes ≡ true
         → ¬ Rose (S.faults source.old) (S.faults source.new) → ¬ Rose (K.faults sink.old) (K.faults sink.new)
         → (result.status ≡ Status.Done) ⊎ (result.status ≡ Status.Memory) }
-    ensures refused { (bytes : List ℕ) (wanted : Wanted) → S.left source.old ≡ Some bytes
+    ensures refused { (bytes : List ℕ) (wanted : Wanted) → (Reads wanted.mode → S.left source.old ≡ Some bytes)
         → settings_of (map (λ word. string_bytes word) words.now) ≡ Some wanted
         → is_accepted wanted.mode wanted bytes ≡ false
         → ¬ Rose (S.faults source.old) (S.faults source.new) → ¬ Rose (K.faults sink.old) (K.faults sink.new)
