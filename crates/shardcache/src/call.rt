@@ -252,7 +252,7 @@ where
     requires pages { ArePages settings.pages }
     ensures table { (words : List (List ℕ)) → settings_of words ≡ Some (view settings)
         → FollowsTable (Rose (S.faults source.old) (S.faults source.new)) result.status result.ran words
-            (S.left source.old) (S.left source.new) (K.written sink.old) (K.written sink.new) }
+        (S.left source.old) (S.left source.new) (K.written sink.old) (K.written sink.new) }
     ensures read_fault { result.status ≡ Status.ReadFault → Rose (S.faults source.old) (S.faults source.new) }
     ensures write_fault { result.status ≡ Status.WriteFault → Rose (K.faults sink.old) (K.faults sink.new) }
 {
