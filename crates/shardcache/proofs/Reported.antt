@@ -23,7 +23,7 @@ use Rattle.settings.specs.declared.settings.Settings.{Settings as Found}
 use Rattle.settings.specs.declared.settings.mode.Mode.TheVariants.{Run, Sim, Gen}
 use Rattle.settings.specs.Settings.{view}
 use Rattle.shardcache.specs.Table.{IsOutput, IsRecordOf, Reports}
-use Rattle.shardcache.specs.inside.Finished.{IsRunOf}
+use Rattle.trace_run.specs.Finished.{IsRunOf}
 use Rattle.shardcache.proofs.Unbroken.{key-unbroken, value-unbroken}
 
 -- the laws of answers and of reports, as their functions promise them

@@ -17,10 +17,9 @@ use crate::outcome::Outcome;
 use crate::printing::{
     refuse, refuse_script, too_long, write_line, write_output, written_or_fault,
 };
-use crate::run::{Order, run_trace};
 use crate::status::Status;
-use dirty_mode::{open_dirty, write_dirty};
-use index_mode::{open_index, write_index};
+use dirty_mode::run_dirty;
+use index_mode::run_index;
 use layout::MOST_TRACE_BYTES;
 use made_trace::make_trace;
 use outside::{ReadStop, Sink, Source, read_all};
@@ -29,9 +28,10 @@ use shard_node::Gates;
 use std::alloc::Global;
 use std::sync::Wait;
 use std::thread::Threads;
+use trace_run::{Order, run_trace};
 use trace_text::{ParseRefusal, Trace, parse_on};
 use value_script::{Script, ScriptRefusal, parse_script};
-use values_mode::{open_values, write_values};
+use values_mode::run_values;
 
 /// The order of turns that the settings ask for.
 fn order_of(settings: Settings) -> Order {
@@ -87,10 +87,10 @@ fn flush_puts<K: Sink>(alloc: Global, settings: Settings, trace: &Trace, sink: &
     ensures ending { EndsTrace (view settings) (trace_in trace.now) result.status result.ran (K.written sink.old) (K.written sink.new) }
     ensures fault { result.status ≡ Status.WriteFault → Rose (K.faults sink.old) (K.faults sink.new) }
 {
-    let Ok(store) = open_dirty(alloc, trace, settings.pages) else {
-        return Outcome::without_run(Status::Memory);
-    };
-    Outcome::without_run(written_or_fault(write_dirty(store, trace, sink)))
+    match run_dirty(alloc, trace, settings.pages, sink) {
+        Ok(written) => Outcome::without_run(written_or_fault(written)),
+        Err(_) => Outcome::without_run(Status::Memory),
+    }
 }
 
 /// Numbers the keys of a trace in an index, and writes what came of it.
@@ -100,10 +100,10 @@ fn number_keys<K: Sink>(alloc: Global, settings: Settings, trace: &Trace, sink: 
     ensures ending { EndsTrace (view settings) (trace_in trace.now) result.status result.ran (K.written sink.old) (K.written sink.new) }
     ensures fault { result.status ≡ Status.WriteFault → Rose (K.faults sink.old) (K.faults sink.new) }
 {
-    let Ok(store) = open_index(alloc, settings.pages) else {
-        return Outcome::without_run(Status::Memory);
-    };
-    Outcome::without_run(written_or_fault(write_index(store, trace, sink)))
+    match run_index(alloc, trace, settings.pages, sink) {
+        Ok(written) => Outcome::without_run(written_or_fault(written)),
+        Err(_) => Outcome::without_run(Status::Memory),
+    }
 }
 
 /// Does with a trace what the mode asks, and writes what came of it.
@@ -188,10 +188,10 @@ fn play_script<K: Sink>(alloc: Global, pages: u32, script: &Script, sink: &mut K
     ensures written { EndsWith result Status.Done (K.written sink.old) (K.written sink.new) (values_text (script_in script.now) pages) }
     ensures fault { result ≡ Status.WriteFault → Rose (K.faults sink.old) (K.faults sink.new) }
 {
-    let Ok(store) = open_values(alloc, pages) else {
-        return Status::Memory;
-    };
-    written_or_fault(write_values(store, script, sink))
+    match run_values(alloc, script, pages, sink) {
+        Ok(written) => written_or_fault(written),
+        Err(_) => Status::Memory,
+    }
 }
 
 /// The bytes of a trace: all that the source has, where a trace can have so many.

@@ -8,12 +8,8 @@
 mod call;
 mod outcome;
 mod printing;
-mod run;
 mod status;
 
 pub use call::shardcache;
 pub use outcome::Outcome;
 pub use status::Status;
-
-#[cfg(test)]
-mod tests;

@@ -11,7 +11,7 @@ ghost use Rattle.settings.specs.Settings.{view};
 ghost use Rattle.shardcache.specs.Table.{IsOutput};
 ghost use Rattle.shardcache.specs.TraceFor.{refusal_text, refused_line, script_refusal_text};
 ghost use Rattle.shardcache.specs.inside.Ending.{EndsOutput, EndsWith, Runs};
-ghost use Rattle.shardcache.specs.inside.Finished.{IsRunOf};
+ghost use Rattle.trace_run.specs.Finished.{IsRunOf};
 
 use crate::status::Status;
 use cache_model::{a_report_has_its_lines, answers_are_read_by_command, replies_hold_what_was_put};

@@ -1,0 +1,9 @@
+//! A whole run of a trace on shards: their nodes are opened, driven and taken apart, and what they did is left.
+//!
+//! The definition is `specs/Finished.antt`: the journals are legal and complete, the logs have the answers, and the lines say what
+//! the caches hold.
+#![tactic(auto)]
+
+mod run;
+
+pub use run::{Order, run_trace};
