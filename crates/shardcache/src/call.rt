@@ -285,8 +285,9 @@ where
     requires most { settings.shards ≤ most_shards }
     requires pages { ArePages settings.pages }
 
-    // What is written and left, by status.
-    ensures table { (words : List (List ℕ)) (source : Option (List ℕ)) (before after : ℕ) → settings_of words ≡ Some (view settings)
+    // What is written and left, by status, whatever a source has and its faults were.
+    ensures table { (words : List (List ℕ)) (source : Option (List ℕ)) (before after : ℕ)
+        → settings_of words ≡ Some (view settings)
         → FollowsTable (Rose before after) result.status result.ran words source source (K.written sink.old) (K.written sink.new) }
 
     // Only the sink can fail.
