@@ -15,7 +15,7 @@ use plain_cache::{Entry, ReplyKind};
 use run_log::ShardLine;
 use shard_drive::drive_schedule;
 use shard_node::{Gate, Node, OpenGates, Ran};
-use shard_rings::{Link, RingLink};
+use shard_rings::RingLink;
 use shard_run::{Remains, finish_run, open_lists, open_nodes};
 use std::alloc::{AllocError, Global};
 use std::test::Fail;
@@ -27,9 +27,9 @@ const SCHEDULE: [u32; 40] = [
     0, 1, 0, 1, 0, 1, 0, 1,
 ];
 
-fn are_done<'f, L: Link<'f> + Drop, G: Gate + Drop>(nodes: &[Node<'f, L, G>]) -> bool
-    requires { All (InStanding L.traffic) nodes.now }
-    ensures { result ≡ true → All (IsDone L.traffic G.holds) nodes.now }
+fn are_done<'f, G: Gate + Drop>(nodes: &[Node<'f, RingLink<'f>, G>]) -> bool
+    requires { All (InStanding traffic_of) nodes.now }
+    ensures { result ≡ true → All (IsDone traffic_of G.holds) nodes.now }
 {
     for node in nodes {
         if !node.is_done() {
