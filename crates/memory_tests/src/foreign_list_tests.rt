@@ -88,21 +88,34 @@ fn close_idle(rt: &impl Abort, list: Foreign, seat: OwnerSeat)
     list.close(seat);
 }
 
+// Which of these tickets are idle: 0, 1, 8, and 32, which no list has.
+fn idle_of(seat: &OwnerSeat) -> [bool; 4] {
+    [
+        seat.is_idle(0),
+        seat.is_idle(1),
+        seat.is_idle(8),
+        seat.is_idle(32),
+    ]
+}
+
 #[test]
 fn the_newest_comes_home_first(rt: HostRuntime) -> Result<(), Fail> {
     let alloc = rt.alloc();
     let (list, mut seat) = Foreign::new(alloc, OWNER)?;
     let (a, b) = lend_two(alloc, &list, &mut seat)?;
     assert_eq!(rt; (a.home(), a.ticket(), b.ticket()), (OWNER, 0, 8));
-    assert!(rt; !seat.is_idle(0) && !seat.is_idle(8) && seat.is_idle(1) && !seat.is_idle(32));
+    assert_eq!(rt; idle_of(&seat), [false, true, false, false]);
     let mut tally = Tally::new();
     tally.add(release(&rt, a));
     tally.add(release(&rt, b));
-    assert!(rt; !seat.is_idle(0) && !seat.is_idle(8) && tally.count() == 2);
+    assert_eq!(rt;
+        (idle_of(&seat), tally.count()),
+        ([false, true, false, false], 2)
+    );
     list.take_whole(&mut seat);
-    assert!(rt; !seat.is_idle(0) && !seat.is_idle(8));
+    assert_eq!(rt; idle_of(&seat), [false, true, false, false]);
     expect_two(&rt, &list, &mut seat);
-    assert!(rt; seat.is_idle(0) && seat.is_idle(8));
+    assert_eq!(rt; idle_of(&seat), [true, true, true, false]);
     close_idle(&rt, list, seat);
     law_of_the_list();
     Ok(())

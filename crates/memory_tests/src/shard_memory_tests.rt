@@ -28,14 +28,16 @@ fn lends(memory: &mut ShardMemory<'_>, share: Share, from: u32, to: u32) -> bool
     true
 }
 
-fn has_shares(memory: &mut ShardMemory<'_>) -> bool {
-    refuses(memory, 16_385, Share::Request, GiveRefusal::TooLarge)
-        && lends(memory, Share::Request, 0, 8)
-        && refuses(memory, 16, Share::Request, GiveRefusal::NoTicket)
-        && !memory.is_idle(Share::Request)
-        && memory.is_idle(Share::Reply)
-        && lends(memory, Share::Reply, 8, 9)
-        && (memory.lent(), memory.back(), memory.pages_out()) == (9, 0, 1)
+// Whether the requests' tickets are lent and no others of theirs, and one of the replies'.
+fn lends_shares(memory: &mut ShardMemory<'_>) -> [bool; 6] {
+    [
+        refuses(memory, 16_385, Share::Request, GiveRefusal::TooLarge),
+        lends(memory, Share::Request, 0, 8),
+        refuses(memory, 16, Share::Request, GiveRefusal::NoTicket),
+        !memory.is_idle(Share::Request),
+        memory.is_idle(Share::Reply),
+        lends(memory, Share::Reply, 8, 9),
+    ]
 }
 
 #[test]
@@ -44,7 +46,11 @@ fn each_share_has_tickets_of_its_own(rt: HostRuntime) -> Result<(), Fail> {
     let Ok(mut memory) = ShardMemory::open(rt.alloc(), OWNER, PAGES, &home, seat) else {
         return Err(AllocError.into());
     };
-    assert!(rt; has_shares(&mut memory));
+    assert_eq!(rt; lends_shares(&mut memory), [true; 6]);
+    assert_eq!(rt;
+        (memory.lent(), memory.back(), memory.pages_out()),
+        (9, 0, 1)
+    );
     Ok(())
 }
 
@@ -58,19 +64,15 @@ fn segments(memory: &mut ShardMemory<'_>) -> u32 {
     100
 }
 
-fn is_filled(memory: &mut ShardMemory<'_>) -> bool {
-    segments(memory) == 40
-        && refuses(memory, 16, Share::Reply, GiveRefusal::NoSpan)
-        && memory.pages_out() == PAGES
-}
-
 #[test]
 fn where_segments_fill_the_pages_no_block_is_lent(rt: HostRuntime) -> Result<(), Fail> {
     let (home, seat) = Foreign::new(rt.alloc(), OWNER)?;
     let Ok(mut memory) = ShardMemory::open(rt.alloc(), OWNER, PAGES, &home, seat) else {
         return Err(AllocError.into());
     };
-    assert!(rt; is_filled(&mut memory));
+    assert_eq!(rt; segments(&mut memory), 40);
+    assert!(rt; refuses(&mut memory, 16, Share::Reply, GiveRefusal::NoSpan));
+    assert_eq!(rt; memory.pages_out(), PAGES);
     Ok(())
 }
 
@@ -124,8 +126,8 @@ fn come_home(memory: &mut ShardMemory<'_>, alloc: Global) -> bool
     drop(blocks);
     let all = (memory.take_back(), memory.lent(), memory.back());
     memory.trim();
-    let right = lent == (32, 32) && half == (32, 0, 16) && rest == (16, 16, 0);
-    right && all == (16, 32, 32) && memory.pages_out() == 0
+    let counts = (lent, half, rest, all);
+    counts == ((32, 32), (32, 0, 16), (16, 16, 0), (16, 32, 32)) && memory.pages_out() == 0
 }
 
 #[test]
@@ -135,7 +137,7 @@ fn all_blocks_come_home_in_any_order(rt: HostRuntime) -> Result<(), Fail> {
         return Err(AllocError.into());
     };
     let right = come_home(&mut memory, rt.alloc());
-    assert!(rt; right && memory.tickets_out() == 0);
+    assert_eq!(rt; (right, memory.tickets_out()), (true, 0));
     let seat = memory.finish();
     home.close(seat);
     Ok(())
@@ -153,7 +155,7 @@ fn leaves_a_page(memory: &mut ShardMemory<'_>) -> bool
     memory.back_here(block);
     let held = memory.pages_out();
     memory.trim();
-    given == (100, OWNER) && (held, memory.pages_out()) == (1, 0)
+    (given, held, memory.pages_out()) == ((100, OWNER), 1, 0)
 }
 
 // Whether a segment that was given and came back leaves no page.
@@ -166,7 +168,7 @@ fn leaves_no_page(memory: &mut ShardMemory<'_>) -> bool
     };
     let given = (segment.len(), memory.pages_out());
     memory.segment_back(segment);
-    given == (131_072, 32) && memory.pages_out() == 0
+    (given, memory.pages_out()) == ((131_072, 32), 0)
 }
 
 #[test]
@@ -179,8 +181,8 @@ fn what_stays_leaves_its_pages_to_trim(rt: HostRuntime) -> Result<(), Fail> {
             return Err(AllocError.into());
         }
     };
-    let right = leaves_a_page(&mut memory) && leaves_no_page(&mut memory);
-    assert!(rt; right && memory.tickets_out() == 0);
+    let right = [leaves_a_page(&mut memory), leaves_no_page(&mut memory)];
+    assert_eq!(rt; (right, memory.tickets_out()), ([true; 2], 0));
     let seat = memory.finish();
     home.close(seat);
     Ok(())

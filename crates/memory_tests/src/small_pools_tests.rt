@@ -148,7 +148,7 @@ fn the_least_class_holds_the_size(rt: HostRuntime) -> Result<(), Fail> {
 
 #[test]
 fn a_page_holds_128_of_the_least_objects(rt: HostRuntime) -> Result<(), Fail> {
-    let steps = [
+    const STEPS: &[Step] = &[
         Step::Take(0, 128, 128),
         Step::FreePages(1279),
         Step::Take(0, 1, 1),
@@ -163,7 +163,7 @@ fn a_page_holds_128_of_the_least_objects(rt: HostRuntime) -> Result<(), Fail> {
         Step::FreePages(1280),
         Step::Largest(Some(10)),
     ];
-    assert_eq!(rt; wrong(rt.alloc(), &steps)?, None);
+    assert_eq!(rt; wrong(rt.alloc(), STEPS)?, None);
     Ok(())
 }
 
