@@ -175,8 +175,9 @@ impl<'f> Trial<'f> {
         let Some(block) = self.reply_block(key) else {
             return false;
         };
-        let right = block.bytes().len() == len && block.bytes().starts_with(front);
-        right && block.release().is_ok() && self.space.take_back() == 1
+        let right = (block.bytes().len(), block.bytes().starts_with(front));
+        let released = block.release().is_ok();
+        (right, released, self.space.take_back()) == ((len, true), true, 1)
     }
 
     // False where a block is out.
@@ -191,8 +192,7 @@ impl<'f> Trial<'f> {
 
 #[test]
 fn a_row_is_stored_replaced_and_erased(rt: HostRuntime) -> Result<(), Fail> {
-    let journal = [1, 2, 9, 9, 9, 9].map(|number| Entry::Done(number));
-    let steps = [
+    const STEPS: &[Step] = &[
         Step::Puts(b"a", b"1", 1, Put::Stored),
         Step::Puts(b"a", b"abc", 2, Put::Replaced),
         Step::Size(1, 48),
@@ -201,15 +201,22 @@ fn a_row_is_stored_replaced_and_erased(rt: HostRuntime) -> Result<(), Fail> {
         Step::Erases(b"a", false),
         Step::Has(b"a", None),
         Step::Size(0, 0),
-        Step::Journal(&journal),
+        Step::Journal(&[
+            Entry::Done(1),
+            Entry::Done(2),
+            Entry::Done(9),
+            Entry::Done(9),
+            Entry::Done(9),
+            Entry::Done(9),
+        ]),
     ];
-    assert_eq!(rt; done(rt.alloc(), &steps)?, steps.len());
+    assert_eq!(rt; done(rt.alloc(), STEPS)?, STEPS.len());
     Ok(())
 }
 
 #[test]
 fn a_scan_gives_the_keys_from_its_own_on(rt: HostRuntime) -> Result<(), Fail> {
-    let steps = [
+    const STEPS: &[Step] = &[
         Step::Puts(b"a", b"1", 1, Put::Stored),
         Step::Puts(b"c", b"3", 2, Put::Stored),
         Step::Puts(b"b", b"2", 3, Put::Stored),
@@ -217,50 +224,49 @@ fn a_scan_gives_the_keys_from_its_own_on(rt: HostRuntime) -> Result<(), Fail> {
         Step::Scans(b"d", 4, b""),
         Step::Size(3, 144),
     ];
-    assert_eq!(rt; done(rt.alloc(), &steps)?, steps.len());
+    assert_eq!(rt; done(rt.alloc(), STEPS)?, STEPS.len());
     Ok(())
 }
 
 #[test]
 fn the_oldest_row_goes_where_nothing_else_makes_room(rt: HostRuntime) -> Result<(), Fail> {
-    let last = [
-        Entry::Evicted(1),
-        Entry::Done(391),
-        Entry::Evicted(2),
-        Entry::Done(392),
-    ];
-    let steps = [
+    const STEPS: &[Step] = &[
         Step::PutsLarge(1, 391, 390),
         Step::Entries(390),
         Step::PutsLarge(391, 393, 2),
         Step::Size(390, 4_698_720),
-        Step::Ends(&last),
+        Step::Ends(&[
+            Entry::Evicted(1),
+            Entry::Done(391),
+            Entry::Evicted(2),
+            Entry::Done(392),
+        ]),
         Step::Has(b"\0\0\0\x01", None),
     ];
-    assert_eq!(rt; done(rt.alloc(), &steps)?, steps.len());
+    assert_eq!(rt; done(rt.alloc(), STEPS)?, STEPS.len());
     Ok(())
 }
 
 #[test]
 fn a_row_may_go_for_the_one_that_replaces_it(rt: HostRuntime) -> Result<(), Fail> {
-    let steps = [
+    const STEPS: &[Step] = &[
         Step::PutsLarge(1, 391, 390),
         Step::PutsLarge(1, 2, 1),
         Step::Ends(&[Entry::Done(390), Entry::Evicted(1), Entry::Done(1)]),
         Step::Size(390, 4_698_720),
     ];
-    assert_eq!(rt; done(rt.alloc(), &steps)?, steps.len());
+    assert_eq!(rt; done(rt.alloc(), STEPS)?, STEPS.len());
     Ok(())
 }
 
 #[test]
 fn nothing_goes_while_compaction_makes_room(rt: HostRuntime) -> Result<(), Fail> {
-    let steps = [
+    const STEPS: &[Step] = &[
         Step::PutsAgain(1000, 999),
         Step::Size(1, 12_048),
         Step::Entries(1000),
     ];
-    assert_eq!(rt; done(rt.alloc(), &steps)?, steps.len());
+    assert_eq!(rt; done(rt.alloc(), STEPS)?, STEPS.len());
     Ok(())
 }
 
@@ -269,15 +275,29 @@ const MISSING: [u8; 16] = [20, 0, 0, 0, 0x87, 1, 0, 0, 0, 0, 0, 0, 0, 0, 0, 0];
 
 #[test]
 fn a_row_may_go_for_the_block_of_its_own_reply(rt: HostRuntime) -> Result<(), Fail> {
-    let gone = [1, 2, 3, 4, 5, 6, 7, 8, 9, 10, 11].map(|put| Entry::Evicted(put));
-    let steps = [
+    const STEPS: &[Step] = &[
         Step::PutsLarge(1, 391, 390),
         Step::Replies(b"\0\0\0\x01", &MISSING, 12_016),
         Step::Entries(402),
-        Step::Behind(390, &gone),
+        Step::Behind(
+            390,
+            &[
+                Entry::Evicted(1),
+                Entry::Evicted(2),
+                Entry::Evicted(3),
+                Entry::Evicted(4),
+                Entry::Evicted(5),
+                Entry::Evicted(6),
+                Entry::Evicted(7),
+                Entry::Evicted(8),
+                Entry::Evicted(9),
+                Entry::Evicted(10),
+                Entry::Evicted(11),
+            ],
+        ),
         Step::Ends(&[Entry::Done(391)]),
         Step::Size(379, 4_566_192),
     ];
-    assert_eq!(rt; done(rt.alloc(), &steps)?, steps.len());
+    assert_eq!(rt; done(rt.alloc(), STEPS)?, STEPS.len());
     Ok(())
 }

@@ -62,14 +62,21 @@ impl<'f> Trial<'f> {
             Step::Replies(key, front, len) => self.replies(key, front, len),
             Step::Keeps(key, value, blocks) => self.keeps(key, value, blocks),
             Step::Lends(home) => self.fill_and_lend(alloc) == home,
+            Step::Latest(end) => self.has_latest(alloc, end),
+            _ => self.stands(step),
+        }
+    }
+
+    fn stands(&self, step: Step<'_>) -> bool {
+        match step {
             Step::Counts(lent, back) => (self.space.lent(), self.space.back()) == (lent, back),
             Step::Size(rows, live) => self.size() == (rows, live),
             Step::AtMost(rows) => self.space.rows() <= rows,
-            Step::Latest(end) => self.has_latest(alloc, end),
             Step::Journal(entries) => self.journal.entries() == entries,
             Step::Entries(count) => self.journal.entries().len() == count,
             Step::Behind(at, entries) => self.has_behind(at, entries),
             Step::Ends(entries) => self.journal.entries().ends_with(entries),
+            _ => false,
         }
     }
 

@@ -30,6 +30,10 @@ fn release<'f, R: Wait>(rt: &R, block: ForeignBlock<'f>) {
     unreachable!()
 }
 
+fn is_each(bytes: &[u8], byte: u8) -> bool {
+    bytes.iter().all(|b| *b == byte)
+}
+
 // Releases so many blocks as they come, and answers how many had the owner's byte in each place.
 fn give_back<'f, R: Wait>(rt: &R, ring: &mut Consumer<ForeignBlock<'f>>, blocks: u32) -> u32 {
     let mut left = blocks;
@@ -41,9 +45,7 @@ fn give_back<'f, R: Wait>(rt: &R, ring: &mut Consumer<ForeignBlock<'f>>, blocks:
         match ring.pop() {
             Ok(block) => {
                 let byte = byte_of(block.ticket());
-                if block.bytes().iter().all(|b| *b == byte) {
-                    right = right.wrapping_add(1);
-                }
+                right = right.wrapping_add(u32::from(is_each(block.bytes(), byte)));
                 release(rt, block);
                 left -= 1;
             }
@@ -71,7 +73,7 @@ impl<'f> Trial<'f> {
         let Ok(mut block) = self.space.give_now(LEN, share_of(left)) else {
             return false;
         };
-        if !block.bytes().iter().all(|b| *b == 0) {
+        if !is_each(block.bytes(), 0) {
             return false;
         }
         let byte = byte_of(block.ticket());
@@ -188,8 +190,16 @@ fn lends<'f, R: Threads + Wait + Sync>(
     let to_one = pass_to_one(rt, alloc, trial, 10_000)?;
     let to_three = pass_to_three(rt, alloc, trial, 3_000)?;
     let counts = (trial.space.lent(), trial.space.back());
-    let right = to_one == (10_000, 10_000) && to_three == (9_000, 9_000);
-    Ok(stored && right && counts == (19_000, 19_000) && trial.has(b"a", Some(b"abc")))
+    let has = (stored, trial.has(b"a", Some(b"abc")));
+    Ok(
+        (to_one, to_three, counts, has)
+            == (
+                (10_000, 10_000),
+                (9_000, 9_000),
+                (19_000, 19_000),
+                (true, true),
+            ),
+    )
 }
 
 #[test]
