@@ -1,11 +1,11 @@
 -- What slots hold, after one is written.
-use Rattle.std.proofs.Common.{◌≡◌, ◌≢◌, ℕ, zero, suc, ◌+◌, ◌-◌, ◌<◌, ◌≤◌, inl, inr, Bool, true, false, cond, List, [], ◌∷◌, length, take, set, refl, sym, ap, subst, ◌∙◌, arith}
+use Rattle.std.proofs.Common.{◌≡◌, ◌≢◌, ℕ, zero, suc, ◌+◌, ◌<◌, inl, inr, Bool, true, false, cond, List, [], ◌∷◌, length, set, refl, sym, ap, subst, ◌∙◌, arith}
 use Rattle.std.specs.Prelude.{◌==◌, if◌then◌else◌}
-use Rattle.std.specs.List.{sum_by, count_by}
+use Rattle.std.specs.List.{sum_by}
 use Rattle.std.proofs.lemmas.Bool.{cases_eq}
 use Rattle.std.proofs.lemmas.Bool.Decides.{nat_tests}
 use Rattle.std.proofs.lemmas.List.{get_or-set_same, get_or-set_other}
-use Rattle.std.proofs.lemmas.List.Sums.{sum_by-cons, sum_by-set, sum_by-take-le, count_by_more_yes, length-filter}
+use Rattle.std.proofs.lemmas.List.Sums.{sum_by-cons, sum_by-set}
 use Rattle.common_lemmas.specs.Lists.{times}
 use Rattle.key_table.specs.declared.entries.RowAt.{RowAt}
 use Rattle.key_table.specs.Table.{rows_of, AreSame}
@@ -51,24 +51,6 @@ within_set slots i slot inside k is =
       | inl e ↦ (zero, sym (ap (slot_at (set slots i slot)) e ∙ get_or-set_same slots i slot nothing inside))
       | inr n ↦ (suc k, sym (get_or-set_other slots i k slot nothing n))
     ]
-
--- held slots in a row are no more than those that are held
-run_count : (slots : List RowAt) (start n : ℕ) → start + n ≤ length slots → ((k : ℕ) → start ≤ k → k < start + n → IsHeld slots k) → n ≤ count_by holds (take (start + n) slots)
-run_count slots start zero inside is = omega arith
-run_count slots start (suc n) inside is =
-    let fewer = run_count slots start n (omega arith) (λ k a b. is k a (omega arith)) in
-    let here = holds_some (slot_at slots (start + n)) (is (start + n) (omega arith) (omega arith)) in
-    let more = count_by_more_yes holds slots (start + n) nothing (omega arith) here in
-    let e : start + n + 1 ≡ start + suc n = omega arith in
-    subst (λ m. suc n ≤ count_by holds (take m slots)) e (omega (arith, fewer, more))
-
-pub run_short : (slots : List RowAt) (start at : ℕ) → start ≤ at → at ≤ length slots → ((k : ℕ) → start ≤ k → k < at → IsHeld slots k) → at ≤ start + length (held slots)
-run_short slots start at behind inside is =
-    let e : start + (at - start) ≡ at = omega arith in
-    let count = run_count slots start (at - start) (omega arith) (λ k a b. is k a (omega arith)) in
-    let part = sum_by-take-le (λ x. cond (holds x) 1 0) slots (start + (at - start)) in
-    let all = length-filter holds slots in
-    omega (arith, count, part, all)
 
 pub held_inside : (slots : List RowAt) (k : ℕ) → IsHeld slots k → k < length slots
 held_inside [] zero is = absurd (is refl)

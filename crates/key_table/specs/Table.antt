@@ -1,5 +1,5 @@
 -- A table of rows.
-use Rattle.std.specs.Prelude.{◌≡◌, ℕ, ◌≤◌, List, map, All}
+use Rattle.std.specs.Prelude.{◌≡◌, ℕ, zero, suc, ◌+◌, ◌*◌, ◌<◌, ◌≤◌, ◌&&◌, nat_le, nat_lt, Bool, List, map, All, count_by, bit_and}
 use Rattle.common_lemmas.specs.Lists.{times}
 use Rattle.key_table.specs.Hash.{tag_of}
 use Rattle.key_table.specs.declared.entries.RowAt.{RowAt}
@@ -32,6 +32,27 @@ IsTagOf table found = All (λ (kept : RowAt). kept.row ≡ found.row → kept.ta
 -- so many slots in a row never hold rows
 abbrev pub reach : ℕ
 reach = 64
+
+-- one less than the number of slots that tags have: 1,024, or that doubled so many times
+abbrev pub mask_of : ℕ → ℕ
+mask_of zero = 1023
+mask_of (suc times) = mask_of times * 2 + 1
+
+-- the slot of a tag
+abbrev pub home_of : ℕ → ℕ → ℕ
+home_of mask tag = bit_and tag mask
+
+-- a row's slot is in reach from one on
+abbrev pub is_near : ℕ → ℕ → RowAt → Bool
+is_near mask from found = nat_le from (home_of mask found.tag) && nat_lt (home_of mask found.tag) (from + reach)
+
+-- About the slot of a spot it is crowded: of so many slots in a row, its own among them, all would hold rows of theirs with one row more.
+pub record IsCrowdedAt (table : Table) (spot : Spot) : Type 0 where
+  pub doubled : ℕ
+  pub from : ℕ
+  pub before : from ≤ home_of (mask_of doubled) spot.tag
+  pub near : home_of (mask_of doubled) spot.tag < from + reach
+  pub many : reach ≤ count_by (is_near (mask_of doubled) from) table.kept + 1
 
 -- the table has the row
 abbrev pub Has : Table → ℕ → Type 0

@@ -1,7 +1,7 @@
 //! The slots of a table.
 ghost use Rattle.std.specs.Prelude.{◌≡◌, ◌≢◌, ℕ, ◌+◌, ◌<◌, ◌≤◌, ◌∷◌, [], true, false, length, replicate, MatchOption, vec_capacity};
 ghost use Rattle.key_table.specs.Table.{rows_of, reach, AreSame};
-ghost use Rattle.key_table.specs.inside.Slots.{nothing, home_of, held, slot_at, IsHeld, AreProbed, Within, IsFirstVacant, IsRunStart, IsGapIn, HaveGaps, IsLoose, CanMove, NoneMoves, HasTag, IsRowAt, HasNot};
+ghost use Rattle.key_table.specs.inside.Slots.{nothing, home_of, held, slot_at, IsHeld, AreProbed, Within, IsFirstVacant, IsRunStart, IsGapIn, IsLoose, IsTight, CanMove, NoneMoves, HasTag, IsRowAt, HasNot};
 
 use crate::entries::RowAt;
 
@@ -83,9 +83,9 @@ fn has_gap(slots: &Vec<RowAt>, from: usize, to: usize) -> bool
 fn is_loose(slots: &Vec<RowAt>, home: usize, at: usize) -> bool
     requires room { home + reach ≤ length slots.now.items }
     requires first { IsFirstVacant slots.now.items home at }
-    requires gaps { HaveGaps slots.now.items }
+    requires probed { (mask : ℕ) × AreProbed mask slots.now.items }
     ensures loose { result ≡ true → IsLoose slots.now.items at }
-    ensures tight { result ≡ false → reach ≤ length (held slots.now.items) + 1 }
+    ensures tight { result ≡ false → (mask : ℕ) → AreProbed mask slots.now.items → IsTight mask slots.now.items home }
 {
     let low = run_start(slots, home);
     has_gap(slots, at + 1, low + REACH)
@@ -104,7 +104,7 @@ pub(crate) fn put(slots: &mut Vec<RowAt>, mask: u32, entry: RowAt) -> bool
 
     // When it is not put in.
     ensures unchanged { result ≡ false → slots.new.items ≡ slots.old.items }
-    ensures tight { result ≡ false → reach ≤ length (held slots.old.items) + 1 }
+    ensures tight { result ≡ false → IsTight mask slots.old.items (home_of mask entry.tag) }
 
     // No other row came in.
     ensures within { Within (entry ∷ slots.old.items) slots.new.items }

@@ -1,7 +1,7 @@
 //! The table.
 ghost use Rattle.std.specs.Prelude.{◌≡◌, ◌≢◌, ℕ, ◌+◌, ◌<◌, ◌≤◌, ◌∷◌, [], List, length, All, Contains, IfOk, IfErr, MatchResult, true, false, vec_capacity};
 ghost use Rattle.common_lemmas.specs.Lists.{times};
-ghost use Rattle.key_table.specs.Table.{rows_of, reach, AreSame, Has, IsSpotFor, IsTagged, IsTagOf, IsTableOf};
+ghost use Rattle.key_table.specs.Table.{rows_of, AreSame, Has, IsCrowdedAt, IsSpotFor, IsTagged, IsTagOf, IsTableOf};
 
 use crate::entries::{Full, RowAt, Spot};
 use crate::seeking::seek;
@@ -105,7 +105,7 @@ impl KeyTable {
         ensures rows { MatchResult result
             (λ _. AreSame (row ∷ rows_of self.old.kept) (rows_of self.new.kept))
             (λ _. AreSame (rows_of self.old.kept) (rows_of self.new.kept)) }
-        ensures full { IfErr result (λ _. reach ≤ length self.old.kept + 1) }
+        ensures full { IfErr result (λ _. IsCrowdedAt self.new spot) }
         ensures tagged { (key_of : ℕ → List ℕ) → IsTagged key_of self.old → IsSpotFor (key_of row) spot
             → IsTagged key_of self.new }
     {
@@ -147,9 +147,9 @@ impl KeyTable {
         if self.count == 0 {
             return;
         }
-        self.mask = self.mask.min(LEAST);
+        self.mask = LEAST;
         self.slots.clear();
-        clear(&mut self.slots, self.mask as usize + 1 + REACH);
+        clear(&mut self.slots, LEAST as usize + 1 + REACH);
         self.count = 0;
     }
 

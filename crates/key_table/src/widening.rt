@@ -1,6 +1,6 @@
 //! Slots for more rows.
 ghost use Rattle.std.specs.Prelude.{◌≡◌, ℕ, ◌+◌, ◌<◌, ◌≤◌, [], length, vec_capacity};
-ghost use Rattle.key_table.specs.Table.{rows_of, reach, AreSame};
+ghost use Rattle.key_table.specs.Table.{mask_of, rows_of, reach, AreSame};
 ghost use Rattle.key_table.specs.inside.Slots.{held, AreProbed, Within};
 
 use crate::entries::RowAt;
@@ -45,6 +45,7 @@ pub(crate) fn widen(
     ensures probed { AreProbed result slots.new.items }
     ensures upto { result ≤ most.new }
     ensures most { most.new ≤ most.old }
+    ensures doubled { (times : ℕ) → mask ≡ mask_of times → (n : ℕ) × (result ≡ mask_of n) }
 
     // They hold the same, tag by tag.
     ensures rows { AreSame (rows_of (held slots.old.items)) (rows_of (held slots.new.items)) }

@@ -1,7 +1,8 @@
 -- Slots, of which each holds a row or none.
-use Rattle.std.specs.Prelude.{◌≡◌, ◌≢◌, ℕ, ◌+◌, ◌-◌, ◌<◌, ◌≤◌, ◌==◌, Bool, not, List, length, filter, slice_index_or, bit_and}
+use Rattle.std.specs.Prelude.{◌≡◌, ◌≢◌, ℕ, ◌+◌, ◌-◌, ◌<◌, ◌≤◌, ◌==◌, Bool, not, List, length, filter, count_by, slice_index_or}
 use Rattle.key_table.specs.Hash.{tag_of}
-use Rattle.key_table.specs.Table.{reach}
+use Rattle.key_table.specs.Table.{is_near, reach}
+pub use Rattle.key_table.specs.Table.{home_of}
 use Rattle.key_table.specs.declared.entries.RowAt.{RowAt}
 
 abbrev pub nothing : RowAt
@@ -19,10 +20,6 @@ held slots = filter holds slots
 
 abbrev pub IsHeld : List RowAt → ℕ → Type 0
 IsHeld slots k = (slot_at slots k).row ≢ 4294967295
-
--- the slot of a tag
-abbrev pub home_of : ℕ → ℕ → ℕ
-home_of mask tag = bit_and tag mask
 
 -- an empty slot, from one slot on and before another
 pub record IsGapIn (slots : List RowAt) (from to : ℕ) : Type 0 where
@@ -59,6 +56,13 @@ pub record IsRunStart (slots : List RowAt) (at low : ℕ) : Type 0 where
   pub before : low ≤ at
   pub start : 0 < low → (slot_at slots (low - 1)).row ≡ 4294967295
   pub between : (k : ℕ) → low ≤ k → k < at → IsHeld slots k
+
+-- so many slots in a row, a slot among them, would hold rows of theirs with one row more
+pub record IsTight (mask : ℕ) (slots : List RowAt) (home : ℕ) : Type 0 where
+  pub low : ℕ
+  pub before : low ≤ home
+  pub near : home < low + reach
+  pub many : reach ≤ count_by (is_near mask low) (held slots) + 1
 
 -- of each so many slots in a row another one is empty
 abbrev pub IsLoose : List RowAt → ℕ → Type 0

@@ -1,8 +1,16 @@
 use Rattle.std.proofs.Common.{suc, refl, subst, arith}
-use Rattle.key_table.specs.inside.Slots.{IsFirstVacant}
+use Rattle.key_table.specs.inside.Slots.{IsFirstVacant, IsTight}
 use Rattle.key_table.proofs.Held.{rows_put, within_set}
 use Rattle.key_table.proofs.Probes.{probed_put}
 use Rattle.key_table.proofs.slots.put.Goals as goal
+
+pub is_loose-requires-clause-probed : goal.is_loose-requires-clause-probed
+is_loose-requires-clause-probed c = (c.args.mask, c.requires.probed)
+
+pub returns-then-not-is_loose-clause-tight : goal.returns-then-not-is_loose-clause-tight
+returns-then-not-is_loose-clause-tight c is =
+    subst (λ home. IsTight c.args.mask c.args.slots.now.items home) c.home_of-home.ensures.home
+    (c.if-not-is_loose.ensures.tight refl c.args.mask c.requires.probed)
 
 pub returns-then-not-is_loose-clause-within : goal.returns-then-not-is_loose-clause-within
 returns-then-not-is_loose-clause-within c k h = (suc k, refl)

@@ -1,9 +1,10 @@
-use Rattle.std.proofs.Common.{◌≡◌, ◌+◌, ◌<◌, ◌≤◌, ◌∷◌, length, sym, ap, subst, ◌∙◌, refl, arith}
+use Rattle.std.proofs.Common.{◌≡◌, ◌+◌, ◌<◌, ◌≤◌, ◌∷◌, List, length, sym, ap, subst, ◌∙◌, refl, arith}
 use Rattle.key_table.specs.declared.entries.RowAt.{RowAt}
 use Rattle.key_table.specs.Hash.{tag_of}
-use Rattle.key_table.specs.Table.{Table, IsTagged, reach}
+use Rattle.key_table.specs.Table.{Table, IsCrowdedAt, IsTagged, reach}
 use Rattle.key_table.specs.inside.Slots.{held}
 use Rattle.key_table.proofs.Copied.{same_length, one_more}
+use Rattle.key_table.proofs.Gaps.{crowded_at}
 use Rattle.key_table.proofs.Told.{all_held, held_all, tagged_within, tagged_more}
 use Rattle.key_table.proofs.table.KeyTable.insert.Goals as goal
 
@@ -18,6 +19,7 @@ invariant_of-self c =
       probed = c.put.ensures.probed;
       counted = omega (arith, same, unchanged, kept.counted);
       within = kept.within;
+      doubled = wide.doubled kept.doubled.0 kept.doubled.1;
       upto = wide.upto;
       slots_fit = omega (arith, fit.0, wide.most, c.put.ensures.capacity);
       spare_fit = omega (arith, fit.1, wide.most);
@@ -26,9 +28,12 @@ invariant_of-self c =
 
 pub returns-then-not-put-clause-full : goal.returns-then-not-put-clause-full
 returns-then-not-put-clause-full c =
-    let same = same_length _ _ c.widen-self-inside.ensures.rows in
-    let tight = c.if-not-put.ensures.tight refl in
-    subst (λ (t : Table). reach ≤ length t.kept + 1) c.self.view_is (omega (arith, same, tight))
+    let kept = c.self.invariant in
+    let wide = c.widen-self-inside.ensures.doubled kept.doubled.0 kept.doubled.1 in
+    subst (λ (slots : List RowAt). IsCrowdedAt (record { room = c.self.inside.room; kept = held slots }) c.args.spot)
+    (sym (c.if-not-put.ensures.unchanged refl))
+    (crowded_at c.widen-self-inside.result wide.0 c.of.result.tag c.self.inside.room c.widen-self-inside.new.slots.items c.args.spot wide.1
+    c.of.ensures.tag (c.if-not-put.ensures.tight refl))
 
 pub returns-then-not-put-clause-tagged : goal.returns-then-not-put-clause-tagged
 returns-then-not-put-clause-tagged c key_of tagged here =
@@ -51,6 +56,7 @@ invariant_of-self-2 c =
       probed = c.put.ensures.probed;
       counted = omega (arith, more, same, kept.counted);
       within = omega (arith, room, kept.counted);
+      doubled = wide.doubled kept.doubled.0 kept.doubled.1;
       upto = wide.upto;
       slots_fit = omega (arith, fit.0, wide.most, c.put.ensures.capacity);
       spare_fit = omega (arith, fit.1, wide.most);

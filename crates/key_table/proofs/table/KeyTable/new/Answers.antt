@@ -1,4 +1,4 @@
-use Rattle.std.proofs.Common.{length, sym, ap, subst, ◌∙◌, arith}
+use Rattle.std.proofs.Common.{length, refl, sym, ap, subst, ◌∙◌, arith}
 use Rattle.key_table.specs.inside.Slots.{held, AreProbed}
 use Rattle.key_table.proofs.Copied.{held_empty, probed_empty}
 use Rattle.key_table.proofs.table.KeyTable.new.Goals as goal
@@ -10,6 +10,7 @@ invariant_of-result c =
       probed = subst (AreProbed 1023) (sym empty) (probed_empty 1023 1088 (omega arith));
       counted = sym (ap (λ slots. length slots) (ap held empty ∙ held_empty 1088));
       within = omega arith;
+      doubled = (0, refl);
       upto = c.most_of-most.ensures;
       slots_fit = omega (arith, c.in_ok-slots.ensures.exact, c.clear.ensures.capacity);
       spare_fit = omega (arith, c.in_ok-spare.ensures.exact);

@@ -31,6 +31,7 @@ invariant_of-self c =
       probed = c.take_out.ensures.probed;
       counted = omega (arith, more, kept.counted);
       within = omega (arith, kept.within);
+      doubled = kept.doubled;
       upto = kept.upto;
       slots_fit = omega (arith, kept.slots_fit, c.take_out.ensures.capacity);
       spare_fit = kept.spare_fit;
