@@ -1,3 +1,4 @@
 pub mod RowLists
 pub mod Rotation
 pub mod Scanned
+pub mod Kept

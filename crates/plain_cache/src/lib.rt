@@ -2,6 +2,7 @@
 //! [`cache_model`] say. The names of `cache_model` and `run_log` are passed on.
 #![tactic(auto)]
 
+mod law;
 mod plain;
 
 pub use cache_model::{
@@ -9,5 +10,6 @@ pub use cache_model::{
     issued_parts_are_counted, keys_are_distinct, lines_print_one_list, one_shard_answers_alone,
     replies_hold_what_was_put,
 };
+pub use law::{a_get_finds_what_was_put_last, a_tight_floor_is_at_least_the_floor};
 pub use plain::{Plain, floor_of};
 pub use run_log::{Journal, ReplyLog, append_keys, next_key};
