@@ -62,7 +62,7 @@ impl<'a> Gate for Door<'a> {
 }
 
 #[test]
-fn two_shards_meet_at_their_gates(rt: HostRuntime) -> Result<(), Fail> {
+fn all_on_one_thread_would_not_meet(rt: HostRuntime) -> Result<(), Fail> {
     let meeting = Meeting {
         first: AtomicU64::new(0),
         second: AtomicU64::new(0),
