@@ -3,7 +3,8 @@
 
     examples/check.py
 
-Also sees that the test of the examples has the same traces and reports: a test reads no files, so it holds them itself.
+Also sees that the test of the examples has the same traces and reports: a test reads no files, so it holds them itself. A report with
+journals is replayed by bench/check.py, which has nothing of the program.
 """
 import os
 import re
@@ -35,8 +36,16 @@ def evicting():
     return "\n".join([*puts, "get k001", f"put k392 {value}", "get k002", "get k001", ""]).encode()
 
 
+def replay(name, words, trace):
+    """Ends with what bench/check.py says where it finds another report."""
+    options = [word for option in re.findall(r"--(?:shards|pages) \d+", words) for word in option.split()]
+    check = [os.path.join(TOP, "bench", "check.py"), "/dev/stdin", os.path.join(EXAMPLES, f"{name}.report"), *options]
+    if subprocess.run(check, input=trace, stdout=subprocess.DEVNULL, check=False).returncode:
+        sys.exit(f"{name}: a replay finds another report")
+
+
 def main():
-    with open(os.path.join(TOP, "crates", "shardcache", "src", "tests", "examples.rt"), encoding="utf-8") as file:
+    with open(os.path.join(TOP, "crates", "shardcache_tests", "src", "program_tests", "examples.rt"), encoding="utf-8") as file:
         texts = [text.replace("\\n\\\n", "\n").replace("\\n", "\n").encode() for text in re.findall(r'b"([^"]*)"', file.read())]
     for name, words in WORDS.items():
         trace = evicting() if name == "evicted" else contents("values.script" if name == "values" else f"{name}.trace")
@@ -46,6 +55,8 @@ def main():
             sys.exit(f"{name}: the program writes something else")
         if name != "evicted" and not (trace in texts and report in texts):
             sys.exit(f"{name}: the test has another trace or report")
+        if words.split()[0] in ("run", "sim"):
+            replay(name, words, trace)
         print(f"{name}: as kept")
 
 

@@ -273,6 +273,9 @@ fn nothing_goes_while_compaction_makes_room(rt: HostRuntime) -> Result<(), Fail>
 // The reply to a missing key, as command 391.
 const MISSING: [u8; 16] = [20, 0, 0, 0, 0x87, 1, 0, 0, 0, 0, 0, 0, 0, 0, 0, 0];
 
+// Worked by hand: 39 segments hold ten rows each, one is free, and a block needs a second. Once row 1 went, compaction moves the
+// nine beside it into the free one; while these go too, no other segment is sparse. Once row 11 went, one of the nine beside it
+// goes behind them and eight into the segment that is free; then the one with a single live row is emptied too, and two are free.
 #[test]
 fn a_row_may_go_for_the_block_of_its_own_reply(rt: HostRuntime) -> Result<(), Fail> {
     const STEPS: &[Step] = &[

@@ -13,6 +13,7 @@ fn sum_of(text: &[u8]) -> u64 {
     sum
 }
 
+// `bench/traces.py gen FILE --number 21317 --scale 0.00006`, which has a generator of its own, writes the same lines.
 #[test]
 fn a_number_makes_these_lines(rt: HostRuntime) -> Result<(), Fail> {
     let wanted =
@@ -22,6 +23,7 @@ fn a_number_makes_these_lines(rt: HostRuntime) -> Result<(), Fail> {
     Ok(())
 }
 
+// Both are those of what `bench/traces.py gen FILE --number 7 --scale 0.01` writes.
 #[test]
 fn a_longer_trace_has_this_length_and_sum(rt: HostRuntime) -> Result<(), Fail> {
     let trace = make_trace(rt.alloc(), 7, 1000)?;

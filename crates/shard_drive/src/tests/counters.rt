@@ -80,6 +80,9 @@ fn a_schedule_gives_a_turn_for_each_entry(rt: HostRuntime) -> Result<(), Fail> {
     Ok(())
 }
 
+// Counted in the words modulo 3 up to the one by which all are done, by a generator of its own (that of `bench/traces.py`):
+// of 0 they are 2 2 2 2 0 1 2 1 0 0 0 0 2 1 1 1, of 7 they are 2 1 1 0 0 0 0 0 1 2 1 2 0 0 1, and of the greatest number
+// 0 1 1 1 2 2 2 2 0 0 2 0 1 2 0 0 2 2 0 2 2 0 1.
 #[test]
 fn the_words_of_a_number_give_these_turns(rt: HostRuntime) -> Result<(), Fail> {
     for (number, turns) in [

@@ -38,6 +38,8 @@ scan a 32\n\
 scan b 2\n\
 scan x 5\n";
 
+// Worked by hand: the words of number 7 modulo 3, which say whose turn it is, begin 2 1 1 0 0 0 0 0 1 2 1 2 0 0 1 1 2, and a turn
+// does what others asked of the shard, and then its own next part. `bench/check.py` replays the rest.
 const SCAN_REPORT: &[u8] = b"1 stored\n\
 2 stored\n\
 3 stored\n\
@@ -63,6 +65,7 @@ get a\n\
 erase a\n\
 get a\n";
 
+// Worked by hand: modulo 2 the words begin 0 0 0 1 1 1, so shard 0 does its three commands before shard 1 asks for its first.
 const TWO_ORIGINS_REPORT: &[u8] = b"1 stored\n\
 2 stored\n\
 3 value first\n\

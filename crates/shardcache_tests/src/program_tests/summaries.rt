@@ -29,7 +29,7 @@ fn each_block_came_back(alloc: Global, lines: &[&str], shards: u32) -> Result<bo
 }
 
 /// Whether a line counts the answers to the 100,000 commands that are made of number 7: these are 39,960 puts, 55,173 gets, 3,871
-/// erases and 996 scans.
+/// erases and 996 scans, counted in what `bench/traces.py gen FILE --number 7` writes.
 fn counts_them(alloc: Global, line: &str) -> Result<bool, AllocError> {
     let found = numbers(alloc, line)?;
     let [stored, replaced, values, missing, erased, scans] = found.as_slice() else {
