@@ -1,13 +1,12 @@
 -- The blocks that a space lends and that come home to it.
-use Rattle.std.specs.Prelude.{◌≡◌, ◌⊎◌, ℕ, suc, ◌+◌, ◌*◌, ◌≤◌, ◌<◌, Option, Some, None, slice_set, length}
-use Rattle.layout.specs.Sizes.{greatest_block, key_room}
+use Rattle.std.specs.Prelude.{◌≡◌, ◌⊎◌, ℕ, suc, ◌+◌, ◌*◌, ◌/◌, ◌≤◌, ◌<◌, Option, Some, None, slice_set, length}
+use Rattle.layout.specs.Sizes.{greatest_block, key_room, segment_pages}
 use Rattle.trace_text.specs.declared.command.Kind.{Kind}
 use Rattle.trace_text.specs.declared.command.Kind.TheVariants as kinds
 use Rattle.trace_text.specs.Operation.{Operation}
 use Rattle.cache_model.specs.Row.{Row}
 use Rattle.foreign_list.specs.Blocks.{Block, piece_id_of}
-use Rattle.regions.specs.Segments.{RegionState}
-use Rattle.regions.specs.Shapes.{free_count}
+use Rattle.regions.specs.Shapes.{free_count, held_count}
 use Rattle.shard_memory.specs.Room.{LacksBlock, IsTrimmed}
 use Rattle.layout.specs.Counts.{raised}
 use Rattle.shard_memory.specs.Tickets.{Tickets, IsOfShare, IsIdle, HasIdle, BecomeIdle, tickets_out}
@@ -64,9 +63,12 @@ RefusesNow old new size share TooLarge = greatest_block < size
 RefusesNow old new size share NoTicket = (size ≤ greatest_block) × ¬ HasIdle old.lent share
 RefusesNow old new size share NoSpan = (size ≤ greatest_block) × HasIdle old.lent share × HasNoSpan size old new
 
--- no segment goes, or one, which is not the last free one
-abbrev pub HandsBack : RegionState → RegionState → Type 0
-HandsBack old new = (new ≡ old) ⊎ ((1 ≤ free_count new) × (free_count new + 1 ≡ free_count old))
+-- A segment went, which was not the last free one. The segments that were held and the blocks that stayed out had been as many as
+-- the pages make segments: with the block that is lent they are more.
+pub record HandsOneBack (old new : SpaceState) : Type 0 where
+  pub some : 1 ≤ free_count new.region
+  pub one : free_count new.region + 1 ≡ free_count old.region
+  pub crowded : old.pages / segment_pages < held_count old.region + tickets_out new.lent
 
 -- there was room for a block of so many bytes: the list was left alone, and no segment went
 pub record HasRoomAtOnce (size : ℕ) (old new : SpaceState) : Type 0 where
@@ -74,11 +76,11 @@ pub record HasRoomAtOnce (size : ℕ) (old new : SpaceState) : Type 0 where
   pub looks : new.looks ≡ old.looks
   pub region : new.region ≡ old.region
 
--- there was none: the list was looked at, and a segment may have gone
+-- there was none: the list was looked at, and where the pages were full a segment may have gone
 pub record MakesRoom (size : ℕ) (old new : SpaceState) : Type 0 where
   pub none : LacksBlock old.free size
   pub looked : LooksOnce old new
-  pub segments : HandsBack old.region new.region
+  pub segments : (new.region ≡ old.region) ⊎ HandsOneBack old new
 
 -- where a block is given: it is no larger than the greatest class, a ticket of the share was idle as the call began, and there was
 -- room, or some was made

@@ -1,11 +1,13 @@
 -- What a caller sees of a space: the rows of a shard's cache, and the blocks that it lent. Of the memory in which they stand it sees
 -- what stands at a place, which a guard holds there, and what the pages can still give.
-use Rattle.std.specs.Prelude.{◌≡◌, ℕ, List}
+use Rattle.std.specs.Prelude.{◌≡◌, ℕ, List, IsSome}
+use Rattle.layout.specs.Sizes.{segment}
 use Rattle.cache_model.specs.Row.{Row}
 use Rattle.foreign_list.specs.Lists.{OwnedList}
 use Rattle.regions.specs.Segments.{RegionState}
 use Rattle.regions.specs.Segments as segments
-use Rattle.regions.specs.Shapes.{guards_of}
+use Rattle.regions.specs.Shapes.{active_of, free_count, guards_of, held_count}
+use Rattle.regions.specs.Counts.{left}
 use Rattle.regions.specs.declared.place.Place.{Place}
 use Rattle.row_cache.specs.Rows.{StandsAt}
 use Rattle.shard_memory.specs.Room.{Room}
@@ -44,6 +46,13 @@ with_guards s guards = record s { region = segments.with_guards s.region 0 guard
 
 abbrev pub IsUnguarded : SpaceState → Type 0
 IsUnguarded s = guards_of s.region 0 ≡ 0
+
+-- two segments are held, and no object is in them: one is active, and the other is free
+pub record HoldsTwo (region : RegionState) : Type 0 where
+  pub held : held_count region ≡ 2
+  pub free : free_count region ≡ 1
+  pub active : IsSome (active_of region 0)
+  pub left : left region 0 ≡ segment
 
 -- whose space it is, its pages, the room of its tables, its list and the guards are as they were
 pub record IsSameSpace (old new : SpaceState) : Type 0 where

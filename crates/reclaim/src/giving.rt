@@ -1,10 +1,10 @@
 //! How a block is given that goes to another shard.
-ghost use Rattle.std.specs.Prelude.{◌≡◌, ◌≢◌, ℕ, ◌+◌, ◌<◌, ◌≤◌, length, replicate, IfOk, IfErr, IfSome, IfNone};
+ghost use Rattle.std.specs.Prelude.{◌≡◌, ◌≢◌, ◌⊎◌, ℕ, ◌+◌, ◌<◌, ◌≤◌, length, replicate, IfOk, IfErr, IfSome, IfNone};
 ghost use Rattle.layout.specs.Sizes.{greatest_block};
 ghost use Rattle.cache_model.specs.Row.{live};
 ghost use Rattle.shard_memory.specs.Room.{LacksBlock, HasAllRoom, IsTrimmed};
 ghost use Rattle.shard_memory.specs.Shards.{MemoryState, IsCrowded};
-ghost use Rattle.shard_memory.specs.Tickets.{HasIdle};
+ghost use Rattle.shard_memory.specs.Tickets.{HasIdle, tickets_out};
 ghost use Rattle.shard_memory.specs.Refusals.{RefusesFor};
 ghost use Rattle.regions.specs.Segments.{RegionState};
 ghost use Rattle.regions.specs.Shapes.{free_count};
@@ -12,10 +12,10 @@ ghost use Rattle.compaction.specs.Sparse.{IsCompacted};
 ghost use Rattle.row_cache.specs.Rows.{rows_of, Stay};
 ghost use Rattle.reclaim.specs.Works.{floor_of};
 ghost use Rattle.reclaim.specs.Spaces.{IsSameSpace, RowsStay};
-ghost use Rattle.reclaim.specs.Lending.{RefusesNow, GivesNow, HandsBack, LendsBlock};
+ghost use Rattle.reclaim.specs.Lending.{RefusesNow, GivesNow, HandsOneBack, LendsBlock};
 ghost use Rattle.reclaim.specs.inside.Consistent.{IsConsistent, IsWhole, space_of};
 ghost use Rattle.reclaim.specs.inside.Evicted.{HasEvicted};
-ghost use Rattle.reclaim.specs.inside.Homecoming.{TakesHome, TakesOnce, GivesAfter, RefusesAfter};
+ghost use Rattle.reclaim.specs.inside.Homecoming.{TakesHome, TakesOnce, GivesAfter, HandsBack, RefusesAfter};
 
 use crate::evicting::evict;
 use crate::segments::give_free_back;
@@ -259,7 +259,8 @@ fn give_squeezed<'f>(
     // What is lent, and how room was made.
     ensures given { IfSome result (GivesAfter share size memory.old memory.new) }
     ensures once { TakesOnce memory.old memory.new }
-    ensures handed { HandsBack cache.old.region cache.new.region }
+    ensures segments { (cache.new.region ≡ cache.old.region)
+        ⊎ HandsOneBack (space_of memory.old cache.old) (space_of memory.new cache.new) }
 
     // Why none is given.
     ensures none { IfNone result (RefusesAfter memory.old memory.new cache.new.region size share GiveRefusal.NoSpan) }
@@ -326,10 +327,11 @@ fn give_freed<'f>(
     // Guards may stand.
     requires consistent { (guards : ℕ) × IsConsistent memory.old.owner memory.old.pages guards memory.old cache.old.region }
 
-    // A segment may go for the block.
+    // A segment goes for the block.
     ensures given { IfSome result (GivesAfter share size memory.old memory.new) }
+    ensures out { IfSome result (λ _. tickets_out memory.new.lent ≡ tickets_out memory.old.lent + 1) }
     ensures looks { memory.new.take_wholes ≡ memory.old.take_wholes }
-    ensures handed { HandsBack cache.old.region cache.new.region }
+    ensures handed { IfSome result (λ _. HandsBack cache.old.region cache.new.region) }
 
     // Else one segment is free at most.
     ensures none { IfNone result (free_count cache.new.region ≤ 1) }
@@ -355,6 +357,7 @@ fn give_surely<'f>(memory: &mut ShardMemory<'f>, size: u32, share: Share) -> For
     requires idle { HasIdle memory.old.lent share }
     requires room { HasAllRoom memory.old.room }
     ensures given { GivesAfter share size memory.old memory.new result }
+    ensures out { tickets_out memory.new.lent ≡ tickets_out memory.old.lent + 1 }
     ensures looks { memory.new.take_wholes ≡ memory.old.take_wholes }
     ensures consistent { (shard pages guards : ℕ) (region : RegionState) → IsConsistent shard pages guards memory.old region
         → IsConsistent shard pages guards memory.new region }
@@ -376,6 +379,7 @@ fn give_at_once<'f>(
     // What is lent of what is free.
     ensures given { IfOk result (GivesAfter share size memory.old memory.new) }
     ensures able { IfOk result (λ _. (size ≤ greatest_block) × HasIdle memory.old.lent share × ¬ LacksBlock memory.old.room size) }
+    ensures out { IfOk result (λ _. tickets_out memory.new.lent ≡ tickets_out memory.old.lent + 1) }
     ensures looks { memory.new.take_wholes ≡ memory.old.take_wholes }
 
     // Why none is given.

@@ -6,9 +6,9 @@ ghost use Rattle.shard_memory.specs.Shards.{IsCrowded};
 ghost use Rattle.shard_memory.specs.Tickets.{tickets_out};
 ghost use Rattle.regions.specs.Shapes.{active_of, free_count};
 ghost use Rattle.row_cache.specs.Rows.{rows_of, Stay};
+ghost use Rattle.reclaim.specs.Spaces.{HoldsTwo};
 ghost use Rattle.reclaim.specs.inside.Consistent.{IsMadeOf, IsConsistent};
-ghost use Rattle.reclaim.specs.Lending.{HandsBack};
-ghost use Rattle.reclaim.specs.inside.Homecoming.{SameTickets};
+ghost use Rattle.reclaim.specs.inside.Homecoming.{SameTickets, HandsBack};
 
 use row_cache::RowCache;
 use shard_memory::ShardMemory;
@@ -25,6 +25,7 @@ pub(crate) fn begin(memory: &mut ShardMemory<'_>, cache: &mut RowCache)
 
     // A segment is active, another one free.
     ensures consistent { IsConsistent memory.old.owner memory.old.pages 0 memory.new cache.new.region }
+    ensures segments { HoldsTwo cache.new.region }
 
     // Nothing else has changed.
     ensures tickets { SameTickets memory.old memory.new }
@@ -104,7 +105,7 @@ pub(crate) fn give_free_back(memory: &mut ShardMemory<'_>, cache: &mut RowCache)
     ensures room { result ≡ true → HasAllRoom memory.new.room }
     ensures none { result ≡ false → free_count cache.old.region ≤ 1 }
     ensures unchanged { result ≡ false → (memory.new ≡ memory.old) × (cache.new ≡ cache.old) }
-    ensures handed { HandsBack cache.old.region cache.new.region }
+    ensures handed { result ≡ true → HandsBack cache.old.region cache.new.region }
 
     // No row moved, and no block came home.
     ensures tickets { SameTickets memory.old memory.new }

@@ -10,7 +10,7 @@ ghost use Rattle.foreign_list.specs.OwnerSeats.{IsAtRest};
 ghost use Rattle.row_cache.specs.Rows.{reply_of};
 ghost use Rattle.shard_memory.specs.Tickets.{tickets_out};
 ghost use Rattle.shard_rings.specs.Ask.{asked, IsAskable};
-ghost use Rattle.reclaim.specs.Spaces.{SpaceState, IsSameSpace, IsUnguarded};
+ghost use Rattle.reclaim.specs.Spaces.{SpaceState, HoldsTwo, IsSameSpace, IsUnguarded};
 ghost use Rattle.reclaim.specs.Lending.{TakesBack};
 ghost use Rattle.reclaim.specs.Works.{Records, StoresUnderPressure};
 
@@ -75,6 +75,7 @@ impl<'f> Space<'f> {
         // It is this shard's, and empty.
         ensures numbers { IfOk result (λ space. (space.shard ≡ shard) × (space.pages ≡ pages) × (space.room ≡ rows)) }
         ensures rows { IfOk result (λ space. space.rows ≡ []) }
+        ensures segments { IfOk result (λ space. HoldsTwo space.region) }
 
         // Nothing is lent, and no guard stands.
         ensures list { IfOk result (λ space. space.list ≡ home.now) }

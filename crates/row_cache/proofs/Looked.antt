@@ -14,8 +14,8 @@ use Rattle.regions.specs.Counts.{live_total, live_in}
 use Rattle.regions.specs.Contents.{Item, Standing, item_if_live, if_live, live_at, standing_at, standing_in}
 use Rattle.regions.specs.Stores.{Live, store_of, found}
 use Rattle.regions.specs.declared.place.Place.{Place}
+use Rattle.row_cache.specs.Links.{bare}
 use Rattle.row_cache.specs.Rows.{AreRelinked, row_at, rows_at, StandsAt}
-use Rattle.row_cache.specs.inside.Moved.{bare}
 use Rattle.row_cache.specs.inside.Tables.{TableState, AreTablesOf, IsListed, HasRow, IsLast, place_of}
 use Rattle.row_cache.specs.inside.Consistent.{IsCounted, rows_in, rows_with}
 use Rattle.row_cache.proofs.Listed.{map_same, live_without, last_row, delete_last}

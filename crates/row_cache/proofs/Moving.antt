@@ -8,8 +8,8 @@ use Rattle.common_lemmas.specs.Lists.{times}
 use Rattle.regions.specs.Contents.{Item}
 use Rattle.regions.specs.Stores.{Live, StandsFor, store_of, found, is_place, less, renamed}
 use Rattle.regions.specs.declared.place.Place.{Place}
+use Rattle.row_cache.specs.Links.{bare}
 use Rattle.row_cache.specs.inside.Tables.{IsRowOf, TableState, AreTablesOf, IsListed, ReplacesRow, place_of}
-use Rattle.row_cache.specs.inside.Moved.{bare}
 use Rattle.row_cache.proofs.Numbers.{listed_below}
 use Rattle.row_cache.proofs.States.{row_is, some_same, some_none, same_number, got_set, got_past_set}
 

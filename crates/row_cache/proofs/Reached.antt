@@ -56,6 +56,7 @@ row_of_number t r n p h is =
       placed = h.placed ∙ ap (λ q. Some q) same;
       item = h.item;
       stands = sym (ap (live_at r) same) ∙ h.is_live;
+      kind = h.is_row.kind;
       holds = subst (λ (row : Row). HoldsRow h.item.content n row) (sym h.is_row.read) h.is_row.holds;
     }
 

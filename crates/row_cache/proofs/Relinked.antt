@@ -11,10 +11,9 @@ use Rattle.regions.specs.Counts.{left, left_of, live_total, live_counts, used_co
 use Rattle.regions.specs.Contents.{Item, Standing, ChangesAt, if_live, item_if_live, live_at, size_of, standing_at, with_bytes}
 use Rattle.regions.specs.Stores.{Live, SameBut, less, without_references}
 use Rattle.regions.specs.declared.place.Place.{Place}
-use Rattle.row_cache.specs.Links.{content_of}
+use Rattle.row_cache.specs.Links.{bare, content_of}
 use Rattle.row_cache.specs.Rows.{AreRelinked, HasOtherLinks, IsSameRow, Stay, content_at, key_at, row_at}
 use Rattle.row_cache.specs.inside.Tables.{AreTablesOf, HoldsARow, IsRowOf, TableState}
-use Rattle.row_cache.specs.inside.Moved.{bare}
 use Rattle.row_cache.proofs.Moving.{place_tells}
 use Rattle.row_cache.proofs.States.{some_none, some_same, place_cases}
 

@@ -1,10 +1,14 @@
 -- How the rows of a cache are linked: each to the row that was used next after it, and to the one that was used next before it.
 use Rattle.std.specs.Prelude.{◌≡◌, ◌≢◌, ⊤, ℕ, zero, suc, ◌+◌, ◌*◌, ◌/◌, ◌%◌, ◌^◌, ◌<◌, ◌==◌, cond, List, [], ◌∷◌, Option, None, Some}
 use Rattle.layout.specs.Sizes.{segment}
-use Rattle.row_bytes.specs.Rows.{newer_in, older_in, no_link}
+use Rattle.row_bytes.specs.Rows.{newer_in, older_in, no_link, without_links}
 use Rattle.regions.specs.Contents.{Item}
 use Rattle.regions.specs.Stores.{Live}
 use Rattle.regions.specs.declared.place.Place.{Place}
+
+-- a row without its links
+abbrev pub bare : Item → Item
+bare item = record item { content = without_links item.content }
 
 -- the content of the live object at a place, and no byte where there is none
 abbrev pub content_of : Option Item → List ℕ

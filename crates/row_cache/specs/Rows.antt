@@ -56,11 +56,16 @@ pub record IsLinkedThrough (c : CacheState) : Type 0 where
   pub last : c.last ≡ last_or None (places_of c)
   pub links : AreLinked (live_at c.region) None (places_of c) None
 
--- the table of places has the row of a number: it is live at the number's place
+-- the kind of an object that holds a row
+abbrev pub row_kind : ℕ
+row_kind = 1
+
+-- the table of places has the row of a number: it is live at the number's place, as an object of the kind of rows
 pub record HasRowAt (c : CacheState) (n : ℕ) (p : Place) : Type 0 where
   pub placed : slice_get c.places n ≡ Some p
   pub item : Item
   pub stands : live_at c.region p ≡ Some item
+  pub kind : item.kind ≡ row_kind
   pub holds : HoldsRow item.content n (row_in item.content)
 
 -- The links meet each row of the table of places once, and meet nothing else. No place comes twice, at each of them the table

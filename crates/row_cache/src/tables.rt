@@ -366,6 +366,7 @@ fn number_at(region: &Region, place: Place) -> u32
 
 impl Movers for Tables {
     ghost use Rattle.std.specs.Prelude.{[], None};
+    ghost use Rattle.row_cache.specs.Links as links;
     ghost use Rattle.row_cache.specs.inside.Chained as chained;
     ghost use Rattle.row_cache.specs.inside.Moved as moves;
     ghost use Rattle.row_cache.specs.inside.Tables as tables;
@@ -374,7 +375,7 @@ impl Movers for Tables {
 
     ghost place_of = { tables.place_of };
 
-    ghost bare = { moves.bare };
+    ghost bare = { links.bare };
 
     ghost references = { moves.references };
 

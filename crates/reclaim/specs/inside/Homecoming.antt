@@ -1,5 +1,5 @@
 -- What a shard's memory lent, and what came home to it.
-use Rattle.std.specs.Prelude.{◌≡◌, ℕ, suc, ◌<◌, ◌≤◌, Some, slice_set, length}
+use Rattle.std.specs.Prelude.{◌≡◌, ℕ, suc, ◌+◌, ◌<◌, ◌≤◌, Some, slice_set, length}
 use Rattle.layout.specs.Sizes.{greatest_block}
 use Rattle.foreign_list.specs.Blocks.{Block, piece_id_of}
 use Rattle.regions.specs.Segments.{RegionState}
@@ -35,6 +35,10 @@ pub record TakesHome (old new : MemoryState) : Type 0 where
 -- where a block was out, the list was taken once
 abbrev pub TakesOnce : MemoryState → MemoryState → Type 0
 TakesOnce old new = 0 < tickets_out old.lent → new.take_wholes ≡ suc old.take_wholes
+
+-- a segment went, which was not the last free one
+abbrev pub HandsBack : RegionState → RegionState → Type 0
+HandsBack old new = (1 ≤ free_count new) × (free_count new + 1 ≡ free_count old)
 
 -- the block of so many bytes was lent, and nothing else
 pub record Gives (share : Share) (size : ℕ) (old new : MemoryState) (block : Block) : Type 0 where

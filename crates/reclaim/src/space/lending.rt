@@ -29,8 +29,9 @@ impl<'f> Space<'f> {
     }
 
     /// Lends a block of so many bytes, all of them 0, with an idle ticket of the share. Where there is no room for it, lent blocks
-    /// that were released come home first, and then a segment goes back to the pages that is free besides the last one. Nothing is
-    /// moved and no row goes, so it may be called under a guard.
+    /// that were released come home first. Where there is none still, segments and blocks that are out are together as many as the
+    /// pages make segments, and a segment goes back to them that is free besides the last one. Nothing is moved and no row goes, so
+    /// it may be called under a guard.
     ///
     /// # Errors
     /// In this order: `TooLarge` exactly above 16,384 bytes, and `NoTicket` exactly where no ticket of the share is idle as the call

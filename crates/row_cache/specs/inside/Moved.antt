@@ -1,13 +1,9 @@
 -- The reference fields of a row: its links.
 use Rattle.std.specs.Prelude.{ℕ, List, [], ◌∷◌, ◌==◌, cond}
-use Rattle.row_bytes.specs.Rows.{newer_in, older_in, no_link, without_links}
+use Rattle.row_bytes.specs.Rows.{newer_in, older_in, no_link}
 use Rattle.regions.specs.Contents.{Item}
 use Rattle.regions.specs.declared.place.Place.{Place}
 use Rattle.row_cache.specs.Links.{place_of_link}
-
--- a row without its links
-abbrev pub bare : Item → Item
-bare item = record item { content = without_links item.content }
 
 -- the place to which a link leads, in front of others
 abbrev pub leads_to : ℕ → List Place → List Place

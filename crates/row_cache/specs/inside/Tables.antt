@@ -10,7 +10,7 @@ use Rattle.lazy_index.specs.Lazy.{Lazy, IsKeyed, rows_in}
 use Rattle.regions.specs.Contents.{Item, size_of}
 use Rattle.regions.specs.Stores.{Live}
 use Rattle.regions.specs.declared.place.Place.{Place}
-use Rattle.row_cache.specs.Rows.{key_at}
+use Rattle.row_cache.specs.Rows.{key_at, row_kind}
 use Rattle.row_cache.specs.declared.ends.Ends.{Ends}
 
 -- the numbers of the rows, the one used last in front, which only contracts know, the ends of their chain, their places by
@@ -22,10 +22,6 @@ pub record TableState : Type 0 where
   pub places : List Place
   pub freed : List ℕ
   pub index : Lazy
-
--- the kind of an object that holds a row
-abbrev pub row_kind : ℕ
-row_kind = 1
 
 -- the item is a row with its number, and is read as this
 pub record IsRowOf (item : Item) (n : ℕ) (row : Row) : Type 0 where

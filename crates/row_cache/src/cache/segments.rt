@@ -1,11 +1,13 @@
 //! The segments of a cache: the region's calls, which leave its rows as they are.
-ghost use Rattle.std.specs.Prelude.{◌≡◌, ◌↔◌, ◌⊎◌, ◌+◌, ◌-◌, ◌<◌, ◌≤◌, ℕ, [], length, slice_get, slice_set, Some, None, IfSome, IsNone, IsSome};
+ghost use Rattle.std.specs.Prelude.{◌≡◌, ◌↔◌, ◌⊎◌, ◌+◌, ◌-◌, ◌<◌, ◌≤◌, ℕ, List, [], length, slice_get, slice_set, Some, None, IfSome, IsNone, IsSome};
 ghost use Rattle.layout.specs.Sizes as sizes;
-ghost use Rattle.regions.specs.Segments.{segment_at, with_segment, with_guards, fresh, all_emptied};
-ghost use Rattle.regions.specs.Shapes.{identity, shape, active_of, guards_of, pieces, held_count, free_count, activated, IsLeastFree, IsGreatestFree, IsGreatestHeld, IsLeastUnused};
+ghost use Rattle.regions.specs.Segments.{RegionState, segment_at, with_segment, with_guards, fresh, all_emptied};
+ghost use Rattle.regions.specs.Shapes.{identity, shape, active_of, guards_of, pieces, held_count, free_count, activated, IsLeastFree, IsGreatestFree, IsGreatestHeld, IsLeastUnused, IsUnguarded};
 ghost use Rattle.regions.specs.Counts.{left};
 ghost use Rattle.compaction.specs.Sparse.{IsCompacted};
 ghost use Rattle.compaction.specs.Emptied.{HoldsTheSame};
+ghost use Rattle.compaction.specs.Passes.{Passes};
+ghost use Rattle.row_cache.specs.Links.{bare};
 ghost use Rattle.row_cache.specs.Rows.{rows_of, Stay};
 
 use super::RowCache;
@@ -62,16 +64,25 @@ impl RowCache {
         self.region.next_active(0);
     }
 
-    /// Empties segments into the active one until two are free, or no closed one is sparse.
+    /// Empties segments one after the other until two are free, or nothing is left to compact, as [`compaction::pass`] does.
     pub fn compact(&mut self) -> Compacted
         requires { 1 ≤ free_count self.old.region }
-        ensures rows { rows_of self.new ≡ rows_of self.old }
-        ensures room { self.new.room ≡ self.old.room }
+
+        // What it answers, and when nothing changed.
         ensures guarded { result ≡ Compacted.Guarded ↔ 1 ≤ guards_of self.old.region 0 }
         ensures unchanged { result ≡ Compacted.Guarded → self.new ≡ self.old }
         ensures freed { result ≡ Compacted.Freed → 2 ≤ free_count self.new.region }
         ensures none { result ≡ Compacted.NoneSparse → IsCompacted self.new.region }
+        ensures enough { IsUnguarded self.old.region → 2 ≤ free_count self.old.region
+            → (result ≡ Compacted.Freed) × (self.new ≡ self.old) }
+
+        // What it does, one segment after the other. A segment is free.
+        ensures steps { (states : List RegionState) × Passes bare self.old.region states self.new.region }
         ensures free { 1 ≤ free_count self.new.region }
+
+        // The rows are the same, wherever they stand now.
+        ensures rows { rows_of self.new ≡ rows_of self.old }
+        ensures room { self.new.room ≡ self.old.room }
         ensures holds { HoldsTheSame self.old.region self.new.region }
     {
         a_row_is_read_as_it_is_written();

@@ -189,7 +189,7 @@ fn swap_row(
     Ok((place, bytes))
 }
 
-// Places a row as a new object, with no links.
+// Places a row as a new object.
 fn place_row(region: &mut Region, number: u32, row: NewRow<'_>) -> Result<Place, NeedSegment>
     requires row { IsStored row }
     requires one { HasOneGroup region.old }

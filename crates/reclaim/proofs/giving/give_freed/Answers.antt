@@ -1,3 +1,5 @@
+use Rattle.std.proofs.Common.{◌+◌, ap, ◌∙◌}
+use Rattle.shard_memory.specs.Tickets.{Tickets, tickets_out}
 use Rattle.reclaim.proofs.Homecoming.{after-same}
 use Rattle.reclaim.proofs.giving.give_freed.Goals as goal
 
@@ -6,3 +8,6 @@ returns-clause-given c = after-same c.args.share c.args.size c.args.memory.now c
 
 pub returns-clause-consistent : goal.returns-clause-consistent
 returns-clause-consistent c shard pages standing h = c.give_surely.ensures.consistent shard pages standing c.give_free_back.new.cache.region (c.give_free_back.ensures.consistent shard pages standing h)
+
+pub returns-clause-out : goal.returns-clause-out
+returns-clause-out c = c.give_surely.ensures.out ∙ ap (λ (l : Tickets). tickets_out l + 1) c.give_free_back.ensures.tickets.lent

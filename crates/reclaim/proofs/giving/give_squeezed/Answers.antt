@@ -1,6 +1,8 @@
+use Rattle.std.proofs.Common.{inl, refl}
 use Rattle.foreign_list.specs.Blocks.{Block}
 use Rattle.reclaim.specs.inside.Homecoming.{GivesAfter}
 use Rattle.reclaim.proofs.Homecoming.{after-home, some-map}
+use Rattle.reclaim.proofs.Pressure.{hands-one, pages-filled}
 use Rattle.reclaim.proofs.giving.give_squeezed.Goals as goal
 
 pub returns-in-Some-clause-consistent : goal.returns-in-Some-clause-consistent
@@ -13,3 +15,14 @@ returns-in-None-clause-given c =
 
 pub returns-in-None-clause-consistent : goal.returns-in-None-clause-consistent
 returns-in-None-clause-consistent c shard pages standing h = c.give_freed.ensures.consistent shard pages standing (c.give_trimmed.ensures.consistent shard pages standing c.args.cache.now.region h)
+
+pub returns-in-Some-clause-segments : goal.returns-in-Some-clause-segments
+returns-in-Some-clause-segments c = inl refl
+
+pub returns-in-None-clause-segments : goal.returns-in-None-clause-segments
+returns-in-None-clause-segments c =
+    let old = c.args.memory.now in let mid = c.give_trimmed.new.memory in let cache = c.args.cache.now in let e = c.in-None.ensures in let f = c.give_freed.ensures in
+    let standing = c.requires.consistent.0 in
+    let made = (c.give_trimmed.ensures.consistent old.owner old.pages standing cache.region c.requires.consistent.1).made in
+    hands-one old mid c.give_freed.new.memory cache c.give_freed.new.cache c.give_freed.result
+    (pages-filled old.owner old.pages standing old mid cache.region made e.taken.pages e.none.2) f.handed f.out f.unchanged

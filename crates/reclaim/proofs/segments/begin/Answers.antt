@@ -1,4 +1,4 @@
-use Rattle.std.proofs.Common.{ℕ, ap, ◌∙◌, subst, arith}
+use Rattle.std.proofs.Common.{ℕ, length, ap, ◌∙◌, subst, arith}
 use Rattle.regions.specs.Segments.{group_at}
 use Rattle.regions.specs.Shapes.{Shape, active_of, shape}
 use Rattle.regions.specs.Counts.{used_counts}
@@ -16,4 +16,14 @@ returns-clause-consistent c =
           (ap (λ (s : Shape). (group_at s.groups 0).guards) shapes ∙ guards-activated (shape region).groups e.activated.0) made;
       active = left-of-one (used_counts next) (active_of next 0) e.left;
       free = (let one = e.free in let two = second.free in let three = first.free in omega (arith, one, two, three));
+    }
+
+pub returns-clause-segments : goal.returns-clause-segments
+returns-clause-segments c =
+    let first = c.add_first.ensures in let second = c.add_first-2.ensures in let next = c.next_active.new.self.region in let e = c.next_active.ensures in
+    record {
+      held = (let none = ap length c.requires.none in let one = first.one_more in let two = second.one_more in let count = second.made.holds.count in let same = e.held in omega (arith, none, one, two, count, same));
+      free = (let none = c.requires.free in let one = first.free in let two = second.free in let last = e.free in omega (arith, none, one, two, last));
+      active = left-of-one (used_counts next) (active_of next 0) e.left;
+      left = e.left;
     }

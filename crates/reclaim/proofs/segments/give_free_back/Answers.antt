@@ -29,3 +29,8 @@ returns-clause-consistent c shard pages standing h =
       active = subst (λ (r : RegionState). IsSome (active_of r 0)) (sym g.3) h.active;
       free = let less = e.free refl in let two = at-least-two (free_count region) (λ few. let clash : IsNone (Some c.in-Some.piece) = e.none.1 few in cc) in omega (arith, less, two);
     }
+
+pub returns-clause-handed : goal.returns-clause-handed
+returns-clause-handed c _ =
+    let e = c.in-Some.ensures in let region = c.args.cache.now.region in
+    let less = e.free refl in let two = at-least-two (free_count region) (λ few. let clash : IsNone (Some c.in-Some.piece) = e.none.1 few in cc) in (omega (arith, less, two), less)
