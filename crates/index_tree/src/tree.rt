@@ -3,9 +3,10 @@ ghost use Rattle.std.specs.Prelude.{◌≡◌, ◌↔◌, ℕ, ◌+◌, ◌-◌,
 ghost use Rattle.layout.specs.Sizes as sizes;
 ghost use Rattle.regions.specs.Segments.{segment_at, with_segment, with_guards, fresh, all_emptied, idle};
 ghost use Rattle.regions.specs.Shapes.{shape, group_count, active_of, guards_of, pieces, held_count, free_count, IsGreatestHeld, IsLeastUnused};
-ghost use Rattle.regions.specs.Contents.{Keeps};
+ghost use Rattle.regions.specs.Contents.{Item, Keeps, live_at};
+ghost use Rattle.regions.specs.declared.place.Place.{Place};
 ghost use Rattle.tree_nodes.specs.Nodes.{IsEntry};
-ghost use Rattle.index_tree.specs.Sizes.{most, most_levels};
+ghost use Rattle.index_tree.specs.Sizes.{most, most_levels, most_spares, node_kind};
 ghost use Rattle.index_tree.specs.Indexes as indexes;
 ghost use Rattle.index_tree.specs.Store.{index_in, levels, AreNodes, HoldsSegments, Stay};
 
@@ -68,9 +69,12 @@ impl IndexTree {
         })
     }
 
-    /// What holds of the index at each time: its nodes are a tree, its keys rise, and there are no more than there is room for.
+    /// What holds of the index at each time: its nodes are a tree, of one kind and few of them spare, its keys rise, and there are
+    /// no more than there is room for.
     pub fn facts(&self)
         ensures nodes { AreNodes self.now }
+        ensures kinds { (p : Place) (item : Item) → live_at self.now.region p ≡ Some item → item.kind ≡ node_kind }
+        ensures spares { length self.now.tree.spares ≤ most_spares }
         ensures index { indexes.IsIndex (index_in self.now) }
         ensures entries { All IsEntry (index_in self.now) }
         ensures room { length (index_in self.now) ≤ most (held_count self.now.region) }
