@@ -3,9 +3,10 @@ ghost use Rattle.std.specs.Prelude.{◌≡◌, ◌↔◌, ℕ, ◌+◌, ◌-◌,
 ghost use Rattle.layout.specs.Sizes as sizes;
 ghost use Rattle.regions.specs.Segments.{segment_at, with_segment, with_guards, fresh, all_emptied, idle};
 ghost use Rattle.regions.specs.Shapes.{shape, group_count, active_of, guards_of, pieces, held_count, free_count, IsGreatestHeld, IsLeastUnused};
-ghost use Rattle.regions.specs.Contents.{Keeps};
+ghost use Rattle.regions.specs.Contents.{Item, Keeps, live_at};
+ghost use Rattle.regions.specs.declared.place.Place.{Place};
 ghost use Rattle.tree_nodes.specs.Nodes.{IsEntry};
-ghost use Rattle.index_tree.specs.Sizes.{most, most_levels};
+ghost use Rattle.index_tree.specs.Sizes.{most, most_levels, most_spares, node_kind};
 ghost use Rattle.index_tree.specs.Indexes as indexes;
 ghost use Rattle.index_tree.specs.Store.{index_in, levels, AreNodes, HoldsSegments, Stay};
 
@@ -68,9 +69,12 @@ impl IndexTree {
         })
     }
 
-    /// What holds of the index at each time: its nodes are a tree, its keys rise, and there are no more than there is room for.
+    /// What holds of the index at each time: its nodes are a tree, of one kind and few of them spare, its keys rise, and there are
+    /// no more than there is room for.
     pub fn facts(&self)
         ensures nodes { AreNodes self.now }
+        ensures kinds { (p : Place) (item : Item) → live_at self.now.region p ≡ Some item → item.kind ≡ node_kind }
+        ensures spares { length self.now.tree.spares ≤ most_spares }
         ensures index { indexes.IsIndex (index_in self.now) }
         ensures entries { All IsEntry (index_in self.now) }
         ensures room { length (index_in self.now) ≤ most (held_count self.now.region) }
@@ -182,12 +186,13 @@ impl IndexTree {
         get(&self.region, self.roots.root(), self.roots.level(), key)
     }
 
-    /// Takes a key away, and gives its number. None where it is not there. No node moves.
+    /// Takes a key away, and gives its number. None where it is not there. No node moves: each that stays keeps its place, its level
+    /// and its order among the nodes of the level.
     pub fn remove(&mut self, key: &[u8]) -> Option<u32>
         ensures had { result ≡ indexes.number_of key.now (index_in self.old) }
         ensures unchanged { IsNone result → self.new ≡ self.old }
         ensures index { index_in self.new ≡ indexes.without key.now (index_in self.old) }
-        ensures stay { Stay self.old.region self.new.region }
+        ensures stay { Stay self.old self.new }
         ensures segments { HoldsSegments self.old.region self.new.region }
     {
         let root = self.roots.root()?;

@@ -1,9 +1,10 @@
-use Rattle.std.proofs.Common.{◌≡◌, ◌≤◌, All, length, sym, subst}
+use Rattle.std.proofs.Common.{◌≡◌, ◌≤◌, All, length, Some, sym, subst}
 use Rattle.regions.specs.Shapes.{group_count, held_count}
-use Rattle.regions.specs.Contents.{live_at}
+use Rattle.regions.specs.Contents.{Item, live_at}
+use Rattle.regions.specs.declared.place.Place.{Place}
 use Rattle.tree_nodes.specs.Nodes.{IsEntry}
 use Rattle.index_tree.specs.Indexes.{Index, IsIndex}
-use Rattle.index_tree.specs.Sizes.{most, most_levels}
+use Rattle.index_tree.specs.Sizes.{most, most_levels, most_spares, node_kind}
 use Rattle.index_tree.specs.Store.{AreNodes, IndexState, index_in, levels, nodes_of}
 use Rattle.index_tree.proofs.Entries.{entries_stand}
 use Rattle.index_tree.proofs.States.{low_enough}
@@ -11,6 +12,14 @@ use Rattle.index_tree.proofs.tree.IndexTree.facts.Goals as goal
 
 pub returns-clause-nodes : goal.returns-clause-nodes
 returns-clause-nodes c = let r = c.self.invariant.roster in subst (λ (s : IndexState). AreNodes s) c.self.view_is (record { nodes = r.holds; tree = r.tree })
+
+pub returns-clause-kinds : goal.returns-clause-kinds
+returns-clause-kinds c =
+    subst (λ (s : IndexState). (p : Place) (item : Item) → live_at s.region p ≡ Some item → item.kind ≡ node_kind) c.self.view_is
+    (λ p item is. (c.self.invariant.roster.kinds p item is).1)
+
+pub returns-clause-spares : goal.returns-clause-spares
+returns-clause-spares c = subst (λ (s : IndexState). length s.tree.spares ≤ most_spares) c.self.view_is c.self.invariant.spare
 
 pub returns-clause-index : goal.returns-clause-index
 returns-clause-index c =
