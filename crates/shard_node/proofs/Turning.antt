@@ -2,6 +2,7 @@
 pub mod Steps
 pub mod Joins
 pub mod AsksGate
+pub mod ThroughGate
 pub mod TellsStrays
 pub mod StraysCame
 pub mod TurnTold

@@ -15,7 +15,7 @@ use Rattle.foreign_list.specs.Blocks.{Block}
 use Rattle.layout.specs.Counts.{raised, greatest_count}
 use Rattle.shard_memory.specs.Tickets.{tickets_out}
 use Rattle.shard_rings.specs.declared.link.Packet.{Packet}
-use Rattle.shard_rings.specs.declared.link.Packet.TheVariants.{Block as InBlock, Bye}
+use Rattle.shard_rings.specs.declared.link.Packet.TheVariants.{Block as InBlock}
 use Rattle.shard_rings.specs.Lanes.{Traffic}
 use Rattle.shard_node.specs.Nodes.{NodeState, PeerState}
 use Rattle.shard_node.specs.declared.waiting.Waiting.{Waiting}

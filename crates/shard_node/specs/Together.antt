@@ -1,16 +1,17 @@
--- The nodes of one run, once all of them are done: what they say together.
+-- The nodes of one run: what each that is done says alone, and what they say together once all of them are.
 use Rattle.std.specs.Prelude.{◌≡◌, ℕ, ◌<◌, ◌^◌, List, length, map, All, Contains, Option, Some, IsSome}
 use Rattle.std.specs.List.{slice_get, slice_index_or}
+use Rattle.trace_text.specs.Parts.{parts}
 use Rattle.trace_text.specs.Trace.{Trace}
 use Rattle.cache_model.specs.declared.entry.Entry.{Entry}
 use Rattle.cache_model.specs.declared.reply_kind.ReplyKind.{ReplyKind}
-use Rattle.cache_model.specs.Legal.{IsComplete, IsLegal, cache_after}
+use Rattle.cache_model.specs.Legal.{IsComplete, IsLegal, cache_after, reply_at}
 use Rattle.cache_model.specs.OwnParts.{HoldsReplies, part_reply, parts_of}
 use Rattle.cache_model.specs.Report.{lent}
 use Rattle.layout.specs.Counts.{raised}
 use Rattle.shard_rings.specs.Lanes.{ArePrefixes, Traffic}
 use Rattle.shard_node.specs.Nodes.{NodeState, PeerState, others}
-use Rattle.shard_node.specs.Standing.{InStanding}
+use Rattle.shard_node.specs.Standing.{AreReplies, InStanding}
 use Rattle.shard_node.specs.Turns.{IsDone}
 
 module _ {L G : Type 0} where
@@ -47,6 +48,19 @@ module _ {L G : Type 0} (traffic : L → Traffic) (holds : G → ℕ) (trace : T
     pub count : length nodes ≡ n
     pub each : (s : ℕ) (node : NodeState L G) → slice_get nodes s ≡ Some node → IsDoneNode s node
     pub met : (a b : ℕ) (p q : PeerState L) → IsPeer nodes a b p → IsPeer nodes b a q → ArePrefixes (traffic p.link).received (traffic q.link).sent
+
+-- What node s says alone of a trace, with n shards of so many pages each, whatever its links brought.
+module _ {L G : Type 0} (traffic : L → Traffic) (trace : Trace) (n pages s : ℕ) (node : NodeState L G) where
+  -- the peer was sent the journal's replies to all parts that its shard issues and this one does, in order, and no more
+  pub record SentAllReplies (peer : PeerState L) : Type 0 where
+    pub count : length (traffic peer.link).sent.replies ≡ length (parts trace n peer.shard s)
+    pub replies : AreReplies (reply_at trace pages node.journal.entries) (traffic peer.link).sent.replies (parts trace n peer.shard s)
+
+  -- its journal is legal, and has the parts of its shard, neither more nor fewer; and each peer has its replies
+  pub record IsCompleteNode : Type 0 where
+    pub legal : IsLegal trace pages node.journal.entries
+    pub complete : IsComplete trace n s node.journal.entries
+    pub replied : All SentAllReplies node.peers
 
 -- What they say together of a trace, with n shards of so many pages each.
 module _ {L G : Type 0} (traffic : L → Traffic) (trace : Trace) (n pages : ℕ) where

@@ -1,5 +1,5 @@
 -- What a turn answers, and exactly when.
-use Rattle.std.specs.Prelude.{◌≡◌, ◌≢◌, ℕ, ◌-◌, ◌<◌, ◌⊎◌, false, List, ◌∷◌, ◌++◌, length, map, All, Option, Some, None, IsSome}
+use Rattle.std.specs.Prelude.{◌≡◌, ◌≢◌, ℕ, ◌+◌, ◌-◌, ◌<◌, ◌≤◌, ◌⊎◌, false, List, ◌∷◌, ◌++◌, length, map, All, Option, Some, None, IsSome}
 use Rattle.std.specs.List.{slice_get}
 use Rattle.cache_model.specs.Apply.{Reply}
 use Rattle.cache_model.specs.Legal.{done}
@@ -25,6 +25,14 @@ use Rattle.shard_node.specs.Due.{AnswersNot, Takes, due, is_next, number_in, ope
 -- the place k of two lists
 abbrev pub AtPlace : {A : Type 0} → List A → List A → ℕ → (A → A → Type 0) → Type 0
 AtPlace {A} old new k R = (a b : A) → slice_get old k ≡ Some a → slice_get new k ≡ Some b → R a b
+
+-- the own part k is the first of its command
+abbrev pub IsFirst : {L G : Type 0} → NodeState L G → ℕ → ℕ × ℕ → Type 0
+IsFirst node k part = (k ≡ 0) ⊎ ((before : ℕ × ℕ) × (slice_get (issued_parts node.trace node.shards node.shard) (k - 1) ≡ Some before) × (before.0 ≢ part.0))
+
+-- the part is the next own one, and the first of its command
+abbrev pub IsNextFirst : {L G : Type 0} → NodeState L G → ℕ × ℕ → Type 0
+IsNextFirst node part = (slice_get (issued_parts node.trace node.shards node.shard) node.begun ≡ Some part) × IsFirst node node.begun part
 
 -- One node's turn, from `old` to `new`. Its links tell what went over them and what they counted, and its gate how often it
 -- held.
@@ -153,10 +161,6 @@ module _ {L G : Type 0} (traffic : L → Traffic) (holds : G → ℕ) where
     pub no_request : (HasHeardBye node old → ⊥) → IsEmpty old.held.requests → IsEmpty old.reply
         → WasEmpty Requests old new ⊎ ¬ HasIdle later.space.lent ReplyShare
 
-  -- the own part k is the first of its command
-  abbrev pub IsFirst : NodeState L G → ℕ → ℕ × ℕ → Type 0
-  IsFirst node k part = (k ≡ 0) ⊎ ((before : ℕ × ℕ) × (slice_get (issued_parts node.trace node.shards node.shard) (k - 1) ≡ Some before) × (before.0 ≢ part.0))
-
   -- what held the next own part up: the gate, or that no ticket of a request is idle
   abbrev pub IsHeldBack : NodeState L G → NodeState L G → Type 0
   IsHeldBack old new = (part : ℕ × ℕ) → slice_get (issued_parts old.trace old.shards old.shard) old.begun ≡ Some part
@@ -181,6 +185,16 @@ module _ {L G : Type 0} (traffic : L → Traffic) (holds : G → ℕ) where
   IsAnswer (Stray peer expected found) old new = (IsDone new → ⊥) × IsFirstStray old new (record { peer = peer; expected = expected; found = found })
   IsAnswer Moved old new = (IsDone new → ⊥) × NoneStray old new × HasCause old new
   IsAnswer Idle old new = (IsDone new → ⊥) × NoneStray old new × IsIdle old new
+
+-- What becomes of the own parts in a turn. `lets` says how a gate stands once it let a command through.
+module _ {L G : Type 0} (lets : G → ℕ → ℕ → G → Type 0) where
+  -- At most one own part was begun. Where it was the first of its command, the gate let that command through; where no first
+  -- part was next, the gate was left alone.
+  pub record GoesThroughGate (old new : NodeState L G) : Type 0 where
+    pub never_falls : old.begun ≤ new.begun
+    pub one : new.begun ≤ old.begun + 1
+    pub let_through : (part : ℕ × ℕ) → IsNextFirst old part → old.begun < new.begun → lets old.gate old.shard part.0 new.gate
+    pub left_alone : ((part : ℕ × ℕ) → IsNextFirst old part → ⊥) → new.gate ≡ old.gate
 
 -- What no turn changes.
 pub record IsSameNode {L G E : Type 0} (end : L → E) (old new : NodeState L G) : Type 0 where

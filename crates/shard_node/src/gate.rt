@@ -1,5 +1,5 @@
 //! What a node asks before it begins a command of its own.
-ghost use Rattle.std.specs.Prelude.{◌≡◌, ℕ, ◌<◌, ◌≤◌, true, false};
+ghost use Rattle.std.specs.Prelude.{◌≡◌, ⊤, ℕ, ◌<◌, ◌≤◌, true, false};
 
 /// A gate that commands of a node's own go through, each once, before its first part. A program has gates that never hold;
 /// tests have others.
@@ -7,9 +7,13 @@ pub trait Gate {
     // How often it held a command back.
     ghost holds: { Self → ℕ };
 
+    // How it stands once it let the command of this number through at this shard, from how it stood before.
+    ghost lets: { Self → ℕ → ℕ → Self → Type 0 };
+
     /// Whether the command of this number may be begun at this shard now. False only where the count of holds rose: the node
     /// asks again in its next turn.
     fn open(&mut self, shard: u32, number: u32) -> bool
+        ensures let_through { result ≡ true → lets self.old shard number self.new }
         ensures held { result ≡ false → holds self.old < holds self.new }
         ensures never_falls { holds self.old ≤ holds self.new };
 }
@@ -27,6 +31,8 @@ pub struct OpenGate;
 
 impl Gate for OpenGate {
     ghost holds = { λ _. 0 };
+
+    ghost lets = { λ _ _ _ _. ⊤ };
 
     fn open(&mut self, _shard: u32, _number: u32) -> bool
         ensures { result ≡ true }

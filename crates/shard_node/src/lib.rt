@@ -6,7 +6,8 @@
 //! `src/node.rt`): it is opened with all the memory that it takes, turned until it is done, and finished into the record of the run.
 //! What it does without its space stands in `shard_parts`: the cursors over the trace, and how it deals with another shard.
 //!
-//! What the nodes of a run say together, once all of them are done, is a law: [`done_nodes_agree`].
+//! What a node that is done says, over any links, is a law: [`a_done_node_is_complete`]. What the nodes of a run say together,
+//! once all of them are done, is another: [`done_nodes_agree`].
 #![tactic(auto)]
 
 mod gate;
@@ -22,7 +23,7 @@ mod turn;
 mod waiting;
 
 pub use gate::{Gate, Gates, OpenGate, OpenGates};
-pub use law::done_nodes_agree;
+pub use law::{a_done_node_is_complete, done_nodes_agree};
 pub use node::{Finished, Node};
 pub use ran::Ran;
 pub use refusal::NodeRefusal;

@@ -10,7 +10,7 @@ ghost use Rattle.shard_node.specs.Nodes.{others};
 ghost use Rattle.shard_node.specs.Standing.{InStanding};
 ghost use Rattle.shard_node.specs.Links.{IsUnused};
 ghost use Rattle.shard_node.specs.Rans.{line_of};
-ghost use Rattle.shard_node.specs.Turns.{IsAnswer, IsDone, IsSameNode};
+ghost use Rattle.shard_node.specs.Turns.{GoesThroughGate, IsAnswer, IsDone, IsSameNode};
 ghost use Rattle.shard_node.specs.declared.turn.Turn.{Turn as Turns};
 
 use crate::gate::Gate;
@@ -118,11 +118,13 @@ impl<'f, L: Link<'f> + Drop, G: Gate + Drop> Node<'f, L, G> {
         }
     }
 
-    /// One turn. It waits for nobody, and takes no memory. A node that is done makes no step.
+    /// One turn. It waits for nobody, and takes no memory. At most one own part is begun, a command's first one only where the
+    /// gate lets the command through. A node that is done makes no step.
     pub fn turn(&mut self) -> Turn
         ensures standing { InStanding L.traffic self.old → InStanding L.traffic self.new }
         ensures same { IsSameNode L.end self.old self.new }
         ensures turns { self.new.turns ≡ counted self.old.turns }
+        ensures gate { GoesThroughGate G.lets self.old self.new }
         ensures done { InStanding L.traffic self.old → ((result ≡ Turns.Done) ↔ IsDone L.traffic G.holds self.new) }
         ensures rests { InStanding L.traffic self.old
             → IsDone L.traffic G.holds self.old

@@ -1,7 +1,7 @@
 //! A shard at work: what a node holds, and the steps of its turn.
 ghost use Rattle.std.specs.Prelude.{◌≡◌, ◌+◌, ◌<◌, ◌↔◌, length, true, false, IsTrue};
 ghost use Rattle.shard_rings.specs.declared.link.Lane.{Lane as AnyLane};
-ghost use Rattle.shard_node.specs.inside.Moves.{packets_of, ByeWaits, Frees, Goes, HeldUp, NonePassed, RacesAll, ReceivesNone, ReplyWaits};
+ghost use Rattle.shard_node.specs.inside.Moves.{packets_of, BeginsNone, ByeWaits, Frees, Goes, HeldUp, NonePassed, RacesAll, ReceivesNone, ReplyWaits};
 ghost use Rattle.shard_node.specs.inside.Shards.{node_state, IsConsistent};
 ghost use Rattle.shard_node.specs.inside.Steps.{IsStep};
 ghost use Rattle.shard_node.specs.inside.TurnSteps.{ComesHome};
@@ -66,6 +66,7 @@ impl<'f, L: Link<'f> + Drop, G: Gate + Drop> Shard<'f, L, G> {
         ensures step { IsStep L.traffic L.end self.old self.new }
         ensures received { (lane : AnyLane) → ReceivesNone L.traffic lane (node_state self.old) (node_state self.new) }
         ensures goes { Goes L.traffic (node_state self.old) (node_state self.new) }
+        ensures own { BeginsNone (node_state self.old) (node_state self.new) }
         ensures released { result ≡ true → Frees L.traffic G.holds (node_state self.old) (node_state self.new) }
         ensures raced { result ≡ false → RacesAll L.traffic G.holds (node_state self.old) (node_state self.new) }
     {
@@ -78,6 +79,7 @@ impl<'f, L: Link<'f> + Drop, G: Gate + Drop> Shard<'f, L, G> {
         ensures step { IsStep L.traffic L.end self.old self.new }
         ensures received { (lane : AnyLane) → ReceivesNone L.traffic lane (node_state self.old) (node_state self.new) }
         ensures goes { Goes L.traffic (node_state self.old) (node_state self.new) }
+        ensures own { BeginsNone (node_state self.old) (node_state self.new) }
         ensures sent { IsTrue result ↔ (packets_of L.traffic (node_state self.old) < packets_of L.traffic (node_state self.new)) }
         ensures held_up { NonePassed L.traffic (node_state self.old) (node_state self.new)
             → HeldUp L.traffic (λ k. ReplyWaits
@@ -92,6 +94,7 @@ impl<'f, L: Link<'f> + Drop, G: Gate + Drop> Shard<'f, L, G> {
         ensures step { IsStep L.traffic L.end self.old self.new }
         ensures received { (lane : AnyLane) → ReceivesNone L.traffic lane (node_state self.old) (node_state self.new) }
         ensures goes { Goes L.traffic (node_state self.old) (node_state self.new) }
+        ensures own { BeginsNone (node_state self.old) (node_state self.new) }
         ensures sent { IsTrue result ↔ (packets_of L.traffic (node_state self.old) < packets_of L.traffic (node_state self.new)) }
         ensures held_up { NonePassed L.traffic (node_state self.old) (node_state self.new)
             → HeldUp L.traffic (λ k. ByeWaits L.traffic G.holds

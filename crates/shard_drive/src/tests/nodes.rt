@@ -1,5 +1,5 @@
 //! Nodes are driven to their ends.
-ghost use Rattle.std.specs.Prelude.{◌≤◌, length, All};
+ghost use Rattle.std.specs.Prelude.{◌≤◌, ⊤, length, All};
 ghost use Rattle.trace_text.specs.Parts.{most_shards};
 ghost use Rattle.layout.specs.Sizes.{most_trace_bytes};
 ghost use Rattle.shard_rings.specs.Links.{traffic_of};
@@ -172,6 +172,8 @@ impl<'a> Gates for Doors<'a> {
 
 impl<'a> Gate for Door<'a> {
     ghost holds = { λ _. 0 };
+
+    ghost lets = { λ _ _ _ _. ⊤ };
 
     fn open(&mut self, _shard: u32, _number: u32) -> bool {
         self.own.store(1, Ordering::SeqCst);

@@ -1,8 +1,7 @@
 -- What is asked for a command of a trace is the command but for its line, and on that nothing rests.
-use Rattle.std.proofs.Common.{◌≡◌, ℕ, List, sym, ap, subst}
+use Rattle.std.proofs.Common.{◌≡◌, ℕ, List, ap}
 use Rattle.trace_text.specs.Operation.{Operation}
 use Rattle.cache_model.specs.Apply.{Reply, apply}
-use Rattle.cache_model.specs.Fits.{Fits}
 use Rattle.cache_model.specs.Row.{Row}
 use Rattle.run_log.specs.JournalState.{JournalState}
 use Rattle.run_log.specs.Replies.{Replies}
@@ -19,14 +18,7 @@ module _ (asked operation : Operation) (line : asked ≡ on_no_line operation) w
   pub same_request : request asked ≡ request operation
   same_request = ap request line
 
-  -- a reply fits the one where it fits the other
-  pub fits_operation : (longest : ℕ) (reply : Reply) → Fits longest asked reply → Fits longest operation reply
-  fits_operation longest reply fits = subst (λ (o : Operation). Fits longest o reply) line fits
-
-  pub fits_asked : (longest : ℕ) (reply : Reply) → Fits longest operation reply → Fits longest asked reply
-  fits_asked longest reply fits = subst (λ (o : Operation). Fits longest o reply) (sym line) fits
-
-  -- and what does the one does the other
+  -- what does the one does the other
   module _ (same : (cache : List Row) → apply asked cache ≡ apply operation cache) where
     pub does_operation : (bound : ℕ) (reply : Reply) (old new : SpaceState) (before after : JournalState)
         → DoesAbove bound asked reply old new before after → DoesAbove bound operation reply old new before after

@@ -1,12 +1,12 @@
 -- What the nodes of a run say together, once all of them are done.
-use Rattle.std.proofs.Common.{◌≡◌, ◌≢◌, ℕ, ◌+◌, ◌≤◌, ◌<◌, ◌==◌, not, cond, List, length, map, take, get_or, slice_get, inl, inr, arith, refl, sym, ap, ap₂, subst, ◌∙◌}
-use Rattle.std.proofs.Common.{Option, Some, None, is_some, IsSome, option_and_then, true≢false}
-use Rattle.std.specs.List.{All, Contains, count_by, filter, range_with_len, sum_by}
+use Rattle.std.proofs.Common.{◌≡◌, ◌≢◌, ℕ, ◌+◌, ◌≤◌, ◌<◌, ◌==◌, not, cond, List, length, map, take, get_or, slice_get, inl, inr, arith, sym, ap, ap₂, subst, ◌∙◌}
+use Rattle.std.proofs.Common.{Option, Some, IsSome, option_and_then}
+use Rattle.std.specs.List.{All, Contains, count_by, range_with_len, sum_by}
 use Rattle.std.specs.Option.{option_map}
 use Rattle.std.proofs.Math.Nat.{mod-lt}
 use Rattle.std.proofs.lemmas.Bool.{cases_eq}
 use Rattle.std.proofs.lemmas.List.{length-map}
-use Rattle.std.proofs.lemmas.List.Elements.{All-contains, All-take}
+use Rattle.std.proofs.lemmas.List.Elements.{All-take}
 use Rattle.std.proofs.lemmas.List.Sums.{length-filter}
 use Rattle.std.proofs.lemmas.Option.{get_or_from_slice_get, same_Some, slice_get-map, slice_get_within}
 use Rattle.trace_text.specs.Operation.{Operation}
@@ -14,7 +14,6 @@ use Rattle.trace_text.specs.Parts.{origin, parts}
 use Rattle.trace_text.specs.Trace.{Trace}
 use Rattle.cache_model.specs.declared.entry.Entry.{Entry}
 use Rattle.cache_model.specs.declared.reply_kind.ReplyKind.{ReplyKind}
-use Rattle.cache_model.specs.Apply.{Reply}
 use Rattle.cache_model.specs.Legal.{IsComplete, IsLegal, cache_after, done, reply_at}
 use Rattle.cache_model.specs.OwnParts.{HoldsReplies, issued_parts, part_reply, parts_of}
 use Rattle.cache_model.specs.Report.{lent}
@@ -22,101 +21,22 @@ use Rattle.cache_model.specs.Spelled.{spelled}
 use Rattle.layout.specs.Counts.{raised}
 use Rattle.shard_memory.specs.Tickets.{tickets_out}
 use Rattle.shard_rings.specs.Lanes.{Lanes, Traffic}
-use Rattle.shard_rings.specs.declared.link.Packet.{Packet}
 use Rattle.shard_node.specs.Nodes.{NodeState, PeerState}
-use Rattle.shard_node.specs.Due.{Takes, due, operations_for, requests_taken, said}
-use Rattle.shard_node.specs.Standing.{AreReplies, InStanding, begun_at, done_for, logged_at, one_if, waiting_request}
-use Rattle.shard_node.specs.Together.{Agree, AreTogether, IsPeer, journals_of, logs_of}
-use Rattle.shard_node.specs.Turns.{HasParted, IsDone}
-use Rattle.part_lemmas.proofs.OwnParts.BegunParts.{count-issued}
+use Rattle.shard_node.specs.Due.{Takes, due, operations_for}
+use Rattle.shard_node.specs.Together.{Agree, AreTogether, IsCompleteNode, IsPeer, journals_of, logs_of}
 use Rattle.part_lemmas.proofs.OwnParts.IssuedParts.{AreOfPeers}
-use Rattle.part_lemmas.proofs.OwnParts.LogPlaces.{at-length, at_shard}
+use Rattle.part_lemmas.proofs.OwnParts.LogPlaces.{at_shard}
 use Rattle.part_lemmas.proofs.OwnParts.NextPart.{TellsNumbers}
-use Rattle.part_lemmas.proofs.Cursors.OtherPlaces.{other-below, other-there}
-use Rattle.shard_node.proofs.Standing.Peerwise.{StandsWith, each_stands}
 use Rattle.part_lemmas.proofs.Cursors.Places.{IsNumbered}
 use Rattle.part_lemmas.proofs.Together.Lent.{all-back, but-one, counted-each, sum-agree}
-use Rattle.part_lemmas.proofs.Together.Lists.{all-unmapped, contains-mapped, contains-unmapped, is-there}
-use Rattle.part_lemmas.proofs.Together.Logs.{all-at-shard, holds-replies, issued-below, of-all-parts}
-use Rattle.part_lemmas.proofs.Together.Replies.{IsOneReply, all-taken, replies-received, replies-there, replies-told}
-use Rattle.part_lemmas.proofs.Together.Requests.{all-served, blocks-told, own-all, requests-received}
-
--- What node a, done, tells of its parts of a trace: of those that it did itself, and of the blocks that it lent.
-record Itself (trace : Trace) (n pages a : ℕ) (entries : List Entry) (log : List (Option (ReplyKind × List ℕ))) (begun lends : ℕ) : Type 0 where
-  own : done_for n a entries ≡ parts trace n a a
-  replied : All (λ i. IsSome (reply_at trace pages entries i)) (parts trace n a a)
-  one_each : length log ≡ length (issued_parts trace n a)
-  logged : at_shard a (issued_parts trace n a) log ≡ map (λ i. option_map spelled (reply_at trace pages entries i)) (parts trace n a a)
-  lent_each : lends ≡ raised 0 (count_by (λ part. not (part.1 == a)) (take begun (issued_parts trace n a)) + count_by (λ i. not (origin i n == a)) (done entries))
-
--- and what it tells of its peer b
-record Toward (trace : Trace) (n pages a b : ℕ) (entries : List Entry) (log : List (Option (ReplyKind × List ℕ))) (begun : ℕ) (sent received : Lanes (List Packet)) : Type 0 where
-  told : map said sent.requests ≡ due trace n a b
-  heard : requests_taken (due trace n b a) received.requests ≡ length (due trace n b a)
-  served : done_for n b entries ≡ parts trace n b a
-  replied : AreReplies (reply_at trace pages entries) sent.replies (parts trace n b a)
-  count : length sent.replies ≡ length (parts trace n b a)
-  replies : List Reply
-  taken : Takes trace (operations_for trace n a b) received.replies replies
-  logged : at_shard b (issued_parts trace n a) log ≡ map (λ reply. Some (spelled reply)) replies
-  many : length replies ≡ length (parts trace n a b)
-  asked : length (filter (λ part. part.1 == b) (take begun (issued_parts trace n a))) ≡ length (parts trace n a b)
-
-some-unspelled : (reply : Option Reply) → IsSome (option_map spelled reply) → IsSome reply
-some-unspelled None is = absurd (true≢false (sym is))
-some-unspelled (Some reply) is = refl
+use Rattle.part_lemmas.proofs.Together.Lists.{is-there}
+use Rattle.part_lemmas.proofs.Together.Logs.{holds-replies, issued-below, of-all-parts}
+use Rattle.part_lemmas.proofs.Together.Replies.{IsOneReply, replies-received, replies-told}
+use Rattle.part_lemmas.proofs.Together.Requests.{requests-received}
+use Rattle.shard_node.proofs.Together.OneDone.{Itself, Toward, complete-node, itself as of-itself, leads as leads-to, peer-of as peer-toward, replied-at, toward as of-peer}
 
 lanes-same : {A : Type 0} (x y : Lanes A) → x.requests ≡ y.requests → x.replies ≡ y.replies → x ≡ y
 lanes-same {A} x y requests replies = ap₂ (λ (a b : A). let lanes : Lanes A = record { requests = a; replies = b } in lanes) requests replies
-
-module _ {L G : Type 0} (traffic : L → Traffic) (holds : G → ℕ) (peers : AreOfPeers) (tells : TellsNumbers) where
-  itself-done : (node : NodeState L G) → IsNumbered node.trace.operations → InStanding traffic node → IsDone traffic holds node
-      → Itself node.trace node.shards node.pages node.shard node.journal.entries node.log.replies node.begun node.space.lends
-  itself-done node are stands is =
-      let entries = node.journal.entries in
-      let own = parts node.trace node.shards node.shard node.shard in
-      let answered : All IsSome (map (λ i. option_map spelled (reply_at node.trace node.pages entries i)) own) =
-      subst (All IsSome) stands.logged.own (all-at-shard IsSome node.shard (issued_parts node.trace node.shards node.shard) node.log.replies is.answered) in
-      record {
-        own = own-all tells node.trace node.shards node.shard node.pages (length (begun_at node node.shard)) entries are stands.own answered;
-        replied = λ k d below. some-unspelled _ (all-unmapped IsSome (λ i. option_map spelled (reply_at node.trace node.pages entries i)) own answered k d below);
-        one_each = stands.logged.one_each;
-        logged = stands.logged.own;
-        lent_each = stands.lent.lends;
-      }
-
-  toward-done : (node : NodeState L G) (peer : PeerState L) → InStanding traffic node → IsDone traffic holds node → Contains node.peers peer → peer.shard < node.shards
-      → Toward node.trace node.shards node.pages node.shard peer.shard node.journal.entries node.log.replies node.begun (traffic peer.link).sent (traffic peer.link).received
-  toward-done node peer stands is among below =
-      let trace = node.trace in
-      let n = node.shards in
-      let a = node.shard in
-      let b = peer.shard in
-      let issued = issued_parts trace n a in
-      let x = All-contains (StandsWith traffic node) node.peers peer (each_stands traffic node stands) among in
-      let left = All-contains (HasParted traffic holds node) node.peers peer is.parted among in
-      let served = all-served trace n b a _ (done_for n b node.journal.entries) x.served left.heard in
-      let numbers = length-map (operations_for trace n a b) (λ (o : Operation). o.number) in
-      let issued-there = count-issued peers trace n a b below in
-      let long = at-length b issued node.log.replies stands.logged.one_each in
-      let came = all-taken x.logged.replies (length (parts trace n a b)) (logged_at node b) (all-at-shard IsSome b issued node.log.replies is.answered)
-      (omega (arith, long, issued-there, numbers)) x.logged.logged in
-      record {
-        told = left.told;
-        heard = left.heard;
-        served = served;
-        replied = subst (AreReplies (reply_at trace node.pages node.journal.entries) (traffic peer.link).sent.replies) served x.replied;
-        count = let all = x.replies.count in let none = ap one_if left.replied in let those = ap length served in omega (arith, all, none, those);
-        replies = x.logged.replies;
-        taken = x.logged.taken;
-        logged = came.0;
-        many = came.1;
-        asked =
-            let all = x.requests.count in
-            let none = ap (λ r. length (waiting_request r b)) is.asked in
-            let those = blocks-told trace n a b (traffic peer.link).sent.requests left.told in
-            omega (arith, all, none, those);
-      }
 
 module _ {L G : Type 0} (traffic : L → Traffic) (holds : G → ℕ) (peers : AreOfPeers) (tells : TellsNumbers) (one : IsOneReply) (trace : Trace) (n pages : ℕ) (nodes : List (NodeState L G))
     (are : IsNumbered trace.operations) (some : 1 ≤ n) (x : AreTogether traffic holds trace n pages nodes) where
@@ -128,37 +48,19 @@ module _ {L G : Type 0} (traffic : L → Traffic) (holds : G → ℕ) (peers : A
 
   itself : (s : ℕ) (node : NodeState L G) → slice_get nodes s ≡ Some node
       → Itself trace n pages s node.journal.entries node.log.replies node.begun node.space.lends
-  itself s node here =
-      let d = x.each s node here in
-      let entries = node.journal.entries in
-      let log = node.log.replies in
-      subst (λ t. Itself t n pages s entries log node.begun node.space.lends) d.of_trace
-      (subst (λ m. Itself node.trace m pages s entries log node.begun node.space.lends) d.of_shards
-      (subst (λ r. Itself node.trace node.shards r s entries log node.begun node.space.lends) d.of_pages
-      (subst (λ a. Itself node.trace node.shards node.pages a entries log node.begun node.space.lends) d.number
-      (itself-done traffic holds peers tells node (subst (λ (t : Trace). IsNumbered t.operations) (sym d.of_trace) are) d.standing d.done))))
+  itself s node here = of-itself traffic holds peers tells trace n pages are s node (x.each s node here)
 
   toward : (a b : ℕ) (node : NodeState L G) (peer : PeerState L) → slice_get nodes a ≡ Some node → Contains node.peers peer → peer.shard ≡ b
       → Toward trace n pages a b node.journal.entries node.log.replies node.begun (traffic peer.link).sent (traffic peer.link).received
-  toward a b node peer here among number =
-      let d = x.each a node here in
-      let entries = node.journal.entries in
-      let log = node.log.replies in
-      let sent = (traffic peer.link).sent in
-      let received = (traffic peer.link).received in
-      let below : peer.shard < n = other-below n a peer.shard (subst (λ qs. Contains qs peer.shard) d.peers (contains-mapped (λ (p : PeerState L). p.shard) node.peers peer among)) in
-      let shards = d.of_shards in
-      subst (λ t. Toward t n pages a b entries log node.begun sent received) d.of_trace
-      (subst (λ m. Toward node.trace m pages a b entries log node.begun sent received) d.of_shards
-      (subst (λ r. Toward node.trace node.shards r a b entries log node.begun sent received) d.of_pages
-      (subst (λ s. Toward node.trace node.shards node.pages s b entries log node.begun sent received) d.number
-      (subst (λ q. Toward node.trace node.shards node.pages node.shard q entries log node.begun sent received) number
-      (toward-done traffic holds peers tells node peer d.standing d.done among (omega (arith, below, shards)))))))
+  toward a b node peer here = of-peer traffic holds peers tells trace n pages are a node (x.each a node here) b peer
 
   -- each node keeps something of each other one
   peer-of : (a b : ℕ) (node : NodeState L G) → slice_get nodes a ≡ Some node → b < n → b ≢ a → (peer : PeerState L) × Contains node.peers peer × (peer.shard ≡ b)
-  peer-of a b node here below other =
-      contains-unmapped (λ (p : PeerState L). p.shard) node.peers b (subst (λ qs. Contains qs b) (sym (x.each a node here).peers) (other-there n a b below other))
+  peer-of a b node here = peer-toward traffic holds peers tells trace n pages are a node (x.each a node here) b
+
+  -- each is complete by itself
+  alone : (s : ℕ) (node : NodeState L G) → slice_get nodes s ≡ Some node → IsCompleteNode traffic trace n pages s node
+  alone s node here = complete-node traffic holds peers tells trace n pages are s node (x.each s node here)
 
   -- The journals.
 
@@ -166,9 +68,7 @@ module _ {L G : Type 0} (traffic : L → Traffic) (holds : G → ℕ) (peers : A
   journal-at s node here = slice_get-map (λ (m : NodeState L G). m.journal.entries) nodes s ∙ ap (option_map (λ (m : NodeState L G). m.journal.entries)) here
 
   leads : (s : ℕ) (node : NodeState L G) → slice_get nodes s ≡ Some node → cache_after trace pages node.journal.entries ≡ Some node.space.rows
-  leads s node here =
-      let d = x.each s node here in
-      ap₂ (λ t r. cache_after t r node.journal.entries) (sym d.of_trace) (sym d.of_pages) ∙ d.standing.journal.legal
+  leads s node here = leads-to traffic holds peers tells trace n pages are s node (x.each s node here)
 
   legal : All (IsLegal trace pages) (journals_of nodes)
   legal k d below =
@@ -176,38 +76,22 @@ module _ {L G : Type 0} (traffic : L → Traffic) (holds : G → ℕ) (peers : A
       let all = x.count in
       let node = node-at k (omega (arith, many, all, below)) in
       let is : get_or (journals_of nodes) k d ≡ node.0.journal.entries = get_or_from_slice_get (journals_of nodes) k node.0.journal.entries d (journal-at k node.0 node.1) in
-      subst (IsLegal trace pages) (sym is) (ap is_some (leads k node.0 node.1))
-
-  -- all that node s did for shard o
-  served : (o s : ℕ) (node : NodeState L G) → slice_get nodes s ≡ Some node → o < n → done_for n o node.journal.entries ≡ parts trace n o s
-  served o s node here below = elim (cases_eq o s) [
-    | inl same ↦ subst (λ q. done_for n q node.journal.entries ≡ parts trace n q s) (sym same) (itself s node here).own
-    | inr other ↦ (let peer = peer-of s o node here below other in (toward s o node peer.0 here peer.1 peer.2).served)
-  ]
+      subst (IsLegal trace pages) (sym is) (alone k node.0 node.1).legal
 
   complete : (s : ℕ) (d : List Entry) → s < n → IsComplete trace n s (get_or (journals_of nodes) s d)
   complete s d below =
       let node = node-at s below in
       let is : get_or (journals_of nodes) s d ≡ node.0.journal.entries = get_or_from_slice_get (journals_of nodes) s node.0.journal.entries d (journal-at s node.0 node.1) in
-      subst (IsComplete trace n s) (sym is) (λ o low. served o s node.0 node.1 low)
+      subst (IsComplete trace n s) (sym is) (alone s node.0 node.1).complete
 
   -- The replies.
-
-  replied-at : (o s : ℕ) (node : NodeState L G) → slice_get nodes s ≡ Some node → o < n → All (λ i. IsSome (reply_at trace pages node.journal.entries i)) (parts trace n o s)
-  replied-at o s node here below = elim (cases_eq o s) [
-    | inl same ↦ subst (λ q. All (λ i. IsSome (reply_at trace pages node.journal.entries i)) (parts trace n q s)) (sym same) (itself s node here).replied
-    | inr other ↦
-        let peer = peer-of s o node here below other in
-        let t = toward s o node peer.0 here peer.1 peer.2 in
-        replies-there (reply_at trace pages node.journal.entries) (traffic peer.0.link).sent.replies (parts trace n o s) t.replied t.count
-  ]
 
   replied : All (λ operation. All (λ part. IsSome (part_reply trace pages (journals_of nodes) part)) (parts_of n operation)) trace.operations
   replied = of-all-parts (λ part. IsSome (part_reply trace pages (journals_of nodes) part)) trace n some
       (λ o s low below.
       let node = node-at s below in
       subst (λ j. All (λ i. IsSome (option_and_then (λ journal. reply_at trace pages journal i) j)) (parts trace n o s)) (sym (journal-at s node.0 node.1))
-      (replied-at o s node.0 node.1 low))
+      (replied-at traffic holds peers tells trace n pages are s node.0 (x.each s node.0 node.1) o low))
 
   -- The links: p and q are those of nodes a and b, toward each other.
 
@@ -286,7 +170,7 @@ module _ {L G : Type 0} (traffic : L → Traffic) (holds : G → ℕ) (peers : A
       let numbers = done node.journal.entries in
       counted-each (λ i. origin i n) n s numbers (λ k d below. mod-lt _ some)
       ∙ sum-agree (λ o. cond (o == s) 0 (count_by (λ i. origin i n == o) numbers)) (λ o. cond (o == s) 0 (length (parts trace n o s))) n
-      (λ o below. but-one o s _ _ (λ other. sym (length-filter (λ i. origin i n == o) numbers) ∙ ap length (served o s node here below)))
+      (λ o below. but-one o s _ _ (λ other. sym (length-filter (λ i. origin i n == o) numbers) ∙ ap length ((alone s node here).complete o below)))
 
   occupied : (s : ℕ) (node : NodeState L G) → slice_get nodes s ≡ Some node → (node.space.lends ≡ raised 0 (lent trace n s)) × (node.space.backs ≡ raised 0 (lent trace n s))
   occupied s node here =

@@ -18,16 +18,15 @@ use Rattle.shard_node.proofs.Standing.PeerPairs.{pairs_same}
 use Rattle.shard_node.proofs.Turning.StepGoes.{no_more, no_rise, still_so}
 use Rattle.std.proofs.lemmas.Option.{slice_get_past}
 use Rattle.shard_memory.specs.Tickets.{HasIdle}
-use Rattle.shard_memory.specs.declared.share.Share.TheVariants.{Request as RequestShare, Reply as ReplyShare}
+use Rattle.shard_memory.specs.declared.share.Share.TheVariants.{Reply as ReplyShare}
 use Rattle.reclaim.specs.Spaces.{SpaceState}
 use Rattle.layout.specs.Counts.{Rose}
 use Rattle.shard_node.specs.declared.waiting.Waiting.{Waiting}
-use Rattle.shard_node.specs.Turns.{IsHeldBack}
 use Rattle.shard_parts.specs.Own.{IsFirstPart}
 use Rattle.shard_node.specs.inside.Moves.{HeldUp, HoldsBack, Pairs}
 use Rattle.shard_node.proofs.OwnParts.OwnLog.{own-log-is}
 use Rattle.shard_node.proofs.Standing.PeerPairs.{pairs_so}
-use Rattle.std.proofs.Common.{◌≢◌, length, inl, inr, Option}
+use Rattle.std.proofs.Common.{inl, inr, Option}
 use Rattle.shard_node.proofs.Standing.Peerwise.{all_stand, each_stands, stays}
 
 module _ {L G : Type 0} where
@@ -130,34 +129,6 @@ none_some : {X : Type 0} (option : Option X) (y : X) → option ≡ None → opt
 none_some {X} option y none some = let clash : None ≡ Some y = sym none ∙ some in cc
 
 module _ {L G : Type 0} (traffic : L → Traffic) (holds : G → ℕ) (shard : Shard L G) (x : IsConsistent shard) (idle : shard.request ≡ None) where
-  -- nothing was begun
-  pub stays_back : IsHeldBack traffic holds (node_state shard) (node_state shard) → HoldsBack traffic holds (node_state shard) (node_state shard)
-  stays_back back = record {
-    held = pairs_same _ _ (λ k a. refl);
-    request = λ waiting so. elim so [
-      | inl is ↦ absurd (none_some shard.request waiting idle is)
-      | inr is ↦ absurd (none_some shard.request waiting idle is)
-    ];
-    own = λ none. back;
-    all = λ all. all;
-    idle = λ stands same has. has;
-    space = λ same. refl;
-  }
-
-  -- no own part is left
-  pub none_back : shard.own.begun ≡ length (own_log shard.own) → HoldsBack traffic holds (node_state shard) (node_state shard)
-  none_back all = stays_back (λ part at.
-      absurd (none_some (slice_get (issued_by shard) shard.own.begun) part
-      (slice_get_past (issued_by shard) shard.own.begun (let e = ap length (own-log-is shard x) in omega (arith, e, all))) at))
-
-  -- no ticket was idle
-  pub ticket_back : (part : ℕ × ℕ) → slice_get (own_log shard.own) shard.own.begun ≡ Some part → part.1 ≢ shard.shard → ¬ HasIdle shard.space.lent RequestShare
-      → HoldsBack traffic holds (node_state shard) (node_state shard)
-  ticket_back part next other none = stays_back (λ p at.
-      let same : Some part ≡ Some p = sym next ∙ (ap (λ log. slice_get log shard.own.begun) (own-log-is shard x) ∙ at) in
-      let one : part ≡ p = cc in
-      inr (λ here. other (ap (λ (q : ℕ × ℕ). q.1) one ∙ here), none))
-
   -- the gate held
   pub gate_back : (now : Shard L G) → now ≡ record shard { gate = now.gate } → holds shard.gate < holds now.gate
       → ((part : ℕ × ℕ) → slice_get (own_log shard.own) shard.own.begun ≡ Some part → IsFirstPart (own_log shard.own) shard.own.begun part)
@@ -204,19 +175,3 @@ module _ {L G : Type 0} (traffic : L → Traffic) (holds : G → ℕ) (shard : S
             (subst (λ (s : SpaceState). HasIdle s.lent ReplyShare) held.space has));
         space = λ same. absurd (none_some asked.request waiting (sym held.request ∙ (same ∙ idle)) waits);
       }
-
--- a request waited, and met a full lane
-module _ {L G : Type 0} (traffic : L → Traffic) (holds : G → ℕ) (shard sent : Shard L G) (waiting : Waiting) (is : shard.request ≡ Some waiting) where
-  pub waits_back : HeldUp traffic (λ k a b. (w : Waiting) → shard.request ≡ Some w → a.shard ≡ w.peer → Rose (traffic a.link).full.requests (traffic b.link).full.requests) (node_state shard) (node_state sent)
-      → HoldsBack traffic holds (node_state shard) (node_state sent)
-  waits_back held = record {
-    held = pairs_so _ _ _ _ (λ k a b h. h.0) held.peers;
-    request = λ w so. elim so [
-      | inl here ↦ pairs_so _ _ _ _ (λ k a b h. h.1 w here) held.peers
-      | inr there ↦ pairs_so _ _ _ _ (λ k a b h. h.1 w (sym held.request ∙ there)) held.peers
-    ];
-    own = λ none. absurd (none_some shard.request waiting (sym held.request ∙ none) is);
-    all = λ all. absurd (none_some shard.request waiting all.1 is);
-    idle = λ stands back has. subst (λ (s : SpaceState). HasIdle s.lent ReplyShare) held.space has;
-    space = λ same. held.space;
-  }

@@ -1,6 +1,5 @@
 -- Blocks that waited to be released, and were.
-use Rattle.std.proofs.Common.{get_or}
-use Rattle.std.proofs.Common.{◌≡◌, ℕ, ◌+◌, ◌-◌, ◌<◌, ◌≤◌, ◌↔◌, Bool, true, false, true≢false, List, length, map, slice_get, Option, Some, None, IsSome, IsNone, IsTrue, ◌||◌, inl, inr, arith, refl, sym, ap, ◌∙◌}
+use Rattle.std.proofs.Common.{◌≡◌, ℕ, ◌-◌, ◌<◌, ◌≤◌, ◌↔◌, Bool, false, true≢false, List, length, map, get_or, slice_get, Option, Some, None, IsSome, IsTrue, inl, inr, arith, refl, sym, ap, ◌∙◌}
 use Rattle.std.proofs.lemmas.Bool.{cases_order}
 use Rattle.foreign_list.specs.Blocks.{Block}
 use Rattle.shard_rings.specs.Lanes.{Lanes, on, Traffic}
@@ -20,24 +19,6 @@ pub tries_fewer : (a b : Option Block) (x y : ℕ) → Tries a b x y → one_if 
 tries_fewer None b x y tries = let e = ap one_if tries.0 in omega (arith, e)
 tries_fewer (Some block) None x y tries = omega arith
 tries_fewer (Some block) (Some later) x y tries = omega arith
-
-pub fewer_is : (a b : Option Block) → (IsSome a × IsNone b) ↔ (one_if b < one_if a)
-fewer_is None b = (λ is. absurd (true≢false (sym is.0)), λ less. absurd (omega (arith, less)))
-fewer_is (Some block) None = (λ is. omega arith, λ less. (refl, refl))
-fewer_is (Some block) (Some later) = (λ is. absurd (true≢false is.1), λ less. absurd (omega (arith, less)))
-
--- one of two, or both
-pub or_fewer : (p q : Bool) (a b c d : ℕ) → (IsTrue p ↔ (b < a)) → (IsTrue q ↔ (d < c)) → b ≤ a → d ≤ c → (IsTrue (p || q) ↔ (b + d < a + c))
-or_fewer true q a b c d first second low high = (λ is. let e = first.0 refl in omega (arith, e, high), λ less. refl)
-or_fewer false true a b c d first second low high = (λ is. let e = second.0 refl in omega (arith, e, low), λ less. refl)
-or_fewer false false a b c d first second low high = (
-  λ is. absurd (true≢false (sym is)),
-  λ less. elim (cases_order b a) [
-    | inl same ↦ second.1 (omega (arith, same, less))
-    | inr (inl fewer) ↦ first.1 fewer
-    | inr (inr more) ↦ absurd (omega (arith, more, low))
-  ],
-)
 
 -- a test that was not met
 pub not_less : (b : Bool) (x y : ℕ) → (IsTrue b ↔ (x < y)) → b ≡ false → y ≤ x

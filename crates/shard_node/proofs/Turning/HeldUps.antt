@@ -1,6 +1,6 @@
 -- What holds a node up toward a peer, where no packet goes over the link.
 use Rattle.std.proofs.Common.{◌≡◌, ℕ, zero, suc, ◌+◌, ◌<◌, ◌≤◌, Bool, true, false, true≢false, List, [], ◌∷◌, ◌++◌, length, map, get_or, Option, Some, None, IsSome}
-use Rattle.std.proofs.Common.{cond, inl, inr, arith, refl, sym, ap, subst, ◌∙◌}
+use Rattle.std.proofs.Common.{cond, inl, inr, arith, refl, sym, ap, ◌∙◌}
 use Rattle.std.proofs.lemmas.Bool.{cases_order}
 use Rattle.std.proofs.lemmas.List.Sums.{sum_by-cons}
 use Rattle.trace_text.specs.Operation.{Operation}
@@ -72,13 +72,6 @@ module _ {L : Type 0} (traffic : L → Traffic) where
   pub record Lasts (Q : PeerState L → PeerState L → Type 0) : Type 0 where
     pub before : (a b c : PeerState L) → SameWith traffic a b → b.held ≡ a.held → GoesOn traffic a b → Q b c → Q a c
     pub behind : (a b c : PeerState L) → Q a b → GoesOn traffic b c → Q a c
-
-  pub reply_waits_lasts : Lasts (ReplyWaits traffic)
-  reply_waits_lasts = record {
-    before = λ a b c same held goes q some.
-        let f = goes.full in rose-on _ _ _ _ (omega (arith, f)) (q (subst (λ (r : Option Block). IsSome r) (sym same.reply) some)) (omega arith);
-    behind = λ a b c q goes some. let f = goes.full in rose-on _ _ _ _ (omega arith) (q some) (omega (arith, f));
-  }
 
   pub reply_lacks_lasts : Lasts (ReplyLacks traffic)
   reply_lacks_lasts = record {

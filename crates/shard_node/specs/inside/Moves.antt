@@ -60,6 +60,15 @@ module _ {L : Type 0} (traffic : L → Traffic) where
   RequestLacks lent old new = old.keeps.has_heard_bye ≡ false → IsEmpty old.held.requests → IsEmpty old.reply
       → Rose (traffic old.link).empty.requests (traffic new.link).empty.requests ⊎ ¬ HasIdle lent ReplyShare
 
+module _ {L G : Type 0} where
+  -- no own part was begun, and the gate was left alone
+  abbrev pub BeginsNone : NodeState L G → NodeState L G → Type 0
+  BeginsNone old new = (new.begun ≡ old.begun) × (new.gate ≡ old.gate)
+
+  -- at most one was, and the gate was left alone
+  abbrev pub BeginsOne : NodeState L G → NodeState L G → Type 0
+  BeginsOne old new = (old.begun ≤ new.begun) × (new.begun ≤ old.begun + 1) × (new.gate ≡ old.gate)
+
 module _ {L G : Type 0} (traffic : L → Traffic) where
   abbrev pub packets_of : NodeState L G → ℕ
   packets_of node = sum_by (packets_with traffic) node.peers

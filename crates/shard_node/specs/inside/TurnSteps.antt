@@ -6,7 +6,7 @@ use Rattle.shard_rings.specs.declared.link.Lane.{Lane}
 use Rattle.shard_node.specs.declared.seen.Seen.{Seen}
 use Rattle.shard_node.specs.declared.shard.Shard.{Shard}
 use Rattle.shard_node.specs.Standing.{InStanding}
-use Rattle.shard_node.specs.Turns.{HasCause, IsIdle}
+use Rattle.shard_node.specs.Turns.{GoesThroughGate, HasCause, IsIdle}
 use Rattle.shard_node.specs.inside.Moves.{Goes, ReceivesNone, TellsFirst}
 use Rattle.shard_node.specs.inside.Shards.{node_state}
 use Rattle.shard_node.specs.inside.Steps.{IsStep}
@@ -21,8 +21,9 @@ module _ {L G : Type 0} (traffic : L → Traffic) (end : L → LinkEnd) where
     pub looked : LooksOnce old.space new.space
 
   -- what was seen of the steps, but not whether blocks came home
-  pub record SeesSteps (holds : G → ℕ) (seen : Seen) (began now : Shard L G) : Type 0 where
+  pub record SeesSteps (holds : G → ℕ) (lets : G → ℕ → ℕ → G → Type 0) (seen : Seen) (began now : Shard L G) : Type 0 where
     pub step : IsStep traffic end began now
+    pub gate : GoesThroughGate lets (node_state began) (node_state now)
     pub goes : Goes traffic (node_state began) (node_state now)
     pub told : InStanding traffic (node_state began) → TellsFirst traffic holds seen.stray (node_state began) (node_state now)
     pub caused : InStanding traffic (node_state began) → seen.moved ≡ true
@@ -31,8 +32,9 @@ module _ {L G : Type 0} (traffic : L → Traffic) (end : L → LinkEnd) where
         → IsIdle traffic holds (node_state began) (node_state now)
 
   -- and whether they did
-  pub record SeesTurn (holds : G → ℕ) (seen : Seen) (began now : Shard L G) : Type 0 where
+  pub record SeesTurn (holds : G → ℕ) (lets : G → ℕ → ℕ → G → Type 0) (seen : Seen) (began now : Shard L G) : Type 0 where
     pub step : IsStep traffic end began now
+    pub gate : GoesThroughGate lets (node_state began) (node_state now)
     pub told : InStanding traffic (node_state began) → TellsFirst traffic holds seen.stray (node_state began) (node_state now)
     pub caused : InStanding traffic (node_state began) → seen.moved ≡ true
         → HasCause traffic holds (node_state began) (node_state now)
@@ -40,10 +42,10 @@ module _ {L G : Type 0} (traffic : L → Traffic) (end : L → LinkEnd) where
         → IsIdle traffic holds (node_state began) (node_state now)
 
   -- these are the steps behind the first one
-  abbrev pub FollowsHome : (G → ℕ) → Seen → Shard L G → Shard L G → Type 0
-  FollowsHome holds seen old new = (began : Shard L G) → ComesHome began old → SeesSteps holds seen began new
+  abbrev pub FollowsHome : (G → ℕ) → (G → ℕ → ℕ → G → Type 0) → Seen → Shard L G → Shard L G → Type 0
+  FollowsHome holds lets seen old new = (began : Shard L G) → ComesHome began old → SeesSteps holds lets seen began new
 
   -- so many blocks had come home as the turn began: whether more have is seen too
-  abbrev pub NotesHome : (G → ℕ) → ℕ → Seen → Seen → Shard L G → Type 0
-  NotesHome holds back old new shard = (began : Shard L G) → back ≡ began.space.backs → SeesSteps holds old began shard
-      → SeesTurn holds new began shard
+  abbrev pub NotesHome : (G → ℕ) → (G → ℕ → ℕ → G → Type 0) → ℕ → Seen → Seen → Shard L G → Type 0
+  NotesHome holds lets back old new shard = (began : Shard L G) → back ≡ began.space.backs → SeesSteps holds lets old began shard
+      → SeesTurn holds lets new began shard

@@ -1,5 +1,5 @@
 //! The step that goes on with the shard's own parts.
-ghost use Rattle.std.specs.Prelude.{◌≡◌, ◌≢◌, ◌↔◌, ℕ, ◌<◌, false, Contains, Some, None, IsTrue};
+ghost use Rattle.std.specs.Prelude.{◌≡◌, ◌≢◌, ◌↔◌, ℕ, ◌<◌, true, false, Contains, Some, None, IsTrue};
 ghost use Rattle.std.specs.List.{slice_get};
 ghost use Rattle.shard_node.specs.Nodes.{others};
 ghost use Rattle.shard_parts.specs.Own.{IsFirstPart, own_log};
@@ -9,7 +9,8 @@ ghost use Rattle.layout.specs.Counts.{Rose};
 ghost use Rattle.shard_rings.specs.declared.link.Lane.{Lane as AnyLane};
 ghost use Rattle.shard_node.specs.declared.waiting.Waiting.{Waiting as IsWaiting};
 ghost use Rattle.shard_node.specs.Standing.{InStanding};
-ghost use Rattle.shard_node.specs.inside.Moves.{done_in, Goes, HeldUp, HoldsBack, ReceivesNone, Rises};
+ghost use Rattle.shard_node.specs.Turns.{GoesThroughGate};
+ghost use Rattle.shard_node.specs.inside.Moves.{done_in, BeginsNone, BeginsOne, Goes, HeldUp, HoldsBack, ReceivesNone, Rises};
 ghost use Rattle.shard_node.specs.inside.Shards.{IsConsistent, issued_by, node_state};
 ghost use Rattle.shard_node.specs.inside.Steps.{IsStep};
 
@@ -34,6 +35,7 @@ impl<'f, L: Link<'f> + Drop, G: Gate + Drop> Shard<'f, L, G> {
         ensures step { IsStep L.traffic L.end self.old self.new }
         ensures received { (lane : AnyLane) → ReceivesNone L.traffic lane (node_state self.old) (node_state self.new) }
         ensures goes { Goes L.traffic (node_state self.old) (node_state self.new) }
+        ensures gate { GoesThroughGate G.lets (node_state self.old) (node_state self.new) }
         ensures moved { IsTrue result ↔ Rises L.traffic (node_state self.old) (node_state self.new) }
         ensures held_back { result ≡ false → HoldsBack L.traffic G.holds (node_state self.old) (node_state self.new) }
     {
@@ -50,6 +52,7 @@ impl<'f, L: Link<'f> + Drop, G: Gate + Drop> Shard<'f, L, G> {
         ensures step { IsStep L.traffic L.end self.old self.new }
         ensures received { (lane : AnyLane) → ReceivesNone L.traffic lane (node_state self.old) (node_state self.new) }
         ensures goes { Goes L.traffic (node_state self.old) (node_state self.new) }
+        ensures own { BeginsNone (node_state self.old) (node_state self.new) }
         ensures moved { IsTrue result ↔ Rises L.traffic (node_state self.old) (node_state self.new) }
         ensures held_up { result ≡ false
             → HeldUp L.traffic
@@ -83,6 +86,7 @@ impl<'f, L: Link<'f> + Drop, G: Gate + Drop> Shard<'f, L, G> {
         ensures step { IsStep L.traffic L.end self.old self.new }
         ensures received { (lane : AnyLane) → ReceivesNone L.traffic lane (node_state self.old) (node_state self.new) }
         ensures goes { Goes L.traffic (node_state self.old) (node_state self.new) }
+        ensures gate { GoesThroughGate G.lets (node_state self.old) (node_state self.new) }
         ensures moved { IsTrue result ↔ Rises L.traffic (node_state self.old) (node_state self.new) }
         ensures held_back { result ≡ false → HoldsBack L.traffic G.holds (node_state self.old) (node_state self.new) }
     {
@@ -104,14 +108,23 @@ impl<'f, L: Link<'f> + Drop, G: Gate + Drop> Shard<'f, L, G> {
     }
 
     /// Whether the next own part, of the command of this number, may be begun: where it is the first of its command, the gate
-    /// is asked.
+    /// is asked, and else it is left alone.
     fn passes_gate(&mut self, number: u32) -> bool
         ensures same { self.new ≡ record self.old { gate = self.new.gate } }
         ensures first { result ≡ false → (part : ℕ × ℕ) → slice_get (own_log self.old.own) self.old.own.begun ≡ Some part
             → IsFirstPart (own_log self.old.own) self.old.own.begun part }
         ensures held { result ≡ false → G.holds self.old.gate < G.holds self.new.gate }
+        ensures let_through { result ≡ true → (part : ℕ × ℕ) → slice_get (own_log self.old.own) self.old.own.begun ≡ Some part
+            → IsFirstPart (own_log self.old.own) self.old.own.begun part
+            → G.lets self.old.gate self.old.shard number self.new.gate }
+        ensures left_alone { (part : ℕ × ℕ) → slice_get (own_log self.old.own) self.old.own.begun ≡ Some part
+            → (IsFirstPart (own_log self.old.own) self.old.own.begun part → ⊥)
+            → self.new.gate ≡ self.old.gate }
     {
-        !self.own.is_first() || self.gate.open(self.shard, number)
+        if !self.own.is_first() {
+            return true;
+        }
+        self.gate.open(self.shard, number)
     }
 
     /// Does the next own part. True where it was done.
@@ -121,6 +134,7 @@ impl<'f, L: Link<'f> + Drop, G: Gate + Drop> Shard<'f, L, G> {
         ensures step { IsStep L.traffic L.end self.old self.new }
         ensures received { (lane : AnyLane) → ReceivesNone L.traffic lane (node_state self.old) (node_state self.new) }
         ensures goes { Goes L.traffic (node_state self.old) (node_state self.new) }
+        ensures own { BeginsOne (node_state self.old) (node_state self.new) }
         ensures moved { IsTrue result ↔ Rises L.traffic (node_state self.old) (node_state self.new) }
         ensures done { IsTrue result }
     {
@@ -159,6 +173,7 @@ impl<'f, L: Link<'f> + Drop, G: Gate + Drop> Shard<'f, L, G> {
         ensures step { IsStep L.traffic L.end self.old self.new }
         ensures received { (lane : AnyLane) → ReceivesNone L.traffic lane (node_state self.old) (node_state self.new) }
         ensures goes { Goes L.traffic (node_state self.old) (node_state self.new) }
+        ensures own { BeginsOne (node_state self.old) (node_state self.new) }
         ensures peers { (node_state self.new).peers ≡ (node_state self.old).peers }
         ensures done { done_in L.traffic (node_state self.new) ≡ done_in L.traffic (node_state self.old) }
 

@@ -3,7 +3,7 @@ ghost use Rattle.std.specs.Prelude.{◌≡◌, ◌≢◌, ◌⊎◌, ◌↔◌, 
 ghost use Rattle.std.specs.List.{slice_get};
 ghost use Rattle.shard_rings.specs.declared.link.Lane.TheVariants.{Replies, Requests};
 ghost use Rattle.shard_node.specs.Standing.{InStanding};
-ghost use Rattle.shard_node.specs.inside.Moves.{packets_of, Goes, HeldUp, NonePassed, ReceivesNone, ReceivesOne, ReplyLacks, ReceivesOneStray, Tells, TriedSays};
+ghost use Rattle.shard_node.specs.inside.Moves.{packets_of, BeginsNone, Goes, HeldUp, NonePassed, ReceivesNone, ReceivesOne, ReplyLacks, ReceivesOneStray, Tells, TriedSays};
 ghost use Rattle.shard_node.specs.inside.Seen.{has_come};
 ghost use Rattle.shard_node.specs.inside.Shards.{IsConsistent, node_state};
 ghost use Rattle.shard_node.specs.inside.Steps.{IsStep};
@@ -24,6 +24,7 @@ impl<'f, L: Link<'f> + Drop, G: Gate + Drop> Shard<'f, L, G> {
         ensures requests { ReceivesNone L.traffic Requests (node_state self.old) (node_state self.new) }
         ensures one { ReceivesOne L.traffic Replies (node_state self.old) (node_state self.new) }
         ensures goes { Goes L.traffic (node_state self.old) (node_state self.new) }
+        ensures own { BeginsNone (node_state self.old) (node_state self.new) }
 
         // What came, or why nothing did.
         ensures moved { IsTrue seen.new.moved ↔
@@ -55,6 +56,7 @@ impl<'f, L: Link<'f> + Drop, G: Gate + Drop> Shard<'f, L, G> {
         ensures requests { ReceivesNone L.traffic Requests (node_state self.old) (node_state self.new) }
         ensures one { ReceivesOne L.traffic Replies (node_state self.old) (node_state self.new) }
         ensures goes { Goes L.traffic (node_state self.old) (node_state self.new) }
+        ensures own { BeginsNone (node_state self.old) (node_state self.new) }
 
         // What came, or why nothing did.
         ensures moved { IsTrue (has_come result) ↔

@@ -11,7 +11,7 @@ ghost use Rattle.std.specs.List.{slice_get};
 ghost use Rattle.shard_rings.specs.declared.link.Lane.{Lane as AnyLane};
 ghost use Rattle.shard_rings.specs.declared.link.Lane.TheVariants.{Replies, Requests};
 ghost use Rattle.shard_node.specs.Standing.{InStanding};
-ghost use Rattle.shard_node.specs.inside.Moves.{packets_of, Goes, HeldUp, NonePassed, ReceivesNone, ReceivesOne, RequestLacks, ReceivesOneStray, Tells, TriedSays};
+ghost use Rattle.shard_node.specs.inside.Moves.{packets_of, BeginsNone, Goes, HeldUp, NonePassed, ReceivesNone, ReceivesOne, RequestLacks, ReceivesOneStray, Tells, TriedSays};
 ghost use Rattle.shard_node.specs.inside.Seen.{has_come};
 ghost use Rattle.shard_parts.specs.Receives.{next_ask};
 ghost use Rattle.shard_node.specs.inside.Serves.{EndsRequest, MayAsk, TriesRequest};
@@ -43,6 +43,7 @@ impl<'f, L: Link<'f> + Drop, G: Gate + Drop> Shard<'f, L, G> {
         ensures replies { ReceivesNone L.traffic Replies (node_state self.old) (node_state self.new) }
         ensures one { ReceivesOne L.traffic Requests (node_state self.old) (node_state self.new) }
         ensures goes { Goes L.traffic (node_state self.old) (node_state self.new) }
+        ensures own { BeginsNone (node_state self.old) (node_state self.new) }
 
         // What came, or why nothing did.
         ensures moved { IsTrue seen.new.moved ↔
@@ -74,6 +75,7 @@ impl<'f, L: Link<'f> + Drop, G: Gate + Drop> Shard<'f, L, G> {
         ensures replies { ReceivesNone L.traffic Replies (node_state self.old) (node_state self.new) }
         ensures one { ReceivesOne L.traffic Requests (node_state self.old) (node_state self.new) }
         ensures goes { Goes L.traffic (node_state self.old) (node_state self.new) }
+        ensures own { BeginsNone (node_state self.old) (node_state self.new) }
 
         // What came, or why nothing did.
         ensures moved { IsTrue (has_come result) ↔
@@ -113,6 +115,7 @@ impl<'f, L: Link<'f> + Drop, G: Gate + Drop> Shard<'f, L, G> {
         ensures replies { ReceivesNone L.traffic Replies (node_state self.old) (node_state self.new) }
         ensures one { ReceivesOne L.traffic Requests (node_state self.old) (node_state self.new) }
         ensures goes { Goes L.traffic (node_state self.old) (node_state self.new) }
+        ensures own { BeginsNone (node_state self.old) (node_state self.new) }
 
         // What came, or why nothing did.
         ensures moved { IsTrue (has_come result) ↔
@@ -155,6 +158,7 @@ impl<'f, L: Link<'f> + Drop, G: Gate + Drop> Shard<'f, L, G> {
         ensures step { IsStep L.traffic L.end self.old self.new }
         ensures received { (lane : AnyLane) → ReceivesNone L.traffic lane (node_state self.old) (node_state self.new) }
         ensures goes { Goes L.traffic (node_state self.old) (node_state self.new) }
+        ensures own { BeginsNone (node_state self.old) (node_state self.new) }
         ensures others { (k : ℕ) → k ≢ at → slice_get (node_state self.new).peers k ≡ slice_get (node_state self.old).peers k }
         ensures peers { length self.new.peers.items ≡ length self.old.peers.items }
     {

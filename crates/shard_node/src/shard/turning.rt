@@ -2,7 +2,7 @@
 ghost use Rattle.std.specs.Prelude.{◌≡◌, ◌↔◌};
 ghost use Rattle.layout.specs.Counts.{counted};
 ghost use Rattle.shard_node.specs.Standing.{InStanding};
-ghost use Rattle.shard_node.specs.Turns.{IsAnswer, IsDone, IsSameNode};
+ghost use Rattle.shard_node.specs.Turns.{GoesThroughGate, IsAnswer, IsDone, IsSameNode};
 ghost use Rattle.shard_node.specs.declared.turn.Turn.{Turn as Turns};
 ghost use Rattle.shard_node.specs.inside.Shards.{node_state, IsConsistent};
 ghost use Rattle.shard_node.specs.inside.TurnSteps.{FollowsHome, NotesHome, SeesTurn};
@@ -23,6 +23,7 @@ impl<'f, L: Link<'f> + Drop, G: Gate + Drop> Shard<'f, L, G> {
         ensures standing { InStanding L.traffic (node_state self.old) → InStanding L.traffic (node_state self.new) }
         ensures same { IsSameNode L.end (node_state self.old) (node_state self.new) }
         ensures turns { self.new.turns ≡ counted self.old.turns }
+        ensures gate { GoesThroughGate G.lets (node_state self.old) (node_state self.new) }
 
         // What the result means.
         ensures done { InStanding L.traffic (node_state self.old)
@@ -48,7 +49,7 @@ impl<'f, L: Link<'f> + Drop, G: Gate + Drop> Shard<'f, L, G> {
     /// The steps of a turn, in their order.
     fn make_steps(&mut self) -> Seen
         requires { IsConsistent self.old }
-        ensures { SeesTurn L.traffic L.end G.holds result self.old self.new }
+        ensures { SeesTurn L.traffic L.end G.holds G.lets result self.old self.new }
     {
         let back = self.space.back();
         self.take_back();
@@ -60,7 +61,7 @@ impl<'f, L: Link<'f> + Drop, G: Gate + Drop> Shard<'f, L, G> {
     /// The steps behind the first one, in their order.
     fn make_later_steps(&mut self) -> Seen
         requires { IsConsistent self.old }
-        ensures { FollowsHome L.traffic L.end G.holds result self.old self.new }
+        ensures { FollowsHome L.traffic L.end G.holds G.lets result self.old self.new }
     {
         let mut seen = Seen::nothing();
         seen.note(self.release_held());
@@ -74,7 +75,7 @@ impl<'f, L: Link<'f> + Drop, G: Gate + Drop> Shard<'f, L, G> {
 
     /// Notes whether more blocks came home than had as the turn began.
     fn note_home(&self, seen: &mut Seen, back: u64)
-        ensures { NotesHome L.traffic L.end G.holds back seen.old seen.new self.now }
+        ensures { NotesHome L.traffic L.end G.holds G.lets back seen.old seen.new self.now }
     {
         seen.note(self.space.back() != back);
     }

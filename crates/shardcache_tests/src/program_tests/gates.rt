@@ -1,5 +1,5 @@
 //! Shards that wait at their gates.
-ghost use Rattle.std.specs.Prelude.{◌<◌};
+ghost use Rattle.std.specs.Prelude.{⊤, ◌<◌, ◌≤◌};
 
 use super::answer_through;
 use shard_node::{Gate, Gates};
@@ -39,6 +39,8 @@ impl<'a> Gates for Door<'a> {
 
 impl<'a> Gate for Door<'a> {
     ghost holds = { λ _. 0 };
+
+    ghost lets = { λ _ _ _ _. ⊤ };
 
     fn open(&mut self, shard: u32, _number: u32) -> bool {
         let meeting = self.meeting;
@@ -122,6 +124,9 @@ impl<'a> Gates for Slow<'a> {
 
 impl<'a> Gate for Holding<'a> {
     ghost holds = { λ gate. gate.holds };
+
+    // It held its first asks.
+    ghost lets = { λ _ _ _ gate. 3 ≤ gate.holds };
 
     fn open(&mut self, _shard: u32, _number: u32) -> bool {
         if self.holds < HOLDS {

@@ -63,6 +63,7 @@ returns-in-Ok g c =
         looks = c.in-Ok.ensures.lends.looks;
         tally = no_more self.tally;
       };
+      own = let begun = c.pass.ensures.begun in (omega (arith, begun), omega (arith, begun), refl);
       peers = refl;
       done = none;
       waits = (record { peer = c.args.doer; block = c.in-Ok.block }, refl);

@@ -2,6 +2,7 @@ use Rattle.std.proofs.Common.{subst, IsTrue, sym, true≢false, Some, refl, ap, 
 use Rattle.shard_node.proofs.Turning.AsksGate.{asked_back, gate_back, now_below, now_consistent, now_goes, now_idle, now_next, now_received, now_so, now_stepped, now_still, now_there}
 use Rattle.shard_node.specs.inside.Shards.{node_state}
 use Rattle.shard_node.proofs.Turning.Joins.{steps_join}
+use Rattle.shard_node.proofs.Turning.ThroughGate.{held_through, one_then_none, passed_through}
 use Rattle.shard_node.proofs.Turning.TellsStrays.{none_join}
 use Rattle.shard_node.proofs.Turning.StepGoes.{all_go, still_so}
 use Rattle.shard_memory.specs.Tickets.{HasIdle}
@@ -16,6 +17,8 @@ returns-then-not-passes_gate g c =
       step = now_stepped c.args.self.now c.passes_gate.new.self c.passes_gate.ensures.same c.requires.consistent traffic g.L.Link.end;
       received = now_received c.args.self.now c.passes_gate.new.self c.passes_gate.ensures.same c.requires.consistent traffic;
       goes = now_goes c.args.self.now c.passes_gate.new.self c.passes_gate.ensures.same c.requires.consistent traffic;
+      gate = held_through g.G.Gate.lets c.args.self.now c.passes_gate.new.self c.requires.consistent c.passes_gate.ensures.same
+          c.in-Some.command.now.number c.in-Some.doer c.in-Some.ensures.some c.passes_gate.ensures.left_alone;
       moved = (λ is. absurd (true≢false (sym is)), λ so. absurd (now_still c.args.self.now c.passes_gate.new.self c.passes_gate.ensures.same c.requires.consistent traffic so));
       held_back = λ unmet. gate_back traffic g.G.Gate.holds c.args.self.now c.requires.consistent c.requires.idle c.passes_gate.new.self c.passes_gate.ensures.same
           (c.passes_gate.ensures.held c.if-not-passes_gate.true) (c.passes_gate.ensures.first c.if-not-passes_gate.true);
@@ -80,6 +83,8 @@ returns-then-doer-self-2 g c =
       received = λ lane. none_join traffic g.G.Gate.holds lane (node_state self) (node_state now) (node_state c.do_here.new.self)
           (now_received self now c.passes_gate.ensures.same c.requires.consistent traffic lane) (c.do_here.ensures.received lane);
       goes = all_go traffic (node_state self) (node_state now) (node_state c.do_here.new.self) (now_goes self now c.passes_gate.ensures.same c.requires.consistent traffic) c.do_here.ensures.goes;
+      gate = passed_through g.G.Gate.lets self now c.requires.consistent c.passes_gate.ensures.same c.in-Some.command.now.number c.in-Some.doer c.in-Some.ensures.some
+          c.passes_gate.ensures.left_alone c.do_here.new.self (c.passes_gate.ensures.let_through c.if-not-passes_gate.false) c.do_here.ensures.own;
       moved = now_so self now c.passes_gate.ensures.same c.requires.consistent traffic (IsTrue c.do_here.result) (node_state c.do_here.new.self) c.do_here.ensures.moved;
       held_back = λ unmet. absurd (true≢false (sym c.do_here.ensures.done ∙ unmet));
     }
@@ -99,6 +104,9 @@ returns-else-doer-self-2 g c =
           (none_join traffic g.G.Gate.holds lane (node_state now) (node_state c.ask.new.self) (node_state c.send_request.new.self) (c.ask.ensures.received lane) (c.send_request.ensures.received lane));
       goes = all_go traffic (node_state self) (node_state now) (node_state c.send_request.new.self) (now_goes self now c.passes_gate.ensures.same c.requires.consistent traffic)
           (all_go traffic (node_state now) (node_state c.ask.new.self) (node_state c.send_request.new.self) c.ask.ensures.goes c.send_request.ensures.goes);
+      gate = passed_through g.G.Gate.lets self now c.requires.consistent c.passes_gate.ensures.same c.in-Some.command.now.number c.in-Some.doer c.in-Some.ensures.some
+          c.passes_gate.ensures.left_alone c.send_request.new.self (c.passes_gate.ensures.let_through c.if-not-passes_gate.false)
+          (one_then_none (node_state now) (node_state c.ask.new.self) (node_state c.send_request.new.self) c.ask.ensures.own c.send_request.ensures.own);
       moved = now_so self now c.passes_gate.ensures.same c.requires.consistent traffic (IsTrue c.send_request.result) (node_state c.send_request.new.self)
           (still_so traffic (IsTrue c.send_request.result) (node_state now) (node_state c.ask.new.self) (node_state c.send_request.new.self) c.ask.ensures.peers c.ask.ensures.done c.send_request.ensures.moved);
       held_back = λ unmet.

@@ -104,6 +104,7 @@ returns g c =
         looks = c.do_part.ensures.came.looks;
         tally = no_more self.tally;
       };
+      own = let begun = c.pass-2.ensures.begun in (omega (arith, begun), omega (arith, begun), refl);
       moved = (λ is. inr (omega (arith, more)), λ so. refl);
       done = refl;
     }

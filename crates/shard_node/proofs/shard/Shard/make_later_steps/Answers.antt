@@ -3,11 +3,12 @@ use Rattle.std.proofs.Common.{inl, inr, true≢false, ◌≡◌, ◌<◌, ◌↔
 use Rattle.shard_rings.specs.declared.link.Lane.{Lane}
 use Rattle.shard_rings.specs.declared.link.Lane.TheVariants.{Replies, Requests}
 use Rattle.shard_node.specs.Nodes.{NodeState}
-use Rattle.shard_node.specs.inside.Moves.{Goes, ReceivesNone, ReceivesOneStray, Tells, packets_of}
+use Rattle.shard_node.specs.inside.Moves.{BeginsNone, Goes, ReceivesNone, ReceivesOneStray, Tells, packets_of}
 use Rattle.shard_node.specs.inside.Shards.{node_state}
 use Rattle.shard_node.proofs.Turning.Joins.{steps_join}
 use Rattle.shard_node.proofs.Turning.TellsStrays.{none_join, none_then_one, one_then_none, task_of, task_back, told_between, told_first, came_back}
 use Rattle.shard_node.proofs.Turning.StepGoes.{all_go}
+use Rattle.shard_node.proofs.Turning.ThroughGate.{none_then_none, through_between}
 use Rattle.shard_node.proofs.Turning.TurnMoves.{caused}
 use Rattle.shard_node.proofs.Turning.Frees.{not_less}
 use Rattle.shard_node.proofs.Turning.IdleTurn.{idle, not_rose, not_true, or_none, releases_none}
@@ -51,8 +52,17 @@ returns g c began home =
     (all_go traffic (node_state a) (node_state d) (node_state e)
     (all_go traffic (node_state a) y (node_state d) (all_go traffic (node_state a) x y home.goes c.release_held.ensures.goes) c.send_replies.ensures.goes)
     c.take_replies.ensures.goes) c.serve.ensures.goes) c.go_on.ensures.goes) c.say_byes.ensures.goes in
+    let chain : (m n : NodeState g.row.L.Denot g.row.G.Denot) → BeginsNone (node_state a) m → BeginsNone m n → BeginsNone (node_state a) n =
+    λ m n. none_then_none (node_state a) m n in
+    let home_none : BeginsNone (node_state a) x =
+    (ap (λ (n : NodeState g.row.L.Denot g.row.G.Denot). n.begun) home.same, ap (λ (n : NodeState g.row.L.Denot g.row.G.Denot). n.gate) home.same) in
+    let none_begun : BeginsNone (node_state a) (node_state f) =
+    chain (node_state e) (node_state f)
+    (chain (node_state d) (node_state e) (chain y (node_state d) (chain x y home_none c.release_held.ensures.own) c.send_replies.ensures.own) c.take_replies.ensures.own)
+    c.serve.ensures.own in
     record {
       step = join c.go_on.new.self h (join f c.go_on.new.self to_f c.go_on.ensures.step) c.say_byes.ensures.step;
+      gate = through_between g.G.Gate.lets end (node_state a) (node_state f) z (node_state h) to_f.same none_begun c.go_on.ensures.gate c.say_byes.ensures.own;
       goes = all;
       told = λ stands.
           let replies : Tells (ReceivesOneStray traffic holds Replies (node_state a) (node_state h)) None c.take_replies.new.seen.stray =

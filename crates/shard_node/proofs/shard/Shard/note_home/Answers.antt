@@ -14,6 +14,7 @@ returns g c began was sees =
     let rose = sees.goes.backs in
     record {
       step = sees.step;
+      gate = sees.gate;
       told = λ stands. subst (λ stray. TellsFirst g.L.Link.traffic g.G.Gate.holds stray (node_state began) (node_state c.args.self.now)) (sym c.note.ensures.stray) (sees.told stands);
       caused = λ stands is. elim (or_true old.moved back (sym c.note.ensures.moved ∙ is)) [
         | inl moved ↦ sees.caused stands moved

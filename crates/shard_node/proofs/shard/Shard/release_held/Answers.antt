@@ -46,6 +46,7 @@ returns g c =
         looks = omega arith;
         tally = (freed.released, freed.counts);
       };
+      own = (refl, refl);
       released = λ so. frees traffic g.G.Gate.holds (node_state c.args.self.now) _ c.args.self.now.peers.items items refl refl (ap length is ∙ (c.release_all.auto.peers ∙ ap length old)) freed
           (subst (λ ps. held_by_all ps < held_by_all c.args.self.now.peers.items) (sym is)
           (subst (λ ps. held_by_all peers < held_by_all ps) old (c.release_all.ensures.released.0 so)));

@@ -46,6 +46,7 @@ returns-then-is_none-2 g c =
         looks = omega arith;
         tally = no_more shard.tally;
       };
+      own = (refl, refl);
       sent = all_so traffic _ shard.peers.items (with_items shard.peers peers).items
           (subst (λ ps. IsTrue c.say_byes.result ↔ (packets_by_all traffic shard.peers.items < packets_by_all traffic ps)) (sym is)
           (subst (λ ps. IsTrue c.say_byes.result ↔ (packets_by_all traffic ps < packets_by_all traffic peers)) old c.say_byes.ensures.sent));

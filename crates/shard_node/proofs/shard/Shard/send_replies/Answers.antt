@@ -43,6 +43,7 @@ returns g c =
         looks = omega arith;
         tally = no_more c.args.self.now.tally;
       };
+      own = (refl, refl);
       sent = all_so traffic _ c.args.self.now.peers.items items
           (subst (λ ps. IsTrue c.send_replies.result ↔ (packets_by_all traffic c.args.self.now.peers.items < packets_by_all traffic ps)) (sym is)
           (subst (λ ps. IsTrue c.send_replies.result ↔ (packets_by_all traffic ps < packets_by_all traffic peers)) old c.send_replies.ensures.sent));

@@ -57,6 +57,7 @@ returns-in-Some-send g c =
         looks = omega arith;
         tally = no_more self.tally;
       };
+      own = (refl, refl);
       moved = never_so traffic (IsTrue false) self.peers.items c.place_of-at.result old (record old { link = c.send.new.link }) at.0 here (self.journal.entries)
           (λ is. true≢false (sym is)) (packets_same (traffic old.link) (traffic c.send.new.link) c.in-Some-send.ensures.sends.1.sent c.in-Some-send.ensures.sends.1.received);
       held_up = λ unmet. record {
@@ -96,6 +97,7 @@ returns-in-None g c =
         looks = omega arith;
         tally = no_more self.tally;
       };
+      own = (refl, refl);
       moved = (
         λ is. inl ((one_so traffic (IsTrue true) self.peers.items c.place_of-at.result old (record old { link = c.send.new.link; owed = old.owed + 1 }) at.0 here
             (λ so. let e = packets_sent Requests _ (traffic old.link) (traffic c.send.new.link) c.in-None.ensures.sends.sent c.in-None.ensures.sends.received in omega (arith, e), λ so. refl)).0 refl),

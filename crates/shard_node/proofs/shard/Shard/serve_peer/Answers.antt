@@ -5,6 +5,7 @@ use Rattle.shard_node.specs.inside.Moves.{ReceivesOneStray, TriedSays}
 use Rattle.shard_rings.specs.declared.link.Lane.TheVariants.{Replies, Requests}
 use Rattle.shard_node.specs.inside.Shards.{node_state}
 use Rattle.shard_node.proofs.Turning.TellsStrays.{stray_between, came_back, none_here, none_join, one_then_none, tried_so}
+use Rattle.shard_node.proofs.Turning.ThroughGate.{none_then_none}
 use Rattle.shard_node.specs.inside.Seen.{has_come}
 use Rattle.shard_node.proofs.Turning.StepGoes.{all_go, packets_rise}
 use Rattle.shard_node.proofs.shard.Shard.serve_peer.Goals as goal
@@ -35,6 +36,10 @@ returns-in-Expected-clause-tells g c stands =
 pub returns-in-Expected-clause-goes : goal.returns-in-Expected-clause-goes
 returns-in-Expected-clause-goes g c =
     all_go g.L.Link.traffic (node_state c.args.self.now) (node_state c.take_request.new.self) (node_state c.send_reply.new.self) c.take_request.ensures.goes c.send_reply.ensures.goes
+
+pub returns-in-Expected-clause-own : goal.returns-in-Expected-clause-own
+returns-in-Expected-clause-own g c =
+    none_then_none (node_state c.args.self.now) (node_state c.take_request.new.self) (node_state c.send_reply.new.self) c.take_request.ensures.own c.send_reply.ensures.own
 
 pub returns-in-Expected-clause-moved : goal.returns-in-Expected-clause-moved
 returns-in-Expected-clause-moved g c =

@@ -5,6 +5,7 @@ use Rattle.shard_node.specs.inside.Moves.{ReplyLacks, ReceivesOneStray, Tells, p
 use Rattle.shard_node.specs.inside.Shards.{node_state}
 use Rattle.shard_node.proofs.Turning.Joins.{no_step, steps_join}
 use Rattle.shard_node.proofs.Turning.TellsStrays.{none_here, none_join, one_here, one_next, task_of, told_next, told_start}
+use Rattle.shard_node.proofs.Turning.ThroughGate.{none_then_none}
 use Rattle.shard_node.specs.inside.Seen.{has_come}
 use Rattle.shard_node.proofs.Turning.StepGoes.{all_go, packets_rise, stays_goes, tries_so_far}
 use Rattle.std.proofs.lemmas.List.{length-map}
@@ -21,6 +22,7 @@ loop-at-init g c =
       requests = none_here traffic g.G.Gate.holds Requests (node_state self);
       one = one_here traffic g.G.Gate.holds Replies (node_state self);
       goes = stays_goes traffic (node_state self);
+      own = (refl, refl);
       moved = (λ is. inl is, λ so. elim so [ inl before ↦ before | inr less ↦ absurd (omega (arith, less)) ]);
       held_up = λ quiet. held_start traffic _ (node_state self) (λ k p below. absurd (omega (arith, below)));
       later = λ k from. refl;
@@ -40,6 +42,7 @@ loop-at-preserved g c =
       requests = none_join traffic g.G.Gate.holds Requests (node_state first) (node_state old) (node_state new) so_far.requests c.take_reply.ensures.requests;
       one = one_next traffic g.G.Gate.holds Replies (node_state first) (node_state old) (node_state new) at c.take_reply.ensures.others so_far.later so_far.one c.take_reply.ensures.one;
       goes = all_go traffic (node_state first) (node_state old) (node_state new) so_far.goes c.take_reply.ensures.goes;
+      own = none_then_none (node_state first) (node_state old) (node_state new) so_far.own c.take_reply.ensures.own;
       moved = subst (λ m. IsTrue m ↔ (IsTrue c.args.seen.now.moved ⊎ (packets_of traffic (node_state first) < packets_of traffic (node_state new)))) (sym c.note_try.ensures.moved)
           (tries_so_far c.args.seen.now.moved c.loop-at.seen.moved (has_come c.take_reply.result) (packets_of traffic (node_state first)) (packets_of traffic (node_state old)) (packets_of traffic (node_state new))
           so_far.moved c.take_reply.ensures.moved (packets_rise traffic (node_state first) (node_state old) so_far.goes) (packets_rise traffic (node_state old) (node_state new) c.take_reply.ensures.goes));

@@ -2,7 +2,7 @@ use Rattle.std.specs.Prelude.{◌⊎◌}
 use Rattle.std.proofs.Common.{◌<◌, ◌↔◌, IsTrue, ◌≡◌, ◌≤◌, ℕ, ◌-◌, length, slice_get}
 use Rattle.shard_rings.specs.declared.link.Lane.TheVariants.{Replies, Requests}
 use Rattle.shard_node.specs.Standing.{InStanding}
-use Rattle.shard_node.specs.inside.Moves.{Goes, HeldUp, NonePassed, packets_of, ReceivesNone, ReceivesOne, ReplyLacks, ReceivesOneStray, Tells}
+use Rattle.shard_node.specs.inside.Moves.{BeginsNone, Goes, HeldUp, NonePassed, packets_of, ReceivesNone, ReceivesOne, ReplyLacks, ReceivesOneStray, Tells}
 use Rattle.shard_node.specs.inside.Shards.{node_state}
 use Rattle.shard_node.specs.inside.Steps.{IsStep}
 use Rattle.shard_node.proofs.shard.Shard.take_replies.Given as goal
@@ -13,6 +13,7 @@ invariant-loop-at g l = record {
   requests : ReceivesNone g.L.Link.traffic Requests (node_state l.initial.self) (node_state l.self);
   one : ReceivesOne g.L.Link.traffic Replies (node_state l.initial.self) (node_state l.self);
   goes : Goes g.L.Link.traffic (node_state l.initial.self) (node_state l.self);
+  own : BeginsNone (node_state l.initial.self) (node_state l.self);
   moved : IsTrue l.seen.moved ↔ (IsTrue l.initial.seen.moved ⊎ (packets_of g.L.Link.traffic (node_state l.initial.self) < packets_of g.L.Link.traffic (node_state l.self)));
   held_up : NonePassed g.L.Link.traffic (node_state l.initial.self) (node_state l.self)
       → HeldUp g.L.Link.traffic

@@ -2,6 +2,7 @@ use Rattle.std.proofs.Common.{refl, sym, subst, ◌∙◌, true≢false}
 use Rattle.shard_node.specs.Turns.{IsAnswer}
 use Rattle.shard_node.specs.inside.Shards.{node_state}
 use Rattle.shard_node.proofs.Turning.Steps.{counted_done, counted_stands, turn_counted}
+use Rattle.shard_node.proofs.Turning.ThroughGate.{none_through, turns_through}
 use Rattle.shard_node.proofs.Turning.TurnTold.{answers, never_done}
 use Rattle.shard_node.proofs.shard.Shard.turn.Goals as goal
 
@@ -15,6 +16,7 @@ returns-then-is_done g c =
       standing = counted_stands traffic g.L.Link.end shard turns;
       same = record { shard = refl; shards = refl; pages = refl; trace = refl; home = refl; ends = refl };
       turns = c.saturating_add-self.ensures;
+      gate = none_through g.G.Gate.lets (node_state shard) (node_state (record shard { turns = turns })) (refl, refl);
       done = λ stands. (λ e. (c.is_done.ensures (counted_stands traffic g.L.Link.end shard turns stands)).0 c.if-is_done.true, λ d. refl);
       rests = λ stands d. refl;
       answer = λ stands. (c.is_done.ensures (counted_stands traffic g.L.Link.end shard turns stands)).0 c.if-is_done.true;
@@ -53,6 +55,14 @@ returns-else-is_done-2-clause-rests g c stands done =
     let traffic = g.L.Link.traffic in
     let turns = c.saturating_add-self.result in
     absurd (true≢false (sym ((c.is_done.ensures (counted_stands traffic g.L.Link.end c.args.self.now turns stands)).1 (counted_done traffic g.L.Link.end c.args.self.now turns done)) ∙ c.if-is_done.false))
+
+pub returns-then-is_done-2-clause-gate : goal.returns-then-is_done-2-clause-gate
+returns-then-is_done-2-clause-gate g c =
+    turns_through g.G.Gate.lets (node_state c.args.self.now) c.saturating_add-self.result (node_state c.make_steps-seen.new.self) c.make_steps-seen.ensures.gate
+
+pub returns-else-is_done-2-clause-gate : goal.returns-else-is_done-2-clause-gate
+returns-else-is_done-2-clause-gate g c =
+    turns_through g.G.Gate.lets (node_state c.args.self.now) c.saturating_add-self.result (node_state c.make_steps-seen.new.self) c.make_steps-seen.ensures.gate
 
 pub returns-then-is_done-2-clause-answer : goal.returns-then-is_done-2-clause-answer
 returns-then-is_done-2-clause-answer g c stands =
