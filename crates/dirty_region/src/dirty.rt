@@ -3,8 +3,10 @@ ghost use Rattle.std.specs.Prelude.{◌≡◌, ◌↔◌, ◌+◌, ◌<◌, ◌�
 ghost use Rattle.layout.specs.Sizes as sizes;
 ghost use Rattle.cache_model.specs.Row.{live, size};
 ghost use Rattle.regions.specs.Segments.{idle};
+ghost use Rattle.regions.specs.Counts.{live_total};
 ghost use Rattle.regions.specs.Shapes.{held_count};
 ghost use Rattle.region_room.specs.Room as bound;
+ghost use Rattle.dirty_region.specs.Puts.{Stand};
 ghost use Rattle.dirty_region.specs.Queues.{Queue, line, newest, rest, IsQueue};
 ghost use Rattle.dirty_region.specs.State.{empty, with_put, HoldsSegments};
 ghost use Rattle.dirty_region.specs.declared.refusal.DirtyRefusal.{DirtyRefusal};
@@ -159,6 +161,10 @@ impl Dirty {
     pub fn facts(&self)
         ensures few { length self.now.queue.puts ≤ self.now.room }
         ensures queue { IsQueue self.now.queue }
+
+        // The live objects of the segments are the puts of the queue, each at a place of its own.
+        ensures live { live self.now.queue.puts ≡ live_total self.now.region }
+        ensures stand { Stand self.now.queue.puts self.now.region }
     {
         let _ = &self.ring;
     }
