@@ -37,11 +37,10 @@ stands r l of k put e =
       content = h.is_put.content ∙ ap (row_bytes (position r k) unlinked) is;
     })
 
-pub puts_stand : (r : RingState) (s : RegionState) → IsRingOf r (live_at s) → Stand (puts_in r (live_at s)) s
+pub puts_stand : (r : RingState) (s : RegionState) → IsRingOf r (live_at s) → Stand r.first (puts_in r (live_at s)) s
 puts_stand r s of =
     let long = length-listed (nth r (live_at s)) r.count in
     record {
-      first = r.first;
       place = place_in r;
       each = λ k put e. stands r (live_at s) of k put e;
       apart = λ j k low high e.

@@ -22,10 +22,8 @@ pub record IsPut (live : Option Item) (position : ℕ) (put : Row) : Type 0 wher
   pub kind : item.kind ≡ dirty_kind
   pub content : item.content ≡ row_bytes position unlinked put
 
--- the puts, oldest first, stand in the region, each at a place of its own, and nothing else lives there
-pub record Stand (puts : List Row) (region : RegionState) : Type 0 where
-  -- the position of the oldest put among all puts that ever came, modulo 2^32
-  pub first : ℕ
+-- the puts, oldest first, stand in the region, each at a place of its own, and nothing else lives there; the oldest has this position
+pub record Stand (first : ℕ) (puts : List Row) (region : RegionState) : Type 0 where
   -- where the put with so many older ones stands
   pub place : ℕ → Place
   pub each : (older : ℕ) (put : Row) → slice_get puts older ≡ Some put

@@ -20,4 +20,4 @@ returns-clause-live c = subst (λ (x : DirtyState). live x.queue.puts ≡ live_t
 
 pub returns-clause-stand : goal.returns-clause-stand
 returns-clause-stand c =
-    subst (λ (x : DirtyState). Stand x.queue.puts x.region) c.self.view_is (puts_stand c.self.inside.ring c.self.inside.region c.self.invariant.0.stored.ring_of)
+    subst (λ (x : DirtyState). Stand x.first x.queue.puts x.region) c.self.view_is (puts_stand c.self.inside.ring c.self.inside.region c.self.invariant.0.stored.ring_of)
