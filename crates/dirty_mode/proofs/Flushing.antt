@@ -27,6 +27,13 @@ put_text-append xs ys = ap text_of (map-append Flushed xs ys) ∙ flat_map-appen
 pub queue_whole : (q : Queue) → q.out ≡ 0 → q ≡ whole q.puts
 queue_whole q none = ap (λ n. record { puts = q.puts; out = n }) none
 
+none_left : (puts : List Row) → length puts ≡ 0 → puts ≡ []
+none_left [] none = refl
+none_left (put ∷ puts) none = absurd (omega (arith, none))
+
+pub queue_none : (q : Queue) → q.out ≡ 0 → length q.puts ≡ 0 → q ≡ whole []
+queue_none q out none = queue_whole q out ∙ ap (λ (puts : List Row). whole puts) (none_left q.puts none)
+
 next_text : (puts : List Row) (put : Row) (others : List Row) → puts ≡ put ∷ others → put_text (take 1 puts) ≡ line put
 next_text puts put others e = ap (λ ps. put_text (take 1 ps)) e ∙ append-nil (line put)
 

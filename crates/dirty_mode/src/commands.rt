@@ -1,5 +1,5 @@
 //! The commands of a trace, one after the other.
-ghost use Rattle.std.specs.Prelude.{◌≡◌, ◌+◌, ◌<◌, ◌≤◌, true, length, Contains, OnOk};
+ghost use Rattle.std.specs.Prelude.{◌≡◌, ◌+◌, ◌<◌, ◌≤◌, true, [], length, Contains, OnOk};
 ghost use Rattle.layout.specs.Sizes.{greatest_object};
 ghost use Rattle.trace_text.specs.Operation.{operation};
 ghost use Rattle.trace_text.specs.Parsed.{trace_in};
@@ -94,6 +94,7 @@ pub(crate) fn do_commands<K: Sink>(
     requires most { most ≤ bound.room (held_count dirty.old.region) }
     requires held { 3 ≤ held_count dirty.old.region }
     requires room { length dirty.old.queue.puts + put_count (trace_in trace.now) ≤ dirty.old.room }
+    ensures queue { OnOk result (dirty.new.queue ≡ whole []) }
     ensures written { WritesTo K.written K.faults result sink.old block.old sink.new block.new
         (text_of (lines_from most (trace_in trace.now).operations dirty.old.queue.puts)) }
     ensures kept { Keeps dirty.old dirty.new }

@@ -76,6 +76,7 @@ pub(crate) fn flush_all<K: Sink>(
     block: &mut Block,
 ) -> Result<(), Failed>
     requires whole { dirty.old.queue.out ≡ 0 }
+    ensures queue { OnOk result (dirty.new.queue ≡ whole []) }
     ensures written { WritesTo K.written K.faults result sink.old block.old sink.new block.new
         (text_of (map Flushed dirty.old.queue.puts)) }
     ensures kept { Keeps dirty.old dirty.new }

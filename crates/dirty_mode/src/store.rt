@@ -5,8 +5,8 @@ ghost use Rattle.layout.specs.Sizes as sizes;
 ghost use Rattle.trace_text.specs.Parsed.{trace_in};
 ghost use Rattle.trace_text.specs.Parts.{is_put};
 ghost use Rattle.regions.specs.Shapes.{shape, held_count};
-ghost use Rattle.dirty_region.specs.State.{empty};
 ghost use Rattle.dirty_mode.specs.DirtyText.{put_count};
+ghost use Rattle.dirty_mode.specs.Stores.{IsEmpty};
 ghost use Rattle.mode_lemmas.specs.Ranges.{HoldsFirst};
 
 use dirty_region::Dirty;
@@ -17,7 +17,8 @@ use std::marker::Model;
 use text_block::Block;
 use trace_text::{Command, Kind, Trace};
 
-/// A queue of puts with its memory, opened for a trace. Contracts see its pages and for how many puts it has room.
+/// A queue of puts with its memory, opened for a trace. Contracts see its pages, the queue with the segments in which the puts
+/// stand, and the text that waits for the sink.
 #[derive(Drop)]
 pub struct DirtyStore {
     pub(crate) dirty: Dirty,
@@ -27,18 +28,29 @@ pub struct DirtyStore {
 }
 
 impl Model for DirtyStore {
-    ghost use Rattle.std.specs.Prelude.{◌≡◌, ◌/◌, []};
+    ghost use Rattle.std.specs.Prelude.{◌/◌};
     ghost use Rattle.layout.specs.Sizes.{segment_pages, ArePages};
-    ghost use Rattle.dirty_region.specs.State.{empty};
     ghost use Rattle.dirty_mode.specs.Stores.{StoreState};
     ghost use Rattle.mode_lemmas.specs.Ranges.{HoldsFirst};
 
     ghost Value = { StoreState };
 
-    ghost view = { λ s. record { pages = s.pages; room = s.dirty.room } };
+    ghost view = { λ s. record { pages = s.pages; dirty = s.dirty; waiting = s.block.bytes } };
 
-    ghost invariant = { λ s. ArePages s.pages × (s.dirty.queue ≡ empty)
-        × HoldsFirst s.range s.dirty.region (s.pages / segment_pages) × (s.block.bytes ≡ []) };
+    ghost invariant = { λ s. ArePages s.pages × HoldsFirst s.range s.dirty.region (s.pages / segment_pages) };
+}
+
+impl DirtyStore {
+    /// Gives the memory back.
+    pub fn close(self) {
+        let DirtyStore {
+            dirty,
+            range,
+            block: _block,
+            pages,
+        } = self;
+        give_back(dirty, range, pages / SEGMENT_PAGES);
+    }
 }
 
 /// How many of some commands are puts.
@@ -65,7 +77,9 @@ pub(crate) fn put_count(trace: &Trace) -> u32
 pub fn open_dirty(alloc: Global, trace: &Trace, pages: u32) -> Result<DirtyStore, AllocError>
     requires { ArePages pages }
     ensures pages { IfOk result (λ store. store.pages ≡ pages) }
-    ensures room { IfOk result (λ store. store.room ≡ put_count (trace_in trace.now)) }
+    ensures room { IfOk result (λ store. store.dirty.room ≡ put_count (trace_in trace.now)) }
+    ensures empty { IfOk result (λ store. IsEmpty store) }
+    ensures held { IfOk result (λ store. held_count store.dirty.region ≡ pages / segment_pages) }
 {
     let segments = pages / SEGMENT_PAGES;
     let mut dirty = Dirty::new(alloc, put_count(trace), segments)?;
@@ -97,7 +111,7 @@ fn add_segments(dirty: &mut Dirty, range: &mut Range, segments: u32)
 }
 
 /// Gives the segments back to the range that they are of, and frees it.
-pub(crate) fn close(mut dirty: Dirty, mut range: Range, segments: u32)
+fn give_back(mut dirty: Dirty, mut range: Range, segments: u32)
     requires { HoldsFirst range dirty.region segments }
 {
     while let Some(piece) = dirty.give_up() {

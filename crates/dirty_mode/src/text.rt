@@ -7,13 +7,15 @@ ghost use Rattle.trace_text.specs.Parsed.{trace_in};
 ghost use Rattle.layout.specs.Sizes.{ArePages, greatest_object};
 ghost use Rattle.regions.specs.Shapes.{held_count};
 ghost use Rattle.region_room.specs.Room as bound;
+ghost use Rattle.dirty_region.specs.State.{HoldsSegments};
 ghost use Rattle.dirty_mode.specs.DirtyText.{dirty_text, text_of, lines_from, put_count};
+ghost use Rattle.dirty_mode.specs.Stores.{IsEmpty};
 ghost use Rattle.mode_lemmas.specs.Writing.{WritesTo};
 ghost use Rattle.dirty_mode.specs.inside.Held.{whole, Keeps};
 
 use crate::answers::write_count;
 use crate::commands::do_commands;
-use crate::store::{DirtyStore, close, open_dirty, put_count};
+use crate::store::{DirtyStore, open_dirty, put_count};
 use dirty_region::Dirty;
 use layout::SEGMENT_PAGES;
 use outside::{Failed, Sink};
@@ -44,37 +46,43 @@ pub fn run_dirty<K: Sink>(
     // Nothing, where memory is not found.
     ensures unchanged { OnErr result (sink.new ≡ sink.old) }
 {
-    let store = open_dirty(alloc, trace, pages)?;
-    Ok(write_dirty(store, trace, sink))
+    let mut store = open_dirty(alloc, trace, pages)?;
+    let written = write_dirty(&mut store, trace, sink);
+    store.close();
+    Ok(written)
 }
 
 /// Runs a trace on a store that was opened for it, and writes what is said of it: each put as it is flushed, the oldest ones first,
-/// each get as it comes, and how many puts there were. The store's memory is given back.
+/// each get as it comes, and how many puts there were. The store is empty then.
 ///
 /// # Errors
-/// [`Failed`] where the sink failed. A front of the text was written then.
-pub fn write_dirty<K: Sink>(store: DirtyStore, trace: &Trace, sink: &mut K) -> Result<(), Failed>
-    requires room { put_count (trace_in trace.now) ≤ store.room }
+/// [`Failed`] where the sink failed. A front of the text was written then; which puts are held and which text waits is not said.
+pub fn write_dirty<K: Sink>(
+    store: &mut DirtyStore,
+    trace: &Trace,
+    sink: &mut K,
+) -> Result<(), Failed>
+    requires empty { IsEmpty store.old }
+    requires room { put_count (trace_in trace.now) ≤ store.old.dirty.room }
 
     // The whole text, or a front of it.
-    ensures written { OnOk result (Appends (K.written sink.old) (K.written sink.new) (dirty_text (trace_in trace.now) store.pages)) }
+    ensures written { OnOk result (Appends (K.written sink.old) (K.written sink.new)
+        (dirty_text (trace_in trace.now) store.old.pages)) }
     ensures front { OnErr result (AppendsFront (K.written sink.old) (K.written sink.new)
-        (dirty_text (trace_in trace.now) store.pages)) }
+        (dirty_text (trace_in trace.now) store.old.pages)) }
 
     // It fails only where the sink does.
     ensures failed { OnErr result (Rose (K.faults sink.old) (K.faults sink.new)) }
     ensures never_falls { K.faults sink.old ≤ K.faults sink.new }
+
+    // All puts are flushed, and the memory is as it was.
+    ensures empty { OnOk result (IsEmpty store.new) }
+    ensures pages { store.new.pages ≡ store.old.pages }
+    ensures room { store.new.dirty.room ≡ store.old.dirty.room }
+    ensures segments { HoldsSegments store.old.dirty.region store.new.dirty.region }
 {
-    let DirtyStore {
-        mut dirty,
-        range,
-        mut block,
-        pages,
-    } = store;
-    let segments = pages / SEGMENT_PAGES;
-    let written = write_text(&mut dirty, segments, trace, sink, &mut block);
-    close(dirty, range, segments);
-    written
+    let segments = store.pages / SEGMENT_PAGES;
+    write_text(&mut store.dirty, segments, trace, sink, &mut store.block)
 }
 
 /// Writes the lines of a trace, and how many puts there were.
@@ -92,6 +100,7 @@ fn write_text<K: Sink>(
     ensures written { WritesTo K.written K.faults result sink.old block.old sink.new block.new
         (text_of (lines_from (bound.room segments) (trace_in trace.now).operations [])
         ++ codes "dirty " ++ decimal (put_count (trace_in trace.now)) ++ codes "\n") }
+    ensures queue { OnOk result (dirty.new.queue ≡ whole []) }
     ensures empty { OnOk result (block.new.bytes ≡ []) }
     ensures kept { Keeps dirty.old dirty.new }
 {

@@ -9,5 +9,6 @@ pub mod Marks
 pub mod Indexes
 pub mod Stored
 pub mod Sought
+pub mod Standing
 pub mod Flushed
 pub mod Segments

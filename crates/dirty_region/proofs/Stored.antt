@@ -204,7 +204,7 @@ pub record IsSeen (room count bytes held : ℕ) (now : DirtyState) : Type 0 wher
   pub total : live_total now.region ≡ bytes
 
 pub seen : (r : RingState) (index : PutRows) (s : RegionState) (bytes held out : ℕ) (now : DirtyState) → IsConsistent r index s bytes held out
-    → (let d : DirtyState = record { room = r.room; queue = record { puts = puts_in r (live_at s); out = out }; region = s } in d ≡ now) → IsSeen r.room r.count bytes held now
+    → (let d : DirtyState = record { room = r.room; queue = record { puts = puts_in r (live_at s); out = out }; first = r.first; region = s } in d ≡ now) → IsSeen r.room r.count bytes held now
 seen r index s bytes held out now is view = record {
   room_is = sym (ap (λ (x : DirtyState). x.room) view);
   count_is = sym (ap (λ (x : DirtyState). length x.queue.puts) view) ∙ length-listed (nth r (live_at s)) r.count;

@@ -1,3 +1,4 @@
 pub mod Queues
 pub mod State
+pub mod Puts
 pub mod inside

@@ -4,10 +4,12 @@ use Rattle.regions.specs.Segments.{RegionState}
 use Rattle.regions.specs.Shapes.{shape, pieces, held_count}
 use Rattle.dirty_region.specs.Queues.{Queue}
 
--- for how many puts it has room, the queue for which it stands, and the segments in which the puts stand
+-- for how many puts it has room, the queue for which it stands, the position of the oldest put among all puts that ever came, modulo
+-- 2^32, and the segments in which the puts stand
 pub record DirtyState : Type 0 where
   pub room : ℕ
   pub queue : Queue
+  pub first : ℕ
   pub region : RegionState
 
 -- no put

@@ -3,8 +3,10 @@ ghost use Rattle.std.specs.Prelude.{◌≡◌, ◌↔◌, ◌+◌, ◌<◌, ◌�
 ghost use Rattle.layout.specs.Sizes as sizes;
 ghost use Rattle.cache_model.specs.Row.{live, size};
 ghost use Rattle.regions.specs.Segments.{idle};
+ghost use Rattle.regions.specs.Counts.{live_total};
 ghost use Rattle.regions.specs.Shapes.{held_count};
 ghost use Rattle.region_room.specs.Room as bound;
+ghost use Rattle.dirty_region.specs.Puts.{Stand};
 ghost use Rattle.dirty_region.specs.Queues.{Queue, line, newest, rest, IsQueue};
 ghost use Rattle.dirty_region.specs.State.{empty, with_put, HoldsSegments};
 ghost use Rattle.dirty_region.specs.declared.refusal.DirtyRefusal.{DirtyRefusal};
@@ -53,6 +55,7 @@ impl Model for Dirty {
     ghost view = { λ d. record {
       room = d.ring.room;
       queue = record { puts = puts_in d.ring (live_at d.region); out = d.out };
+      first = d.ring.first;
       region = d.region;
     } };
 
@@ -69,6 +72,7 @@ impl Dirty {
         requires segments { segments ≤ 2048 }
         ensures room { IfOk result (λ d. d.room ≡ rows) }
         ensures empty { IfOk result (λ d. d.queue ≡ empty) }
+        ensures first { IfOk result (λ d. d.first ≡ 0) }
         ensures region { IfOk result (λ d. d.region ≡ record {
           most = segments;
           groups = replicate 1 idle;
@@ -111,7 +115,8 @@ impl Dirty {
         ensures rest { IfOk result (λ _. rest self.new.queue ≡ rest self.old.queue
             ++ line (record { key = key.now; value = value.now; number = number })) }
 
-        // The room and the segments are as they were.
+        // The oldest put's position, the room and the segments are as they were.
+        ensures first { self.new.first ≡ self.old.first }
         ensures room { self.new.room ≡ self.old.room }
         ensures segments { HoldsSegments self.old.region self.new.region }
     {
@@ -159,6 +164,10 @@ impl Dirty {
     pub fn facts(&self)
         ensures few { length self.now.queue.puts ≤ self.now.room }
         ensures queue { IsQueue self.now.queue }
+
+        // The live objects of the segments are the puts of the queue, each at a place of its own.
+        ensures live { live self.now.queue.puts ≡ live_total self.now.region }
+        ensures stand { Stand self.now.first self.now.queue.puts self.now.region }
     {
         let _ = &self.ring;
     }

@@ -1,9 +1,13 @@
 //! The objects that hold puts.
-ghost use Rattle.std.specs.Prelude.{◌≡◌, ◌+◌, ◌≤◌, ◌<◌, ◌↔◌, Some, IfSome};
+ghost use Rattle.std.specs.Prelude.{◌≡◌, ◌+◌, ◌≤◌, ◌<◌, ◌↔◌, length, replicate, None, Some, IfSome};
+ghost use Rattle.layout.specs.Sizes.{descriptor};
 ghost use Rattle.cache_model.specs.Row.{size};
+ghost use Rattle.object_log.specs.Objects.{IsSize};
+ghost use Rattle.row_bytes.specs.Rows as rows;
 ghost use Rattle.regions.specs.Shapes.{shape, HasGroup};
 ghost use Rattle.regions.specs.Counts.{left, live_total};
-ghost use Rattle.regions.specs.Contents.{live_at, size_of};
+ghost use Rattle.regions.specs.Contents.{live_at, size_of, standing_at, zeros, ChangesAt};
+ghost use Rattle.dirty_region.specs.Puts.{dirty_kind, unlinked};
 ghost use Rattle.dirty_region.specs.inside.Rings.{HoldsAPut, AddsPut, Drops};
 ghost use Rattle.dirty_region.specs.inside.NewPuts.{row_of, CanStand};
 
@@ -25,6 +29,35 @@ pub(crate) struct NewPut<'a> {
     pub(crate) number: u32,
 }
 
+// A new object that is to hold a put, and whose content is zero: there is room for it.
+fn new_object(region: &mut Region, size: u32) -> Place
+    requires group { HasGroup region.old 0 }
+    requires size { IsSize size }
+    requires room { size ≤ left region.old 0 }
+    ensures unused { standing_at region.old result ≡ None }
+    ensures added { ChangesAt result (Some (zeros (Some 0) dirty_kind size)) region.old region.new }
+    ensures live { live_total region.new ≡ live_total region.old + size }
+    ensures shape { shape region.new ≡ shape region.old }
+{
+    let Ok(place) = region.place(0, DIRTY, size) else {
+        unreachable!()
+    };
+    place
+}
+
+// Writes a put with its position into the content of a new object.
+fn write_put(content: &mut [u8], position: u32, put: NewPut<'_>)
+    requires put { CanStand put }
+    requires size { length content.old + descriptor ≡ size put.key.now put.value.now }
+    requires zero { content.old ≡ replicate (length content.old) 0 }
+    ensures bytes { content.new ≡ rows.row_bytes position unlinked (row_of put.entry) }
+    ensures holds { rows.HoldsRow content.new position (row_of put.entry) }
+    ensures read { rows.row_in content.new ≡ row_of put.entry }
+    ensures number { rows.number_in content.new ≡ position }
+{
+    write_row(content, position, put.number, UNLINKED, put.key, put.value);
+}
+
 // Places a put as a new object with its position, for which there is room.
 pub(crate) fn place_put(region: &mut Region, position: u32, put: NewPut<'_>) -> Place
     requires group { HasGroup region.old 0 }
@@ -34,17 +67,8 @@ pub(crate) fn place_put(region: &mut Region, position: u32, put: NewPut<'_>) -> 
     ensures live { live_total region.new ≡ live_total region.old + size put.entry.key.now put.entry.value.now }
     ensures shape { shape region.new ≡ shape region.old }
 {
-    let Ok(place) = region.place(0, DIRTY, row_size(put.key, put.value)) else {
-        unreachable!()
-    };
-    write_row(
-        region.bytes_mut(place),
-        position,
-        put.number,
-        UNLINKED,
-        put.key,
-        put.value,
-    );
+    let place = new_object(region, row_size(put.key, put.value));
+    write_put(region.bytes_mut(place), position, put);
     place
 }
 

@@ -31,9 +31,10 @@ fn writes(
     let Ok(trace) = parse(alloc, Vec::from_slice(alloc, input)?, 1) else {
         return Ok(false);
     };
-    let store = open_dirty(alloc, &trace, 1280)?;
     let mut sink = MemorySink::new(alloc, room)?;
-    let written = write_dirty(store, &trace, &mut sink);
+    let mut store = open_dirty(alloc, &trace, 1280)?;
+    let written = write_dirty(&mut store, &trace, &mut sink);
+    store.close();
     let front = text.get(..room.min(text.len()));
     Ok(written.is_ok() == (text.len() <= room) && Some(sink.bytes()) == front)
 }

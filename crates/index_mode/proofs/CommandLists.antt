@@ -1,6 +1,6 @@
 -- The commands of a trace, one after the other.
 use Rattle.std.proofs.Common.{◌≡◌, ℕ, suc, ◌+◌, ◌<◌, ◌≤◌, Bool, true, false, true≢false, cond, leb, List, [], ◌∷◌, ◌++◌, length, drop, map, take, get_or, Option, Some, None, Result, Ok, Err, refl, sym, ap, ◌∙◌, subst, arith, append_assoc}
-use Rattle.std.specs.Prelude.{All, ◌↔◌, IfOk, IfErr, IsErr, decimal, codes}
+use Rattle.std.specs.Prelude.{All, ◌↔◌, IfOk, IfErr, IsErr, OnOk, decimal, codes}
 use Rattle.std.proofs.lemmas.Bool.{lt-leb, leb-false}
 use Rattle.std.specs.Ordering.{is_le}
 use Rattle.std.proofs.lemmas.List.Folds.{flat_map-map}
@@ -19,7 +19,7 @@ use Rattle.cache_model.specs.Spelled.{key_field}
 use Rattle.tree_nodes.specs.Nodes.{Entry, IsEntry}
 use Rattle.tree_nodes.specs.Order.{key_cmp}
 use Rattle.index_tree.specs.Indexes.{Index, from, number_of, scanned, with_number}
-use Rattle.index_mode.specs.IndexText.{Answer, put, scanned_keys, put_answer, done, answer_line, text_from, last_line}
+use Rattle.index_mode.specs.IndexText.{Answer, put, scanned_keys, put_answer, done, answer_line, index_after, text_from, last_line}
 use Rattle.mode_lemmas.specs.Writing.{Seen, Writes, Goes}
 use Rattle.index_mode.proofs.Keys.{key_text}
 use Rattle.mode_lemmas.proofs.Written.{Goes-next, Goes-stop}
@@ -122,6 +122,12 @@ module _ (bytes : List ℕ) (items commands : List Command) (same : items ≡ co
       ≡ answer_line now.number (now_done bound index).1 ++ text_from bound (now_done bound index).0 (drop (i + 1) (operations bytes commands))
   text_now bound index = ap (text_from bound index) left_now
 
+  -- the index behind the commands that are left is the same
+  pub behind_next : (bound : ℕ) (index later : Index) → later ≡ (now_done bound index).0
+      → index_after bound later (drop (i + 1) (operations bytes commands)) ≡ index_after bound index (drop i (operations bytes commands))
+  behind_next bound index later is =
+      ap (λ (x : Index). index_after bound x (drop (i + 1) (operations bytes commands))) is ∙ sym (ap (index_after bound index) left_now)
+
   pub command_next : {T E : Type 0} {u : T} {a b c : Seen} {t : List ℕ} (bound : ℕ) (index later : Index) → later ≡ (now_done bound index).0
       → Goes a b t (text_from bound index (drop i (operations bytes commands)))
       → Writes {T = T} {E = E} (Ok u) b c (answer_line now.number (now_done bound index).1)
@@ -151,9 +157,21 @@ segments_then p q = record {
 pub served_still : {a b : IndexState} → IsServing a → HoldsSegments a.region b.region → IsServing b
 served_still p q = record { held = (let held = q.held in let before = p.held in omega (arith, held, before)); unguarded = q.guards 0 ∙ p.unguarded }
 
--- at the end the last line is left
+-- at the end no command is left
+none_left : (bytes : List ℕ) (items commands : List Command) (i : ℕ) → items ≡ commands → length items ≤ i → drop i (operations bytes commands) ≡ []
+none_left bytes items commands i same past = drop-map (operation bytes) i commands ∙ ap (map (operation bytes)) (ap (drop i) (sym same) ∙ drop_all i items past)
+
+-- but the last line
 pub text_end : {a b : Seen} {t : List ℕ} (bytes : List ℕ) (items commands : List Command) (bound i : ℕ) (index : Index) → items ≡ commands → length items ≤ i
     → Goes a b t (text_from bound index (drop i (operations bytes commands))) → Goes a b t (last_line index)
 text_end {a} {b} {t} bytes items commands bound i index same past gone =
-    let none_left : drop i (operations bytes commands) ≡ [] = drop-map (operation bytes) i commands ∙ ap (map (operation bytes)) (ap (drop i) (sym same) ∙ drop_all i items past) in
-    subst (λ os. Goes a b t (text_from bound index os)) none_left gone
+    subst (λ os. Goes a b t (text_from bound index os)) (none_left bytes items commands i same past) gone
+
+pub behind_end : (bytes : List ℕ) (items commands : List Command) (bound i : ℕ) (index : Index) → items ≡ commands → length items ≤ i
+    → index_after bound index (drop i (operations bytes commands)) ≡ index
+behind_end bytes items commands bound i index same past = ap (index_after bound index) (none_left bytes items commands i same past)
+
+-- what holds in any case holds where a result is Ok
+pub where_ok : {T E P : Type 0} (r : Result T E) → P → OnOk r P
+where_ok (Ok v) p = p
+where_ok (Err e) p = tt

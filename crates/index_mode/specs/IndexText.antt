@@ -49,6 +49,15 @@ done kinds.Get bound operation index = (index, found (number_of operation.key in
 done kinds.Erase bound operation index = (without operation.key index, erased (number_of operation.key index))
 done kinds.Scan bound operation index = (index, Keys (scanned_keys operation index))
 
+-- the index behind these commands
+abbrev pub index_after : ℕ → Index → List Operation → Index
+index_after bound index [] = index
+index_after bound index (operation ∷ operations) = index_after bound (done operation.kind bound operation index).0 operations
+
+-- the index that a trace leaves, with so many pages for the nodes
+unfoldable pub index_left : Trace → ℕ → Index
+index_left trace pages = index_after (most (pages / segment_pages)) [] trace.operations
+
 -- ---- the text
 
 abbrev pub answer_text : Answer → List ℕ

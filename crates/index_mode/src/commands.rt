@@ -1,5 +1,5 @@
 //! The commands of a trace, one after the other.
-ghost use Rattle.std.specs.Prelude.{◌≡◌, ◌*◌, ◌≤◌, ℕ, length, Contains};
+ghost use Rattle.std.specs.Prelude.{◌≡◌, ◌*◌, ◌≤◌, ℕ, length, Contains, OnOk};
 ghost use Rattle.layout.specs.Sizes.{key_room, most_keys};
 ghost use Rattle.trace_text.specs.Operation.{operation};
 ghost use Rattle.trace_text.specs.Parsed.{trace_in, IsWellFormed};
@@ -102,6 +102,8 @@ pub(crate) fn do_commands<K: Sink>(
     requires room { key_room * most_keys ≤ length keys.old }
     ensures written { WritesTo K.written K.faults result sink.old block.old sink.new block.new
         (text.text_from (most (held_count tree.old.region)) (index_in tree.old) (trace_in trace.now).operations) }
+    ensures index { OnOk result (index_in tree.new ≡ text.index_after (most (held_count tree.old.region)) (index_in tree.old)
+        (trace_in trace.now).operations) }
     ensures segments { HoldsSegments tree.old.region tree.new.region }
 {
     for command in trace.commands() {

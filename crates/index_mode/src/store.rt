@@ -1,9 +1,10 @@
 //! An index and the memory in which it stands.
 ghost use Rattle.std.specs.Prelude.{◌≡◌, ◌/◌, ◌≤◌, ◌*◌, length, IfOk};
-ghost use Rattle.layout.specs.Sizes.{ArePages};
+ghost use Rattle.layout.specs.Sizes.{segment_pages, ArePages};
 ghost use Rattle.layout.specs.Sizes as sizes;
-ghost use Rattle.regions.specs.Shapes.{shape, guards_of};
+ghost use Rattle.regions.specs.Shapes.{shape, guards_of, held_count};
 ghost use Rattle.index_tree.specs.Store.{index_in};
+ghost use Rattle.index_mode.specs.Stores.{IsEmpty};
 ghost use Rattle.mode_lemmas.specs.Ranges.{HoldsFirst};
 
 use index_tree::IndexTree;
@@ -13,7 +14,7 @@ use std::alloc::{AllocError, Global};
 use std::marker::Model;
 use text_block::Block;
 
-/// An index without keys, with its memory. Contracts see its pages.
+/// An index with its memory. Contracts see its pages, the index in its segments, and the text that waits for the sink.
 #[derive(Drop)]
 pub struct IndexStore {
     pub(crate) tree: IndexTree,
@@ -30,18 +31,34 @@ impl Model for IndexStore {
 
     ghost Value = { StoreState };
 
-    ghost view = { λ s. record { pages = s.pages } };
+    ghost view = { λ s. record { pages = s.pages; index = s.tree; waiting = s.block.bytes } };
 
-    ghost invariant = { λ s. IsOpen s.range s.tree s.block.bytes s.keys.items s.pages };
+    ghost invariant = { λ s. IsOpen s.range s.tree s.keys.items s.pages };
 }
 
-/// Opens an index on so many pages of memory.
+impl IndexStore {
+    /// Gives the memory back.
+    pub fn close(self) {
+        let IndexStore {
+            tree,
+            range,
+            block: _block,
+            keys: _keys,
+            pages,
+        } = self;
+        give_back(tree, range, pages / SEGMENT_PAGES);
+    }
+}
+
+/// Opens an index without keys on so many pages of memory.
 ///
 /// # Errors
 /// `AllocError` where memory is not found.
 pub fn open_index(alloc: Global, pages: u32) -> Result<IndexStore, AllocError>
     requires { ArePages pages }
     ensures pages { IfOk result (λ store. store.pages ≡ pages) }
+    ensures empty { IfOk result (λ store. IsEmpty store) }
+    ensures held { IfOk result (λ store. held_count store.index.region ≡ pages / segment_pages) }
 {
     let segments = pages / SEGMENT_PAGES;
     let mut tree = IndexTree::new(alloc, segments)?;
@@ -76,7 +93,7 @@ fn add_segments(tree: &mut IndexTree, range: &mut Range, segments: u32)
 }
 
 /// Gives the segments back to the range that they are of, and frees it.
-pub(crate) fn close(mut tree: IndexTree, mut range: Range, segments: u32)
+fn give_back(mut tree: IndexTree, mut range: Range, segments: u32)
     requires first { HoldsFirst range tree.region segments }
     requires guards { guards_of tree.region 0 ≡ 0 }
 {

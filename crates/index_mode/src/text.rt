@@ -8,14 +8,14 @@ ghost use Rattle.trace_text.specs.Parsed.{trace_in};
 ghost use Rattle.regions.specs.Shapes.{held_count};
 ghost use Rattle.index_tree.specs.Sizes.{most};
 ghost use Rattle.index_tree.specs.Store.{index_in, HoldsSegments};
-ghost use Rattle.index_mode.specs.IndexText.{index_text, text_from};
+ghost use Rattle.index_mode.specs.IndexText.{index_after, index_left, index_text, text_from};
+ghost use Rattle.index_mode.specs.Stores.{IsEmpty};
 ghost use Rattle.index_mode.specs.inside.Held.{IsServing};
 ghost use Rattle.mode_lemmas.specs.Writing.{WritesTo};
 
 use crate::commands::do_commands;
-use crate::store::{IndexStore, close, open_index};
+use crate::store::{IndexStore, open_index};
 use index_tree::IndexTree;
-use layout::SEGMENT_PAGES;
 use outside::{Failed, Sink};
 use std::alloc::{AllocError, Global};
 use text_block::{Block, hand_over};
@@ -43,39 +43,50 @@ pub fn run_index<K: Sink>(
     // Nothing, where memory is not found.
     ensures unchanged { OnErr result (sink.new ≡ sink.old) }
 {
-    let store = open_index(alloc, pages)?;
-    Ok(write_index(store, trace, sink))
+    let mut store = open_index(alloc, pages)?;
+    let written = write_index(&mut store, trace, sink);
+    store.close();
+    Ok(written)
 }
 
-/// Runs a trace on an index, and writes the answer to each command and how many keys are held at the end. The index's memory is
-/// given back.
+/// Runs a trace on an index without keys, and writes the answer to each command and how many keys are held at the end. These
+/// stay in the index.
 ///
 /// Of a put it is `I stored`, `I replaced` or `I full`; of a get `I at Q`, with the number of the put, or `I missing`; of an erase
 /// `I erased` or `I missing`; of a scan `I keys` and the keys. The last line is `index K`.
 ///
 /// # Errors
-/// [`Failed`] where the sink failed. A front of the text was written then.
-pub fn write_index<K: Sink>(store: IndexStore, trace: &Trace, sink: &mut K) -> Result<(), Failed>
+/// [`Failed`] where the sink failed. A front of the text was written then; which keys are held and which text waits is not said.
+pub fn write_index<K: Sink>(
+    store: &mut IndexStore,
+    trace: &Trace,
+    sink: &mut K,
+) -> Result<(), Failed>
+    requires empty { IsEmpty store.old }
+
     // The whole text, or a front of it.
-    ensures written { OnOk result (Appends (K.written sink.old) (K.written sink.new) (index_text (trace_in trace.now) store.pages)) }
+    ensures written { OnOk result (Appends (K.written sink.old) (K.written sink.new)
+        (index_text (trace_in trace.now) store.old.pages)) }
     ensures front { OnErr result (AppendsFront (K.written sink.old) (K.written sink.new)
-        (index_text (trace_in trace.now) store.pages)) }
+        (index_text (trace_in trace.now) store.old.pages)) }
 
     // It fails only where the sink does.
     ensures failed { OnErr result (Rose (K.faults sink.old) (K.faults sink.new)) }
     ensures never_falls { K.faults sink.old ≤ K.faults sink.new }
+
+    // The index is what the commands make of none, and the memory is as it was.
+    ensures index { OnOk result (index_in store.new.index ≡ index_left (trace_in trace.now) store.old.pages) }
+    ensures waiting { OnOk result (store.new.waiting ≡ []) }
+    ensures pages { store.new.pages ≡ store.old.pages }
+    ensures segments { HoldsSegments store.old.index.region store.new.index.region }
 {
-    let IndexStore {
-        mut tree,
-        range,
-        mut block,
-        mut keys,
-        pages,
-    } = store;
-    let segments = pages / SEGMENT_PAGES;
-    let written = write_text(&mut tree, keys.as_mut_slice(), trace, sink, &mut block);
-    close(tree, range, segments);
-    written
+    write_text(
+        &mut store.tree,
+        store.keys.as_mut_slice(),
+        trace,
+        sink,
+        &mut store.block,
+    )
 }
 
 /// Writes the text of a trace.
@@ -90,6 +101,8 @@ fn write_text<K: Sink>(
     requires room { key_room * most_keys ≤ length keys.old }
     ensures written { WritesTo K.written K.faults result sink.old block.old sink.new block.new
         (text_from (most (held_count tree.old.region)) (index_in tree.old) (trace_in trace.now).operations) }
+    ensures index { OnOk result (index_in tree.new ≡ index_after (most (held_count tree.old.region)) (index_in tree.old)
+        (trace_in trace.now).operations) }
     ensures empty { OnOk result (block.new.bytes ≡ []) }
     ensures segments { HoldsSegments tree.old.region tree.new.region }
 {

@@ -10,6 +10,7 @@ use Rattle.layout.specs.Sizes.{segment}
 use Rattle.raw_range.specs.Memory.{Lent, Memory, extent_of, remove_extent}
 use Rattle.regions.specs.Segments.{GroupState, RegionState, SegmentState, all_emptied, emptied, ended, fresh, group_at, idle, segment_at, with_segment}
 use Rattle.regions.specs.Shapes.{Identity, Slot, IsGreatestHeld, IsHeld, IsLeastUnused, guards_of, held_count, identity, is_held, pieces, shape, slot_at, slot_of}
+use Rattle.fragments.specs.Store.{HoldsSegments}
 use Rattle.values_mode.specs.inside.Segments.{AreOf, extents, piece_of}
 
 get_map : {X Y : Type 0} (f : X → Y) (xs : List X) (i : ℕ) (d : X) → get_or (map f xs) i (f d) ≡ f (get_or xs i d)
@@ -269,4 +270,15 @@ none_yet range r most is none = record {
       ∙ sym (ap (λ b. cond b (Some (piece_of range n)) None) (le-ltb n 0 (omega arith)));
   count = ap held_count is ∙ none_counted most;
   extents_are = none;
+}
+
+-- where the same segments are held
+pub of_kept : (range : Memory) (r s : RegionState) (most k : ℕ) → AreOf range r most k → HoldsSegments r s → AreOf range s most k
+of_kept range r s most k of holds = record {
+  most_is = holds.most ∙ of.most_is;
+  long = ap length holds.pieces ∙ of.long;
+  within = of.within;
+  held = λ n. ap (λ ps. slice_index_or ps n None) holds.pieces ∙ of.held n;
+  count = holds.held ∙ of.count;
+  extents_are = of.extents_are;
 }

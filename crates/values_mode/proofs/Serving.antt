@@ -11,7 +11,7 @@ use Rattle.value_script.specs.declared.command.Command.{Command}
 use Rattle.value_script.specs.Order as asked
 use Rattle.value_script.specs.Order.{Order, order, orders}
 use Rattle.values_mode.specs.Text as texts
-use Rattle.values_mode.specs.Text.{Answer, answer_line, done, text_from}
+use Rattle.values_mode.specs.Text.{Answer, answer_line, done, text_from, values_after}
 use Rattle.values_mode.specs.inside.Steps.{IsServing}
 
 set_long : (full : Bool) (values : Values) (n : ℕ) (o : Option (List ℕ)) (x y : Answer) → length (cond {A = Values × Answer} full (values, x) (slice_set values n o, y)).0 ≡ length values
@@ -44,12 +44,23 @@ holds_then a b c p q = record {
   guards = λ g. q.guards g ∙ p.guards g;
 }
 
+-- the next command, and those behind it
+orders_next : (i : ℕ) (bytes : List ℕ) (commands : List Command) (d : Command) → i < length commands
+    → drop i (orders bytes commands) ≡ order bytes (get_or commands i d) ∷ drop (i + 1) (orders bytes commands)
+orders_next i bytes commands d within =
+    let many : i < length (orders bytes commands) = rw (length-map commands (order bytes)) within in
+    let here : get_or (orders bytes commands) i (order bytes d) ≡ order bytes (get_or commands i d) = get_or-map (order bytes) commands i d (order bytes d) within in
+    drop_more (orders bytes commands) i (order bytes d) many ∙ ap (λ o. o ∷ drop (i + 1) (orders bytes commands)) here
+
 -- the answer to the next command, and the text of those behind it
 pub text_next : (room number i : ℕ) (values : Values) (bytes : List ℕ) (commands : List Command) (d : Command) → i < length commands
     → text_from room number values (drop i (orders bytes commands))
     ≡ answer_line number (done room values (order bytes (get_or commands i d))).1
     ++ text_from room (number + 1) (done room values (order bytes (get_or commands i d))).0 (drop (i + 1) (orders bytes commands))
-text_next room number i values bytes commands d within =
-    let many : i < length (orders bytes commands) = rw (length-map commands (order bytes)) within in
-    let here : get_or (orders bytes commands) i (order bytes d) ≡ order bytes (get_or commands i d) = get_or-map (order bytes) commands i d (order bytes d) within in
-    ap (text_from room number values) (drop_more (orders bytes commands) i (order bytes d) many ∙ ap (λ o. o ∷ drop (i + 1) (orders bytes commands)) here)
+text_next room number i values bytes commands d within = ap (text_from room number values) (orders_next i bytes commands d within)
+
+-- what the next command makes of the values, and those behind it
+pub values_next : (room i : ℕ) (values : Values) (bytes : List ℕ) (commands : List Command) (d : Command) → i < length commands
+    → values_after room values (drop i (orders bytes commands))
+    ≡ values_after room (done room values (order bytes (get_or commands i d))).0 (drop (i + 1) (orders bytes commands))
+values_next room i values bytes commands d within = ap (values_after room values) (orders_next i bytes commands d within)

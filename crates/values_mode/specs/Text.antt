@@ -64,6 +64,15 @@ text_from bytes number values (order ∷ later) =
 abbrev pub no_values : Values
 no_values = replicate orders.names None
 
+-- the values behind these commands
+abbrev pub values_after : ℕ → Values → List Order → Values
+values_after bytes values [] = values
+values_after bytes values (order ∷ later) = values_after bytes (done bytes values order).0 later
+
+-- the values that a script leaves, with so many pages
+unfoldable pub values_left : List Order → ℕ → Values
+values_left script pages = values_after (room (pages / segment_pages)) no_values script
+
 -- the text of a script with so many pages, which are cut into segments
 unfoldable pub values_text : List Order → ℕ → List ℕ
 values_text script pages = text_from (room (pages / segment_pages)) 1 no_values script

@@ -159,7 +159,8 @@ fn count_values(store: &Fragments) -> u32
 pub(crate) fn put_last(store: &Fragments, block: &mut Vec<u8>)
     requires names { length store.now.firsts ≡ names }
     requires room { length block.old.items + 128 ≤ vec_capacity block.old }
-    ensures { block.new.items ≡ block.old.items ++ last_line (values_of store.now) }
+    ensures text { block.new.items ≡ block.old.items ++ last_line (values_of store.now) }
+    ensures room { vec_capacity block.old ≤ vec_capacity block.new }
 {
     put(block, b"values ");
     put_number(block, u64::from(count_values(store)));

@@ -40,7 +40,7 @@ fn add_one(store: &mut Fragments, range: &mut Range, number: u32)
 }
 
 /// Gives the range all its pieces back, and its memory to the allocator.
-pub(crate) fn close(mut store: Fragments, mut range: Range)
+pub(crate) fn give_back(mut store: Fragments, mut range: Range)
     requires of { (most : ℕ) × (k : ℕ) × AreOf range store.region most k }
     requires guards { guards_of store.region 0 ≡ 0 }
 {

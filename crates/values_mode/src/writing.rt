@@ -9,12 +9,12 @@ ghost use Rattle.region_room.specs.Room.{room};
 ghost use Rattle.fragments.specs.Store.{values_of, HoldsSegments};
 ghost use Rattle.value_script.specs.Order.{names, order};
 ghost use Rattle.value_script.specs.Script.{script_in, IsSound};
-ghost use Rattle.values_mode.specs.Text.{answer_line, done, last_line, text_from, values_text};
+ghost use Rattle.values_mode.specs.State.{IsEmpty};
+ghost use Rattle.values_mode.specs.Text.{answer_line, done, last_line, text_from, values_after, values_left, values_text};
 ghost use Rattle.values_mode.specs.inside.Steps.{Adds, IsServing};
 
 use crate::answers::{answer, put_last};
 use crate::block::{hand_over, make_room};
-use crate::segments::close;
 use crate::store::{ValueStore, open_values};
 use fragments::Fragments;
 use outside::{Failed, Sink};
@@ -43,33 +43,44 @@ pub fn run_values<K: Sink>(
     // Nothing, where memory is not found.
     ensures unchanged { OnErr result (sink.new ≡ sink.old) }
 {
-    let store = open_values(alloc, pages)?;
-    Ok(write_values(store, script, sink))
+    let mut store = open_values(alloc, pages)?;
+    let written = write_values(&mut store, script, sink);
+    store.close();
+    Ok(written)
 }
 
-/// Does the commands of a script, writes their answers and what is held at the end, and gives the memory back.
+/// Does the commands of a script on a store without values, and writes their answers and what is held at the end. The values
+/// stay in the store.
 ///
 /// The answer to command I is `I set` or `I full`; `I value LEN BYTES` or `I missing`; `I dropped` or `I missing`. The last line
 /// is `values V live L`: how many names have a value, and the live bytes.
 ///
 /// # Errors
-/// [`Failed`] where the sink failed. A front of the text was written then.
-pub fn write_values<K: Sink>(store: ValueStore, script: &Script, sink: &mut K) -> Result<(), Failed>
-    ensures written { OnOk result (Appends (K.written sink.old) (K.written sink.new) (values_text (script_in script.now) store.pages)) }
+/// [`Failed`] where the sink failed. A front of the text was written then; which values are held and which text waits is not said.
+pub fn write_values<K: Sink>(
+    store: &mut ValueStore,
+    script: &Script,
+    sink: &mut K,
+) -> Result<(), Failed>
+    requires empty { IsEmpty store.old }
+
+    // The whole text, or a front of it.
+    ensures written { OnOk result (Appends (K.written sink.old) (K.written sink.new)
+        (values_text (script_in script.now) store.old.pages)) }
     ensures front { OnErr result (AppendsFront (K.written sink.old) (K.written sink.new)
-        (values_text (script_in script.now) store.pages)) }
+        (values_text (script_in script.now) store.old.pages)) }
+
+    // It fails only where the sink does.
     ensures failed { OnErr result (Rose (K.faults sink.old) (K.faults sink.new)) }
     ensures never_falls { K.faults sink.old ≤ K.faults sink.new }
+
+    // The values are what the commands make of none, and the memory is as it was.
+    ensures values { OnOk result (values_of store.new.values ≡ values_left (script_in script.now) store.old.pages) }
+    ensures waiting { OnOk result (store.new.waiting ≡ []) }
+    ensures pages { store.new.pages ≡ store.old.pages }
+    ensures segments { HoldsSegments store.old.values.region store.new.values.region }
 {
-    let ValueStore {
-        mut fragments,
-        range,
-        mut block,
-        pages: _,
-    } = store;
-    let result = write_text(&mut fragments, &mut block, script, sink);
-    close(fragments, range);
-    result
+    write_text(&mut store.fragments, &mut store.block, script, sink)
 }
 
 /// Does a command, and adds its answer to the block.
@@ -91,9 +102,10 @@ fn write_answer<K: Sink>(
     ensures added { OnOk result (Adds (K.written sink.old) (K.written sink.new) block.old.items block.new.items
         (answer_line number (done (room (held_count store.old.region)) (values_of store.old) (order script.now.bytes command)).1)) }
     ensures segments { HoldsSegments store.old.region store.new.region }
-    ensures room { OnOk result (65536 ≤ vec_capacity block.new) }
+    ensures room { 65536 ≤ vec_capacity block.new }
 
-    // It fails only where the sink does.
+    // It fails only where the sink does, and then nothing was done.
+    ensures unchanged { OnErr result (store.new ≡ store.old) }
     ensures front { OnErr result (AppendsFront (K.written sink.old) (K.written sink.new) block.old.items) }
     ensures failed { OnErr result (Rose (K.faults sink.old) (K.faults sink.new)) }
     ensures never_falls { K.faults sink.old ≤ K.faults sink.new }
@@ -110,6 +122,8 @@ fn write_last<K: Sink>(store: &Fragments, block: &mut Vec<u8>, sink: &mut K) -> 
     ensures written { OnOk result (Appends (K.written sink.old) (K.written sink.new) (block.old.items ++ last_line (values_of store.now))) }
     ensures front { OnErr result (AppendsFront (K.written sink.old) (K.written sink.new)
         (block.old.items ++ last_line (values_of store.now))) }
+    ensures empty { OnOk result (block.new.items ≡ []) }
+    ensures room { 65536 ≤ vec_capacity block.new }
     ensures failed { OnErr result (Rose (K.faults sink.old) (K.faults sink.new)) }
     ensures never_falls { K.faults sink.old ≤ K.faults sink.new }
 {
@@ -132,8 +146,13 @@ fn write_text<K: Sink>(
         (text_from (room (held_count store.old.region)) 1 (values_of store.old) (script_in script.now))) }
     ensures front { OnErr result (AppendsFront (K.written sink.old) (K.written sink.new)
         (text_from (room (held_count store.old.region)) 1 (values_of store.old) (script_in script.now))) }
+    ensures values { OnOk result (values_of store.new
+        ≡ values_after (room (held_count store.old.region)) (values_of store.old) (script_in script.now)) }
+    ensures empty { OnOk result (block.new.items ≡ []) }
+    ensures room { 65536 ≤ vec_capacity block.new }
     ensures failed { OnErr result (Rose (K.faults sink.old) (K.faults sink.new)) }
     ensures never_falls { K.faults sink.old ≤ K.faults sink.new }
+    ensures serving { IsServing store.new }
     ensures segments { HoldsSegments store.old.region store.new.region }
 {
     for (index, command) in script.commands().iter().enumerate() {

@@ -1,10 +1,11 @@
 -- The ring of the places of a queue's puts, and the live objects that it is the ring of.
 use Rattle.std.specs.Prelude.{◌≡◌, ◌≢◌, ℕ, zero, suc, ◌+◌, ◌-◌, ◌%◌, ◌^◌, ◌<◌, ◌≤◌, nat_lt, cond, List, [], ◌∷◌, length, Option, None, Some, slice_get, slice_set}
 use Rattle.cache_model.specs.Row.{Row, size}
-use Rattle.row_bytes.specs.Rows.{HoldsRow, row_in, number_in}
+use Rattle.row_bytes.specs.Rows.{HoldsRow, row_bytes, row_in, number_in}
 use Rattle.regions.specs.Contents.{Item, size_of}
 use Rattle.regions.specs.Stores.{Live, Bare}
 use Rattle.regions.specs.declared.place.Place.{Place}
+use Rattle.dirty_region.specs.Puts.{dirty_kind, unlinked}
 
 -- what stands in a slot of no put
 abbrev pub nowhere : Place
@@ -44,13 +45,10 @@ pushed place r = record r { places = slice_set r.places (slot r r.count) place; 
 abbrev pub popped : RingState → RingState
 popped r = record r { head = wrapped r.room (r.head + 1); count = r.count - 1; first = (r.first + 1) % 2 ^ 32 }
 
--- the kind of an object that holds a dirty put
-abbrev pub dirty_kind : ℕ
-dirty_kind = 4
-
 -- the item is a put with its position, and is read as this
 pub record IsPutOf (item : Item) (position : ℕ) (put : Row) : Type 0 where
   pub kind : item.kind ≡ dirty_kind
+  pub content : item.content ≡ row_bytes position unlinked put
   pub holds : HoldsRow item.content position put
   pub read : row_in item.content ≡ put
   pub number : number_in item.content ≡ position

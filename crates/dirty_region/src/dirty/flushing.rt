@@ -1,5 +1,5 @@
 //! The oldest put goes to the disk.
-ghost use Rattle.std.specs.Prelude.{◌≡◌, ◌↔◌, ◌+◌, ◌≤◌, [], ◌∷◌, IfOk, OnErr, IsNone, IfSome, vec_capacity};
+ghost use Rattle.std.specs.Prelude.{◌≡◌, ◌↔◌, ◌+◌, ◌%◌, ◌^◌, ◌≤◌, [], ◌∷◌, IfOk, OnErr, IsNone, IfSome, vec_capacity};
 ghost use Rattle.layout.specs.Counts.{Rose};
 ghost use Rattle.dirty_region.specs.Queues.{line, FlushesOldest, BreaksOff, GoesOn};
 ghost use Rattle.dirty_region.specs.inside.Rings.{IsRingOf, nth, puts_in};
@@ -38,6 +38,10 @@ impl Dirty {
         // What was due is what was appended and what is due, whatever happened.
         ensures rest { GoesOn self.old.queue self.new.queue (K.written sink.old) (K.written sink.new) }
 
+        // Where the oldest put is out, the next one is the oldest.
+        ensures next { IfOk result (λ answer. IfSome answer (λ _. self.new.first ≡ (self.old.first + 1) % 2 ^ 32)) }
+        ensures first { OnErr result (self.new.first ≡ self.old.first) }
+
         // The room and the segments are as they were.
         ensures room { self.new.room ≡ self.old.room }
         ensures segments { HoldsSegments self.old.region self.new.region }
@@ -74,6 +78,7 @@ fn take_out(
     ensures puts { puts_in ring.old (live_at region.old)
         ≡ nth ring.old (live_at region.old) 0 ∷ puts_in ring.new (live_at region.new) }
     ensures count { ring.new.count + 1 ≡ ring.old.count }
+    ensures first { ring.new.first ≡ (ring.old.first + 1) % 2 ^ 32 }
     ensures room { ring.new.room ≡ ring.old.room }
     ensures shape { shape region.new ≡ shape region.old }
     ensures begun { out.new ≡ 0 }

@@ -1,5 +1,5 @@
 //! The segments of a dirty region.
-ghost use Rattle.std.specs.Prelude.{◌≡◌, ◌↔◌, ◌+◌, ◌<◌, ℕ, Some, None, slice_get, slice_set, length, IfSome, IsNone, IsSome};
+ghost use Rattle.std.specs.Prelude.{◌≡◌, ◌↔◌, ◌+◌, ◌%◌, ◌^◌, ◌<◌, ℕ, Some, None, slice_get, slice_set, length, IfSome, IsNone, IsSome};
 ghost use Rattle.layout.specs.Sizes as sizes;
 ghost use Rattle.regions.specs.Shapes.{identity, shape, pieces, held_count, IsGreatestHeld, IsLeastUnused};
 ghost use Rattle.dirty_region.specs.State.{empty};
@@ -16,6 +16,7 @@ impl Dirty {
 
         // The queue is as it was.
         ensures queue { self.new.queue ≡ self.old.queue }
+        ensures first { self.new.first ≡ self.old.first }
         ensures room { self.new.room ≡ self.old.room }
 
         // One segment more is held.
@@ -40,8 +41,9 @@ impl Dirty {
             × (slice_get (pieces self.old.region) n ≡ Some (Some (identity piece)))
             × (pieces self.new.region ≡ slice_set (pieces self.old.region) n None)) }
 
-        // The queue is empty.
+        // The queue is empty, and the next put comes behind those that it had.
         ensures queue { self.new.queue ≡ empty }
+        ensures first { self.new.first ≡ (self.old.first + length self.old.queue.puts) % 2 ^ 32 }
         ensures room { self.new.room ≡ self.old.room }
 
         // One segment fewer is held.

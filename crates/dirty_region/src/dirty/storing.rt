@@ -1,5 +1,5 @@
 //! How a put comes into the segments, and how the oldest one goes.
-ghost use Rattle.std.specs.Prelude.{◌≡◌, ℕ, ◌+◌, ◌-◌, ◌<◌, ◌≤◌, ◌++◌, ◌∷◌, [], length};
+ghost use Rattle.std.specs.Prelude.{◌≡◌, ℕ, ◌+◌, ◌-◌, ◌%◌, ◌^◌, ◌<◌, ◌≤◌, ◌++◌, ◌∷◌, [], length};
 ghost use Rattle.cache_model.specs.Row.{Row, size, live};
 ghost use Rattle.key_table.specs.Table.{IsSpotFor};
 ghost use Rattle.object_log.specs.Objects.{IsSize};
@@ -66,6 +66,7 @@ pub(super) fn add_put(
     ensures ring { IsRingOf ring.new (live_at region.new) }
     ensures index { IsIndexOf ring.new (live_at region.new) index.new }
     ensures puts { puts_in ring.new (live_at region.new) ≡ puts_in ring.old (live_at region.old) ++ row_of put.entry ∷ [] }
+    ensures first { ring.new.first ≡ ring.old.first }
     ensures room { ring.new.room ≡ ring.old.room }
 
     // Its bytes are live, and the segments are as they were.
@@ -91,6 +92,7 @@ pub(super) fn drop_oldest(
     ensures puts { puts_in ring.old (live_at region.old)
         ≡ nth ring.old (live_at region.old) 0 ∷ puts_in ring.new (live_at region.new) }
     ensures count { ring.new.count + 1 ≡ ring.old.count }
+    ensures first { ring.new.first ≡ (ring.old.first + 1) % 2 ^ 32 }
     ensures room { ring.new.room ≡ ring.old.room }
     ensures shape { shape region.new ≡ shape region.old }
 {
@@ -111,6 +113,7 @@ pub(super) fn drop_all(
     requires stored { IsStored ring.old index.old region.old live_bytes.old }
     ensures stored { IsStored ring.new index.new region.new live_bytes.new }
     ensures none { ring.new.count ≡ 0 }
+    ensures first { ring.new.first ≡ (ring.old.first + ring.old.count) % 2 ^ 32 }
     ensures room { ring.new.room ≡ ring.old.room }
     ensures shape { shape region.new ≡ shape region.old }
 {

@@ -5,9 +5,8 @@ use Rattle.layout.specs.Sizes.{segment, segment_pages, ArePages}
 use Rattle.raw_range.specs.Memory.{Memory}
 use Rattle.regions.specs.Segments.{RegionState}
 use Rattle.regions.specs.Shapes.{Identity, shape, pieces, guards_of, held_count}
-use Rattle.fragments.specs.Store.{StoreState, values_of}
+use Rattle.fragments.specs.Store.{StoreState}
 use Rattle.value_script.specs.Order.{names}
-use Rattle.values_mode.specs.Text.{no_values}
 
 -- the piece of the segment with a number
 abbrev pub piece_of : Memory → ℕ → Identity
@@ -27,12 +26,10 @@ pub record AreOf (range : Memory) (r : RegionState) (most k : ℕ) : Type 0 wher
   pub count : held_count r ≡ k
   pub extents_are : range.allocated ≡ extents k
 
--- no name has a value, and every segment of the range is held
-pub record IsOpen (range : Memory) (s : StoreState) (block : List ℕ) (room pages : ℕ) : Type 0 where
+-- every segment of the range is held, and there is room for as many names and as much text as there has to be
+pub record IsOpen (range : Memory) (s : StoreState) (room pages : ℕ) : Type 0 where
   pub are : ArePages pages
   pub of : AreOf range s.region (pages / segment_pages) (pages / segment_pages)
   pub unguarded : guards_of s.region 0 ≡ 0
   pub many : length s.firsts ≡ names
-  pub none : values_of s ≡ no_values
-  pub empty : block ≡ []
   pub block_room : 65536 ≤ room

@@ -1,6 +1,6 @@
-use Rattle.std.proofs.Common.{ap}
+use Rattle.std.proofs.Common.{◌≡◌, length, ap, arith}
 use Rattle.dirty_region.specs.Queues.{Queue}
-use Rattle.dirty_mode.proofs.Flushing.{all_next, all_stop, Keeps-trans}
+use Rattle.dirty_mode.proofs.Flushing.{all_next, all_stop, queue_none, Keeps-trans}
 use Rattle.mode_lemmas.proofs.Written.{Writes-exit}
 use Rattle.dirty_mode.proofs.flushes.flush_all.Goals as goal
 
@@ -16,3 +16,9 @@ loop-dirty-preserved g c =
 pub returns-in_err-flush_next-clause-written : goal.returns-in_err-flush_next-clause-written
 returns-in_err-flush_next-clause-written g c =
     Writes-exit _ c.from_residual.ensures.1 (all_stop c.loop-dirty.dirty.queue.puts c.loop-dirty.invariant.gone c.in_err-flush_next.ensures.written)
+
+pub returns-clause-queue : goal.returns-clause-queue
+returns-clause-queue g c =
+    let q = c.loop-dirty.dirty.queue in let len = c.len.ensures in let test = c.loop-dirty-test.false in
+    let none : length q.puts ≡ 0 = omega (arith, len, test) in
+    queue_none q c.loop-dirty.invariant.whole none

@@ -1,5 +1,6 @@
 use Rattle.std.proofs.Common.{ap, [], ◌∙◌, append-nil}
 use Rattle.std.specs.Prelude.{◌++◌, codes, decimal}
+use Rattle.std.proofs.lemmas.Result.{on_ok_weaker}
 use Rattle.trace_text.specs.Parsed.{trace_in}
 use Rattle.region_room.specs.Room.{room}
 use Rattle.dirty_region.specs.Queues.{Queue}
@@ -32,3 +33,6 @@ returns-clause-written g c =
     Writes-same (append-nil _) (Writes-then
     (Writes-same (join lines (codes "dirty ") (decimal (put_count t)) (codes "\n")) (Writes-then (Writes-same (bound ∙ none) c.in_ok-do_commands.ensures.written) (Writes-same count c.in_ok-write_count.ensures)))
     c.hand_over.ensures.wrote)
+
+pub returns-clause-queue : goal.returns-clause-queue
+returns-clause-queue g c = on_ok_weaker c.hand_over.result (λ _. c.in_ok-do_commands.ensures.queue) c.hand_over.ensures.empty

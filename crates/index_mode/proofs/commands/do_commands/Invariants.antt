@@ -1,11 +1,11 @@
--- The lines of the commands so far are written.
-use Rattle.std.proofs.Common.{◌*◌, ◌≤◌, drop, length}
+-- The lines of the commands so far are written, and the index behind all of them is that behind those that are left.
+use Rattle.std.proofs.Common.{◌≡◌, ◌*◌, ◌≤◌, drop, length}
 use Rattle.layout.specs.Sizes.{key_room, most_keys}
 use Rattle.trace_text.specs.Operation.{operations}
 use Rattle.regions.specs.Shapes.{held_count}
 use Rattle.index_tree.specs.Sizes.{most}
 use Rattle.index_tree.specs.Store.{index_in, HoldsSegments}
-use Rattle.index_mode.specs.IndexText.{text_from}
+use Rattle.index_mode.specs.IndexText.{index_after, text_from}
 use Rattle.index_mode.specs.inside.Held.{IsServing}
 use Rattle.mode_lemmas.specs.Writing.{Goes, seen}
 use Rattle.index_mode.proofs.commands.do_commands.Given as goal
@@ -15,6 +15,8 @@ invariant-loop-command g l = record {
   gone : Goes (seen g.K.Sink.written g.K.Sink.faults l.fn.sink l.fn.block) (seen g.K.Sink.written g.K.Sink.faults l.sink l.block)
       (text_from (most (held_count l.fn.tree.region)) (index_in l.fn.tree) (operations l.trace.bytes l.trace.commands))
       (text_from (most (held_count l.fn.tree.region)) (index_in l.tree) (drop l.command-index (operations l.trace.bytes l.trace.commands)));
+  behind : index_after (most (held_count l.fn.tree.region)) (index_in l.tree) (drop l.command-index (operations l.trace.bytes l.trace.commands))
+      ≡ index_after (most (held_count l.fn.tree.region)) (index_in l.fn.tree) (operations l.trace.bytes l.trace.commands);
   segments : HoldsSegments l.fn.tree.region l.tree.region;
   serving : IsServing l.tree;
   room : key_room * most_keys ≤ length l.keys;

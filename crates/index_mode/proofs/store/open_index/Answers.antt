@@ -10,9 +10,13 @@ add_segments-requires-clause-none c = none_held c.in_ok-range.range c.in_ok-tree
 pub invariant_of-result : goal.invariant_of-result
 invariant_of-result c = record {
   are = c.requires;
-  none = c.add_segments.ensures.index ∙ c.in_ok-tree.ensures.index;
   first = c.add_segments.ensures.added;
   unguarded = c.add_segments.ensures.guards ∙ ap (λ (r : RegionState). guards_of r 0) c.in_ok-tree.ensures.region;
-  empty = c.in_ok-block.ensures;
   room = sym c.in_ok-keys.keys.ok.0 ∙ c.in_ok-keys.ensures.len;
 }
+
+pub returns-clause-empty : goal.returns-clause-empty
+returns-clause-empty c = record { index = c.add_segments.ensures.index ∙ c.in_ok-tree.ensures.index; waiting = c.in_ok-block.ensures }
+
+pub returns-clause-held : goal.returns-clause-held
+returns-clause-held c = c.add_segments.ensures.added.held

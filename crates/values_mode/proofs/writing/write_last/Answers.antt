@@ -7,4 +7,4 @@ use Rattle.values_mode.proofs.writing.write_last.Goals as goal
 pub returns-clause-front : goal.returns-clause-front
 returns-clause-front g c =
     front_sent_if c.hand_over.result _ _ _ c.args.block.now.items c.make_room.new.block.items c.put_last.new.block.items (last_line (values_of c.args.store.now))
-    c.in_ok-make_room.ensures.sent c.put_last.ensures c.hand_over.ensures.front
+    c.in_ok-make_room.ensures.sent c.put_last.ensures.text c.hand_over.ensures.front

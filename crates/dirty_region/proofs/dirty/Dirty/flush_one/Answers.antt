@@ -1,4 +1,4 @@
-use Rattle.std.proofs.Common.{◌<◌, ◌≤◌, length, sym, ap, subst, ◌∙◌, arith}
+use Rattle.std.proofs.Common.{◌+◌, ◌%◌, ◌^◌, ◌<◌, ◌≤◌, length, sym, ap, subst, ◌∙◌, arith}
 use Rattle.regions.specs.Contents.{live_at}
 use Rattle.dirty_region.specs.State.{DirtyState}
 use Rattle.dirty_region.specs.inside.Rings.{nth, puts_in}
@@ -60,3 +60,6 @@ returns-clause-rest g c =
     (flushed c.args.self.now.queue (puts_in s.ring live) s.out c.write_rest.new.out c.take_out.new.out c.make_oldest_line-number.result (nth s.ring live 0) (puts_in c.take_out.new.ring (live_at c.take_out.new.region))
     c.as_slice.result.now (g.K.Sink.written c.args.sink.now) (g.K.Sink.written c.write_rest.new.sink) (ap (λ (x : DirtyState). x.queue) c.self.view_is) c.take_out.ensures.puts text
     c.make_oldest_line-number.ensures.number inside w.whole c.take_out.ensures.begun w.appended).1
+
+pub returns-clause-next : goal.returns-clause-next
+returns-clause-next g c = c.take_out.ensures.first ∙ ap (λ (x : DirtyState). (x.first + 1) % 2 ^ 32) c.self.view_is

@@ -1,7 +1,10 @@
-use Rattle.std.proofs.Common.{refl, ap, ◌∙◌, arith}
+use Rattle.std.proofs.Common.{◌≡◌, ℕ, ◌+◌, ◌%◌, ◌^◌, length, refl, sym, ap, ◌∙◌, arith}
+use Rattle.regions.specs.Contents.{live_at}
 use Rattle.regions.specs.Segments.{RegionState}
 use Rattle.regions.specs.Shapes.{shape}
 use Rattle.dirty_region.specs.State.{DirtyState}
+use Rattle.dirty_region.specs.inside.Rings.{nth}
+use Rattle.dirty_region.proofs.Listed.{length-listed}
 use Rattle.dirty_region.proofs.Flushed.{out_none}
 use Rattle.dirty_region.proofs.Stored.{segments_same}
 use Rattle.dirty_region.proofs.Segments.{spare_emptied, stored_emptied, kept_held, kept_pieces, given_up}
@@ -42,3 +45,13 @@ invariant_of-self-2 c =
 pub returns-clause-given : goal.returns-clause-given
 returns-clause-given c =
     given_up c.args.self.now.region c.drop_all.new.region c.give_up.new.self (c.drop_all.ensures.shape ∙ ap (λ (x : DirtyState). shape x.region) c.self.view_is) c.in_ok-piece.piece c.in_ok-piece.ensures.given
+
+pub returns-in_err-piece-clause-first : goal.returns-in_err-piece-clause-first
+returns-in_err-piece-clause-first c =
+    let r = c.self.inside.ring in let long = length-listed (nth r (live_at c.self.inside.region)) r.count in
+    c.drop_all.ensures.first ∙ (ap (λ (n : ℕ). (r.first + n) % 2 ^ 32) (sym long) ∙ ap (λ (x : DirtyState). (x.first + length x.queue.puts) % 2 ^ 32) c.self.view_is)
+
+pub returns-clause-first : goal.returns-clause-first
+returns-clause-first c =
+    let r = c.self.inside.ring in let long = length-listed (nth r (live_at c.self.inside.region)) r.count in
+    c.drop_all.ensures.first ∙ (ap (λ (n : ℕ). (r.first + n) % 2 ^ 32) (sym long) ∙ ap (λ (x : DirtyState). (x.first + length x.queue.puts) % 2 ^ 32) c.self.view_is)

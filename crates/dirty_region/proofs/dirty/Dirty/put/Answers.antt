@@ -1,6 +1,8 @@
-use Rattle.std.proofs.Common.{inl, inr, ap, refl, arith}
+use Rattle.std.proofs.Common.{inl, inr, ap, refl, arith, ◌∙◌}
 use Rattle.std.proofs.lemmas.Bool.{cases_eq}
 use Rattle.region_room.specs.Room.{room}
+use Rattle.dirty_region.specs.State.{DirtyState}
+use Rattle.dirty_region.specs.inside.Rings.{RingState}
 use Rattle.dirty_region.proofs.Stored.{bytes_small, seen}
 use Rattle.dirty_region.proofs.dirty.Dirty.put.Goals as goal
 
@@ -47,3 +49,7 @@ returns-clause-too_many c =
     let s = c.self.inside in let v = seen s.ring s.index s.region s.live s.held s.out c.args.self.now c.self.invariant.0 c.self.view_is in
     let count = v.count_is in let room = v.room_is in let len = c.len.ensures.count in let top = c.room.ensures in
     (λ e. absurd (cc), λ full. absurd (c.if-len-room.false (omega (arith, count, room, len, top, full))))
+
+pub returns-clause-first : goal.returns-clause-first
+returns-clause-first c =
+    c.add_put.ensures.first ∙ (ap (λ (x : RingState). x.first) c.make_way.ensures.places ∙ ap (λ (x : DirtyState). x.first) c.self.view_is)

@@ -1,4 +1,4 @@
-use Rattle.std.proofs.Common.{◌≡◌}
+use Rattle.std.proofs.Common.{◌≡◌, ◌+◌, ◌%◌, ◌^◌}
 use Rattle.regions.specs.Shapes.{shape}
 use Rattle.dirty_region.specs.inside.Consistent.{IsStored}
 use Rattle.dirty_region.proofs.dirty.storing.drop_all.Given as goal
@@ -6,6 +6,7 @@ use Rattle.dirty_region.proofs.dirty.storing.drop_all.Given as goal
 abbrev pub invariant-loop-region : goal.invariant-loop-region
 invariant-loop-region l = record {
   stored : IsStored l.ring l.index l.region l.live_bytes;
+  next : (l.ring.first + l.ring.count) % 2 ^ 32 ≡ (l.fn.ring.first + l.fn.ring.count) % 2 ^ 32;
   room : l.ring.room ≡ l.fn.ring.room;
   shape : shape l.region ≡ shape l.fn.region;
 }

@@ -2,7 +2,7 @@ use Rattle.std.proofs.Common.{ap, refl, ◌∙◌}
 use Rattle.regions.specs.Shapes.{Identity, held_count}
 use Rattle.mode_lemmas.proofs.Pieces.{given_piece, guards_left, left_pieces, most_left}
 use Rattle.mode_lemmas.proofs.Ranges.{last_piece, last_contained, one_less}
-use Rattle.index_mode.proofs.store.close.Goals as goal
+use Rattle.index_mode.proofs.store.give_back.Goals as goal
 
 pub put-requires-clause-home : goal.put-requires-clause-home
 put-requires-clause-home c =

@@ -2,7 +2,7 @@
 use Rattle.regions.specs.Shapes.{guards_of, held_count}
 use Rattle.std.proofs.Common.{◌≡◌}
 use Rattle.mode_lemmas.specs.Ranges.{HoldsFirst}
-use Rattle.index_mode.proofs.store.close.Given as goal
+use Rattle.index_mode.proofs.store.give_back.Given as goal
 
 abbrev pub invariant-loop-piece : goal.invariant-loop-piece
 invariant-loop-piece l = record {

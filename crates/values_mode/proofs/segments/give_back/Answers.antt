@@ -2,7 +2,7 @@
 use Rattle.std.proofs.Common.{ap, refl, ◌∙◌}
 use Rattle.raw_range.specs.Memory.{Memory}
 use Rattle.values_mode.proofs.Ranges.{given_home, given_there, guards_kept, none_left, one_fewer}
-use Rattle.values_mode.proofs.segments.close.Goals as goal
+use Rattle.values_mode.proofs.segments.give_back.Goals as goal
 
 pub put-requires-clause-home : goal.put-requires-clause-home
 put-requires-clause-home c =

@@ -1,7 +1,7 @@
 -- The first segments are held still.
 use Rattle.regions.specs.Shapes.{held_count}
 use Rattle.mode_lemmas.specs.Ranges.{HoldsFirst}
-use Rattle.dirty_mode.proofs.store.close.Given as goal
+use Rattle.dirty_mode.proofs.store.give_back.Given as goal
 
 abbrev pub invariant-loop-piece : goal.invariant-loop-piece
 invariant-loop-piece l = HoldsFirst l.range l.dirty.region (held_count l.dirty.region)
