@@ -69,7 +69,10 @@ module _ (t u : TableState) (r s : RegionState) (lengths : List ℕ) (segments b
   set_beside new is = record {
     between = w.between;
     tables = w.tables;
+    facts = w.written.facts;
     segments = w.written.segments;
+    free = w.written.free;
+    total = w.written.total ∙ ap (λ m. m + size (length text)) (sym i.sizes);
     chains = w.written.chains;
     parts_are = both_hold;
     stay = subst (λ (x : RegionState). Stay w.between x) (sym is) w.replaced.stay;

@@ -1,12 +1,15 @@
 -- What a store of fragments means, read off the bytes of its segments.
-use Rattle.std.specs.Prelude.{◌≡◌, ℕ, zero, suc, List, [], ◌∷◌, length, Option, None, Some, IsSome, map, option_map, take}
+use Rattle.std.specs.Prelude.{◌≡◌, ℕ, zero, suc, ◌+◌, ◌≤◌, List, [], ◌∷◌, length, Option, None, Some, IsSome, map, option_map, take}
 use Rattle.std.specs.List.{concat}
 use Rattle.regions.specs.Segments.{RegionState}
-use Rattle.regions.specs.Shapes.{shape, group_count, guards_of, held_count, pieces}
-use Rattle.regions.specs.Contents.{Item, live_at}
+use Rattle.regions.specs.Shapes.{shape, group_count, group_of, active_of, guards_of, held_count, free_count, pieces, HasGroup, IsClosed, IsClosedIn}
+use Rattle.regions.specs.Counts.{live_total}
+use Rattle.regions.specs.Contents.{Item, live_at, standing_at}
+use Rattle.regions.specs.Stores as stores
 use Rattle.regions.specs.Stores.{Live}
 use Rattle.regions.specs.declared.place.Place.{Place}
-use Rattle.fragments.specs.Sizes.{most_fragments}
+use Rattle.fragments.specs.Sizes.{most_fragments, size}
+use Rattle.fragments.specs.Values as values
 use Rattle.fragments.specs.Values.{Values}
 use Rattle.fragments.specs.Fragment.{bare, bytes_in, led_to, next_in}
 use Rattle.fragments.specs.Chains.{TableState, AreChains, HoldParts, all_parts, parts}
@@ -65,12 +68,28 @@ pub record HoldsSegments (old new : RegionState) : Type 0 where
 abbrev pub Stay : RegionState → RegionState → Type 0
 Stay old new = (p : Place) → IsSome (live_at new p) → option_map bare (live_at new p) ≡ option_map bare (live_at old p)
 
--- At some time, in the same segments, the value with these bytes stood beside all old ones, that of its own name as well; since
--- then fragments died, and none moved.
+-- What holds of every region, as its `facts` tell: it is a store by itself, of 1 to 8 groups; each object stands in a segment of one
+-- of them, and each closed segment is closed in one; a group's active segment is of it, and where one is closed one is active.
+pub record IsRegion (r : RegionState) : Type 0 where
+  pub store : (bare : stores.Bare)
+      → stores.StandsFor bare (stores.store_of bare (stores.itself (live_at r)) (live_at r)) (stores.itself (live_at r)) (live_at r)
+  pub groups : (1 ≤ group_count r) × (group_count r ≤ 8)
+  pub grouped : (p : Place) (i : Item) → live_at r p ≡ Some i
+      → (g : ℕ) × (i.group ≡ Some g) × (group_of r p.segment ≡ Some g) × HasGroup r g
+  pub stands : (p : Place) → IsSome (standing_at r p) → (g : ℕ) × (group_of r p.segment ≡ Some g) × HasGroup r g
+  pub closed : (n : ℕ) → IsClosed r n → (g : ℕ) × HasGroup r g × IsClosedIn r g n
+  pub of : (g n : ℕ) → active_of r g ≡ Some n → group_of r n ≡ Some g
+  pub active : (g n : ℕ) → IsClosedIn r g n → IsSome (active_of r g)
+
+-- At some time, in the same segments, one of them free, the value with these bytes stood beside all old ones, that of its own
+-- name as well, and nothing else was live; since then fragments died, and none moved.
 pub record IsSetBeside (old new : StoreState) (bytes : List ℕ) : Type 0 where
   pub between : RegionState
   pub tables : TableState
+  pub facts : IsRegion between
   pub segments : HoldsSegments old.region between
+  pub free : 1 ≤ free_count between
+  pub total : live_total between ≡ values.live (values_of old) + size (length bytes)
   pub chains : AreChains tables (live_at between)
   pub parts_are : HoldParts tables (live_at between) (all_parts (values_of old) (parts bytes))
   pub stay : Stay between new.region

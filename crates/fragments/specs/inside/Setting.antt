@@ -6,7 +6,7 @@ use Rattle.regions.specs.Counts.{live_total}
 use Rattle.regions.specs.Contents.{live_at}
 use Rattle.fragments.specs.Sizes.{size}
 use Rattle.fragments.specs.Chains.{TableState, AreChains, HoldParts, Parts, parts}
-use Rattle.fragments.specs.Store.{HoldsSegments, Stay}
+use Rattle.fragments.specs.Store.{HoldsSegments, IsRegion, Stay}
 use Rattle.fragments.specs.inside.Consistent.{size_of_parts}
 
 -- The value that is being written has these bytes now. Those of the names are as they were, and the segments are those that
@@ -20,6 +20,7 @@ pub record Writes (t u : TableState) (r s : RegionState) (name : ℕ) (bytes : L
   pub total : live_total s ≡ live_total r + size (length bytes)
   pub free : 1 ≤ free_count s
   pub segments : HoldsSegments r s
+  pub facts : IsRegion s
 
 -- The value that was written is the name's, whose old one is dropped: no other changes, and no fragment moved.
 pub record Replaces (t u : TableState) (r s : RegionState) (name : ℕ) : Type 0 where

@@ -86,6 +86,7 @@ fn write_value(region: &mut Region, tables: &mut Tables, name: u32, bytes: &[u8]
         left -= 1;
         add_part(region, tables, part_of(bytes, left));
     }
+    region.facts();
 }
 
 // The part of a value with a number, which is not the last.

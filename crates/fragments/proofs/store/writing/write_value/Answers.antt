@@ -45,4 +45,13 @@ returns c =
       total = omega (arith, total, zero_is);
       free = w.free;
       segments = w.segments;
+      facts = (let f = c.facts-2.ensures in record {
+        store = f.store;
+        groups = f.groups;
+        grouped = f.grouped;
+        stands = f.stands;
+        closed = f.closed;
+        of = f.of;
+        active = f.active;
+      });
     }
