@@ -120,8 +120,9 @@ def machine():
         model = re.search(r"model name\s*: (.*)", file.read())[1]
     with open("/proc/meminfo", encoding="utf-8") as file:
         memory = int(re.search(r"MemTotal:\s+(\d+)", file.read())[1]) / 1048576
-    kit = subprocess.run(["rt", "version"], stdout=subprocess.PIPE, text=True, check=True).stdout.split()[0]
-    return f"On {datetime.date.today()}, {os.cpu_count()} processors ({model}), {memory:.0f} GB, {kit}."
+    told = lambda *words: subprocess.run(words, cwd=TOP, stdout=subprocess.PIPE, text=True, check=True).stdout.split()[0]
+    kit, commit = told("rt", "version"), told("git", "rev-parse", "--short", "HEAD")
+    return f"On {datetime.date.today()}, {os.cpu_count()} processors ({model}), {memory:.0f} GB, {kit}, commit {commit}."
 
 
 def kept_section(title):
