@@ -7,7 +7,7 @@ use Rattle.regions.specs.declared.place.Place.{Place}
 use Rattle.tree_nodes.specs.Nodes.{Entry, TreeNode, CanStand}
 use Rattle.index_tree.specs.Sizes.{fewest_entries}
 use Rattle.index_tree.specs.Links.{Nodes, led_to, link_to, with_parent}
-use Rattle.index_tree.specs.Trees.{IsFrom, IsNodeOf, IsSubtree, IsUpTo, children_of, entries_of, held_below, leaves_below, nodes_below}
+use Rattle.index_tree.specs.Trees.{IsFrom, IsNodeOf, IsSubtree, IsUpTo, children_of, entries_of, held_below, if_level, leaves_below, nodes_below, row_below}
 use Rattle.index_tree.specs.Inserts.{Branch, Row, of_row}
 use Rattle.index_tree.proofs.Places.{HasRoomIf}
 use Rattle.index_tree.proofs.FrameRows.{Opened, close_node, gathered, open_node, row_map, row_same}
@@ -95,6 +95,15 @@ module _ (nodes new : Nodes) where
       gathered_same (leaves_below nodes level) (leaves_below new level) level parent low high p (open_node nodes level parent low high p sub)
       (ap (λ (m : Option TreeNode). children_of m) (All-head Agrees p (below_children nodes (suc level) p) all)) (All-tail Agrees p (below_children nodes (suc level) p) all)
       (λ l u q s a. frame_leaves level (Some p) l u q s a)
+
+  pub frame_rows : (k level : ℕ) (parent : Option Place) (low high : Option (List ℕ)) (p : Place) → IsSubtree nodes level parent low high p → AgreeBelow level p
+      → row_below new k level (Some p) ≡ row_below nodes k level (Some p)
+  frame_rows k zero parent low high p sub all = refl
+  frame_rows k (suc level) parent low high p sub all =
+      ap (λ (t : List Place). if_level k (suc level) p ++ t)
+      (gathered_same (row_below nodes k level) (row_below new k level) level parent low high p (open_node nodes level parent low high p sub)
+      (ap (λ (m : Option TreeNode). children_of m) (All-head Agrees p (below_children nodes (suc level) p) all)) (All-tail Agrees p (below_children nodes (suc level) p) all)
+      (λ l u q s a. frame_rows k level (Some p) l u q s a))
 
   pub frame_held : (level : ℕ) (parent : Option Place) (low high : Option (List ℕ)) (p : Place) → IsSubtree nodes level parent low high p → AgreeBelow level p
       → held_below new level (Some p) ≡ held_below nodes level (Some p)
@@ -192,6 +201,15 @@ module _ (nodes new : Nodes) where
   adopted_leaves (suc level) parent low high p link sub now all =
       gathered_same (leaves_below nodes level) (leaves_below new level) level parent low high p (open_node nodes level parent low high p sub)
       (same_children p link now) all (λ l u q s a. frame_leaves level (Some p) l u q s a)
+
+  pub adopted_rows : (k level : ℕ) (parent : Option Place) (low high : Option (List ℕ)) (p : Place) (link : ℕ)
+      → IsSubtree nodes level parent low high p → new p ≡ option_map (with_parent link) (nodes p) → All Agrees (below_children nodes level p)
+      → row_below new k level (Some p) ≡ row_below nodes k level (Some p)
+  adopted_rows k zero parent low high p link sub now all = refl
+  adopted_rows k (suc level) parent low high p link sub now all =
+      ap (λ (t : List Place). if_level k (suc level) p ++ t)
+      (gathered_same (row_below nodes k level) (row_below new k level) level parent low high p (open_node nodes level parent low high p sub)
+      (same_children p link now) all (λ l u q s a. frame_rows k level (Some p) l u q s a))
 
   pub adopted_held : (level : ℕ) (parent : Option Place) (low high : Option (List ℕ)) (p : Place) (link : ℕ)
       → IsSubtree nodes level parent low high p → new p ≡ option_map (with_parent link) (nodes p) → All Agrees (below_children nodes level p)

@@ -62,6 +62,7 @@ pub mod RemoveSteps
 pub mod RemoveWrites
 pub mod RemovedKey
 pub mod Renamed
+pub mod Rows
 pub mod SearchDown
 pub mod SearchLeaves
 pub mod SearchLists
@@ -73,6 +74,7 @@ pub mod Slots
 pub mod SplitInner
 pub mod Spots
 pub mod States
+pub mod Stays
 pub mod Touches
 pub mod TreeForms
 pub mod Unmoved

@@ -1,4 +1,6 @@
 -- The root of a tree that lost a key: without an entry it goes.
+use mathlib.Core.List.{Sublist, nil-sublist}
+use mathlib.Core.List.Sublist
 use Rattle.std.proofs.Common.{◌≡◌, ◌≢◌, ℕ, zero, suc, ◌+◌, ◌-◌, ◌≤◌, inl, inr, List, [], ◌∷◌, ◌++◌, All, length, take, map, get_or, Option, Some, None, option_map, refl, sym, ap, subst, ◌∙◌, append-nil, arith}
 use Rattle.std.specs.Prelude.{IfSome, IsSome}
 use Rattle.std.specs.List.{flat_map}
@@ -14,10 +16,10 @@ use Rattle.index_tree.specs.Links.{Nodes, led_to, link_to, place_of_link, with_p
 use Rattle.index_tree.specs.Prunes.{Prunes}
 use Rattle.index_tree.specs.Removes.{IsTrunk, Loses}
 use Rattle.index_tree.specs.Store.{ChangesNode, HoldsNode, nodes_of}
-use Rattle.index_tree.specs.Trees.{IsSubtree, children_of, entries_of, held_below, leaves_below, next_at, next_in, nodes_below}
+use Rattle.index_tree.specs.Trees.{IsSubtree, children_of, entries_of, held_below, if_level, leaves_below, next_at, next_in, nodes_below, row_below}
 use Rattle.index_tree.specs.Writes.{WritesNode}
 use Rattle.index_tree.specs.inside.Climbs.{HoldNodes}
-use Rattle.index_tree.proofs.Frame.{Agrees, adopted_held, adopted_leaves, adopted_nodes, adopted_subtree, below_children, nodes_from}
+use Rattle.index_tree.proofs.Frame.{Agrees, adopted_held, adopted_leaves, adopted_nodes, adopted_rows, adopted_subtree, below_children, nodes_from}
 use Rattle.index_tree.proofs.FrameRows.{close_node, links_of}
 use Rattle.index_tree.proofs.InsertNode.{chained_same, next_adopted}
 use Rattle.index_tree.proofs.InsertRows.{all_by_times, leaves_among, times_append, times_here, times_of_all}
@@ -26,6 +28,7 @@ use Rattle.index_tree.proofs.Moved.{room_of}
 use Rattle.index_tree.proofs.Places.{leads_on, led_back, place_cases, some_is, some_none}
 use Rattle.index_tree.proofs.RemoveInner.{child_many}
 use Rattle.index_tree.proofs.RemoveRows.{tight_of}
+use Rattle.index_tree.proofs.Rows.{left_between}
 use Rattle.index_tree.proofs.Touches.{held_same, node_past, node_there}
 use Rattle.index_tree.proofs.Writes.{eases}
 
@@ -76,6 +79,9 @@ module _ (nodes mid : Nodes) (level : ℕ) (root : Place) (key : List ℕ) (free
       let c = times_append r (nodes_below nodes level (Some root)) [] in
       omega arith
 
+  rows_now : (k : ℕ) → Sublist (row_below mid k level (Some root)) (row_below nodes k level (Some root))
+  rows_now k = left_between (sym (append-nil (row_below mid k level (Some root)))) (lost.alters.rows k) (append-nil (row_below nodes k level (Some root)))
+
   pub root_stays : 1 ≤ length (entries_of (mid root)) → Prunes nodes mid level root level (Some root) key freed
   root_stays some = record {
     rooted = λ p is. subst (λ (q : Place). IsSubtree mid level None None None q) (some_is is) (root_tree mid level None None root some lost.trunk);
@@ -83,6 +89,7 @@ module _ (nodes mid : Nodes) (level : ℕ) (root : Place) (key : List ℕ) (free
     held = held_now;
     chained = chained_now;
     places = places_now;
+    rows = rows_now;
     idle = lost.idle;
     others = lost.others;
   }
@@ -126,6 +133,7 @@ leaf_goes nodes mid new zero root key freed low lost empty now rest once = recor
       (let all = places_now nodes mid zero root key freed lost r in
       let a = times_append r freed (root ∷ []) in
       omega arith);
+  rows = λ k. nil-sublist (row_below nodes k zero (Some root));
   idle = idle_now nodes mid zero root key freed lost new once now
       (λ r some. rest r (freed_far nodes mid zero root key freed lost new once now r root some (root_there nodes mid zero root key freed lost)));
   others = λ r none.
@@ -250,6 +258,12 @@ module _ (nodes mid new : Nodes) (level : ℕ) (root child : Place) (key : List 
         let all = all_places r in
         let a = times_append r freed (root ∷ []) in
         omega arith);
+    rows = λ k.
+        Sublist.trans
+        (left_between (adopted_rows mid new k level (Some root) None None child no_place only.tree child_now below_now)
+        (Sublist.append (nil-sublist (if_level k (suc level) root)) (Sublist.refl (row_below mid k level (Some child))))
+        (ap (λ (t : List Place). if_level k (suc level) root ++ t) (sym (gathers (row_below mid k level)))))
+        (rows_now nodes mid (suc level) root key freed lost k);
     idle = idle_now nodes mid (suc level) root key freed lost new once now
         (λ r some. rest r (freed_far nodes mid (suc level) root key freed lost new once now r root some (root_there nodes mid (suc level) root key freed lost))
         (freed_far nodes mid (suc level) root key freed lost new once now r child some child_there));

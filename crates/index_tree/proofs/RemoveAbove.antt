@@ -1,4 +1,5 @@
 -- An inner node below which a key was taken from a child.
+use mathlib.Core.List.Sublist
 use Rattle.std.proofs.Common.{◌≡◌, ◌≢◌, ℕ, zero, suc, ◌+◌, ◌<◌, ◌≤◌, List, [], ◌∷◌, ◌++◌, All, length, take, drop, map, Option, Some, refl, sym, ap, subst, ◌∙◌, append-nil, arith}
 use Rattle.std.specs.List.{flat_map}
 use Rattle.std.proofs.lemmas.List.{length-map}
@@ -8,7 +9,7 @@ use Rattle.tree_nodes.specs.Nodes.{Entry, TreeNode, IsEntry, no_place, started}
 use Rattle.tree_nodes.specs.Order.{IsBelow}
 use Rattle.index_tree.specs.Indexes.{without}
 use Rattle.index_tree.specs.Links.{Nodes, led_to}
-use Rattle.index_tree.specs.Trees.{IsBetween, IsFrom, IsSubtree, IsUpTo, children_of, entries_of, held_below, leaves_below, nodes_below}
+use Rattle.index_tree.specs.Trees.{IsBetween, IsFrom, IsSubtree, IsUpTo, children_of, entries_of, held_below, if_level, leaves_below, nodes_below, row_below}
 use Rattle.index_tree.specs.Inserts.{AreChained, Branch, Row, entry_of, first_link, of_row, times}
 use Rattle.index_tree.specs.Removes.{Alters, IsInnerTrunk, Loses}
 use Rattle.index_tree.proofs.Bounds.{held_between}
@@ -17,6 +18,7 @@ use Rattle.index_tree.proofs.FrameRows.{Opened, gathered, left_in, links_of, rig
 use Rattle.index_tree.proofs.InsertRows.{IsAbove, RowKeys, above_from, all_by_times, child_in, keyed, left_from, row_from, row_joined, row_keys, times_append}
 use Rattle.index_tree.proofs.SearchLists.{without_behind, without_front}
 use Rattle.index_tree.proofs.SearchDown.{less_least}
+use Rattle.index_tree.proofs.Rows.{kids_row, left_between}
 use Rattle.index_tree.proofs.RemoveRows.{alters_behind, alters_front, same_row}
 use Rattle.index_tree.proofs.RemoveInner.{HasLinks, reordered, trunk_gathered}
 
@@ -218,6 +220,12 @@ module _ (nodes new : Nodes) (level : ℕ) (parent : Option Place) (low high : O
               let u = times_append r (p ∷ np) [] in
               let v = times_append r (p ∷ op) [] in
               omega arith);
+          rows = λ k.
+              (let here : List Place = if_level k (suc level) p in
+              left_between (append-nil (here ++ kids_row new k level p))
+              (Sublist.append (Sublist.refl here)
+              (left_between (trunk_gathered (row_below new k level) new level parent low high p trunk) (a.rows k) (sym (gathered (row_below nodes k level) nodes level parent low high p o))))
+              (sym (append-nil (here ++ kids_row nodes k level p))));
         };
         idle = idle;
         others = others;

@@ -8,13 +8,14 @@ use Rattle.regions.specs.declared.place.Place.{Place}
 use Rattle.tree_nodes.specs.Nodes.{Entry, TreeNode, CanStand, IsEntry, no_place}
 use Rattle.index_tree.specs.Sizes.{fewest_entries}
 use Rattle.index_tree.specs.Links.{HasRoom, Nodes, led_to, link_to, with_parent}
-use Rattle.index_tree.specs.Trees.{IsFrom, IsSubtree, children_of, entries_of, held_below, leaves_below, next_at, next_in, nodes_below}
+use Rattle.index_tree.specs.Trees.{IsFrom, IsSubtree, children_of, entries_of, held_below, leaves_below, next_at, next_in, nodes_below, row_below}
 use Rattle.index_tree.specs.Inserts.{AreChained, Branch, Row, entry_of, first_link, of_row, place_in, times}
 use Rattle.index_tree.specs.Removes.{Alters, IsInnerTrunk}
 use Rattle.index_tree.proofs.Places.{some_none}
-use Rattle.index_tree.proofs.Frame.{Agrees, adopted_held, adopted_leaves, adopted_nodes, adopted_subtree, all_back, all_front, below_children, nodes_from}
+use Rattle.index_tree.proofs.Frame.{Agrees, adopted_held, adopted_leaves, adopted_nodes, adopted_rows, adopted_subtree, all_back, all_front, below_children, nodes_from}
 use Rattle.index_tree.proofs.FrameRows.{Opened, branch, close_node, gathered, links_of, row_gathered}
 use Rattle.index_tree.proofs.InsertRows.{IsAbove, RowKeys, above_from, leaves_among, of_row_append, row_keys, times_append}
+use Rattle.index_tree.proofs.Rows.{left_same, rows_even, rows_one}
 use Rattle.index_tree.proofs.RemoveLeaf.{same_index}
 
 -- ---- children of any parent
@@ -78,6 +79,7 @@ module _ (nodes new : Nodes) (level : ℕ) (parent : Place) where
     pub held : of_row (held_below new level) first bs ≡ of_row (held_below nodes level) first bs
     pub leaves : of_row (leaves_below new level) first bs ≡ of_row (leaves_below nodes level) first bs
     pub places : of_row (nodes_below new level) first bs ≡ of_row (nodes_below nodes level) first bs
+    pub rows : (k : ℕ) → of_row (row_below new k level) first bs ≡ of_row (row_below nodes k level) first bs
     pub next : All SameNext (of_row (leaves_below nodes level) first bs)
 
   pub carried_row : HasRoom parent → (first : Place) (bs : List Branch) (low high : Option (List ℕ)) → AnyRow nodes level low first bs high
@@ -95,6 +97,7 @@ module _ (nodes new : Nodes) (level : ℕ) (parent : Place) where
             held = ap (λ (t : List Entry). t ++ []) (adopted_held nodes new level (Some child.0) l h q (link_to (Some parent)) child.1 carried.now carried.below);
             leaves = ap (λ (t : List Place). t ++ []) (adopted_leaves nodes new level (Some child.0) l h q (link_to (Some parent)) child.1 carried.now carried.below);
             places = ap (λ (t : List Place). t ++ []) (adopted_nodes nodes new level (Some child.0) l h q (link_to (Some parent)) child.1 carried.now carried.below);
+            rows = λ k. ap (λ (t : List Place). t ++ []) (adopted_rows nodes new k level (Some child.0) l h q (link_to (Some parent)) child.1 carried.now carried.below);
             next = subst (λ (t : List Place). All SameNext t) (sym (append-nil (leaves_below nodes level (Some q)))) (leaves_among nodes SameNext level (Some child.0) l h q child.1 is_same);
           }
 
@@ -117,6 +120,9 @@ module _ (nodes new : Nodes) (level : ℕ) (parent : Place) where
             places =
                 ap (λ (t : List Place). t ++ of_row (nodes_below new level) c.place cs) (unjoined (nodes_below new level (Some f)) (nodes_below nodes level (Some f)) here.places)
                 ∙ ap (λ (t : List Place). nodes_below nodes level (Some f) ++ t) behind.places;
+            rows = λ k.
+                ap (λ (t : List Place). t ++ of_row (row_below new k level) c.place cs) (unjoined (row_below new k level (Some f)) (row_below nodes k level (Some f)) (here.rows k))
+                ∙ ap (λ (t : List Place). row_below nodes k level (Some f) ++ t) (behind.rows k);
             next = All-append SameNext (leaves_below nodes level (Some f)) (of_row (leaves_below nodes level) c.place cs)
                 (all_front SameNext (leaves_below nodes level (Some f)) [] here.next) behind.next;
           }
@@ -290,6 +296,7 @@ module _ (nodes new : Nodes) (level : ℕ) (parent : Place) (low high : Option (
               let c = times_append t (p ∷ np) ((q ∷ nq) ++ []) in
               let d = times_append t (p ∷ op) ((q ∷ oq) ++ []) in
               omega arith);
+          rows = λ k. left_same (rows_even nodes new k level p q (are (row_below nodes k level) (row_below new k level) (row_p.rows k) (row_q.rows k)));
         }
 
   -- made one
@@ -335,4 +342,5 @@ module _ (nodes new : Nodes) (level : ℕ) (parent : Place) (low high : Option (
               let c = times_append t (p ∷ np) [] in
               let d = times_append t (p ∷ op) ((q ∷ oq) ++ []) in
               omega arith);
+          rows = λ k. rows_one nodes new k level p q (one_is (row_below nodes k level) (row_below new k level) (row_one.rows k));
         }

@@ -118,6 +118,7 @@ loses_turned nodes new level parent low high p key xs ys l = record {
     first_leaf = l.alters.first_leaf;
     chained = l.alters.chained;
     places = λ r. (let a = l.alters.places r in let b = times_append r xs ys in let c = times_append r ys xs in omega (arith, a, b, c));
+    rows = l.alters.rows;
   };
   idle = All-append (λ q. new q ≡ Some (started 0)) ys xs (all_back (λ q. new q ≡ Some (started 0)) xs ys l.idle) (all_front (λ q. new q ≡ Some (started 0)) xs ys l.idle);
   others = l.others;

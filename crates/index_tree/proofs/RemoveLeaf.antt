@@ -1,4 +1,6 @@
 -- A key taken from a leaf, and two leaves made even, or made one.
+use mathlib.Core.List.{nil-sublist}
+use mathlib.Core.List.Sublist
 use Rattle.std.proofs.Common.{◌≡◌, ◌≢◌, ℕ, zero, suc, ◌+◌, ◌<◌, ◌≤◌, ◌^◌, List, [], ◌∷◌, ◌++◌, All, length, take, drop, get_or, Option, Some, None, refl, sym, ap, subst, ◌∙◌, append-nil, arith, length-append, is_lt, Bool, cond}
 use Rattle.std.specs.Prelude.{option_map}
 use Rattle.std.proofs.lemmas.List.{length-take-le, length-drop}
@@ -8,7 +10,7 @@ use Rattle.tree_nodes.specs.Nodes.{Entry, TreeNode, CanStand, IsEntry, entry_at,
 use Rattle.tree_nodes.specs.Order.{AreRising, IsBelow, key_cmp}
 use Rattle.index_tree.specs.Indexes.{Index, above, below, without}
 use Rattle.index_tree.specs.Links.{HasRoom, Nodes}
-use Rattle.index_tree.specs.Trees.{IsFrom, IsSubtree, IsUpTo, entries_of, next_in}
+use Rattle.index_tree.specs.Trees.{IsFrom, IsSubtree, IsUpTo, entries_of, if_level, next_in}
 use Rattle.index_tree.specs.Writes.{without_entries}
 use Rattle.index_tree.specs.Inserts.{Row, times}
 use Rattle.index_tree.specs.Removes.{Alters, IsLooseNode, Loses}
@@ -107,6 +109,7 @@ module _ (nodes new : Nodes) (parent : Option Place) (low high : Option (List �
           first_leaf = λ end. refl;
           chained = λ end c. (ap next_in now_is ∙ (sym (ap next_in is) ∙ c.0), tt);
           places = λ r. omega arith;
+          rows = λ k. Sublist.refl (if_level k zero p ++ []);
         };
         idle = All-nil (λ q. new q ≡ Some (started 0));
         others = λ r away. others r (λ e. (let some : 1 ≤ times r (p ∷ []) = subst (λ (q : Place). 1 ≤ times r (q ∷ [])) e (times_here r []) in absurd (omega arith)));
@@ -213,6 +216,7 @@ module _ (nodes new : Nodes) (parent : Option Place) (low high : Option (List �
       first_leaf = λ end. refl;
       chained = λ end c. (ap next_in now_p ∙ (sym (ap next_in left_is) ∙ c.0), (ap next_in now_q ∙ (sym (ap next_in right_is) ∙ c.1.0), tt));
       places = λ t. omega arith;
+      rows = λ k. Sublist.refl (if_level k zero p ++ (if_level k zero q ++ []));
     }
 
   -- made one
@@ -245,4 +249,5 @@ module _ (nodes new : Nodes) (parent : Option Place) (low high : Option (List �
       first_leaf = λ end. refl;
       chained = λ end c. (ap next_in now_p ∙ (sym (ap next_in right_is) ∙ c.1.0), tt);
       places = λ t. omega arith;
+      rows = λ k. Sublist.append (Sublist.refl (if_level k zero p)) (nil-sublist (if_level k zero q ++ []));
     }

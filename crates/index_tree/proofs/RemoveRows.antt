@@ -1,4 +1,5 @@
 -- Rows of places in which a part became another.
+use mathlib.Core.List.Sublist
 use Rattle.std.proofs.Common.{◌≡◌, ◌≢◌, ℕ, zero, suc, ◌≤◌, List, ◌∷◌, ◌++◌, All, length, Option, Some, None, sym, ap, subst, ◌∙◌, arith}
 use Rattle.std.specs.List.{flat_map}
 use Rattle.regions.specs.declared.place.Place.{Place}
@@ -6,12 +7,13 @@ use Rattle.tree_nodes.specs.Nodes.{Entry, TreeNode}
 use Rattle.index_tree.specs.Indexes.{Index}
 use Rattle.index_tree.specs.Sizes.{fewest_entries}
 use Rattle.index_tree.specs.Links.{Nodes}
-use Rattle.index_tree.specs.Trees.{IsNodeOf, IsSubtree, entries_of, held_below, leaves_below, nodes_below}
+use Rattle.index_tree.specs.Trees.{IsNodeOf, IsSubtree, entries_of, held_below, leaves_below, nodes_below, row_below}
 use Rattle.index_tree.specs.Inserts.{AreChained, Branch, Row, first_link, of_row, times}
 use Rattle.index_tree.specs.Removes.{Alters, IsLooseNode, IsTrunk}
 use Rattle.index_tree.proofs.FrameRows.{close_node, open_node, row_map, row_same}
-use Rattle.index_tree.proofs.Frame.{AgreeBelow, Agrees, all_back, all_front, all_parts, frame_held, frame_leaves, frame_nodes, frame_subtree}
+use Rattle.index_tree.proofs.Frame.{AgreeBelow, Agrees, all_back, all_front, all_parts, frame_held, frame_leaves, frame_nodes, frame_rows, frame_subtree}
 use Rattle.index_tree.proofs.InsertRows.{chained_agree, chained_back, chained_front, chained_joined, first_append, of_row_append, row_leaves_among, times_append}
+use Rattle.index_tree.proofs.Rows.{left_between}
 
 -- ---- a tree and its trunk
 
@@ -83,6 +85,7 @@ module _ (nodes new : Nodes) (level : ℕ) (parent : Option Place) where
     pub held : of_row (held_below new level) first bs ≡ of_row (held_below nodes level) first bs
     pub leaves : of_row (leaves_below new level) first bs ≡ of_row (leaves_below nodes level) first bs
     pub places : of_row (nodes_below new level) first bs ≡ of_row (nodes_below nodes level) first bs
+    pub rows : (k : ℕ) → of_row (row_below new k level) first bs ≡ of_row (row_below nodes k level) first bs
     pub chained : (end : ℕ) → AreChained nodes (of_row (leaves_below nodes level) first bs) end → AreChained new (of_row (leaves_below nodes level) first bs) end
 
   pub same_row : (first : Place) (bs : List Branch) (low high : Option (List ℕ)) → Row nodes level parent low first bs high → All (Agrees nodes new) (of_row (nodes_below nodes level) first bs)
@@ -96,6 +99,7 @@ module _ (nodes new : Nodes) (level : ℕ) (parent : Option Place) where
         held = row_same (held_below nodes level) (held_below new level) nodes level parent (AgreeBelow nodes new level) (λ l h q t a. frame_held nodes new level parent l h q t a) first bs low high row here these;
         leaves = row_same (leaves_below nodes level) (leaves_below new level) nodes level parent (AgreeBelow nodes new level) (λ l h q t a. frame_leaves nodes new level parent l h q t a) first bs low high row here these;
         places = row_same (nodes_below nodes level) (nodes_below new level) nodes level parent (AgreeBelow nodes new level) (λ l h q t a. frame_nodes nodes new level parent l h q t a) first bs low high row here these;
+        rows = λ k. row_same (row_below nodes k level) (row_below new k level) nodes level parent (AgreeBelow nodes new level) (λ l h q t a. frame_rows nodes new k level parent l h q t a) first bs low high row here these;
         chained = λ end c. chained_agree nodes new (of_row (leaves_below nodes level) first bs) end (row_leaves_among nodes (Agrees nodes new) level parent first bs low high row all) c;
       }
 
@@ -140,6 +144,10 @@ module _ (change : Index → Index) (nodes new : Nodes) (level : ℕ) (parent : 
             let n = times_append r (of_row (nodes_below nodes level) first xs) (of_row (nodes_below nodes level) b.place bs) in
             let here = a.places r in
             omega arith);
+        rows = λ k.
+            left_between (of_row_append (row_below new k level) first xs b cs ∙ ap (λ (t : List Place). t ++ of_row (row_below new k level) b.place cs) (same.rows k))
+            (Sublist.append (Sublist.refl (of_row (row_below nodes k level) first xs)) (a.rows k))
+            (sym (of_row_append (row_below nodes k level) first xs b bs));
       }
 
   -- in front of a part that agrees
@@ -180,6 +188,10 @@ module _ (change : Index → Index) (nodes new : Nodes) (level : ℕ) (parent : 
             let n = times_append r (of_row (nodes_below nodes level) first bs) (of_row (nodes_below nodes level) b.place ys) in
             let here = a.places r in
             omega arith);
+        rows = λ k.
+            left_between (of_row_append (row_below new k level) first cs b ys ∙ ap (λ (t : List Place). of_row (row_below new k level) first cs ++ t) (same.rows k))
+            (Sublist.append (a.rows k) (Sublist.refl (of_row (row_below nodes k level) b.place ys)))
+            (sym (of_row_append (row_below nodes k level) first bs b ys));
       }
 
 -- one change after another
@@ -190,4 +202,5 @@ alters_then f g nodes mid new level first bs cs ds freed more a b = record {
   first_leaf = λ end. b.first_leaf end ∙ a.first_leaf end;
   chained = λ end c. b.chained end (a.chained end c);
   places = λ r. (let x = a.places r in let y = b.places r in let z = times_append r more freed in omega arith);
+  rows = λ k. Sublist.trans (b.rows k) (a.rows k);
 }

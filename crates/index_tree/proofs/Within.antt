@@ -5,7 +5,7 @@ use Rattle.std.proofs.lemmas.List.Elements.{All-head, All-tail, All-weaker}
 use Rattle.regions.specs.declared.place.Place.{Place}
 use Rattle.tree_nodes.specs.Nodes.{TreeNode, child_at}
 use Rattle.index_tree.specs.Links.{Nodes, led_to, link_to}
-use Rattle.index_tree.specs.Trees.{AreLinked, IsNodeOf, IsSpare, IsSubtree, IsTree, TreeState, children_of, entries_of, held_below, index_of, leaves_below, left_of, next_at, next_in, nodes_below, places_of, right_of}
+use Rattle.index_tree.specs.Trees.{AreLinked, IsNodeOf, IsSpare, IsSubtree, IsTree, TreeState, children_of, entries_of, held_below, if_level, index_of, leaves_below, left_of, next_at, next_in, nodes_below, places_of, right_of, row_below}
 use Rattle.index_tree.specs.inside.Climbs.{IsTreeIn}
 use Rattle.index_tree.proofs.Lists.{AreApart}
 use Rattle.index_tree.proofs.Places.{leads_on}
@@ -59,6 +59,13 @@ module _ (few many : Nodes) (within : (p : Place) (node : TreeNode) → few p �
       ap (λ ps. p ∷ ps) (gathered_within level parent p low high node (nodes_below many level) (nodes_below few level) is of children
       (λ q lower upper sub. nodes_within level (Some p) lower upper q sub))
 
+  pub rows_within : (k level : ℕ) (parent : Option Place) (low high : Option (List ℕ)) (p : Place) → IsSubtree few level parent low high p
+      → row_below many k level (Some p) ≡ row_below few k level (Some p)
+  rows_within k zero parent low high p sub = refl
+  rows_within k (suc level) parent low high p (node, is, room, of, inner, children) =
+      ap (λ ps. if_level k (suc level) p ++ ps) (gathered_within level parent p low high node (row_below many k level) (row_below few k level) is of children
+      (λ q lower upper sub. rows_within k level (Some p) lower upper q sub))
+
   pub held_within : (level : ℕ) (parent : Option Place) (low high : Option (List ℕ)) (p : Place) → IsSubtree few level parent low high p
       → held_below many level (Some p) ≡ held_below few level (Some p)
   held_within zero parent low high p (node, is, room, of, none) = ap (λ (o : Option TreeNode). entries_of o) (within p node is) ∙ sym (ap (λ (o : Option TreeNode). entries_of o) is)
@@ -89,6 +96,13 @@ module _ (few many : Nodes) (within : (p : Place) (node : TreeNode) → few p �
         go : (o : Option Place) → t.root ≡ o → held_below many t.level o ≡ held_below few t.level o
         go None e = refl
         go (Some root) e = held_within t.level None None None root (tree.rooted root e)
+
+    pub row_within : (k : ℕ) → row_below many k t.level t.root ≡ row_below few k t.level t.root
+    row_within k = go t.root refl
+      where
+        go : (o : Option Place) → t.root ≡ o → row_below many k t.level o ≡ row_below few k t.level o
+        go None e = refl
+        go (Some root) e = rows_within k t.level None None None root (tree.rooted root e)
 
     pub places_within : places_of many t ≡ places_of few t
     places_within = ap (λ ps. t.spares ++ ps) (below_within t.root refl)

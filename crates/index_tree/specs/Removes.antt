@@ -1,12 +1,13 @@
 -- What the removal of a key makes of a subtree, and what mends a node that has too few entries then.
 use Rattle.std.specs.Prelude.{◌≡◌, ◌≢◌, ℕ, zero, suc, ◌+◌, ◌≤◌, List, [], ◌∷◌, All, length, take, drop, map, Option, None, Some}
+use mathlib.Core.List.{Sublist}
 use Rattle.regions.specs.declared.place.Place.{Place}
 use Rattle.tree_nodes.specs.Nodes.{TreeNode, CanStand, child_at, no_place, started}
 use Rattle.tree_nodes.specs.Order.{AreRising}
 use Rattle.index_tree.specs.Indexes.{Index, without}
 use Rattle.index_tree.specs.Inserts.{AreChained, Branch, Row, entry_of, first_link, of_row, times}
 use Rattle.index_tree.specs.Links.{Nodes, HasRoom, link_to}
-use Rattle.index_tree.specs.Trees.{IsFrom, IsSubtree, IsUpTo, entries_of, held_below, leaves_below, left_of, nodes_below, right_of}
+use Rattle.index_tree.specs.Trees.{IsFrom, IsSubtree, IsUpTo, entries_of, held_below, leaves_below, left_of, nodes_below, right_of, row_below}
 use Rattle.index_tree.specs.Ways.{LeadsTo}
 
 -- a node of a level, between two keys, that may have fewer entries than it should
@@ -43,13 +44,14 @@ IsTrunk nodes zero parent low high p =
     (node : TreeNode) × (nodes p ≡ Some node) × HasRoom p × IsLooseNode zero parent low high node × All (λ link. link ≡ no_place) node.children
 IsTrunk nodes (suc level) parent low high p = IsInnerTrunk nodes level parent low high p
 
--- One row of places became another: it holds what a change makes of what was held, its leaves are in order as they were, and its
--- nodes are those that were there but for the freed ones.
+-- One row of places became another: it holds what a change makes of what was held, its leaves are in order as they were, its
+-- nodes are those that were there but for the freed ones, and those of a level were of that level and in that order.
 pub record Alters (change : Index → Index) (nodes new : Nodes) (level : ℕ) (first : Place) (bs cs : List Branch) (freed : List Place) : Type 0 where
   pub held : of_row (held_below new level) first cs ≡ change (of_row (held_below nodes level) first bs)
   pub first_leaf : (end : ℕ) → first_link (of_row (leaves_below new level) first cs) end ≡ first_link (of_row (leaves_below nodes level) first bs) end
   pub chained : (end : ℕ) → AreChained nodes (of_row (leaves_below nodes level) first bs) end → AreChained new (of_row (leaves_below new level) first cs) end
   pub places : (r : Place) → times r (of_row (nodes_below new level) first cs) + times r freed ≡ times r (of_row (nodes_below nodes level) first bs)
+  pub rows : (k : ℕ) → Sublist (of_row (row_below new k level) first cs) (of_row (row_below nodes k level) first bs)
 
 -- A subtree lost a key: it may have one entry too few at its root. The freed nodes are such as were just made, and no node
 -- changed but those of the subtree.

@@ -1,5 +1,6 @@
 -- What an index in segments means, read off their bytes.
-use Rattle.std.specs.Prelude.{◌≡◌, ◌≢◌, ℕ, suc, Option, None, Some, IsSome, option_map}
+use Rattle.std.specs.Prelude.{◌≡◌, ◌≢◌, ℕ, suc, List, Option, None, Some, IsSome, option_map}
+use mathlib.Core.List.{Sublist}
 use Rattle.regions.specs.Segments.{RegionState}
 use Rattle.regions.specs.Shapes.{shape, group_count, guards_of, held_count, pieces}
 use Rattle.regions.specs.Contents.{Item, live_at}
@@ -8,7 +9,7 @@ use Rattle.regions.specs.declared.place.Place.{Place}
 use Rattle.tree_nodes.specs.Nodes.{TreeNode, IsNode, node_in}
 use Rattle.index_tree.specs.Indexes.{Index}
 use Rattle.index_tree.specs.Links.{Nodes, bare}
-use Rattle.index_tree.specs.Trees.{IsTree, TreeState, index_of}
+use Rattle.index_tree.specs.Trees.{IsTree, TreeState, index_of, row_below}
 
 -- the live objects as nodes
 abbrev pub nodes_of : Live → Nodes
@@ -50,9 +51,14 @@ pub record HoldsSegments (old new : RegionState) : Type 0 where
   pub held : held_count new ≡ held_count old
   pub guards : (g : ℕ) → guards_of new g ≡ guards_of old g
 
--- each live node stood where it stands
-abbrev pub Stay : RegionState → RegionState → Type 0
-Stay old new = (p : Place) → IsSome (live_at new p) → IsSome (live_at old p)
+-- where the nodes of a level of the tree stand, from left to right
+abbrev pub places_at : IndexState → ℕ → List Place
+places_at s level = row_below (nodes_in s) level s.tree.level s.tree.root
+
+-- Each live node stood where it stands; and those of a level of the tree were of that level, and in that order.
+pub record Stay (old new : IndexState) : Type 0 where
+  pub live : (p : Place) → IsSome (live_at new.region p) → IsSome (live_at old.region p)
+  pub order : (level : ℕ) → Sublist (places_at new level) (places_at old level)
 
 -- The node at a place is another one: what the change makes of it. It is the same but for its places, and so is every other.
 pub record ChangesNode (at : Place) (change : TreeNode → TreeNode) (old new : RegionState) : Type 0 where

@@ -5,7 +5,7 @@
 --     level 1             [ d  h ]        [ r ]              the keys below a child lie between the keys
 --                       ┌────┼────┐     ┌───┴───┐            beside it, the left one included
 --     level 0        [a b] [d f] [h k] [m p] [r t u]         leaves, each with the place of the next one
-use Rattle.std.specs.Prelude.{◌≡◌, ◌≢◌, ⊤, ℕ, zero, suc, ◌≤◌, nat_lt, cond, List, [], ◌∷◌, ◌++◌, All, length, drop, take, slice_get, false, Option, None, Some, IfSome}
+use Rattle.std.specs.Prelude.{◌≡◌, ◌≢◌, ⊤, ℕ, zero, suc, ◌≤◌, ◌==◌, nat_lt, cond, List, [], ◌∷◌, ◌++◌, All, length, drop, take, slice_get, false, Option, None, Some, IfSome}
 use Rattle.std.specs.List.{flat_map}
 use Rattle.std.specs.Ordering.{is_lt}
 use Rattle.regions.specs.declared.place.Place.{Place}
@@ -43,6 +43,17 @@ abbrev pub nodes_below : Nodes → ℕ → Option Place → List Place
 nodes_below nodes level None = []
 nodes_below nodes zero (Some p) = p ∷ []
 nodes_below nodes (suc level) (Some p) = p ∷ flat_map (λ link. nodes_below nodes level (led_to link)) (children_of (nodes p))
+
+-- the place, if the level is the one that is looked for
+abbrev pub if_level : ℕ → ℕ → Place → List Place
+if_level k level p = cond (k == level) (p ∷ []) []
+
+-- the nodes of one level from a place of a level down, from left to right
+abbrev pub row_below : Nodes → ℕ → ℕ → Option Place → List Place
+row_below nodes k level None = []
+row_below nodes k zero (Some p) = if_level k zero p
+row_below nodes k (suc level) (Some p) =
+    if_level k (suc level) p ++ flat_map (λ link. row_below nodes k level (led_to link)) (children_of (nodes p))
 
 -- ---- that it is one
 

@@ -3,7 +3,7 @@ ghost use Rattle.std.specs.Prelude.{◌≡◌, ◌≢◌, ℕ, List, [], ◌∷�
 ghost use Rattle.regions.specs.declared.place.Place.{Place};
 ghost use Rattle.index_tree.specs.Sizes.{node_room, most};
 ghost use Rattle.index_tree.specs.Links.{Nodes, HasRoom};
-ghost use Rattle.index_tree.specs.Trees.{AreLinked, IsBetween, IsSubtree, held_below, TreeState, IsTree, index_of, leaves_below, places_of};
+ghost use Rattle.index_tree.specs.Trees.{AreLinked, IsBetween, IsSubtree, held_below, TreeState, IsTree, index_of, leaves_below, places_of, row_below};
 ghost use Rattle.index_tree.specs.Indexes.{number_of, scanned, with_number, without};
 ghost use Rattle.index_tree.specs.Examples.{put_a, put_b, left_place, right_place, root_place, two_leaves, two_leaves_tree};
 ghost use Rattle.index_tree.specs.Moves.{moved, moved_tree};
@@ -35,12 +35,14 @@ pub fn an_index_is_as_worked()
     ensures missing { number_of (codes "a") put_b ≡ None }
 {}
 
-/// What two leaves under a root hold, which nodes they are, and that they are linked in order.
+/// What two leaves under a root hold, which nodes they are, level by level too, and that they are linked in order.
 pub fn a_tree_is_as_worked()
     ensures held { index_of two_leaves two_leaves_tree
         ≡ (record { key = codes "a"; number = 1 }) ∷ (record { key = codes "m"; number = 2 }) ∷ [] }
     ensures leaves { leaves_below two_leaves 1 (Some root_place) ≡ left_place ∷ right_place ∷ [] }
     ensures places { places_of two_leaves two_leaves_tree ≡ root_place ∷ left_place ∷ right_place ∷ [] }
+    ensures row { row_below two_leaves 0 1 (Some root_place) ≡ left_place ∷ right_place ∷ [] }
+    ensures top { row_below two_leaves 1 1 (Some root_place) ≡ root_place ∷ [] }
     ensures linked { AreLinked two_leaves (left_place ∷ right_place ∷ []) }
 {}
 

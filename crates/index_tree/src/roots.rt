@@ -8,11 +8,11 @@ ghost use Rattle.layout.specs.Sizes.{greatest_key};
 ghost use Rattle.index_tree.specs.Inserts.{Plants, Touched};
 ghost use Rattle.index_tree.specs.Links as links;
 ghost use Rattle.index_tree.specs.Sizes.{most_levels, node_object};
-ghost use Rattle.index_tree.specs.Store.{HoldsNode, Stay, levels, nodes_of};
+ghost use Rattle.index_tree.specs.Store.{HoldsNode, levels, nodes_of};
 ghost use Rattle.index_tree.specs.Trees.{nodes_below, places_of};
 ghost use Rattle.index_tree.specs.inside.Climbs.{HoldNodes, IsBefore, IsInFrontOf, IsTreeIn, StandsIn};
 ghost use Rattle.index_tree.specs.inside.Rosters as rosters;
-ghost use Rattle.index_tree.specs.inside.Rosters.{IsSameTree};
+ghost use Rattle.index_tree.specs.inside.Rosters.{IsSameTree, Remain};
 
 use crate::climbing::{child_index, last_leaf};
 use crate::fields::{child_of, led_to, level_at, link_to, parent_at};
@@ -200,7 +200,7 @@ impl Roots {
         ensures same { IsSameTree self.old self.new }
         ensures counted { live_total region.old ≡ node_object * length self.old.known.places
             → live_total region.new ≡ node_object * length self.new.known.places }
-        ensures stay { Stay region.old region.new }
+        ensures remain { Remain (live_at region.old) (live_at region.new) }
         ensures shape { shape region.new ≡ shape region.old }
     {
         let place = self.spares.pop();
@@ -216,7 +216,7 @@ impl Roots {
         ensures same { IsSameTree self.old self.new }
         ensures counted { live_total region.old ≡ node_object * length self.old.known.places
             → live_total region.new ≡ node_object * length self.new.known.places }
-        ensures stay { Stay region.old region.new }
+        ensures remain { Remain (live_at region.old) (live_at region.new) }
         ensures shape { shape region.new ≡ shape region.old }
     {
         while self.spares.len() > MOST_SPARES {

@@ -186,12 +186,13 @@ impl IndexTree {
         get(&self.region, self.roots.root(), self.roots.level(), key)
     }
 
-    /// Takes a key away, and gives its number. None where it is not there. No node moves.
+    /// Takes a key away, and gives its number. None where it is not there. No node moves: each that stays keeps its place, its level
+    /// and its order among the nodes of the level.
     pub fn remove(&mut self, key: &[u8]) -> Option<u32>
         ensures had { result ≡ indexes.number_of key.now (index_in self.old) }
         ensures unchanged { IsNone result → self.new ≡ self.old }
         ensures index { index_in self.new ≡ indexes.without key.now (index_in self.old) }
-        ensures stay { Stay self.old.region self.new.region }
+        ensures stay { Stay self.old self.new }
         ensures segments { HoldsSegments self.old.region self.new.region }
     {
         let root = self.roots.root()?;

@@ -71,6 +71,10 @@ with_spare p r = record {
 abbrev pub with_freed : Place → RosterState → RosterState
 with_freed p r = record r { tree = record r.tree { spares = r.tree.spares ++ p ∷ [] } }
 
+-- each live object is what it was
+abbrev pub Remain : Live → Live → Type 0
+Remain old new = (p : Place) → IsSome (new p) → new p ≡ old p
+
 -- the same root and level, and the same index
 pub record IsSameTree (old new : RosterState) : Type 0 where
   pub root : new.tree.root ≡ old.tree.root

@@ -10,5 +10,11 @@ returns-clause-leaves c = refl
 pub returns-clause-places : goal.returns-clause-places
 returns-clause-places c = refl
 
+pub returns-clause-row : goal.returns-clause-row
+returns-clause-row c = refl
+
+pub returns-clause-top : goal.returns-clause-top
+returns-clause-top c = refl
+
 pub returns-clause-linked : goal.returns-clause-linked
 returns-clause-linked c = (refl, refl)

@@ -1,9 +1,11 @@
-use Rattle.std.proofs.Common.{◌≡◌, List, length, sym, ap, subst, arith}
-use Rattle.regions.specs.Contents.{live_at}
+use Rattle.std.proofs.Common.{◌≡◌, inl, inr, true≢false, List, length, Option, sym, ap, subst, ◌∙◌, arith}
+use Rattle.std.specs.Prelude.{IsSome}
+use Rattle.regions.specs.Contents.{Item, live_at}
 use Rattle.regions.specs.declared.place.Place.{Place}
 use Rattle.index_tree.specs.inside.Listings.{less_place}
 use Rattle.index_tree.specs.inside.Rosters.{IsRosterOf, RosterState, with_freed}
 use Rattle.index_tree.proofs.Freed.{one_fewer, roster_without, was_listed}
+use Rattle.index_tree.proofs.Places.{place_cases}
 use Rattle.index_tree.proofs.roots.Roots.drop_spare.Goals as goal
 
 pub returns-clause-roster : goal.returns-clause-roster
@@ -27,3 +29,11 @@ returns-clause-counted c = λ counted.
     let were : length f.roster.known.places ≡ length c.args.self.now.known.places = ap (λ (x : RosterState). length x.known.places) c.self.view_is in
     let less = e.live_total in
     omega (arith, counted, fewer, same, were, less))
+
+pub returns-clause-remain : goal.returns-clause-remain
+returns-clause-remain c = λ q some.
+    (let new = live_at c.kill_node.new.region in let e = c.kill_node.ensures in
+    elim (place_cases q c.pop-place.result) [
+      | inl here ↦ absurd (true≢false (sym (subst (λ (o : Option Item). IsSome o) (ap new here ∙ e.gone) some)))
+      | inr far ↦ e.others q far
+    ])

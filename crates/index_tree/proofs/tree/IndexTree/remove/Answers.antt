@@ -7,11 +7,12 @@ use Rattle.index_tree.specs.Indexes.{Index, number_of, without}
 use Rattle.index_tree.specs.Removes.{CanLose}
 use Rattle.index_tree.specs.Prunes.{Prunes}
 use Rattle.index_tree.specs.Sizes.{node_object}
-use Rattle.index_tree.specs.Store.{IndexState, index_in, levels_if, nodes_of}
+use Rattle.index_tree.specs.Store.{IndexState, Stay, index_in, levels_if, nodes_of}
 use Rattle.index_tree.specs.inside.Rosters.{IsRosterOf, IsSameTree, RosterState}
 use Rattle.index_tree.proofs.PrunedRoster.{pruned_roster}
 use Rattle.index_tree.proofs.RemovedKey.{can_lose, consistent_now, index_now, number_known, without_none}
 use Rattle.index_tree.proofs.States.{low_enough}
+use Rattle.index_tree.proofs.Stays.{removal_stays, same_stays}
 use Rattle.index_tree.proofs.tree.IndexTree.remove.Goals as goal
 
 pub remove_at_root-requires-clause-below : goal.remove_at_root-requires-clause-below
@@ -43,6 +44,14 @@ returns-in_err-number-clause-index c =
     ∙ (i.roster.index
     ∙ (sym (without_none c.args.key.now f.roots.known.index i.rising none)
     ∙ (ap (λ (x : Index). without c.args.key.now x) (sym i.roster.index) ∙ ap (λ (s : IndexState). without c.args.key.now (index_in s)) c.self.view_is)))
+
+pub returns-in_err-number-clause-stay : goal.returns-in_err-number-clause-stay
+returns-in_err-number-clause-stay c =
+    let f = c.self.inside in
+    same_stays _ _ (ap (λ (r : RegionState). record { tree = f.roots.tree; region = r }) (c.in_err-number.ensures.unchanged refl) ∙ c.self.view_is)
+
+pub returns-in_err-root-clause-stay : goal.returns-in_err-root-clause-stay
+returns-in_err-root-clause-stay c = same_stays c.args.self.now c.args.self.now refl
 
 pub release-requires : goal.release-requires
 release-requires c =
@@ -101,3 +110,15 @@ returns-clause-index c =
     k.ensures.same
     (subst (λ (r : RosterState). IsSameTree r c.trim.new.self) c.release.ensures t.same)
     ∙ (ap (λ (x : Index). without c.args.key.now x) (sym c.self.invariant.roster.index) ∙ ap (λ (s : IndexState). without c.args.key.now (index_in s)) c.self.view_is))
+
+pub returns-clause-stay : goal.returns-clause-stay
+returns-clause-stay c =
+    let f = c.self.inside in let k = c.remove_at_root in let p = c.in_ok-number.pruned in let t = c.trim.ensures in
+    subst (λ (s : IndexState). Stay s (record { tree = c.trim.new.self.tree; region = c.trim.new.region })) c.self.view_is
+    (removal_stays f.region k.new.region c.trim.new.region f.roots c.trim.new.self c.in_ok-root.root (sym c.root.ensures ∙ c.in_ok-root.was) p.level p.root c.args.key.now c.as_slice.result.now
+    (subst (λ l. Prunes (nodes_of (live_at f.region)) (nodes_of (live_at k.new.region)) l c.in_ok-root.root p.level p.root c.args.key.now c.as_slice.result.now) c.level.ensures
+    (subst (λ (ps : List Place). Prunes (nodes_of (live_at f.region)) (nodes_of (live_at k.new.region)) c.level.result c.in_ok-root.root p.level p.root c.args.key.now ps) (sym c.as_slice.ensures)
+    c.in_ok-number.ensures.pruned))
+    k.ensures.same
+    (subst (λ (r : RosterState). IsSameTree r c.trim.new.self) c.release.ensures t.same)
+    t.roster t.remain)
