@@ -6,9 +6,9 @@
 The program runs two traces on 1, 2 and 4 shards of PAGES pages (default 1,280) again and again, on threads and on one thread:
 first with all its memory, then with its first allocation refused, then with its second, until there is none to refuse. Each time
 no byte may be left that was not freed. Where one was refused, the status is that of want of memory and nothing is written; but a
-thread that cannot be started is done without, and so is memory for a piece of the report: then the run ends with its report. A
-short trace has no pieces, so there these are the threads that read it, twice one for each shard but the first, and as many for
-the shards. `bench/refused_threads.py` refuses threads as the system does. g++ is needed.
+thread that cannot be started is done without: then the run ends with its report. In a run on threads of a short trace these are
+twice one for each shard but the first, which read it, and as many for the shards; the report of a longer one, whose memory is
+taken before the shards are driven, is made on threads too. `bench/refused_threads.py` refuses threads as the system does. g++ is needed.
 """
 import os
 import subprocess

@@ -5,7 +5,7 @@ use Rattle.outside.specs.declared.failure.Failed.{Failed}
 use Rattle.cache_model.specs.KeyBody.{AreKeys, AreKeysAt}
 use Rattle.report_text.specs.inside.Output.{Output, Writes}
 use Rattle.report_text.proofs.Outputs.{Added, Writes-then, Writes-stop}
-use Rattle.report_text.proofs.Texts.{key_piece}
+use Rattle.report_text.proofs.LineTexts.{key_piece}
 
 -- a front of the keys was put, and the others are the rest of the body
 pub record AreAdded (a b : Output) (rest : List ℕ) (keys : List (List ℕ)) : Type 0 where

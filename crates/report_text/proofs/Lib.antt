@@ -4,6 +4,7 @@ pub mod Gathered
 pub mod Joined
 pub mod Keys
 pub mod KeysOfReplies
+pub mod LineTexts
 pub mod Merged
 pub mod Outputs
 pub mod Places
@@ -12,4 +13,3 @@ pub mod Sent
 pub mod Stretches
 pub mod Taken
 pub mod Tallied
-pub mod Texts

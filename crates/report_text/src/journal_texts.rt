@@ -17,11 +17,36 @@ use run_log::Journal;
 use std::alloc::{AllocError, Global};
 use std::thread;
 use std::thread::Threads;
+use trace_text::Trace;
 
-/// The lines of all journals, made side by side.
+/// The most bytes of an entry of a journal's line.
+const ENTRY: usize = 12;
+
+/// The most bytes of a journal's line that are no entry's.
+const FRAME: usize = 32;
+
+/// Texts with nothing in them, one for each shard, with room for all that its journal may have.
+pub(crate) fn empty_texts(
+    alloc: Global,
+    trace: &Trace,
+    shards: u32,
+) -> Result<Vec<Held>, AllocError>
+    requires parsed_for { shards ≡ trace.now.shards }
+    ensures { IfOk result (λ texts. vec_len texts ≡ shards) }
+{
+    let mut texts = Vec::with_capacity(alloc, shards as usize)?;
+    for shard in 0..shards {
+        let needs = trace.needs(shard, shards);
+        let entries = needs.here_parts as usize + needs.here_puts as usize;
+        texts.push(Held::new(alloc, FRAME + ENTRY * entries)?)?;
+    }
+    Ok(texts)
+}
+
+/// The lines of all journals, made side by side in these texts, if there is one for each.
 pub(crate) fn put_journals_on<R: Threads + Sync, K: Sink>(
     rt: &R,
-    alloc: Global,
+    texts: &mut [Held],
     threads: usize,
     writer: &mut Writer<'_, K>,
     journals: &[Journal],
@@ -30,22 +55,11 @@ pub(crate) fn put_journals_on<R: Threads + Sync, K: Sink>(
     ensures { Writes result (output K.written K.faults writer.old) (output K.written K.faults writer.new)
         (flat_map (λ journal. line (journal_text journal)) (enumerate_from 0 (journals_in journals.now))) }
 {
-    let Ok(mut texts) = empty_texts(alloc, journals.len()) else {
+    if texts.len() != journals.len() {
         return put_journals(writer, journals);
-    };
-    make_journals(rt, threads, &mut texts, journals);
-    put_made_journals(writer, journals, &texts)
-}
-
-/// Texts with nothing in them.
-fn empty_texts(alloc: Global, count: usize) -> Result<Vec<Held>, AllocError>
-    ensures { IfOk result (λ texts. vec_len texts ≡ count) }
-{
-    let mut texts = Vec::with_capacity(alloc, count)?;
-    for _ in 0..count {
-        texts.push(Held::new(alloc))?;
     }
-    Ok(texts)
+    make_journals(rt, threads, texts, journals);
+    put_made_journals(writer, journals, texts)
 }
 
 /// Gives the sink the line of a shard's journal.
@@ -87,7 +101,7 @@ fn make_journals<R: Threads + Sync>(
     );
 }
 
-/// The line of a journal, which is written straight to the sink where memory was refused for it.
+/// The line of a journal, which is written straight to the sink where there was no room for it.
 fn put_made_journal<K: Sink>(
     writer: &mut Writer<'_, K>,
     shard: usize,

@@ -1,6 +1,7 @@
 //! The report of a run: the answer to each command, the journal of each shard, and what each shard
-//! holds at the end. See [`write_report`], and [`write_report_on`], which makes pieces of it on threads. The summary of a run
-//! has numbers in place of answers and journals; see [`write_summary`].
+//! holds at the end. See [`write_report`], and [`write_report_on`], which makes pieces of it on threads, in memory that
+//! [`Texts`] reserves before the run. The summary of a run has numbers in place of answers and journals; see
+//! [`write_summary`].
 #![tactic(auto)]
 
 mod answers;
@@ -12,6 +13,7 @@ mod merging;
 mod pieces;
 mod place;
 mod report;
+mod reserved;
 mod side_by_side;
 mod stretch;
 mod summary;
@@ -19,6 +21,7 @@ mod tally;
 mod writer;
 
 pub use report::write_report;
+pub use reserved::Texts;
 pub use run_log::ShardLine;
 pub use side_by_side::write_report_on;
 pub use summary::write_summary;

@@ -24,16 +24,7 @@ use std::thread::Threads;
 use trace_text::Trace;
 
 /// How many commands a piece has, but for the last ones.
-const PIECE: usize = 1_024;
-
-/// How many bytes the lines of one thread's pieces may have in a round, but for those of scans.
-const ROUND: usize = 8 * 1024 * 1024;
-
-/// The most bytes of a line that are not the value's.
-const FRAME: usize = 32;
-
-/// The most pieces of one thread in a round.
-const MOST_PIECES: usize = 64;
+pub(crate) const PIECE: usize = 1_024;
 
 /// Some of the commands, and the lines of their answers.
 #[derive(Drop)]
@@ -42,24 +33,19 @@ pub(crate) struct Piece {
     text: Held,
 }
 
-/// How many pieces one thread makes in a round: as many as have room there, whatever the values, but one at least.
-pub(crate) fn pieces_each(trace: &Trace) -> usize
-    ensures some { 0 < result }
-    ensures few { result ≤ 64 }
-{
-    let line = trace.longest_value() as usize + FRAME;
-    (ROUND / (PIECE * line)).clamp(1, MOST_PIECES)
-}
-
-/// Pieces with no commands.
-pub(crate) fn empty_pieces(alloc: Global, count: usize) -> Result<Vec<Piece>, AllocError>
+/// Pieces with no commands, each with room for so many bytes.
+pub(crate) fn empty_pieces(
+    alloc: Global,
+    count: usize,
+    room: usize,
+) -> Result<Vec<Piece>, AllocError>
     ensures { IfOk result (λ pieces. vec_len pieces ≡ count) }
 {
     let mut pieces = Vec::with_capacity(alloc, count)?;
     for _ in 0..count {
         pieces.push(Piece {
             stretch: no_commands(),
-            text: Held::new(alloc),
+            text: Held::new(alloc, room)?,
         })?;
     }
     Ok(pieces)
@@ -174,7 +160,7 @@ pub(crate) fn make_pieces<R: Threads + Sync>(
     );
 }
 
-/// The lines of a piece, which are written straight to the sink where memory was refused for them.
+/// The lines of a piece, which are written straight to the sink where there was no room for them.
 fn put_piece<K: Sink>(
     writer: &mut Writer<'_, K>,
     trace: &Trace,

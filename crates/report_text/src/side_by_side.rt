@@ -13,37 +13,31 @@ ghost use Rattle.report_text.specs.inside.Output.{Writes, output};
 use crate::ShardLine;
 use crate::journal_texts::put_journals_on;
 use crate::lines::finish;
-use crate::pieces::{Piece, begin_round, empty_pieces, make_pieces, pieces_each, put_pieces};
-use crate::report::{put_answers, write_report};
+use crate::pieces::{Piece, begin_round, make_pieces, put_pieces};
+use crate::report::put_answers;
+use crate::reserved::Texts;
 use crate::writer::Writer;
 use cache_model::answers_are_read_by_command;
 use outside::{Failed, Sink};
 use run_log::{Journal, ReplyLog};
-use std::alloc::Global;
 use std::thread::Threads;
 use trace_text::{MOST_SHARDS, Trace};
-
-/// A report of no more answers is not worth the threads.
-const FEW: usize = 8_192;
 
 /// Writes the report as [`write_report`](crate::write_report) does, pieces of it made on at most `threads` threads.
 ///
 /// The commands are taken in rounds. In each the threads write the lines of the answers to 1,024 to 65,536 commands each, the
-/// fewer the longer the values, into memory of their own, 1,024 a piece, and then one thread gives the sink these texts in
-/// order. The lines of the journals are made so too, one a shard. Where there is one thread, or no more than 8,192 commands,
-/// nothing is made apart.
+/// fewer the longer these may be, into the memory of `texts`, 1,024 a piece, and then one thread gives the sink these texts in
+/// order. The lines of the journals are made so too, one a shard. Where there are no texts, nothing is made apart.
 ///
-/// The memory is taken from `alloc` and given back before the call returns: first the texts of one round, some 8 MiB for each
-/// thread or the lines of 1,024 commands, and the keys that scans found beside that, and then those of the journals; a text may
-/// have room for twice its bytes. Where memory is refused for some lines, they are written straight to the sink in their place.
-/// Where the system makes no thread, the pieces are made one after another.
+/// No memory is taken. A piece whose lines have no room is written straight to the sink in its place; so texts that were
+/// reserved for the report of another trace do as well. Where the system makes no thread, the pieces are made one after another.
 ///
 /// # Errors
 ///
 /// [`Failed`] where the sink failed. A front of the report was written then.
 pub fn write_report_on<R: Threads + Sync, K: Sink>(
     rt: &R,
-    alloc: Global,
+    texts: &mut Texts,
     threads: usize,
     sink: &mut K,
     trace: &Trace,
@@ -70,19 +64,30 @@ pub fn write_report_on<R: Threads + Sync, K: Sink>(
     ensures failed { OnErr result (Rose (K.faults sink.old) (K.faults sink.new)) }
     ensures never_falls { K.faults sink.old ≤ K.faults sink.new }
 {
-    if threads == 1 || trace.commands().len() <= FEW {
-        return write_report(sink, trace, shards, logs, journals, lines);
-    }
     let mut writer = Writer::new(sink);
-    put_answers_on(rt, alloc, threads, &mut writer, trace, shards, logs)?;
-    put_journals_on(rt, alloc, threads, &mut writer, journals)?;
+    put_answers_on(
+        rt,
+        texts.pieces.as_mut_slice(),
+        threads,
+        &mut writer,
+        trace,
+        shards,
+        logs,
+    )?;
+    put_journals_on(
+        rt,
+        texts.journals.as_mut_slice(),
+        threads,
+        &mut writer,
+        journals,
+    )?;
     finish(&mut writer, lines)
 }
 
-/// The lines of all answers, pieces of them made side by side.
+/// The lines of all answers, made side by side in these pieces, if there are any.
 fn put_answers_on<R: Threads + Sync, K: Sink>(
     rt: &R,
-    alloc: Global,
+    pieces: &mut [Piece],
     threads: usize,
     writer: &mut Writer<'_, K>,
     trace: &Trace,
@@ -97,28 +102,17 @@ fn put_answers_on<R: Threads + Sync, K: Sink>(
         Writes result (output K.written K.faults writer.old) (output K.written K.faults writer.new) (flat_map
         (λ answer. line (answer_text answer)) answers) }
 {
-    match empty_pieces(
-        alloc,
-        threads.min(MOST_SHARDS as usize) * pieces_each(trace),
-    ) {
-        Ok(mut pieces) => put_rounds(
-            rt,
-            threads,
-            pieces.as_mut_slice(),
-            writer,
-            trace,
-            shards,
-            logs,
-        ),
-        Err(_) => put_answers(writer, trace, shards, logs),
+    if pieces.is_empty() {
+        return put_answers(writer, trace, shards, logs);
     }
+    put_rounds(rt, pieces, threads, writer, trace, shards, logs)
 }
 
 /// The lines of all answers. In each round each piece has the next commands.
 fn put_rounds<R: Threads + Sync, K: Sink>(
     rt: &R,
-    threads: usize,
     pieces: &mut [Piece],
+    threads: usize,
     writer: &mut Writer<'_, K>,
     trace: &Trace,
     shards: u32,

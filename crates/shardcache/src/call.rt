@@ -23,6 +23,7 @@ use index_mode::run_index;
 use layout::MOST_TRACE_BYTES;
 use made_trace::make_trace;
 use outside::{ReadStop, Sink, Source, read_all};
+use report_text::Texts;
 use settings::{Mode, Settings, settings_of};
 use shard_node::Gates;
 use std::alloc::Global;
@@ -63,6 +64,10 @@ where
     ensures fault { result.status ≡ Status.WriteFault → Rose (K.faults sink.old) (K.faults sink.new) }
 {
     let order = order_of(settings);
+    // From the first turn on no memory is taken, so that of the text is taken here.
+    let Ok(mut texts) = Texts::new(alloc, settings.threads(), trace, settings.shards) else {
+        return Outcome::without_run(Status::Memory);
+    };
     match run_trace(
         rt,
         alloc,
@@ -73,7 +78,7 @@ where
         gates,
     ) {
         Ok(ran) => Outcome {
-            status: write_output(rt, alloc, sink, settings, trace, &ran),
+            status: write_output(rt, &mut texts, sink, settings, trace, &ran),
             ran: Some(ran),
         },
         Err(_) => Outcome::without_run(Status::Memory),

@@ -16,7 +16,7 @@ ghost use Rattle.trace_run.specs.Finished.{IsRunOf};
 use crate::status::Status;
 use cache_model::{a_report_has_its_lines, answers_are_read_by_command, replies_hold_what_was_put};
 use outside::{Failed, Sink, write_all};
-use report_text::{write_report_on, write_summary};
+use report_text::{Texts, write_report_on, write_summary};
 use settings::{Mode, Settings};
 use shard_node::Ran;
 use std::alloc::Global;
@@ -72,10 +72,10 @@ pub(crate) fn refuse_script<K: Sink>(
     refuse_line(alloc, sink, line, cause.name())
 }
 
-/// Writes the report of what the shards did.
+/// Writes the report of what the shards did, made in these texts.
 pub(crate) fn report_run<R: Threads + Sync, K: Sink>(
     rt: &R,
-    alloc: Global,
+    texts: &mut Texts,
     sink: &mut K,
     settings: Settings,
     trace: &Trace,
@@ -89,7 +89,7 @@ pub(crate) fn report_run<R: Threads + Sync, K: Sink>(
 {
     match write_report_on(
         rt,
-        alloc,
+        texts,
         settings.threads(),
         sink,
         trace,
@@ -132,7 +132,7 @@ pub(crate) fn summarize_run<K: Sink>(
 /// Writes what the mode says of a run.
 pub(crate) fn write_output<R: Threads + Sync, K: Sink>(
     rt: &R,
-    alloc: Global,
+    texts: &mut Texts,
     sink: &mut K,
     settings: Settings,
     trace: &Trace,
@@ -150,7 +150,7 @@ pub(crate) fn write_output<R: Threads + Sync, K: Sink>(
     a_report_has_its_lines();
     answers_are_read_by_command();
     match settings.mode {
-        Mode::Run | Mode::Sim => report_run(rt, alloc, sink, settings, trace, ran),
+        Mode::Run | Mode::Sim => report_run(rt, texts, sink, settings, trace, ran),
         Mode::Gen => summarize_run(sink, settings, trace, ran),
         Mode::Dirty | Mode::Index | Mode::Values => unreachable!(),
     }

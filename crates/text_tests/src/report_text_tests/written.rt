@@ -6,17 +6,18 @@ ghost use Rattle.cache_model.specs.Logged.{AreLogged};
 ghost use Rattle.report_text.specs.Views.{replies_in};
 
 use outside::{Failed, MemorySink};
-use report_text::{ShardLine, write_report, write_report_on, write_summary};
+use report_text::{ShardLine, Texts, write_report, write_report_on, write_summary};
 use run_log::{Journal, ReplyLog};
 use std::alloc::Global;
 use std::test::Fail;
 use std::thread::Threads;
 use trace_text::Trace;
 
-/// Whether the report of a run, whose pieces are made on so many threads, is this text.
+/// Whether the report of a run, whose pieces are made in these texts on so many threads, is this text.
 pub(super) fn writes_on<R: Threads + Sync>(
     rt: &R,
     alloc: Global,
+    texts: &mut Texts,
     threads: usize,
     run: &Run,
     text: &[u8],
@@ -32,7 +33,7 @@ pub(super) fn writes_on<R: Threads + Sync>(
     let mut sink = MemorySink::new(alloc, 1_000_000)?;
     let met = write_report_on(
         rt,
-        alloc,
+        texts,
         threads,
         &mut sink,
         run.trace,

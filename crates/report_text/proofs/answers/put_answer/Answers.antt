@@ -2,7 +2,7 @@ use Rattle.std.proofs.Common.{ℕ, ap, subst, sym}
 use Rattle.trace_text.specs.Operation.{operation}
 use Rattle.report_text.specs.inside.Output.{Writes}
 use Rattle.report_text.proofs.Answered.{answer-pair, read_joined, read_one}
-use Rattle.report_text.proofs.Texts.{answer_line}
+use Rattle.report_text.proofs.LineTexts.{answer_line}
 use Rattle.report_text.proofs.answers.put_answer.Goals as goal
 
 pub put_scan-requires-clause-replied : goal.put_scan-requires-clause-replied

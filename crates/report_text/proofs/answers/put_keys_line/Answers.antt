@@ -2,7 +2,7 @@ use Rattle.std.proofs.Common.{subst}
 use Rattle.report_text.specs.inside.Output.{Writes}
 use Rattle.report_text.proofs.Gathered.{texts}
 use Rattle.report_text.proofs.Outputs.{Writes-then, Writes-stop, Writes-exit}
-use Rattle.report_text.proofs.Texts.{keys_line_is}
+use Rattle.report_text.proofs.LineTexts.{keys_line_is}
 use Rattle.report_text.proofs.answers.put_keys_line.Goals as goal
 
 pub returns-in_err-put_number : goal.returns-in_err-put_number

@@ -3,7 +3,7 @@ use Rattle.std.proofs.Common.{take}
 use Rattle.std.specs.List.{flat_map}
 use Rattle.report_text.specs.inside.Output.{output}
 use Rattle.report_text.proofs.Outputs.{Added}
-use Rattle.report_text.proofs.Texts.{word_piece}
+use Rattle.report_text.proofs.LineTexts.{word_piece}
 use Rattle.report_text.proofs.answers.put_words.Given as goal
 
 abbrev pub invariant-loop-word : goal.invariant-loop-word

@@ -1,9 +1,6 @@
--- There are as many as were asked so far.
-use Rattle.std.proofs.Common.{◌≡◌, ◌≤◌, length}
+-- Each shard so far has its text.
+use Rattle.std.proofs.Common.{◌≡◌, length}
 use Rattle.report_text.proofs.journal_texts.empty_texts.Given as goal
 
-abbrev pub invariant-loop : goal.invariant-loop
-invariant-loop l = record {
-  many : length l.texts.items ≡ l.counter;
-  within : l.counter ≤ l.count;
-}
+abbrev pub invariant-loop-shard : goal.invariant-loop-shard
+invariant-loop-shard l = length l.texts.items ≡ l.shard

@@ -2,7 +2,7 @@ use Rattle.std.proofs.Common.{rules}
 use Rattle.std.proofs.lemmas.Result.{IfOk-from_err}
 use Rattle.report_text.proofs.Outputs.{Writes-exit, Writes-last}
 use Rattle.report_text.proofs.Sent.{OnOk-plain, Sent-from}
-use Rattle.report_text.proofs.Texts.{journal_line}
+use Rattle.report_text.proofs.LineTexts.{journal_line}
 use Rattle.report_text.proofs.journal_texts.write_journal.Goals as goal
 
 pub returns-in_err-put_journal : goal.returns-in_err-put_journal

@@ -3,7 +3,7 @@ use Rattle.std.proofs.Common.{take}
 use Rattle.std.specs.List.{flat_map}
 use Rattle.report_text.specs.inside.Output.{output}
 use Rattle.report_text.proofs.Outputs.{Added}
-use Rattle.report_text.proofs.Texts.{field_piece}
+use Rattle.report_text.proofs.LineTexts.{field_piece}
 use Rattle.report_text.proofs.lines.put_fields.Given as goal
 
 abbrev pub invariant-loop-name : goal.invariant-loop-name

@@ -2,7 +2,7 @@ use Rattle.std.proofs.Common.{subst}
 use Rattle.report_text.specs.inside.Output.{Writes}
 use Rattle.report_text.proofs.KeysOfReplies.{keys_in, keys_of}
 use Rattle.report_text.proofs.Outputs.{Writes-then, Writes-stop, Writes-exit}
-use Rattle.report_text.proofs.Texts.{begins, keys_said, words_spelled}
+use Rattle.report_text.proofs.LineTexts.{begins, keys_said, words_spelled}
 use Rattle.report_text.proofs.lines.put_reply.Goals as goal
 
 pub returns-in_err-put : goal.returns-in_err-put

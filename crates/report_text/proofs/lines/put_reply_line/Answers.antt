@@ -1,7 +1,7 @@
 use Rattle.std.proofs.Common.{subst}
 use Rattle.report_text.specs.inside.Output.{Writes}
 use Rattle.report_text.proofs.Outputs.{Writes-then, Writes-stop, Writes-exit}
-use Rattle.report_text.proofs.Texts.{reply_line_is}
+use Rattle.report_text.proofs.LineTexts.{reply_line_is}
 use Rattle.report_text.proofs.lines.put_reply_line.Goals as goal
 
 pub returns-in_err-put_number : goal.returns-in_err-put_number

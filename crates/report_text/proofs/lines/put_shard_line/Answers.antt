@@ -1,7 +1,7 @@
 use Rattle.std.proofs.Common.{subst}
 use Rattle.report_text.specs.inside.Output.{Writes}
 use Rattle.report_text.specs.Views.{occupancy_in}
-use Rattle.report_text.proofs.Texts.{shard_line_is}
+use Rattle.report_text.proofs.LineTexts.{shard_line_is}
 use Rattle.report_text.proofs.lines.put_shard_line.Goals as goal
 
 pub returns : goal.returns

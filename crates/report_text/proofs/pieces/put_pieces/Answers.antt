@@ -4,7 +4,7 @@ use Rattle.report_text.specs.inside.Pieces.{begins}
 use Rattle.report_text.proofs.Outputs.{Writes-exit}
 use Rattle.report_text.proofs.Rounds.{begins-order, begins-past, piece_lines}
 use Rattle.report_text.proofs.Stretches.{Lines-next, Lines-broken}
-use Rattle.report_text.proofs.Texts.{answer_line}
+use Rattle.report_text.proofs.LineTexts.{answer_line}
 use Rattle.report_text.proofs.pieces.put_pieces.Goals as goal
 
 pub loop-piece-preserved : goal.loop-piece-preserved

@@ -2,7 +2,7 @@ use Rattle.std.proofs.Common.{◌≡◌, ◌≤◌, length, refl, subst, arith}
 use Rattle.report_text.specs.inside.Output.{Writes}
 use Rattle.report_text.proofs.Places.{answers_for}
 use Rattle.report_text.proofs.Stretches.{lines-all}
-use Rattle.report_text.proofs.Texts.{answer_line}
+use Rattle.report_text.proofs.LineTexts.{answer_line}
 use Rattle.report_text.proofs.report.put_answers.Goals as goal
 
 pub returns : goal.returns

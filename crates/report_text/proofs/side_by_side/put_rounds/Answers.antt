@@ -6,7 +6,7 @@ use Rattle.report_text.proofs.Outputs.{Writes-exit}
 use Rattle.report_text.proofs.Places.{answers_for}
 use Rattle.report_text.proofs.Rounds.{begins-past, begins-within, round_kept}
 use Rattle.report_text.proofs.Stretches.{lines-all, Lines-to, Lines-next, Lines-broken}
-use Rattle.report_text.proofs.Texts.{answer_line}
+use Rattle.report_text.proofs.LineTexts.{answer_line}
 use Rattle.report_text.proofs.side_by_side.put_rounds.Goals as goal
 
 pub loop-from-preserved : goal.loop-from-preserved

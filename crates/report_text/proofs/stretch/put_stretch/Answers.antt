@@ -8,7 +8,7 @@ use Rattle.report_text.specs.inside.Output.{Writes}
 use Rattle.report_text.proofs.Outputs.{Writes-exit}
 use Rattle.report_text.proofs.Places.{answers_for, read_for}
 use Rattle.report_text.proofs.Stretches.{lines-one, Lines-next, Lines-broken}
-use Rattle.report_text.proofs.Texts.{answer_line}
+use Rattle.report_text.proofs.LineTexts.{answer_line}
 use Rattle.report_text.proofs.stretch.put_stretch.Goals as goal
 
 abbrev none : Command

@@ -4,7 +4,7 @@ use Rattle.cache_model.specs.Summary.{tally_text}
 use Rattle.report_text.specs.inside.Output.{Writes}
 use Rattle.report_text.proofs.Outputs.{Writes-then, Writes-stop, Writes-exit}
 use Rattle.report_text.proofs.Places.{answers_for}
-use Rattle.report_text.proofs.Texts.{commands_line_is}
+use Rattle.report_text.proofs.LineTexts.{commands_line_is}
 use Rattle.report_text.proofs.summary.put_counts.Goals as goal
 
 pub returns-in_err-put_field_line : goal.returns-in_err-put_field_line
