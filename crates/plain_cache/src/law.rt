@@ -17,7 +17,8 @@ use cache_model::a_journal_goes_on;
 /// key: `Missing` only where the key was erased since, or was never put.
 pub fn a_get_finds_what_was_put_last()
     ensures none_goes { (trace : Trace) (pages : ℕ) (journal : List JournalEntry)
-        → IsLegal trace pages journal → StaysWithin trace pages (floor pages) journal → journal ≡ map (λ i. Done i) (done journal) }
+        → IsLegal trace pages journal → StaysWithin trace pages (floor pages) journal
+        → journal ≡ map (λ i. Done i) (done journal) }
     ensures found { (trace : Trace) (pages i : ℕ) (before later : List JournalEntry) (operation : Operation)
         → IsLegal trace pages (before ++ Done i ∷ later) → StaysWithin trace pages (floor pages) (before ++ Done i ∷ later)
         → list_any (is_done i) before ≡ false → command_of trace i ≡ Some operation → operation.kind ≡ Kinds.Get
