@@ -141,9 +141,9 @@ def edit_of(path, crate):
             if text.count(old) != 1:
                 sys.exit(f"{path}: its old text stands {text.count(old)} times in {file}")
             here = functions_at(text, text.index(old), [it for it in crate.functions if it.file == file])
-            if not here:
-                sys.exit(f"{path}: it stands in no function of {file}")
             places += [it for it in here if it not in places]
+    if not places:
+        sys.exit(f"{path}: it stands in no function")
     return os.path.basename(path).removesuffix(".edit").replace("_", " "), places
 
 
