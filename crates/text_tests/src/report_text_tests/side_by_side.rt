@@ -4,62 +4,27 @@ use super::{journal_of, log_of, trace_of};
 use cache_model::{Entry, ReplyKind};
 use report_text::{ShardLine, Texts};
 use std::alloc::{AllocError, Global};
-use std::process::Abort;
 use std::test::Fail;
-use std::thread::Threads;
 
 /// So many gets, each of which finds nothing.
 const GETS: u32 = 20_000;
 
-/// So many gets of a value, behind its put.
-const VALUES: u32 = 5_000;
-
-const VALUE: &str =
-    "so-long-that-a-thousand-lines-of-it-do-not-fit-where-a-thousand-of-the-short-ones-do";
-
-/// Adds the answers to the commands with these numbers, all alike.
-fn add_answers(
-    alloc: Global,
-    text: &mut Vec<u8>,
-    from: u32,
-    to: u32,
-    answer: &str,
-) -> Result<(), AllocError> {
-    for number in from..=to {
-        let line = format!(in alloc; "{number} {answer}\n")?;
-        text.extend_from_slice(line.as_bytes())?;
-    }
-    Ok(())
-}
-
-/// Adds the journal of [`GETS`] parts and the line of a shard that holds nothing.
-fn add_end(alloc: Global, text: &mut Vec<u8>) -> Result<(), AllocError> {
-    text.extend_from_slice(b"journal 0")?;
-    for number in 1..=GETS {
-        let entry = format!(in alloc; " {number}")?;
-        text.extend_from_slice(entry.as_bytes())?;
-    }
-    text.extend_from_slice(b"\nshard 0 rows 0 live 0 lent 0 back 0\n")
-}
-
-/// The report of the gets that find nothing.
+/// The report of these gets on one shard.
 fn text_of_gets(alloc: Global) -> Result<Vec<u8>, AllocError> {
-    let mut text = Vec::new(alloc);
-    add_answers(alloc, &mut text, 1, GETS, "missing")?;
-    add_end(alloc, &mut text)?;
-    Ok(text)
+    let mut answers = Vec::new(alloc);
+    let mut journal = Vec::from_slice(alloc, b"journal 0")?;
+    for number in 1..=GETS {
+        let answer = format!(in alloc; "{number} missing\n")?;
+        answers.extend_from_slice(answer.as_bytes())?;
+        let entry = format!(in alloc; " {number}")?;
+        journal.extend_from_slice(entry.as_bytes())?;
+    }
+    answers.extend_from_slice(&journal)?;
+    answers.extend_from_slice(b"\nshard 0 rows 0 live 0 lent 0 back 0\n")?;
+    Ok(answers)
 }
 
-/// The report of the gets that find a value.
-fn text_of_values(alloc: Global) -> Result<Vec<u8>, AllocError> {
-    let answer = format!(in alloc; "value {VALUE}")?;
-    let mut text = Vec::from_slice(alloc, b"1 stored\n")?;
-    add_answers(alloc, &mut text, 2, VALUES + 1, &answer)?;
-    add_end(alloc, &mut text)?;
-    Ok(text)
-}
-
-/// [`GETS`] parts that are done, in order.
+/// What is done of these gets, in order.
 fn entries_of_gets(alloc: Global) -> Result<Vec<Entry>, AllocError> {
     let mut entries = Vec::new(alloc);
     for number in 1..=GETS {
@@ -68,47 +33,14 @@ fn entries_of_gets(alloc: Global) -> Result<Vec<Entry>, AllocError> {
     Ok(entries)
 }
 
-/// The commands of the gets that find nothing, and the replies to them.
-fn gets(alloc: Global) -> Result<(Vec<u8>, Vec<(ReplyKind, &'static [u8])>), AllocError> {
+#[test]
+fn a_report_that_is_made_in_pieces_has_all_of_them_in_order(rt: HostRuntime) -> Result<(), Fail> {
+    let gets = b"get a\n".repeat(rt.alloc(), GETS as usize)?;
+    let trace = trace_of(&rt, rt.alloc(), &gets)?;
     let missing: (ReplyKind, &[u8]) = (ReplyKind::Missing, b"");
-    let input = b"get a\n".repeat(alloc, GETS as usize)?;
-    Ok((input, vec![in alloc; missing; GETS as usize]?))
-}
-
-/// A put of a value and the commands of the gets that find it, and the replies to them.
-fn values(alloc: Global) -> Result<(Vec<u8>, Vec<(ReplyKind, &'static [u8])>), AllocError> {
-    let stored: (ReplyKind, &[u8]) = (ReplyKind::Stored, b"");
-    let found: (ReplyKind, &[u8]) = (ReplyKind::Value, VALUE.as_bytes());
-    let mut input = Vec::from_slice(alloc, b"put a ")?;
-    input.extend_from_slice(VALUE.as_bytes())?;
-    input.push(b'\n')?;
-    input.extend_from_slice(&b"get a\n".repeat(alloc, VALUES as usize)?)?;
-    let mut replies = vec![in alloc; found; VALUES as usize + 1]?;
-    replies[0] = stored;
-    Ok((input, replies))
-}
-
-/// Texts for the report of these commands on one shard.
-fn texts_for(rt: &impl Abort, alloc: Global, threads: usize, input: &[u8]) -> Result<Texts, Fail> {
-    let trace = trace_of(rt, alloc, input)?;
-    Ok(Texts::new(alloc, threads, &trace, 1)?)
-}
-
-/// Whether the report of these commands on one shard, with these replies, is this text where it is made in these texts.
-fn is_report<R: Threads + Sync + Abort>(
-    rt: &R,
-    alloc: Global,
-    texts: &mut Texts,
-    threads: usize,
-    input: &[u8],
-    replies: &[(ReplyKind, &[u8])],
-    text: &[u8],
-) -> Result<bool, Fail>
-    requires { 0 < threads }
-{
-    let trace = trace_of(rt, alloc, input)?;
-    let logs = [log_of(rt, alloc, &trace, replies)?];
-    let journals = [journal_of(alloc, &entries_of_gets(alloc)?)?];
+    let replies = vec![in rt.alloc(); missing; GETS as usize]?;
+    let logs = [log_of(&rt, rt.alloc(), &trace, &replies)?];
+    let journals = [journal_of(rt.alloc(), &entries_of_gets(rt.alloc())?)?];
     let line = ShardLine {
         rows: 0,
         live: 0,
@@ -122,48 +54,10 @@ fn is_report<R: Threads + Sync + Abort>(
         journals: &journals,
         lines: &[line],
     };
-    writes_on(rt, alloc, texts, threads, &run, text)
-}
-
-#[test]
-fn a_report_that_is_made_in_pieces_has_all_of_them_in_order(rt: HostRuntime) -> Result<(), Fail> {
-    let (input, replies) = gets(rt.alloc())?;
     let text = text_of_gets(rt.alloc())?;
     for threads in [1, 2, 3, 5] {
-        let mut texts = texts_for(&rt, rt.alloc(), threads, &input)?;
-        let is_whole = is_report(
-            &rt,
-            rt.alloc(),
-            &mut texts,
-            threads,
-            &input,
-            &replies,
-            &text,
-        )?;
-        assert!(rt; is_whole);
-    }
-    Ok(())
-}
-
-#[test]
-fn texts_of_another_trace_do_as_well(rt: HostRuntime) -> Result<(), Fail> {
-    let short = gets(rt.alloc())?;
-    let long = values(rt.alloc())?;
-    let (short_text, long_text) = (text_of_gets(rt.alloc())?, text_of_values(rt.alloc())?);
-    // No piece has room for the long lines, and for so few commands there are no texts.
-    for input in [&short.0, &long.0] {
-        let mut texts = texts_for(&rt, rt.alloc(), 3, input)?;
-        let is_long = is_report(&rt, rt.alloc(), &mut texts, 3, &long.0, &long.1, &long_text)?;
-        let is_short = is_report(
-            &rt,
-            rt.alloc(),
-            &mut texts,
-            3,
-            &short.0,
-            &short.1,
-            &short_text,
-        )?;
-        assert!(rt; is_long && is_short);
+        let mut texts = Texts::new(rt.alloc(), threads, &trace, 1)?;
+        assert!(rt; writes_on(&rt, rt.alloc(), &mut texts, threads, &run, &text)?);
     }
     Ok(())
 }
