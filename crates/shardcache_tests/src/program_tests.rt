@@ -115,40 +115,6 @@ fn first_unlike<'a, R: Threads + Wait + Sync>(
     Ok(None)
 }
 
-/// What the program does, with the least input.
-const DOINGS: &[&[&str]] = &[
-    &["run"],
-    &["run", "--shards", "4"],
-    &["sim", "--shards", "2", "--number", "7"],
-    &["gen", "--number", "7", "--commands", "10"],
-    &["dirty"],
-    &["index"],
-    &["values"],
-];
-
-/// How many of these the program answers by Done, with no input and a sink of 4,096 bytes.
-fn done<R: Threads + Wait + Sync>(
-    rt: &R,
-    alloc: Global,
-    doings: &[&[&str]],
-) -> Result<usize, AllocError> {
-    let mut count = 0;
-    for words in doings {
-        let (status, _) = answer(rt, alloc, *words, b"", &[], 4096)?;
-        if status == Status::Done {
-            count += 1;
-        }
-    }
-    Ok(count)
-}
-
-#[test]
-fn always_out_of_memory_would_not_do(rt: HostRuntime) -> Result<(), Fail> {
-    let count = done(&rt, rt.alloc(), DOINGS)?;
-    assert_eq!(rt; count, DOINGS.len());
-    Ok(())
-}
-
 #[test]
 fn a_trace_is_run_and_reported(rt: HostRuntime) -> Result<(), Fail> {
     let empty = b"journal 0\nshard 0 rows 0 live 0 lent 0 back 0\n".as_slice();
