@@ -5,9 +5,11 @@
 
 mod answers;
 mod block;
+mod law;
 mod segments;
 mod store;
 mod writing;
 
+pub use law::texts_are_as_worked;
 pub use store::{ValueStore, open_values};
 pub use writing::{run_values, write_values};
