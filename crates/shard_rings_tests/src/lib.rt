@@ -6,3 +6,5 @@
 mod links;
 #[cfg(test)]
 mod messages;
+#[cfg(test)]
+mod passing;
