@@ -38,11 +38,15 @@ pub struct Space<'f> {
 }
 
 impl<'f> Model for Space<'f> {
+    ghost use Rattle.std.specs.Coded.{codes};
     ghost use Rattle.regions.specs.Shapes.{guards_of};
+    ghost use Rattle.shard_memory.specs.Room.{room_code};
     ghost use Rattle.reclaim.specs.Spaces.{SpaceState};
     ghost use Rattle.reclaim.specs.inside.Consistent.{IsConsistent, space_of};
 
     ghost Value = { SpaceState };
+
+    ghost coded = { Prim.hlevel (codes, room_code) };
 
     ghost view = { λ s. space_of s.memory s.cache };
 

@@ -1,7 +1,6 @@
 -- How what can be given changes.
-use Rattle.std.proofs.Common.{◌≡◌, ℕ, zero, suc, ◌%◌, ◌<◌, ◌≤◌, ◌⊎◌, inl, inr, Bool, true, false, cond, get_or, length, Some, None, refl, sym, ap, subst, ◌∙◌, arith}
+use Rattle.std.proofs.Common.{◌≡◌, ℕ, zero, suc, ◌%◌, ◌<◌, ◌≤◌, ◌⊎◌, inl, inr, Bool, true, false, cond, Some, None, refl, sym, ap, subst, ◌∙◌, arith}
 use Rattle.std.proofs.lemmas.Bool.{cases_eq}
-use Rattle.std.proofs.lemmas.List.{get_or_past}
 use Rattle.std.specs.Prelude.{nat_le}
 use Rattle.std.specs.FinMap as map
 use Rattle.layout.specs.Extents.{Extent}
@@ -14,16 +13,9 @@ use Rattle.span_lists.specs.Layout.{Layout, IsFree, Divides, allocated_pages, Ha
 use Rattle.small_pools.specs.Classes.{size_of, order_of, order_for, capacity_of, IsClass, IsLeastClass}
 use Rattle.small_pools.specs.Objects as pool
 use Rattle.small_pools.specs.Objects.{Objects, AreObjects, AreUsed, HasObject, HoldsFor, IsHeld, IsUsedUp, LacksObject, slot_place}
-use Rattle.shard_memory.specs.Room.{Room, LacksBlock, KeepsRoom, HasAllRoom}
+use Rattle.shard_memory.specs.Room.{Room, LacksClass, LacksBlock, LacksSegment, KeepsRoom, HasAllRoom}
 use Rattle.shard_memory.specs.inside.Pieces.{Pieces}
 use Rattle.shard_memory.specs.inside.Parts.{IsBlockAt, blocks_of, segments_of}
-use Rattle.shard_memory.specs.inside.Rooms.{answers, gives_class, room_of}
-use Rattle.shard_memory.proofs.Rooms.{class_lacks_of, class_lacks_tells, segment_lacks_of, segment_lacks_tells}
-
-answers_len : (n from : ℕ) (test : ℕ → Bool) → length (answers n from test) ≡ n
-unfolding answers
-answers_len zero from test = refl
-answers_len (suc n) from test = ap suc (answers_len n (suc from) test)
 
 -- what callers see of the parts
 abbrev pub pieces_of : Memory → Layout → Objects → Pieces
@@ -35,22 +27,14 @@ pieces_of range spans pools = record {
   objects = pools.allocated;
   segments = segments_of range.allocated;
   pages_out = allocated_pages spans;
-  room = room_of spans pools;
+  room = record { spans = spans; pools = pools };
 }
 
 -- ---- what could be given still can
 
-pub room_kept : (spans spans' : Layout) (pools pools' : Objects) (s t : Room) → AreObjects pools' → pool.KeepsRoom pools pools' spans spans' → room_of spans pools ≡ s → room_of spans' pools' ≡ t → KeepsRoom s t
-room_kept spans spans' pools pools' s t objects kept old new = record {
-  classes = λ class lacks. subst (λ (r : Room). get_or r.classes class false ≡ false) old (before class (subst (λ (r : Room). get_or r.classes class false ≡ false) (sym new) lacks));
-  segment = λ lacks. subst (λ (r : Room). r.segment ≡ false) old (segment_lacks_of spans (kept.orders 5 (segment_lacks_tells spans' (subst (λ (r : Room). r.segment ≡ false) (sym new) lacks))));
-}
-  where
-    before : (class : ℕ) → get_or (answers 37 0 (gives_class spans' pools')) class false ≡ false → get_or (answers 37 0 (gives_class spans pools)) class false ≡ false
-    before class lacks = elim (lt_or_ge class 37) [
-      | inl l ↦ class_lacks_of spans pools class l (kept.classes class (class_lacks_tells spans' pools' class l objects lacks))
-      | inr g ↦ get_or_past (answers 37 0 (gives_class spans pools)) class false (let len = answers_len 37 0 (gives_class spans pools) in omega (arith, len, g))
-    ]
+pub room_kept : (old new : Room) → pool.KeepsRoom old.pools new.pools old.spans new.spans → KeepsRoom old new
+unfolding LacksClass LacksSegment
+room_kept old new kept = record { classes = kept.classes; segment = kept.orders 5 }
 
 -- an object that comes back takes nothing away
 pub kept_by_put : (spans : Layout) (pools pools' : Objects) (at : ℕ) → pools'.allocated ≡ map.remove pools.allocated at → pools'.held ≡ pools.held → pool.KeepsRoom pools pools' spans spans
@@ -139,11 +123,12 @@ slot_of pools p objects b =
     }
 
 -- a block of the same size can be given again
-pub room_of_block : (spans : Layout) (pools pools' : Objects) (p : Extent) (s : Room) → AreObjects pools → IsBlockAt pools p → AreObjects pools' → pools'.allocated ≡ map.remove pools.allocated p.start → pools'.held ≡ pools.held
-    → room_of spans pools' ≡ s → ¬ LacksBlock s p.len
-room_of_block spans pools pools' p s objects block objects' e same room lacks =
+pub room_of_block : (spans : Layout) (pools pools' : Objects) (p : Extent) → AreObjects pools → IsBlockAt pools p → pools'.allocated ≡ map.remove pools.allocated p.start
+    → pools'.held ≡ pools.held → ¬ LacksBlock (record { spans = spans; pools = pools' }) p.len
+unfolding LacksBlock LacksClass
+room_of_block spans pools pools' p objects block e same lacks =
     let o = slot_of pools p objects block in
-    let none = class_lacks_tells spans pools' o.class o.least.within objects' (subst (λ (r : Room). get_or r.classes o.class false ≡ false) (sym room) (lacks o.class o.least)) in
+    let none = lacks o.class o.least in
     some_or_none (none.0 o.first o.slot (ap (λ m. map.get m o.first) same ∙ o.held) o.in_slot)
     (ap (λ m. map.get m (slot_place o.first o.class o.slot)) e ∙ get_removed pools.allocated p.start (slot_place o.first o.class o.slot) (sym o.at))
 
@@ -184,15 +169,15 @@ least_class size h = elim (least_below 37 size (omega arith)) [
 ]
 
 -- where a span of a segment's order is free, so is one for each class
-pub all_room : (spans : Layout) (pools : Objects) (s : Room) → AreObjects pools → ((order : ℕ) → HasNone spans order → 5 < order) → room_of spans pools ≡ s → HasAllRoom s
-all_room spans pools s objects orders room = record {
+pub all_room : (room : Room) → ((order : ℕ) → HasNone room.spans order → 5 < order) → HasAllRoom room
+unfolding LacksBlock LacksClass LacksSegment
+all_room room orders = record {
   blocks = λ size small lacks.
       (let c = least_class size small in
-      let none = class_lacks_tells spans pools c.0 c.1.within objects (subst (λ (r : Room). get_or r.classes c.0 false ≡ false) (sym room) (lacks c.0 c.1)) in
-      let past = orders (order_of c.0) none.1 in
+      let past = orders (order_of c.0) (lacks c.0 c.1).1 in
       let few = order_few c.0 in
       absurd (omega (arith, past, few)));
-  segment = λ lacks. absurd (let past = orders 5 (segment_lacks_tells spans (subst (λ (r : Room). r.segment ≡ false) (sym room) lacks)) in omega (arith, past));
+  segment = λ lacks. absurd (let past = orders 5 lacks in omega (arith, past));
 }
 
 -- at the start a long span is free

@@ -124,7 +124,7 @@ SetsAside old new size at = (class : ℕ) × IsLeastClass size class × (new ≡
 abbrev pub TakesPages : ℕ → ℕ → ℕ → Type 0
 TakesPages old new size = (new ≡ old) ⊎ ((class : ℕ) × IsLeastClass size class × (new ≡ old + 2 ^ order_of class))
 
--- so many lent blocks came home, and are free; where one was out, the list was taken once, and else it was left alone
+-- so many lent blocks came home, and are free; where one was out, the list was taken once, and else it was left alone; no span moved
 pub record ComeBack (old new : MemoryState) (count : ℕ) : Type 0 where
   pub idle : BecomeIdle old.lent new.lent
   pub out : tickets_out new.lent + count ≡ tickets_out old.lent
@@ -132,4 +132,6 @@ pub record ComeBack (old new : MemoryState) (count : ℕ) : Type 0 where
   pub take_wholes : 0 < tickets_out old.lent → new.take_wholes ≡ suc old.take_wholes
   pub not_taken : tickets_out old.lent ≡ 0 → new.take_wholes ≡ old.take_wholes
   pub room : KeepsRoom old.room new.room
+  pub spans : new.room.spans ≡ old.room.spans
+  pub held : new.room.pools.held ≡ old.room.pools.held
   pub same : new ≡ record old { lent = new.lent; backs = new.backs; take_wholes = new.take_wholes; objects = new.objects; room = new.room }

@@ -1,5 +1,4 @@
 -- Words that only the private parts cite.
 pub mod Pieces
 pub mod Parts
-pub mod Rooms
 pub mod Lending

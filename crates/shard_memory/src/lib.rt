@@ -9,10 +9,12 @@
 #![tactic(auto)]
 
 pub use give_refusal::GiveRefusal;
+pub use law::segments_fill_the_pages;
 pub use memory::ShardMemory;
 pub use share::Share;
 
 mod give_refusal;
+mod law;
 mod memory;
 mod piece_allocator;
 mod share;

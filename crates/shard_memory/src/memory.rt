@@ -1,12 +1,25 @@
 //! Blocks and segments of one shard, and the blocks that it lends.
-ghost use Rattle.std.specs.Prelude.{◌≡◌, ℕ, ◌+◌, ◌*◌, ◌%◌, ◌^◌, ◌<◌, ◌≤◌, ◌↔◌, [], ◌∷◌, suc, cond, false, length, replicate, IfOk, IfErr, IfSome, IfNone, IsNone, IsTrue, All, Some, slice_set};
+ghost use Rattle.std.specs.Prelude.{◌≡◌, ℕ, ◌+◌, ◌*◌, ◌/◌, ◌%◌, ◌^◌, ◌<◌, ◌≤◌, ◌↔◌, [], ◌∷◌, suc, cond, false, length, replicate, IfOk, IfErr, IfSome, IfNone, IsNone, IsTrue, All, Some, slice_set};
 ghost use Rattle.std.specs.FinMap as map;
 ghost use Rattle.layout.specs.Extents.{Blocks};
 ghost use Rattle.layout.specs.Sizes.{page, segment, segment_pages, tickets, greatest_block, ArePages};
 ghost use Rattle.raw_range.specs.Memory.{Lent, extent_of, remove_extent};
 ghost use Rattle.foreign_list.specs.OwnerSeats.{IsSeatOf, IsAtRest};
 ghost use Rattle.foreign_list.specs.Blocks.{piece_id_of, IsFresh};
-ghost use Rattle.shard_memory.specs.Room.{LacksBlock, LacksSegment, IsTrimmed, KeepsRoom, HasAllRoom};
+ghost use Rattle.span_lists.specs.Layout.{allocated_pages};
+ghost use Rattle.small_pools.specs.Objects.{Trims};
+ghost use Rattle.shard_memory.specs.Room.{
+  LacksBlock,
+  LacksSegment,
+  IsAllFree,
+  IsRoomOf,
+  IsTrimmed,
+  KeepsRoom,
+  HasAllRoom,
+  PutsObject,
+  TakesSegment,
+  PutsSegment,
+};
 ghost use Rattle.layout.specs.Counts.{raised};
 ghost use Rattle.shard_memory.specs.Tickets.{first_ticket, end_ticket, HasIdle, IsLeastIdle, tickets_out};
 ghost use Rattle.shard_memory.specs.Shards.{
@@ -105,6 +118,7 @@ impl<'f> ShardMemory<'f> {
             (memory.take_wholes ≡ seat.take_wholes)) }
         ensures room { IfOk result (λ memory. HasAllRoom memory.room) }
         ensures trimmed { IfOk result (λ memory. IsTrimmed memory.room) }
+        ensures free { IfOk result (λ memory. IsAllFree pages memory.room) }
     {
         seat.facts();
         match PieceAllocator::open(alloc, shard, pages) {
@@ -142,6 +156,10 @@ impl<'f> ShardMemory<'f> {
             → self.now.pages_out ≤ segment_pages * length self.now.segments + longest_span *
             (length self.now.blocks + tickets_out self.now.lent) }
         ensures crowded { IsTrimmed self.now.room → LacksSegment self.now.room → IsCrowded self.now }
+        // What can still be given, and what of it is counted.
+        ensures room { IsRoomOf self.now.pages self.now.room }
+        ensures shown { (self.now.objects ≡ self.now.room.pools.allocated) ×
+            (self.now.pages_out ≡ allocated_pages self.now.room.spans) }
     {
         self.own.facts();
     }
@@ -195,7 +213,7 @@ impl<'f> ShardMemory<'f> {
         ensures blocks { self.new.blocks ≡ remove_extent (extent_of piece) self.old.blocks }
         ensures one_less { length self.new.blocks + 1 ≡ length self.old.blocks }
         ensures objects { self.new.objects ≡ map.remove self.old.objects piece.at }
-        ensures segment { self.new.room.segment ≡ self.old.room.segment }
+        ensures freed { PutsObject self.old.room self.new.room piece.at }
         ensures kept { KeepsRoom self.old.room self.new.room }
         ensures room { ¬ LacksBlock self.new.room (length piece.bytes) }
         ensures same { self.new ≡ record self.old { blocks = self.new.blocks; objects = self.new.objects; room = self.new.room } }
@@ -208,6 +226,7 @@ impl<'f> ShardMemory<'f> {
         ensures trimmed { IsTrimmed self.new.room }
         ensures unchanged { IsTrimmed self.old.room → self.new ≡ self.old }
         ensures pages_out { self.new.pages_out ≤ self.old.pages_out }
+        ensures trims { Trims self.old.room.pools self.new.room.pools self.old.room.spans self.new.room.spans }
         ensures kept { KeepsRoom self.old.room self.new.room }
         ensures same { self.new ≡ record self.old { pages_out = self.new.pages_out; room = self.new.room } }
     {
@@ -226,7 +245,7 @@ impl<'f> ShardMemory<'f> {
         ensures segments { IfSome result (λ piece. self.new.segments ≡ extent_of piece ∷ self.old.segments) }
         ensures one_more { IfSome result (λ _. length self.new.segments ≡ length self.old.segments + 1) }
         ensures pages_out { IfSome result (λ _. self.new.pages_out ≡ self.old.pages_out + segment_pages) }
-        ensures trimmed { self.new.room.trimmed ≡ self.old.room.trimmed }
+        ensures taken { IfSome result (λ piece. TakesSegment self.old.room self.new.room (piece.at / page)) }
         ensures same { self.new ≡ record self.old { segments = self.new.segments; pages_out = self.new.pages_out; room = self.new.room } }
     {
         self.own.give_segment()
@@ -238,8 +257,8 @@ impl<'f> ShardMemory<'f> {
         ensures segments { self.new.segments ≡ remove_extent (extent_of piece) self.old.segments }
         ensures one_less { length self.new.segments + 1 ≡ length self.old.segments }
         ensures pages_out { self.new.pages_out + segment_pages ≡ self.old.pages_out }
+        ensures freed { PutsSegment self.old.room self.new.room (piece.at / page) }
         ensures room { HasAllRoom self.new.room }
-        ensures trimmed { self.new.room.trimmed ≡ self.old.room.trimmed }
         ensures same { self.new ≡ record self.old { segments = self.new.segments; pages_out = self.new.pages_out; room = self.new.room } }
     {
         self.own.put_segment(piece);

@@ -27,10 +27,22 @@ ghost use Rattle.std.specs.FinMap as map;
 ghost use Rattle.layout.specs.Extents.{Extent, extent, Disjoint, AreDisjoint, Blocks};
 ghost use Rattle.layout.specs.Sizes.{page, segment, segment_pages, segment_order, most_pages, most_pieces, greatest_block, ArePages};
 ghost use Rattle.raw_range.specs.Memory.{Lent, extent_of, with_allocated, remove_extent};
-ghost use Rattle.span_lists.specs.Layout.{IsAllocated, Divides, IsCoalesced, HasNone};
+ghost use Rattle.span_lists.specs.Layout.{allocated_pages, CoalescesInto, IsAllocated, Divides, IsCoalesced, HasNone};
 ghost use Rattle.small_pools.specs.Classes.{IsClass, IsLeastClass, size_of};
-ghost use Rattle.small_pools.specs.Objects.{AreObjects};
-ghost use Rattle.shard_memory.specs.Room.{LacksBlock, LacksSegment, IsTrimmed, KeepsRoom, HasAllRoom};
+ghost use Rattle.small_pools.specs.Objects.{AreObjects, Trims};
+ghost use Rattle.shard_memory.specs.Room.{
+  LacksBlock,
+  LacksSegment,
+  IsAllFree,
+  IsRoomOf,
+  IsTrimmed,
+  KeepsRoom,
+  HasAllRoom,
+  TakesObject,
+  PutsObject,
+  TakesSegment,
+  PutsSegment,
+};
 ghost use Rattle.shard_memory.specs.Shards.{IsOneOf, FillPages, SetsAside, TakesPages, longest_span};
 ghost use Rattle.shard_memory.specs.Refusals.{RefusesHere};
 ghost use Rattle.shard_memory.specs.inside.Pieces.{most_out};
@@ -58,7 +70,6 @@ impl Model for PieceAllocator {
     ghost use Rattle.span_lists.specs.Layout.{allocated_pages};
     ghost use Rattle.shard_memory.specs.inside.Pieces.{Pieces, pieces_code};
     ghost use Rattle.shard_memory.specs.inside.Parts.{blocks_of, segments_of, IsConsistent};
-    ghost use Rattle.shard_memory.specs.inside.Rooms.{room_of};
 
     ghost Value = { Pieces };
 
@@ -72,7 +83,7 @@ impl Model for PieceAllocator {
       objects = a.pools.allocated;
       segments = segments_of a.range.allocated;
       pages_out = allocated_pages a.spans;
-      room = room_of a.spans a.pools;
+      room = record { spans = a.spans; pools = a.pools };
     } };
 
     ghost invariant = { λ a. (a.pages ≡ a.range.pages) × IsConsistent a.range.pages a.range.allocated a.spans a.pools };
@@ -88,6 +99,7 @@ impl PieceAllocator {
         ensures pages_out { IfOk result (λ own. own.pages_out ≡ 0) }
         ensures room { IfOk result (λ own. HasAllRoom own.room) }
         ensures trimmed { IfOk result (λ own. IsTrimmed own.room) }
+        ensures free { IfOk result (λ own. IsAllFree pages own.room) }
     {
         let spans = Spans::new(alloc, pages)?;
         let pools = Pools::new(alloc, pages)?;
@@ -124,6 +136,11 @@ impl PieceAllocator {
             → self.now.pages_out ≤ segment_pages * length self.now.segments + longest_span * length self.now.blocks }
         ensures crowded { IsTrimmed self.now.room → LacksSegment self.now.room
             → FillPages self.now.pages (length self.now.segments) (length self.now.blocks) }
+
+        // Spans and pools, and what is counted of them.
+        ensures room { IsRoomOf self.now.pages self.now.room }
+        ensures shown { (self.now.objects ≡ self.now.room.pools.allocated) ×
+            (self.now.pages_out ≡ allocated_pages self.now.room.spans) }
     {
         self.spans.facts();
     }
@@ -151,6 +168,7 @@ impl PieceAllocator {
         // What pages and pools gave for it.
         ensures least { IfOk result (λ piece. SetsAside self.old.objects self.new.objects size piece.at) }
         ensures pages_out { IfOk result (λ _. TakesPages self.old.pages_out self.new.pages_out size) }
+        ensures taken { IfOk result (λ piece. TakesObject self.old.room self.new.room size piece.at) }
 
         // What stands as before.
         ensures segments { self.new.segments ≡ self.old.segments }
@@ -177,9 +195,10 @@ impl PieceAllocator {
 
         // The pages are given as before.
         ensures segments { self.new.segments ≡ self.old.segments }
-        ensures spans { (self.new.pages_out ≡ self.old.pages_out) × (self.new.room.segment ≡ self.old.room.segment) }
+        ensures pages_out { self.new.pages_out ≡ self.old.pages_out }
 
         // What can be given again.
+        ensures freed { PutsObject self.old.room self.new.room piece.at }
         ensures kept { KeepsRoom self.old.room self.new.room }
         ensures room { ¬ LacksBlock self.new.room (length piece.bytes) }
 
@@ -194,6 +213,7 @@ impl PieceAllocator {
         ensures trimmed { IsTrimmed self.new.room }
         ensures unchanged { IsTrimmed self.old.room → self.new ≡ self.old }
         ensures pages_out { self.new.pages_out ≤ self.old.pages_out }
+        ensures trims { Trims self.old.room.pools self.new.room.pools self.old.room.spans self.new.room.spans }
         ensures kept { KeepsRoom self.old.room self.new.room }
         ensures same { self.new ≡ record self.old { pages_out = self.new.pages_out; room = self.new.room } }
     {
@@ -217,7 +237,7 @@ impl PieceAllocator {
         ensures one_more { IfSome result (λ _. length self.new.segments ≡ length self.old.segments + 1) }
         ensures blocks { (self.new.blocks ≡ self.old.blocks) × (self.new.objects ≡ self.old.objects) }
         ensures pages_out { IfSome result (λ _. self.new.pages_out ≡ self.old.pages_out + segment_pages) }
-        ensures trimmed { self.new.room.trimmed ≡ self.old.room.trimmed }
+        ensures taken { IfSome result (λ piece. TakesSegment self.old.room self.new.room (piece.at / page)) }
 
         // Nothing else has changed.
         ensures same { (self.new.home ≡ self.old.home) × (self.new.owner ≡ self.old.owner) × (self.new.pages ≡ self.old.pages) }
@@ -238,8 +258,8 @@ impl PieceAllocator {
         ensures pages_out { self.new.pages_out + segment_pages ≡ self.old.pages_out }
 
         // What can be given again.
+        ensures freed { PutsSegment self.old.room self.new.room (piece.at / page) }
         ensures room { HasAllRoom self.new.room }
-        ensures trimmed { self.new.room.trimmed ≡ self.old.room.trimmed }
 
         // Nothing else has changed.
         ensures same { (self.new.home ≡ self.old.home) × (self.new.owner ≡ self.old.owner) × (self.new.pages ≡ self.old.pages) }
@@ -309,6 +329,7 @@ fn put_span(spans: &mut Spans, given: &Piece)
     requires { IsAllocated spans.old (given.now.at / page) segment_order }
     ensures allocated { spans.new.allocated ≡ map.remove spans.old.allocated (given.now.at / page) }
     ensures orders { (order : ℕ) → HasNone spans.new order → segment_order < order }
+    ensures free { CoalescesInto spans.old spans.new (given.now.at / page) segment_order }
     ensures pages { spans.new.pages ≡ spans.old.pages }
     ensures divided { Divides spans.new }
     ensures coalesced { IsCoalesced spans.new }

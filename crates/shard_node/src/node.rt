@@ -42,9 +42,13 @@ pub struct Node<'f, L: Drop, G: Drop> {
 }
 
 impl<'f, L: Drop, G: Drop> Model for Node<'f, L, G> {
+    ghost use Rattle.std.specs.Coded.{codes};
+    ghost use Rattle.shard_memory.specs.Room.{room_code};
     ghost use Rattle.shard_node.specs.Nodes.{NodeState};
 
     ghost Value = { NodeState L G };
+
+    ghost coded = { Prim.hlevel (codes, room_code, L.code, G.code) };
 
     ghost use Rattle.shard_node.specs.inside.Shards.{node_state};
     ghost use Rattle.shard_node.specs.inside.Nodes.{IsConsistentNode};

@@ -47,6 +47,8 @@ pub record ArePutBack (old new : Tickets) (own_old own_new : Pieces) (count : �
   pub out : tickets_out new + count ≡ tickets_out old
   pub blocks : staying new own_new.blocks ≡ staying old own_old.blocks
   pub room : KeepsRoom own_old.room own_new.room
+  pub spans : own_new.room.spans ≡ own_old.room.spans
+  pub held : own_new.room.pools.held ≡ own_old.room.pools.held
   pub segments : own_new.segments ≡ own_old.segments
   pub pages_out : own_new.pages_out ≡ own_old.pages_out
   pub same : (own_new.home ≡ own_old.home) × (own_new.owner ≡ own_old.owner) × (own_new.pages ≡ own_old.pages)

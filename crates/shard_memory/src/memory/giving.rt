@@ -4,7 +4,7 @@ ghost use Rattle.layout.specs.Counts.{raised};
 ghost use Rattle.layout.specs.Sizes.{greatest_block, tickets};
 ghost use Rattle.raw_range.specs.Memory.{extent_of};
 ghost use Rattle.foreign_list.specs.Blocks.{piece_id_of, IsFresh};
-ghost use Rattle.shard_memory.specs.Room.{LacksBlock, IsTrimmed};
+ghost use Rattle.shard_memory.specs.Room.{LacksBlock, IsTrimmed, TakesObject};
 ghost use Rattle.shard_memory.specs.Tickets.{first_ticket, end_ticket, HasIdle, IsLeastIdle, tickets_out};
 ghost use Rattle.shard_memory.specs.Shards.{most_blocks, IsBlockOf, IsCrowded, SetsAside, TakesPages};
 ghost use Rattle.shard_memory.specs.Refusals.{RefusesFor, RefusesHere};
@@ -39,6 +39,7 @@ impl<'f> ShardMemory<'f> {
         ensures out { IfOk result (λ _. tickets_out self.new.lent ≡ tickets_out self.old.lent + 1) }
         ensures least { IfOk result (λ block. SetsAside self.old.objects self.new.objects size block.piece.at) }
         ensures pages_out { IfOk result (λ _. TakesPages self.old.pages_out self.new.pages_out size) }
+        ensures taken { IfOk result (λ block. TakesObject self.old.room self.new.room size block.piece.at) }
         ensures trimmed { IsTrimmed self.old.room → IsTrimmed self.new.room }
         ensures same { self.new ≡ record self.old {
           lent = self.new.lent;
@@ -79,6 +80,7 @@ impl<'f> ShardMemory<'f> {
         ensures out { IfOk result (λ _. tickets_out self.new.lent ≡ tickets_out self.old.lent + 1) }
         ensures least { IfOk result (λ block. SetsAside self.old.objects self.new.objects size block.piece.at) }
         ensures pages_out { IfOk result (λ _. TakesPages self.old.pages_out self.new.pages_out size) }
+        ensures taken { IfOk result (λ block. TakesObject self.old.room self.new.room size block.piece.at) }
         ensures trimmed { IsTrimmed self.old.room → IsTrimmed self.new.room }
         ensures same { self.new ≡ record self.old {
           lent = self.new.lent;
@@ -117,6 +119,7 @@ impl<'f> ShardMemory<'f> {
         ensures blocks { IfOk result (λ piece. self.new.blocks ≡ extent_of piece ∷ self.old.blocks) }
         ensures least { IfOk result (λ piece. SetsAside self.old.objects self.new.objects size piece.at) }
         ensures pages_out { IfOk result (λ _. TakesPages self.old.pages_out self.new.pages_out size) }
+        ensures taken { IfOk result (λ piece. TakesObject self.old.room self.new.room size piece.at) }
         ensures trimmed { IsTrimmed self.old.room → IsTrimmed self.new.room }
         ensures same { self.new ≡ record self.old {
           blocks = self.new.blocks;

@@ -22,3 +22,6 @@ returns-then-not-free_second-clause-pressed c full =
     let same = c.facts-then-not-free_second.ensures.live in
     put-pressed c.args.memory.now.owner c.args.memory.now.pages 0 c.args.memory.now c.free_second.new.memory region (live rows) e.consistent.made e.taken (f.crowded refl) c.facts.ensures.tickets
     (subst (λ (k : ℕ). (held_count region - 1) * (dense + 1) ≤ k) (sym same) most)
+
+pub returns-clause-consistent : goal.returns-clause-consistent
+returns-clause-consistent c = let m = c.args.memory.now in c.begin_next.ensures.consistent m.owner m.pages 0 c.free_second.new.memory c.free_second.ensures.consistent

@@ -1,6 +1,7 @@
 use Rattle.std.proofs.Common.{◌≡◌, ◌+◌, sym, ap, ◌∙◌, subst}
 use Rattle.regions.specs.Segments.{RegionState}
 use Rattle.regions.specs.Shapes.{held_count}
+use Rattle.shard_memory.specs.Room.{IsTrimmed}
 use Rattle.shard_memory.specs.Shards.{MemoryState}
 use Rattle.reclaim.specs.inside.Consistent.{IsMadeOf}
 use Rattle.reclaim.proofs.Holding.{holds-more}
@@ -21,3 +22,7 @@ returns-clause-made c =
       holds = holds-more old new c.in-Some.piece (g.mine.0, home) c.facts.ensures.apart g.segments region added.0 m.holds held;
       guards = m.guards;
     })
+
+pub returns-clause-trimmed : goal.returns-clause-trimmed
+unfolding IsTrimmed
+returns-clause-trimmed c = λ trimmed. rw c.in-Some.ensures.taken.pools trimmed

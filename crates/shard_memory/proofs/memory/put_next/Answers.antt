@@ -36,7 +36,9 @@ returns-clause-put_back c =
       blocks = ap (λ (xs : Tickets). staying xs c.put_block.new.self.blocks) lent ∙ ap (staying (set c.args.seat.now.lent c.in-Some.back.ticket None)) c.put_block.ensures.blocks
           ∙ staying_still c.args.seat.now.lent c.in-Some.back.ticket (piece_id_of c.in-Some.back.piece) c.args.own.now.blocks lends;
       room = c.put_block.ensures.kept;
+      spans = c.put_block.ensures.freed.spans;
+      held = c.put_block.ensures.freed.held;
       segments = c.put_block.ensures.segments;
-      pages_out = c.put_block.ensures.spans.0;
+      pages_out = c.put_block.ensures.pages_out;
       same = c.put_block.ensures.same;
     }

@@ -2,6 +2,7 @@ use Rattle.std.proofs.Common.{◌+◌, ◌*◌, List, length, sym, ap, subst, �
 use Rattle.layout.specs.Sizes.{page}
 use Rattle.layout.specs.Extents.{Extent}
 use Rattle.raw_range.specs.Memory.{extent_of, remove_extent}
+use Rattle.shard_memory.specs.Room.{PutsObject}
 use Rattle.shard_memory.specs.Shards.{MemoryState, IsBlockOf}
 use Rattle.shard_memory.specs.inside.Lending.{staying}
 use Rattle.shard_memory.proofs.Lending.{less_staying, staying_block, one_less, back_one, same_lent}
@@ -36,3 +37,6 @@ returns-clause-one_less c =
     let r = subst (λ (s : MemoryState). IsBlockOf s c.args.piece) (sym c.self.view_is) c.requires in
     ap (λ (xs : List Extent). length (staying c.self.inside.seat.lent xs) + 1) c.put_block.ensures.blocks
     ∙ one_less c.self.inside.seat.lent (page * c.self.inside.own.pages) (extent_of c.args.piece) c.self.inside.own.blocks c.put_block.ensures.disjoint r.1 ∙ ap (λ (s : MemoryState). length s.blocks) c.self.view_is
+
+pub returns-clause-freed : goal.returns-clause-freed
+returns-clause-freed c = subst (λ (s : MemoryState). PutsObject s.room c.put_block.new.self.room c.args.piece.at) c.self.view_is c.put_block.ensures.freed

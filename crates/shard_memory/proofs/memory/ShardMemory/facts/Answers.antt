@@ -1,10 +1,13 @@
-use Rattle.std.proofs.Common.{◌*◌, inl, inr, subst}
+use Rattle.std.proofs.Common.{◌≡◌, ◌+◌, ◌*◌, ◌≤◌, length, inl, inr, subst}
 use Rattle.std.specs.Prelude.{Contains}
 use Rattle.std.proofs.lemmas.List.Elements.{All-contains}
-use Rattle.layout.specs.Sizes.{page}
+use Rattle.layout.specs.Sizes.{page, segment_pages}
 use Rattle.layout.specs.Extents.{extent, IsWithin}
 use Rattle.raw_range.specs.Memory.{Lent, extent_of}
-use Rattle.shard_memory.specs.Shards.{MemoryState, AreApart, HaveObjects, IsBlockOf, IsSegmentOf, lent_extent}
+use Rattle.span_lists.specs.Layout.{allocated_pages}
+use Rattle.shard_memory.specs.Room.{IsRoomOf, IsTrimmed, LacksSegment}
+use Rattle.shard_memory.specs.Shards.{MemoryState, AreApart, FillPages, HaveObjects, IsBlockOf, IsCrowded, IsSegmentOf, lent_extent, longest_span}
+use Rattle.shard_memory.specs.Tickets.{tickets_out}
 use Rattle.shard_memory.proofs.Lists.{disjoint_still}
 use Rattle.shard_memory.proofs.Lending.{stays, staying_block, apart_from_lent, lent_apart, block_of_either}
 use Rattle.shard_memory.proofs.memory.ShardMemory.facts.Goals as goal
@@ -44,3 +47,23 @@ returns-clause-of_blocks c =
       ]);
       objects = λ at size is. (let found = c.facts.ensures.of_objects at size is in (found.0, block_of_either lent own.home own.owner (page * own.pages) own.blocks (extent at found.0) was c.facts.ensures.blocks found.1));
     }
+
+-- lent blocks and those that stay are all that are out
+
+pub returns-clause-trimmed : goal.returns-clause-trimmed
+returns-clause-trimmed c =
+    let own = c.self.inside.own in
+    subst (λ (s : MemoryState). IsTrimmed s.room → s.pages_out ≤ segment_pages * length s.segments + longest_span * (length s.blocks + tickets_out s.lent)) c.self.view_is
+    (λ trimmed. subst (λ n. own.pages_out ≤ segment_pages * length own.segments + longest_span * n) c.self.invariant.lent.out (c.facts.ensures.trimmed trimmed))
+
+pub returns-clause-crowded : goal.returns-clause-crowded
+returns-clause-crowded c =
+    let own = c.self.inside.own in
+    subst (λ (s : MemoryState). IsTrimmed s.room → LacksSegment s.room → IsCrowded s) c.self.view_is
+    (λ trimmed lacks. subst (λ n. FillPages own.pages (length own.segments) n) c.self.invariant.lent.out (c.facts.ensures.crowded trimmed lacks))
+
+pub returns-clause-room : goal.returns-clause-room
+returns-clause-room c = subst (λ (s : MemoryState). IsRoomOf s.pages s.room) c.self.view_is c.facts.ensures.room
+
+pub returns-clause-shown : goal.returns-clause-shown
+returns-clause-shown c = subst (λ (s : MemoryState). (s.objects ≡ s.room.pools.allocated) × (s.pages_out ≡ allocated_pages s.room.spans)) c.self.view_is c.facts.ensures.shown

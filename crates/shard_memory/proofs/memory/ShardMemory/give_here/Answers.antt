@@ -1,9 +1,10 @@
-use Rattle.std.proofs.Common.{◌≡◌, ◌*◌, ◌<◌, List, ◌∷◌, length, sym, ap, subst, ◌∙◌}
+use Rattle.std.proofs.Common.{◌≡◌, ◌*◌, ◌<◌, ◌≤◌, List, ◌∷◌, length, sym, ap, subst, ◌∙◌}
 use Rattle.std.specs.Prelude.{Contains}
 use Rattle.std.proofs.lemmas.List.{length-replicate}
-use Rattle.layout.specs.Sizes.{page}
+use Rattle.layout.specs.Sizes.{page, greatest_block}
 use Rattle.layout.specs.Extents.{Extent, extent, AreDisjoint}
 use Rattle.raw_range.specs.Memory.{Lent, extent_of}
+use Rattle.shard_memory.specs.Room.{IsTrimmed, LacksBlock, TakesObject}
 use Rattle.shard_memory.specs.Shards.{MemoryState}
 use Rattle.shard_memory.specs.inside.Lending.{staying}
 use Rattle.shard_memory.proofs.Lists.{has_first}
@@ -48,3 +49,15 @@ returns-clause-given c = (
   subst (λ (bs : List Extent). Contains bs (extent_of c.cleared.result)) (sym (stays (goal.at.returns-clause-given c).After-cleared))
       (has_first (extent_of c.cleared.result) (staying c.self.inside.seat.lent c.self.inside.own.blocks)),
 )
+
+pub returns-clause-room : goal.returns-clause-room
+returns-clause-room c = subst (λ (s : MemoryState). (c.args.size ≤ greatest_block) × ¬ LacksBlock s.room c.args.size) c.self.view_is c.in_ok-piece.ensures.room
+
+pub returns-clause-taken : goal.returns-clause-taken
+returns-clause-taken c =
+    let new = c.give_block.new.self.room in
+    subst (λ (s : MemoryState). TakesObject s.room new c.args.size c.cleared.result.at) c.self.view_is
+    (subst (TakesObject c.self.inside.own.room new c.args.size) (sym (ap (λ (l : Lent). l.at) c.cleared.ensures)) c.in_ok-piece.ensures.taken)
+
+pub returns-clause-trimmed : goal.returns-clause-trimmed
+returns-clause-trimmed c = subst (λ (s : MemoryState). IsTrimmed s.room → IsTrimmed c.give_block.new.self.room) c.self.view_is c.in_ok-piece.ensures.trimmed

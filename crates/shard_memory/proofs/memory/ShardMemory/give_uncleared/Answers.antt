@@ -1,9 +1,11 @@
-use Rattle.std.proofs.Common.{◌≡◌, ◌+◌, ◌-◌, ◌*◌, ◌^◌, List, set, min, Some, None, sym, ap, subst, ◌∙◌, arith}
-use Rattle.layout.specs.Sizes.{page}
+use Rattle.std.proofs.Common.{◌≡◌, ◌+◌, ◌-◌, ◌*◌, ◌^◌, ◌≤◌, List, set, min, Some, None, sym, ap, subst, ◌∙◌, arith}
+use Rattle.layout.specs.Sizes.{page, greatest_block}
 use Rattle.layout.specs.Extents.{Extent, AreDisjoint}
+use Rattle.raw_range.specs.Memory.{Lent}
 use Rattle.foreign_list.specs.OwnerSeats.{OwnerState}
 use Rattle.foreign_list.specs.Blocks.{piece_id_of}
 use Rattle.shard_memory.specs.Tickets.{Tickets, tickets_out}
+use Rattle.shard_memory.specs.Room.{IsTrimmed, LacksBlock, TakesObject}
 use Rattle.shard_memory.specs.Shards.{MemoryState}
 use Rattle.shard_memory.specs.inside.Lending.{AreLent, staying}
 use Rattle.shard_memory.proofs.Tickets.{fewer_out, out_set}
@@ -78,3 +80,15 @@ returns-clause-same c =
       backs = ap (λ (s : MemoryState). s.backs) was i;
       take_wholes = (wholes ∙ ap (λ (s : MemoryState). s.take_wholes) was) i;
     }
+
+pub returns-clause-room : goal.returns-clause-room
+returns-clause-room c = subst (λ (s : MemoryState). (c.args.size ≤ greatest_block) × ¬ LacksBlock s.room c.args.size) c.self.view_is c.in_ok-piece.ensures.room
+
+pub returns-clause-taken : goal.returns-clause-taken
+returns-clause-taken c =
+    let new = c.give_block.new.self.room in
+    subst (λ (s : MemoryState). TakesObject s.room new c.args.size c.lend.result.piece.at) c.self.view_is
+    (subst (TakesObject c.self.inside.own.room new c.args.size) (sym (ap (λ (l : Lent). l.at) c.lend.ensures.block.piece_is)) c.in_ok-piece.ensures.taken)
+
+pub returns-clause-trimmed : goal.returns-clause-trimmed
+returns-clause-trimmed c = subst (λ (s : MemoryState). IsTrimmed s.room → IsTrimmed c.give_block.new.self.room) c.self.view_is c.in_ok-piece.ensures.trimmed

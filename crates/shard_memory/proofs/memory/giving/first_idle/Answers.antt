@@ -1,4 +1,4 @@
-use Rattle.std.proofs.Common.{◌≡◌, ℕ, ◌<◌, ◌≤◌, Option, Some, None, IfSome, IfNone, slice_get, subst, sym}
+use Rattle.std.proofs.Common.{◌≡◌, ℕ, ◌<◌, ◌≤◌, Option, Some, None, IfSome, IfNone, subst, sym}
 use Rattle.shard_memory.specs.Tickets.{Tickets, HasIdle, IsLeastIdle, IsIdle, first_ticket, end_ticket}
 use Rattle.shard_memory.specs.declared.share.Share.{Share}
 use Rattle.shard_memory.proofs.memory.giving.first_idle.Goals as goal

@@ -1,19 +1,19 @@
-use Rattle.std.proofs.Common.{◌≡◌, ℕ, Some, ◌+◌, ◌*◌, ◌/◌, ◌≤◌, length, subst, sym, ◌∙◌, arith}
+use Rattle.std.proofs.Common.{◌≡◌, ℕ, Some, ◌+◌, ◌*◌, ◌/◌, ◌≤◌, length, refl, subst, sym, ◌∙◌, arith}
 use Rattle.std.specs.Prelude.{Contains}
 use Rattle.std.specs.FinMap as map
 use Rattle.layout.specs.Sizes.{page}
 use Rattle.layout.specs.Extents.{Extent, extent, Disjoint, AreDisjoint, Blocks}
 use Rattle.raw_range.specs.Memory.{Lent, extent_of}
 use Rattle.shard_memory.specs.Shards.{IsOneOf, FillPages}
-use Rattle.shard_memory.specs.Room.{LacksSegment, IsTrimmed}
+use Rattle.shard_memory.specs.Room.{IsRoomOf, LacksSegment, IsTrimmed}
 use Rattle.shard_memory.specs.inside.Pieces.{Pieces}
 use Rattle.shard_memory.specs.inside.Parts.{is_block, is_segment}
 use Rattle.shard_memory.proofs.Counts.{pieces_enough}
+use Rattle.span_lists.specs.Layout.{allocated_pages}
 use Rattle.small_pools.specs.Classes.{size_of, IsLeastClass}
 use Rattle.shard_memory.proofs.Steps.{block_facts, block_object, block_of_object}
 use Rattle.shard_memory.proofs.Lists.{few_segments, disjoint_still, block_segment_apart, not_both}
 use Rattle.shard_memory.proofs.PagesOut.{segments_pages, pages_at_most}
-use Rattle.shard_memory.proofs.Rooms.{trimmed_tells, segment_lacks_tells}
 use Rattle.shard_memory.proofs.piece_allocator.PieceAllocator.facts.Goals as goal
 
 pub returns-clause-blocks : goal.returns-clause-blocks
@@ -49,10 +49,11 @@ returns-clause-least c =
     omega (arith, few, whole))
 
 pub returns-clause-crowded : goal.returns-clause-crowded
+unfolding LacksSegment IsTrimmed
 returns-clause-crowded c =
     subst (λ (s : Pieces). IsTrimmed s.room → LacksSegment s.room → FillPages s.pages (length s.segments) (length s.blocks)) c.self.view_is
     (λ trimmed lacks. pieces_enough c.self.inside.range.pages c.self.inside.range.allocated c.self.inside.spans c.self.inside.pools c.self.invariant.1
-    (c.facts.ensures.blocked 5 (omega arith) (segment_lacks_tells c.self.inside.spans lacks)) (trimmed_tells c.self.inside.pools c.self.invariant.1.objects trimmed))
+    (c.facts.ensures.blocked 5 (omega arith) lacks) trimmed)
 
 pub returns-clause-pages_out : goal.returns-clause-pages_out
 returns-clause-pages_out c =
@@ -61,9 +62,10 @@ returns-clause-pages_out c =
     (segments_pages c.self.inside.range.pages c.self.inside.range.allocated c.self.inside.spans c.self.inside.pools c.self.invariant.1, omega (arith, all, same)))
 
 pub returns-clause-trimmed : goal.returns-clause-trimmed
+unfolding IsTrimmed
 returns-clause-trimmed c =
     subst (λ (s : Pieces). IsTrimmed s.room → s.pages_out ≤ 32 * length s.segments + 16 * length s.blocks) c.self.view_is
-    (λ trimmed. pages_at_most c.self.inside.range.pages c.self.inside.range.allocated c.self.inside.spans c.self.inside.pools c.self.invariant.1 (trimmed_tells c.self.inside.pools c.self.invariant.1.objects trimmed))
+    (λ trimmed. pages_at_most c.self.inside.range.pages c.self.inside.range.allocated c.self.inside.spans c.self.inside.pools c.self.invariant.1 trimmed)
 
 pub returns-clause-of_blocks : goal.returns-clause-of_blocks
 returns-clause-of_blocks c =
@@ -76,3 +78,12 @@ pub returns-clause-of_objects : goal.returns-clause-of_objects
 returns-clause-of_objects c =
     subst (λ (s : Pieces). (at size : ℕ) → map.get s.objects at ≡ Some size → (len : ℕ) × Contains s.blocks (extent at len)) c.self.view_is
     (λ at size is. block_of_object c.self.inside.range.pages c.self.inside.range.allocated c.self.inside.spans c.self.inside.pools at size c.self.invariant.1 is)
+
+pub returns-clause-room : goal.returns-clause-room
+returns-clause-room c =
+    let was = c.self.invariant.1 in
+    subst (λ (s : Pieces). IsRoomOf s.pages s.room) c.self.view_is
+    record { size = was.same; divided = was.divided; coalesced = was.coalesced; counted = c.facts.ensures.pages ∙ was.same; objects = was.objects; held = was.held }
+
+pub returns-clause-shown : goal.returns-clause-shown
+returns-clause-shown c = subst (λ (s : Pieces). (s.objects ≡ s.room.pools.allocated) × (s.pages_out ≡ allocated_pages s.room.spans)) c.self.view_is (refl, refl)

@@ -1,4 +1,4 @@
-use Rattle.std.proofs.Common.{◌≡◌, ℕ, ◌+◌, ◌*◌, ◌^◌, inl, inr, ◌<◌, ◌≤◌, ◌∷◌, length, get_or, false, refl, sym, ap, subst, ◌∙◌, arith}
+use Rattle.std.proofs.Common.{◌≡◌, ℕ, ◌+◌, ◌*◌, ◌^◌, inl, inr, ◌<◌, ◌≤◌, ◌∷◌, length, refl, sym, ap, subst, ◌∙◌, arith}
 use Rattle.std.specs.Prelude.{Contains}
 use Rattle.std.specs.FinMap as map
 use Rattle.small_pools.specs.Classes.{size_of, order_of}
@@ -8,14 +8,13 @@ use Rattle.layout.specs.Sizes.{page}
 use Rattle.layout.specs.Extents.{Extent, extent, Disjoint, AreDisjoint}
 use Rattle.raw_range.specs.Memory.{Memory, Lent, extent_of}
 use Rattle.shard_memory.specs.Shards.{FillPages}
-use Rattle.shard_memory.specs.Room.{LacksBlock, IsTrimmed}
+use Rattle.shard_memory.specs.Room.{Room, LacksBlock, LacksClass, IsTrimmed, TakesObject}
 use Rattle.shard_memory.specs.inside.Pieces.{Pieces, most_out}
 use Rattle.shard_memory.specs.inside.Parts.{IsConsistent, is_block, blocks_of, segments_of}
 use Rattle.shard_memory.proofs.Lists.{all_of, few_pieces, has_first, kept_by, block_is, block_added, block_leaves_segments, disjoint_still}
 use Rattle.shard_memory.proofs.Counts.{crowded}
 use Rattle.shard_memory.proofs.Changes.{used_still}
 use Rattle.shard_memory.proofs.PagesOut.{pages_taken}
-use Rattle.shard_memory.proofs.Rooms.{class_lacks_of, class_lacks_tells, trimmed_of, trimmed_tells}
 use Rattle.shard_memory.proofs.Steps.{block_inside, block_apart, gave_block, least_one}
 use Rattle.shard_memory.proofs.piece_allocator.PieceAllocator.give_block.Goals as goal
 
@@ -43,21 +42,23 @@ invariant_of-self-2 c = (
 )
 
 pub returns-in_default-clause-refused : goal.returns-in_default-clause-refused
+unfolding LacksBlock LacksClass
 returns-in_default-clause-refused c =
     (let fits = c.in_ok-class.ensures.least.holds in let most = c.in_ok-class.ensures.bounds.size_most in
     let none = c.in_default.ensures.none.0 refl in (
       omega (arith, fits, most),
-      λ k least. subst (λ (s : Pieces). get_or s.room.classes k false ≡ false) c.self.view_is (class_lacks_of c.self.inside.spans c.self.inside.pools k least.within
-          (subst (LacksObject c.self.inside.pools c.self.inside.spans) (least_one c.args.size c.in_ok-class.class k c.in_ok-class.ensures.least least) none)),
+      λ k least. subst (λ (s : Pieces). LacksClass s.room k) c.self.view_is
+          (subst (LacksObject c.self.inside.pools c.self.inside.spans) (least_one c.args.size c.in_ok-class.class k c.in_ok-class.ensures.least least) none),
     ))
 
 pub returns-clause-room : goal.returns-clause-room
+unfolding LacksBlock LacksClass
 returns-clause-room c =
     (let fits = c.in_ok-class.ensures.least.holds in let most = c.in_ok-class.ensures.bounds.size_most in (
       omega (arith, fits, most),
       λ h.
           (let lacks = subst (λ (s : Pieces). LacksBlock s.room c.args.size) (sym c.self.view_is) h in
-          let none = class_lacks_tells c.self.inside.spans c.self.inside.pools c.in_ok-class.class c.in_ok-class.ensures.least.within c.self.invariant.1.objects (lacks c.in_ok-class.class c.in_ok-class.ensures.least) in
+          let none = lacks c.in_ok-class.class c.in_ok-class.ensures.least in
           let clash = c.in-Some.ensures.none.1 none in cc),
     ))
 
@@ -95,13 +96,14 @@ returns-clause-least c = (
 )
 
 pub returns-in_default-clause-crowded : goal.returns-in_default-clause-crowded
+unfolding IsTrimmed
 returns-in_default-clause-crowded c =
     λ _. subst (λ (s : Pieces). IsTrimmed s.room → FillPages s.pages (length s.segments) (length s.blocks)) c.self.view_is
     (λ trimmed.
     (let none = (c.in_default.ensures.none.0 refl).1 in
     let same = c.in_default.ensures.unchanged.1 in
     crowded c.self.inside.range.pages (order_of c.in_ok-class.class) c.self.inside.range.allocated c.self.inside.spans c.self.inside.pools c.self.invariant.1 c.in_ok-class.ensures.bounds.order_most none
-    (subst (λ s. (o : ℕ) → o ≤ 16 → HasNone s o → IsBlocked s o) same c.facts.ensures.blocked) (trimmed_tells c.self.inside.pools c.self.invariant.1.objects trimmed)))
+    (subst (λ s. (o : ℕ) → o ≤ 16 → HasNone s o → IsBlocked s o) same c.facts.ensures.blocked) trimmed))
 
 pub returns-clause-pages_out : goal.returns-clause-pages_out
 returns-clause-pages_out c =
@@ -112,7 +114,17 @@ returns-clause-pages_out c =
     ]
 
 pub returns-clause-trimmed : goal.returns-clause-trimmed
+unfolding IsTrimmed
 returns-clause-trimmed c = λ trimmed.
-    trimmed_of c.take.new.self
-    (used_still c.self.inside.pools c.take.new.self c.self.inside.spans c.take.new.spans c.in-Some.place c.in_ok-class.class c.in-Some.ensures.objects c.in-Some.ensures.was_free c.in-Some.ensures.allocated c.in-Some.ensures.spans
-    (trimmed_tells c.self.inside.pools c.self.invariant.1.objects (subst (λ (s : Pieces). IsTrimmed s.room) (sym c.self.view_is) trimmed)))
+    used_still c.self.inside.pools c.take.new.self c.self.inside.spans c.take.new.spans c.in-Some.place c.in_ok-class.class c.in-Some.ensures.objects c.in-Some.ensures.was_free c.in-Some.ensures.allocated c.in-Some.ensures.spans
+    (subst (λ (s : Pieces). IsTrimmed s.room) (sym c.self.view_is) trimmed)
+
+pub returns-clause-taken : goal.returns-clause-taken
+returns-clause-taken c =
+    let old : Room = record { spans = c.self.inside.spans; pools = c.self.inside.pools } in
+    let new : Room = record { spans = c.take.new.spans; pools = c.take.new.self } in
+    let e = c.in-Some.ensures in
+    let taken : TakesObject old new c.args.size
+    c.in-Some.place = record { class = c.in_ok-class.class; least = c.in_ok-class.ensures.least; was_free = e.was_free; allocated = e.allocated; spans = e.spans } in
+    subst (λ (s : Pieces). TakesObject s.room new c.args.size c.take-2.result.at) c.self.view_is
+    (subst (TakesObject old new c.args.size) (sym (ap (λ (q : Extent). q.start) c.take-2.ensures.extent)) taken)

@@ -1,17 +1,16 @@
-use Rattle.std.proofs.Common.{◌≡◌, ◌+◌, ◌*◌, ◌%◌, ◌∷◌, inr, length, true, false, refl, sym, ap, subst, ◌∙◌, arith}
+use Rattle.std.proofs.Common.{◌≡◌, ◌+◌, ◌*◌, ◌/◌, ◌%◌, ◌∷◌, inr, length, true, false, refl, sym, ap, subst, ◌∙◌, arith}
 use Rattle.std.specs.Prelude.{Contains}
 use Rattle.std.specs.FinMap as map
 use Rattle.common_lemmas.proofs.Maps.{get_inserted}
 use Rattle.layout.specs.Extents.{Extent, extent, Disjoint, AreDisjoint}
 use Rattle.raw_range.specs.Memory.{Memory, extent_of}
 use Rattle.shard_memory.specs.Shards.{FillPages}
-use Rattle.shard_memory.specs.Room.{LacksSegment, IsTrimmed}
+use Rattle.shard_memory.specs.Room.{Room, LacksSegment, IsTrimmed, TakesSegment}
 use Rattle.shard_memory.specs.inside.Pieces.{Pieces}
 use Rattle.shard_memory.specs.inside.Parts.{IsConsistent, is_segment, blocks_of, segments_of}
 use Rattle.shard_memory.proofs.Counts.{pieces_enough}
-use Rattle.shard_memory.proofs.Lists.{all_of, few_pieces, has_first, kept_by, segment_is, segment_added, segment_leaves_blocks, whole_start}
+use Rattle.shard_memory.proofs.Lists.{all_of, few_pieces, has_first, kept_by, segment_is, segment_added, segment_leaves_blocks, whole_start, page_of_start}
 use Rattle.shard_memory.proofs.PagesOut.{pages_more}
-use Rattle.shard_memory.proofs.Rooms.{segment_lacks_of, segment_lacks_tells, trimmed_tells}
 use Rattle.shard_memory.proofs.Steps.{inside_pages, apart_from_span, gave_segment}
 use Rattle.shard_memory.proofs.piece_allocator.PieceAllocator.give_segment.Goals as goal
 
@@ -38,17 +37,20 @@ invariant_of-self-2 c = (
 )
 
 pub returns-in_default-clause-none : goal.returns-in_default-clause-none
-returns-in_default-clause-none c = (λ _. subst (λ (s : Pieces). LacksSegment s.room) c.self.view_is (segment_lacks_of c.self.inside.spans (c.in_default.ensures.none.0 refl)), λ _. refl)
+unfolding LacksSegment
+returns-in_default-clause-none c = (λ _. subst (λ (s : Pieces). LacksSegment s.room) c.self.view_is (c.in_default.ensures.none.0 refl), λ _. refl)
 
 pub returns-in_default-clause-crowded : goal.returns-in_default-clause-crowded
+unfolding IsTrimmed
 returns-in_default-clause-crowded c =
     subst (λ (s : Pieces). IsTrimmed s.room → FillPages s.pages (length s.segments) (length s.blocks)) c.self.view_is
-    (λ trimmed. pieces_enough c.self.inside.range.pages c.self.inside.range.allocated c.self.inside.spans c.self.inside.pools c.self.invariant.1 c.in_default.ensures.blocked (trimmed_tells c.self.inside.pools c.self.invariant.1.objects trimmed))
+    (λ trimmed. pieces_enough c.self.inside.range.pages c.self.inside.range.allocated c.self.inside.spans c.self.inside.pools c.self.invariant.1 c.in_default.ensures.blocked trimmed)
 
 pub returns-clause-none : goal.returns-clause-none
+unfolding LacksSegment
 returns-clause-none c = (
   λ e. absurd (let clash : true ≡ false = e in cc),
-  λ h. (let clash = c.in-Some.ensures.none.1 (segment_lacks_tells c.self.inside.spans (subst (λ (s : Pieces). LacksSegment s.room) (sym c.self.view_is) h)) in cc),
+  λ h. (let clash = c.in-Some.ensures.none.1 (subst (λ (s : Pieces). LacksSegment s.room) (sym c.self.view_is) h) in cc),
 )
 
 pub returns-clause-whole : goal.returns-clause-whole
@@ -82,3 +84,12 @@ returns-clause-blocks c = (
 pub returns-clause-pages_out : goal.returns-clause-pages_out
 returns-clause-pages_out c =
     pages_more c.self.inside.spans c.take.new.self c.in-Some.first 5 c.in-Some.ensures.was_free c.in-Some.ensures.allocated ∙ ap (λ (s : Pieces). s.pages_out + 32) c.self.view_is
+
+pub returns-clause-taken : goal.returns-clause-taken
+returns-clause-taken c =
+    let old : Room = record { spans = c.self.inside.spans; pools = c.self.inside.pools } in
+    let new : Room = record { spans = c.take.new.self; pools = c.self.inside.pools } in
+    let e = c.in-Some.ensures in
+    let taken : TakesSegment old new c.in-Some.first = record { was_free = e.was_free; allocated = e.allocated; free = e.free; pools = refl } in
+    let at : c.segment_at.result.at / 4096 ≡ c.in-Some.first = ap (λ (p : Extent). p.start / 4096) c.segment_at.ensures.extent ∙ page_of_start c.in-Some.first in
+    subst (λ (s : Pieces). TakesSegment s.room new (c.segment_at.result.at / 4096)) c.self.view_is (subst (TakesSegment old new) (sym at) taken)

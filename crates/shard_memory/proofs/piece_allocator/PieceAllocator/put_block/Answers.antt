@@ -3,8 +3,8 @@ use Rattle.std.proofs.Common.{◌≡◌, ◌+◌, ◌*◌, length, is_some, refl
 use Rattle.layout.specs.Extents.{AreDisjoint}
 use Rattle.raw_range.specs.Memory.{Memory, extent_of, remove_extent}
 use Rattle.shard_memory.specs.Shards.{IsOneOf}
+use Rattle.shard_memory.specs.Room.{Room, KeepsRoom, PutsObject}
 use Rattle.shard_memory.specs.inside.Pieces.{Pieces}
-use Rattle.shard_memory.specs.inside.Rooms.{room_of}
 use Rattle.shard_memory.specs.inside.Parts.{IsConsistent, is_block, blocks_of, segments_of}
 use Rattle.shard_memory.proofs.Lists.{removed_block, same_segments, remove_one, disjoint_still}
 use Rattle.shard_memory.proofs.Changes.{room_kept, kept_by_put, room_of_block}
@@ -58,22 +58,27 @@ returns-clause-segments c =
     ap (λ (m : Memory). segments_of m.allocated) c.put.ensures.back ∙ same_segments (page * c.self.inside.range.pages) c.self.inside.range.allocated (extent_of c.args.piece) c.self.invariant.1.blocks f.0 f.1
     ∙ ap (λ (s : Pieces). s.segments) c.self.view_is)
 
-pub returns-clause-spans : goal.returns-clause-spans
-returns-clause-spans c = (
-  ap (λ (s : Pieces). s.pages_out) c.self.view_is,
-  ap (λ (s : Pieces). s.room.segment) c.self.view_is,
-)
+pub returns-clause-pages_out : goal.returns-clause-pages_out
+returns-clause-pages_out c = ap (λ (s : Pieces). s.pages_out) c.self.view_is
+
+pub returns-clause-freed : goal.returns-clause-freed
+returns-clause-freed c =
+    let old : Room = record { spans = c.self.inside.spans; pools = c.self.inside.pools } in
+    let new : Room = record { spans = c.self.inside.spans; pools = c.put_object.new.pools } in
+    let freed : PutsObject old new c.args.piece.at = record { allocated = c.put_object.ensures.allocated; held = c.put_object.ensures.held; spans = refl } in
+    subst (λ (s : Pieces). PutsObject s.room new c.args.piece.at) c.self.view_is freed
 
 pub returns-clause-kept : goal.returns-clause-kept
 returns-clause-kept c =
-    room_kept c.self.inside.spans c.self.inside.spans c.self.inside.pools c.put_object.new.pools c.args.self.now.room _ c.put_object.ensures.objects
-    (kept_by_put c.self.inside.spans c.self.inside.pools c.put_object.new.pools c.args.piece.at c.put_object.ensures.allocated c.put_object.ensures.held)
-    (ap (λ (s : Pieces). s.room) c.self.view_is) refl
+    let after : Room = record { spans = c.self.inside.spans; pools = c.put_object.new.pools } in
+    subst (λ (s : Pieces). KeepsRoom s.room after) c.self.view_is
+    (room_kept (record { spans = c.self.inside.spans; pools = c.self.inside.pools }) after
+    (kept_by_put c.self.inside.spans c.self.inside.pools c.put_object.new.pools c.args.piece.at c.put_object.ensures.allocated c.put_object.ensures.held))
 
 pub returns-clause-room : goal.returns-clause-room
 returns-clause-room c =
     (let r = subst (λ (s : Pieces). IsOneOf s.home s.blocks c.args.piece) (sym c.self.view_is) c.requires in
     let f = block_facts c.self.inside.range.pages c.self.inside.range.allocated c.self.inside.spans c.self.inside.pools (extent_of c.args.piece) c.self.invariant.1 r.1 in
-    room_of_block c.self.inside.spans c.self.inside.pools c.put_object.new.pools (extent_of c.args.piece) (room_of c.self.inside.spans c.put_object.new.pools) c.self.invariant.1.objects
+    room_of_block c.self.inside.spans c.self.inside.pools c.put_object.new.pools (extent_of c.args.piece) c.self.invariant.1.objects
     (block_object c.self.inside.range.pages c.self.inside.range.allocated c.self.inside.spans c.self.inside.pools (extent_of c.args.piece) c.self.invariant.1 f.0 f.1)
-    c.put_object.ensures.objects c.put_object.ensures.allocated c.put_object.ensures.held refl)
+    c.put_object.ensures.allocated c.put_object.ensures.held)

@@ -3,6 +3,7 @@ use Rattle.std.proofs.Common.{◌≡◌, ◌+◌, ◌*◌, ◌/◌, length, refl
 use Rattle.std.specs.FinMap as map
 use Rattle.layout.specs.Extents.{AreDisjoint}
 use Rattle.raw_range.specs.Memory.{Memory, extent_of, remove_extent}
+use Rattle.shard_memory.specs.Room.{Room, PutsSegment}
 use Rattle.shard_memory.specs.Shards.{IsOneOf}
 use Rattle.shard_memory.specs.inside.Pieces.{Pieces}
 use Rattle.shard_memory.specs.inside.Parts.{IsConsistent, is_segment, blocks_of, segments_of}
@@ -64,4 +65,11 @@ returns-clause-pages_out c =
     ∙ ap (λ (t : Pieces). t.pages_out) c.self.view_is)
 
 pub returns-clause-room : goal.returns-clause-room
-returns-clause-room c = all_room c.put_span.new.spans c.self.inside.pools _ c.self.invariant.1.objects c.put_span.ensures.orders refl
+returns-clause-room c = all_room (record { spans = c.put_span.new.spans; pools = c.self.inside.pools }) c.put_span.ensures.orders
+
+pub returns-clause-freed : goal.returns-clause-freed
+returns-clause-freed c =
+    let old : Room = record { spans = c.self.inside.spans; pools = c.self.inside.pools } in
+    let new : Room = record { spans = c.put_span.new.spans; pools = c.self.inside.pools } in
+    let freed : PutsSegment old new (c.args.piece.at / page) = record { allocated = c.put_span.ensures.allocated; free = c.put_span.ensures.free; pools = refl } in
+    subst (λ (s : Pieces). PutsSegment s.room new (c.args.piece.at / page)) c.self.view_is freed

@@ -1,12 +1,11 @@
-use Rattle.std.proofs.Common.{◌≤◌, refl, sym, ap, ap₂, subst, ◌∙◌}
+use Rattle.std.proofs.Common.{◌≤◌, sym, ap₂, subst, ◌∙◌}
 use Rattle.span_lists.specs.Layout.{Layout, allocated_pages}
-use Rattle.small_pools.specs.Objects.{Objects}
-use Rattle.shard_memory.specs.Room.{IsTrimmed}
+use Rattle.small_pools.specs.Objects.{Objects, Trims}
+use Rattle.shard_memory.specs.Room.{Room, IsTrimmed, KeepsRoom}
 use Rattle.shard_memory.specs.inside.Pieces.{Pieces}
 use Rattle.shard_memory.proofs.Changes.{pieces_of, room_kept}
 use Rattle.shard_memory.proofs.PagesOut.{pages_trimmed}
 use Rattle.shard_memory.proofs.Steps.{trimmed}
-use Rattle.shard_memory.proofs.Rooms.{trimmed_of, trimmed_tells}
 use Rattle.shard_memory.proofs.piece_allocator.PieceAllocator.trim.Goals as goal
 
 pub invariant_of-self : goal.invariant_of-self
@@ -16,11 +15,13 @@ invariant_of-self c = (
 )
 
 pub returns-clause-trimmed : goal.returns-clause-trimmed
-returns-clause-trimmed c = trimmed_of c.trim.new.self c.trim.ensures.used
+unfolding IsTrimmed
+returns-clause-trimmed c = c.trim.ensures.used
 
 pub returns-clause-unchanged : goal.returns-clause-unchanged
+unfolding IsTrimmed
 returns-clause-unchanged c = λ trimmed.
-    (let used = trimmed_tells c.self.inside.pools c.self.invariant.1.objects (subst (λ (s : Pieces). IsTrimmed s.room) (sym c.self.view_is) trimmed) in
+    (let used = subst (λ (s : Pieces). IsTrimmed s.room) (sym c.self.view_is) trimmed in
     let same = c.trim.ensures.unchanged used in
     ap₂ (λ (spans : Layout) (pools : Objects). pieces_of c.self.inside.range spans pools) same.1 same.0 ∙ c.self.view_is)
 
@@ -29,6 +30,11 @@ returns-clause-pages_out c =
     subst (λ (s : Pieces). allocated_pages c.trim.new.spans ≤ s.pages_out) c.self.view_is
     (pages_trimmed c.self.inside.pools c.trim.new.self c.self.inside.spans c.trim.new.spans c.trim.ensures.trims c.self.invariant.1.held c.trim.ensures.held c.trim.ensures.divided)
 
+pub returns-clause-trims : goal.returns-clause-trims
+returns-clause-trims c = subst (λ (s : Pieces). Trims s.room.pools c.trim.new.self s.room.spans c.trim.new.spans) c.self.view_is c.trim.ensures.trims
+
 pub returns-clause-kept : goal.returns-clause-kept
 returns-clause-kept c =
-    room_kept c.self.inside.spans c.trim.new.spans c.self.inside.pools c.trim.new.self c.args.self.now.room _ c.trim.ensures.objects c.trim.ensures.room (ap (λ (s : Pieces). s.room) c.self.view_is) refl
+    let after : Room = record { spans = c.trim.new.spans; pools = c.trim.new.self } in
+    subst (λ (s : Pieces). KeepsRoom s.room after) c.self.view_is
+    (room_kept (record { spans = c.self.inside.spans; pools = c.self.inside.pools }) after c.trim.ensures.room)
