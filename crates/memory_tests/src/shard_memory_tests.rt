@@ -1,5 +1,6 @@
 //! What no clause says: that memory is found, what fixed numbers give, and that blocks come home in any order.
-ghost use Rattle.std.specs.Prelude.{◌≡◌, ◌≤◌, []};
+ghost use Rattle.std.specs.Prelude.{◌≡◌, ◌+◌, ◌≤◌, [], length};
+ghost use Rattle.shard_memory.specs.Shards.{most_blocks};
 
 use foreign_list::{Foreign, ForeignBlock};
 use shard_memory::{GiveRefusal, ShardMemory, Share};
@@ -185,5 +186,91 @@ fn what_stays_leaves_its_pages_to_trim(rt: HostRuntime) -> Result<(), Fail> {
     assert_eq!(rt; (right, memory.tickets_out()), ([true; 2], 0));
     let seat = memory.finish();
     home.close(seat);
+    Ok(())
+}
+
+// Whether no ticket is idle, and a block that stays is given all the same.
+fn has_blocks_without_tickets(memory: &mut ShardMemory<'_>) -> bool
+    requires none { memory.old.blocks ≡ [] }
+{
+    let Ok(block) = memory.give_here(100) else {
+        return false;
+    };
+    let given = (block.len(), block.owner());
+    memory.back_here(block);
+    let idle = (memory.is_idle(Share::Request), memory.is_idle(Share::Reply));
+    (given, idle) == ((100, OWNER), (false, false))
+        && refuses(memory, 100, Share::Reply, GiveRefusal::NoTicket)
+}
+
+// Lends all blocks, takes all back but those with the last ticket of each share, and then these. False where a number is
+// not right.
+fn last_tickets_come_home(memory: &mut ShardMemory<'_>, alloc: Global) -> bool
+    requires none { memory.old.blocks ≡ [] }
+{
+    let mut blocks = Vec::new(alloc);
+    if lend_all(memory, Share::Request, &mut blocks).is_err()
+        || lend_all(memory, Share::Reply, &mut blocks).is_err()
+        || !has_blocks_without_tickets(memory)
+        || blocks.len() != 32
+    {
+        return false;
+    }
+    let request = blocks.swap_remove(7);
+    let reply = blocks.swap_remove(7);
+    let tickets = (request.ticket(), reply.ticket());
+    release_half(&mut blocks);
+    release_half(&mut blocks);
+    drop(blocks);
+    let home = (memory.take_back(), memory.tickets_out());
+    let idle = (memory.is_idle(Share::Request), memory.is_idle(Share::Reply));
+    let released = (request.release().is_ok(), reply.release().is_ok());
+    let all = (memory.take_back(), memory.tickets_out());
+    (tickets, home, idle, released) == ((7, 31), (30, 2), (true, true), (true, true))
+        && all == (2, 0)
+}
+
+#[test]
+fn the_last_ticket_of_each_share_goes_out_and_comes_home(rt: HostRuntime) -> Result<(), Fail> {
+    let (home, seat) = Foreign::new(rt.alloc(), OWNER)?;
+    let Ok(mut memory) = ShardMemory::open(rt.alloc(), OWNER, PAGES, &home, seat) else {
+        return Err(AllocError.into());
+    };
+    assert!(rt; last_tickets_come_home(&mut memory, rt.alloc()));
+    Ok(())
+}
+
+// Gives a block of the greatest size that stays, gives others behind it likewise, at most so many in all, and takes it
+// back. Answers how many there was room for, and how many pages were out then.
+fn fill_and_empty(memory: &mut ShardMemory<'_>, most: u32) -> (u32, u32)
+    requires few { length memory.old.blocks + most ≤ most_blocks }
+    ensures blocks { memory.new.blocks ≡ memory.old.blocks }
+    ensures home { memory.new.home ≡ memory.old.home }
+{
+    if most == 0 {
+        return (0, memory.pages_out());
+    }
+    let Ok(block) = memory.give_here(16_384) else {
+        return (0, memory.pages_out());
+    };
+    memory.facts();
+    let (behind, out) = fill_and_empty(memory, most - 1);
+    memory.back_here(block);
+    (behind.wrapping_add(1), out)
+}
+
+// A pool's span of 16 pages has four such blocks, and 1,280 pages have 80 of these spans.
+#[test]
+fn blocks_that_stay_fill_the_pages_and_leave_them(rt: HostRuntime) -> Result<(), Fail> {
+    let (home, seat) = Foreign::new(rt.alloc(), OWNER)?;
+    let Ok(mut memory) = ShardMemory::open(rt.alloc(), OWNER, PAGES, &home, seat) else {
+        return Err(AllocError.into());
+    };
+    assert_eq!(rt; fill_and_empty(&mut memory, 400), (320, PAGES));
+    memory.trim();
+    assert_eq!(rt; memory.pages_out(), 0);
+    assert_eq!(rt; fill_and_empty(&mut memory, 400), (320, PAGES));
+    memory.trim();
+    assert_eq!(rt; segments(&mut memory), 40);
     Ok(())
 }
