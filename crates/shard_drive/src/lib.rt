@@ -3,10 +3,11 @@
 //!
 //! What is promised: [`drive_threads`] and [`drive_numbered`] return only when all nodes are done. All three calls change the
 //! nodes by turns alone: each place of the row holds the node that stood there, a node in standing stays so, and what no turn
-//! changes stays. The counts of turns tell that [`drive_schedule`] and [`drive_numbered`] follow their schedules
-//! ([`specs/Drives.antt`], [`specs/Words.antt`]).
+//! changes stays. In [`drive_schedule`] and [`drive_numbered`] each node makes as many turns as the schedule, or the words that were
+//! drawn, have for it ([`specs/Drives.antt`], [`specs/Words.antt`]).
 //!
-//! What is not: that [`drive_threads`] and [`drive_numbered`] return, and that threads run side by side.
+//! What is not: that [`drive_threads`] and [`drive_numbered`] return, that threads run side by side, and in which order turns are
+//! made.
 #![tactic(auto)]
 
 mod by_words;

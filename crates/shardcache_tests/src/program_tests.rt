@@ -115,6 +115,48 @@ fn first_unlike<'a, R: Threads + Wait + Sync>(
     Ok(None)
 }
 
+/// Whether the program is done with this input.
+fn is_done<R: Threads + Wait + Sync>(
+    rt: &R,
+    alloc: Global,
+    words: &[&str],
+    input: &[u8],
+) -> Result<bool, AllocError> {
+    let (status, _) = answer(rt, alloc, words, input, &[], 4096)?;
+    Ok(status == Status::Done)
+}
+
+/// The first of these words with which the program is not done, with the input beside them.
+fn first_not_done<R: Threads + Wait + Sync>(
+    rt: &R,
+    alloc: Global,
+    rows: &[(&[&str], &[u8])],
+) -> Result<Option<usize>, AllocError> {
+    for (index, row) in rows.iter().enumerate() {
+        let (words, input) = *row;
+        if !is_done(rt, alloc, words, input)? {
+            return Ok(Some(index));
+        }
+    }
+    Ok(None)
+}
+
+/// Each mode ends where memory is there: no clause says when it runs out.
+#[test]
+fn always_out_of_memory_would_not_do(rt: HostRuntime) -> Result<(), Fail> {
+    const ROWS: &[(&[&str], &[u8])] = &[
+        (&["run"], b"put a 1\nget a\n"),
+        (&["run", "--shards", "4"], b"put a 1\nget a\nscan a 3\n"),
+        (&["sim", "--shards", "2", "--number", "7"], b"put a 1\n"),
+        (&["gen", "--number", "7", "--commands", "10"], b""),
+        (&["dirty"], b"put a 1\nget a\n"),
+        (&["index"], b"put a 1\nget a\n"),
+        (&["values"], b"set 1 a\nread 1 0 1\n"),
+    ];
+    assert_eq!(rt; first_not_done(&rt, rt.alloc(), ROWS)?, None);
+    Ok(())
+}
+
 #[test]
 fn a_trace_is_run_and_reported(rt: HostRuntime) -> Result<(), Fail> {
     let empty = b"journal 0\nshard 0 rows 0 live 0 lent 0 back 0\n".as_slice();

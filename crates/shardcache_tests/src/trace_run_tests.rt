@@ -3,6 +3,7 @@
 ghost use Rattle.std.specs.Prelude.{◌≡◌, IfOk, IfSome};
 
 mod scheduled;
+mod side_by_side;
 
 use crate::plain::apply_to;
 use plain_cache::{Entry, Plain, ReplyKind, ReplyLog};

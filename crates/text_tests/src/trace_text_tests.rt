@@ -91,10 +91,45 @@ fn a_trace_tells_where_its_commands_go(rt: HostRuntime) -> Result<(), Fail> {
 fn expect_commands(rt: &impl Abort, trace: &Trace) {
     assert_eq!(rt; trace.commands().len(), 400);
     for (at, command) in trace.commands().iter().enumerate() {
-        let (line, key) = [(1, "a"), (2, "bc"), (5, "d"), (6, "e")][at % 4];
+        let (line, key, value, count) = [
+            (1, "a", "12", 0),
+            (2, "bc", "", 0),
+            (5, "d", "", 3),
+            (6, "e", "", 0),
+        ][at % 4];
         let place = (command.number as usize, command.line as usize);
         assert_eq!(rt; place, (at + 1, at / 4 * 6 + line));
         assert!(rt; trace.key(command) == key.as_bytes());
+        assert!(rt; trace.value(command) == value.as_bytes());
+        assert_eq!(rt; command.count, count);
+    }
+}
+
+// The owner of the key of the command at a place, whether it is a scan, and whether each of three shards has a part of it.
+fn parts_of_three(rt: &impl Abort, trace: &Trace, at: usize) -> (u32, bool, [bool; 3])
+    requires { trace.now.shards ≡ 3 }
+{
+    assert!(rt; at < trace.commands().len());
+    let parts = [
+        trace.has_part(at, 0),
+        trace.has_part(at, 1),
+        trace.has_part(at, 2),
+    ];
+    (trace.owner(at), trace.is_scan(at), parts)
+}
+
+// By their hashes modulo 3 the four keys belong to the shards 1, 1, 1 and 0, and of the scan each shard has a part.
+fn expect_parts(rt: &impl Abort, trace: &Trace)
+    requires { trace.now.shards ≡ 3 }
+{
+    const PARTS: [(u32, bool, [bool; 3]); 4] = [
+        (1, false, [false, true, false]),
+        (1, false, [false, true, false]),
+        (1, true, [true, true, true]),
+        (0, false, [true, false, false]),
+    ];
+    for at in 0..400 {
+        assert_eq!(rt; parts_of_three(rt, trace, at), PARTS[at % 4]);
     }
 }
 
@@ -106,6 +141,7 @@ fn lines_are_read_on_threads_in_their_order(rt: HostRuntime) -> Result<(), Fail>
         assert!(rt; bytes.len() <= 10_000);
         let trace = parse_on(&rt, rt.alloc(), threads, bytes, 3)?;
         expect_commands(&rt, &trace);
+        expect_parts(&rt, &trace);
     }
     Ok(())
 }

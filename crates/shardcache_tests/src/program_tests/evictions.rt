@@ -56,6 +56,10 @@ pub enum Part<'a> {
     Puts(u32, u32),
     /// So many puts of the letters under `a`.
     Again(u32),
+    /// So many gets of `a`.
+    Gets(u32),
+    /// These commands are answered by the letters.
+    Found(u32, u32),
     /// Puts of no value under the keys of these numbers.
     Keys(u32, u32),
     /// A line that gives a name of a script 1,048,576 letters.
@@ -69,6 +73,22 @@ pub enum Part<'a> {
 fn put_again(alloc: Global, lines: &mut Vec<u8>, times: u32) -> Result<(), AllocError> {
     for _ in 0..times {
         put_letters(alloc, lines, "a")?;
+    }
+    Ok(())
+}
+
+fn get_again(lines: &mut Vec<u8>, times: u32) -> Result<(), AllocError> {
+    for _ in 0..times {
+        lines.extend_from_slice(b"get a\n")?;
+    }
+    Ok(())
+}
+
+fn found(alloc: Global, text: &mut Vec<u8>, first: u32, last: u32) -> Result<(), AllocError> {
+    for number in first..=last {
+        text.extend_from_slice(format!(in alloc; "{number} value ")?.as_bytes())?;
+        text.extend_from_slice(letters(alloc)?.as_slice())?;
+        text.push(b'\n')?;
     }
     Ok(())
 }
@@ -94,6 +114,8 @@ fn lay(alloc: Global, text: &mut Vec<u8>, part: Part<'_>) -> Result<(), AllocErr
         Part::Letters => text.extend_from_slice(letters(alloc)?.as_slice()),
         Part::Puts(first, last) => put_all(alloc, text, first, last),
         Part::Again(times) => put_again(alloc, text, times),
+        Part::Gets(times) => get_again(text, times),
+        Part::Found(first, last) => found(alloc, text, first, last),
         Part::Keys(first, last) => put_keys(alloc, text, first, last),
         Part::Long(name) => set_long(alloc, text, name),
         Part::Answers(first, last, answer) => answers(alloc, text, first, last, answer),
@@ -162,14 +184,33 @@ fn a_row_that_went_is_missing_and_the_next_is_there(rt: HostRuntime) -> Result<(
     Ok(())
 }
 
+/// A row that is replaced leaves room, in a trace of 20 MB.
 #[test]
-fn a_row_that_is_replaced_leaves_room(rt: HostRuntime) -> Result<(), Fail> {
+fn twenty_megabytes_are_read(rt: HostRuntime) -> Result<(), Fail> {
     let report = [
         Part::Answers(1, 1, "stored"),
-        Part::Answers(2, 1000, "replaced"),
-        Part::Ending(1000, "", 1, 12_048),
+        Part::Answers(2, 1700, "replaced"),
+        Part::Ending(1700, "", 1, 12_048),
     ];
-    assert!(rt; reports(&rt, rt.alloc(), &[Part::Again(1000)], &report)?);
+    assert!(rt; reports(&rt, rt.alloc(), &[Part::Again(1700)], &report)?);
+    Ok(())
+}
+
+#[test]
+fn twenty_megabytes_are_written(rt: HostRuntime) -> Result<(), Fail> {
+    let report = [
+        Part::Answers(1, 1, "stored"),
+        Part::Found(2, 1701),
+        Part::Ending(1701, "", 1, 12_048),
+    ];
+    assert!(rt;
+        reports(
+            &rt,
+            rt.alloc(),
+            &[Part::Again(1), Part::Gets(1700)],
+            &report
+        )?
+    );
     Ok(())
 }
 

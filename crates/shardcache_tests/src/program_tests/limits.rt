@@ -1,5 +1,7 @@
 //! The limits of a trace: of its keys and values, of its commands and their replies, and of its bytes.
-use super::written;
+use super::evictions::{Part, says_with_few_pages};
+use super::{says, written};
+use shardcache::Status;
 use std::alloc::{AllocError, Global};
 use std::sync::Wait;
 use std::test::Fail;
@@ -78,55 +80,55 @@ pub fn many(alloc: Global, line: &[u8], times: usize) -> Result<Vec<u8>, AllocEr
     Ok(bytes)
 }
 
-/// The first bytes of a text.
-fn front(text: &[u8]) -> &[u8] {
-    if text.len() < 40 { text } else { &text[..40] }
+/// Whether the report of so many times a line has this answer to each, byte for byte, and nothing else but the journal and
+/// the shard, which has no row.
+fn answers_each<R: Threads + Wait + Sync>(
+    rt: &R,
+    alloc: Global,
+    line: &[u8],
+    times: u32,
+    answer: &str,
+) -> Result<bool, AllocError> {
+    let lines = many(alloc, line, times as usize)?;
+    let report = [
+        Part::Answers(1, times, answer),
+        Part::Ending(times, "", 0, 0),
+    ];
+    says_with_few_pages(rt, alloc, "run", &[Part::Text(lines.as_slice())], &report)
 }
 
-/// Whether what is written for so many times a line begins so.
-fn begins<R: Threads + Wait + Sync>(
+/// Whether so many times a line is refused so.
+fn refuses<R: Threads + Wait + Sync>(
     rt: &R,
     alloc: Global,
     line: &[u8],
     times: usize,
-    want: &[u8],
+    refusal: &[u8],
 ) -> Result<bool, AllocError> {
-    let bytes = many(alloc, line, times)?;
-    let text = written(rt, alloc, &["run"], bytes.as_slice(), 30_000_000)?;
-    Ok(front(text.as_slice()) == want)
+    let lines = many(alloc, line, times)?;
+    says(
+        rt,
+        alloc,
+        &["run"],
+        lines.as_slice(),
+        Status::Refused,
+        refusal,
+    )
 }
 
 #[test]
 fn a_trace_has_a_number_of_commands(rt: HostRuntime) -> Result<(), Fail> {
-    for (times, want) in [
-        (
-            1_048_576,
-            b"1 missing\n2 missing\n3 missing\n4 missing\n".as_slice(),
-        ),
-        (1_048_577, b"refused line 1048577 TooManyCommands\n"),
-    ] {
-        assert!(rt;
-            begins(&rt, rt.alloc(), b"get a\n", times, want)?,
-            "{times}"
-        );
-    }
+    let refusal = b"refused line 1048577 TooManyCommands\n";
+    assert!(rt; answers_each(&rt, rt.alloc(), b"get a\n", 1_048_576, "missing")?);
+    assert!(rt; refuses(&rt, rt.alloc(), b"get a\n", 1_048_577, refusal)?);
     Ok(())
 }
 
 #[test]
 fn replies_have_room(rt: HostRuntime) -> Result<(), Fail> {
-    for (times, want) in [
-        (
-            64_902,
-            b"1 keys\n2 keys\n3 keys\n4 keys\n5 keys\n6 key".as_slice(),
-        ),
-        (64_903, b"refused line 0 RepliesTooLarge\n"),
-    ] {
-        assert!(rt;
-            begins(&rt, rt.alloc(), b"scan a 1\n", times, want)?,
-            "{times}"
-        );
-    }
+    let refusal = b"refused line 0 RepliesTooLarge\n";
+    assert!(rt; answers_each(&rt, rt.alloc(), b"scan a 1\n", 64_902, "keys")?);
+    assert!(rt; refuses(&rt, rt.alloc(), b"scan a 1\n", 64_903, refusal)?);
     Ok(())
 }
 
