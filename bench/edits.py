@@ -119,29 +119,37 @@ def functions_of(folder, file, exported):
     return found
 
 
-def functions_at(text, place, functions):
+def names_at(line, new):
+    """The constant or the import of a line, or of several imports those that the line put in its place has not."""
+    named = re.match(r"(?:pub(?:\(\w+\))? )?(?:const (\w+):|use [\w:]*?(\w+);|use [\w:]*\{([^}]*)\};)", line)
+    if not named:
+        return []
+    kept = re.split(r"[{},]\s*", new)
+    return [name for name in re.split(r",\s*", named[1] or named[2] or named[3]) if not named[3] or name not in kept]
+
+
+def functions_at(text, place, functions, new):
     """The one of a file's functions in which a place of its text is. Where it is in none: those that name its constant or its import."""
     lines, at = text.split("\n"), text[:place].count("\n")
     here = [it for it in functions if it.first <= at <= it.last]
-    named = re.match(r"(?:pub(?:\(\w+\))? )?(?:const (\w+):|use [\w:]*?(\w+);)", lines[at])
-    if here or not named:
-        return here
-    word = re.compile(rf"\b{named[1] or named[2]}\b")
-    return [it for it in functions if any(word.search(line) for line in lines[it.first:it.last + 1])]
+    words = re.compile(rf"\b({'|'.join(names_at(lines[at], new)) or '$.'})\b")
+    return here or [it for it in functions if any(words.search(line) for line in lines[it.first:it.last + 1])]
 
 
 def edit_of(path, crate):
     """The words of an edit, and the functions in which it stands, each once."""
-    places, file = [], None
+    places, file, old = [], None, None
     for line in text_of(path).split("\n"):
         if line.startswith("file: "):
             file = line.removeprefix("file: ").strip()
         elif line.startswith("old: "):
-            text, old = text_of(f"{TOP}/crates/{crate.name}/{file}"), line.removeprefix("old: ")
+            old = line.removeprefix("old: ")
+        elif line.startswith("new: "):
+            text = text_of(f"{TOP}/crates/{crate.name}/{file}")
             if text.count(old) != 1:
                 sys.exit(f"{path}: its old text stands {text.count(old)} times in {file}")
-            here = functions_at(text, text.index(old), [it for it in crate.functions if it.file == file])
-            places += [it for it in here if it not in places]
+            new, functions = line.removeprefix("new: "), [it for it in crate.functions if it.file == file]
+            places += [it for it in functions_at(text, text.index(old), functions, new) if it not in places]
     if not places:
         sys.exit(f"{path}: it stands in no function")
     return os.path.basename(path).removesuffix(".edit").replace("_", " "), places

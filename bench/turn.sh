@@ -21,8 +21,8 @@ time_of() {
     echo "$least"
 }
 declare -A spent
-for step in space parts node turns wait idle; do spent[$step]=$(time_of "$step"); done
+for step in store parts node turns wait idle; do spent[$step]=$(time_of "$step"); done
 each() { awk -v a="${spent[$1]}" -v b="${spent[$2]}" -v n="$turns" 'BEGIN { printf "%.1f", (b - a) / n }'; }
-part=$(each space parts)
+part=$(each store parts)
 turn=$(each node turns)
 echo "a part by itself $part ns, a turn that does it $turn ns, an idle turn $(each wait idle) ns"

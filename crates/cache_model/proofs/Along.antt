@@ -4,12 +4,12 @@ use Rattle.std.specs.List.{find, list_any, before_first}
 use Rattle.std.specs.Option.{option_map, option_and_then}
 use Rattle.std.specs.Prelude.{All}
 use Rattle.std.proofs.lemmas.List.Elements.{All-head, All-tail}
-use Rattle.trace_text.specs.Operation.{Operation}
+use Rattle.rows.specs.Operation.{Operation}
 use Rattle.trace_text.specs.Trace.{Trace}
 use Rattle.cache_model.specs.declared.entry.Entry.{Entry}
 use Rattle.cache_model.specs.declared.entry.Entry.TheVariants.{Done, Evicted}
-use Rattle.cache_model.specs.Row.{Row}
-use Rattle.cache_model.specs.Apply.{Reply, apply}
+use Rattle.rows.specs.Row.{Row}
+use Rattle.rows.specs.Apply.{Reply, apply}
 use Rattle.cache_model.specs.Legal.{after, cache_after, cache_from, can_evict, command_of, is_done, reply_at, reply_on}
 
 -- a fact about caches that each part of a command and each eviction keeps

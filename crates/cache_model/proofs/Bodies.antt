@@ -6,20 +6,23 @@ use Rattle.std.proofs.lemmas.Bool.{leb-true}
 use Rattle.std.proofs.lemmas.Bool.Decides.{nat_tests}
 use Rattle.std.proofs.lemmas.List.{length-take}
 use Rattle.std.proofs.lemmas.List.Elements.{All-cons, All-head, All-tail}
-use Rattle.trace_text.specs.declared.command.Kind.{Kind}
-use Rattle.trace_text.specs.declared.command.Kind.TheVariants as kinds
-use Rattle.trace_text.specs.Operation.{Operation}
+use Rattle.rows.specs.declared.kind.Kind.{Kind}
+use Rattle.rows.specs.declared.kind.Kind.TheVariants as kinds
+use Rattle.rows.specs.Operation.{Operation}
+use Rattle.rows.specs.Row.{Row}
+use Rattle.rows.specs.Apply.{Reply, Stored, Replaced, Missing, Erased, apply, apply_kind, get_where, has, in_order, is_at_most, row_of}
+use Rattle.rows.specs.Bodies.{most_of_body, most_of_kind}
+use Rattle.rows.specs.Holds.{PutHolds, ReplyHolds}
+use Rattle.rows.specs.Spelled.{key_field, spelled}
 use Rattle.trace_text.specs.Parts.{longest_value}
 use Rattle.trace_text.specs.Trace.{Trace}
 use Rattle.cache_model.specs.declared.entry.Entry.{Entry}
-use Rattle.cache_model.specs.Row.{Row}
-use Rattle.cache_model.specs.Apply.{Reply, Stored, Replaced, Missing, Erased, apply, apply_kind, get_where, has, in_order, is_at_most, row_of}
-use Rattle.cache_model.specs.Bodies.{HasShortKeys, most_of_body, most_of_kind}
-use Rattle.cache_model.specs.Holds.{PutHolds, PutsHold, ReplyHolds}
+use Rattle.cache_model.specs.Bodies.{HasShortKeys}
+use Rattle.cache_model.specs.Holds.{PutsHold}
 use Rattle.cache_model.specs.Legal.{command_of, reply_at}
-use Rattle.cache_model.specs.Spelled.{key_field, spelled}
 use Rattle.cache_model.proofs.Along.{All-find, replied}
-use Rattle.cache_model.proofs.Holds.{part-holds, rows-hold}
+use Rattle.cache_model.proofs.Holds.{rows-hold}
+use Rattle.cache_model.proofs.RowLaws.{PartsHold}
 
 -- the two tests of lengths
 abbrev pub is_within : ℕ → List ℕ → Bool
@@ -73,16 +76,16 @@ pub part-fits : (most : ℕ) (operation : Operation) (cache : List Row) → Repl
     → length (spelled (apply operation cache).1).1 ≤ most_of_body most operation
 part-fits most operation cache holds = kind-fits most operation.kind operation cache holds
 
-pub reply-fits : (trace : Trace) (pages : ℕ) (journal : List Entry) (operation : Operation) (reply : Reply) → HasShortKeys trace
+pub reply-fits : PartsHold → (trace : Trace) (pages : ℕ) (journal : List Entry) (operation : Operation) (reply : Reply) → HasShortKeys trace
     → command_of trace operation.number ≡ Some operation → reply_at trace pages journal operation.number ≡ Some reply
     → length (spelled reply).1 ≤ most_of_body (longest_value trace) operation
-reply-fits trace pages journal operation reply short is e =
+reply-fits part trace pages journal operation reply short is e =
     let k = is_within 256 in
     let v = is_within (longest_value trace) in
     let puts = puts-fit trace short in
     let r = replied trace pages operation.number journal reply e in
     let same : r.operation ≡ operation = cc in
     let put = All-find (PutHolds k v) (λ o. eqb o.number operation.number) trace.operations r.operation puts r.command in
-    let fits = part-fits (longest_value trace) r.operation r.cache (part-holds k v r.operation r.cache put (rows-hold k v trace pages _ r.cache puts r.leads)).1 in
+    let fits = part-fits (longest_value trace) r.operation r.cache (part k v r.operation r.cache put (rows-hold part k v trace pages _ r.cache puts r.leads)).1 in
     subst (λ (o : Operation). length (spelled reply).1 ≤ most_of_body (longest_value trace) o) same
     (subst (λ (answered : Reply). length (spelled answered).1 ≤ most_of_body (longest_value trace) r.operation) (sym r.is) fits)

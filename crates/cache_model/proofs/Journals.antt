@@ -3,12 +3,12 @@ use Rattle.std.proofs.Common.{◌≡◌, ℕ, ◌+◌, ◌<◌, suc, Bool, true,
 use Rattle.std.specs.List.{list_any, before_first, prefix_len}
 use Rattle.std.specs.Option.{option_and_then}
 use Rattle.std.proofs.lemmas.Bool.Decides.{nat_tests}
-use Rattle.trace_text.specs.Operation.{Operation}
+use Rattle.rows.specs.Operation.{Operation}
 use Rattle.trace_text.specs.Trace.{Trace}
 use Rattle.cache_model.specs.declared.entry.Entry.{Entry}
 use Rattle.cache_model.specs.declared.entry.Entry.TheVariants.{Done, Evicted}
-use Rattle.cache_model.specs.Row.{Row, live}
-use Rattle.cache_model.specs.Apply.{Reply, apply}
+use Rattle.rows.specs.Row.{Row, live}
+use Rattle.rows.specs.Apply.{Reply, apply}
 use Rattle.cache_model.specs.Legal.{EvictsAbove, after, cache_after, cache_from, command_of, done, is_done, reply_at, reply_on}
 
 -- ---- where it leads

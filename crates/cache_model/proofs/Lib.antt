@@ -4,12 +4,10 @@ pub mod Distinct
 pub mod Evictions
 pub mod Holds
 pub mod Journals
-pub mod KeyBodies
-pub mod KeyOrder
 pub mod Logged
 pub mod OneShard
 pub mod OwnParts
 pub mod Printed
 pub mod ReadBack
-pub mod Rising
+pub mod RowLaws
 pub mod TextLines

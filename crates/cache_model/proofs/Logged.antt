@@ -1,69 +1,32 @@
--- Replies fit their commands, and logs that hold them hold the answers.
-use Rattle.std.proofs.Common.{◌≡◌, ℕ, ◌+◌, ◌≤◌, ◌&&◌, suc, zero, Bool, true, false, leb, cond, List, [], ◌∷◌, length, map, filter, Option, Some, None, refl, subst, sym, ap, ◌∙◌, arith, get_or, zero-add}
+-- Replies at entries of a journal fit their commands, and logs that hold them hold the answers.
+use Rattle.std.proofs.Common.{◌≡◌, ℕ, ◌+◌, ◌&&◌, suc, zero, Bool, true, false, leb, cond, List, [], ◌∷◌, length, map, Option, Some, None, refl, subst, sym, ap, ◌∙◌, arith, get_or, zero-add}
 use Rattle.std.specs.List.{filter_map, range_with_len, slice_get}
 use Rattle.std.specs.Option.{IsSome, option_and_then, option_map, unwrap_or}
 use Rattle.std.specs.Prelude.{All}
 use Rattle.std.proofs.lemmas.Bool.{and_parts, leb-true}
 use Rattle.std.proofs.lemmas.Bool.Decides.{nat_tests}
-use Rattle.std.proofs.lemmas.List.{length-take}
-use Rattle.std.proofs.lemmas.List.Elements.{All-head, All-tail, All-cons, All-from_recursion, All-map, All-take}
-use Rattle.trace_text.specs.declared.command.Kind.{Kind}
-use Rattle.trace_text.specs.declared.command.Kind.TheVariants as kinds
-use Rattle.trace_text.specs.Operation.{Operation}
-use Rattle.trace_text.specs.Parts.{is_scan, longest_value, owner}
+use Rattle.std.proofs.lemmas.List.Elements.{All-head, All-tail, All-cons}
+use Rattle.rows.specs.declared.kind.Kind.{Kind}
+use Rattle.rows.specs.declared.kind.Kind.TheVariants as kinds
+use Rattle.rows.specs.Apply.{Reply}
+use Rattle.rows.specs.Fits.{Fits, HasFitting}
+use Rattle.rows.specs.KeyBody.{IsKey}
+use Rattle.rows.specs.Operation.{Operation, is_scan}
+use Rattle.trace_text.specs.Parts.{longest_value, owner}
 use Rattle.trace_text.specs.Trace.{Trace}
 use Rattle.cache_model.specs.declared.entry.Entry.{Entry}
 use Rattle.cache_model.specs.Answer.{answer, answer_from, answer_kind}
-use Rattle.cache_model.specs.Apply.{Reply, Stored, Replaced, Missing, Erased, apply_kind, get_where, has, in_order, is_at_most, is_of, row_of, HasDistinctKeys}
 use Rattle.cache_model.specs.Bodies.{HasKeys}
 use Rattle.cache_model.specs.Holds.{PutsHold}
-use Rattle.cache_model.specs.KeyBody.{IsKey}
 use Rattle.cache_model.specs.Legal.{command_of, reply_at}
-use Rattle.cache_model.specs.Fits.{Fits, FitsKind, HasFitting}
 use Rattle.cache_model.specs.Logged.{AreLogged, HoldTheReplies}
 use Rattle.cache_model.specs.OwnParts.{Log, part_reply, parts_of}
 use Rattle.cache_model.specs.Report.{answers}
-use Rattle.cache_model.specs.Row.{Row}
-use Rattle.cache_model.proofs.Along.{All-find, replied}
+use Rattle.cache_model.proofs.Along.{replied}
 use Rattle.cache_model.proofs.Bodies.{is_within, value_within}
 use Rattle.cache_model.proofs.Distinct.{distinct-after}
 use Rattle.cache_model.proofs.Holds.{rows-hold}
-use Rattle.cache_model.proofs.KeyOrder.{All-in_order, All-scanned}
-use Rattle.cache_model.proofs.Rising.{passes-filter, scanned_rise}
-
--- ---- a reply fits its command
-
-put-fits : (b : Bool) (longest : ℕ) (key : List ℕ) (count : ℕ) → FitsKind kinds.Put longest key count (cond b Replaced Stored)
-put-fits true longest key count = tt
-put-fits false longest key count = tt
-
-erase-fits : (b : Bool) (longest : ℕ) (key : List ℕ) (count : ℕ) → FitsKind kinds.Erase longest key count (cond b Erased Missing)
-erase-fits true longest key count = tt
-erase-fits false longest key count = tt
-
-get-fits : (o : Option Row) (longest : ℕ) (key : List ℕ) (count : ℕ) (cache : List Row) → row_of key cache ≡ o
-    → All (λ row. length row.value ≤ longest) cache → FitsKind kinds.Get longest key count (get_where o key cache).1
-get-fits None longest key count cache e short = tt
-get-fits (Some row) longest key count cache e short = All-find (λ (r : Row). length r.value ≤ longest) (is_of key) cache row short e
-
-pub kind-fits : (kind : Kind) (longest : ℕ) (operation : Operation) (cache : List Row) → HasDistinctKeys cache
-    → All (λ row. IsKey row.key) cache → All (λ row. length row.value ≤ longest) cache
-    → FitsKind kind longest operation.key operation.count (apply_kind kind operation cache).1
-kind-fits kinds.Put longest operation cache distinct keyed short = put-fits (has operation.key cache) longest operation.key operation.count
-kind-fits kinds.Get longest operation cache distinct keyed short =
-    get-fits (row_of operation.key cache) longest operation.key operation.count cache refl short
-kind-fits kinds.Erase longest operation cache distinct keyed short = erase-fits (has operation.key cache) longest operation.key operation.count
-kind-fits kinds.Scan longest operation cache distinct keyed short =
-    let above = is_at_most operation.key in
-    let IsAbove : List ℕ → Type 0 = λ key. above key ≡ true in
-    let keys = map (λ (row : Row). row.key) cache in
-    record {
-      few = omega (arith, length-take operation.count (in_order (filter above keys)));
-      rising = scanned_rise operation.count above cache distinct;
-      from = All-take IsAbove operation.count (in_order (filter above keys))
-          (All-in_order IsAbove (filter above keys) (All-from_recursion IsAbove (filter above keys) (passes-filter above keys)));
-      lengths = All-scanned IsKey above operation.count keys (All-map IsKey (λ (row : Row). row.key) cache keyed);
-    }
+use Rattle.cache_model.proofs.RowLaws.{FittingLaws}
 
 -- ---- at an entry of a journal
 
@@ -84,15 +47,15 @@ key-from key passes =
 puts-keyed : (trace : Trace) → HasKeys trace → PutsHold is_key (is_within (longest_value trace)) trace
 puts-keyed trace keyed i d below = λ put. (key-test _ (keyed i d below put), value_within trace i d below)
 
-pub reply-fits : (trace : Trace) (pages : ℕ) (journal : List Entry) (operation : Operation) (reply : Reply) → HasKeys trace
+pub reply-fits : FittingLaws → (trace : Trace) (pages : ℕ) (journal : List Entry) (operation : Operation) (reply : Reply) → HasKeys trace
     → command_of trace operation.number ≡ Some operation → reply_at trace pages journal operation.number ≡ Some reply
     → Fits (longest_value trace) operation reply
-reply-fits trace pages journal operation reply keyed is e =
+reply-fits laws trace pages journal operation reply keyed is e =
     let longest = longest_value trace in
     let r = replied trace pages operation.number journal reply e in
     let same : r.operation ≡ operation = cc in
-    let rows = rows-hold is_key (is_within longest) trace pages _ r.cache (puts-keyed trace keyed) r.leads in
-    let fits = kind-fits r.operation.kind longest r.operation r.cache (distinct-after trace pages _ r.cache r.leads)
+    let rows = rows-hold laws.hold is_key (is_within longest) trace pages _ r.cache (puts-keyed trace keyed) r.leads in
+    let fits = laws.fit longest r.operation r.cache (distinct-after laws.distinct laws.front trace pages _ r.cache r.leads)
     (λ i d below. key-from _ (rows i d below).0) (λ i d below. leb-true _ longest (rows i d below).1) in
     subst (λ (o : Operation). Fits longest o reply) same (subst (λ (answered : Reply). Fits longest r.operation answered) (sym r.is) fits)
 
@@ -127,20 +90,20 @@ of-command true n i owner = from 0 n
     from k (suc m) = All-cons (λ (part : ℕ × ℕ). part.0 ≡ i) (i, k) (map (λ s. (i, s)) (range_with_len (k + 1) m)) refl (from (k + 1) m)
 of-command false n i owner = All-cons (λ (part : ℕ × ℕ). part.0 ≡ i) (i, owner) [] refl (λ j d below. absurd (omega (arith, below)))
 
-in-journal : (trace : Trace) (pages : ℕ) (operation : Operation) (o : Option (List Entry)) → HasKeys trace → command_of trace operation.number ≡ Some operation
+in-journal : FittingLaws → (trace : Trace) (pages : ℕ) (operation : Operation) (o : Option (List Entry)) → HasKeys trace → command_of trace operation.number ≡ Some operation
     → (r : Option Reply) → option_and_then (λ journal. reply_at trace pages journal operation.number) o ≡ r → IsSome r
     → HasFitting (longest_value trace) operation r
-in-journal trace pages operation None keyed is None e some = absurd (cc some)
-in-journal trace pages operation None keyed is (Some reply) e some = absurd (cc e)
-in-journal trace pages operation (Some journal) keyed is None e some = absurd (cc some)
-in-journal trace pages operation (Some journal) keyed is (Some reply) e some = reply-fits trace pages journal operation reply keyed is e
+in-journal laws trace pages operation None keyed is None e some = absurd (cc some)
+in-journal laws trace pages operation None keyed is (Some reply) e some = absurd (cc e)
+in-journal laws trace pages operation (Some journal) keyed is None e some = absurd (cc some)
+in-journal laws trace pages operation (Some journal) keyed is (Some reply) e some = reply-fits laws trace pages journal operation reply keyed is e
 
-part-fits : (trace : Trace) (pages : ℕ) (journals : List (List Entry)) (operation : Operation) (part : ℕ × ℕ) → HasKeys trace
+part-fits : FittingLaws → (trace : Trace) (pages : ℕ) (journals : List (List Entry)) (operation : Operation) (part : ℕ × ℕ) → HasKeys trace
     → command_of trace operation.number ≡ Some operation → part.0 ≡ operation.number → IsSome (part_reply trace pages journals part)
     → HasFitting (longest_value trace) operation (part_reply trace pages journals part)
-part-fits trace pages journals operation (i, s) keyed is same some =
+part-fits laws trace pages journals operation (i, s) keyed is same some =
     let at : part_reply trace pages journals (operation.number, s) ≡ part_reply trace pages journals (i, s) = ap (λ (k : ℕ). part_reply trace pages journals (k, s)) (sym same) in
-    in-journal trace pages operation (slice_get journals s) keyed is (part_reply trace pages journals (i, s)) at some
+    in-journal laws trace pages operation (slice_get journals s) keyed is (part_reply trace pages journals (i, s)) at some
 
 -- ---- the answers
 
@@ -177,15 +140,15 @@ none-left ask (operation ∷ operations) some = go (ask operation) refl (All-hea
     go None e here rest = absurd (cc (e, here))
     go (Some reply) e here rest = rw e (ap (λ list. (operation.number, Some reply) ∷ list) rest)
 
-pub are-logged : (trace : Trace) (n pages : ℕ) (journals : List (List Entry)) (logs : List Log)
+pub are-logged : FittingLaws → (trace : Trace) (n pages : ℕ) (journals : List (List Entry)) (logs : List Log)
     → HoldTheReplies trace n pages journals logs → AreLogged trace n logs (answers trace n pages journals)
-are-logged trace n pages journals logs held = record {
+are-logged laws trace n pages journals logs held = record {
   replies = part_reply trace pages journals;
   logged = held.logged;
   fit = λ i d below j e within.
       let operation = get_or trace.operations i d in
       let number = of-command (is_scan operation.kind) n operation.number (owner operation.key n) j e within in
-      part-fits trace pages journals operation (get_or (parts_of n operation) j e) held.keys (held.commands i d below) number (held.replied i d below j e within);
+      part-fits laws trace pages journals operation (get_or (parts_of n operation) j e) held.keys (held.commands i d below) number (held.replied i d below j e within);
   answered =
       none-left (answer trace n pages journals) trace.operations (λ i d below. is-answered trace n pages journals _ (held.replied i d below))
       ∙ each-same trace.operations;

@@ -1,64 +1,63 @@
 -- With one shard nothing is joined.
 use Rattle.std.proofs.Common.{Bool, List, Option, Some, [], ap, append-nil, arith, cond, eqb, false, filter, map, refl, sym, take, true, ℕ, ◌%◌, ◌++◌, ◌-◌, ◌∙◌, ◌∷◌, ◌≡◌}
 use Rattle.std.proofs.lemmas.List.{take-take, take_all}
-use Rattle.trace_text.specs.declared.command.Kind.{Kind}
-use Rattle.trace_text.specs.declared.command.Kind.TheVariants as kinds
-use Rattle.trace_text.specs.Operation.{Operation}
-use Rattle.trace_text.specs.Parts.{hash, is_scan, origin, owner}
+use Rattle.std.specs.List.{flat_map}
+use Rattle.rows.specs.declared.kind.Kind.{Kind}
+use Rattle.rows.specs.declared.kind.Kind.TheVariants as kinds
+use Rattle.rows.specs.Apply.{Reply, Stored, Replaced, Value, Missing, Erased, Keys, apply, apply_kind, in_order, is_at_most}
+use Rattle.rows.specs.Fits.{AreFound, FitsKind}
+use Rattle.rows.specs.Operation.{Operation, is_scan}
+use Rattle.rows.specs.Row.{Row}
+use Rattle.trace_text.specs.Parts.{hash, origin, owner}
 use Rattle.trace_text.specs.Trace.{Trace}
 use Rattle.cache_model.specs.declared.entry.Entry.{Entry}
-use Rattle.cache_model.specs.Row.{Row}
-use Rattle.std.specs.List.{flat_map}
-use Rattle.cache_model.specs.Fits.{AreFound, FitsKind}
 use Rattle.cache_model.specs.OwnParts.{parts_of}
-use Rattle.cache_model.specs.Apply.{Reply, Stored, Replaced, Value, Missing, Erased, Keys, apply, apply_kind, in_order, is_at_most}
 use Rattle.cache_model.specs.Legal.{command_of, reply_at}
 use Rattle.cache_model.specs.Answer.{answer, answer_from, answer_kind, join}
 use Rattle.cache_model.proofs.Along.{replied}
-use Rattle.cache_model.proofs.KeyOrder.{first_stay}
-use Rattle.cache_model.proofs.Rising.{rising_stay}
+use Rattle.cache_model.proofs.RowLaws.{FirstStay, RisingStay}
 
 mod-one : (n : ℕ) → n % 1 ≡ 0
 mod-one n = omega arith
 
 -- the reply of one shard to a scan, joined
-joined_stays : (count : ℕ) (keys : List (List ℕ)) → join count (take count (in_order keys) ∷ []) ≡ take count (in_order keys)
-joined_stays count keys = rw (append-nil (take count (in_order keys)), first_stay count keys) (take-take count count (in_order keys) (omega arith))
+joined_stays : FirstStay → (count : ℕ) (keys : List (List ℕ)) → join count (take count (in_order keys) ∷ []) ≡ take count (in_order keys)
+joined_stays stay count keys = rw (append-nil (take count (in_order keys)), stay count keys) (take-take count count (in_order keys) (omega arith))
 
-one_answer : (kind : Kind) (operation : Operation) (cache : List Row) → answer_kind kind 1 operation (Some (apply_kind kind operation cache).1 ∷ []) ≡ Some (apply_kind kind operation cache).1
-one_answer kinds.Put operation cache = rw (mod-one (hash operation.key)) refl
-one_answer kinds.Get operation cache = rw (mod-one (hash operation.key)) refl
-one_answer kinds.Erase operation cache = rw (mod-one (hash operation.key)) refl
-one_answer kinds.Scan operation cache =
-    ap (λ keys. Some (Keys keys)) (joined_stays operation.count (filter (is_at_most operation.key) (map (λ row. row.key) cache)))
+one_answer : FirstStay → (kind : Kind) (operation : Operation) (cache : List Row) → answer_kind kind 1 operation (Some (apply_kind kind operation cache).1 ∷ []) ≡ Some (apply_kind kind operation cache).1
+one_answer stay kinds.Put operation cache = rw (mod-one (hash operation.key)) refl
+one_answer stay kinds.Get operation cache = rw (mod-one (hash operation.key)) refl
+one_answer stay kinds.Erase operation cache = rw (mod-one (hash operation.key)) refl
+one_answer stay kinds.Scan operation cache =
+    ap (λ keys. Some (Keys keys)) (joined_stays stay operation.count (filter (is_at_most operation.key) (map (λ row. row.key) cache)))
 
-pub answer_is_reply : (trace : Trace) (pages : ℕ) (journal : List Entry) (operation : Operation) (reply : Reply)
+pub answer_is_reply : FirstStay → (trace : Trace) (pages : ℕ) (journal : List Entry) (operation : Operation) (reply : Reply)
     → command_of trace operation.number ≡ Some operation → reply_at trace pages journal operation.number ≡ Some reply
     → answer trace 1 pages (journal ∷ []) operation ≡ Some reply
-answer_is_reply trace pages journal operation reply is e =
+answer_is_reply stay trace pages journal operation reply is e =
     let r = replied trace pages operation.number journal reply e in
     let same : r.operation ≡ operation = cc in
     let made : reply ≡ (apply operation r.cache).1 = r.is ∙ ap (λ (o : Operation). (apply o r.cache).1) same in
-    ap (λ (o : Option Reply). answer_from 1 operation (o ∷ [])) (e ∙ ap Some made) ∙ one_answer operation.kind operation r.cache ∙ ap Some (sym made)
+    ap (λ (o : Option Reply). answer_from 1 operation (o ∷ [])) (e ∙ ap Some made) ∙ one_answer stay operation.kind operation r.cache ∙ ap Some (sym made)
 
 -- ---- a reply that fits
 
-fitting_answer-keys : (operation : Operation) (keys : List (List ℕ)) → AreFound operation.key operation.count keys → answer_kind kinds.Scan 1 operation (Some (Keys keys) ∷ []) ≡ Some (Keys keys)
-fitting_answer-keys operation keys found =
+fitting_answer-keys : RisingStay → (operation : Operation) (keys : List (List ℕ)) → AreFound operation.key operation.count keys → answer_kind kinds.Scan 1 operation (Some (Keys keys) ∷ []) ≡ Some (Keys keys)
+fitting_answer-keys rising operation keys found =
     ap (λ (list : List (List ℕ)). Some (Keys (take operation.count (in_order list)))) (append-nil keys)
-    ∙ ap (λ (list : List (List ℕ)). Some (Keys (take operation.count list))) (rising_stay keys found.rising)
+    ∙ ap (λ (list : List (List ℕ)). Some (Keys (take operation.count list))) (rising keys found.rising)
     ∙ ap (λ (list : List (List ℕ)). Some (Keys list)) (take_all operation.count keys found.few)
 
-pub fitting_answer : (kind : Kind) (longest : ℕ) (operation : Operation) (reply : Reply) → FitsKind kind longest operation.key operation.count reply → answer_kind kind 1 operation (Some reply ∷ []) ≡ Some reply
-fitting_answer kinds.Put longest operation reply fits = rw (mod-one (hash operation.key)) refl
-fitting_answer kinds.Get longest operation reply fits = rw (mod-one (hash operation.key)) refl
-fitting_answer kinds.Erase longest operation reply fits = rw (mod-one (hash operation.key)) refl
-fitting_answer kinds.Scan longest operation (Keys keys) fits = fitting_answer-keys operation keys fits
-fitting_answer kinds.Scan longest operation Stored fits = absurd fits
-fitting_answer kinds.Scan longest operation Replaced fits = absurd fits
-fitting_answer kinds.Scan longest operation (Value value) fits = absurd fits
-fitting_answer kinds.Scan longest operation Missing fits = absurd fits
-fitting_answer kinds.Scan longest operation Erased fits = absurd fits
+pub fitting_answer : RisingStay → (kind : Kind) (longest : ℕ) (operation : Operation) (reply : Reply) → FitsKind kind longest operation.key operation.count reply → answer_kind kind 1 operation (Some reply ∷ []) ≡ Some reply
+fitting_answer rising kinds.Put longest operation reply fits = rw (mod-one (hash operation.key)) refl
+fitting_answer rising kinds.Get longest operation reply fits = rw (mod-one (hash operation.key)) refl
+fitting_answer rising kinds.Erase longest operation reply fits = rw (mod-one (hash operation.key)) refl
+fitting_answer rising kinds.Scan longest operation (Keys keys) fits = fitting_answer-keys rising operation keys fits
+fitting_answer rising kinds.Scan longest operation Stored fits = absurd fits
+fitting_answer rising kinds.Scan longest operation Replaced fits = absurd fits
+fitting_answer rising kinds.Scan longest operation (Value value) fits = absurd fits
+fitting_answer rising kinds.Scan longest operation Missing fits = absurd fits
+fitting_answer rising kinds.Scan longest operation Erased fits = absurd fits
 
 -- ---- one part of each command
 

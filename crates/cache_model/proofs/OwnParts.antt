@@ -7,8 +7,8 @@ use Rattle.std.proofs.lemmas.List.{map-append}
 use Rattle.std.proofs.lemmas.List.Elements.{filter-append}
 use Rattle.std.proofs.lemmas.List.FromFn.{length-map-range_with_len}
 use Rattle.std.proofs.lemmas.List.Sums.{sum_by-cons}
-use Rattle.trace_text.specs.Operation.{Operation}
-use Rattle.trace_text.specs.Parts.{has_part, is_scan, origin, own_parts, owner, parts}
+use Rattle.rows.specs.Operation.{Operation, is_scan}
+use Rattle.trace_text.specs.Parts.{has_part, origin, own_parts, owner, parts}
 use Rattle.trace_text.specs.Trace.{Trace}
 use Rattle.cache_model.specs.OwnParts.{issued_parts, parts_of}
 

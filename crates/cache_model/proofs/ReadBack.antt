@@ -12,18 +12,18 @@ use Rattle.std.proofs.lemmas.List.Sums.{sum_by-le, sum_by_more}
 use Rattle.std.proofs.lemmas.Option.{slice_get-get_or, slice_get-map, unwrap_or-slice_get}
 use Rattle.std.proofs.Math.Nat.{mul-le-mul_left}
 use Rattle.std.proofs.Math.Seq.{drop-cons}
-use Rattle.trace_text.specs.declared.command.Kind.{Kind}
-use Rattle.trace_text.specs.declared.command.Kind.TheVariants as kinds
-use Rattle.trace_text.specs.Operation.{Operation}
-use Rattle.trace_text.specs.Parts.{is_scan, longest_value, origin, owner}
+use Rattle.rows.specs.declared.kind.Kind.{Kind}
+use Rattle.rows.specs.declared.kind.Kind.TheVariants as kinds
+use Rattle.rows.specs.Operation.{Operation, is_scan}
+use Rattle.trace_text.specs.Parts.{longest_value, origin, owner}
 use Rattle.trace_text.specs.Trace.{Trace, trace_with}
-use Rattle.cache_model.specs.declared.reply_kind.ReplyKind.{ReplyKind}
+use Rattle.rows.specs.declared.reply_kind.ReplyKind.{ReplyKind}
 use Rattle.cache_model.specs.Answer.{answer_from, answer_kind, join, keys_in}
-use Rattle.cache_model.specs.Apply.{Reply, Keys}
-use Rattle.cache_model.specs.Fits.{Fits, HasFitting}
+use Rattle.rows.specs.Apply.{Reply, Keys}
+use Rattle.rows.specs.Fits.{Fits, HasFitting}
 use Rattle.cache_model.specs.Logged.{AreJoined, AreLogged, HasReplies, IsRead}
 use Rattle.cache_model.specs.OwnParts.{issued_parts, parts_before, parts_of, Log}
-use Rattle.cache_model.specs.Spelled.{spelled}
+use Rattle.rows.specs.Spelled.{spelled}
 use Rattle.cache_model.proofs.OwnParts.{issued_parts-count}
 
 -- ---- parts go up by command

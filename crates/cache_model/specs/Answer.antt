@@ -1,13 +1,13 @@
 -- The answer to a command, from the journals of all shards.
 use Rattle.std.specs.Prelude.{ℕ, List, [], take, map, flat_map, Option, Some, None, unwrap_or}
 use Rattle.std.specs.List.{slice_get}
-use Rattle.trace_text.specs.declared.command.Kind.{Kind}
-use Rattle.trace_text.specs.declared.command.Kind.TheVariants as kinds
-use Rattle.trace_text.specs.Operation.{Operation}
+use Rattle.rows.specs.declared.kind.Kind.{Kind}
+use Rattle.rows.specs.declared.kind.Kind.TheVariants as kinds
+use Rattle.rows.specs.Operation.{Operation}
 use Rattle.trace_text.specs.Parts.{owner}
 use Rattle.trace_text.specs.Trace.{Trace}
 use Rattle.cache_model.specs.declared.entry.Entry.{Entry}
-use Rattle.cache_model.specs.Apply.{Reply, Keys, in_order}
+use Rattle.rows.specs.Apply.{Reply, Keys, in_order}
 use Rattle.cache_model.specs.Legal.{reply_at}
 
 -- what the shards found in a scan, joined: the first so many of all their keys, in byte order

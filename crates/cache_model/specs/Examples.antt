@@ -1,15 +1,15 @@
 -- Examples on which the definitions are checked.
 use Rattle.std.specs.Prelude.{◌≡◌, ℕ, true, false, List, [], ◌∷◌, length, take, replicate, codes, Some, None}
 use Rattle.layout.specs.Sizes.{dense, tickets}
-use Rattle.trace_text.specs.declared.command.Kind.{Kind}
-use Rattle.trace_text.specs.declared.command.Kind.TheVariants.{Put, Get, Erase, Scan}
-use Rattle.trace_text.specs.Operation.{Operation}
+use Rattle.rows.specs.declared.kind.Kind.{Kind}
+use Rattle.rows.specs.declared.kind.Kind.TheVariants.{Put, Get, Erase, Scan}
+use Rattle.rows.specs.Operation.{Operation}
 use Rattle.trace_text.specs.Trace.{Trace, trace_with}
 use Rattle.cache_model.specs.declared.entry.Entry.{Entry}
 use Rattle.cache_model.specs.declared.entry.Entry.TheVariants.{Done, Evicted}
-use Rattle.cache_model.specs.Row.{Row, floor, live, tight_floor}
-use Rattle.cache_model.specs.Evictions.{Evicts}
-use Rattle.cache_model.specs.Apply.{Stored, Missing, Keys}
+use Rattle.rows.specs.Row.{Row, floor, live, tight_floor}
+use Rattle.rows.specs.Evictions.{Evicts}
+use Rattle.rows.specs.Apply.{Stored, Missing, Keys}
 use Rattle.cache_model.specs.Legal.{IsLegal, IsComplete, can_evict, reply_at}
 use Rattle.cache_model.specs.OwnParts.{issued_parts}
 use Rattle.cache_model.specs.Report.{report}
@@ -17,7 +17,7 @@ use Rattle.cache_model.specs.Summary.{summary}
 use Rattle.cache_model.specs.Answer.{answer}
 
 abbrev pub asks : ℕ → Kind → List ℕ → List ℕ → ℕ → Operation
-asks number kind key value count = record { number = number; line = number; kind = kind; key = key; value = value; count = count }
+asks number kind key value count = record { number = number; kind = kind; key = key; value = value; count = count }
 
 abbrev pub joined_scan : Operation
 joined_scan = asks 7 Scan (codes "a") [] 3

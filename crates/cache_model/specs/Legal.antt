@@ -2,24 +2,20 @@
 use Rattle.std.specs.Prelude.{◌≡◌, ℕ, ◌==◌, ◌-◌, ◌<◌, ◌&&◌, nat_lt, Bool, false, List, [], ◌∷◌, ◌++◌, length, take, filter, find, filter_map, if◌then◌else◌, Option, Some, None, IsSome}
 use Rattle.std.specs.List.{list_any, before_first, last_or}
 use Rattle.std.specs.Option.{option_map, option_and_then}
-use Rattle.trace_text.specs.Operation.{Operation}
+use Rattle.rows.specs.Operation.{Operation}
 use Rattle.trace_text.specs.Parts.{origin, parts}
 use Rattle.trace_text.specs.Trace.{Trace}
 use Rattle.cache_model.specs.declared.entry.Entry.{Entry}
 use Rattle.cache_model.specs.declared.entry.Entry.TheVariants.{Done, Evicted}
-use Rattle.cache_model.specs.Row.{Row, live, floor}
-use Rattle.cache_model.specs.Apply.{Reply, apply}
+use Rattle.rows.specs.Row.{Row, live, floor}
+use Rattle.rows.specs.Evictions.{is_of_put}
+use Rattle.rows.specs.Apply.{Reply, apply}
 
 -- What a shard did, entry by entry: Done(i) for its part of command i, Evicted(q) where the row that put q had
 -- stored went.
 
 abbrev pub command_of : Trace → ℕ → Option Operation
 command_of trace i = find (λ operation. operation.number == i) trace.operations
-
--- the least recently used row is the last; it is the row of put q
-abbrev pub is_of_put : ℕ → Option Row → Bool
-is_of_put q None = false
-is_of_put q (Some row) = row.number == q
 
 -- put q may lose its row where that row is the last one, and more bytes are live than the floor
 abbrev pub can_evict : ℕ → ℕ → List Row → Bool

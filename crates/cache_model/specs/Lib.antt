@@ -1,16 +1,10 @@
 pub mod Answer
-pub mod Apply
 pub mod Bodies
-pub mod Evictions
 pub mod Examples
-pub mod Fits
 pub mod Holds
-pub mod KeyBody
 pub mod Legal
 pub mod Logged
 pub mod OwnParts
 pub mod Report
-pub mod Row
-pub mod Spelled
 pub mod Summary
 pub mod Unbroken

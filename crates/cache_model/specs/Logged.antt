@@ -1,17 +1,17 @@
 -- What the logs of all shards hold, and the answers that are read from them.
 use Rattle.std.specs.Prelude.{◌≡◌, ℕ, ◌+◌, ◌<◌, Bool, true, false, List, [], ◌∷◌, length, map, All, Option, Some, IsSome}
 use Rattle.std.specs.List.{range_with_len, slice_get, slice_index_or}
-use Rattle.trace_text.specs.Operation.{Operation}
-use Rattle.trace_text.specs.Parts.{is_scan, longest_value, origin}
+use Rattle.rows.specs.Operation.{Operation, is_scan}
+use Rattle.trace_text.specs.Parts.{longest_value, origin}
 use Rattle.trace_text.specs.Trace.{Trace}
 use Rattle.cache_model.specs.declared.entry.Entry.{Entry}
 use Rattle.cache_model.specs.Answer.{answer_from, join, keys_in}
-use Rattle.cache_model.specs.Apply.{Reply, Keys}
+use Rattle.rows.specs.Apply.{Reply, Keys}
 use Rattle.cache_model.specs.Bodies.{HasKeys}
-use Rattle.cache_model.specs.Fits.{Fits, HasFitting}
+use Rattle.rows.specs.Fits.{Fits, HasFitting}
 use Rattle.cache_model.specs.Legal.{command_of}
 use Rattle.cache_model.specs.OwnParts.{HoldsReplies, Log, part_reply, parts_before, parts_of}
-use Rattle.cache_model.specs.Spelled.{spelled}
+use Rattle.rows.specs.Spelled.{spelled}
 
 -- The logs of n shards hold the replies to the parts that they issued, and these are the answers. `replies` has the
 -- reply to each part.

@@ -2,14 +2,14 @@
 use Rattle.std.specs.Prelude.{◌≡◌, ℕ, ◌==◌, List, [], ◌∷◌, map, take, filter, flat_map, if◌then◌else◌, Option}
 use Rattle.std.specs.List.{range_with_len, slice_get}
 use Rattle.std.specs.Option.{option_map, option_and_then}
-use Rattle.trace_text.specs.Operation.{Operation}
-use Rattle.trace_text.specs.Parts.{is_scan, origin, own_parts, owner}
+use Rattle.rows.specs.Operation.{Operation, is_scan}
+use Rattle.trace_text.specs.Parts.{origin, own_parts, owner}
 use Rattle.trace_text.specs.Trace.{Trace, trace_with}
 use Rattle.cache_model.specs.declared.entry.Entry.{Entry}
-use Rattle.cache_model.specs.declared.reply_kind.ReplyKind.{ReplyKind}
-use Rattle.cache_model.specs.Apply.{Reply}
+use Rattle.rows.specs.declared.reply_kind.ReplyKind.{ReplyKind}
+use Rattle.rows.specs.Apply.{Reply}
 use Rattle.cache_model.specs.Legal.{reply_at}
-use Rattle.cache_model.specs.Spelled.{spelled}
+use Rattle.rows.specs.Spelled.{spelled}
 
 -- A part is named by the number of its command and the shard that does it.
 

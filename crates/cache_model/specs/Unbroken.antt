@@ -1,8 +1,8 @@
 -- Texts that stay on one line.
 use Rattle.std.specs.Prelude.{◌==◌, Bool, not, ℕ, List}
 use Rattle.std.specs.List.{list_all}
-use Rattle.cache_model.specs.Apply.{Reply}
-use Rattle.cache_model.specs.Holds.{ReplyHolds}
+use Rattle.rows.specs.Apply.{Reply}
+use Rattle.rows.specs.Holds.{ReplyHolds}
 
 -- no LF is among the bytes
 abbrev pub is_unbroken : List ℕ → Bool

@@ -1,35 +1,43 @@
 //! Laws of the definitions.
-ghost use Rattle.std.specs.Prelude.{◌≡◌, ◌==◌, ◌+◌, ◌-◌, ◌*◌, ◌<◌, ◌≤◌, if◌then◌else◌, ℕ, Bool, false, List, [], ◌∷◌, ◌++◌, length, map, take, filter, Option, Some, None, All, Contains, IsPermutation, IsSorted, true};
+ghost use Rattle.std.specs.Prelude.{◌≡◌, ◌==◌, ◌+◌, ◌*◌, ◌<◌, ◌≤◌, if◌then◌else◌, ℕ, Bool, false, List, [], ◌∷◌, ◌++◌, length, map, filter, Some, All};
+ghost use Rattle.std.specs.List.{list_any, slice_get, slice_index_or, enumerate_from};
+ghost use Rattle.std.specs.Option.{option_map};
+ghost use Rattle.layout.specs.Sizes.{dense};
+ghost use Rattle.rows.specs.Apply.{Reply, apply, HasDistinctKeys};
+ghost use Rattle.rows.specs.Bodies.{most_of_body};
+ghost use Rattle.rows.specs.Evictions.{Evicts};
+ghost use Rattle.rows.specs.Fits.{Fits};
+ghost use Rattle.rows.specs.Holds.{PutHolds, RowsHold, ReplyHolds};
+ghost use Rattle.rows.specs.KeyBody.{IsKey};
+ghost use Rattle.rows.specs.Operation.{Operation, is_scan};
+ghost use Rattle.rows.specs.Row.{Row, floor, tight_floor};
+ghost use Rattle.rows.specs.Spelled.{spelled};
+ghost use Rattle.trace_text.specs.Parts.{longest_value, origin, own_parts, parts};
 ghost use Rattle.trace_text.specs.Trace.{Trace};
 ghost use Rattle.cache_model.specs.declared.entry.Entry.{Entry as JournalEntry};
 ghost use Rattle.cache_model.specs.declared.entry.Entry.TheVariants.{Done, Evicted};
-ghost use Rattle.cache_model.specs.Row.{Row, floor, live, tight_floor};
-ghost use Rattle.layout.specs.Sizes.{dense};
-ghost use Rattle.cache_model.specs.Apply.{Reply, apply, has, in_order, row_of, without, HasDistinctKeys};
 ghost use Rattle.cache_model.specs.Answer.{answer, answer_from};
-ghost use Rattle.cache_model.specs.Evictions.{Evicts};
-ghost use Rattle.cache_model.specs.Fits.{Fits};
+ghost use Rattle.cache_model.specs.Bodies.{HasKeys, HasShortKeys};
+ghost use Rattle.cache_model.specs.Holds.{PutsHold};
+ghost use Rattle.cache_model.specs.Legal.{EvictsAbove, cache_after, cache_from, command_of, done, is_done, reply_at};
 ghost use Rattle.cache_model.specs.Logged.{AreLogged, HoldTheReplies, IsReadInLogs};
-ghost use Rattle.cache_model.specs.Bodies.{HasKeys, HasShortKeys, most_of_body};
-ghost use Rattle.cache_model.specs.KeyBody.{AreKeys, IsKey};
-ghost use Rattle.cache_model.specs.Report.{HasNumbers, Occupancy, PrintsJournals, answers, answer_text, journal_text, occupancy_text, report_of, text_lines};
-ghost use Rattle.cache_model.specs.Spelled.{spelled};
-ghost use Rattle.cache_model.specs.Unbroken.{IsUnbroken};
-ghost use Rattle.std.specs.Cmp.Lexicographic.{slice_cmp};
-ghost use Rattle.std.specs.List.{last_or, list_any, slice_get, slice_index_or, enumerate_from};
-ghost use Rattle.std.specs.Option.{option_map};
-ghost use Rattle.std.specs.Ordering.{nat_cmp};
 ghost use Rattle.cache_model.specs.OwnParts.{Log, issued_parts, parts_before, parts_of};
-ghost use Rattle.trace_text.specs.Parts.{is_scan, longest_value, origin, own_parts, parts};
-ghost use Rattle.cache_model.specs.Holds.{PutHolds, PutsHold, RowsHold, ReplyHolds};
-ghost use Rattle.trace_text.specs.Operation.{Operation};
-ghost use Rattle.cache_model.specs.Legal.{EvictsAbove, cache_after, cache_from, command_of, done, is_done, is_of_put, reply_at};
+ghost use Rattle.cache_model.specs.Report.{HasNumbers, Occupancy, PrintsJournals, answers, answer_text, journal_text, occupancy_text, report_of, text_lines};
+ghost use Rattle.cache_model.specs.Unbroken.{IsUnbroken};
+
+use rows::{
+    other_rows_are_distinct, parts_hold_what_was_put, parts_keep_keys_distinct,
+    replies_fit_their_operations, rising_keys_are_in_order, scanned_keys_are_in_order,
+};
 
 /// No two rows of the cache to which a journal leads have one key.
 pub fn keys_are_distinct()
     ensures { (trace : Trace) (pages : ℕ) (journal : List JournalEntry) (cache : List Row)
         → cache_after trace pages journal ≡ Some cache → HasDistinctKeys cache }
-{}
+{
+    parts_keep_keys_distinct();
+    other_rows_are_distinct();
+}
 
 /// A journal goes on from the cache to which it leads, and what was replied in it stays so. A command that is done at its
 /// end, and was not before, has the reply that it has on that cache.
@@ -59,40 +67,6 @@ pub fn evictions_in_turn_are_legal()
     ensures pressure { (pages : ℕ) → floor pages ≤ tight_floor pages 0 + dense }
 {}
 
-/// Evictions in turn: of none, of one more at the end, and how many rows they leave.
-pub fn evictions_are_counted()
-    ensures none { (bound : ℕ) (cache : List Row) → Evicts bound cache [] cache }
-    ensures more { (bound q : ℕ) (cache rest : List Row) (puts : List ℕ)
-        → Evicts bound cache puts rest → is_of_put q (last_or None rest) ≡ true → bound < live rest
-        → Evicts bound cache (puts ++ q ∷ []) (take (length rest - 1) rest) }
-    ensures count { (bound : ℕ) (cache rest : List Row) (puts : List ℕ) → Evicts bound cache puts rest
-        → length puts + length rest ≡ length cache }
-{}
-
-/// What the rows of other keys are: where no row has the key they are all rows, and no two of them have one key. A row
-/// that was found may stand before them.
-pub fn other_rows_are_distinct()
-    ensures absent { (key : List ℕ) (cache : List Row) → has key (without key cache) ≡ false }
-    ensures all { (key : List ℕ) (cache : List Row) → has key cache ≡ false → without key cache ≡ cache }
-    ensures distinct { (key : List ℕ) (cache : List Row) → HasDistinctKeys cache → HasDistinctKeys (without key cache) }
-    ensures brought { (key : List ℕ) (cache : List Row) (row : Row) → row_of key cache ≡ Some row → HasDistinctKeys cache
-        → HasDistinctKeys (row ∷ without key cache) }
-    ensures front { (count : ℕ) (cache : List Row) → HasDistinctKeys cache → HasDistinctKeys (take count cache) }
-{}
-
-/// The keys of a scan are among those that it was taken from, and stay as they are where they are put in order once more.
-pub fn scanned_keys_are_in_order()
-    ensures among { (count : ℕ) (test : List ℕ → Bool) (keys : List (List ℕ))
-        → All (Contains keys) (take count (in_order (filter test keys))) }
-    ensures stay { (count : ℕ) (keys : List (List ℕ)) → in_order (take count (in_order keys)) ≡ take count (in_order keys) }
-{}
-
-/// Keys in order are the one sorted list of them.
-pub fn sorted_keys_are_in_order()
-    ensures { (keys sorted : List (List ℕ)) → IsPermutation keys sorted → IsSorted (slice_cmp nat_cmp) sorted
-        → in_order keys ≡ sorted }
-{}
-
 /// What holds of the keys and the values of a trace's puts holds of each row of a cache to which a journal leads, and of
 /// the value or the keys in each reply and each answer.
 pub fn replies_hold_what_was_put()
@@ -107,7 +81,10 @@ pub fn replies_hold_what_was_put()
     ensures answers { (on_key on_value : List ℕ → Bool) (trace : Trace) (n pages : ℕ) (journals : List (List JournalEntry))
         (operation : Operation) (reply : Reply)
         → PutsHold on_key on_value trace → answer trace n pages journals operation ≡ Some reply → ReplyHolds on_key on_value reply }
-{}
+{
+    parts_hold_what_was_put();
+    scanned_keys_are_in_order();
+}
 
 /// The body of a reply is no longer than the greatest value of a trace, or than the room of each key that is asked.
 pub fn bodies_have_room()
@@ -115,7 +92,9 @@ pub fn bodies_have_room()
         → HasShortKeys trace → command_of trace operation.number ≡ Some operation
         → reply_at trace pages journal operation.number ≡ Some reply
         → length (spelled reply).1 ≤ most_of_body (longest_value trace) operation }
-{}
+{
+    parts_hold_what_was_put();
+}
 
 /// Where no reply has an LF, the lines of a report are the texts that it is made of, and behind the answers there is one
 /// line for each journal.
@@ -129,11 +108,6 @@ pub fn a_report_has_its_lines()
         → All (λ answer. IsUnbroken answer.1) answers → s < length journals
         → slice_get (text_lines (report_of answers journals occupancies)) (length answers + s)
         ≡ option_map (λ journal. journal_text (s, journal)) (slice_get journals s) }
-{}
-
-/// A body spells at most one list of keys.
-pub fn a_body_spells_one_list()
-    ensures { (body : List ℕ) (keys others : List (List ℕ)) → AreKeys body keys → AreKeys body others → keys ≡ others }
 {}
 
 /// Printed lines spell at most one list of journals, where commands are numbered in 32 bits.
@@ -153,7 +127,10 @@ pub fn one_shard_answers_alone()
         → answer trace 1 pages (journal ∷ []) operation ≡ Some reply }
     ensures fitting { (longest : ℕ) (operation : Operation) (reply : Reply) → Fits longest operation reply
         → answer_from 1 operation (Some reply ∷ []) ≡ Some reply }
-{}
+{
+    scanned_keys_are_in_order();
+    rising_keys_are_in_order();
+}
 
 /// The list of the parts that a shard issues has their count as its length, and those that one shard does among them are
 /// the parts of that peer.
@@ -194,10 +171,20 @@ pub fn replies_fit_their_commands()
         → HasKeys trace → command_of trace operation.number ≡ Some operation
         → reply_at trace pages journal operation.number ≡ Some reply
         → Fits (longest_value trace) operation reply }
-{}
+{
+    parts_keep_keys_distinct();
+    other_rows_are_distinct();
+    parts_hold_what_was_put();
+    replies_fit_their_operations();
+}
 
 /// Where the journals of n shards reply to each part, and the logs hold these replies, the logs hold the answers.
 pub fn logs_hold_the_answers()
     ensures { (trace : Trace) (n pages : ℕ) (journals : List (List JournalEntry)) (logs : List Log)
         → HoldTheReplies trace n pages journals logs → AreLogged trace n logs (answers trace n pages journals) }
-{}
+{
+    parts_keep_keys_distinct();
+    other_rows_are_distinct();
+    parts_hold_what_was_put();
+    replies_fit_their_operations();
+}

@@ -7,11 +7,11 @@ use Rattle.std.proofs.lemmas.List.Concat.{flat_map-append}
 use Rattle.std.proofs.lemmas.List.Sums.{sum_by-cons}
 use Rattle.layout.specs.Sizes.{greatest_key, greatest_value, greatest_object}
 use Rattle.trace_text.specs.declared.command.Command.{Command}
-use Rattle.trace_text.specs.declared.command.Kind.{Kind}
-use Rattle.trace_text.specs.declared.command.Kind.TheVariants.{Put, Get, Erase, Scan}
-use Rattle.trace_text.specs.Operation.{Operation, operation, operations}
-use Rattle.trace_text.specs.Parts.{is_put}
-use Rattle.cache_model.specs.Row.{Row, size}
+use Rattle.rows.specs.declared.kind.Kind.{Kind}
+use Rattle.rows.specs.declared.kind.Kind.TheVariants.{Put, Get, Erase, Scan}
+use Rattle.rows.specs.Operation.{Operation, is_put}
+use Rattle.trace_text.specs.Operation.{operation, operations}
+use Rattle.rows.specs.Row.{Row, size}
 use Rattle.dirty_region.specs.declared.refusal.DirtyRefusal.{DirtyRefusal}
 use Rattle.dirty_region.specs.declared.refusal.DirtyRefusal.TheVariants.{TooMany, NoRoom}
 use Rattle.dirty_mode.specs.DirtyText.{line_text, text_of, lines_of, lines_from, puts_after, staying, row_of}

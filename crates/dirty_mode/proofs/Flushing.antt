@@ -7,7 +7,7 @@ use Rattle.std.proofs.lemmas.Bool.{lt-leb, le-leb, leb-true}
 use Rattle.std.proofs.lemmas.List.Concat.{flat_map-append}
 use Rattle.std.specs.Io.KnownBytes.{Appends}
 use Rattle.outside.specs.Moves.{AppendsFront}
-use Rattle.cache_model.specs.Row.{Row, live}
+use Rattle.rows.specs.Row.{Row, live}
 use Rattle.dirty_region.specs.Queues.{Queue, line, FlushesOldest, BreaksOff}
 use Rattle.dirty_mode.specs.DirtyText.{Flushed, going, staying, line_text, text_of}
 use Rattle.dirty_region.specs.State.{DirtyState}

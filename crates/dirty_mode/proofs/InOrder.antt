@@ -2,12 +2,11 @@
 use Rattle.std.proofs.Common.{◌≡◌, ℕ, ◌+◌, Bool, true, false, cond, leb, List, [], ◌∷◌, ◌++◌, map, refl, sym, ap, ◌∙◌, append_assoc, append-nil}
 use Rattle.std.specs.Prelude.{filter, Option, Some, None}
 use Rattle.std.proofs.lemmas.List.Elements.{filter_map-append}
-use Rattle.trace_text.specs.declared.command.Kind.{Kind}
-use Rattle.trace_text.specs.declared.command.Kind.TheVariants.{Put, Get, Erase, Scan}
-use Rattle.trace_text.specs.Operation.{Operation}
-use Rattle.trace_text.specs.Parts.{is_put}
+use Rattle.rows.specs.declared.kind.Kind.{Kind}
+use Rattle.rows.specs.declared.kind.Kind.TheVariants.{Put, Get, Erase, Scan}
+use Rattle.rows.specs.Operation.{Operation, is_put}
 use Rattle.trace_text.specs.Trace.{Trace}
-use Rattle.cache_model.specs.Row.{Row, live, size}
+use Rattle.rows.specs.Row.{Row, live, size}
 use Rattle.dirty_mode.specs.DirtyText.{Flushed, put_in, flushed, puts, get_line, going, staying, row_of, lines_of, puts_after, lines_from}
 use Rattle.dirty_region.specs.Queues.{newest}
 

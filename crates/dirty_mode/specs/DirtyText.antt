@@ -1,12 +1,11 @@
 -- What is written of a trace whose puts stay until they are flushed.
 use Rattle.std.specs.Prelude.{ℕ, ◌+◌, ◌/◌, nat_le, if◌then◌else◌, List, [], ◌∷◌, ◌++◌, map, filter, filter_map, flat_map, codes, decimal, count_by, Option, None, Some}
 use Rattle.layout.specs.Sizes.{segment_pages}
-use Rattle.trace_text.specs.declared.command.Kind.{Kind}
-use Rattle.trace_text.specs.declared.command.Kind.TheVariants.{Put, Get, Erase, Scan}
-use Rattle.trace_text.specs.Operation.{Operation}
-use Rattle.trace_text.specs.Parts.{is_put}
+use Rattle.rows.specs.declared.kind.Kind.{Kind}
+use Rattle.rows.specs.declared.kind.Kind.TheVariants.{Put, Get, Erase, Scan}
+use Rattle.rows.specs.Operation.{Operation, is_put}
 use Rattle.trace_text.specs.Trace.{Trace}
-use Rattle.cache_model.specs.Row.{Row, size, live}
+use Rattle.rows.specs.Row.{Row, size, live}
 use Rattle.region_room.specs.Room.{room}
 use Rattle.dirty_region.specs.Queues.{newest, line as put_line}
 

@@ -1,10 +1,10 @@
 -- Traces on which the definition is checked.
 use Rattle.std.specs.Prelude.{◌≡◌, ◌*◌, List, [], ◌∷◌, replicate, codes}
-use Rattle.trace_text.specs.declared.command.Kind.TheVariants.{Put, Get, Erase, Scan}
-use Rattle.trace_text.specs.Operation.{Operation}
+use Rattle.rows.specs.declared.kind.Kind.TheVariants.{Put, Get, Erase, Scan}
+use Rattle.rows.specs.Operation.{Operation}
 use Rattle.trace_text.specs.Trace.{Trace, trace_with}
 use Rattle.cache_model.specs.Examples.{asks}
-use Rattle.cache_model.specs.Row.{size}
+use Rattle.rows.specs.Row.{size}
 use Rattle.region_room.specs.Room.{room}
 use Rattle.dirty_mode.specs.DirtyText.{text_of, lines_from, dirty_text}
 

@@ -3,7 +3,7 @@ ghost use Rattle.std.specs.Prelude.{◌≡◌, ◌+◌, ◌<◌, ◌≤◌, true
 ghost use Rattle.layout.specs.Sizes.{greatest_object};
 ghost use Rattle.trace_text.specs.Operation.{operation};
 ghost use Rattle.trace_text.specs.Parsed.{trace_in};
-ghost use Rattle.trace_text.specs.Parts.{is_put};
+ghost use Rattle.rows.specs.Operation.{is_put};
 ghost use Rattle.regions.specs.Shapes.{held_count};
 ghost use Rattle.region_room.specs.Room as bound;
 ghost use Rattle.dirty_mode.specs.DirtyText.{text_of, lines_of, puts_after, lines_from, put_count};

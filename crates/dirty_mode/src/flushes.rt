@@ -1,6 +1,6 @@
 //! The oldest puts of a queue go to the disk.
 ghost use Rattle.std.specs.Prelude.{◌≡◌, ◌≢◌, ◌↔◌, ◌-◌, ◌<◌, ◌≤◌, IsTrue, [], length, take, drop, map, OnOk};
-ghost use Rattle.cache_model.specs.Row.{live};
+ghost use Rattle.rows.specs.Row.{live};
 ghost use Rattle.dirty_mode.specs.DirtyText.{text_of, going, staying, Flushed};
 ghost use Rattle.mode_lemmas.specs.Writing.{WritesTo};
 ghost use Rattle.dirty_mode.specs.inside.Held.{whole, Keeps};

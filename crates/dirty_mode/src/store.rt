@@ -3,7 +3,7 @@ ghost use Rattle.std.specs.Prelude.{◌≡◌, ◌/◌, ◌≤◌, ◌<◌, ◌*
 ghost use Rattle.layout.specs.Sizes.{segment_pages, ArePages};
 ghost use Rattle.layout.specs.Sizes as sizes;
 ghost use Rattle.trace_text.specs.Parsed.{trace_in};
-ghost use Rattle.trace_text.specs.Parts.{is_put};
+ghost use Rattle.rows.specs.Operation.{is_put};
 ghost use Rattle.regions.specs.Shapes.{shape, held_count};
 ghost use Rattle.dirty_mode.specs.DirtyText.{put_count};
 ghost use Rattle.dirty_mode.specs.Stores.{IsEmpty};

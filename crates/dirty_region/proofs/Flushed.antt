@@ -4,7 +4,7 @@ use Rattle.std.specs.Prelude.{flat_map}
 use Rattle.std.proofs.Math.Seq.{drop-append-le}
 use Rattle.std.proofs.lemmas.List.{drop-drop, take_rest, take-append-drop}
 use Rattle.std.specs.Io.KnownBytes.{Appends}
-use Rattle.cache_model.specs.Row.{Row}
+use Rattle.rows.specs.Row.{Row}
 use Rattle.regions.specs.Stores.{Live}
 use Rattle.dirty_region.specs.Queues.{Queue, line, IsOut, FlushesOldest, BreaksOff, GoesOn}
 use Rattle.dirty_region.specs.inside.Rings.{RingState, listed, nth, puts_in}

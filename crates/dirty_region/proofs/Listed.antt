@@ -2,8 +2,8 @@
 use Rattle.std.proofs.Common.{◌≡◌, ◌≢◌, ℕ, zero, suc, ◌<◌, ◌⊎◌, inl, inr, Bool, true, false, cond, List, [], ◌∷◌, ◌++◌, length, Some, None, refl, ap, ◌∙◌, arith}
 use Rattle.std.specs.Bool.{Decides}
 use Rattle.std.proofs.lemmas.Slice.Eq.{bytes_eq-Decides}
-use Rattle.cache_model.specs.Row.{Row}
-use Rattle.cache_model.specs.Apply.{is_of}
+use Rattle.rows.specs.Row.{Row}
+use Rattle.rows.specs.Apply.{is_of}
 use Rattle.dirty_region.specs.Queues.{newest, or_else}
 use Rattle.dirty_region.specs.inside.Rings.{listed}
 

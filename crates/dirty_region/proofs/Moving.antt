@@ -4,7 +4,7 @@ use Rattle.std.specs.Prelude.{◌==◌, slice_get, slice_set, IfSome, IsSome, op
 use Rattle.std.proofs.lemmas.Bool.{cases_eq}
 use Rattle.std.proofs.lemmas.Bool.Decides.{leb_tells, eqb_tells}
 use Rattle.std.proofs.lemmas.List.{length-set}
-use Rattle.cache_model.specs.Row.{Row}
+use Rattle.rows.specs.Row.{Row}
 use Rattle.regions.specs.Contents.{Item}
 use Rattle.regions.specs.Stores.{Live, StandsFor, store_of, found, is_place, less, renamed}
 use Rattle.regions.specs.declared.place.Place.{Place}

@@ -6,7 +6,7 @@ use Rattle.std.proofs.lemmas.Bool.Decides.{leb_tells}
 use Rattle.std.proofs.lemmas.List.{length-set, get_or-set_same, get_or-set_other}
 use Rattle.std.proofs.lemmas.Option.{slice_get-get_or, slice_get_past}
 use Rattle.std.proofs.Math.Nat.{eq-or-lt_of_le}
-use Rattle.cache_model.specs.Row.{Row}
+use Rattle.rows.specs.Row.{Row}
 use Rattle.row_bytes.specs.Rows.{number_in, row_in}
 use Rattle.regions.specs.Contents.{Item, Standing, item_if_live, if_live}
 use Rattle.regions.specs.Stores.{Live}

@@ -5,7 +5,7 @@ use Rattle.std.specs.List.{count_by}
 use Rattle.std.proofs.lemmas.List.{map-set, length-map, length-set, get_or-set_same}
 use Rattle.std.proofs.lemmas.List.Sums.{sum_by-cons}
 use Rattle.raw_range.specs.Memory.{Lent}
-use Rattle.cache_model.specs.Row.{live}
+use Rattle.rows.specs.Row.{live}
 use Rattle.regions.specs.Segments.{SegmentState, GroupState, RegionState, segment_at, with_segment, fresh, emptied, all_emptied, ended, group_at, idle}
 use Rattle.regions.specs.Shapes.{Slot, Shape, identity, slot_of, slots_of, slot_at, shape, is_held, pieces, pieces_in, active_of, activated, group_count, guards_of, held_count, free_count, IsGreatestHeld}
 use Rattle.regions.specs.Counts.{live_total}

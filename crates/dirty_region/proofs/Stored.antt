@@ -4,7 +4,7 @@ use Rattle.std.specs.Prelude.{slice_get, option_map, IfSome}
 use Rattle.std.specs.List.{count_by, sum}
 use Rattle.std.proofs.lemmas.List.{length-replicate}
 use Rattle.std.proofs.lemmas.List.Sums.{sum_by-cons}
-use Rattle.cache_model.specs.Row.{Row, size, live}
+use Rattle.rows.specs.Row.{Row, size, live}
 use Rattle.row_bytes.specs.Rows.{row_in}
 use Rattle.regions.specs.Segments.{RegionState, SegmentState, group_at, idle}
 use Rattle.regions.specs.Shapes.{Shape, shape, active_in, held_count, free_count, is_held, is_free, pieces_in, slots_of}

@@ -1,6 +1,6 @@
 -- Where the puts of a dirty region stand, and what stands there.
 use Rattle.std.specs.Prelude.{◌≡◌, ℕ, ◌+◌, ◌%◌, ◌^◌, ◌<◌, List, length, Option, Some, slice_get}
-use Rattle.cache_model.specs.Row.{Row}
+use Rattle.rows.specs.Row.{Row}
 use Rattle.row_bytes.specs.Rows.{row_bytes}
 use Rattle.row_bytes.specs.declared.links.Links.{Links}
 use Rattle.regions.specs.Segments.{RegionState}

@@ -1,8 +1,8 @@
 -- A dirty queue: the puts that have not reached the disk, and what is still due of their lines.
 use Rattle.std.specs.Prelude.{◌≡◌, ℕ, ◌+◌, ◌<◌, cond, List, [], ◌∷◌, ◌++◌, length, take, drop, flat_map, codes, Option, None, Some}
 use Rattle.std.specs.Io.KnownBytes.{Appends}
-use Rattle.cache_model.specs.Row.{Row}
-use Rattle.cache_model.specs.Apply.{is_of}
+use Rattle.rows.specs.Row.{Row}
+use Rattle.rows.specs.Apply.{is_of}
 
 -- the puts, oldest first, each with its key, its value and its number, and how many bytes of the oldest one's line are out
 pub record Queue : Type 0 where

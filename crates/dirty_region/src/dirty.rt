@@ -1,7 +1,7 @@
 //! The puts that have not reached the disk.
 ghost use Rattle.std.specs.Prelude.{◌≡◌, ◌↔◌, ◌+◌, ◌<◌, ◌≤◌, ◌^◌, ◌++◌, length, replicate, true, Err, None, IfOk, IfErr, MatchOption};
 ghost use Rattle.layout.specs.Sizes as sizes;
-ghost use Rattle.cache_model.specs.Row.{live, size};
+ghost use Rattle.rows.specs.Row.{live, size};
 ghost use Rattle.regions.specs.Segments.{idle};
 ghost use Rattle.regions.specs.Counts.{live_total};
 ghost use Rattle.regions.specs.Shapes.{held_count};

@@ -1,7 +1,7 @@
 //! The objects that hold puts.
 ghost use Rattle.std.specs.Prelude.{◌≡◌, ◌+◌, ◌≤◌, ◌<◌, ◌↔◌, length, replicate, None, Some, IfSome};
 ghost use Rattle.layout.specs.Sizes.{descriptor};
-ghost use Rattle.cache_model.specs.Row.{size};
+ghost use Rattle.rows.specs.Row.{size};
 ghost use Rattle.object_log.specs.Objects.{IsSize};
 ghost use Rattle.row_bytes.specs.Rows as rows;
 ghost use Rattle.regions.specs.Shapes.{shape, HasGroup};

@@ -148,17 +148,15 @@ fn write_front(text: &mut [u8], bytes: &[u8])
 }
 
 // The bytes in front of those of the value, in a fragment that is the first of its chain.
-fn header_of(next: u64, name: u32, len: u32) -> [u8; 24]
+fn header_of(next: u64, name: u32, len: u32) -> [u8; HEADER]
     ensures bytes { result ≡ little_bytes 8 fragments.no_link ++ little_bytes 8 next ++ little_bytes 4 name ++ little_bytes 4 len }
     ensures next { next < 2 ^ 64 }
     ensures name { name < 2 ^ 32 }
 {
-    let [a0, a1, a2, a3, a4, a5, a6, a7] = NO_LINK.to_le_bytes();
-    let [b0, b1, b2, b3, b4, b5, b6, b7] = next.to_le_bytes();
-    let [n0, n1, n2, n3] = name.to_le_bytes();
-    let [l0, l1, l2, l3] = len.to_le_bytes();
-    [
-        a0, a1, a2, a3, a4, a5, a6, a7, b0, b1, b2, b3, b4, b5, b6, b7, n0, n1, n2, n3, l0, l1, l2,
-        l3,
-    ]
+    let mut header = [0; HEADER];
+    LittleEndian::write_u64(&mut header, NO_LINK);
+    LittleEndian::write_u64(&mut header[NEXT..], next);
+    LittleEndian::write_u32(&mut header[NAME..], name);
+    LittleEndian::write_u32(&mut header[LENGTH..], len);
+    header
 }

@@ -7,15 +7,16 @@ use Rattle.std.proofs.lemmas.List.Folds.{flat_map-map}
 use Rattle.std.proofs.lemmas.List.Elements.{All-filter, All-get_or, All-map, All-take, All-weaker}
 use Rattle.std.proofs.lemmas.List.{get_or-map, length-map, drop-map, drop_more, drop_all}
 use Rattle.trace_text.specs.declared.command.Command.{Command}
-use Rattle.trace_text.specs.declared.command.Kind.TheVariants.{Put}
-use Rattle.trace_text.specs.Operation.{Operation, operation, operations}
+use Rattle.rows.specs.declared.kind.Kind.TheVariants.{Put}
+use Rattle.rows.specs.Operation.{Operation}
+use Rattle.trace_text.specs.Operation.{operation, operations}
 use Rattle.trace_text.specs.Parsed.{IsWellFormed}
 use Rattle.regions.specs.Segments.{RegionState}
 use Rattle.index_tree.specs.Sizes.{most}
 use Rattle.index_mode.specs.inside.Held.{IsServing}
 use Rattle.index_tree.specs.Store.{HoldsSegments, IndexState, index_in}
-use Rattle.cache_model.specs.KeyBody.{AreKeys, IsKey}
-use Rattle.cache_model.specs.Spelled.{key_field}
+use Rattle.rows.specs.KeyBody.{AreKeys, IsKey}
+use Rattle.rows.specs.Spelled.{key_field}
 use Rattle.tree_nodes.specs.Nodes.{Entry, IsEntry}
 use Rattle.tree_nodes.specs.Order.{key_cmp}
 use Rattle.index_tree.specs.Indexes.{Index, from, number_of, scanned, with_number}

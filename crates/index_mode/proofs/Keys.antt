@@ -1,7 +1,7 @@
 -- The keys of a scan, written one behind another.
 use Rattle.std.proofs.Common.{◌≡◌, ℕ, ◌+◌, ◌-◌, ◌≤◌, List, [], ◌∷◌, length, take, drop, arith, Ok, Err, subst}
 use Rattle.std.specs.List.{flat_map}
-use Rattle.cache_model.specs.KeyBody.{AreKeys, AreKeysAt}
+use Rattle.rows.specs.KeyBody.{AreKeys, AreKeysAt}
 use Rattle.mode_lemmas.specs.Writing.{Seen, Writes, Goes}
 use Rattle.mode_lemmas.proofs.Written.{Goes-next, Goes-stop, Goes-done}
 

@@ -1,9 +1,9 @@
 -- What is written of a trace whose puts set the numbers of keys in an index: an answer to each command, computed on the list of keys.
 use Rattle.std.specs.Prelude.{ℕ, ◌/◌, nat_lt, if◌then◌else◌, List, [], ◌∷◌, ◌++◌, length, map, take, flat_map, codes, decimal, Option, None, Some, Result, Ok, Err}
 use Rattle.layout.specs.Sizes.{segment_pages}
-use Rattle.trace_text.specs.declared.command.Kind.{Kind}
-use Rattle.trace_text.specs.declared.command.Kind.TheVariants as kinds
-use Rattle.trace_text.specs.Operation.{Operation}
+use Rattle.rows.specs.declared.kind.Kind.{Kind}
+use Rattle.rows.specs.declared.kind.Kind.TheVariants as kinds
+use Rattle.rows.specs.Operation.{Operation}
 use Rattle.trace_text.specs.Trace.{Trace}
 use Rattle.index_tree.specs.Indexes.{Index, from, number_of, with_number, without}
 use Rattle.index_tree.specs.Sizes.{most}

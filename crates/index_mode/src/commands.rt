@@ -9,7 +9,7 @@ ghost use Rattle.index_tree.specs.Store.{index_in, HoldsSegments};
 ghost use Rattle.index_mode.specs.IndexText as text;
 ghost use Rattle.index_mode.specs.inside.Held.{IsServing};
 ghost use Rattle.mode_lemmas.specs.Writing.{WritesTo};
-ghost use Rattle.trace_text.specs.declared.command.Kind.{Kind as Kinds};
+ghost use Rattle.rows.specs.declared.kind.Kind.{Kind as Kinds};
 
 use crate::answers::{write_count, write_erase, write_get, write_put};
 use crate::scans::write_scan;

@@ -1,6 +1,6 @@
 //! The line of a scan.
 ghost use Rattle.std.specs.Prelude.{◌≡◌, ◌^◌, ◌<◌, ◌∷◌, ◌++◌, ℕ, List, flat_map, length, codes, decimal};
-ghost use Rattle.cache_model.specs.KeyBody.{AreKeys};
+ghost use Rattle.rows.specs.KeyBody.{AreKeys};
 ghost use Rattle.index_mode.specs.IndexText as text;
 ghost use Rattle.mode_lemmas.specs.Writing.{WritesTo};
 

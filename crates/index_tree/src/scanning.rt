@@ -11,6 +11,7 @@ ghost use Rattle.index_tree.specs.Trees.{AreLinked, IsSubtree, held_below, leave
 
 use crate::fields::{count_at, led_to, next_at};
 use crate::search::{below_at, key_at, leaf_of};
+use byteorder::{ByteOrder, LittleEndian};
 use regions::{Place, Region};
 
 /// What a scan wrote.
@@ -108,7 +109,7 @@ fn write_key(into: &mut [u8], key: &[u8]) -> u32
     ensures written { into.new ≡ (little_bytes 2 (length key.now) ++ key.now) ++ drop result into.old }
 {
     let (len, behind) = into.split_at_mut(2);
-    len.copy_from_slice((key.len() as u16).to_le_bytes().as_slice());
+    LittleEndian::write_u16(len, key.len() as u16);
     behind[..key.len()].copy_from_slice(key);
     2 + key.len() as u32
 }

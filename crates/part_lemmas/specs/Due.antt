@@ -2,11 +2,11 @@
 use Rattle.std.specs.Prelude.{◌≡◌, ℕ, ◌+◌, ◌==◌, ◌&&◌, Bool, true, false, List, [], ◌∷◌, ◌++◌, map, filter, fold, drop, if◌then◌else◌, Option, Some, None, ◌⊎◌}
 use Rattle.std.specs.List.{slice_get}
 use Rattle.std.specs.Str.{bytes_eq}
-use Rattle.trace_text.specs.Operation.{Operation}
+use Rattle.rows.specs.Operation.{Operation}
 use Rattle.trace_text.specs.Parts.{has_part, longest_value, origin}
 use Rattle.trace_text.specs.Trace.{Trace}
-use Rattle.cache_model.specs.Apply.{Reply}
-use Rattle.cache_model.specs.Fits.{Fits}
+use Rattle.rows.specs.Apply.{Reply}
+use Rattle.rows.specs.Fits.{Fits}
 use Rattle.shard_rings.specs.Number.{message_number}
 use Rattle.shard_rings.specs.Reply.{HoldsReply}
 use Rattle.shard_rings.specs.Request.{request}

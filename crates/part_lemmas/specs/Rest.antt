@@ -1,9 +1,9 @@
 -- The commands that one shard issues to another, of which some were passed.
 use Rattle.std.specs.Prelude.{◌≡◌, ℕ, ◌==◌, ◌+◌, ◌<◌, ◌&&◌, ◌%◌, Bool, true, List, length, drop, slice_index_or, if◌then◌else◌, Option, Some, None}
 use Rattle.std.specs.List.{slice_get}
-use Rattle.trace_text.specs.Operation.{Operation}
+use Rattle.rows.specs.Operation.{Operation, is_scan}
 use Rattle.trace_text.specs.Parsed.{Parsed, trace_in}
-use Rattle.trace_text.specs.Parts.{has_part, is_scan, origin}
+use Rattle.trace_text.specs.Parts.{has_part, origin}
 use Rattle.trace_text.specs.Trace.{trace_with}
 use Rattle.cache_model.specs.OwnParts.{issued_parts, parts_before}
 use Rattle.part_lemmas.specs.Due.{operations_for}

@@ -1,9 +1,9 @@
 -- The operations that are left to do, and what they take.
 use Rattle.std.specs.Prelude.{ℕ, ◌+◌, List, length, count_by, sum_by}
-use Rattle.trace_text.specs.Operation.{Operation}
-use Rattle.trace_text.specs.Parts.{is_put, longest_value}
+use Rattle.rows.specs.Operation.{Operation, is_put}
+use Rattle.trace_text.specs.Parts.{longest_value}
 use Rattle.trace_text.specs.Trace.{Trace}
-use Rattle.cache_model.specs.Bodies.{most_of_body}
+use Rattle.rows.specs.Bodies.{most_of_body}
 
 abbrev pub puts_among : List Operation → ℕ
 puts_among operations = count_by (λ operation. is_put operation.kind) operations

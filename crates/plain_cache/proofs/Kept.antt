@@ -5,15 +5,16 @@ use Rattle.std.specs.Option.{option_map, option_and_then}
 use Rattle.std.specs.Str.{bytes_eq}
 use Rattle.std.proofs.lemmas.Bool.Decides.{nat_tests}
 use Rattle.std.proofs.lemmas.Slice.Eq.{bytes_eq-Decides}
-use Rattle.trace_text.specs.declared.command.Kind.{Kind}
-use Rattle.trace_text.specs.declared.command.Kind.TheVariants as kinds
-use Rattle.trace_text.specs.Operation.{Operation}
+use Rattle.rows.specs.declared.kind.Kind.{Kind}
+use Rattle.rows.specs.declared.kind.Kind.TheVariants as kinds
+use Rattle.rows.specs.Operation.{Operation}
 use Rattle.trace_text.specs.Trace.{Trace}
 use Rattle.cache_model.specs.declared.entry.Entry.{Entry}
 use Rattle.cache_model.specs.declared.entry.Entry.TheVariants.{Done, Evicted}
-use Rattle.cache_model.specs.Row.{Row, floor, live}
-use Rattle.cache_model.specs.Apply.{Reply, apply, apply_kind, get_where, is_of, row_of, without}
-use Rattle.cache_model.specs.Legal.{after, cache_after, cache_from, can_evict, command_of, done, is_done, is_of_put, reply_at, IsLegal}
+use Rattle.rows.specs.Row.{Row, floor, live}
+use Rattle.rows.specs.Apply.{Reply, apply, apply_kind, get_where, is_of, row_of, without}
+use Rattle.rows.specs.Evictions.{is_of_put}
+use Rattle.cache_model.specs.Legal.{after, cache_after, cache_from, can_evict, command_of, done, is_done, reply_at, IsLegal}
 use Rattle.plain_cache.specs.Kept.{StaysWithin, commands_done, reply_of_get, set_by, value_behind, value_of}
 
 abbrev value_in : Option Row → Option (List ℕ)

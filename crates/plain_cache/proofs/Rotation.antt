@@ -6,8 +6,8 @@ use Rattle.std.specs.Option.{IfSome}
 use Rattle.std.proofs.lemmas.List.{take_all, take_at, drop_at, drop_all, take_more, length-take-le}
 use Rattle.std.proofs.lemmas.List.Sorted.{IsPermutation-remove, All-permutation}
 use Rattle.plain_cache.specs.declared.plain.OwnedRow.{OwnedRow}
-use Rattle.cache_model.specs.Apply.{row_of, without, HasDistinctKeys}
-use Rattle.cache_model.specs.Row.{Row}
+use Rattle.rows.specs.Apply.{row_of, without, HasDistinctKeys}
+use Rattle.rows.specs.Row.{Row}
 use Rattle.plain_cache.specs.inside.OwnedRow.{row_in, IsPositionOf, IsSmall}
 
 -- the rows after the first of them were written

@@ -12,9 +12,9 @@ use Rattle.std.proofs.lemmas.Slice.Eq.{bytes_eq-Decides}
 use Rattle.std.proofs.lemmas.Option.{cond_some, slice_get-get_or}
 use borrow.Author.Tests.{ltb-true}
 use Rattle.plain_cache.specs.declared.plain.OwnedRow.{OwnedRow}
-use Rattle.cache_model.specs.Apply.{has, is_at_most, is_of, row_of, without, HasDistinctKeys}
+use Rattle.rows.specs.Apply.{has, is_at_most, is_of, row_of, without, HasDistinctKeys}
 use Rattle.plain_cache.specs.inside.OwnedRow.{row_in, IsPositionOf}
-use Rattle.cache_model.specs.Row.{Row, live, size}
+use Rattle.rows.specs.Row.{Row, live, size}
 
 -- whether a row has this key
 abbrev pub is_row_of : List ℕ → OwnedRow → Bool

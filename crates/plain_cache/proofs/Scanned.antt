@@ -6,7 +6,7 @@ use Rattle.std.proofs.lemmas.List.Elements.{All-contains, All-map}
 use denote.Ref.{Bor}
 use Rattle.layout.specs.Sizes.{greatest_key}
 use Rattle.plain_cache.specs.declared.plain.OwnedRow.{OwnedRow}
-use Rattle.cache_model.specs.Apply.{in_order, is_at_most}
+use Rattle.rows.specs.Apply.{in_order, is_at_most}
 use Rattle.plain_cache.specs.inside.OwnedRow.{row_in, IsSmall}
 use Rattle.plain_cache.proofs.RowLists.{keys_from}
 

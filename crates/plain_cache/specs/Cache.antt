@@ -1,6 +1,6 @@
 -- What contracts see of a plain cache.
 use Rattle.std.specs.Prelude.{ℕ, List}
-use Rattle.cache_model.specs.Row.{Row}
+use Rattle.rows.specs.Row.{Row}
 
 pub record Cache : Type 0 where
   pub pages : ℕ

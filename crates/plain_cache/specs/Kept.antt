@@ -2,13 +2,13 @@
 use Rattle.std.specs.Prelude.{◌≡◌, ℕ, ◌≤◌, List, [], ◌∷◌, ◌++◌, filter_map, if◌then◌else◌, Option, Some, None}
 use Rattle.std.specs.Option.{option_map}
 use Rattle.std.specs.Str.{bytes_eq}
-use Rattle.trace_text.specs.declared.command.Kind.TheVariants as kinds
-use Rattle.trace_text.specs.declared.command.Kind.{Kind}
-use Rattle.trace_text.specs.Operation.{Operation}
+use Rattle.rows.specs.declared.kind.Kind.TheVariants as kinds
+use Rattle.rows.specs.declared.kind.Kind.{Kind}
+use Rattle.rows.specs.Operation.{Operation}
 use Rattle.trace_text.specs.Trace.{Trace}
 use Rattle.cache_model.specs.declared.entry.Entry.{Entry}
-use Rattle.cache_model.specs.Row.{Row, live}
-use Rattle.cache_model.specs.Apply.{Reply, Missing, Value, row_of}
+use Rattle.rows.specs.Row.{Row, live}
+use Rattle.rows.specs.Apply.{Reply, Missing, Value, row_of}
 use Rattle.cache_model.specs.Legal.{cache_after, command_of, done}
 
 -- along a journal no more bytes are live than the bound

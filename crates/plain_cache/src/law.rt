@@ -2,12 +2,12 @@
 ghost use Rattle.std.specs.Prelude.{◌≡◌, ℕ, ◌≤◌, List, ◌∷◌, ◌++◌, map, false, Some, None};
 ghost use Rattle.std.specs.List.{list_any};
 ghost use Rattle.layout.specs.Sizes.{tickets};
-ghost use Rattle.trace_text.specs.declared.command.Kind.{Kind as Kinds};
-ghost use Rattle.trace_text.specs.Operation.{Operation};
+ghost use Rattle.rows.specs.declared.kind.Kind.{Kind as Kinds};
+ghost use Rattle.rows.specs.Operation.{Operation};
 ghost use Rattle.trace_text.specs.Trace.{Trace};
 ghost use Rattle.cache_model.specs.declared.entry.Entry.{Entry as JournalEntry};
 ghost use Rattle.cache_model.specs.declared.entry.Entry.TheVariants.{Done};
-ghost use Rattle.cache_model.specs.Row.{floor, tight_floor};
+ghost use Rattle.rows.specs.Row.{floor, tight_floor};
 ghost use Rattle.cache_model.specs.Legal.{command_of, done, is_done, reply_at, IsLegal};
 ghost use Rattle.plain_cache.specs.Kept.{commands_done, reply_of_get, value_behind, StaysWithin};
 

@@ -3,12 +3,13 @@ ghost use Rattle.std.specs.Prelude.{◌≡◌, ◌+◌, ◌-◌, ◌*◌, ◌/�
 ghost use Rattle.std.specs.Bool.{OnTrue, OnFalse};
 ghost use Rattle.std.specs.List.{last_or};
 ghost use Rattle.trace_text.specs.Operation.{operation};
-ghost use Rattle.cache_model.specs.Apply.{apply, get, has, is_at_most, is_of, put, row_of, scan, scanned, without, HasDistinctKeys};
+ghost use Rattle.rows.specs.Apply.{apply, get, has, is_at_most, is_of, put, row_of, scan, scanned, without, HasDistinctKeys};
 ghost use Rattle.plain_cache.specs.inside.OwnedRow.{row_in, IsPositionOf, IsSmall};
-ghost use Rattle.cache_model.specs.Legal.{can_evict, is_of_put};
-ghost use Rattle.cache_model.specs.Row.{live, floor};
+ghost use Rattle.rows.specs.Evictions.{is_of_put};
+ghost use Rattle.cache_model.specs.Legal.{can_evict};
+ghost use Rattle.rows.specs.Row.{live, floor};
 ghost use Rattle.layout.specs.Sizes.{ArePages, greatest_key, greatest_value, row_overhead};
-ghost use Rattle.cache_model.specs.Spelled.{key_field, spelled, with_body};
+ghost use Rattle.rows.specs.Spelled.{key_field, spelled, with_body};
 
 use cache_model::{
     ReplyKind, is_at_most, other_rows_are_distinct, scanned_keys_are_in_order, sort_keys,
@@ -43,7 +44,7 @@ impl Model for Plain {
     ghost Value = { Cache };
 
     ghost use Rattle.std.specs.Prelude.{◌^◌, ◌<◌, length, map, All};
-    ghost use Rattle.cache_model.specs.Apply.{HasDistinctKeys};
+    ghost use Rattle.rows.specs.Apply.{HasDistinctKeys};
     ghost use Rattle.plain_cache.specs.inside.OwnedRow.{row_in, IsSmall};
     ghost use Rattle.layout.specs.Sizes.{ArePages};
 

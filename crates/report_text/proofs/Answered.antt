@@ -7,17 +7,16 @@ use Rattle.std.specs.List.Sorted.{IsStrictlySortedBy}
 use Rattle.std.specs.Prelude.{All}
 use Rattle.std.proofs.lemmas.List.{get_or-map, length-map}
 use Rattle.std.proofs.lemmas.List.Elements.{All-head, All-map}
-use Rattle.trace_text.specs.declared.command.Kind.{Kind}
-use Rattle.trace_text.specs.declared.command.Kind.TheVariants as kinds
-use Rattle.trace_text.specs.Operation.{Operation}
-use Rattle.trace_text.specs.Parts.{is_scan}
-use Rattle.cache_model.specs.declared.reply_kind.ReplyKind.{ReplyKind}
+use Rattle.rows.specs.declared.kind.Kind.{Kind}
+use Rattle.rows.specs.declared.kind.Kind.TheVariants as kinds
+use Rattle.rows.specs.Operation.{Operation, is_scan}
+use Rattle.rows.specs.declared.reply_kind.ReplyKind.{ReplyKind}
 use Rattle.cache_model.specs.Answer.{answer_from, answer_kind, join, keys_in}
-use Rattle.cache_model.specs.Apply.{Reply, Stored, Replaced, Value, Missing, Erased, Keys}
-use Rattle.cache_model.specs.Fits.{Fits, FitsKind}
-use Rattle.cache_model.specs.KeyBody.{IsKey}
+use Rattle.rows.specs.Apply.{Reply, Stored, Replaced, Value, Missing, Erased, Keys}
+use Rattle.rows.specs.Fits.{Fits, FitsKind}
+use Rattle.rows.specs.KeyBody.{IsKey}
 use Rattle.cache_model.specs.Logged.{AreJoined, HasReplies, IsRead}
-use Rattle.cache_model.specs.Spelled.{spelled}
+use Rattle.rows.specs.Spelled.{spelled}
 use Rattle.cache_model.specs.OwnParts.{Log}
 use Rattle.report_text.specs.inside.Found.{HasFound}
 use Rattle.report_text.specs.inside.Spells.{HasLegalKeys}

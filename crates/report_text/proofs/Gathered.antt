@@ -3,9 +3,9 @@ use Rattle.std.proofs.Common.{◌≡◌, ℕ, ◌+◌, ◌≤◌, ◌<◌, List,
 use Rattle.std.specs.Prelude.{All}
 use Rattle.std.proofs.lemmas.List.{length-map, map-append}
 use denote.Ref.{Bor}
-use Rattle.cache_model.specs.Apply.{Keys}
-use Rattle.cache_model.specs.KeyBody.{AreKeys, IsKey}
-use Rattle.cache_model.specs.Spelled.{spelled}
+use Rattle.rows.specs.Apply.{Keys}
+use Rattle.rows.specs.KeyBody.{AreKeys, IsKey}
+use Rattle.rows.specs.Spelled.{spelled}
 use Rattle.report_text.proofs.Keys.{Cuts}
 
 abbrev pub texts : List (Bor (List ℕ)) → List (List ℕ)

@@ -6,7 +6,7 @@ use Rattle.std.specs.List.Sorted.{IsStrictlySortedBy}
 use Rattle.std.proofs.lemmas.List.{flat_map_more, take_all, take_more}
 use Rattle.std.proofs.lemmas.List.Sorted.{IsPermutation-append_left, IsPermutation-trans}
 use Rattle.cache_model.specs.Answer.{join}
-use Rattle.cache_model.specs.Apply.{in_order}
+use Rattle.rows.specs.Apply.{in_order}
 use Rattle.cache_model.specs.OwnParts.{Log}
 use Rattle.report_text.specs.inside.Found.{AreFoundAt, HasFound}
 use Rattle.report_text.specs.inside.Merged.{merged}

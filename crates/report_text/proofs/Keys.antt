@@ -2,7 +2,7 @@
 use Rattle.std.proofs.Common.{◌≡◌, ℕ, ◌+◌, ◌-◌, ◌≤◌, List, [], ◌∷◌, ◌++◌, length, take, drop, arith, Err, sym, ap, ◌∙◌, subst, append_assoc, append-nil}
 use Rattle.std.specs.List.{flat_map}
 use Rattle.outside.specs.declared.failure.Failed.{Failed}
-use Rattle.cache_model.specs.KeyBody.{AreKeys, AreKeysAt}
+use Rattle.rows.specs.KeyBody.{AreKeys, AreKeysAt}
 use Rattle.report_text.specs.inside.Output.{Output, Writes}
 use Rattle.report_text.proofs.Outputs.{Added, Writes-then, Writes-stop}
 use Rattle.report_text.proofs.LineTexts.{key_piece}

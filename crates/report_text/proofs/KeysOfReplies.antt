@@ -1,10 +1,10 @@
 -- The keys of a reply, in its body.
 use Rattle.std.proofs.Common.{◌≡◌, ℕ, List, [], sym, ap, ◌∙◌, subst, refl, arith}
-use Rattle.cache_model.specs.declared.reply_kind.ReplyKind.{ReplyKind}
-use Rattle.cache_model.specs.declared.reply_kind.ReplyKind.TheVariants as kinds
-use Rattle.cache_model.specs.Apply.{Reply, Stored, Replaced, Value, Missing, Erased, Keys}
-use Rattle.cache_model.specs.KeyBody.{AreKeys}
-use Rattle.cache_model.specs.Spelled.{spelled}
+use Rattle.rows.specs.declared.reply_kind.ReplyKind.{ReplyKind}
+use Rattle.rows.specs.declared.reply_kind.ReplyKind.TheVariants as kinds
+use Rattle.rows.specs.Apply.{Reply, Stored, Replaced, Value, Missing, Erased, Keys}
+use Rattle.rows.specs.KeyBody.{AreKeys}
+use Rattle.rows.specs.Spelled.{spelled}
 use Rattle.report_text.specs.inside.Spells.{HasLegalKeys, Spells}
 
 abbrev pub keys_of : Reply → List (List ℕ)

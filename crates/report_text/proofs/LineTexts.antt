@@ -5,11 +5,11 @@ use denote.Ref.{Bor}
 use Rattle.std.specs.Prelude.{codes, decimal}
 use Rattle.std.proofs.lemmas.List.Folds.{flat_map-map}
 use Rattle.cache_model.specs.declared.entry.Entry.{Entry}
-use Rattle.cache_model.specs.declared.reply_kind.ReplyKind.{ReplyKind}
-use Rattle.cache_model.specs.declared.reply_kind.ReplyKind.TheVariants as kinds
-use Rattle.cache_model.specs.Apply.{Reply, Stored, Replaced, Value, Missing, Erased, Keys}
+use Rattle.rows.specs.declared.reply_kind.ReplyKind.{ReplyKind}
+use Rattle.rows.specs.declared.reply_kind.ReplyKind.TheVariants as kinds
+use Rattle.rows.specs.Apply.{Reply, Stored, Replaced, Value, Missing, Erased, Keys}
 use Rattle.cache_model.specs.Report.{Occupancy, line, answer_text, entry_text, journal_text, reply_text, occupancy_text}
-use Rattle.cache_model.specs.Spelled.{spelled}
+use Rattle.rows.specs.Spelled.{spelled}
 use Rattle.cache_model.specs.Summary.{Tally, tally_text}
 use Rattle.run_log.specs.JournalState.{JournalState}
 use Rattle.report_text.specs.inside.Spells.{Spells}

@@ -5,11 +5,12 @@ use Rattle.std.proofs.lemmas.Bool.Decides.{nat_tests}
 use Rattle.std.proofs.lemmas.List.{get_or-map, length-map}
 use Rattle.std.proofs.Math.Nat.{mul-le-mul_left}
 use Rattle.trace_text.specs.declared.command.Command.{Command}
-use Rattle.trace_text.specs.Operation.{Operation, operation}
+use Rattle.rows.specs.Operation.{Operation, is_scan}
+use Rattle.trace_text.specs.Operation.{operation}
 use Rattle.trace_text.specs.Parsed.{Parsed, trace_in}
-use Rattle.trace_text.specs.Parts.{is_scan, longest_value, origin}
+use Rattle.trace_text.specs.Parts.{longest_value, origin}
 use Rattle.trace_text.specs.Trace.{Trace}
-use Rattle.cache_model.specs.Apply.{Reply}
+use Rattle.rows.specs.Apply.{Reply}
 use Rattle.cache_model.specs.Logged.{AreLogged, IsRead}
 use Rattle.cache_model.specs.OwnParts.{parts_before, Log}
 use Rattle.run_log.specs.Replies.{Replies}

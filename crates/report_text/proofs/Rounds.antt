@@ -1,7 +1,7 @@
 -- The pieces of a round, and the commands of each.
 use Rattle.std.proofs.Common.{◌≡◌, ℕ, ◌+◌, ◌<◌, ◌≤◌, List, length, get_or, ap, sym, ◌∙◌, subst, arith}
 use Rattle.trace_text.specs.Parsed.{Parsed, trace_in}
-use Rattle.cache_model.specs.Apply.{Reply}
+use Rattle.rows.specs.Apply.{Reply}
 use Rattle.report_text.specs.declared.pieces.Piece.{Piece}
 use Rattle.report_text.specs.declared.stretch.Stretch.{Stretch}
 use Rattle.report_text.specs.inside.Places.{ArePlaces}

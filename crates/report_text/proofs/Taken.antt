@@ -3,7 +3,7 @@ use Rattle.std.proofs.Common.{◌≡◌, ℕ, ◌+◌, ◌-◌, ◌<◌, ◌≤�
 use denote.Ref.{Bor}
 use Rattle.std.proofs.Math.Seq.{take-append-add}
 use Rattle.std.proofs.lemmas.List.{drop-map, get_or-map, length-map, map-append, take-append-le, take-map}
-use Rattle.cache_model.specs.Apply.{is_at_most}
+use Rattle.rows.specs.Apply.{is_at_most}
 use Rattle.report_text.specs.inside.Merged.{merged}
 use Rattle.report_text.proofs.Gathered.{texts}
 

@@ -1,7 +1,7 @@
 -- What a report says of logs, journals and shards.
 use Rattle.std.specs.Prelude.{ℕ, List, map, Option}
 use Rattle.cache_model.specs.declared.entry.Entry.{Entry}
-use Rattle.cache_model.specs.declared.reply_kind.ReplyKind.{ReplyKind}
+use Rattle.rows.specs.declared.reply_kind.ReplyKind.{ReplyKind}
 use Rattle.run_log.specs.Replies.{Replies}
 use Rattle.run_log.specs.JournalState.{JournalState}
 pub use Rattle.run_log.specs.ShardLines.{occupancy_in, occupancies_in}

@@ -3,12 +3,12 @@ ghost use Rattle.std.specs.Prelude.{◌≡◌, ◌⊎◌, ◌+◌, ◌^◌, ◌<
 ghost use Rattle.std.specs.List.{slice_get};
 ghost use Rattle.layout.specs.Sizes.{most_keys};
 ghost use Rattle.trace_text.specs.Operation.{operation};
-ghost use Rattle.trace_text.specs.Parts.{is_scan};
+ghost use Rattle.rows.specs.Operation.{is_scan};
 ghost use Rattle.cache_model.specs.Answer.{join};
-ghost use Rattle.cache_model.specs.Apply.{Reply, Keys};
+ghost use Rattle.rows.specs.Apply.{Reply, Keys};
 ghost use Rattle.cache_model.specs.Logged.{IsRead};
 ghost use Rattle.cache_model.specs.Report.{line, answer_text};
-ghost use Rattle.cache_model.specs.Spelled.{spelled};
+ghost use Rattle.rows.specs.Spelled.{spelled};
 ghost use Rattle.report_text.specs.inside.Found.{HasFound};
 ghost use Rattle.report_text.specs.inside.Output.{Writes, output};
 ghost use Rattle.report_text.specs.inside.Spells.{HasLegalKeys};

@@ -3,9 +3,9 @@ ghost use Rattle.std.specs.Prelude.{◌≡◌, ◌+◌, ◌^◌, ◌<◌, ◌≤
 ghost use Rattle.std.specs.List.{slice_get};
 ghost use Rattle.layout.specs.Sizes.{most_keys};
 ghost use Rattle.cache_model.specs.Answer.{join};
-ghost use Rattle.cache_model.specs.Apply.{Keys};
-ghost use Rattle.cache_model.specs.KeyBody.{AreKeys};
-ghost use Rattle.cache_model.specs.Spelled.{spelled};
+ghost use Rattle.rows.specs.Apply.{Keys};
+ghost use Rattle.rows.specs.KeyBody.{AreKeys};
+ghost use Rattle.rows.specs.Spelled.{spelled};
 ghost use Rattle.report_text.specs.inside.Found.{AreFoundAt, HasFound};
 
 use crate::merging::{Found, first_of_both};

@@ -1,8 +1,8 @@
 //! The lines of a report.
 ghost use Rattle.std.specs.Prelude.{◌≡◌, ℕ, ◌^◌, ◌<◌, length, List, [], ◌∷◌, ◌++◌, codes, decimal, flat_map, OnOk};
 ghost use Rattle.std.specs.List.{enumerate_from};
-ghost use Rattle.cache_model.specs.Apply.{Reply};
-ghost use Rattle.cache_model.specs.KeyBody.{AreKeys};
+ghost use Rattle.rows.specs.Apply.{Reply};
+ghost use Rattle.rows.specs.KeyBody.{AreKeys};
 ghost use Rattle.cache_model.specs.Report.{line, answer_text, reply_text, entry_text, journal_text, occupancy_text};
 ghost use Rattle.report_text.specs.inside.Spells.{Spells};
 ghost use Rattle.report_text.specs.Views.{occupancies_in, occupancy_in};

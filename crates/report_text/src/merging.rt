@@ -2,7 +2,7 @@
 ghost use Rattle.std.specs.Prelude.{◌≡◌, ◌+◌, ◌<◌, ◌≤◌, if◌then◌else◌, [], ◌∷◌, ◌++◌, length, map, take};
 ghost use Rattle.arrayvec.specs.ArrayVec.{array_vec_len};
 ghost use Rattle.layout.specs.Sizes.{most_keys};
-ghost use Rattle.cache_model.specs.Apply.{is_at_most};
+ghost use Rattle.rows.specs.Apply.{is_at_most};
 ghost use Rattle.report_text.specs.inside.Merged.{merged};
 
 use arrayvec::ArrayVec;

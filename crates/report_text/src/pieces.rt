@@ -4,7 +4,7 @@ ghost use Rattle.std.specs.List.{slice_index_or};
 ghost use Rattle.std.specs.Io.KnownBytes.{Appends};
 ghost use Rattle.layout.specs.Counts.{Rose};
 ghost use Rattle.trace_text.specs.Parsed.{trace_in};
-ghost use Rattle.cache_model.specs.Apply.{Reply};
+ghost use Rattle.rows.specs.Apply.{Reply};
 ghost use Rattle.cache_model.specs.Logged.{AreLogged};
 ghost use Rattle.report_text.specs.Views.{replies_in};
 ghost use Rattle.report_text.specs.inside.Output.{Writes, output};

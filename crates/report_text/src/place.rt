@@ -5,7 +5,7 @@ ghost use Rattle.trace_text.specs.Operation.{operation};
 ghost use Rattle.trace_text.specs.Parsed.{trace_in};
 ghost use Rattle.trace_text.specs.Parts.{longest_value, most_shards, origin};
 ghost use Rattle.trace_text.specs.declared.command.Command.{Command as TraceCommand};
-ghost use Rattle.cache_model.specs.Apply.{Reply};
+ghost use Rattle.rows.specs.Apply.{Reply};
 ghost use Rattle.cache_model.specs.Logged.{AreLogged, IsRead};
 ghost use Rattle.report_text.specs.Views.{replies_in};
 ghost use Rattle.report_text.specs.inside.Places.{ArePlaces};

@@ -4,7 +4,7 @@ ghost use Rattle.std.specs.Io.KnownBytes.{Appends};
 ghost use Rattle.outside.specs.Moves.{AppendsFront};
 ghost use Rattle.layout.specs.Counts.{Rose};
 ghost use Rattle.trace_text.specs.Parsed.{trace_in};
-ghost use Rattle.cache_model.specs.Apply.{Reply};
+ghost use Rattle.rows.specs.Apply.{Reply};
 ghost use Rattle.cache_model.specs.Logged.{AreLogged};
 ghost use Rattle.cache_model.specs.Report.{line, answer_text, report_of};
 ghost use Rattle.report_text.specs.Views.{journals_in, occupancies_in, replies_in};

@@ -2,11 +2,11 @@
 ghost use Rattle.std.specs.Prelude.{◌≡◌, ◌+◌, ◌^◌, ◌<◌, ℕ, List, [], length, Some};
 ghost use Rattle.std.specs.List.{slice_get};
 ghost use Rattle.trace_text.specs.Parsed.{trace_in};
-ghost use Rattle.cache_model.specs.Apply.{Reply};
+ghost use Rattle.rows.specs.Apply.{Reply};
 ghost use Rattle.cache_model.specs.Logged.{AreLogged};
-ghost use Rattle.cache_model.specs.Spelled.{spelled};
+ghost use Rattle.rows.specs.Spelled.{spelled};
 ghost use Rattle.cache_model.specs.Summary.{tally};
-ghost use Rattle.cache_model.specs.declared.reply_kind.ReplyKind.{ReplyKind as KindOfReply};
+ghost use Rattle.rows.specs.declared.reply_kind.ReplyKind.{ReplyKind as KindOfReply};
 ghost use Rattle.report_text.specs.Views.{replies_in};
 ghost use Rattle.report_text.specs.inside.Tallies.{tally_in, total, with_answer};
 

@@ -4,7 +4,7 @@ use Rattle.std.proofs.Math.Seq.{drop-append_seam}
 use Rattle.std.proofs.lemmas.List.{take_at, drop-drop, length-replicate}
 use Rattle.byteorder.specs.Endian.{little_bytes}
 use Rattle.byteorder.specs.Numbers.{little_number-reads_back}
-use Rattle.cache_model.specs.Row.{Row, size}
+use Rattle.rows.specs.Row.{Row, size}
 use Rattle.row_bytes.specs.declared.links.Links.{Links}
 use Rattle.row_bytes.specs.Rows.{row_bytes, AreLinks, HoldsRow, IsStorable, IsRow, header, number_in, put_in, key_length_in, value_length_in, key_in, value_in, newer_in, older_in, links_in, row_in, without_links}
 

@@ -1,7 +1,7 @@
 -- Zero bytes over which a row is written are the bytes of the row.
 use Rattle.std.proofs.Common.{◌≡◌, ℕ, ◌+◌, ◌-◌, List, ◌++◌, length, drop, replicate, ap, sym, ◌∙◌, append_assoc, arith}
 use Rattle.std.proofs.lemmas.List.{drop-replicate}
-use Rattle.cache_model.specs.Row.{Row, size}
+use Rattle.rows.specs.Row.{Row, size}
 use Rattle.row_bytes.specs.declared.links.Links.{Links}
 use Rattle.row_bytes.specs.Rows.{header_bytes, row_bytes}
 use Rattle.row_bytes.proofs.Fields.{padding}

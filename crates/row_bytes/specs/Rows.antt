@@ -2,7 +2,7 @@
 use Rattle.std.specs.Prelude.{◌≡◌, ℕ, ◌+◌, ◌-◌, ◌<◌, ◌≤◌, ◌^◌, List, ◌++◌, length, take, drop, replicate}
 use Rattle.byteorder.specs.Endian.{little_number, little_bytes}
 use Rattle.layout.specs.Sizes.{descriptor, greatest_key, greatest_value}
-use Rattle.cache_model.specs.Row.{Row, size}
+use Rattle.rows.specs.Row.{Row, size}
 use Rattle.row_bytes.specs.declared.links.Links.{Links}
 
 -- the bytes of the header, in front of the key

@@ -1,7 +1,7 @@
 //! That a row is read as it is written.
 ghost use Rattle.std.specs.Prelude.{◌≡◌, ℕ, ◌+◌, ◌≤◌, List, length};
 ghost use Rattle.layout.specs.Sizes.{descriptor};
-ghost use Rattle.cache_model.specs.Row.{Row, size};
+ghost use Rattle.rows.specs.Row.{Row, size};
 ghost use Rattle.row_bytes.specs.Rows.{HoldsRow, header, number_in, put_in, key_length_in, value_length_in, key_in, value_in, row_in, links_in, without_links};
 
 /// Where a row stands in a content, the content is read as this row, and as no other; with its descriptor it has

@@ -1,7 +1,7 @@
 //! The two links of a row: to the row that was used next after it, and to the one that was used next before it.
 ghost use Rattle.std.specs.Prelude.{◌≡◌, ◌+◌, ◌≤◌, ℕ, ◌++◌, List, length, take, drop};
 ghost use Rattle.byteorder.specs.Endian.{little_bytes};
-ghost use Rattle.cache_model.specs.Row.{Row};
+ghost use Rattle.rows.specs.Row.{Row};
 ghost use Rattle.row_bytes.specs.Rows as rows;
 
 use byteorder::{ByteOrder, LittleEndian};

@@ -1,11 +1,12 @@
 //! A row written into the content of its object.
 ghost use Rattle.std.specs.Prelude.{◌≡◌, ◌+◌, ◌<◌, ◌≤◌, ◌^◌, ◌++◌, drop, length, replicate};
 ghost use Rattle.layout.specs.Sizes.{descriptor, greatest_key, greatest_value};
-ghost use Rattle.cache_model.specs.Row.{size};
+ghost use Rattle.rows.specs.Row.{size};
 ghost use Rattle.row_bytes.specs.Rows as rows;
 
 use crate::links::Links;
 use crate::reading::HEADER;
+use byteorder::{ByteOrder, LittleEndian};
 use layout::DESCRIPTOR;
 
 /// The bytes of a row's object, its descriptor included: 40 and both lengths, in whole multiples of 8.
@@ -52,18 +53,16 @@ fn write_front(text: &mut [u8], bytes: &[u8])
 }
 
 /// The bytes of a header.
-fn header_of(number: u32, put: u32, key_len: u16, value_len: u16, links: Links) -> [u8; 32]
+fn header_of(number: u32, put: u32, key_len: u16, value_len: u16, links: Links) -> [u8; HEADER]
     ensures bytes { result ≡ rows.header_bytes number put key_len value_len links }
     ensures fit { rows.AreLinks links }
 {
-    let [n0, n1, n2, n3] = number.to_le_bytes();
-    let [p0, p1, p2, p3] = put.to_le_bytes();
-    let [k0, k1] = key_len.to_le_bytes();
-    let [v0, v1] = value_len.to_le_bytes();
-    let [a0, a1, a2, a3, a4, a5, a6, a7] = links.newer.to_le_bytes();
-    let [b0, b1, b2, b3, b4, b5, b6, b7] = links.older.to_le_bytes();
-    [
-        n0, n1, n2, n3, p0, p1, p2, p3, k0, k1, v0, v1, 0, 0, 0, 0, a0, a1, a2, a3, a4, a5, a6, a7,
-        b0, b1, b2, b3, b4, b5, b6, b7,
-    ]
+    let mut header = [0; HEADER];
+    LittleEndian::write_u32(&mut header, number);
+    LittleEndian::write_u32(&mut header[4..], put);
+    LittleEndian::write_u16(&mut header[8..], key_len);
+    LittleEndian::write_u16(&mut header[10..], value_len);
+    LittleEndian::write_u64(&mut header[16..], links.newer);
+    LittleEndian::write_u64(&mut header[24..], links.older);
+    header
 }

@@ -3,7 +3,7 @@ use Rattle.std.proofs.Common.{◌≡◌, ℕ, ◌+◌, ◌*◌, ◌^◌, ◌<◌
 use Rattle.std.specs.Prelude.{slice_get, slice_set, option_map, IfSome}
 use Rattle.std.proofs.lemmas.List.{length-map}
 use Rattle.std.proofs.lemmas.List.Sums.{sum_by-cons}
-use Rattle.cache_model.specs.Row.{Row, size, live}
+use Rattle.rows.specs.Row.{Row, size, live}
 use Rattle.common_lemmas.specs.Lists.{times, delete}
 use Rattle.key_table.specs.declared.entries.Spot.{Spot}
 use Rattle.regions.specs.Segments.{RegionState, with_guards}

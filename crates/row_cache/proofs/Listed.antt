@@ -5,8 +5,8 @@ use Rattle.std.specs.Bool.{Decides}
 use Rattle.std.proofs.lemmas.Slice.Eq.{bytes_eq-Decides}
 use Rattle.std.proofs.lemmas.List.Sums.{sum_by-cons}
 use Rattle.std.specs.List.{last_or}
-use Rattle.cache_model.specs.Row.{Row, size, live}
-use Rattle.cache_model.specs.Apply.{is_of, row_of, has, without}
+use Rattle.rows.specs.Row.{Row, size, live}
+use Rattle.rows.specs.Apply.{is_of, row_of, has, without}
 use Rattle.common_lemmas.specs.Lists.{times, delete}
 use Rattle.common_lemmas.proofs.Counts.{times_here, times_there, times_cons_le, delete_here, delete_there}
 

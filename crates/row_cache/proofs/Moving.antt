@@ -3,7 +3,7 @@ use Rattle.std.proofs.Common.{◌≡◌, ◌≢◌, ℕ, ◌⊎◌, inl, inr, tr
 use Rattle.std.specs.Prelude.{nat_lt, ◌==◌, slice_get, slice_set, IsSome, option_map}
 use Rattle.std.proofs.lemmas.Bool.{cases_eq}
 use Rattle.std.proofs.lemmas.Bool.Decides.{leb_tells, eqb_tells}
-use Rattle.cache_model.specs.Row.{Row}
+use Rattle.rows.specs.Row.{Row}
 use Rattle.common_lemmas.specs.Lists.{times}
 use Rattle.regions.specs.Contents.{Item}
 use Rattle.regions.specs.Stores.{Live, StandsFor, store_of, found, is_place, less, renamed}

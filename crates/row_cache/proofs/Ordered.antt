@@ -8,8 +8,8 @@ use Rattle.std.proofs.lemmas.List.Elements.{All-filter}
 use Rattle.std.proofs.lemmas.List.Kept.{IsSortedBy-filter}
 use Rattle.std.proofs.lemmas.List.Sorted.{IsPermutation-map, ranks_by}
 use Rattle.std.proofs.lemmas.Simd.{map-map}
-use Rattle.cache_model.specs.Apply.{in_order, is_at_most}
-use Rattle.cache_model.specs.Row.{Row}
+use Rattle.rows.specs.Apply.{in_order, is_at_most}
+use Rattle.rows.specs.Row.{Row}
 use Rattle.common_lemmas.specs.Lists.{times}
 use Rattle.common_lemmas.proofs.Counts.{same-filter, same-permutation}
 use Rattle.key_index.specs.Order.{key_cmp, AreRising, rows_from}

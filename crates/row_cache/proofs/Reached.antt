@@ -4,7 +4,7 @@ use Rattle.std.specs.Prelude.{Contains, IsSome}
 use Rattle.std.specs.List.{last_or}
 use Rattle.std.proofs.lemmas.Bool.{cases_eq}
 use Rattle.common_lemmas.specs.Lists.{times}
-use Rattle.cache_model.specs.Row.{Row}
+use Rattle.rows.specs.Row.{Row}
 use Rattle.row_bytes.specs.Rows.{HoldsRow}
 use Rattle.regions.specs.Segments.{RegionState}
 use Rattle.regions.specs.Contents.{Item, live_at}

@@ -2,7 +2,7 @@
 use Rattle.std.proofs.Common.{◌≡◌, ℕ, ◌+◌, ◌⊎◌, inl, inr, cond, Bool, true, false, List, length, Option, Some, None, refl, sym, ap, subst, ◌∙◌}
 use Rattle.std.specs.Prelude.{slice_get, option_map}
 use Rattle.std.specs.List.{sum}
-use Rattle.cache_model.specs.Row.{Row}
+use Rattle.rows.specs.Row.{Row}
 use Rattle.row_bytes.specs.Rows.{HoldsRow, row_bytes, row_in, number_in, without_links}
 use Rattle.lazy_index.specs.Lazy.{IsKeyed}
 use Rattle.regions.specs.Segments.{RegionState}

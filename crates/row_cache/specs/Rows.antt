@@ -1,8 +1,8 @@
 -- The rows that a row cache means, read off the bytes of its segments.
 use Rattle.std.specs.Prelude.{◌≡◌, ◌⊎◌, ℕ, List, [], length, Option, None, Some, IsSome, slice_get, map, option_map, Contains}
 use Rattle.std.specs.List.{last_or}
-use Rattle.cache_model.specs.Row.{Row}
-use Rattle.cache_model.specs.Apply.{Reply, Stored, Replaced}
+use Rattle.rows.specs.Row.{Row}
+use Rattle.rows.specs.Apply.{Reply, Stored, Replaced}
 use Rattle.row_cache.specs.declared.put.Put.{Put}
 use Rattle.row_cache.specs.declared.put.Put.TheVariants as puts
 use Rattle.row_bytes.specs.Rows.{row_in, number_in, HoldsRow, IsRow}

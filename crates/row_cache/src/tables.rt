@@ -2,9 +2,9 @@
 ghost use Rattle.std.specs.Prelude.{◌≡◌, ◌≢◌, ◌+◌, ◌<◌, ◌≤◌, ℕ, [], ◌∷◌, length, Some, None, slice_get, slice_set, IfOk, IfSome, MatchOption, MatchResult, All, vec_len, vec_capacity, List, ◌-◌, ◌^◌, take, map, filter};
 ghost use Rattle.std.specs.List.{last_or};
 ghost use Rattle.layout.specs.Sizes as sizes;
-ghost use Rattle.cache_model.specs.Row.{Row};
-ghost use Rattle.cache_model.specs.Apply.{in_order, is_at_most};
-ghost use Rattle.cache_model.specs.KeyBody.{IsKey};
+ghost use Rattle.rows.specs.Row.{Row};
+ghost use Rattle.rows.specs.Apply.{in_order, is_at_most};
+ghost use Rattle.rows.specs.KeyBody.{IsKey};
 ghost use Rattle.common_lemmas.specs.Lists.{delete, times};
 ghost use Rattle.key_table.specs.Table.{AreSame};
 ghost use Rattle.lazy_index.specs.Lazy.{Has, IsKeyed, IsStanding, IsThere, rows_in};
@@ -21,10 +21,10 @@ use crate::ends::Ends;
 use crate::links::segment_fits;
 use crate::order::Order;
 use crate::row_keys::{RowKeys, content_of};
-use cache_model::sorted_keys_are_in_order;
 use lazy_index::{LazyIndex, RowAt, Rows, Spot, Standing};
 use regions::{Movers, Place, Region};
 use row_bytes::{key_in, number_in, put_in};
+use rows::sorted_keys_are_in_order;
 use std::alloc::{AllocError, Global};
 use std::marker::Model;
 

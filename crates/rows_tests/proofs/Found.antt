@@ -1,7 +1,7 @@
 -- A key whose row is found is one that a row has.
 use Rattle.std.proofs.Common.{◌≡◌, ℕ, Bool, true, false, ◌||◌, cond, List, [], ◌∷◌, Option, Some, None, refl}
-use Rattle.cache_model.specs.Row.{Row}
-use Rattle.cache_model.specs.Apply.{is_of, row_of, has}
+use Rattle.rows.specs.Row.{Row}
+use Rattle.rows.specs.Apply.{is_of, row_of, has}
 
 first_or_later : (is_first is_later : Bool) (first row : Row) (later : Option Row) → (later ≡ Some row → is_later ≡ true) → cond is_first (Some first) later ≡ Some row → (is_first || is_later) ≡ true
 first_or_later true is_later first row later h e = refl

@@ -1,2 +1,3 @@
 pub mod KeyBodies
+pub mod Recording
 pub mod ReplyLists

@@ -1,4 +1,5 @@
 pub mod JournalState
+pub mod Recorded
 pub mod Replies
 pub mod ShardLines
 pub mod inside

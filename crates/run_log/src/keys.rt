@@ -1,11 +1,12 @@
 //! The keys of a body of keys.
-ghost use Rattle.std.specs.Int.{w16, from_le_bytes};
+ghost use Rattle.std.specs.Int.{w16, from_le_bytes, to_le_bytes};
 ghost use Rattle.std.specs.Prelude.{◌≡◌, ℕ, ◌+◌, ◌^◌, ◌<◌, ◌≤◌, ◌↔◌, List, [], ◌∷◌, ◌++◌, length, map, take, flat_map, vec_len, All, IsNone, IfNone, IfSome, OnOk, OnErr};
 ghost use Rattle.layout.specs.Sizes.{greatest_key};
 ghost use Rattle.trace_text.specs.Operation.{part};
-ghost use Rattle.cache_model.specs.KeyBody.{AreKeys, AreKeysAt};
-ghost use Rattle.cache_model.specs.Spelled.{key_field};
+ghost use Rattle.rows.specs.KeyBody.{AreKeys, AreKeysAt};
+ghost use Rattle.rows.specs.Spelled.{key_field};
 
+use byteorder::{ByteOrder, LittleEndian};
 use std::alloc::AllocError;
 use trace_text::Span;
 
@@ -29,7 +30,16 @@ fn first_key(body: &[u8]) -> Option<(&[u8], &[u8])>
 fn key_length(low: u8, high: u8) -> u16
     ensures { result ≡ from_le_bytes w16 (low ∷ high ∷ []) }
 {
-    u16::from_le_bytes([low, high])
+    LittleEndian::read_u16(&[low, high])
+}
+
+/// The two bytes of a length, low byte first.
+fn length_bytes(len: u16) -> [u8; 2]
+    ensures { result ≡ to_le_bytes w16 len }
+{
+    let mut bytes = [0; 2];
+    LittleEndian::write_u16(&mut bytes, len);
+    bytes
 }
 
 /// Where the key stands whose length stands at `at` of a body of keys; None at the body's end. Its
@@ -67,7 +77,7 @@ fn append_key(body: &mut Vec<u8>, key: &[u8]) -> Result<(), AllocError>
     ensures kept { OnErr result (body.new.items ≡ body.old.items) }
 {
     body.reserve(2 + key.len())?;
-    body.extend_from_slice((key.len() as u16).to_le_bytes().as_slice())
+    body.extend_from_slice(&length_bytes(key.len() as u16))
         .unwrap();
     body.extend_from_slice(key).unwrap();
     Ok(())

@@ -21,6 +21,6 @@ lasting_of end node = record {
   shards = node.shards;
   pages = node.pages;
   trace = node.trace;
-  list = node.space.list;
+  list = node.store.list;
   ends = map (λ peer. end peer.link) node.peers;
 }

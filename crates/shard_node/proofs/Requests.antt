@@ -1,6 +1,7 @@
 -- Requests: what is asked, done and served.
 pub mod Served
 pub mod Askable
+pub mod Told
 pub mod NextAsk
 pub mod Serving
 pub mod DoesNext

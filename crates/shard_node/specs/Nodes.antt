@@ -3,7 +3,7 @@ use Rattle.std.specs.Prelude.{ℕ, List, Option}
 use Rattle.trace_text.specs.Trace.{Trace}
 use Rattle.run_log.specs.JournalState.{JournalState}
 use Rattle.run_log.specs.Replies.{Replies}
-use Rattle.reclaim.specs.Spaces.{SpaceState}
+use Rattle.shard_store.specs.Stores.{StoreState}
 use Rattle.shard_node.specs.declared.waiting.Waiting.{Waiting}
 pub use Rattle.part_lemmas.specs.Exchange.{Keeping, PeerState, others}
 
@@ -15,7 +15,7 @@ pub record NodeState (L G : Type 0) : Type 0 where
   pub pages : ℕ
   pub trace : Trace
   -- its cache, and the blocks that it lent
-  pub space : SpaceState
+  pub store : StoreState
   -- what it did
   pub journal : JournalState
   -- the replies to its own parts

@@ -1,11 +1,11 @@
 -- The record of a run.
 use Rattle.std.specs.Prelude.{◌≡◌, ℕ, List, length}
 use Rattle.trace_text.specs.Trace.{Trace}
-use Rattle.cache_model.specs.Row.{live}
+use Rattle.rows.specs.Row.{live}
 use Rattle.run_log.specs.JournalState.{JournalState}
 use Rattle.run_log.specs.Replies.{Replies}
 use Rattle.run_log.specs.declared.shard_line.ShardLine.{ShardLine}
-use Rattle.reclaim.specs.Spaces.{SpaceState}
+use Rattle.shard_store.specs.Stores.{StoreState}
 
 -- what the nodes left that have finished, in the order of their shards
 pub record RanState : Type 0 where
@@ -17,9 +17,9 @@ pub record RanState : Type 0 where
   pub logs : List Replies
   pub lines : List ShardLine
 
--- the rows of a space and their bytes, and the blocks that it lent and got back
-abbrev pub line_of : SpaceState → ShardLine
-line_of space = record { rows = length space.rows; live = live space.rows; lent = space.lends; back = space.backs }
+-- the rows of a store and their bytes, and the blocks that it lent and got back
+abbrev pub line_of : StoreState → ShardLine
+line_of store = record { rows = length store.rows; live = live store.rows; lent = store.lends; back = store.backs }
 
 -- it is of a run of this trace on n shards of so many pages each
 pub record IsOfRun (trace : Trace) (n pages : ℕ) (ran : RanState) : Type 0 where

@@ -5,12 +5,12 @@ use Rattle.std.specs.Option.{option_map}
 use mathlib.Core.List.{IsPrefix}
 use Rattle.layout.specs.Sizes.{dense}
 use Rattle.trace_text.specs.Parts.{origin, parts}
-use Rattle.cache_model.specs.declared.reply_kind.ReplyKind.{ReplyKind}
-use Rattle.cache_model.specs.Apply.{Reply}
+use Rattle.rows.specs.declared.reply_kind.ReplyKind.{ReplyKind}
+use Rattle.rows.specs.Apply.{Reply}
 use Rattle.cache_model.specs.Legal.{EvictsAbove, cache_after, done, reply_at}
 use Rattle.cache_model.specs.OwnParts.{issued_parts}
-use Rattle.cache_model.specs.Row.{tight_floor}
-use Rattle.cache_model.specs.Spelled.{spelled}
+use Rattle.rows.specs.Row.{tight_floor}
+use Rattle.rows.specs.Spelled.{spelled}
 use Rattle.foreign_list.specs.Blocks.{Block}
 use Rattle.layout.specs.Counts.{raised, greatest_count}
 use Rattle.shard_memory.specs.Tickets.{tickets_out}
@@ -46,7 +46,7 @@ waiting_request (Some waiting) q = if waiting.peer == q then Some waiting.block.
 module _ {L G : Type 0} (traffic : L → Traffic) (node : NodeState L G) where
   -- the journal is legal, and the cache has the rows that it leads to; with one shard nothing is evicted but under pressure
   pub record LeadsToItsRows : Type 0 where
-    pub legal : cache_after node.trace node.pages node.journal.entries ≡ Some node.space.rows
+    pub legal : cache_after node.trace node.pages node.journal.entries ≡ Some node.store.rows
     pub pressure : node.shards ≡ 1 → EvictsAbove node.trace node.pages (tight_floor node.pages 0 + dense) node.journal.entries
 
   -- what was sent to a peer on the lane of requests is the first of what is due to it
@@ -99,8 +99,8 @@ module _ {L G : Type 0} (traffic : L → Traffic) (node : NodeState L G) where
 
   -- a block was lent for each of them, and those that did not come back are the tickets that are out
   pub record LendsOneEach : Type 0 where
-    pub lends : node.space.lends ≡ raised 0 (asked_of_others + done_for_others)
-    pub out : node.space.lends ≡ raised node.space.backs (tickets_out node.space.lent)
+    pub lends : node.store.lends ≡ raised 0 (asked_of_others + done_for_others)
+    pub out : node.store.lends ≡ raised node.store.backs (tickets_out node.store.lent)
 
   -- how many blocks came over both lanes of a peer, and how many of them wait to be released
   abbrev pub received_from : PeerState L → ℕ

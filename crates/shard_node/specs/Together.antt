@@ -4,7 +4,7 @@ use Rattle.std.specs.List.{slice_get, slice_index_or}
 use Rattle.trace_text.specs.Parts.{parts}
 use Rattle.trace_text.specs.Trace.{Trace}
 use Rattle.cache_model.specs.declared.entry.Entry.{Entry}
-use Rattle.cache_model.specs.declared.reply_kind.ReplyKind.{ReplyKind}
+use Rattle.rows.specs.declared.reply_kind.ReplyKind.{ReplyKind}
 use Rattle.cache_model.specs.Legal.{IsComplete, IsLegal, cache_after, reply_at}
 use Rattle.cache_model.specs.OwnParts.{HoldsReplies, part_reply, parts_of}
 use Rattle.cache_model.specs.Report.{lent}
@@ -41,7 +41,7 @@ module _ {L G : Type 0} (traffic : L → Traffic) (holds : G → ℕ) (trace : T
     pub standing : InStanding traffic node
     pub done : IsDone traffic holds node
     -- its count of the blocks that came back is a u64
-    pub counted : node.space.backs < 2 ^ 64
+    pub counted : node.store.backs < 2 ^ 64
 
   -- Each of n nodes is so; and between each two of them, what one received is a prefix of what the other sent, on each lane.
   pub record AreTogether (nodes : List (NodeState L G)) : Type 0 where
@@ -75,8 +75,8 @@ module _ {L G : Type 0} (traffic : L → Traffic) (trace : Trace) (n pages : ℕ
         → HoldsReplies trace n o (part_reply trace pages (journals_of nodes)) (slice_index_or (logs_of nodes) o d)
     -- each node lent as many blocks as the report says, and all of them came back
     pub occupied : (s : ℕ) (node : NodeState L G) → slice_get nodes s ≡ Some node
-        → (node.space.lends ≡ raised 0 (lent trace n s)) × (node.space.backs ≡ raised 0 (lent trace n s))
+        → (node.store.lends ≡ raised 0 (lent trace n s)) × (node.store.backs ≡ raised 0 (lent trace n s))
     -- no packet is on its way: on each lane all that was sent was received
     pub exchanged : (a b : ℕ) (p q : PeerState L) → IsPeer nodes a b p → IsPeer nodes b a q → (traffic p.link).received ≡ (traffic q.link).sent
     -- each cache is the one that its node's journal leads to
-    pub cache : (s : ℕ) (node : NodeState L G) → slice_get nodes s ≡ Some node → cache_after trace pages node.journal.entries ≡ Some node.space.rows
+    pub cache : (s : ℕ) (node : NodeState L G) → slice_get nodes s ≡ Some node → cache_after trace pages node.journal.entries ≡ Some node.store.rows

@@ -1,14 +1,14 @@
 -- What a turn answers, and exactly when.
 use Rattle.std.specs.Prelude.{◌≡◌, ◌≢◌, ℕ, ◌+◌, ◌-◌, ◌<◌, ◌≤◌, ◌⊎◌, false, List, ◌∷◌, ◌++◌, length, map, All, Option, Some, None, IsSome}
 use Rattle.std.specs.List.{slice_get}
-use Rattle.cache_model.specs.Apply.{Reply}
+use Rattle.rows.specs.Apply.{Reply}
 use Rattle.cache_model.specs.Legal.{done}
 use Rattle.cache_model.specs.OwnParts.{issued_parts}
 use Rattle.foreign_list.specs.Blocks.{Block}
 use Rattle.shard_memory.specs.Tickets.{HasIdle, tickets_out}
 use Rattle.shard_memory.specs.declared.share.Share.TheVariants.{Request, Reply as ReplyShare}
 use Rattle.layout.specs.Counts.{Rose}
-use Rattle.reclaim.specs.Lending.{LooksOnce}
+use Rattle.shard_store.specs.Lending.{LooksOnce}
 use Rattle.shard_rings.specs.Lanes.{on, Traffic}
 use Rattle.shard_rings.specs.declared.link.Lane.{Lane}
 use Rattle.shard_rings.specs.declared.link.Lane.TheVariants.{Requests, Replies}
@@ -53,7 +53,7 @@ module _ {L G : Type 0} (traffic : L → Traffic) (holds : G → ℕ) where
     pub answered : All (λ reply. IsSome reply) node.log.replies
     pub parted : All (HasParted node) node.peers
     pub asked : IsEmpty node.request
-    pub idle : tickets_out node.space.lent ≡ 0
+    pub idle : tickets_out node.store.lent ≡ 0
 
   -- Stray.
 
@@ -114,7 +114,7 @@ module _ {L G : Type 0} (traffic : L → Traffic) (holds : G → ℕ) where
   -- a block came back, a packet was sent or received, a part was done, or a block that waited was released
   abbrev pub HasCause : NodeState L G → NodeState L G → Type 0
   HasCause old new =
-      (old.space.backs < new.space.backs)
+      (old.store.backs < new.store.backs)
       ⊎ ForSome HasMoved old new
       ⊎ (length (done old.journal.entries) < length (done new.journal.entries))
       ⊎ (ForSome HasReleased old new × Rose old.tally new.tally)
@@ -159,13 +159,13 @@ module _ {L G : Type 0} (traffic : L → Traffic) (holds : G → ℕ) where
     pub bye : HasBegunAll node → (HasSentBye node old → ⊥) → IsFull Requests old new
     pub no_reply : Owes node old → IsEmpty old.held.replies → WasEmpty Replies old new
     pub no_request : (HasHeardBye node old → ⊥) → IsEmpty old.held.requests → IsEmpty old.reply
-        → WasEmpty Requests old new ⊎ ¬ HasIdle later.space.lent ReplyShare
+        → WasEmpty Requests old new ⊎ ¬ HasIdle later.store.lent ReplyShare
 
   -- what held the next own part up: the gate, or that no ticket of a request is idle
   abbrev pub IsHeldBack : NodeState L G → NodeState L G → Type 0
   IsHeldBack old new = (part : ℕ × ℕ) → slice_get (issued_parts old.trace old.shards old.shard) old.begun ≡ Some part
       → (IsFirst old old.begun part × (holds old.gate < holds new.gate))
-      ⊎ ((part.1 ≢ old.shard) × ¬ HasIdle new.space.lent Request)
+      ⊎ ((part.1 ≢ old.shard) × ¬ HasIdle new.store.lent Request)
 
   pub record IsIdle (old new : NodeState L G) : Type 0 where
     pub nothing : HasCause old new → ⊥
@@ -176,8 +176,8 @@ module _ {L G : Type 0} (traffic : L → Traffic) (holds : G → ℕ) where
     pub own : IsEmpty new.request → IsHeldBack old new
     -- where a block was out, the list was looked at for those that came home: once, but that it may have been looked at again for
     -- the room of a request that was made in this turn
-    pub looked : 0 < tickets_out old.space.lent → old.space.looks < new.space.looks
-    pub looked_once : new.request ≡ old.request → LooksOnce old.space new.space
+    pub looked : 0 < tickets_out old.store.lent → old.store.looks < new.store.looks
+    pub looked_once : new.request ≡ old.request → LooksOnce old.store new.store
 
   -- The answer of a turn.
   abbrev pub IsAnswer : Turn → NodeState L G → NodeState L G → Type 0
@@ -202,5 +202,5 @@ pub record IsSameNode {L G E : Type 0} (end : L → E) (old new : NodeState L G)
   pub shards : new.shards ≡ old.shards
   pub pages : new.pages ≡ old.pages
   pub trace : new.trace ≡ old.trace
-  pub home : new.space.list ≡ old.space.list
+  pub home : new.store.list ≡ old.store.list
   pub ends : map (λ peer. end peer.link) new.peers ≡ map (λ peer. end peer.link) old.peers

@@ -3,6 +3,8 @@ pub mod Shards
 pub mod Steps
 pub mod Endings
 pub mod Serves
+pub mod Did
+pub mod Bare
 pub mod Parts
 pub mod Nodes
 pub mod Moves

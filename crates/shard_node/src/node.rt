@@ -5,7 +5,7 @@ ghost use Rattle.trace_text.specs.Parsed.{trace_in};
 ghost use Rattle.foreign_list.specs.OwnerSeats.{IsAtRest};
 ghost use Rattle.shard_memory.specs.Tickets.{tickets_out};
 ghost use Rattle.layout.specs.Counts.{counted};
-ghost use Rattle.reclaim.specs.Spaces.{IsUnguarded};
+ghost use Rattle.shard_store.specs.Stores.{IsUnguarded};
 ghost use Rattle.shard_node.specs.Nodes.{others};
 ghost use Rattle.shard_node.specs.Standing.{InStanding};
 ghost use Rattle.shard_node.specs.Links.{IsUnused};
@@ -20,10 +20,10 @@ use crate::shard::Shard;
 use crate::turn::Turn;
 use foreign_list::{Foreign, OwnerSeat};
 use layout::LINE_WORDS;
-use reclaim::Space;
 use run_log::ShardLine;
 use shard_parts::Peer;
 use shard_rings::Link;
+use shard_store::ShardStore;
 use std::alloc::Global;
 use std::marker::Model;
 use trace_text::Trace;
@@ -61,7 +61,7 @@ impl<'f, L: Drop, G: Drop> Model for Node<'f, L, G> {
 /// What a node leaves that has finished, beside its journal and its log.
 #[derive(Drop)]
 pub struct Finished<'f, L: Drop> {
-    pub space: Space<'f>,
+    pub store: ShardStore<'f>,
     pub links: Vec<L>,
 }
 
@@ -100,8 +100,8 @@ impl<'f, L: Link<'f> + Drop, G: Gate + Drop> Node<'f, L, G> {
         ensures trace { IfOk result (λ node. node.trace ≡ trace_in trace.now) }
 
         // No block is out.
-        ensures list { IfOk result (λ node. node.space.list ≡ home.now) }
-        ensures lent { IfOk result (λ node. tickets_out node.space.lent ≡ 0) }
+        ensures list { IfOk result (λ node. node.store.list ≡ home.now) }
+        ensures lent { IfOk result (λ node. tickets_out node.store.lent ≡ 0) }
 
         // How it stands before the first turn.
         ensures links { IfOk result (λ node. map (λ peer. peer.link) node.peers ≡ links.items) }
@@ -156,14 +156,14 @@ impl<'f, L: Link<'f> + Drop, G: Gate + Drop> Node<'f, L, G> {
     pub fn facts(&self)
         ensures within { self.now.shard < self.now.shards }
         ensures peers { map (λ peer. peer.shard) self.now.peers ≡ others self.now.shards self.now.shard }
-        ensures pages { self.now.space.pages ≡ self.now.pages }
-        ensures owner { self.now.space.shard ≡ self.now.shard }
-        ensures counted { self.now.space.backs < 2 ^ 64 }
+        ensures pages { self.now.store.pages ≡ self.now.pages }
+        ensures owner { self.now.store.shard ≡ self.now.shard }
+        ensures counted { self.now.store.backs < 2 ^ 64 }
     {
-        self.shard.space.facts();
+        self.shard.store.facts();
     }
 
-    /// Ends a node that is done: its journal, its log and the line of its space go to the record of its run, which has those of all
+    /// Ends a node that is done: its journal, its log and the line of its store go to the record of its run, which has those of all
     /// shards below its own.
     pub fn finish(self, into: &mut Ran) -> Finished<'f, L>
         // It is the next one of its run.
@@ -176,7 +176,7 @@ impl<'f, L: Link<'f> + Drop, G: Gate + Drop> Node<'f, L, G> {
         // What it adds to the record.
         ensures journals { into.new.journals ≡ into.old.journals ++ self.entry.journal ∷ [] }
         ensures logs { into.new.logs ≡ into.old.logs ++ self.entry.log ∷ [] }
-        ensures lines { into.new.lines ≡ into.old.lines ++ line_of self.entry.space ∷ [] }
+        ensures lines { into.new.lines ≡ into.old.lines ++ line_of self.entry.store ∷ [] }
 
         // The record is of the same run.
         ensures trace { into.new.trace ≡ into.old.trace }
@@ -184,10 +184,10 @@ impl<'f, L: Link<'f> + Drop, G: Gate + Drop> Node<'f, L, G> {
         ensures pages { into.new.pages ≡ into.old.pages }
 
         // What is left of the node.
-        ensures space { result.space ≡ self.entry.space }
+        ensures store { result.store ≡ self.entry.store }
         ensures links { result.links.items ≡ map (λ peer. peer.link) self.entry.peers }
-        ensures idle { tickets_out result.space.lent ≡ 0 }
-        ensures unguarded { IsUnguarded result.space }
+        ensures idle { tickets_out result.store.lent ≡ 0 }
+        ensures unguarded { IsUnguarded result.store }
     {
         let Node {
             shard,
@@ -195,15 +195,15 @@ impl<'f, L: Link<'f> + Drop, G: Gate + Drop> Node<'f, L, G> {
             _apart: _,
         } = self;
         let Shard {
-            space,
+            store,
             journal,
             log,
             peers,
             ..
         } = shard;
-        into.add(journal, log, line_of(&space));
+        into.add(journal, log, line_of(&store));
         Finished {
-            space,
+            store,
             links: links_of(peers, links),
         }
     }
@@ -211,7 +211,7 @@ impl<'f, L: Link<'f> + Drop, G: Gate + Drop> Node<'f, L, G> {
     /// Ends a node that made no turn: its seat and its links are handed back.
     pub fn abandon(self) -> NodeRefusal<L>
         requires new { self.turns ≡ 0 }
-        ensures seat { IsAtRest self.entry.space.list result.seat }
+        ensures seat { IsAtRest self.entry.store.list result.seat }
         ensures links { result.links.items ≡ map (λ peer. peer.link) self.entry.peers }
     {
         let Node {
@@ -219,23 +219,23 @@ impl<'f, L: Link<'f> + Drop, G: Gate + Drop> Node<'f, L, G> {
             links,
             _apart: _,
         } = self;
-        let Shard { space, peers, .. } = shard;
+        let Shard { store, peers, .. } = shard;
         NodeRefusal {
-            seat: space.finish(),
+            seat: store.finish(),
             links: links_of(peers, links),
         }
     }
 }
 
-/// The line that says what a space came to.
-fn line_of(space: &Space<'_>) -> ShardLine
-    ensures { result ≡ line_of space.now }
+/// The line that says what a store came to.
+fn line_of(store: &ShardStore<'_>) -> ShardLine
+    ensures { result ≡ line_of store.now }
 {
     ShardLine {
-        rows: space.rows(),
-        live: space.live(),
-        lent: space.lent(),
-        back: space.back(),
+        rows: store.rows(),
+        live: store.live(),
+        lent: store.lent(),
+        back: store.back(),
     }
 }
 

@@ -1,70 +1,75 @@
-//! The parts that a shard issues to itself: what its space answers goes into its log.
+//! The parts that a shard issues to itself: what its store answers goes into its log.
 ghost use Rattle.std.specs.Prelude.{◌≡◌, ◌⊎◌, ◌*◌, ◌+◌, ◌<◌, ◌≤◌, length, true, Some, None};
 ghost use Rattle.std.specs.List.{slice_get};
 ghost use Rattle.layout.specs.Sizes.{key_room, most_keys};
-ghost use Rattle.trace_text.specs.declared.command.Kind.TheVariants as kinds;
-ghost use Rattle.cache_model.specs.Apply.{apply, has};
-ghost use Rattle.cache_model.specs.Spelled.{spelled};
-ghost use Rattle.shard_rings.specs.Ask.{asked, IsAskable};
-ghost use Rattle.reclaim.specs.Spaces.{IsUnguarded};
+ghost use Rattle.rows.specs.declared.kind.Kind.TheVariants as kinds;
+ghost use Rattle.rows.specs.Apply.{apply, has};
+ghost use Rattle.rows.specs.Spelled.{spelled};
+ghost use Rattle.rows.specs.Askable.{IsAskable};
+ghost use Rattle.rows.specs.Operations.{erase_of, get_of, key_of, kind_of, numbered, put_of, scan_of};
+ghost use Rattle.shard_store.specs.Stores.{IsUnguarded};
 ghost use Rattle.shard_node.specs.inside.Parts.{DoesPart};
 
+use crate::doing::{note_done, put_row};
 use cache_model::ReplyKind;
-use reclaim::{Put, Space};
 use run_log::{Journal, ReplyLog};
-use shard_rings::Ask;
-use trace_text::Kind;
+use shard_rings::Operation;
+use shard_store::{Put, ShardStore};
 
-/// Does a part: the command is recorded in the journal, behind the evictions that it took, and its reply in the log, at the
-/// place of the part. `keys` has room for the keys of any scan. Nothing takes memory.
+/// Does a part, of the command of this number: the command is recorded in the journal, behind the evictions that it took, and its
+/// reply in the log, at the place of the part. `keys` has room for the keys of any scan. Nothing takes memory.
 pub(crate) fn do_part(
-    space: &mut Space<'_>,
-    ask: &Ask<'_>,
+    store: &mut ShardStore<'_>,
+    number: u32,
+    operation: &Operation<'_>,
     part: u32,
     keys: &mut [u8],
     journal: &mut Journal,
     log: &mut ReplyLog,
 )
     // What is asked, with no guard standing.
-    requires askable { IsAskable (asked ask.now) }
-    requires unguarded { IsUnguarded space.old }
+    requires askable { IsAskable (numbered number operation.now) }
+    requires unguarded { IsUnguarded store.old }
 
-    // Nothing it writes lacks space.
-    requires tables { ask.now.kind ≡ kinds.Put
-        → (has ask.now.key.now space.old.rows ≡ true) ⊎ (length space.old.rows < space.old.room) }
-    requires spare { length space.old.rows + 1 ≤ journal.old.spare }
+    // Nothing it writes lacks room.
+    requires tables { kind_of operation.now ≡ kinds.Put
+        → (has (key_of operation.now) store.old.rows ≡ true) ⊎ (length store.old.rows < store.old.room) }
+    requires spare { length store.old.rows + 1 ≤ journal.old.spare }
     requires buffer { length keys.old ≡ key_room * most_keys }
     requires unanswered { slice_get log.old.replies part ≡ Some None }
-    requires fits { length (spelled (apply (asked ask.now) space.old.rows).1).1 ≤ log.old.room }
+    requires fits { length (spelled (apply (numbered number operation.now) store.old.rows).1).1 ≤ log.old.room }
 
     // What it does, answers and writes down.
-    ensures { DoesPart part (asked ask.now) space.old space.new journal.old journal.new log.old log.new }
+    ensures { DoesPart part (numbered number operation.now) store.old store.new journal.old journal.new log.old log.new }
 {
-    match ask.kind {
-        Kind::Put => do_put(space, ask, part, journal, log),
-        Kind::Get => do_get(space, ask, part, journal, log),
-        Kind::Erase => do_erase(space, ask, part, journal, log),
-        Kind::Scan => do_scan(space, ask, part, keys, journal, log),
+    match *operation {
+        Operation::Put { key, value } => do_put(store, number, key, value, part, journal, log),
+        Operation::Get { key } => do_get(store, number, key, part, journal, log),
+        Operation::Erase { key } => do_erase(store, number, key, part, journal, log),
+        Operation::Scan { from, count } => {
+            do_scan(store, number, from, count, part, keys, journal, log);
+        }
     }
 }
 
 /// Stores a row.
 fn do_put(
-    space: &mut Space<'_>,
-    ask: &Ask<'_>,
+    store: &mut ShardStore<'_>,
+    number: u32,
+    key: &[u8],
+    value: &[u8],
     part: u32,
     journal: &mut Journal,
     log: &mut ReplyLog,
 )
-    requires kind { ask.now.kind ≡ kinds.Put }
-    requires askable { IsAskable (asked ask.now) }
-    requires unguarded { IsUnguarded space.old }
-    requires tables { (has ask.now.key.now space.old.rows ≡ true) ⊎ (length space.old.rows < space.old.room) }
-    requires spare { length space.old.rows + 1 ≤ journal.old.spare }
+    requires askable { IsAskable (put_of number key.now value.now) }
+    requires unguarded { IsUnguarded store.old }
+    requires tables { (has key.now store.old.rows ≡ true) ⊎ (length store.old.rows < store.old.room) }
+    requires spare { length store.old.rows + 1 ≤ journal.old.spare }
     requires unanswered { slice_get log.old.replies part ≡ Some None }
-    ensures { DoesPart part (asked ask.now) space.old space.new journal.old journal.new log.old log.new }
+    ensures { DoesPart part (put_of number key.now value.now) store.old store.new journal.old journal.new log.old log.new }
 {
-    let kind = match space.put(ask, journal) {
+    let kind = match put_row(store, number, key, value, journal) {
         Put::Stored => ReplyKind::Stored,
         Put::Replaced => ReplyKind::Replaced,
     };
@@ -73,21 +78,22 @@ fn do_put(
 
 /// Looks a row up. Its value is copied once, from its segment into the log.
 fn do_get(
-    space: &mut Space<'_>,
-    ask: &Ask<'_>,
+    store: &mut ShardStore<'_>,
+    number: u32,
+    key: &[u8],
     part: u32,
     journal: &mut Journal,
     log: &mut ReplyLog,
 )
-    requires kind { ask.now.kind ≡ kinds.Get }
-    requires unguarded { IsUnguarded space.old }
+    requires unguarded { IsUnguarded store.old }
     requires spare { 1 ≤ journal.old.spare }
     requires unanswered { slice_get log.old.replies part ≡ Some None }
-    requires fits { length (spelled (apply (asked ask.now) space.old.rows).1).1 ≤ log.old.room }
-    ensures { DoesPart part (asked ask.now) space.old space.new journal.old journal.new log.old log.new }
+    requires fits { length (spelled (apply (get_of number key.now) store.old.rows).1).1 ≤ log.old.room }
+    ensures { DoesPart part (get_of number key.now) store.old store.new journal.old journal.new log.old log.new }
 {
-    space.facts();
-    match space.get_here(ask, journal) {
+    store.facts();
+    note_done(journal, number);
+    match store.get(key) {
         Some(value) => log.record(part, ReplyKind::Value, value),
         None => log.record(part, ReplyKind::Missing, &[]),
     }
@@ -95,20 +101,21 @@ fn do_get(
 
 /// Removes a row.
 fn do_erase(
-    space: &mut Space<'_>,
-    ask: &Ask<'_>,
+    store: &mut ShardStore<'_>,
+    number: u32,
+    key: &[u8],
     part: u32,
     journal: &mut Journal,
     log: &mut ReplyLog,
 )
-    requires kind { ask.now.kind ≡ kinds.Erase }
-    requires unguarded { IsUnguarded space.old }
+    requires unguarded { IsUnguarded store.old }
     requires spare { 1 ≤ journal.old.spare }
     requires unanswered { slice_get log.old.replies part ≡ Some None }
-    ensures { DoesPart part (asked ask.now) space.old space.new journal.old journal.new log.old log.new }
+    ensures { DoesPart part (erase_of number key.now) store.old store.new journal.old journal.new log.old log.new }
 {
-    space.facts();
-    let kind = if space.erase_here(ask, journal) {
+    store.facts();
+    note_done(journal, number);
+    let kind = if store.erase(key) {
         ReplyKind::Erased
     } else {
         ReplyKind::Missing
@@ -118,28 +125,30 @@ fn do_erase(
 
 /// Looks keys up, and writes them into `keys` on their way into the log.
 fn do_scan(
-    space: &mut Space<'_>,
-    ask: &Ask<'_>,
+    store: &mut ShardStore<'_>,
+    number: u32,
+    from: &[u8],
+    count: u32,
     part: u32,
     keys: &mut [u8],
     journal: &mut Journal,
     log: &mut ReplyLog,
 )
     // A scan, with no guard standing.
-    requires kind { ask.now.kind ≡ kinds.Scan }
-    requires askable { IsAskable (asked ask.now) }
-    requires unguarded { IsUnguarded space.old }
+    requires askable { IsAskable (scan_of number from.now count) }
+    requires unguarded { IsUnguarded store.old }
 
-    // Nothing it writes lacks space.
+    // Nothing it writes lacks room.
     requires spare { 1 ≤ journal.old.spare }
-    requires buffer { key_room * ask.now.count ≤ length keys.old }
+    requires buffer { key_room * count ≤ length keys.old }
     requires unanswered { slice_get log.old.replies part ≡ Some None }
-    requires fits { length (spelled (apply (asked ask.now) space.old.rows).1).1 ≤ log.old.room }
+    requires fits { length (spelled (apply (scan_of number from.now count) store.old.rows).1).1 ≤ log.old.room }
 
     // What it does, answers and writes down.
-    ensures { DoesPart part (asked ask.now) space.old space.new journal.old journal.new log.old log.new }
+    ensures { DoesPart part (scan_of number from.now count) store.old store.new journal.old journal.new log.old log.new }
 {
-    space.facts();
-    let scanned = space.scan_here(ask, keys, journal);
+    store.facts();
+    note_done(journal, number);
+    let scanned = store.scan(from, count, keys);
     log.record(part, ReplyKind::Keys, &keys[..scanned.bytes as usize]);
 }

@@ -17,10 +17,10 @@ use crate::gate::Gate;
 use crate::waiting::Waiting;
 use cache_model::issued_parts_are_counted;
 use foreign_list::Tally;
-use reclaim::Space;
 use run_log::{Journal, ReplyLog};
 use shard_parts::{Own, Peer, Rest, release_all, say_byes, send_replies};
 use shard_rings::Link;
+use shard_store::ShardStore;
 use trace_text::Trace;
 
 /// What a node holds.
@@ -32,7 +32,7 @@ pub struct Shard<'f, L: Drop, G: Drop> {
     pub(crate) trace: &'f Trace,
     // The length of the longest value of the trace.
     pub(crate) longest: u32,
-    pub(crate) space: Space<'f>,
+    pub(crate) store: ShardStore<'f>,
     pub(crate) journal: Journal,
     pub(crate) log: ReplyLog,
     // Where the keys of a scan stand on their way into the log.
@@ -55,9 +55,9 @@ impl<'f, L: Link<'f> + Drop, G: Gate + Drop> Shard<'f, L, G> {
         requires { IsConsistent self.old }
         ensures { ComesHome L.traffic L.end self.old self.new }
     {
-        self.space.facts();
-        self.space.take_back();
-        self.space.facts();
+        self.store.facts();
+        self.store.take_back();
+        self.store.facts();
     }
 
     /// Tries each block that waits to be released once. True where one was.

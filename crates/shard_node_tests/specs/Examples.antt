@@ -6,7 +6,7 @@ use Rattle.cache_model.specs.declared.entry.Entry.{Entry}
 use Rattle.cache_model.specs.declared.entry.Entry.TheVariants.{Done}
 use Rattle.cache_model.specs.Examples.{put_b}
 use Rattle.foreign_list.specs.Blocks.{Block}
-use Rattle.reclaim.specs.Spaces.{SpaceState}
+use Rattle.shard_store.specs.Stores.{StoreState}
 use Rattle.shard_rings.specs.Lanes.{each_lane, Traffic}
 use Rattle.shard_rings.specs.declared.link.Packet.{Packet}
 use Rattle.shard_rings.specs.declared.link.Packet.TheVariants.{Block as InBlock, Bye}
@@ -64,13 +64,13 @@ pub record PacketsAreRight (block : Block) : Type 0 where
   pub counted_once : requests_taken to_the_owner (packet block put_request ∷ packet block put_request ∷ Bye ∷ []) ≡ 2
 
 -- Shard 1 at the end: the put was asked of it, done and answered, and both said Bye. Its links are seen as what went over them.
-abbrev pub at_owner : Block → SpaceState → List Packet → List Entry → NodeState Traffic (Unit {0})
-at_owner block space requests entries = record {
+abbrev pub at_owner : Block → StoreState → List Packet → List Entry → NodeState Traffic (Unit {0})
+at_owner block store requests entries = record {
   shard = 1;
   shards = 2;
   pages = 8192;
   trace = put_b;
-  space = record space { rows = record { key = codes "b"; value = codes "1"; number = 1 } ∷ []; lent = replicate tickets None; lends = 1; backs = 1 };
+  store = record store { rows = record { key = codes "b"; value = codes "1"; number = 1 } ∷ []; lent = replicate tickets None; lends = 1; backs = 1 };
   journal = record { entries = entries; spare = 1 };
   log = record { replies = []; room = 0 };
   peers = record {
@@ -93,21 +93,21 @@ at_owner block space requests entries = record {
 }
 
 -- It is in standing, and done. It is neither where the journal has the put twice, nor where it has not heard the request.
-pub record StandingIsRight (block : Block) (space : SpaceState) : Type 0 where
-  pub stands : InStanding (λ link. link) (at_owner block space (packet block put_request ∷ Bye ∷ []) (Done 1 ∷ []))
-  pub is_done : IsDone (λ link. link) (λ gate. 0) (at_owner block space (packet block put_request ∷ Bye ∷ []) (Done 1 ∷ []))
-  pub twice : InStanding (λ link. link) (at_owner block space (packet block put_request ∷ Bye ∷ []) (Done 1 ∷ Done 1 ∷ [])) → ⊥
-  pub unasked : InStanding (λ link. link) (at_owner block space (packet block of_number_3 ∷ Bye ∷ []) (Done 1 ∷ [])) → ⊥
-  pub not_heard : IsDone (λ link. link) (λ gate. 0) (at_owner block space (packet block put_request ∷ []) (Done 1 ∷ [])) → ⊥
+pub record StandingIsRight (block : Block) (store : StoreState) : Type 0 where
+  pub stands : InStanding (λ link. link) (at_owner block store (packet block put_request ∷ Bye ∷ []) (Done 1 ∷ []))
+  pub is_done : IsDone (λ link. link) (λ gate. 0) (at_owner block store (packet block put_request ∷ Bye ∷ []) (Done 1 ∷ []))
+  pub twice : InStanding (λ link. link) (at_owner block store (packet block put_request ∷ Bye ∷ []) (Done 1 ∷ Done 1 ∷ [])) → ⊥
+  pub unasked : InStanding (λ link. link) (at_owner block store (packet block of_number_3 ∷ Bye ∷ []) (Done 1 ∷ [])) → ⊥
+  pub not_heard : IsDone (λ link. link) (λ gate. 0) (at_owner block store (packet block put_request ∷ []) (Done 1 ∷ [])) → ⊥
 
 -- Shard 1 before it has done anything, with what came on its lane of requests.
-abbrev pub at_start : SpaceState → List Packet → NodeState Traffic (Unit {0})
-at_start space requests = record {
+abbrev pub at_start : StoreState → List Packet → NodeState Traffic (Unit {0})
+at_start store requests = record {
   shard = 1;
   shards = 2;
   pages = 8192;
   trace = put_b;
-  space = record space { rows = []; lent = replicate tickets None; lends = 0; backs = 0 };
+  store = record store { rows = []; lent = replicate tickets None; lends = 0; backs = 0 };
   journal = record { entries = []; spare = 2 };
   log = record { replies = []; room = 0 };
   peers = record {
@@ -126,11 +126,11 @@ at_start space requests = record {
 
 -- Offered a request whose number is 3: of peer 0, expected 1, found 3. No other answer is right, and none where nothing came.
 -- Where it came in one turn with the right one before it, Bye was expected, and the turn may not hide it.
-pub record StrayIsRight (block : Block) (space : SpaceState) : Type 0 where
-  pub stray : IsAnswer (λ link. link) (λ gate. 0) (Stray 0 1 3) (at_start space []) (at_start space (packet block of_number_3 ∷ []))
-  pub other_number : IsAnswer (λ link. link) (λ gate. 0) (Stray 0 1 2) (at_start space []) (at_start space (packet block of_number_3 ∷ [])) → ⊥
-  pub moved : IsAnswer (λ link. link) (λ gate. 0) Moved (at_start space []) (at_start space (packet block of_number_3 ∷ [])) → ⊥
-  pub nothing : IsAnswer (λ link. link) (λ gate. 0) (Stray 0 1 3) (at_start space []) (at_start space []) → ⊥
-  pub expected : IsAnswer (λ link. link) (λ gate. 0) (Stray 0 1 1) (at_start space []) (at_start space (packet block put_request ∷ [])) → ⊥
-  pub behind : IsAnswer (λ link. link) (λ gate. 0) (Stray 0 0 3) (at_start space []) (at_start space (packet block put_request ∷ packet block of_number_3 ∷ []))
-  pub hidden : IsAnswer (λ link. link) (λ gate. 0) Moved (at_start space []) (at_start space (packet block put_request ∷ packet block of_number_3 ∷ [])) → ⊥
+pub record StrayIsRight (block : Block) (store : StoreState) : Type 0 where
+  pub stray : IsAnswer (λ link. link) (λ gate. 0) (Stray 0 1 3) (at_start store []) (at_start store (packet block of_number_3 ∷ []))
+  pub other_number : IsAnswer (λ link. link) (λ gate. 0) (Stray 0 1 2) (at_start store []) (at_start store (packet block of_number_3 ∷ [])) → ⊥
+  pub moved : IsAnswer (λ link. link) (λ gate. 0) Moved (at_start store []) (at_start store (packet block of_number_3 ∷ [])) → ⊥
+  pub nothing : IsAnswer (λ link. link) (λ gate. 0) (Stray 0 1 3) (at_start store []) (at_start store []) → ⊥
+  pub expected : IsAnswer (λ link. link) (λ gate. 0) (Stray 0 1 1) (at_start store []) (at_start store (packet block put_request ∷ [])) → ⊥
+  pub behind : IsAnswer (λ link. link) (λ gate. 0) (Stray 0 0 3) (at_start store []) (at_start store (packet block put_request ∷ packet block of_number_3 ∷ []))
+  pub hidden : IsAnswer (λ link. link) (λ gate. 0) Moved (at_start store []) (at_start store (packet block put_request ∷ packet block of_number_3 ∷ [])) → ⊥

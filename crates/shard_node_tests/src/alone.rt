@@ -34,7 +34,7 @@ fn play<'f, L: Link<'f> + Drop>(
     };
     for _ in 0..100 {
         if let Turn::Done = node.turn() {
-            let _seat = node.finish(ran).space.finish();
+            let _seat = node.finish(ran).store.finish();
             return true;
         }
     }

@@ -1,6 +1,6 @@
 //! The definitions on worked runs.
 ghost use Rattle.foreign_list.specs.Blocks.{Block};
-ghost use Rattle.reclaim.specs.Spaces.{SpaceState};
+ghost use Rattle.shard_store.specs.Stores.{StoreState};
 ghost use Rattle.shard_node_tests.specs.Examples.{PacketsAreRight, StandingIsRight, StrayIsRight};
 ghost use Rattle.shard_node_tests.specs.TogetherExamples.{TogetherIsRight};
 
@@ -16,7 +16,7 @@ fn packets_are_taken_in_order() {
 
 /// The shard is in standing and done where the put was done once.
 fn standing()
-    ensures { (block : Block) (space : SpaceState) → StandingIsRight block space }
+    ensures { (block : Block) (store : StoreState) → StandingIsRight block store }
 {}
 
 #[test]
@@ -26,7 +26,7 @@ fn a_put_is_done_once_for_another_shard() {
 
 /// A request of another number is answered by its number and the one that was expected.
 fn stray()
-    ensures { (block : Block) (space : SpaceState) → StrayIsRight block space }
+    ensures { (block : Block) (store : StoreState) → StrayIsRight block store }
 {}
 
 #[test]
@@ -36,7 +36,7 @@ fn a_request_out_of_order_is_stray() {
 
 /// Two shards are together where the one put was done, and where nothing came that was not sent.
 fn together()
-    ensures { (block : Block) (space : SpaceState) → TogetherIsRight block space }
+    ensures { (block : Block) (store : StoreState) → TogetherIsRight block store }
 {}
 
 #[test]

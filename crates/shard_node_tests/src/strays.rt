@@ -15,6 +15,11 @@ use std::process::Abort;
 use std::test::Fail;
 use trace_text::Trace;
 
+// `put c 1` as command 1, and a request of a kind that there is not.
+const OTHER_KEY: [u8; 18] = [1, 0, 1, 0, 1, 0, 0, 0, 1, 0, 0, 0, 0, 0, 0, 0, b'c', b'1'];
+
+const NO_KIND: [u8; 18] = [9, 0, 1, 0, 1, 0, 0, 0, 1, 0, 0, 0, 0, 0, 0, 0, b'b', b'1'];
+
 // The reply to the put.
 const STORED: [u8; 16] = [17, 0, 0, 0, 1, 0, 0, 0, 0, 0, 0, 0, 0, 0, 0, 0];
 
@@ -23,6 +28,16 @@ fn turns<'f>(node: &mut Trial<'f>, lender: &mut Lender<'f>, number: u32, answer:
     ensures { node.new ≡ node.old }
 {
     let Some(block) = lender.request(number) else {
+        return false;
+    };
+    node.offer(Lane::Requests, Packet::Block(block)) && node.turn() == answer && lender.takes_one()
+}
+
+/// The same, of a block that begins so.
+fn turns_on<'f>(node: &mut Trial<'f>, lender: &mut Lender<'f>, front: &[u8], answer: Turn) -> bool
+    ensures { node.new ≡ node.old }
+{
+    let Some(block) = lender.block(front) else {
         return false;
     };
     node.offer(Lane::Requests, Packet::Block(block)) && node.turn() == answer && lender.takes_one()
@@ -62,6 +77,8 @@ fn play<'f>(node: &mut Trial<'f>, lender: &mut Lender<'f>) -> bool
 {
     turns(node, lender, 3, stray(1, 3))
         && turns_on_bye(node, stray(1, 0))
+        && turns_on(node, lender, &OTHER_KEY, stray(1, 1))
+        && turns_on(node, lender, &NO_KIND, stray(1, 1))
         && turns(node, lender, 1, Turn::Moved)
         && is_answered(node)
         && turns(node, lender, 1, stray(0, 1))

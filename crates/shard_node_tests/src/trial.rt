@@ -3,21 +3,23 @@ ghost use Rattle.std.specs.Prelude.{◌≡◌, ◌<◌, IfOk, IfSome};
 ghost use Rattle.trace_text.specs.Parsed.{trace_in};
 ghost use Rattle.foreign_list.specs.OwnerSeats.{IsAtRest};
 ghost use Rattle.shard_rings.specs.Links.{traffic_of};
-ghost use Rattle.reclaim.specs.Spaces.{IsUnguarded};
+ghost use Rattle.shard_store.specs.Stores.{IsUnguarded};
 ghost use Rattle.shard_rings.specs.Mesh.{IsMesh};
 ghost use Rattle.shard_node.specs.Links.{IsUnused};
 ghost use Rattle.shard_node.specs.Rans.{IsOfRun};
 
 use foreign_list::{Foreign, ForeignBlock, OwnerSeat};
-use reclaim::Space;
 use run_log::Journal;
 use shard_node::{Node, OpenGate, Ran, Turn};
-use shard_rings::{Ask, Lane, Link, Packet, RingLink, ring_links};
+use shard_rings::{
+    Lane, Link, Operation, Packet, RingLink, request_size, ring_links, write_request,
+};
+use shard_store::{ShardStore, Share};
 use std::alloc::Global;
 use std::marker::Model;
 use std::process::Abort;
 use std::test::Fail;
-use trace_text::{Kind, Trace, parse};
+use trace_text::{Trace, parse};
 
 /// The trace of these lines, for one shard or two.
 pub(super) fn parsed(
@@ -132,9 +134,9 @@ impl<'f> Trial<'f> {
             drop(self);
             return false;
         }
-        let space = self.node.finish(ran).space;
-        let is_whole = space.tickets_out() == 0 && space.lent() == space.back();
-        drop(space);
+        let store = self.node.finish(ran).store;
+        let is_whole = store.tickets_out() == 0 && store.lent() == store.back();
+        drop(store);
         is_whole
     }
 }
@@ -142,9 +144,9 @@ impl<'f> Trial<'f> {
 /// Another shard, as far as it lends blocks.
 #[derive(Drop)]
 pub(super) struct Lender<'f> {
-    space: Space<'f>,
+    store: ShardStore<'f>,
     journal: Journal,
-    ghost unguarded: { IsUnguarded space },
+    ghost unguarded: { IsUnguarded store },
 }
 
 impl<'f> Lender<'f> {
@@ -158,25 +160,27 @@ impl<'f> Lender<'f> {
         requires seat { IsAtRest home.now seat }
     {
         let journal = Journal::new(alloc, 0)?;
-        let Ok(space) = Space::open(alloc, shard, 1280, 0, home, seat) else {
+        let Ok(store) = ShardStore::open(alloc, shard, 1280, 0, home, seat) else {
             return Err(Fail::new("there is no memory"));
         };
-        Ok(Lender { space, journal })
+        Ok(Lender { store, journal })
     }
 
     /// The request of `put b 1`, as the command of this number.
     pub(super) fn request(&mut self, number: u32) -> Option<ForeignBlock<'f>> {
-        if self.space.rows() > self.journal.spare() {
+        if self.store.rows() > self.journal.spare() {
             return None;
         }
-        let ask = Ask {
-            kind: Kind::Put,
+        let put = Operation::Put {
             key: b"b",
             value: b"1",
-            count: 0,
-            number,
         };
-        self.space.request_block(&ask, &mut self.journal).ok()
+        let size = request_size(&put);
+        let mut block = self
+            .store
+            .try_lend(size, Share::Request, &mut self.journal)?;
+        write_request(number, &put, block.bytes_mut());
+        Some(block)
     }
 
     /// A block that begins with these bytes, where they are not too many.
@@ -190,6 +194,6 @@ impl<'f> Lender<'f> {
 
     /// Whether one block came home.
     pub(super) fn takes_one(&mut self) -> bool {
-        self.space.take_back() == 1
+        self.store.take_back() == 1
     }
 }

@@ -6,9 +6,10 @@ use Rattle.std.proofs.lemmas.Bool.{and_from, cases_eq, cases_lt, eq-eqb, eqb-tru
 use Rattle.std.proofs.lemmas.List.{get_or-take, get_or_append_left, length-take}
 use Rattle.std.proofs.lemmas.List.Elements.{All-append, All-cons, All-filter, All-get_or, All-head, All-map, All-nil, All-tail}
 use Rattle.std.proofs.lemmas.Option.{same_Some, slice_get-get_or, slice_get_within}
-use Rattle.trace_text.specs.Operation.{Operation, operations}
+use Rattle.rows.specs.Operation.{Operation, is_scan}
+use Rattle.trace_text.specs.Operation.{operations}
 use Rattle.trace_text.specs.Parsed.{AreNumbered, Parsed, trace_in}
-use Rattle.trace_text.specs.Parts.{has_part, is_scan, origin, owner}
+use Rattle.trace_text.specs.Parts.{has_part, origin, owner}
 use Rattle.trace_text.specs.Trace.{trace_with}
 use Rattle.cache_model.specs.OwnParts.{issued_parts, parts_before, parts_of}
 use Rattle.shard_parts.specs.Own.{IsFirstPart, StandsAtPart}

@@ -1,7 +1,7 @@
 -- The parts that a shard issues, of which some were begun.
 use Rattle.std.specs.Prelude.{◌≡◌, ◌≢◌, ℕ, ◌-◌, ◌<◌, ◌%◌, ◌⊎◌, true, List, length, slice_index_or, Some}
 use Rattle.std.specs.List.{slice_get}
-use Rattle.trace_text.specs.Operation.{Operation}
+use Rattle.rows.specs.Operation.{Operation}
 use Rattle.trace_text.specs.Parsed.{Parsed, trace_in}
 use Rattle.trace_text.specs.Parts.{has_part}
 use Rattle.cache_model.specs.OwnParts.{issued_parts}

@@ -2,10 +2,10 @@
 use Rattle.std.specs.Prelude.{◌≡◌, ℕ, ◌+◌, ◌<◌, ◌⊎◌, length, drop, true, false, List, Option, Some, None, slice_set, []}
 use Rattle.std.specs.List.{slice_get}
 use Rattle.std.specs.Option.{option_map}
-use Rattle.trace_text.specs.Operation.{Operation}
+use Rattle.rows.specs.Operation.{Operation}
 use Rattle.trace_text.specs.Parsed.{trace_in}
-use Rattle.cache_model.specs.Apply.{Reply}
-use Rattle.cache_model.specs.Spelled.{spelled}
+use Rattle.rows.specs.Apply.{Reply}
+use Rattle.rows.specs.Spelled.{spelled}
 use Rattle.foreign_list.specs.Blocks.{Block}
 use Rattle.run_log.specs.Replies.{Replies}
 use Rattle.layout.specs.Counts.{Rose}

@@ -1,33 +1,39 @@
-//! Whether a reply is one that a command can have.
-ghost use Rattle.std.specs.Prelude.{◌≡◌, ◌<◌, ◌^◌, ◌↔◌, length, IsTrue};
-ghost use Rattle.cache_model.specs.Apply.{Reply};
-ghost use Rattle.cache_model.specs.Fits.{Fits};
-ghost use Rattle.shard_rings.specs.Ask.{asked};
-ghost use Rattle.shard_rings.specs.Reply.{IsSendable, IsViewOf};
+//! Whether a reply is one that an operation can have.
+ghost use Rattle.std.specs.Prelude.{ℕ, ◌<◌, ◌^◌, ◌↔◌, length, IsTrue};
+ghost use Rattle.rows.specs.Apply.{Reply as Replied};
+ghost use Rattle.rows.specs.Fits.{Fits};
+ghost use Rattle.rows.specs.Operations.{numbered};
+ghost use Rattle.rows.specs.Shown.{body_shown, IsViewOf};
+ghost use Rattle.shard_rings.specs.Reply.{IsSendable};
 ghost use Rattle.shard_parts.specs.inside.Fitting.{BodyFits};
 
 use crate::rising::rise;
-use cache_model::ReplyKind;
-use shard_rings::{Ask, ReplyView};
+use shard_rings::{Operation, Reply};
 
-/// Whether the command can have the reply, where no value is longer than `longest`.
-pub(crate) fn fits(view: &ReplyView<'_>, ask: &Ask<'_>, longest: u32) -> bool
-    requires sendable { (reply : Reply) × IsSendable reply × IsViewOf view.now reply }
-    requires short { length view.now.body.now < 2 ^ 32 }
-    ensures { (reply : Reply) → IsSendable reply → IsViewOf view.now reply → (IsTrue result ↔ Fits longest (asked ask.now) reply) }
+/// Whether the operation can have the reply, where no value is longer than `longest`.
+pub(crate) fn fits(reply: &Reply<'_>, operation: &Operation<'_>, longest: u32) -> bool
+    requires sendable { (meaning : Replied) × IsSendable meaning × IsViewOf reply.now meaning }
+    requires short { length (body_shown reply.now) < 2 ^ 32 }
+    ensures { (number : ℕ) (meaning : Replied) → IsSendable meaning → IsViewOf reply.now meaning
+        → (IsTrue result ↔ Fits longest (numbered number operation.now) meaning) }
 {
-    view.kind.can_answer(ask.kind) && body_fits(view, ask, longest)
+    let answered = reply.kind();
+    let asked = operation.kind();
+    let from = operation.key();
+    let most = operation.count();
+    answered.can_answer(asked) && body_fits(reply, from, most, longest)
 }
 
-fn body_fits(view: &ReplyView<'_>, ask: &Ask<'_>, longest: u32) -> bool
-    requires sendable { (reply : Reply) × IsSendable reply × IsViewOf view.now reply }
-    requires short { length view.now.body.now < 2 ^ 32 }
-    ensures { (reply : Reply) → IsSendable reply → IsViewOf view.now reply
-        → (IsTrue result ↔ BodyFits longest ask.now.key.now ask.now.count reply) }
+/// Whether a value is not too long, and keys are at most so many and rise from this one on.
+fn body_fits(reply: &Reply<'_>, from: &[u8], most: u32, longest: u32) -> bool
+    requires sendable { (meaning : Replied) × IsSendable meaning × IsViewOf reply.now meaning }
+    requires short { length (body_shown reply.now) < 2 ^ 32 }
+    ensures { (meaning : Replied) → IsSendable meaning → IsViewOf reply.now meaning
+        → (IsTrue result ↔ BodyFits longest from.now most meaning) }
 {
-    match view.kind {
-        ReplyKind::Value => view.body.len() <= longest as usize,
-        ReplyKind::Keys => view.keys <= ask.count && rise(view.body, ask.key),
-        ReplyKind::Stored | ReplyKind::Replaced | ReplyKind::Missing | ReplyKind::Erased => true,
+    match *reply {
+        Reply::Value(value) => value.len() <= longest as usize,
+        Reply::Keys { count, bytes } => count <= most && rise(bytes, from),
+        Reply::Stored | Reply::Replaced | Reply::Missing | Reply::Erased => true,
     }
 }

@@ -1,4 +1,4 @@
-//! What a shard is opened with, but for its space.
+//! What a shard is opened with, but for its store.
 ghost use Rattle.std.specs.Prelude.{◌≡◌, ◌+◌, ◌*◌, ◌<◌, ◌≤◌, [], length, map, vec_capacity, vec_len, All, IfOk, None, replicate, Some};
 ghost use Rattle.std.specs.List.{slice_get};
 ghost use Rattle.layout.specs.Sizes.{key_room, most_keys};
@@ -13,14 +13,14 @@ use run_log::{Journal, ReplyLog};
 use std::alloc::{AllocError, Global};
 use trace_text::Trace;
 
-/// The memory of a shard that is to be opened, but for its space.
+/// The memory of a shard that is to be opened, but for its store.
 #[derive(Drop)]
 pub struct Room<'f, L: Drop> {
     pub journal: Journal,
     pub log: ReplyLog,
     pub keys: Vec<u8>,
     pub peers: Vec<Peer<'f, L>>,
-    /// How many rows the space is to have room for.
+    /// How many rows the store is to have room for.
     pub rows: u32,
 }
 

@@ -1,7 +1,8 @@
 //! The parts that a shard issues, one after the other.
 ghost use Rattle.std.specs.Prelude.{◌≡◌, ℕ, ◌+◌, ◌*◌, ◌<◌, ◌≤◌, ◌%◌, ◌↔◌, true, length, slice_index_or, Contains, IfSome, IfNone, IsTrue, Some};
 ghost use Rattle.std.specs.List.{slice_get};
-ghost use Rattle.trace_text.specs.Operation.{Operation, operation};
+ghost use Rattle.rows.specs.Operation.{Operation};
+ghost use Rattle.trace_text.specs.Operation.{operation};
 ghost use Rattle.trace_text.specs.Parsed.{trace_in};
 ghost use Rattle.trace_text.specs.Parts.{has_part, most_shards, origin};
 ghost use Rattle.trace_text.specs.Reading.{most_commands};

@@ -1,8 +1,8 @@
 //! Places among the commands of a trace, and the parts that a shard issues before them.
 ghost use Rattle.std.specs.Prelude.{◌≡◌, ℕ, ◌+◌, ◌*◌, ◌<◌, ◌≤◌, ◌%◌, ◌^◌, length, slice_index_or, if◌then◌else◌};
-ghost use Rattle.trace_text.specs.Operation.{Operation};
+ghost use Rattle.rows.specs.Operation.{Operation, is_scan};
 ghost use Rattle.trace_text.specs.Parsed.{trace_in};
-ghost use Rattle.trace_text.specs.Parts.{is_scan, most_shards};
+ghost use Rattle.trace_text.specs.Parts.{most_shards};
 ghost use Rattle.trace_text.specs.Reading.{most_commands};
 ghost use Rattle.cache_model.specs.OwnParts.{parts_before};
 

@@ -1,10 +1,10 @@
 //! The replies that a peer sends.
 ghost use Rattle.std.specs.Prelude.{◌≡◌, ◌↔◌, ◌<◌, ◌≤◌, None, Some, IsTrue};
 ghost use Rattle.std.specs.List.{slice_get};
-ghost use Rattle.trace_text.specs.Operation.{Operation};
+ghost use Rattle.rows.specs.Operation.{Operation};
 ghost use Rattle.trace_text.specs.Parsed.{trace_in};
 ghost use Rattle.trace_text.specs.Parts.{longest_value};
-ghost use Rattle.cache_model.specs.Bodies.{most_of_body};
+ghost use Rattle.rows.specs.Bodies.{most_of_body};
 ghost use Rattle.shard_rings.specs.declared.link.Packet.TheVariants.{Block as InBlock};
 ghost use Rattle.part_lemmas.specs.Due.{expected_number};
 ghost use Rattle.shard_parts.specs.declared.stray_packet.Tried.{Tried as Tries};
@@ -16,7 +16,7 @@ use crate::releasing::release;
 use crate::stray_packet::{StrayPacket, Tried};
 use foreign_list::{ForeignBlock, Tally};
 use run_log::ReplyLog;
-use shard_rings::{Ask, Lane, Link, Packet, message_number};
+use shard_rings::{Lane, Link, Packet, message_number, operation_of};
 use trace_text::Trace;
 
 impl<'f, L: Link<'f> + Drop> Peer<'f, L> {
@@ -77,11 +77,11 @@ impl<'f, L: Drop> Peer<'f, L> {
         let Some(command) = self.answers.first() else {
             return self.unexpected_reply(message_number(bytes));
         };
-        let ask = Ask::of(trace, command);
-        let Some(view) = expected_reply(bytes, &ask, longest) else {
+        let operation = operation_of(trace, command);
+        let Some(reply) = expected_reply(bytes, command.number, &operation, longest) else {
             return self.unexpected_reply(message_number(bytes));
         };
-        log.record(self.answers.part(), view.kind, view.body);
+        log.record(self.answers.part(), reply.kind(), reply.body());
         self.answers.pass();
         self.owed -= 1;
         Tried::Expected

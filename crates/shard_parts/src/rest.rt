@@ -1,7 +1,8 @@
 //! The commands that one shard issues to another, one after the other.
 ghost use Rattle.std.specs.Prelude.{◌≡◌, ◌≢◌, ℕ, List, ◌+◌, ◌-◌, ◌*◌, ◌<◌, ◌≤◌, ◌%◌, ◌==◌, [], ◌∷◌, length, take, drop, true, count_by, slice_index_or, Contains, IfSome, IfNone, Some};
 ghost use Rattle.std.specs.List.{slice_get};
-ghost use Rattle.trace_text.specs.Operation.{Operation, operation};
+ghost use Rattle.rows.specs.Operation.{Operation};
+ghost use Rattle.trace_text.specs.Operation.{operation};
 ghost use Rattle.trace_text.specs.Parsed.{trace_in};
 ghost use Rattle.trace_text.specs.Parts.{most_shards};
 ghost use Rattle.trace_text.specs.Reading.{most_commands};

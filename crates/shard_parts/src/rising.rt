@@ -3,8 +3,8 @@ ghost use Rattle.std.specs.Prelude.{◌≡◌, ℕ, ◌+◌, ◌<◌, ◌≤◌,
 ghost use Rattle.std.specs.Ordering.{nat_cmp};
 ghost use Rattle.std.specs.Cmp.Lexicographic.{slice_cmp};
 ghost use Rattle.std.specs.List.Sorted.{IsStrictlySortedBy};
-ghost use Rattle.cache_model.specs.Apply.{is_at_most};
-ghost use Rattle.cache_model.specs.KeyBody.{AreKeys};
+ghost use Rattle.rows.specs.Apply.{is_at_most};
+ghost use Rattle.rows.specs.KeyBody.{AreKeys};
 ghost use Rattle.shard_parts.specs.inside.Rising.{may_follow, rise};
 
 use run_log::next_key;

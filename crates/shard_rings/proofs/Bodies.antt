@@ -3,36 +3,43 @@ use Rattle.std.proofs.Common.{◌≡◌, ℕ, ◌*◌, ◌<◌, ◌≤◌, ◌^�
 use Rattle.std.specs.Prelude.{All}
 use Rattle.std.specs.List.{flat_map}
 use Rattle.std.proofs.lemmas.List.Elements.{All-head, All-tail}
-use Rattle.cache_model.specs.KeyBody.{IsKey}
-use Rattle.cache_model.specs.declared.reply_kind.ReplyKind.{ReplyKind}
-use Rattle.cache_model.specs.declared.reply_kind.ReplyKind.TheVariants as kinds
-use Rattle.cache_model.specs.Apply.{Reply, Stored, Replaced, Value, Missing, Erased, Keys}
-use Rattle.cache_model.specs.Spelled.{key_field, spelled}
-use Rattle.shard_rings.specs.declared.reply.ReplyView.{ReplyView}
-use Rattle.shard_rings.specs.Reply.{reply_byte, key_count, IsSendable, IsViewOf}
-use Rattle.shard_rings.specs.inside.Body.{HasKeys, IsBody}
+use Rattle.rows.specs.KeyBody.{IsKey}
+use Rattle.rows.specs.declared.reply_kind.ReplyKind.{ReplyKind}
+use Rattle.rows.specs.declared.reply_kind.ReplyKind.TheVariants as kinds
+use Rattle.rows.specs.Apply.{Reply, Stored, Replaced, Value, Missing, Erased, Keys}
+use Rattle.rows.specs.Spelled.{key_field, spelled}
+use Rattle.rows.specs.declared.reply.Reply.{Reply as Shown}
+use Rattle.rows.specs.Shown.{body_shown, key_count, keys_shown, IsViewOf}
+use Rattle.shard_rings.specs.Reply.{IsSendable}
+use Rattle.shard_rings.specs.inside.Body.{HasItsBody, HasKeys, IsBody}
 
--- the byte of a kind, by which kinds differ
-abbrev byte_of : ReplyKind × List ℕ → ℕ
-byte_of r = reply_byte r.0
+-- what a body of a kind is that can be sent
+abbrev BodyIs : ReplyKind → ℕ → List ℕ → Type 0
+BodyIs kinds.Stored count body = (body ≡ []) × (count ≡ 0)
+BodyIs kinds.Replaced count body = (body ≡ []) × (count ≡ 0)
+BodyIs kinds.Value count body = (length body ≤ 12000) × (count ≡ 0)
+BodyIs kinds.Missing count body = (body ≡ []) × (count ≡ 0)
+BodyIs kinds.Erased count body = (body ≡ []) × (count ≡ 0)
+BodyIs kinds.Keys count body = HasKeys body count
 
--- ---- a value
+sent_is : (reply : Reply) → IsSendable reply → BodyIs (spelled reply).0 (key_count reply) (spelled reply).1
+sent_is Stored can = (refl, refl)
+sent_is Replaced can = (refl, refl)
+sent_is (Value value) can = (can, refl)
+sent_is Missing can = (refl, refl)
+sent_is Erased can = (refl, refl)
+sent_is (Keys ks) can = record { keys = ks; counted = refl; are_keys = record { spelled = refl; lengths = can.1 } }
+
+body_is : (kind : ReplyKind) (count : ℕ) (body : List ℕ) → IsBody kind count body → BodyIs kind count body
+body_is kind count body b = rw (b.spelled, b.keys) at (sent_is b.reply b.sendable)
+
+-- ---- a value, and keys
 
 pub value_is : (body : List ℕ) → length body ≤ 12000 → IsBody kinds.Value 0 body
 value_is body few = record { reply = Value body; sendable = few; spelled = refl; keys = refl }
 
-value_in : (count : ℕ) (body : List ℕ) (reply : Reply) → IsSendable reply → spelled reply ≡ (kinds.Value, body) → key_count reply ≡ count → (length body ≤ 12000) × (count ≡ 0)
-value_in count body Stored can is keys = absurd (omega (arith, ap byte_of is))
-value_in count body Replaced can is keys = absurd (omega (arith, ap byte_of is))
-value_in count body (Value value) can is keys = (omega (arith, can, ap (λ (r : ReplyKind × List ℕ). length r.1) is), sym keys)
-value_in count body Missing can is keys = absurd (omega (arith, ap byte_of is))
-value_in count body Erased can is keys = absurd (omega (arith, ap byte_of is))
-value_in count body (Keys ks) can is keys = absurd (omega (arith, ap byte_of is))
-
 pub value_of : (count : ℕ) (body : List ℕ) → IsBody kinds.Value count body → (length body ≤ 12000) × (count ≡ 0)
-value_of count body b = value_in count body b.reply b.sendable b.spelled b.keys
-
--- ---- keys
+value_of count body b = body_is kinds.Value count body b
 
 pub keys_are : (count : ℕ) (body : List ℕ) → count < 2 ^ 16 → HasKeys body count → IsBody kinds.Keys count body
 keys_are count body few h = record {
@@ -42,19 +49,21 @@ keys_are count body few h = record {
   keys = h.counted;
 }
 
-keys_in : (count : ℕ) (body : List ℕ) (reply : Reply) → IsSendable reply → spelled reply ≡ (kinds.Keys, body) → key_count reply ≡ count → HasKeys body count
-keys_in count body Stored can is keys = absurd (omega (arith, ap byte_of is))
-keys_in count body Replaced can is keys = absurd (omega (arith, ap byte_of is))
-keys_in count body (Value value) can is keys = absurd (omega (arith, ap byte_of is))
-keys_in count body Missing can is keys = absurd (omega (arith, ap byte_of is))
-keys_in count body Erased can is keys = absurd (omega (arith, ap byte_of is))
-keys_in count body (Keys ks) can is keys = record { keys = ks; counted = keys; are_keys = record { spelled = ap (λ (r : ReplyKind × List ℕ). r.1) (sym is); lengths = can.1 } }
-
 pub keys_of : (count : ℕ) (body : List ℕ) → IsBody kinds.Keys count body → HasKeys body count
-keys_of count body b = keys_in count body b.reply b.sendable b.spelled b.keys
+keys_of count body b = body_is kinds.Keys count body b
 
 -- when some bytes are a body
 pub ruleset bodies = (value_is, value_of, keys_are, keys_of)
+
+-- ---- no kind has more than its own
+
+pub own_body : (kind : ReplyKind) (count : ℕ) (body : List ℕ) → IsBody kind count body → HasItsBody kind count body
+own_body kinds.Stored count body b = body_is kinds.Stored count body b
+own_body kinds.Replaced count body b = body_is kinds.Replaced count body b
+own_body kinds.Value count body b = (value_of count body b).1
+own_body kinds.Missing count body b = body_is kinds.Missing count body b
+own_body kinds.Erased count body b = body_is kinds.Erased count body b
+own_body kinds.Keys count body b = tt
 
 -- ---- how long they are
 
@@ -81,8 +90,8 @@ fits_len Missing can = omega arith
 fits_len Erased can = omega arith
 fits_len (Keys keys) can = omega (arith, keys_length keys can.1, can.0)
 
--- the same of what a view shows of a reply
-pub view_fits : (view : ReplyView) (reply : Reply) → IsSendable reply → IsViewOf view reply → (view.keys < 2 ^ 16) × (length view.body.now < 2 ^ 32)
+-- the same of a reply of the code
+pub view_fits : (view : Shown) (reply : Reply) → IsSendable reply → IsViewOf view reply → (keys_shown view < 2 ^ 16) × (length (body_shown view) < 2 ^ 32)
 view_fits view reply can is = (
   omega (arith, is.keys, fits_count reply can),
   omega (arith, fits_len reply can, ap (λ (r : ReplyKind × List ℕ). length r.1) is.spelled),

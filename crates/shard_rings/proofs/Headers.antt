@@ -1,75 +1,42 @@
 -- The header of a reply: what is read is what was written, and the other way round.
-use Rattle.std.proofs.Common.{◌≡◌, ℕ, zero, suc, ◌==◌, ◌+◌, ◌<◌, ◌≤◌, ◌^◌, cond, List, [], ◌∷◌, ◌++◌, length, take, drop, get_or, sym, ap, ◌∙◌, refl, arith}
-use Rattle.std.specs.Int.{w16, w32, to_le_bytes, from_le_bytes}
-use Rattle.std.proofs.lemmas.Nat.{from_le_bytes-to_le_bytes_2, from_le_bytes-to_le_bytes_4, le_bytes_2, le_bytes_4}
-use Rattle.std.proofs.Math.Seq.{drop-cons}
-use Rattle.cache_model.specs.declared.reply_kind.ReplyKind.{ReplyKind}
-use Rattle.cache_model.specs.declared.reply_kind.ReplyKind.TheVariants as kinds
+use Rattle.std.proofs.Common.{◌≡◌, ℕ, ◌==◌, ◌<◌, ◌≤◌, ◌^◌, cond, List, [], length, drop, get_or, sym, ap, ◌∙◌, refl, arith}
+use Rattle.std.specs.Int.{w32, from_le_bytes}
+use Rattle.std.proofs.lemmas.List.{length-take}
+use Rattle.byteorder.specs.Endian.{little_number}
+use Rattle.byteorder.specs.Numbers.{little_number-reads_back}
+use Rattle.rows.specs.declared.reply_kind.ReplyKind.{ReplyKind}
+use Rattle.rows.specs.declared.reply_kind.ReplyKind.TheVariants as kinds
 use Rattle.shard_rings.specs.declared.head.Head.{Head}
 use Rattle.shard_rings.specs.Reply.{reply_byte, reply_header}
 use Rattle.shard_rings.specs.inside.Head.{IsHeadOf}
-
-abbrev pub IsBytes : List ℕ → Type 0
-IsBytes bytes = (i : ℕ) → get_or bytes i 0 < 256
-
--- n bytes from an offset on, one by one
-abbrev pub cells : ℕ → ℕ → List ℕ → List ℕ
-cells zero at bytes = []
-cells (suc n) at bytes = get_or bytes at 0 ∷ cells n (suc at) bytes
-
-take-cells : (n at : ℕ) (bytes : List ℕ) → at + n ≤ length bytes → take n (drop at bytes) ≡ cells n at bytes
-take-cells zero at bytes long = refl
-take-cells (suc n) at bytes long =
-    ap (take (suc n)) (drop-cons bytes at 0 (omega (arith, long))) ∙ ap (λ (t : List ℕ). get_or bytes at 0 ∷ t) (take-cells n (suc at) bytes (omega (arith, long)))
-
--- each of these is a byte
-fit_two : (a b : ℕ) → a < 256 → b < 256 → IsBytes (a ∷ b ∷ [])
-fit_two a b p q zero = p
-fit_two a b p q (suc zero) = q
-fit_two a b p q (suc (suc i)) = omega arith
-
-fit_four : (a b c d : ℕ) → a < 256 → b < 256 → c < 256 → d < 256 → IsBytes (a ∷ b ∷ c ∷ d ∷ [])
-fit_four a b c d p q r s zero = p
-fit_four a b c d p q r s (suc zero) = q
-fit_four a b c d p q r s (suc (suc zero)) = r
-fit_four a b c d p q r s (suc (suc (suc zero))) = s
-fit_four a b c d p q r s (suc (suc (suc (suc i)))) = omega arith
-
-abbrev pub two_at : ℕ → List ℕ → List ℕ
-two_at at bytes = cells 2 at bytes
-
-abbrev pub four_at : ℕ → List ℕ → List ℕ
-four_at at bytes = cells 4 at bytes
-
-abbrev header_bytes : ℕ → ℕ → List ℕ → List ℕ → List ℕ → List ℕ → List ℕ
-header_bytes kind none keys number len zeros = kind ∷ none ∷ keys ++ number ++ len ++ zeros
+use Rattle.shard_rings.proofs.Numbers.{IsBytes, cells, take-cells, four_is, two_again, four_again}
 
 pub head_read : (head : Head) (bytes : List ℕ) → 16 ≤ length bytes
-    → reply_byte head.kind ≡ get_or bytes 0 0 → get_or bytes 1 0 ≡ 0
-    → get_or bytes 12 0 ≡ 0 → get_or bytes 13 0 ≡ 0 → get_or bytes 14 0 ≡ 0 → get_or bytes 15 0 ≡ 0
-    → head.keys ≡ from_le_bytes w16 (two_at 2 bytes) → head.number ≡ from_le_bytes w32 (four_at 4 bytes) → head.len ≡ from_le_bytes w32 (four_at 8 bytes)
-    → IsBytes bytes → IsHeadOf head bytes
-head_read head bytes long kind none za zb zc zd keys number len fits =
-    let zeros : four_at 12 bytes ≡ 0 ∷ 0 ∷ 0 ∷ 0 ∷ [] = rw (za, zb, zc, zd) refl in
-    let two : IsBytes (two_at 2 bytes) = fit_two _ _ (fits 2) (fits 3) in
-    let four : IsBytes (four_at 4 bytes) = fit_four _ _ _ _ (fits 4) (fits 5) (fits 6) (fits 7) in
-    let eight : IsBytes (four_at 8 bytes) = fit_four _ _ _ _ (fits 8) (fits 9) (fits 10) (fits 11) in
-    let a : to_le_bytes w16 head.keys ≡ two_at 2 bytes = le_bytes_2 (two_at 2 bytes) head.keys refl two keys in
-    let b : to_le_bytes w32 head.number ≡ four_at 4 bytes = le_bytes_4 (four_at 4 bytes) head.number refl four number in
-    let c : to_le_bytes w32 head.len ≡ four_at 8 bytes = le_bytes_4 (four_at 8 bytes) head.len refl eight len in
-    record {
-      keys = omega (arith, keys, fits 2, fits 3);
-      number = omega (arith, number, fits 4, fits 5, fits 6, fits 7);
-      len = omega (arith, len, fits 8, fits 9, fits 10, fits 11);
-      begins =
-          take-cells 16 0 bytes long
-          ∙ ap (λ (t : List ℕ). header_bytes (get_or bytes 0 0) (get_or bytes 1 0) (two_at 2 bytes) (four_at 4 bytes) (four_at 8 bytes) t) zeros
-          ∙ ap (λ (t : List ℕ). header_bytes (get_or bytes 0 0) (get_or bytes 1 0) (two_at 2 bytes) (four_at 4 bytes) t (0 ∷ 0 ∷ 0 ∷ 0 ∷ [])) (sym c)
-          ∙ ap (λ (t : List ℕ). header_bytes (get_or bytes 0 0) (get_or bytes 1 0) (two_at 2 bytes) t (to_le_bytes w32 head.len) (0 ∷ 0 ∷ 0 ∷ 0 ∷ [])) (sym b)
-          ∙ ap (λ (t : List ℕ). header_bytes (get_or bytes 0 0) (get_or bytes 1 0) t (to_le_bytes w32 head.number) (to_le_bytes w32 head.len) (0 ∷ 0 ∷ 0 ∷ 0 ∷ [])) (sym a)
-          ∙ ap (λ (n : ℕ). header_bytes (get_or bytes 0 0) n (to_le_bytes w16 head.keys) (to_le_bytes w32 head.number) (to_le_bytes w32 head.len) (0 ∷ 0 ∷ 0 ∷ 0 ∷ [])) none
-          ∙ ap (λ (n : ℕ). header_bytes n 0 (to_le_bytes w16 head.keys) (to_le_bytes w32 head.number) (to_le_bytes w32 head.len) (0 ∷ 0 ∷ 0 ∷ 0 ∷ [])) (sym kind);
-    }
+    → reply_byte head.kind ≡ get_or bytes 0 0 → get_or bytes 1 0 ≡ 0 → little_number 4 (drop 12 bytes) ≡ 0
+    → head.keys ≡ little_number 2 (drop 2 bytes) → head.number ≡ little_number 4 (drop 4 bytes) → head.len ≡ little_number 4 (drop 8 bytes)
+    → head.keys < 2 ^ 16 → head.number < 2 ^ 32 → head.len < 2 ^ 32 → IsBytes bytes → IsHeadOf head bytes
+head_read head bytes long kind none zeros keys number len p q r fits = record {
+  keys = p;
+  number = q;
+  len = r;
+  begins =
+      take-cells 16 0 bytes long
+      ∙ rw (
+        kind,
+        none,
+        two_again 2 bytes head.keys fits keys,
+        four_again 4 bytes head.number fits number,
+        four_again 8 bytes head.len fits len,
+        four_again 12 bytes 0 fits (sym zeros),
+      ) refl;
+}
+
+-- the zeros of a header
+pub zeros_read : (head : Head) (bytes : List ℕ) → IsHeadOf head bytes → (16 ≤ length bytes) × (get_or bytes 1 0 ≡ 0) × (little_number 4 (drop 12 bytes) ≡ 0)
+zeros_read head bytes is =
+    let long : 16 ≤ length bytes = omega (arith, ap length is.begins, length-take 16 bytes) in
+    let same : cells 16 0 bytes ≡ reply_header head.kind head.keys head.number head.len = sym (take-cells 16 0 bytes long) ∙ is.begins in
+    (long, ap (λ (t : List ℕ). get_or t 1 0) same, four_is 12 bytes ∙ ap (λ (t : List ℕ). from_le_bytes w32 (drop 12 t)) same)
 
 -- ---- a header has one reading
 
@@ -88,22 +55,19 @@ kind_again kinds.Keys = refl
 abbrev head_from : List ℕ → Head
 head_from header = record {
   kind = kind_from (get_or header 0 0);
-  keys = from_le_bytes w16 (take 2 (drop 2 header));
-  number = from_le_bytes w32 (take 4 (drop 4 header));
-  len = from_le_bytes w32 (take 4 (drop 8 header));
+  keys = little_number 2 (drop 2 header);
+  number = little_number 4 (drop 4 header);
+  len = little_number 4 (drop 8 header);
 }
 
-abbrev head : ReplyKind → ℕ → ℕ → ℕ → Head
-head kind keys number len = record { kind = kind; keys = keys; number = number; len = len }
-
-head_again : (h : Head) → h.keys < 2 ^ 16 → h.number < 2 ^ 32 → h.len < 2 ^ 32 → head_from (reply_header h.kind h.keys h.number h.len) ≡ h
-head_again h few number len =
-    ap (λ (k : ReplyKind). head k (from_le_bytes w16 (to_le_bytes w16 h.keys)) (from_le_bytes w32 (to_le_bytes w32 h.number)) (from_le_bytes w32 (to_le_bytes w32 h.len))) (kind_again h.kind)
-    ∙ ap (λ (n : ℕ). head h.kind n (from_le_bytes w32 (to_le_bytes w32 h.number)) (from_le_bytes w32 (to_le_bytes w32 h.len))) (from_le_bytes-to_le_bytes_2 h.keys few)
-    ∙ ap (λ (n : ℕ). head h.kind h.keys n (from_le_bytes w32 (to_le_bytes w32 h.len))) (from_le_bytes-to_le_bytes_4 h.number number)
-    ∙ ap (λ (n : ℕ). head h.kind h.keys h.number n) (from_le_bytes-to_le_bytes_4 h.len len)
+head_again : (h : Head) (bytes : List ℕ) → IsHeadOf h bytes → head_from (reply_header h.kind h.keys h.number h.len) ≡ h
+head_again h bytes is =
+    rw (
+      kind_again h.kind,
+      little_number-reads_back 2 h.keys [] is.keys,
+      little_number-reads_back 4 h.number [] is.number,
+      little_number-reads_back 4 h.len [] is.len,
+    ) refl
 
 pub heads_same : (bytes : List ℕ) (g h : Head) → IsHeadOf g bytes → IsHeadOf h bytes → g ≡ h
-heads_same bytes g h p q =
-    let same : reply_header g.kind g.keys g.number g.len ≡ reply_header h.kind h.keys h.number h.len = sym p.begins ∙ q.begins in
-    sym (head_again g p.keys p.number p.len) ∙ ap head_from same ∙ head_again h q.keys q.number q.len
+heads_same bytes g h p q = sym (head_again g bytes p) ∙ ap head_from (sym p.begins ∙ q.begins) ∙ head_again h bytes q

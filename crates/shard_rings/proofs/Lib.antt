@@ -1,8 +1,10 @@
 pub mod Bodies
 pub mod FirstKeys
-pub mod Fronts
 pub mod Headers
 pub mod Meshes
 pub mod Messages
+pub mod Numbers
 pub mod Replied
+pub mod RequestHeads
+pub mod Requests
 pub mod Unique

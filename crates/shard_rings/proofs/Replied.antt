@@ -3,13 +3,12 @@ use Rattle.std.proofs.Common.{◌≡◌, ℕ, Bool, true, false, cond, List, [],
 use Rattle.std.specs.Prelude.{All, Contains, find}
 use Rattle.std.proofs.lemmas.List.{length-take}
 use Rattle.std.proofs.lemmas.List.Elements.{All-contains, All-head, All-map, All-tail}
-use Rattle.trace_text.specs.declared.command.Kind.{Kind}
-use Rattle.trace_text.specs.declared.command.Kind.TheVariants as kinds
-use Rattle.trace_text.specs.Parsed.{HasItsFields}
-use Rattle.trace_text.specs.Operation.{Operation}
-use Rattle.cache_model.specs.KeyBody.{IsKey}
-use Rattle.cache_model.specs.Apply.{Stored, Replaced, Erased, Missing, apply_kind, get_where, has, is_at_most, in_order, is_of, row_of}
-use Rattle.cache_model.specs.Row.{Row}
+use Rattle.rows.specs.declared.kind.Kind.{Kind}
+use Rattle.rows.specs.declared.kind.Kind.TheVariants as kinds
+use Rattle.rows.specs.Operation.{HasItsFields, Operation}
+use Rattle.rows.specs.KeyBody.{IsKey}
+use Rattle.rows.specs.Apply.{Stored, Replaced, Erased, Missing, apply_kind, get_where, has, is_at_most, in_order, is_of, row_of}
+use Rattle.rows.specs.Row.{Row}
 use Rattle.shard_rings.specs.Reply.{IsSendable, IsSendableRow}
 
 -- a row that is found is one of the rows

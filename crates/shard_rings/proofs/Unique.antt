@@ -3,13 +3,13 @@ use Rattle.std.proofs.Common.{◌≡◌, ℕ, zero, suc, ◌≤◌, List, [], �
 use Rattle.std.specs.Prelude.{All}
 use Rattle.std.specs.List.{flat_map}
 use Rattle.std.proofs.lemmas.List.Elements.{All-head, All-tail}
-use Rattle.std.proofs.lemmas.Nat.{from_le_bytes-to_le_bytes_2}
 use Rattle.std.proofs.Math.Seq.{take-append_seam, drop-append_seam}
-use Rattle.cache_model.specs.KeyBody.{IsKey}
-use Rattle.cache_model.specs.declared.reply_kind.ReplyKind.{ReplyKind}
-use Rattle.cache_model.specs.declared.reply_kind.ReplyKind.TheVariants as kinds
-use Rattle.cache_model.specs.Apply.{Reply, Stored, Replaced, Value, Missing, Erased, Keys}
-use Rattle.cache_model.specs.Spelled.{key_field, spelled}
+use Rattle.byteorder.specs.Numbers.{little_number-reads_back}
+use Rattle.rows.specs.KeyBody.{IsKey}
+use Rattle.rows.specs.declared.reply_kind.ReplyKind.{ReplyKind}
+use Rattle.rows.specs.declared.reply_kind.ReplyKind.TheVariants as kinds
+use Rattle.rows.specs.Apply.{Reply, Stored, Replaced, Value, Missing, Erased, Keys}
+use Rattle.rows.specs.Spelled.{key_field, spelled}
 use Rattle.shard_rings.specs.Reply.{HoldsReply, IsSendable}
 use Rattle.shard_rings.specs.declared.head.Head.{Head}
 use Rattle.shard_rings.proofs.FirstKeys.{len_at}
@@ -29,7 +29,7 @@ keys_again (suc n) [] are room = refl
 keys_again zero (key ∷ keys) are room = absurd (omega (arith, room))
 keys_again (suc n) (key ∷ keys) are room =
     let others = flat_map key_field keys in
-    let long : len_at (key_field key ++ others) ≡ length key = from_le_bytes-to_le_bytes_2 (length key) (omega (arith, (All-head IsKey key keys are).short)) in
+    let long : len_at (key_field key ++ others) ≡ length key = little_number-reads_back 2 (length key) (key ++ others) (omega (arith, (All-head IsKey key keys are).short)) in
     let more = keys_again n keys (All-tail IsKey key keys are) (omega (arith, room, length-append (key_field key) others)) in
     ap₂ (λ k (ks : List (List ℕ)). k ∷ ks)
     (ap (λ (m : ℕ). take m (key ++ others)) long ∙ take-append_seam key others)
@@ -52,11 +52,15 @@ reply_again Missing can = refl
 reply_again Erased can = refl
 reply_again (Keys keys) can = ap Keys (keys_again (length (flat_map key_field keys)) keys can.1 (omega arith))
 
+-- the reply that stands behind a header
+reply_behind : List ℕ → Head → Reply
+reply_behind bytes h = reply_from h.kind (take h.len (drop 16 bytes))
+
+behind_again : (bytes : List ℕ) (number : ℕ) (reply : Reply) → HoldsReply bytes number reply → reply_behind bytes (head_for number reply) ≡ reply
+unfolding reply_behind
+behind_again bytes number reply h = rw (holds_body bytes number reply h) (reply_again reply h.sendable)
+
 pub same_reply : (bytes : List ℕ) (i j : ℕ) (reply other : Reply) → HoldsReply bytes i reply → HoldsReply bytes j other → reply ≡ other
 same_reply bytes i j reply other p q =
     let heads = heads_same bytes (head_for i reply) (head_for j other) (holds_head bytes i reply p) (holds_head bytes j other q) in
-    let kind : (spelled reply).0 ≡ (spelled other).0 = ap (λ (h : Head). h.kind) heads in
-    let len : length (spelled reply).1 ≡ length (spelled other).1 = ap (λ (h : Head). h.len) heads in
-    let body : (spelled reply).1 ≡ (spelled other).1 =
-    sym (holds_body bytes i reply p) ∙ ap (λ (n : ℕ). take n (drop 16 bytes)) len ∙ holds_body bytes j other q in
-    sym (reply_again reply p.sendable) ∙ ap₂ reply_from kind body ∙ reply_again other q.sendable
+    sym (behind_again bytes i reply p) ∙ ap (reply_behind bytes) heads ∙ behind_again bytes j other q

@@ -1,4 +1,3 @@
-pub mod Ask
 pub mod Lanes
 pub mod Links
 pub mod Mesh

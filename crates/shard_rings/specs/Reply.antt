@@ -1,15 +1,15 @@
 -- The bytes of a reply: a header of 16 bytes and a body. Numbers are little endian.
-use Rattle.std.specs.Prelude.{◌≡◌, ℕ, ◌<◌, ◌≤◌, ◌^◌, List, ◌∷◌, ◌++◌, length, replicate, All}
+use Rattle.std.specs.Prelude.{ℕ, ◌<◌, ◌≤◌, ◌^◌, List, ◌∷◌, ◌++◌, length, replicate, All}
 use Rattle.std.specs.Int.{w16, w32, to_le_bytes}
 use Rattle.std.specs.Io.{StartsWith}
 use Rattle.layout.specs.Sizes.{greatest_value}
-use Rattle.cache_model.specs.KeyBody.{IsKey}
-use Rattle.cache_model.specs.declared.reply_kind.ReplyKind.{ReplyKind}
-use Rattle.cache_model.specs.declared.reply_kind.ReplyKind.TheVariants as kinds
-use Rattle.cache_model.specs.Apply.{Reply, Stored, Replaced, Value, Missing, Erased, Keys}
-use Rattle.cache_model.specs.Row.{Row}
-use Rattle.cache_model.specs.Spelled.{spelled}
-use Rattle.shard_rings.specs.declared.reply.ReplyView.{ReplyView}
+use Rattle.rows.specs.KeyBody.{IsKey}
+use Rattle.rows.specs.declared.reply_kind.ReplyKind.{ReplyKind}
+use Rattle.rows.specs.declared.reply_kind.ReplyKind.TheVariants as kinds
+use Rattle.rows.specs.Apply.{Reply, Stored, Replaced, Value, Missing, Erased, Keys}
+use Rattle.rows.specs.Row.{Row}
+use Rattle.rows.specs.Spelled.{spelled}
+use Rattle.rows.specs.Shown.{key_count}
 
 abbrev pub reply_byte : ReplyKind → ℕ
 reply_byte kinds.Stored = 17
@@ -18,15 +18,6 @@ reply_byte kinds.Value = 19
 reply_byte kinds.Missing = 20
 reply_byte kinds.Erased = 21
 reply_byte kinds.Keys = 22
-
--- how many keys a reply has
-abbrev pub key_count : Reply → ℕ
-key_count (Keys keys) = length keys
-key_count Stored = 0
-key_count Replaced = 0
-key_count (Value value) = 0
-key_count Missing = 0
-key_count Erased = 0
 
 -- what a message can carry: a value of at most 12,000 bytes, and keys of 1 to 256 bytes
 abbrev pub IsSendable : Reply → Type 0
@@ -57,8 +48,3 @@ pub record HoldsReply (bytes : List ℕ) (number : ℕ) (reply : Reply) : Type 0
   pub numbered : number < 2 ^ 32
   pub sendable : IsSendable reply
   pub begins : StartsWith bytes (reply_message number reply)
-
--- the kind and the body of a reply, and how many keys it has
-pub record IsViewOf (view : ReplyView) (reply : Reply) : Type 0 where
-  pub spelled : spelled reply ≡ (view.kind, view.body.now)
-  pub keys : view.keys ≡ key_count reply

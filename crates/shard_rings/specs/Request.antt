@@ -1,9 +1,10 @@
 -- The bytes of a request: a header of 16 bytes, the key, and the value of a put. Numbers are little endian.
-use Rattle.std.specs.Prelude.{ℕ, List, ◌∷◌, ◌++◌, length, replicate}
+use Rattle.std.specs.Prelude.{◌≡◌, ℕ, ◌<◌, ◌^◌, List, ◌∷◌, ◌++◌, length, replicate}
 use Rattle.std.specs.Int.{w16, w32, to_le_bytes}
-use Rattle.trace_text.specs.declared.command.Kind.{Kind}
-use Rattle.trace_text.specs.declared.command.Kind.TheVariants as kinds
-use Rattle.trace_text.specs.Operation.{Operation}
+use Rattle.rows.specs.declared.kind.Kind.{Kind}
+use Rattle.rows.specs.declared.kind.Kind.TheVariants as kinds
+use Rattle.rows.specs.Operation.{Operation}
+use Rattle.rows.specs.Askable.{IsAskable}
 
 abbrev pub kind_byte : Kind → ℕ
 kind_byte kinds.Put = 1
@@ -21,3 +22,9 @@ request_header operation =
 -- the request of an operation
 abbrev pub request : Operation → List ℕ
 request operation = request_header operation ++ operation.key ++ operation.value
+
+-- The bytes are the request of an operation that can be asked, neither more nor fewer.
+pub record IsRequest (bytes : List ℕ) (operation : Operation) : Type 0 where
+  pub number : operation.number < 2 ^ 32
+  pub askable : IsAskable operation
+  pub is : bytes ≡ request operation

@@ -1,7 +1,8 @@
 //! The body of a reply.
-ghost use Rattle.std.specs.Prelude.{◌≡◌, ℕ, ◌+◌, ◌<◌, ◌^◌, ◌↔◌, IsTrue, IfSome, IfNone};
+ghost use Rattle.std.specs.Prelude.{ℕ, ◌+◌, ◌<◌, ◌^◌, ◌↔◌, IsTrue, IfSome, IfNone};
 ghost use Rattle.shard_rings.specs.inside.Body.{HasKeys, IsBody};
 
+use byteorder::{ByteOrder, LittleEndian};
 use cache_model::ReplyKind;
 use layout::{GREATEST_KEY, GREATEST_VALUE};
 
@@ -37,10 +38,11 @@ fn behind_key(body: &[u8]) -> Option<&[u8]>
     ensures some { IfSome result (λ behind. (count : ℕ) → HasKeys body.now (count + 1) ↔ HasKeys behind.now count) }
     ensures none { IfNone result ((count : ℕ) → HasKeys body.now (count + 1) → ⊥) }
 {
-    let [low, high, behind @ ..] = body else {
+    if body.len() < 2 {
         return None;
-    };
-    let len = u16::from_le_bytes([*low, *high]) as usize;
+    }
+    let len = LittleEndian::read_u16(body) as usize;
+    let behind = &body[2..];
     if len == 0 || GREATEST_KEY < len || behind.len() < len {
         return None;
     }

@@ -1,11 +1,12 @@
 //! The header of a message.
-ghost use Rattle.std.specs.Prelude.{length, ◌≡◌, ◌≢◌, ◌<◌, ◌^◌, IfSome, IfNone};
+ghost use Rattle.std.specs.Prelude.{length, drop, ◌≡◌, ◌≢◌, ◌<◌, ◌≤◌, ◌^◌, ◌++◌, IfSome, IfNone};
 ghost use Rattle.layout.specs.Sizes.{message_header};
-ghost use Rattle.cache_model.specs.declared.reply_kind.ReplyKind.{ReplyKind};
+ghost use Rattle.rows.specs.declared.reply_kind.ReplyKind.{ReplyKind};
 ghost use Rattle.shard_rings.specs.Number.{message_number};
 ghost use Rattle.shard_rings.specs.Reply.{reply_byte, reply_header};
 ghost use Rattle.shard_rings.specs.inside.Head.{IsHeadOf};
 
+use byteorder::{ByteOrder, LittleEndian};
 use cache_model::ReplyKind;
 use layout::MESSAGE_HEADER;
 
@@ -31,20 +32,21 @@ pub(crate) fn head_in(bytes: &[u8]) -> Option<Head>
 }
 
 /// What a header says.
+#[tactic(auto, using(crate::proofs::Headers::zeros_read))]
 fn head_of(header: &[u8]) -> Option<Head>
     requires { length header.now ≡ message_header }
     ensures some { IfSome result (λ head. IsHeadOf head header.now) }
     ensures none { IfNone result ((head : Head) → IsHeadOf head header.now → ⊥) }
 {
     let kind = kind_of(header[0])?;
-    if header[1] != 0 || header[12] != 0 || header[13] != 0 || header[14] != 0 || header[15] != 0 {
+    if header[1] != 0 || LittleEndian::read_u32(&header[12..]) != 0 {
         return None;
     }
     Some(Head {
         kind,
-        keys: u16::from_le_bytes([header[2], header[3]]) as u32,
-        number: u32::from_le_bytes([header[4], header[5], header[6], header[7]]),
-        len: u32::from_le_bytes([header[8], header[9], header[10], header[11]]),
+        keys: LittleEndian::read_u16(&header[2..]) as u32,
+        number: LittleEndian::read_u32(&header[4..]),
+        len: LittleEndian::read_u32(&header[8..]),
     })
 }
 
@@ -63,18 +65,18 @@ fn kind_of(byte: u8) -> Option<ReplyKind>
     }
 }
 
-/// The bytes of a header.
-pub(crate) fn header_of(head: &Head) -> [u8; 16]
-    requires { head.now.keys < 2 ^ 16 }
-    ensures { result ≡ reply_header head.now.kind head.now.keys head.now.number head.now.len }
+/// Writes a header over the first bytes.
+pub(crate) fn write_head(head: &Head, into: &mut [u8])
+    requires keys { head.now.keys < 2 ^ 16 }
+    requires room { message_header ≤ length into.old }
+    ensures { into.new ≡ reply_header head.now.kind head.now.keys head.now.number head.now.len ++ drop message_header into.old }
 {
-    let [keys_low, keys_high] = (head.keys as u16).to_le_bytes();
-    let [a, b, c, d] = head.number.to_le_bytes();
-    let [e, f, g, h] = head.len.to_le_bytes();
-    let kind = byte_of(head.kind);
-    [
-        kind, 0, keys_low, keys_high, a, b, c, d, e, f, g, h, 0, 0, 0, 0,
-    ]
+    into[0] = byte_of(head.kind);
+    into[1] = 0;
+    LittleEndian::write_u16(&mut into[2..], head.keys as u16);
+    LittleEndian::write_u32(&mut into[4..], head.number);
+    LittleEndian::write_u32(&mut into[8..], head.len);
+    LittleEndian::write_u32(&mut into[12..], 0);
 }
 
 fn byte_of(kind: ReplyKind) -> u8
@@ -97,5 +99,5 @@ pub fn message_number(bytes: &[u8]) -> u32
     if bytes.len() < HEADER {
         return 0;
     }
-    u32::from_le_bytes([bytes[4], bytes[5], bytes[6], bytes[7]])
+    LittleEndian::read_u32(&bytes[4..])
 }

@@ -1,11 +1,12 @@
 //! Laws of the definitions.
 ghost use Rattle.std.specs.Prelude.{◌≡◌, ℕ, List, All};
-ghost use Rattle.trace_text.specs.Operation.{Operation};
+ghost use Rattle.rows.specs.Operation.{Operation};
 ghost use Rattle.trace_text.specs.Parsed.{IsWellFormed};
-ghost use Rattle.cache_model.specs.Apply.{Reply, apply};
-ghost use Rattle.cache_model.specs.Row.{Row};
-ghost use Rattle.shard_rings.specs.Ask.{on_no_line, IsAskable};
+ghost use Rattle.rows.specs.Apply.{Reply, apply};
+ghost use Rattle.rows.specs.Row.{Row};
+ghost use Rattle.rows.specs.Askable.{IsAskable};
 ghost use Rattle.shard_rings.specs.Reply.{HoldsReply, IsSendable, IsSendableRow};
+ghost use Rattle.shard_rings.specs.Request.{IsRequest};
 
 use cache_model::scanned_keys_are_in_order;
 
@@ -17,10 +18,15 @@ pub fn a_message_is_one_reply()
         → reply ≡ other }
 {}
 
-/// Each command of a trace can be asked, and it does not matter on which line it stood.
+/// Bytes are the request of at most one operation.
+pub fn a_message_is_one_request()
+    ensures { (bytes : List ℕ) (operation other : Operation) → IsRequest bytes operation → IsRequest bytes other
+        → operation ≡ other }
+{}
+
+/// Each command of a trace can be asked.
 pub fn commands_can_be_asked()
-    ensures askable { (operation : Operation) → IsWellFormed operation → IsAskable (on_no_line operation) }
-    ensures same { (operation : Operation) (cache : List Row) → apply (on_no_line operation) cache ≡ apply operation cache }
+    ensures { (operation : Operation) → IsWellFormed operation → IsAskable operation }
 {}
 
 /// What a part replies can be sent, where its operation can be asked and each row of the cache can be sent.

@@ -5,6 +5,8 @@
 #[cfg(test)]
 mod links;
 #[cfg(test)]
-mod messages;
-#[cfg(test)]
 mod passing;
+#[cfg(test)]
+mod replies;
+#[cfg(test)]
+mod requests;

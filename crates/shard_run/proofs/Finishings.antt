@@ -81,7 +81,7 @@ module _ {G : Type 0} (trace : Trace) (pages : ℕ) where
       left = record {
         journals = l.journals ∙ ap (λ xs. xs ++ node.journal ∷ []) h.left.journals ∙ sym (map-append (λ d. d.journal) h.gone (node ∷ []));
         logs = l.logs ∙ ap (λ xs. xs ++ node.log ∷ []) h.left.logs ∙ sym (map-append (λ d. d.log) h.gone (node ∷ []));
-        lines = l.lines ∙ ap (λ xs. xs ++ line_of node.space ∷ []) h.left.lines ∙ sym (map-append (λ d. line_of d.space) h.gone (node ∷ []));
+        lines = l.lines ∙ ap (λ xs. xs ++ line_of node.store ∷ []) h.left.lines ∙ sym (map-append (λ d. line_of d.store) h.gone (node ∷ []));
         links = ap (map (λ row. row.items)) l.links ∙ map-append (λ row. row.items) old.links.items (l.row ∷ [])
             ∙ (ap (λ xs. xs ++ l.row.items ∷ []) h.left.links ∙ (ap (λ r. map links_of h.gone ++ r ∷ []) l.row_is ∙ sym (map-append links_of h.gone (node ∷ []))));
         one_seat_each = more_seats ∙ sym (length-append h.gone (node ∷ []));
@@ -101,7 +101,7 @@ module _ {G : Type 0} (trace : Trace) (pages : ℕ) where
         more_seats = ap length l.seats ∙ length-append old.seats.items (l.seat ∷ []) ∙ ap (λ k. k + 1) h.left.one_seat_each
 
         seat_at : (s : ℕ) (one : NodeState LinkState G) (seat : OwnerState) → slice_get (h.gone ++ node ∷ []) s ≡ Some one → slice_get new.seats.items s ≡ Some seat
-            → IsAtRest one.space.list seat
+            → IsAtRest one.store.list seat
         seat_at s one seat at there =
             let here : slice_get (old.seats.items ++ l.seat ∷ []) s ≡ Some seat = subst (λ xs. slice_get xs s ≡ Some seat) l.seats there in
             let count = h.left.one_seat_each in
@@ -114,7 +114,7 @@ module _ {G : Type 0} (trace : Trace) (pages : ℕ) where
                   let end : s ≡ length old.seats.items = omega (arith, q, count) in
                   let same : l.seat ≡ seat =
                   same_Some l.seat seat (sym (get_last old.seats.items l.seat) ∙ subst (λ j. slice_get (old.seats.items ++ l.seat ∷ []) j ≡ Some seat) end here) in
-                  subst (λ o. IsAtRest one.space.list o) same (subst (λ (d : NodeState LinkState G). IsAtRest d.space.list l.seat) last.1 l.at_rest))
+                  subst (λ o. IsAtRest one.store.list o) same (subst (λ (d : NodeState LinkState G). IsAtRest d.store.list l.seat) last.1 l.at_rest))
             ]
 
   pub all_finished : (nodes rest : List (NodeState LinkState G)) (now : Remains) → AreFinished nodes rest now → rest ≡ [] → AreLeftBy nodes now

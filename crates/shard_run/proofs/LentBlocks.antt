@@ -5,7 +5,7 @@ use Rattle.std.specs.List.{filter, range_with_len, sum_by}
 use Rattle.std.proofs.Math.Nat.{mul-le-mul}
 use Rattle.std.proofs.lemmas.List.{length-map}
 use Rattle.std.proofs.lemmas.List.Sums.{sum_by-cons}
-use Rattle.trace_text.specs.Operation.{Operation}
+use Rattle.rows.specs.Operation.{Operation}
 use Rattle.trace_text.specs.Parts.{has_part, most_shards, origin, parts}
 use Rattle.trace_text.specs.Reading.{most_commands}
 use Rattle.trace_text.specs.Trace.{Trace}

@@ -163,7 +163,7 @@ module _ {G : Type 0} where
       subst (λ l. slice_get l (length h.gone) ≡ Some node) (sym (h.split ∙ ap (λ l. h.gone ++ l) e)) (get_between h.gone node left)
 
   pub one_abandoned : (nodes rest left : List (NodeState LinkState G)) (old now : List OwnerState) (node : NodeState LinkState G) (seat : OwnerState) → AreAbandoned nodes rest old now
-      → rest ≡ node ∷ left → IsAtRest node.space.list seat → AreAbandoned nodes left old (now ++ seat ∷ [])
+      → rest ≡ node ∷ left → IsAtRest node.store.list seat → AreAbandoned nodes left old (now ++ seat ∷ [])
   one_abandoned nodes rest left old now node seat h e at_rest = record {
     gone = h.gone ++ node ∷ [];
     split = h.split ∙ ap (λ l. h.gone ++ l) e ∙ sym (append_assoc h.gone (node ∷ []) left);
@@ -178,7 +178,7 @@ module _ {G : Type 0} where
             let q = r.0 in
             let place : length old + k ≡ length now = omega (arith, q, count) in
             let same : seat ≡ other = same_Some seat other (sym (get_last now seat) ∙ subst (λ j. slice_get (now ++ seat ∷ []) j ≡ Some other) place there) in
-            subst (λ o. IsAtRest one.space.list o) same (subst (λ (d : NodeState LinkState G). IsAtRest d.space.list seat) r.1 at_rest))
+            subst (λ o. IsAtRest one.store.list o) same (subst (λ (d : NodeState LinkState G). IsAtRest d.store.list seat) r.1 at_rest))
       ];
     };
   }

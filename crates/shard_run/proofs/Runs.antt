@@ -11,7 +11,7 @@ use Rattle.trace_text.specs.Trace.{Trace}
 use Rattle.cache_model.specs.Legal.{EvictsAbove, IsComplete, IsLegal, cache_after}
 use Rattle.cache_model.specs.OwnParts.{HoldsReplies, part_reply, parts_of}
 use Rattle.cache_model.specs.Report.{lent, occupancy}
-use Rattle.cache_model.specs.Row.{live, tight_floor}
+use Rattle.rows.specs.Row.{live, tight_floor}
 use Rattle.foreign_list.specs.Lists.{OwnedList}
 use Rattle.run_log.specs.JournalState.{JournalState}
 use Rattle.run_log.specs.ShardLines.{occupancies_in, occupancy_in}
@@ -58,22 +58,22 @@ module _ {G : Type 0} (holds : G → ℕ) (trace : Trace) (n pages : ℕ) (homes
       (subst (λ t. EvictsAbove t node.pages (tight_floor node.pages 0 + dense) node.journal.entries) (was.kept.trace ∙ was.as_opened.work) evicts)))
 
   module _ (agree : Agree traffic_of trace n pages nodes) (few : n ≤ most_shards) (short : length trace.operations ≤ most_commands) where
-    occupied_at : (s : ℕ) (node : NodeState LinkState G) → slice_get nodes s ≡ Some node → occupancy_in (line_of node.space) ≡ occupancy trace n pages (0 + s, node.journal.entries)
+    occupied_at : (s : ℕ) (node : NodeState LinkState G) → slice_get nodes s ≡ Some node → occupancy_in (line_of node.store) ≡ occupancy trace n pages (0 + s, node.journal.entries)
     occupied_at s node at =
         let blocks = agree.occupied s node at in
         let exact = few_lent trace n s few short in
-        let cache : node.space.rows ≡ unwrap_or (cache_after trace pages node.journal.entries) [] = sym (ap (λ rows. unwrap_or rows []) (agree.cache s node at)) in
+        let cache : node.store.rows ≡ unwrap_or (cache_after trace pages node.journal.entries) [] = sym (ap (λ rows. unwrap_or rows []) (agree.cache s node at)) in
         let place : s ≡ 0 + s = omega arith in
         let lends = blocks.0 ∙ (exact ∙ ap (lent trace n) place) in
         let backs = blocks.1 ∙ (exact ∙ ap (lent trace n) place) in
-        ap (λ rows. (record { rows = length rows; live = live rows; lent = node.space.lends; back = node.space.backs })) cache
-        ∙ (ap (λ k. (record { rows = length (unwrap_or (cache_after trace pages node.journal.entries) []); live = live (unwrap_or (cache_after trace pages node.journal.entries) []); lent = k; back = node.space.backs })) lends
+        ap (λ rows. (record { rows = length rows; live = live rows; lent = node.store.lends; back = node.store.backs })) cache
+        ∙ (ap (λ k. (record { rows = length (unwrap_or (cache_after trace pages node.journal.entries) []); live = live (unwrap_or (cache_after trace pages node.journal.entries) []); lent = k; back = node.store.backs })) lends
         ∙ ap (λ k. (record { rows = length (unwrap_or (cache_after trace pages node.journal.entries) []); live = live (unwrap_or (cache_after trace pages node.journal.entries) []); lent = lent trace n (0 + s); back = k })) backs)
 
     occupied : occupancies_in remains.ran.lines ≡ map (occupancy trace n pages) (enumerate_from 0 (journals_of remains.ran))
     occupied =
-        ap occupancies_in left.lines ∙ (map-map occupancy_in (λ node. line_of node.space) nodes
-        ∙ (one_by_one (λ node. occupancy_in (line_of node.space)) (λ node. node.journal.entries) (occupancy trace n pages) 0 nodes occupied_at
+        ap occupancies_in left.lines ∙ (map-map occupancy_in (λ node. line_of node.store) nodes
+        ∙ (one_by_one (λ node. occupancy_in (line_of node.store)) (λ node. node.journal.entries) (occupancy trace n pages) 0 nodes occupied_at
         ∙ ap (λ journals. map (occupancy trace n pages) (enumerate_from 0 journals)) (sym same_journals)))
 
     pub is_run : IsRun trace n pages remains.ran
@@ -81,7 +81,7 @@ module _ {G : Type 0} (holds : G → ℕ) (trace : Trace) (n pages : ℕ) (homes
       of_run = record { of_trace = of_run.of_trace; of_shards = of_run.of_shards ∙ as_many holds trace n pages homes nodes d; of_pages = of_run.of_pages };
       one_journal_each = ap length left.journals ∙ (length-map nodes (λ node. node.journal) ∙ as_many holds trace n pages homes nodes d);
       one_log_each = ap length left.logs ∙ (length-map nodes (λ node. node.log) ∙ as_many holds trace n pages homes nodes d);
-      one_line_each = ap length left.lines ∙ (length-map nodes (λ node. line_of node.space) ∙ as_many holds trace n pages homes nodes d);
+      one_line_each = ap length left.lines ∙ (length-map nodes (λ node. line_of node.store) ∙ as_many holds trace n pages homes nodes d);
       legal = subst (λ l. All (IsLegal trace pages) l) (sym same_journals) agree.legal;
       complete = λ s e below. subst (λ l. IsComplete trace n s (slice_index_or l s e)) (sym same_journals) (agree.complete s e below);
       replied = subst (λ l. All (λ operation. All (λ part. IsSome (part_reply trace pages l part)) (parts_of n operation)) trace.operations) (sym same_journals) agree.replied;

@@ -45,7 +45,7 @@ module _ {G : Type 0} where
       pub shards : node.shards ≡ n
       pub room : node.pages ≡ pages
       pub work : node.trace ≡ trace
-      pub list : node.space.list ≡ home
+      pub list : node.store.list ≡ home
       -- its peers are the other shards, in rising order
       pub peers : map (λ peer. peer.shard) node.peers ≡ others n s
       pub standing : InStanding traffic_of node

@@ -38,18 +38,18 @@ module _ {G : Type 0} where
   -- is a u64.
   pub record HasFacts (node : NodeState LinkState G) : Type 0 where
     pub peers : map (λ peer. peer.shard) node.peers ≡ others node.shards node.shard
-    pub counted : node.space.backs < 2 ^ 64
+    pub counted : node.store.backs < 2 ^ 64
 
   abbrev pub AllHaveFacts : List (NodeState LinkState G) → Type 0
   AllHaveFacts nodes = (s : ℕ) (node : NodeState LinkState G) → slice_get nodes s ≡ Some node → HasFacts node
 
-  -- What these nodes left: of each its journal, its log and the line of its space, its links in the order of its peers, and
+  -- What these nodes left: of each its journal, its log and the line of its store, its links in the order of its peers, and
   -- the seat at its list, at rest.
   pub record AreLeftBy (nodes : List (NodeState LinkState G)) (remains : Remains) : Type 0 where
     pub journals : remains.ran.journals ≡ map (λ node. node.journal) nodes
     pub logs : remains.ran.logs ≡ map (λ node. node.log) nodes
-    pub lines : remains.ran.lines ≡ map (λ node. line_of node.space) nodes
+    pub lines : remains.ran.lines ≡ map (λ node. line_of node.store) nodes
     pub links : map (λ row. row.items) remains.links.items ≡ map links_of nodes
     pub one_seat_each : length remains.seats.items ≡ length nodes
     pub seats : (s : ℕ) (node : NodeState LinkState G) (seat : OwnerState) → slice_get nodes s ≡ Some node → slice_get remains.seats.items s ≡ Some seat
-        → IsAtRest node.space.list seat
+        → IsAtRest node.store.list seat

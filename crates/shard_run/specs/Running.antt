@@ -4,11 +4,11 @@ use Rattle.std.specs.List.{enumerate_from, slice_get, slice_index_or}
 use Rattle.layout.specs.Sizes.{dense}
 use Rattle.trace_text.specs.Trace.{Trace}
 use Rattle.cache_model.specs.declared.entry.Entry.{Entry}
-use Rattle.cache_model.specs.declared.reply_kind.ReplyKind.{ReplyKind}
+use Rattle.rows.specs.declared.reply_kind.ReplyKind.{ReplyKind}
 use Rattle.cache_model.specs.Legal.{EvictsAbove, IsComplete, IsLegal}
 use Rattle.cache_model.specs.OwnParts.{HoldsReplies, part_reply, parts_of}
 use Rattle.cache_model.specs.Report.{occupancy}
-use Rattle.cache_model.specs.Row.{tight_floor}
+use Rattle.rows.specs.Row.{tight_floor}
 use Rattle.foreign_list.specs.Lists.{OwnedList}
 use Rattle.run_log.specs.ShardLines.{occupancies_in}
 use Rattle.shard_rings.specs.Links.{LinkState, end_of, traffic_of}

@@ -37,7 +37,7 @@ fn finish_one<'f, G: Gate + Drop>(node: Node<'f, RingLink<'f>, G>, into: &mut Re
     ensures room { HasFinished node.entry.trace node.entry.shards node.entry.pages (node.entry.shard + 1) into.new }
 {
     node.facts();
-    let Finished { space, links } = node.finish(&mut into.ran);
+    let Finished { store, links } = node.finish(&mut into.ran);
     into.links.push(links).unwrap();
-    into.seats.push(space.finish()).unwrap();
+    into.seats.push(store.finish()).unwrap();
 }

@@ -82,7 +82,7 @@ fn open_all<'f, G: Gates>(
     requires links { length links.items ≡ shards }
     requires mesh { IsMesh links.items }
 
-    // No node yet, and space for all.
+    // No node yet, and room for all.
     requires none { nodes.old.items ≡ [] }
     requires room { shards ≤ vec_capacity nodes.old }
 

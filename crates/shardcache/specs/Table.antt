@@ -6,7 +6,7 @@ use Rattle.layout.specs.Sizes.{dense, most_trace_bytes}
 use Rattle.trace_text.specs.Reading.{Refusal, TooLong, AtLine}
 use Rattle.trace_text.specs.Trace.{Trace}
 use Rattle.cache_model.specs.declared.entry.Entry.{Entry}
-use Rattle.cache_model.specs.Row.{tight_floor}
+use Rattle.rows.specs.Row.{tight_floor}
 use Rattle.cache_model.specs.Legal.{EvictsAbove, IsComplete, IsLegal}
 use Rattle.cache_model.specs.Logged.{AreLogged}
 use Rattle.cache_model.specs.Report.{answers, line, occupancy, IsReportOf}

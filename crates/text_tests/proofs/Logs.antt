@@ -9,21 +9,22 @@ use Rattle.std.proofs.lemmas.List.Elements.{All-cons, All-from_recursion}
 use Rattle.std.proofs.lemmas.Option.{slice_get-get_or}
 use Rattle.std.proofs.Math.Seq.{set-append_seam, get_or-append_seam}
 use Rattle.trace_text.specs.declared.command.Command.{Command}
-use Rattle.trace_text.specs.declared.command.Kind.{Kind}
-use Rattle.trace_text.specs.declared.command.Kind.TheVariants as asks
-use Rattle.trace_text.specs.Operation.{Operation, operation}
+use Rattle.rows.specs.declared.kind.Kind.{Kind}
+use Rattle.rows.specs.declared.kind.Kind.TheVariants as asks
+use Rattle.rows.specs.Operation.{Operation}
+use Rattle.trace_text.specs.Operation.{operation}
 use Rattle.trace_text.specs.Parsed.{Parsed, trace_in, AreNumbered}
 use Rattle.trace_text.specs.Parts.{longest_value}
 use Rattle.trace_text.specs.Trace.{Trace, trace_with}
-use Rattle.cache_model.specs.declared.reply_kind.ReplyKind.{ReplyKind}
-use Rattle.cache_model.specs.declared.reply_kind.ReplyKind.TheVariants as kinds
+use Rattle.rows.specs.declared.reply_kind.ReplyKind.{ReplyKind}
+use Rattle.rows.specs.declared.reply_kind.ReplyKind.TheVariants as kinds
 use Rattle.cache_model.specs.Answer.{answer_from}
-use Rattle.cache_model.specs.Apply.{Reply, Stored, Replaced, Value, Missing, Erased, Keys, is_at_most}
-use Rattle.cache_model.specs.KeyBody.{IsKey}
-use Rattle.cache_model.specs.Fits.{AreFound, Fits, FitsKind, HasFitting}
+use Rattle.rows.specs.Apply.{Reply, Stored, Replaced, Value, Missing, Erased, Keys, is_at_most}
+use Rattle.rows.specs.KeyBody.{IsKey}
+use Rattle.rows.specs.Fits.{AreFound, Fits, FitsKind, HasFitting}
 use Rattle.cache_model.specs.Logged.{AreLogged}
 use Rattle.cache_model.specs.OwnParts.{issued_parts, parts_of}
-use Rattle.cache_model.specs.Spelled.{spelled}
+use Rattle.rows.specs.Spelled.{spelled}
 
 -- ---- replies by the kind of their command
 

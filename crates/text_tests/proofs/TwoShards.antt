@@ -7,16 +7,16 @@ use Rattle.std.specs.Fmt.{digits}
 use Rattle.std.proofs.lemmas.List.{length-map, length-take-le, map-append, take_all, take_more}
 use Rattle.std.proofs.lemmas.List.Elements.{All-from_recursion}
 use denote.Ref.{Bor}
-use Rattle.trace_text.specs.Operation.{Operation}
+use Rattle.rows.specs.Operation.{Operation}
 use Rattle.trace_text.specs.Parts.{longest_value}
 use Rattle.trace_text.specs.Reading.{trace_of}
 use Rattle.trace_text.specs.Trace.{Trace}
-use Rattle.cache_model.specs.declared.reply_kind.ReplyKind.{ReplyKind}
-use Rattle.cache_model.specs.declared.reply_kind.ReplyKind.TheVariants as kinds
-use Rattle.cache_model.specs.Apply.{Reply, Stored, Missing, Keys, is_at_most}
+use Rattle.rows.specs.declared.reply_kind.ReplyKind.{ReplyKind}
+use Rattle.rows.specs.declared.reply_kind.ReplyKind.TheVariants as kinds
+use Rattle.rows.specs.Apply.{Reply, Stored, Missing, Keys, is_at_most}
 use Rattle.cache_model.specs.Examples.{first, joined_scan, second, two_shards}
-use Rattle.cache_model.specs.KeyBody.{IsKey}
-use Rattle.cache_model.specs.Fits.{AreFound, HasFitting}
+use Rattle.rows.specs.KeyBody.{IsKey}
+use Rattle.rows.specs.Fits.{AreFound, HasFitting}
 use Rattle.cache_model.specs.Logged.{AreLogged}
 use Rattle.cache_model.specs.OwnParts.{HoldsReplies, part_reply, parts_of}
 use Rattle.text_tests.proofs.Logs.{next_is_none, next_is_set}

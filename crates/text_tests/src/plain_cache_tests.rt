@@ -1,7 +1,7 @@
 //! A plain cache on worked traces.
 ghost use Rattle.std.specs.Prelude.{◌≡◌, List, []};
-ghost use Rattle.cache_model.specs.Row.{Row};
-ghost use Rattle.cache_model.specs.Apply.{scanned};
+ghost use Rattle.rows.specs.Row.{Row};
+ghost use Rattle.rows.specs.Apply.{scanned};
 
 use plain_cache::{Plain, ReplyKind};
 use std::alloc::{AllocError, Global};

@@ -1,11 +1,11 @@
 //! What no contract says: that a report can be written at all, and what it looks like.
 ghost use Rattle.std.specs.Prelude.{◌≡◌, ℕ, ◌≤◌, List, [], ◌∷◌, length, true, IfOk};
-ghost use Rattle.cache_model.specs.Apply.{Reply, Keys, is_at_most};
-ghost use Rattle.cache_model.specs.Fits.{AreFound, FitsKind};
+ghost use Rattle.rows.specs.Apply.{Reply, Keys, is_at_most};
+ghost use Rattle.rows.specs.Fits.{AreFound, FitsKind};
 ghost use Rattle.trace_text.specs.Parsed.{trace_in};
 ghost use Rattle.cache_model.specs.Logged.{AreLogged};
-ghost use Rattle.cache_model.specs.Spelled.{spelled};
-ghost use Rattle.trace_text.specs.declared.command.Kind.TheVariants as CommandKind;
+ghost use Rattle.rows.specs.Spelled.{spelled};
+ghost use Rattle.rows.specs.declared.kind.Kind.TheVariants as CommandKind;
 
 mod side_by_side;
 mod two_shards;

@@ -1,6 +1,6 @@
 //! What no contract says: that memory is there for a log and a journal, and what keys' bodies look like in bytes.
 ghost use Rattle.std.specs.Prelude.{◌≡◌, ℕ, ◌^◌, ◌<◌, List, ◌∷◌, length, replicate};
-ghost use Rattle.cache_model.specs.KeyBody.{AreKeysAt};
+ghost use Rattle.rows.specs.KeyBody.{AreKeysAt};
 
 use cache_model::{Entry, ReplyKind};
 use run_log::{Journal, ReplyLog, next_key};

@@ -146,6 +146,32 @@ fn lines_are_read_on_threads_in_their_order(rt: HostRuntime) -> Result<(), Fail>
     Ok(())
 }
 
+// A line of six bytes asks for `a` each time, so a command's number is its line's.
+fn expect_gets(rt: &impl Abort, trace: &Trace, count: usize) {
+    let commands = trace.commands();
+    assert_eq!(rt; commands.len(), count);
+    for (at, command) in commands.iter().enumerate() {
+        assert_eq!(rt;
+            (command.number as usize, command.line as usize),
+            (at + 1, at + 1)
+        );
+        assert!(rt; trace.key(command) == b"a".as_slice());
+    }
+}
+
+// Threads read 65,536 lines at a time: one stretch that is not full, one that is, one line more, and two and a part of a third.
+#[test]
+fn lines_are_read_a_stretch_after_another(rt: HostRuntime) -> Result<(), Fail> {
+    const COUNTS: &[usize] = &[65_535, 65_536, 65_537, 140_000];
+    for &count in COUNTS {
+        let bytes = b"get a\n".repeat(rt.alloc(), count)?;
+        assert!(rt; bytes.len() <= 1_000_000);
+        let trace = parse_on(&rt, rt.alloc(), 2, bytes, 2)?;
+        expect_gets(&rt, &trace, count);
+    }
+    Ok(())
+}
+
 #[test]
 fn the_first_refused_line_is_named_on_threads(rt: HostRuntime) -> Result<(), Fail> {
     let bytes = b"put a 1\nget\nput a\n".to_vec(rt.alloc())?;

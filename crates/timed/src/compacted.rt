@@ -4,14 +4,14 @@
 //! and the cache is compacted until no segment is sparse; each one that is freed is taken out. Runs that are timed compare
 //! no rows.
 
+mod filled;
 mod places;
-mod rows;
 mod segments;
 
+use filled::{erase_some, fill, key_of};
 use layout::{GREATEST_VALUE, MOST_PAGES, SEGMENT, SEGMENT_PAGES};
 use places::{count_moved, note_places};
 use row_bytes::row_size;
-use rows::{erase_some, fill, key_of};
 use segments::{compact_all, new_cache};
 use std::alloc::{AllocError, Global};
 

@@ -1,6 +1,6 @@
 //! Makes turns of a node, to be timed.
 //!
-//! `space` opens a space, a journal and a log's bytes, and `parts` then reads a row so many times, as a node's parts are done,
+//! `store` opens a store, a journal and a log's bytes, and `parts` then reads a row so many times, as a node's parts are done,
 //! without a node. `node` opens a node of one shard that has so many reads to do, and `turns` then makes its turns until it is
 //! done. `wait` opens a node of two shards whose only part waits for the other, and `idle` then makes so many turns of it.
 
@@ -27,7 +27,7 @@ pub fn run(alloc: Global, number: u32, word: &str) -> Result<String, AllocError>
 /// How many rows were read, or turns were made. None where the word is none of those or there is no memory.
 fn made_by(alloc: Global, word: &str, number: u32) -> Option<u64> {
     match word {
-        "space" => read_rows(alloc, &of_reads(alloc, number)?, 0),
+        "store" => read_rows(alloc, &of_reads(alloc, number)?, 0),
         "parts" => read_rows(alloc, &of_reads(alloc, number)?, number),
         "node" => turn_alone(alloc, &of_reads(alloc, number)?, 0),
         "turns" => turn_alone(alloc, &of_reads(alloc, number)?, number.saturating_add(2)),

@@ -2,7 +2,8 @@
 use Rattle.std.proofs.Common.{◌≡◌, ℕ, ◌+◌, ◌<◌, suc, zero, true, false, eqb, List, [], ◌∷◌, length, get_or, Some, arith, refl, ◌∙◌}
 use Rattle.std.proofs.lemmas.Bool.Decides.{nat_tests}
 use Rattle.trace_text.specs.declared.command.Command.{Command}
-use Rattle.trace_text.specs.Operation.{Operation, operation, operations}
+use Rattle.rows.specs.Operation.{Operation}
+use Rattle.trace_text.specs.Operation.{operation, operations}
 use Rattle.trace_text.specs.Trace.{trace_with}
 use Rattle.trace_text.specs.Parsed.{AreNumbered}
 use Rattle.cache_model.specs.Legal.{command_of}

@@ -4,7 +4,7 @@ use Rattle.std.specs.List.{enumerate_from, slice_index_or}
 use Rattle.layout.specs.Sizes.{dense}
 use Rattle.trace_text.specs.Trace.{Trace}
 use Rattle.cache_model.specs.declared.entry.Entry.{Entry}
-use Rattle.cache_model.specs.Row.{tight_floor}
+use Rattle.rows.specs.Row.{tight_floor}
 use Rattle.cache_model.specs.Legal.{EvictsAbove, IsComplete, IsLegal}
 use Rattle.cache_model.specs.Logged.{AreLogged}
 use Rattle.cache_model.specs.Report.{answers, occupancy}

@@ -3,9 +3,9 @@ pub mod Cuts
 pub mod LinesRead
 pub mod PartCounts
 pub mod Offsets
-pub mod PlacesRead
 pub mod PlainText
 pub mod Routes
 pub mod ShardCounts
+pub mod Stretches
 pub mod Tallies
 pub mod TraceRead

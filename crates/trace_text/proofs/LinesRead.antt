@@ -1,5 +1,5 @@
 -- The loop over the lines of a trace.
-use Rattle.std.proofs.Common.{◌≡◌, ℕ, ◌+◌, ◌-◌, ◌<◌, ◌≤◌, Bool, true, false, cond, not, List, [], ◌∷◌, ◌++◌, length, append_assoc, length-append, Result, Ok, Err, arith, refl, sym, ap, ◌∙◌, inl, inr}
+use Rattle.std.proofs.Common.{◌≡◌, ℕ, ◌+◌, ◌-◌, ◌<◌, ◌≤◌, Bool, true, false, cond, not, List, [], ◌∷◌, ◌++◌, length, map, append_assoc, length-append, Result, Ok, Err, arith, refl, sym, ap, ◌∙◌, inl, inr}
 use Rattle.std.proofs.lemmas.Bool.{cases_lt}
 use Rattle.std.proofs.lemmas.List.{append-nil, drop-drop, map-append, get_or_append_left}
 use Rattle.std.proofs.Math.Seq.{get_or-append_seam}
@@ -12,15 +12,24 @@ use Rattle.trace_text.specs.declared.refusal.ParseRefusal.TheVariants as refusal
 use Rattle.trace_text.specs.inside.Found.{AddsLine, IsCommandAt, IsRestOf, LiesAt, RefusesLine}
 use Rattle.trace_text.specs.Line.{Fields, fields_of, is_passed}
 use Rattle.trace_text.specs.Parsed.{AreNumbered, AreSpelled, LiesWithin}
-use Rattle.trace_text.specs.Operation.{Operation, operation, operations}
-use Rattle.trace_text.specs.Reading.{Refusal, IsRefusedAs, numbered_reading, numbered, lines, most_commands, operations_of, command_lines, with_first, with_front}
+use Rattle.rows.specs.Operation.{Operation}
+use Rattle.trace_text.specs.Operation.{operation, operations}
+use Rattle.trace_text.specs.Reading.{Refusal, IsRefusedAs, numbered_reading, numbered, line_numbers, lines, most_commands, operations_of, command_lines, with_first, with_front}
 use Rattle.trace_text.proofs.Offsets.{lies_within}
+
+-- on which line each command stands, and the numbers of lines
+abbrev pub lines_of : List Command → List ℕ
+lines_of commands = map (λ command. command.line) commands
+
+abbrev pub numbers_of : List (ℕ × List ℕ) → List ℕ
+numbers_of texts = map (λ line. line.0) texts
 
 -- what was read, and behind it what the rest gives, is the reading of all lines
 pub record Reads (bytes : List ℕ) (commands : List Command) (rest : List ℕ) (line : ℕ) : Type 0 where
   pub is_rest : IsRestOf bytes rest
   pub counted : line + length rest ≤ length bytes + 1
   pub numbered : AreNumbered commands
+  pub placed : line_numbers bytes ≡ lines_of commands ++ numbers_of (command_lines line (lines rest))
   pub within : All (LiesWithin bytes) commands
   pub few : length commands ≤ most_commands
   pub joined : operations_of 1 (command_lines 1 (lines bytes))
@@ -34,11 +43,11 @@ pub lines_kept : (text : List ℕ) (texts : List (List ℕ)) (line : ℕ) → is
     → command_lines line (text ∷ texts) ≡ (line, text) ∷ command_lines (line + 1) texts
 lines_kept text texts line e = ap (λ b. cond (not b) ((line, text) ∷ command_lines (line + 1) texts) (command_lines (line + 1) texts)) e
 
-with_front-none : (later : Result (List Operation) Refusal) → with_front [] later ≡ later
+pub with_front-none : (later : Result (List Operation) Refusal) → with_front [] later ≡ later
 with_front-none (Err refusal) = refl
 with_front-none (Ok operations) = refl
 
-with_front-with_front : (a b : List Operation) (later : Result (List Operation) Refusal)
+pub with_front-with_front : (a b : List Operation) (later : Result (List Operation) Refusal)
     → with_front a (with_front b later) ≡ with_front (a ++ b) later
 with_front-with_front a b (Err refusal) = refl
 with_front-with_front a b (Ok operations) = ap Ok (sym (append_assoc a b operations))
@@ -54,7 +63,7 @@ number_read : (reading : Result Fields Cause) (number line : ℕ) (operation : O
     → operation.number ≡ number
 number_read (Err cause) number line operation e = cc
 number_read (Ok fields) number line operation e =
-    let same : numbered number line fields ≡ operation = cc in ap (λ o. o.number) (sym same)
+    let same : numbered number fields ≡ operation = cc in ap (λ o. o.number) (sym same)
 
 pub number_where : (full : Bool) (reading : Result Fields Cause) (number line : ℕ) (refusal : Refusal) (operation : Operation)
     → cond full (Err refusal) (numbered_reading number line reading) ≡ Ok operation → operation.number ≡ number
@@ -79,6 +88,7 @@ reads_first bytes =
       is_rest = (omega arith, rw none refl);
       counted = omega arith;
       numbered = λ k d within. absurd (omega arith);
+      placed = refl;
       within = λ k d within. absurd (omega arith);
       few = omega arith;
       joined = sym (with_front-none (operations_of 1 (command_lines 1 (lines bytes))));
@@ -92,6 +102,7 @@ reads_passed bytes commands rest line text after reads first is_rest shorter pas
   is_rest = rest_of_rest bytes rest after reads.is_rest is_rest;
   counted = let c = reads.counted in omega arith;
   numbered = reads.numbered;
+  placed = reads.placed ∙ ap (λ texts. lines_of commands ++ numbers_of texts) (first ∙ lines_passed text (lines after) line passed);
   within = reads.within;
   few = reads.few;
   joined = reads.joined ∙ ap (λ texts. with_front (operations bytes commands) (operations_of (length commands + 1) texts))
@@ -113,11 +124,18 @@ reads_command bytes commands rest line text after command reads first is_rest li
     let front = operations bytes commands in
     let here = operation bytes command in
     let later = operations_of (number + 1) (command_lines (line + 1) (lines after)) in
+    let before = lines_of commands in
+    let behind = numbers_of (command_lines (line + 1) (lines after)) in
     record {
       is_rest = rest_of_rest bytes rest after reads.is_rest is_rest;
       counted = let c = reads.counted in omega arith;
       numbered = numbered_push commands command reads.numbered
           (number_where _ (fields_of text) number line _ here found.0);
+      placed = reads.placed
+          ∙ ap (λ texts. before ++ numbers_of texts) (first ∙ lines_kept text (lines after) line kept)
+          ∙ sym (append_assoc before (line ∷ []) behind)
+          ∙ ap (λ l. (before ++ l ∷ []) ++ behind) (sym found.2)
+          ∙ ap (λ all. all ++ behind) (sym (map-append (λ (c : Command). c.line) commands (command ∷ [])));
       within = All-push (LiesWithin bytes) commands command reads.within found.1;
       few = rw longer room;
       joined = reads.joined
@@ -160,6 +178,7 @@ pub reads_all : (bytes : List ℕ) (commands : List Command) (rest : List ℕ) (
 reads_all bytes commands [] line reads none = record {
   read = reads.joined ∙ ap Ok (append-nil (operations bytes commands));
   numbered = reads.numbered;
+  placed = sym (reads.placed ∙ append-nil (lines_of commands));
   within = reads.within;
   few = reads.few;
 }

@@ -63,5 +63,5 @@ well_formed bytes commands lie =
 
 -- a line that asks this is line_reading to be its command
 pub line_reading_is : (number line : ℕ) (text : List ℕ) (fields : Fields) → number ≤ most_commands → Ok fields ≡ fields_of text
-    → line_reading (number, (line, text)) ≡ Ok (numbered number line fields)
+    → line_reading (number, (line, text)) ≡ Ok (numbered number fields)
 line_reading_is number line text fields few e = rw (le-ltb _ _ few, ← e) refl

@@ -3,9 +3,10 @@ use Rattle.std.proofs.Common.{◌≡◌, ℕ, suc, ◌+◌, ◌-◌, ◌<◌, �
 use Rattle.std.proofs.Math.Nat.{mod-lt}
 use Rattle.std.proofs.lemmas.List.{get_or-map, length-map, map-append}
 use Rattle.trace_text.specs.declared.command.Command.{Command}
-use Rattle.trace_text.specs.declared.command.Kind.TheVariants.{Put}
+use Rattle.rows.specs.declared.kind.Kind.TheVariants.{Put}
 use Rattle.trace_text.specs.declared.route.Route.{Route}
-use Rattle.trace_text.specs.Operation.{Operation, operation, operations}
+use Rattle.rows.specs.Operation.{Operation}
+use Rattle.trace_text.specs.Operation.{operation, operations}
 use Rattle.trace_text.specs.Parsed.{AreNumbered}
 use Rattle.trace_text.specs.Parts.{hash, origin}
 use Rattle.trace_text.specs.inside.Found.{IsKeyAt, LiesAt}

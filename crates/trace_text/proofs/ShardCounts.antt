@@ -7,12 +7,13 @@ use Rattle.std.proofs.lemmas.List.{length-map, length-take-le}
 use Rattle.std.proofs.lemmas.List.Sums.{sum_by-cons, sum_by_more, count_by-le-length}
 use Rattle.layout.specs.Sizes.{scan_room}
 use Rattle.trace_text.specs.declared.command.Command.{Command}
-use Rattle.trace_text.specs.declared.command.Kind.{Kind}
-use Rattle.trace_text.specs.declared.command.Kind.TheVariants.{Put, Get, Erase, Scan}
+use Rattle.rows.specs.declared.kind.Kind.{Kind}
+use Rattle.rows.specs.declared.kind.Kind.TheVariants.{Put, Get, Erase, Scan}
 use Rattle.trace_text.specs.declared.route.Route.{Route}
-use Rattle.trace_text.specs.Operation.{Operation, operation, operations}
+use Rattle.rows.specs.Operation.{Operation, is_get, is_put, is_scan}
+use Rattle.trace_text.specs.Operation.{operation, operations}
 use Rattle.trace_text.specs.Parsed.{Parsed}
-use Rattle.trace_text.specs.Parts.{here_parts, here_puts, is_get, is_put, is_scan, longest_value, origin, own_parts, owner, reply_bytes}
+use Rattle.trace_text.specs.Parts.{here_parts, here_puts, longest_value, origin, own_parts, owner, reply_bytes}
 use Rattle.trace_text.specs.Reading.{most_commands}
 use Rattle.trace_text.specs.Trace.{Trace}
 use Rattle.trace_text.specs.inside.Routes.{AreIssued, AreOwned, IsRouted, routes}

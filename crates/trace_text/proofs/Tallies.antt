@@ -8,10 +8,11 @@ use Rattle.std.proofs.lemmas.List.Folds.{fold-map}
 use Rattle.std.proofs.lemmas.List.Elements.{recursion_from_All}
 use Rattle.trace_text.specs.declared.command.Command.{Command}
 use Rattle.trace_text.specs.Parsed.{LiesWithin}
-use Rattle.trace_text.specs.Operation.{Operation, operation, operations, part}
+use Rattle.rows.specs.Operation.{Operation, is_scan, is_get}
+use Rattle.trace_text.specs.Operation.{operation, operations, part}
 use Rattle.layout.specs.Sizes.{scan_room}
 use Rattle.trace_text.specs.Trace.{Trace, trace_with}
-use Rattle.trace_text.specs.Parts.{is_scan, is_get, origin, longest_value, reply_bytes, replies_room}
+use Rattle.trace_text.specs.Parts.{origin, longest_value, reply_bytes, replies_room}
 
 abbrev one_if : Bool → ℕ
 one_if b = if b then 1 else 0

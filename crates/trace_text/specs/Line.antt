@@ -3,8 +3,8 @@ use Rattle.std.specs.Prelude.{ℕ, ◌==◌, ◌+◌, ◌&&◌, nat_lt, nat_le, 
 use Rattle.std.specs.List.{list_all, range_with_len}
 use Rattle.std.specs.Str.{bytes_eq}
 use Rattle.layout.specs.Sizes.{greatest_key, greatest_value, most_keys}
-use Rattle.trace_text.specs.declared.command.Kind.{Kind}
-use Rattle.trace_text.specs.declared.command.Kind.TheVariants.{Put, Get, Erase, Scan}
+use Rattle.rows.specs.declared.kind.Kind.{Kind}
+use Rattle.rows.specs.declared.kind.Kind.TheVariants.{Put, Get, Erase, Scan}
 use Rattle.trace_text.specs.declared.refusal.Cause.{Cause}
 use Rattle.trace_text.specs.declared.refusal.Cause.TheVariants.{UnknownWord, MissingField, KeyLength, KeyByte, ValueLength, ValueByte, Count, ExtraField}
 

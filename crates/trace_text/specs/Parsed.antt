@@ -1,14 +1,12 @@
 -- What contracts see of a trace that was read.
-use Rattle.std.specs.Prelude.{◌≡◌, ℕ, ◌+◌, ◌<◌, ◌≤◌, List, [], length, slice_index_or, None, Ok, All}
-use Rattle.layout.specs.Sizes.{greatest_key, greatest_value, most_keys}
+use Rattle.std.specs.Prelude.{◌≡◌, ℕ, ◌+◌, ◌<◌, ◌≤◌, List, length, map, slice_index_or, None, Ok, All}
+use Rattle.layout.specs.Sizes.{greatest_key, greatest_value, most_trace_bytes}
+use Rattle.rows.specs.Operation.{Operation, HasItsFields}
 use Rattle.trace_text.specs.declared.command.Command.{Command}
-use Rattle.trace_text.specs.declared.command.Kind.{Kind}
-use Rattle.trace_text.specs.declared.command.Kind.TheVariants.{Put, Get, Erase, Scan}
 use Rattle.trace_text.specs.Line.{key_fault, value_fault}
-use Rattle.trace_text.specs.Operation.{Operation, operations, part}
+use Rattle.trace_text.specs.Operation.{operations, part}
 use Rattle.trace_text.specs.Parts.{most_shards, replies_room}
-use Rattle.layout.specs.Sizes.{most_trace_bytes}
-use Rattle.trace_text.specs.Reading.{command_lines, lines, most_commands, most_replies, operations_of}
+use Rattle.trace_text.specs.Reading.{command_lines, line_numbers, lines, most_commands, most_replies, operations_of}
 use Rattle.trace_text.specs.Trace.{Trace, trace_with}
 
 pub record Parsed : Type 0 where
@@ -20,13 +18,6 @@ pub record Parsed : Type 0 where
 -- what the commands of a trace ask, in order
 abbrev pub trace_in : Parsed → Trace
 trace_in trace = trace_with (operations trace.bytes trace.commands)
-
--- a put has a value, and a scan has a count of 1 to 32; the others have neither
-abbrev pub HasItsFields : Kind → List ℕ → ℕ → Type 0
-HasItsFields Put value count = count ≡ 0
-HasItsFields Get value count = (value ≡ []) × (count ≡ 0)
-HasItsFields Erase value count = (value ≡ []) × (count ≡ 0)
-HasItsFields Scan value count = (value ≡ []) × (1 ≤ count) × (count ≤ most_keys)
 
 -- what a command of an accepted trace asks
 pub record IsWellFormed (operation : Operation) : Type 0 where
@@ -57,6 +48,7 @@ AreNumbered commands = (k : ℕ) (d : Command) → k < length commands → (slic
 pub record AreSpelled (bytes : List ℕ) (commands : List Command) : Type 0 where
   pub read : operations_of 1 (command_lines 1 (lines bytes)) ≡ Ok (operations bytes commands)
   pub numbered : AreNumbered commands
+  pub placed : map (λ command. command.line) commands ≡ line_numbers bytes
   pub within : All (LiesWithin bytes) commands
   pub few : length commands ≤ most_commands
 

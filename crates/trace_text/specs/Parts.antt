@@ -1,10 +1,8 @@
 -- Where the parts of a command are done, and how many there are.
-use Rattle.std.specs.Prelude.{ℕ, ◌==◌, ◌+◌, ◌-◌, ◌*◌, ◌%◌, ◌^◌, ◌&&◌, Bool, true, false, List, map, filter, count_by, sum_by, fold, length, bit_xor, max, if◌then◌else◌}
+use Rattle.std.specs.Prelude.{ℕ, ◌==◌, ◌+◌, ◌-◌, ◌*◌, ◌%◌, ◌^◌, ◌&&◌, Bool, true, List, map, filter, count_by, sum_by, fold, length, bit_xor, max, if◌then◌else◌}
 use Rattle.std.specs.List.{range_with_len}
 use Rattle.layout.specs.Sizes.{scan_room}
-use Rattle.trace_text.specs.declared.command.Kind.{Kind}
-use Rattle.trace_text.specs.declared.command.Kind.TheVariants.{Put, Get, Erase, Scan}
-use Rattle.trace_text.specs.Operation.{Operation}
+use Rattle.rows.specs.Operation.{Operation, is_get, is_put, is_scan}
 use Rattle.trace_text.specs.Trace.{Trace}
 
 -- the most shards of a run
@@ -24,24 +22,6 @@ abbrev pub origin : ℕ → ℕ → ℕ
 origin i n = (i - 1) % n
 
 -- every shard does a part of a scan; of another command the one that owns the key
-abbrev pub is_scan : Kind → Bool
-is_scan Scan = true
-is_scan Put = false
-is_scan Get = false
-is_scan Erase = false
-
-abbrev pub is_put : Kind → Bool
-is_put Put = true
-is_put Get = false
-is_put Erase = false
-is_put Scan = false
-
-abbrev pub is_get : Kind → Bool
-is_get Get = true
-is_get Put = false
-is_get Erase = false
-is_get Scan = false
-
 abbrev pub has_part : ℕ → ℕ → Operation → Bool
 has_part n s operation = if is_scan operation.kind then true else owner operation.key n == s
 

@@ -6,7 +6,7 @@ use Rattle.trace_text.specs.declared.refusal.Cause.TheVariants.{TooManyCommands,
 use Rattle.trace_text.specs.declared.refusal.ParseRefusal.{ParseRefusal}
 use Rattle.trace_text.specs.declared.refusal.ParseRefusal.TheVariants as refusals
 use Rattle.trace_text.specs.Line.{Fields, fields_of, is_passed}
-use Rattle.trace_text.specs.Operation.{Operation}
+use Rattle.rows.specs.Operation.{Operation}
 use Rattle.layout.specs.Sizes.{most_trace_bytes}
 use Rattle.trace_text.specs.Parts.{replies_room}
 use Rattle.trace_text.specs.Trace.{Trace, trace_with}
@@ -39,11 +39,14 @@ lines bytes = map strip_cr (slice_split (λ b. b == 10) bytes)
 abbrev pub command_lines : ℕ → List (List ℕ) → List (ℕ × List ℕ)
 command_lines first texts = filter (λ line. not (is_passed line.1)) (enumerate_from first texts)
 
+-- the numbers of these lines: on which line each command stands
+abbrev pub line_numbers : List ℕ → List ℕ
+line_numbers bytes = map (λ line. line.0) (command_lines 1 (lines bytes))
+
 -- what a line asks, as the command with this number
-abbrev pub numbered : ℕ → ℕ → Fields → Operation
-numbered number line fields = record {
+abbrev pub numbered : ℕ → Fields → Operation
+numbered number fields = record {
   number = number;
-  line = line;
   kind = fields.kind;
   key = fields.key;
   value = fields.value;
@@ -52,7 +55,7 @@ numbered number line fields = record {
 
 abbrev pub numbered_reading : ℕ → ℕ → Result Fields Cause → Result Operation Refusal
 numbered_reading number line (Err cause) = Err (AtLine line cause)
-numbered_reading number line (Ok fields) = Ok (numbered number line fields)
+numbered_reading number line (Ok fields) = Ok (numbered number fields)
 
 -- a line by itself is a command or has a cause, but of a command too many nothing is read
 abbrev pub line_reading : ℕ × (ℕ × List ℕ) → Result Operation Refusal

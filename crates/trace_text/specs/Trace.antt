@@ -1,6 +1,6 @@
 -- A trace: what it asks, in order.
 use Rattle.std.specs.Prelude.{List}
-use Rattle.trace_text.specs.Operation.{Operation}
+use Rattle.rows.specs.Operation.{Operation}
 
 pub record Trace : Type 0 where
   -- in the order of their numbers

@@ -1,6 +1,6 @@
 pub mod Counted
 pub mod Found
-pub mod Places
+pub mod Lines
 pub mod Plain
 pub mod Routes
 pub mod ShardCounts

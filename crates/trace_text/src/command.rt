@@ -1,37 +1,5 @@
 //! What a command is.
-ghost use Rattle.std.specs.Prelude.{◌≡◌, if◌then◌else◌};
-ghost use Rattle.trace_text.specs.Parts.{is_get, is_scan};
-
-/// What a command does.
-#[derive(Clone, Copy, Debug, PartialEq, Eq)]
-pub enum Kind {
-    Put,
-    Get,
-    Erase,
-    Scan,
-}
-
-impl Kind {
-    pub(crate) fn is_get(self) -> bool
-        ensures { result ≡ is_get self }
-    {
-        matches!(self, Kind::Get)
-    }
-
-    /// Whether each shard does a part of such a command. Another one is done by the owner of its key alone.
-    pub fn is_scan(self) -> bool
-        ensures { result ≡ is_scan self }
-    {
-        matches!(self, Kind::Scan)
-    }
-
-    /// How many parts such a command has, with so many shards.
-    pub fn parts(self, shards: u32) -> u32
-        ensures { result ≡ (if is_scan self then shards else 1) }
-    {
-        if self.is_scan() { shards } else { 1 }
-    }
-}
+use rows::Kind;
 
 /// Bytes of a trace: `len` of them, from `start` on.
 #[derive(Clone, Copy, Debug, PartialEq, Eq)]

@@ -1,6 +1,6 @@
 //! The commands of a trace.
 ghost use Rattle.std.specs.Prelude.{◌≡◌, ◌≤◌, [], ◌∷◌, ◌++◌, length, count_by, fold, max, OnOk};
-ghost use Rattle.trace_text.specs.Parts.{is_get, is_scan};
+ghost use Rattle.rows.specs.Operation.{is_get, is_scan};
 
 use crate::command::Command;
 use std::alloc::{AllocFailed, Global};
@@ -36,26 +36,6 @@ impl CommandList {
             gets: 0,
             scans: 0,
             longest: 0,
-        }
-    }
-
-    /// Commands that are there already.
-    pub(crate) fn of(commands: Vec<Command>) -> CommandList
-        ensures { result ≡ commands.items }
-    {
-        let mut gets = 0usize;
-        let mut scans = 0usize;
-        let mut longest = 0u32;
-        for command in commands.as_slice() {
-            gets += usize::from(command.kind.is_get());
-            scans += usize::from(command.kind.is_scan());
-            longest = max(longest, command.value.len);
-        }
-        CommandList {
-            commands,
-            gets,
-            scans,
-            longest,
         }
     }
 

@@ -5,15 +5,15 @@ ghost use Rattle.std.specs.Option.{option_map};
 ghost use Rattle.std.specs.Str.{bytes_eq};
 ghost use Rattle.layout.specs.Sizes.{most_keys};
 ghost use Rattle.trace_text.specs.Line.{is_passed, cut_at, cut_where, is_key_byte, is_value_byte, key_fault, value_fault, kind_of, count_of, from_count, from_key, fields_of};
-ghost use Rattle.trace_text.specs.Parsed.{HasItsFields};
+ghost use Rattle.rows.specs.Operation.{HasItsFields};
 ghost use Rattle.trace_text.specs.inside.Found.{digits_in, reading_of, IsRestOf, LieIn};
 ghost use Rattle.trace_text.specs.inside.Plain.{IsPlain};
 
-use crate::command::Kind;
 use crate::refusal::Cause;
 use itoa::Buffer;
 use layout::{GREATEST_KEY, GREATEST_VALUE, MOST_KEYS};
 use memchr::memchr;
+use rows::Kind;
 
 /// What a line asks, and where its key and its value stand in it.
 #[derive(Clone, Copy)]

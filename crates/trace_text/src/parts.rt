@@ -2,14 +2,15 @@
 ghost use Rattle.std.specs.Prelude.{◌≡◌, ℕ, ◌+◌, ◌%◌, ◌<◌, ◌≤◌, List, length, count_by, fold, max, if◌then◌else◌, All};
 ghost use Rattle.trace_text.specs.Parsed.{LiesWithin, trace_in};
 ghost use Rattle.trace_text.specs.Operation.{operations};
-ghost use Rattle.trace_text.specs.Parts.{most_shards, hash, owner, origin, is_get, is_scan, issued, done_at, own_parts, here_parts, here_puts, longest_value, reply_bytes, replies_room};
+ghost use Rattle.rows.specs.Operation.{is_get, is_scan};
+ghost use Rattle.trace_text.specs.Parts.{most_shards, hash, owner, origin, issued, done_at, own_parts, here_parts, here_puts, longest_value, reply_bytes, replies_room};
 ghost use Rattle.trace_text.specs.Reading.{most_commands};
 ghost use Rattle.trace_text.specs.Trace.{trace_with};
 
-use crate::command::Kind;
 use crate::command_list::CommandList;
 use crate::trace::Trace;
 use layout::SCAN_ROOM;
+use rows::Kind;
 
 /// The most shards of a run.
 pub const MOST_SHARDS: u32 = 16;

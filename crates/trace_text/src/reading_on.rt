@@ -1,118 +1,206 @@
-//! The reading of a trace on threads: one cuts the lines, and all read them.
-ghost use Rattle.std.specs.Prelude.{◌≡◌, ◌+◌, ◌<◌, ◌≤◌, ◌^◌, length, slice_index_or, nat_lt, All};
+//! The reading of a trace on threads: one cuts a stretch of lines, all read it, and so on.
+ghost use Rattle.std.specs.Prelude.{◌≡◌, ◌+◌, ◌<◌, ◌≤◌, ◌^◌, [], length, slice_index_or, All};
 ghost use Rattle.std.specs.Prelude.{IfErr, IfOk, IfSome, IsTrue, Ok, OnOk};
-ghost use Rattle.std.specs.List.{list_all};
 ghost use Rattle.layout.specs.Sizes.{most_trace_bytes};
 ghost use Rattle.trace_text.specs.declared.command.Command.{Command};
 ghost use Rattle.trace_text.specs.Operation.{operation, operations};
 ghost use Rattle.trace_text.specs.Parsed.{AreSpelled, LiesWithin, trace_in};
 ghost use Rattle.trace_text.specs.Parts.{most_shards};
 ghost use Rattle.trace_text.specs.Reading.{most_commands, trace_of, IsRefusedAs};
-ghost use Rattle.trace_text.specs.inside.Places.{AddsPlace, ArePlaces, AreRead, IsPlace, IsPlaceOf, IsRead};
+ghost use Rattle.trace_text.specs.inside.Lines.{AddsCommands, AddsPlace, AddsRead, AreRead, IsCut, IsPlace, IsPlaceOf, IsRead, IsReadTo, Settles};
 ghost use Rattle.trace_text.specs.inside.Plain.{IsPlain};
 ghost use Rattle.trace_text.specs.inside.Routes.{route, routes, AreRoutedAt};
 
-use crate::command::{Command, Kind, Span};
+use crate::command::{Command, Span};
 use crate::command_list::CommandList;
+use crate::cutting::{Line, Place, Unread};
 use crate::line::is_passed;
 use crate::reading::{MOST_COMMANDS, command_at, cut_line, parse, trace_over};
 use crate::refusal::ParseRefusal;
 use crate::route::Route;
 use crate::trace::Trace;
+use rows::Kind;
 use std::alloc::{AllocError, Global};
 use std::thread;
 use std::thread::Threads;
 
-/// The place of a line that begins at `start` of the trace: a command whose key is the whole line, and whose count is 1
-/// where the line's bytes are known to be those of a value.
-fn place_of(text: &[u8], sound: bool, start: usize, number: u32, line: u32) -> Command
+/// How many lines are cut before they are read: so many that threads pay, and so few that what is cut stays small.
+const STRETCH: usize = 65_536;
+
+/// The place of a line that begins at `start` of the trace.
+fn place_of(text: &[u8], sound: bool, start: usize, number: u32, line: u32) -> Place
     requires sound { IsTrue sound → IsPlain text.now }
     requires end { start + length text.now < 2 ^ 32 }
     ensures { IsPlaceOf text.now start number line result }
 {
-    Command {
+    Place {
         number,
         line,
-        kind: Kind::Get,
-        key: Span {
+        text: Span {
             start: start as u32,
             len: text.len() as u32,
         },
-        value: Span { start: 0, len: 0 },
-        count: u32::from(sound),
+        sound,
     }
 }
 
-/// Adds the place of a line that begins at `start` of the trace, or passes the line over.
+/// Adds a line that begins at `start` of the trace to those that are cut, where these commands stand before them, or passes it
+/// over.
 fn add_place(
-    places: &mut Vec<Command>,
+    lines: &mut Vec<Line>,
+    commands: &CommandList,
     text: &[u8],
     sound: bool,
     start: usize,
     line: u32,
-) -> Result<(), AllocError>
+) -> Result<(), Unread>
     requires sound { IsTrue sound → IsPlain text.now }
     requires end { start + length text.now < 2 ^ 32 }
-    requires few { length places.old.items ≤ most_commands }
-    ensures { OnOk result (AddsPlace text.now start line places.old.items places.new.items) }
+    requires few { length commands.now + length lines.old.items ≤ most_commands }
+    ensures added { OnOk result (AddsPlace text.now start (length commands.now) line lines.old.items lines.new.items) }
+    ensures few { OnOk result (length commands.now + length lines.new.items ≤ most_commands) }
 {
     if is_passed(text) {
         return Ok(());
     }
-    places.push(place_of(text, sound, start, places.len() as u32 + 1, line))?;
+    let before = commands.len() + lines.len();
+    if before == MOST_COMMANDS {
+        return Err(Unread::Refused);
+    }
+    let place = place_of(text, sound, start, before as u32 + 1, line);
+    lines.push(Line::Cut(place))?;
     Ok(())
 }
 
-/// The places of the lines that are not passed over, or none where they are more than a trace may have commands.
-fn places_of(alloc: Global, bytes: &[u8]) -> Result<Option<Vec<Command>>, AllocError>
+/// What the line at this place is read to be.
+fn read_at(bytes: &[u8], place: &Place) -> Line
+    requires place { IsPlace bytes.now place.now }
     requires short { length bytes.now ≤ most_trace_bytes }
-    ensures { IfOk result (λ places. IfSome places (λ places. ArePlaces bytes.now places.items)) }
+    ensures { IsReadTo bytes.now place.now result }
 {
-    let mut places = Vec::new(alloc);
+    let start = place.text.start as usize;
+    let text = &bytes[start..start + place.text.len as usize];
+    match command_at(text, place.sound, start, place.number, place.line) {
+        Ok((command, _)) => Line::Read(command),
+        Err(_) => Line::Refused,
+    }
+}
+
+/// Reads a line that was cut.
+fn read_line(bytes: &[u8], line: &mut Line)
+    requires cut { IsCut bytes.now line.old }
+    requires short { length bytes.now ≤ most_trace_bytes }
+    ensures { IsRead bytes.now line.old line.new }
+{
+    match *line {
+        Line::Cut(place) => *line = read_at(bytes, &place),
+        Line::Read(_) | Line::Refused => {}
+    }
+}
+
+/// Reads these lines on at most so many threads.
+fn read_lines<R: Threads + Sync>(rt: &R, threads: usize, bytes: &[u8], lines: &mut [Line])
+    requires threads { 0 < threads }
+    requires cut { All (IsCut bytes.now) lines.old }
+    requires short { length bytes.now ≤ most_trace_bytes }
+    ensures { AreRead bytes.now lines.old lines.new }
+{
+    thread::for_each_mut(rt, lines, threads, &|_, line| read_line(bytes, line));
+}
+
+/// Adds the commands that these lines are, where none of them is refused.
+fn add_commands(commands: &mut CommandList, lines: &[Line]) -> Result<(), Unread>
+    ensures { OnOk result (AddsCommands commands.old lines.now commands.new) }
+{
+    for line in lines {
+        let command = line.command().ok_or(Unread::Refused)?;
+        commands.push(command)?;
+    }
+    Ok(())
+}
+
+/// Reads these lines on at most so many threads, and adds the commands that they are.
+fn read_all<R: Threads + Sync>(
+    rt: &R,
+    threads: usize,
+    bytes: &[u8],
+    commands: &mut CommandList,
+    lines: &mut [Line],
+) -> Result<(), Unread>
+    requires threads { 0 < threads }
+    requires cut { All (IsCut bytes.now) lines.old }
+    requires short { length bytes.now ≤ most_trace_bytes }
+    ensures { OnOk result (AddsRead bytes.now commands.old lines.old commands.new) }
+{
+    read_lines(rt, threads, bytes, lines);
+    add_commands(commands, lines)?;
+    Ok(())
+}
+
+/// Reads the lines that are cut, adds the commands that they are, and takes the lines away.
+fn settle<R: Threads + Sync>(
+    rt: &R,
+    threads: usize,
+    bytes: &[u8],
+    commands: &mut CommandList,
+    lines: &mut Vec<Line>,
+) -> Result<(), Unread>
+    requires threads { 0 < threads }
+    requires cut { All (IsCut bytes.now) lines.old.items }
+    requires short { length bytes.now ≤ most_trace_bytes }
+    ensures commands { OnOk result (AddsRead bytes.now commands.old lines.old.items commands.new) }
+    ensures none_left { OnOk result (lines.new.items ≡ []) }
+{
+    read_all(rt, threads, bytes, commands, lines.as_mut_slice())?;
+    lines.clear();
+    Ok(())
+}
+
+/// The same where the lines are a whole stretch; else nothing.
+fn settle_stretch<R: Threads + Sync>(
+    rt: &R,
+    threads: usize,
+    bytes: &[u8],
+    commands: &mut CommandList,
+    lines: &mut Vec<Line>,
+) -> Result<(), Unread>
+    requires threads { 0 < threads }
+    requires cut { All (IsCut bytes.now) lines.old.items }
+    requires short { length bytes.now ≤ most_trace_bytes }
+    ensures { OnOk result (Settles bytes.now commands.old lines.old.items commands.new lines.new.items) }
+{
+    if lines.len() < STRETCH {
+        return Ok(());
+    }
+    settle(rt, threads, bytes, commands, lines)?;
+    Ok(())
+}
+
+/// The commands that the bytes spell: lines are cut, and read a stretch after another on at most so many threads.
+fn read_stretches<R: Threads + Sync>(
+    rt: &R,
+    alloc: Global,
+    threads: usize,
+    bytes: &[u8],
+) -> Result<CommandList, Unread>
+    requires threads { 0 < threads }
+    requires short { length bytes.now ≤ most_trace_bytes }
+    ensures { IfOk result (λ commands. AreSpelled bytes.now commands) }
+{
+    let mut commands = CommandList::new(alloc);
+    let mut lines = Vec::new(alloc);
     let mut rest = bytes;
     let mut line = 1u32;
     while !rest.is_empty() {
         let start = bytes.len() - rest.len();
         let (text, after, sound) = cut_line(rest);
-        add_place(&mut places, text, sound, start, line)?;
-        if places.len() > MOST_COMMANDS {
-            return Ok(None);
-        }
+        add_place(&mut lines, &commands, text, sound, start, line)?;
+        settle_stretch(rt, threads, bytes, &mut commands, &mut lines)?;
         rest = after;
         line += 1;
     }
-    Ok(Some(places))
-}
-
-/// Puts the command on a line where the line's place was; where the line is refused, the key there has no bytes.
-fn read_place(bytes: &[u8], place: &mut Command)
-    requires place { IsPlace bytes.now place.old }
-    requires short { length bytes.now ≤ most_trace_bytes }
-    ensures { IsRead bytes.now place.old place.new }
-{
-    let start = place.key.start as usize;
-    let text = &bytes[start..start + place.key.len as usize];
-    match command_at(text, place.count > 0, start, place.number, place.line) {
-        Ok((command, _)) => *place = command,
-        Err(_) => place.key.len = 0,
-    }
-}
-
-/// Reads the lines at these places on at most so many threads.
-fn read_places<R: Threads + Sync>(rt: &R, threads: usize, bytes: &[u8], places: &mut [Command])
-    requires threads { 0 < threads }
-    requires places { All (IsPlace bytes.now) places.old }
-    requires short { length bytes.now ≤ most_trace_bytes }
-    ensures { AreRead bytes.now places.old places.new }
-{
-    thread::for_each_mut(rt, places, threads, &|_, place| read_place(bytes, place));
-}
-
-/// Whether no line was refused: each key has bytes.
-fn are_read(commands: &[Command]) -> bool
-    ensures { result ≡ list_all (λ command. nat_lt 0 command.key.len) commands.now }
-{
-    commands.iter().all(|command| command.key.len > 0)
+    settle(rt, threads, bytes, &mut commands, &mut lines)?;
+    Ok(commands)
 }
 
 /// The commands that the bytes spell, read on at most so many threads, or none where a line is refused.
@@ -126,14 +214,11 @@ fn commands_on<R: Threads + Sync>(
     requires short { length bytes.now ≤ most_trace_bytes }
     ensures { IfOk result (λ read. IfSome read (λ commands. AreSpelled bytes.now commands)) }
 {
-    let Some(mut commands) = places_of(alloc, bytes)? else {
-        return Ok(None);
-    };
-    read_places(rt, threads, bytes, commands.as_mut_slice());
-    if !are_read(commands.as_slice()) {
-        return Ok(None);
+    match read_stretches(rt, alloc, threads, bytes) {
+        Ok(commands) => Ok(Some(commands)),
+        Err(Unread::Refused) => Ok(None),
+        Err(Unread::Memory) => Err(AllocError),
     }
-    Ok(Some(CommandList::of(commands)))
 }
 
 /// Writes down where the command at this place goes.

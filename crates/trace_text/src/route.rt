@@ -1,10 +1,11 @@
 //! Where a command goes.
 ghost use Rattle.std.specs.Prelude.{◌≡◌, ◌==◌, ◌≤◌, true, if◌then◌else◌};
-ghost use Rattle.trace_text.specs.Parts.{is_scan, most_shards};
+ghost use Rattle.rows.specs.Operation.{is_scan};
+ghost use Rattle.trace_text.specs.Parts.{most_shards};
 ghost use Rattle.trace_text.specs.inside.Routes.{route_of};
 
-use crate::command::Kind;
 use crate::parts::owner_of;
+use rows::Kind;
 
 /// Where a command goes: to the owner of its key, or, where its kind is that of a scan, to each shard. It is written down
 /// once, so that whoever looks for the commands of a shard reads neither the commands nor their keys.

@@ -4,7 +4,7 @@ ghost use Rattle.trace_text.specs.Parts.{most_shards};
 ghost use Rattle.trace_text.specs.Reading.{most_commands};
 ghost use Rattle.trace_text.specs.inside.ShardCounts.{AreFew, code, slot};
 
-use crate::command::Kind;
+use rows::Kind;
 
 /// Kinds of commands.
 const KINDS: usize = 4;

@@ -1,10 +1,11 @@
 //! A trace that was read.
-ghost use Rattle.std.specs.Prelude.{◌≡◌, ◌<◌, ◌≤◌, length, slice_index_or, All, Ok, Contains};
+ghost use Rattle.std.specs.Prelude.{◌≡◌, ◌<◌, ◌≤◌, length, map, slice_index_or, All, Ok, Contains};
 ghost use Rattle.layout.specs.Sizes.{greatest_key, greatest_value};
-ghost use Rattle.trace_text.specs.Operation.{Operation, part};
+ghost use Rattle.rows.specs.Operation.{Operation, is_scan};
+ghost use Rattle.trace_text.specs.Operation.{part};
 ghost use Rattle.trace_text.specs.Parsed.{trace_in, AreNumbered, IsWellFormed, LiesWithin};
-ghost use Rattle.trace_text.specs.Parts.{has_part, is_scan, most_shards, owner, replies_room};
-ghost use Rattle.trace_text.specs.Reading.{most_commands, most_replies, trace_of};
+ghost use Rattle.trace_text.specs.Parts.{has_part, most_shards, owner, replies_room};
+ghost use Rattle.trace_text.specs.Reading.{line_numbers, most_commands, most_replies, trace_of};
 ghost use Rattle.trace_text.specs.inside.Routes.{route};
 
 use crate::command::Command;
@@ -49,6 +50,7 @@ impl Trace {
 
         // What the reading checked.
         ensures numbered { AreNumbered result.now }
+        ensures lines { map (λ command. command.line) result.now ≡ line_numbers self.now.bytes }
         ensures well_formed { All IsWellFormed (trace_in self.now).operations }
         ensures lie { All (LiesWithin self.now.bytes) result.now }
         ensures few { length result.now ≤ most_commands }

@@ -66,12 +66,37 @@ pub(crate) fn fill_with(part: &mut [u8], byte: u8)
     part.fill(byte);
 }
 
+/// Writes a number over two bytes from `at` on.
+pub(crate) fn write_short(content: &mut [u8], at: usize, number: u16)
+    requires { at + 2 ≤ length content.old }
+    ensures { content.new ≡ over at (little_bytes 2 number) content.old }
+{
+    LittleEndian::write_u16(&mut content[at..], number);
+}
+
+/// Writes a number over four bytes from `at` on.
+pub(crate) fn write_number(content: &mut [u8], at: usize, number: u32)
+    requires { at + 4 ≤ length content.old }
+    ensures { content.new ≡ over at (little_bytes 4 number) content.old }
+{
+    LittleEndian::write_u32(&mut content[at..], number);
+}
+
 /// Writes a place over eight bytes from `at` on.
 pub(crate) fn write_place(content: &mut [u8], at: usize, place: u64)
     requires { at + 8 ≤ length content.old }
     ensures { content.new ≡ over at (little_bytes 8 place) content.old }
 {
-    write_over(content, at, place.to_le_bytes().as_slice());
+    LittleEndian::write_u64(&mut content[at..], place);
+}
+
+/// The eight bytes of a place.
+pub(crate) fn place_bytes(place: u64) -> [u8; 8]
+    ensures { result ≡ little_bytes 8 place }
+{
+    let mut bytes = [0; 8];
+    LittleEndian::write_u64(&mut bytes, place);
+    bytes
 }
 
 /// The place in the eight bytes from `at` on.

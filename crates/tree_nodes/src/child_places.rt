@@ -2,7 +2,7 @@
 ghost use Rattle.std.specs.Prelude.{◌≡◌, ℕ, ◌+◌, ◌<◌, ◌≤◌, ◌++◌, ◌∷◌, [], take, drop, replicate, insert, remove, slice_set};
 ghost use Rattle.tree_nodes.specs.Nodes.{IsNode, node_in, children_count, no_place};
 
-use crate::bytes::{close_up, put_at, take_at, write_place};
+use crate::bytes::{close_up, place_bytes, put_at, take_at, write_place};
 use crate::links::NO_PLACE;
 use crate::reading::{CHILD, child_start};
 
@@ -31,7 +31,7 @@ pub fn add_child(node: &mut [u8], i: u16, place: u64)
     ensures holds { IsNode node.new }
 {
     let moved = (LAST - i) as usize * CHILD;
-    put_at(node, child_start(i), moved, place.to_le_bytes().as_slice());
+    put_at(node, child_start(i), moved, &place_bytes(place));
 }
 
 /// Takes a child away. The later ones move down, and the last becomes none.
@@ -43,12 +43,7 @@ pub fn cut_child(node: &mut [u8], i: u16)
     ensures holds { IsNode node.new }
 {
     let moved = (LAST - i) as usize * CHILD;
-    take_at(
-        node,
-        child_start(i),
-        moved,
-        NO_PLACE.to_le_bytes().as_slice(),
-    );
+    take_at(node, child_start(i), moved, &place_bytes(NO_PLACE));
 }
 
 /// Takes `n` children away, from one on. The later ones move down, and as many none stand behind them.

@@ -5,7 +5,7 @@ ghost use Rattle.tree_nodes.specs.Nodes.{IsNode, node_in, entry_at, entry_bytes,
 ghost use Rattle.byteorder.specs.Endian.{little_bytes};
 ghost use Rattle.tree_nodes.specs.inside.Splices.{over};
 
-use crate::bytes::{close_up, put_at, take_at, write_over};
+use crate::bytes::{close_up, put_at, take_at, write_number, write_over, write_short};
 use crate::reading::{ENTRY, ENTRY_HEADER, count, entry_start};
 
 /// Writes the number of an entry.
@@ -16,7 +16,7 @@ pub fn set_number(node: &mut [u8], i: u16, number: u32)
         { entries = slice_set (node_in node.old).entries i (record (entry_at (node_in node.old) i) { number = number }) } }
     ensures holds { IsNode node.new }
 {
-    write_over(node, entry_start(i) + 4, number.to_le_bytes().as_slice());
+    write_number(node, entry_start(i) + 4, number);
 }
 
 /// Makes a key with its number this entry. The later ones move up.
@@ -70,8 +70,8 @@ fn entry_of(key: &[u8], number: u32) -> [u8; ENTRY]
     ensures { result ≡ entry_bytes (record { key = key.now; number = number }) }
 {
     let mut entry = [0u8; ENTRY];
-    write_over(&mut entry, 0, (key.len() as u16).to_le_bytes().as_slice());
-    write_over(&mut entry, 4, number.to_le_bytes().as_slice());
+    write_short(&mut entry, 0, key.len() as u16);
+    write_number(&mut entry, 4, number);
     write_over(&mut entry, ENTRY_HEADER, key);
     entry
 }
@@ -81,5 +81,5 @@ fn set_count(node: &mut [u8], count: u16)
     requires { header ≤ length node.old }
     ensures { node.new ≡ over 10 (little_bytes 2 count) node.old }
 {
-    write_over(node, 10, count.to_le_bytes().as_slice());
+    write_short(node, 10, count);
 }

@@ -2,7 +2,7 @@
 ghost use Rattle.std.specs.Prelude.{◌≡◌, ℕ, length};
 ghost use Rattle.tree_nodes.specs.Nodes.{IsNode, node_in, node_size, started};
 
-use crate::bytes::{fill_with, write_over, write_place};
+use crate::bytes::{fill_with, write_place, write_short};
 use crate::reading::{CHILDREN, HEADER};
 
 /// The place of no node.
@@ -18,7 +18,7 @@ pub fn start(node: &mut [u8], level: u16)
     let (header, entries) = front.split_at_mut(HEADER);
     fill_with(header, 0);
     write_place(header, 0, NO_PLACE);
-    write_over(header, 8, level.to_le_bytes().as_slice());
+    write_short(header, 8, level);
     write_place(header, 16, NO_PLACE);
     fill_with(entries, 0);
     fill_with(children, 255);

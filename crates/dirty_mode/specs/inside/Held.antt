@@ -1,6 +1,6 @@
 -- What the steps of the mode keep.
 use Rattle.std.specs.Prelude.{◌≡◌, List}
-use Rattle.cache_model.specs.Row.{Row}
+use Rattle.rows.specs.Row.{Row}
 use Rattle.dirty_region.specs.Queues.{Queue}
 use Rattle.dirty_region.specs.State.{DirtyState, HoldsSegments}
 

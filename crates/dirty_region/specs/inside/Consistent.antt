@@ -1,6 +1,6 @@
 -- What holds of the parts of a dirty region.
 use Rattle.std.specs.Prelude.{◌≡◌, ℕ, ◌≤◌, None}
-use Rattle.cache_model.specs.Row.{live}
+use Rattle.rows.specs.Row.{live}
 use Rattle.regions.specs.Segments.{RegionState}
 use Rattle.regions.specs.Shapes.{shape, group_count, active_of, guards_of, held_count, free_count}
 use Rattle.regions.specs.Counts.{live_total}

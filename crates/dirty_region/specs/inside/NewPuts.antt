@@ -1,7 +1,7 @@
 -- A put as it comes.
 use Rattle.std.specs.Prelude.{◌≤◌, length}
 use Rattle.layout.specs.Sizes.{greatest_key, greatest_value}
-use Rattle.cache_model.specs.Row.{Row}
+use Rattle.rows.specs.Row.{Row}
 use Rattle.dirty_region.specs.declared.objects.NewPut.{NewPut}
 
 abbrev pub row_of : NewPut → Row

@@ -1,6 +1,6 @@
 -- The ring of the places of a queue's puts, and the live objects that it is the ring of.
 use Rattle.std.specs.Prelude.{◌≡◌, ◌≢◌, ℕ, zero, suc, ◌+◌, ◌-◌, ◌%◌, ◌^◌, ◌<◌, ◌≤◌, nat_lt, cond, List, [], ◌∷◌, length, Option, None, Some, slice_get, slice_set}
-use Rattle.cache_model.specs.Row.{Row, size}
+use Rattle.rows.specs.Row.{Row, size}
 use Rattle.row_bytes.specs.Rows.{HoldsRow, row_bytes, row_in, number_in}
 use Rattle.regions.specs.Contents.{Item, size_of}
 use Rattle.regions.specs.Stores.{Live, Bare}

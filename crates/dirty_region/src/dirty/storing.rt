@@ -1,6 +1,6 @@
 //! How a put comes into the segments, and how the oldest one goes.
 ghost use Rattle.std.specs.Prelude.{◌≡◌, ℕ, ◌+◌, ◌-◌, ◌%◌, ◌^◌, ◌<◌, ◌≤◌, ◌++◌, ◌∷◌, [], length};
-ghost use Rattle.cache_model.specs.Row.{Row, size, live};
+ghost use Rattle.rows.specs.Row.{Row, size, live};
 ghost use Rattle.key_table.specs.Table.{IsSpotFor};
 ghost use Rattle.object_log.specs.Objects.{IsSize};
 ghost use Rattle.regions.specs.Shapes.{shape, held_count, HasGroup};

@@ -9,7 +9,8 @@ use Rattle.std.proofs.lemmas.List.Elements.{All-filter, filter_more}
 use Rattle.std.proofs.lemmas.List.Sums.{count_by_more_no, count_by_more_yes, length-filter}
 use Rattle.std.proofs.lemmas.Option.{get_or_from_slice_get, same_Some, slice_get-get_or, slice_get-map, slice_get_within}
 use Rattle.trace_text.specs.declared.command.Command.{Command}
-use Rattle.trace_text.specs.Operation.{Operation, operation, operations}
+use Rattle.rows.specs.Operation.{Operation}
+use Rattle.trace_text.specs.Operation.{operation, operations}
 use Rattle.trace_text.specs.Parsed.{AreNumbered, Parsed, trace_in}
 use Rattle.trace_text.specs.Parts.{has_part, origin, parts}
 use Rattle.trace_text.specs.Trace.{Trace}

@@ -8,15 +8,15 @@ use Rattle.std.proofs.lemmas.List.Elements.{filter-append, filter_map-append}
 use Rattle.std.proofs.lemmas.List.Folds.{list_any-append}
 use Rattle.std.proofs.lemmas.List.Sums.{prefix_len-le-length, sum_by_push}
 use Rattle.layout.specs.Sizes.{dense, tickets}
-use Rattle.trace_text.specs.Operation.{Operation}
+use Rattle.rows.specs.Operation.{Operation}
 use Rattle.trace_text.specs.Parts.{origin}
 use Rattle.trace_text.specs.Trace.{Trace}
 use Rattle.cache_model.specs.declared.entry.Entry.{Entry}
 use Rattle.cache_model.specs.declared.entry.Entry.TheVariants.{Done, Evicted}
-use Rattle.cache_model.specs.Apply.{Reply, apply}
-use Rattle.cache_model.specs.Evictions.{Evicts}
+use Rattle.rows.specs.Apply.{Reply, apply}
+use Rattle.rows.specs.Evictions.{Evicts}
 use Rattle.cache_model.specs.Legal.{EvictsAbove, cache_after, cache_from, command_of, done, done_number, is_done, reply_at, reply_on}
-use Rattle.cache_model.specs.Row.{Row, floor, tight_floor}
+use Rattle.rows.specs.Row.{Row, floor, tight_floor}
 use Rattle.foreign_list.specs.Blocks.{Block}
 use Rattle.shard_rings.specs.Reply.{HoldsReply}
 use Rattle.shard_rings.specs.declared.link.Packet.{Packet}

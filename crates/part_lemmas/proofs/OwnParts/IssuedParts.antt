@@ -11,9 +11,9 @@ use Rattle.std.proofs.lemmas.List.Elements.{filter-append}
 use Rattle.std.proofs.lemmas.List.FromFn.{get_or-map-range_with_len, length-map-range_with_len}
 use Rattle.std.proofs.lemmas.List.Sums.{length-filter, sum_by-append, sum_by-cons}
 use Rattle.std.proofs.lemmas.Option.{slice_get-get_or, slice_get_past}
-use Rattle.trace_text.specs.Operation.{Operation}
+use Rattle.rows.specs.Operation.{Operation, is_scan}
 use Rattle.trace_text.specs.Parsed.{Parsed, trace_in}
-use Rattle.trace_text.specs.Parts.{has_part, is_scan, origin, own_parts, owner, parts}
+use Rattle.trace_text.specs.Parts.{has_part, origin, own_parts, owner, parts}
 use Rattle.trace_text.specs.Trace.{Trace, trace_with}
 use Rattle.cache_model.specs.OwnParts.{issued_parts, parts_before, parts_of}
 use Rattle.part_lemmas.specs.Rest.{is_for, part_at, shards_before}

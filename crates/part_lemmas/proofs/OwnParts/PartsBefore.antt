@@ -3,9 +3,10 @@ use Rattle.std.proofs.Common.{◌≡◌, ℕ, zero, suc, ◌+◌, ◌-◌, ◌*�
 use Rattle.std.proofs.Math.Nat.{mod-eq_of_lt, mul-le-mul_left}
 use Rattle.std.proofs.lemmas.Bool.{cases_lt, eq-eqb, ne_eqb}
 use Rattle.std.proofs.lemmas.List.{take_all}
-use Rattle.trace_text.specs.Operation.{Operation, operations}
+use Rattle.rows.specs.Operation.{Operation, is_scan}
+use Rattle.trace_text.specs.Operation.{operations}
 use Rattle.trace_text.specs.Parsed.{AreNumbered, Parsed, trace_in}
-use Rattle.trace_text.specs.Parts.{is_scan, origin, own_parts}
+use Rattle.trace_text.specs.Parts.{origin, own_parts}
 use Rattle.trace_text.specs.Trace.{Trace, trace_with}
 use Rattle.cache_model.specs.OwnParts.{parts_before}
 use Rattle.part_lemmas.proofs.Cursors.Places.{IsNumbered, apart, length-operations, no_operation, numbered}

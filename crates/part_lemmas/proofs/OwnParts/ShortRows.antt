@@ -6,18 +6,18 @@ use Rattle.std.proofs.lemmas.List.{length-append, length-take}
 use Rattle.std.proofs.lemmas.List.Elements.{All-contains, All-head, All-tail, All-take}
 use Rattle.std.proofs.lemmas.List.Sums.{count_by-le-length, length-filter}
 use Rattle.layout.specs.Sizes.{greatest_key, key_room}
-use Rattle.trace_text.specs.declared.command.Kind.{Kind}
-use Rattle.trace_text.specs.declared.command.Kind.TheVariants.{Put, Get, Erase, Scan}
-use Rattle.trace_text.specs.Operation.{Operation}
+use Rattle.rows.specs.declared.kind.Kind.{Kind}
+use Rattle.rows.specs.declared.kind.Kind.TheVariants.{Put, Get, Erase, Scan}
+use Rattle.rows.specs.Operation.{Operation, is_put}
 use Rattle.trace_text.specs.Parsed.{IsWellFormed}
-use Rattle.trace_text.specs.Parts.{is_put, longest_value}
+use Rattle.trace_text.specs.Parts.{longest_value}
 use Rattle.trace_text.specs.Trace.{Trace}
-use Rattle.cache_model.specs.Apply.{Stored, Replaced, Missing, Erased, apply, apply_kind, in_order, is_at_most, is_of, row_of, scanned, without}
-use Rattle.cache_model.specs.Bodies.{most_of_body, most_of_kind}
-use Rattle.cache_model.specs.Evictions.{Evicts}
-use Rattle.cache_model.specs.Holds.{PutHolds, ReplyHolds, RowsHold}
-use Rattle.cache_model.specs.Row.{Row}
-use Rattle.cache_model.specs.Spelled.{key_field, spelled}
+use Rattle.rows.specs.Apply.{Stored, Replaced, Missing, Erased, apply, apply_kind, in_order, is_at_most, is_of, row_of, scanned, without}
+use Rattle.rows.specs.Bodies.{most_of_body, most_of_kind}
+use Rattle.rows.specs.Evictions.{Evicts}
+use Rattle.rows.specs.Holds.{PutHolds, ReplyHolds, RowsHold}
+use Rattle.rows.specs.Row.{Row}
+use Rattle.rows.specs.Spelled.{key_field, spelled}
 
 -- How many there are.
 

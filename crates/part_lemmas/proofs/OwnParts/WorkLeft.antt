@@ -8,13 +8,13 @@ use Rattle.std.proofs.lemmas.Bool.Decides.{nat_tests}
 use Rattle.std.proofs.lemmas.List.Elements.{All-head, All-tail}
 use Rattle.std.proofs.lemmas.List.Sums.{sum_by-cons}
 use Rattle.layout.specs.Sizes.{scan_room}
-use Rattle.trace_text.specs.declared.command.Kind.{Kind}
-use Rattle.trace_text.specs.declared.command.Kind.TheVariants as kinds
-use Rattle.trace_text.specs.Operation.{Operation}
-use Rattle.trace_text.specs.Parsed.{HasItsFields, IsWellFormed}
-use Rattle.trace_text.specs.Parts.{has_part, hash, here_parts, here_puts, is_get, is_put, is_scan, longest_value, origin, own_parts, owner, reply_bytes}
+use Rattle.rows.specs.declared.kind.Kind.{Kind}
+use Rattle.rows.specs.declared.kind.Kind.TheVariants as kinds
+use Rattle.rows.specs.Operation.{Operation, HasItsFields, is_get, is_put, is_scan}
+use Rattle.trace_text.specs.Parsed.{IsWellFormed}
+use Rattle.trace_text.specs.Parts.{has_part, hash, here_parts, here_puts, longest_value, origin, own_parts, owner, reply_bytes}
 use Rattle.trace_text.specs.Trace.{Trace}
-use Rattle.cache_model.specs.Bodies.{most_of_body, most_of_kind}
+use Rattle.rows.specs.Bodies.{most_of_body, most_of_kind}
 use Rattle.part_lemmas.specs.Due.{operations_for}
 use Rattle.part_lemmas.specs.Exchange.{others}
 use Rattle.part_lemmas.specs.Work.{bodies, puts_among, work}

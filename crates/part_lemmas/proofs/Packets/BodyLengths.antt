@@ -3,13 +3,13 @@ use Rattle.std.proofs.Common.{ℕ, ◌*◌, ◌<◌, ◌≤◌, ◌^◌, List, [
 use Rattle.std.specs.List.{All}
 use Rattle.std.proofs.lemmas.List.{length-append}
 use Rattle.std.proofs.lemmas.List.Elements.{All-head, All-tail}
-use Rattle.trace_text.specs.declared.command.Kind.TheVariants.{Put, Get, Erase, Scan}
-use Rattle.trace_text.specs.declared.command.Kind.{Kind}
-use Rattle.cache_model.specs.Apply.{Reply, Stored, Replaced, Value, Missing, Erased, Keys}
-use Rattle.cache_model.specs.Bodies.{most_of_kind}
-use Rattle.cache_model.specs.Fits.{FitsKind}
-use Rattle.cache_model.specs.KeyBody.{IsKey}
-use Rattle.cache_model.specs.Spelled.{key_field, spelled}
+use Rattle.rows.specs.declared.kind.Kind.TheVariants.{Put, Get, Erase, Scan}
+use Rattle.rows.specs.declared.kind.Kind.{Kind}
+use Rattle.rows.specs.Apply.{Reply, Stored, Replaced, Value, Missing, Erased, Keys}
+use Rattle.rows.specs.Bodies.{most_of_kind}
+use Rattle.rows.specs.Fits.{FitsKind}
+use Rattle.rows.specs.KeyBody.{IsKey}
+use Rattle.rows.specs.Spelled.{key_field, spelled}
 use Rattle.shard_rings.specs.Reply.{IsSendable}
 
 keys_length : (keys : List (List ℕ)) → All IsKey keys → length (flat_map key_field keys) ≤ 258 * length keys

@@ -1,9 +1,9 @@
 -- One packet more was received.
 use Rattle.std.proofs.Common.{◌≡◌, ℕ, suc, List, [], ◌∷◌, ◌++◌, length, drop, inl, inr, Option, slice_get, refl, sym, ap, subst}
 use Rattle.std.proofs.lemmas.List.Sums.{fold-append}
-use Rattle.trace_text.specs.Operation.{Operation}
+use Rattle.rows.specs.Operation.{Operation}
 use Rattle.trace_text.specs.Trace.{Trace}
-use Rattle.cache_model.specs.Apply.{Reply}
+use Rattle.rows.specs.Apply.{Reply}
 use Rattle.shard_rings.specs.declared.link.Packet.{Packet}
 use Rattle.part_lemmas.specs.Due.{Answers, AnswersNot, Takes, requests_taken, then_taken}
 

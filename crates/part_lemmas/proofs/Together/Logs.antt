@@ -8,13 +8,13 @@ use Rattle.std.proofs.lemmas.Bool.{and_from, eq-eqb, eqb-true}
 use Rattle.std.proofs.lemmas.List.{length-map}
 use Rattle.std.proofs.lemmas.List.Elements.{All-append, All-cons, All-head, All-map, All-nil, All-same, All-tail}
 use Rattle.std.proofs.lemmas.List.FromFn.{get_or-range_with_len, length-range_with_len}
-use Rattle.trace_text.specs.Operation.{Operation}
-use Rattle.trace_text.specs.Parts.{has_part, is_scan, origin, owner, parts}
+use Rattle.rows.specs.Operation.{Operation, is_scan}
+use Rattle.trace_text.specs.Parts.{has_part, origin, owner, parts}
 use Rattle.trace_text.specs.Trace.{Trace}
-use Rattle.cache_model.specs.declared.reply_kind.ReplyKind.{ReplyKind}
-use Rattle.cache_model.specs.Apply.{Reply}
+use Rattle.rows.specs.declared.reply_kind.ReplyKind.{ReplyKind}
+use Rattle.rows.specs.Apply.{Reply}
 use Rattle.cache_model.specs.OwnParts.{HoldsReplies, issued_parts, parts_of}
-use Rattle.cache_model.specs.Spelled.{spelled}
+use Rattle.rows.specs.Spelled.{spelled}
 use Rattle.part_lemmas.specs.Due.{operations_for}
 use Rattle.part_lemmas.proofs.OwnParts.IssuedParts.{AreOfPeers}
 use Rattle.part_lemmas.proofs.OwnParts.LogPlaces.{at-cons, at_shard}

@@ -2,8 +2,8 @@
 use Rattle.std.specs.Prelude.{◌≡◌, ℕ, ◌<◌, ◌≤◌, List, length, map, remove, slice_index_or, Some}
 use Rattle.layout.specs.Sizes.{greatest_key, greatest_value}
 use Rattle.plain_cache.specs.declared.plain.OwnedRow.{OwnedRow}
-use Rattle.cache_model.specs.Apply.{row_of, without, HasDistinctKeys}
-use Rattle.cache_model.specs.Row.{Row}
+use Rattle.rows.specs.Apply.{row_of, without, HasDistinctKeys}
+use Rattle.rows.specs.Row.{Row}
 
 abbrev pub row_in : OwnedRow → Row
 row_in row = record { key = row.key.items; value = row.value.items; number = row.number }

@@ -5,10 +5,10 @@ use Rattle.std.specs.Cmp.Lexicographic.{slice_cmp}
 use Rattle.std.specs.List.{slice_get, slice_index_or}
 use Rattle.std.specs.List.Sorted.{IsStrictlySortedBy}
 use Rattle.layout.specs.Sizes.{most_keys}
-use Rattle.cache_model.specs.declared.reply_kind.ReplyKind.{ReplyKind}
-use Rattle.cache_model.specs.Apply.{Keys}
-use Rattle.cache_model.specs.KeyBody.{IsKey}
-use Rattle.cache_model.specs.Spelled.{spelled}
+use Rattle.rows.specs.declared.reply_kind.ReplyKind.{ReplyKind}
+use Rattle.rows.specs.Apply.{Keys}
+use Rattle.rows.specs.KeyBody.{IsKey}
+use Rattle.rows.specs.Spelled.{spelled}
 
 -- from part `first` on the log has the replies of n shards, each with its list of keys
 pub record HasFound (log : List (Option (ReplyKind × List ℕ))) (first n : ℕ) (lists : List (List (List ℕ))) : Type 0 where

@@ -1,6 +1,6 @@
 -- Two lists of keys made one.
 use Rattle.std.specs.Prelude.{ℕ, List, [], ◌∷◌, if◌then◌else◌}
-use Rattle.cache_model.specs.Apply.{is_at_most}
+use Rattle.rows.specs.Apply.{is_at_most}
 
 -- a key among others: it comes where it is at most the next of them, and behind it `after` says what comes of those that are left
 abbrev pub put_among : List ℕ → (List (List ℕ) → List (List ℕ)) → List (List ℕ) → List (List ℕ)

@@ -3,7 +3,7 @@ use Rattle.std.specs.Prelude.{◌≡◌, ℕ, ◌+◌, ◌*◌, ◌<◌, ◌≤�
 use Rattle.std.specs.List.{slice_index_or}
 use Rattle.trace_text.specs.Parsed.{Parsed, trace_in}
 use Rattle.trace_text.specs.Trace.{Trace}
-use Rattle.cache_model.specs.Apply.{Reply}
+use Rattle.rows.specs.Apply.{Reply}
 use Rattle.cache_model.specs.Logged.{AreLogged}
 use Rattle.cache_model.specs.OwnParts.{Log}
 use Rattle.cache_model.specs.Report.{line, journal_text}

@@ -1,9 +1,9 @@
 -- How a kind and a body spell a reply.
 use Rattle.std.specs.Prelude.{◌≡◌, ℕ, List, All}
-use Rattle.cache_model.specs.declared.reply_kind.ReplyKind.{ReplyKind}
-use Rattle.cache_model.specs.Apply.{Reply, Stored, Replaced, Value, Missing, Erased, Keys}
-use Rattle.cache_model.specs.KeyBody.{IsKey}
-use Rattle.cache_model.specs.Spelled.{spelled}
+use Rattle.rows.specs.declared.reply_kind.ReplyKind.{ReplyKind}
+use Rattle.rows.specs.Apply.{Reply, Stored, Replaced, Value, Missing, Erased, Keys}
+use Rattle.rows.specs.KeyBody.{IsKey}
+use Rattle.rows.specs.Spelled.{spelled}
 
 -- any keys are as long as a trace's are
 abbrev pub HasLegalKeys : Reply → Type 0

@@ -1,7 +1,7 @@
 -- Commands one behind another, and the lines of their answers.
 use Rattle.std.specs.Prelude.{ℕ, ◌-◌, ◌≤◌, List, length, take, drop, flat_map}
 use Rattle.trace_text.specs.Parsed.{Parsed, trace_in}
-use Rattle.cache_model.specs.Apply.{Reply}
+use Rattle.rows.specs.Apply.{Reply}
 use Rattle.cache_model.specs.Report.{line, answer_text}
 use Rattle.report_text.specs.declared.stretch.Stretch.{Stretch}
 use Rattle.report_text.specs.inside.Places.{ArePlaces}

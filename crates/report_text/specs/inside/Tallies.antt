@@ -1,6 +1,6 @@
 -- Counted answers.
 use Rattle.std.specs.Prelude.{ℕ, ◌+◌}
-use Rattle.cache_model.specs.Apply.{Reply, Stored, Replaced, Value, Missing, Erased, Keys}
+use Rattle.rows.specs.Apply.{Reply, Stored, Replaced, Value, Missing, Erased, Keys}
 use Rattle.cache_model.specs.Summary.{Tally}
 use Rattle.report_text.specs.declared.tally.Tally.{Tally as Counts}
 

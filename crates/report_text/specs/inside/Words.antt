@@ -1,7 +1,7 @@
 -- How a report says a reply: a word, and the reply's body behind it.
 use Rattle.std.specs.Prelude.{ℕ, List, codes}
-use Rattle.cache_model.specs.declared.reply_kind.ReplyKind.{ReplyKind}
-use Rattle.cache_model.specs.declared.reply_kind.ReplyKind.TheVariants as kinds
+use Rattle.rows.specs.declared.reply_kind.ReplyKind.{ReplyKind}
+use Rattle.rows.specs.declared.reply_kind.ReplyKind.TheVariants as kinds
 
 abbrev pub word : ReplyKind → List ℕ
 word kinds.Stored = codes "stored"

@@ -1,6 +1,6 @@
 -- What holds of the parts of a row cache.
 use Rattle.std.specs.Prelude.{◌≡◌, ℕ, List}
-use Rattle.cache_model.specs.Row.{Row, live}
+use Rattle.rows.specs.Row.{Row, live}
 use Rattle.regions.specs.Segments.{RegionState}
 use Rattle.regions.specs.Shapes.{group_count}
 use Rattle.regions.specs.Counts.{live_total}

@@ -1,7 +1,7 @@
 -- A row as it comes.
 use Rattle.std.specs.Prelude.{◌≤◌, length}
 use Rattle.layout.specs.Sizes.{greatest_key, greatest_value}
-use Rattle.cache_model.specs.Row.{Row}
+use Rattle.rows.specs.Row.{Row}
 use Rattle.row_cache.specs.declared.cache.storing.NewRow.{NewRow}
 
 abbrev pub row_of : NewRow → Row

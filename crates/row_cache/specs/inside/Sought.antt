@@ -1,6 +1,6 @@
 -- What a search tells of a key among the rows.
 use Rattle.std.specs.Prelude.{◌≡◌, ◌≢◌, ℕ, List, true, false, Some, None}
-use Rattle.cache_model.specs.Apply as apply
+use Rattle.rows.specs.Apply as apply
 use Rattle.common_lemmas.specs.Lists.{delete}
 use Rattle.key_table.specs.Table.{IsSpotFor}
 use Rattle.key_table.specs.declared.entries.RowAt.{RowAt}

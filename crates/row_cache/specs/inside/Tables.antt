@@ -1,7 +1,7 @@
 -- The tables of a row cache, and the live objects that they are the tables of.
 use Rattle.std.specs.List.{last_or}
 use Rattle.std.specs.Prelude.{◌≡◌, ◌≢◌, ℕ, ◌+◌, ◌^◌, ◌<◌, ◌≤◌, nat_lt, cond, List, [], ◌∷◌, ◌++◌, length, Option, None, Some, slice_get, slice_set}
-use Rattle.cache_model.specs.Row.{Row, size}
+use Rattle.rows.specs.Row.{Row, size}
 use Rattle.row_bytes.specs.Rows.{HoldsRow, row_in, number_in}
 use Rattle.common_lemmas.specs.Lists.{times}
 use Rattle.key_table.specs.Table.{IsSpotFor}

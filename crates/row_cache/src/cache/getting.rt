@@ -1,7 +1,7 @@
 //! A look-up that makes the row the one used last.
 ghost use Rattle.std.specs.Prelude.{◌≡◌, Some, None, IsSome, MatchOption};
-ghost use Rattle.cache_model.specs.Row.{Row};
-ghost use Rattle.cache_model.specs.Apply as apply;
+ghost use Rattle.rows.specs.Row.{Row};
+ghost use Rattle.rows.specs.Apply as apply;
 ghost use Rattle.regions.specs.Contents.{live_at};
 ghost use Rattle.row_cache.specs.Rows.{rows_of, AreRelinked, StandsAt};
 

@@ -1,7 +1,8 @@
 //! What a cache tells of itself.
 ghost use Rattle.std.specs.Prelude.{◌≡◌, ◌⊎◌, ◌+◌, ◌*◌, ◌≤◌, ℕ, List, length, take, Some, None, IsSome, IfSome, MatchOption};
-ghost use Rattle.cache_model.specs.Row.{Row, live};
-ghost use Rattle.cache_model.specs.Apply as apply;
+ghost use Rattle.layout.specs.Sizes.{greatest_value};
+ghost use Rattle.rows.specs.Row.{Row, live};
+ghost use Rattle.rows.specs.Apply as apply;
 ghost use Rattle.regions.specs.Shapes.{group_count, guards_of, free_count};
 ghost use Rattle.regions.specs.Counts.{left, live_total};
 ghost use Rattle.regions.specs.Contents.{live_at};
@@ -9,7 +10,7 @@ ghost use Rattle.row_cache.specs.Rows.{rows_of, StandsAt, IsLinkedThrough, AreMe
 
 use super::RowCache;
 use regions::Place;
-use row_bytes::value_in;
+use row_bytes::{a_row_is_read_as_it_is_written, value_in};
 
 impl RowCache {
     /// What holds of the cache at each time.
@@ -38,11 +39,13 @@ impl RowCache {
         self.live
     }
 
-    /// The length of the value of a key's row, in bytes. None where no row has the key.
+    /// The length of the value of a key's row, in bytes, at most 12,000. None where no row has the key.
     pub fn find_len(&self, key: &[u8]) -> Option<u32>
-        ensures { MatchOption result (apply.row_of key.now (rows_of self.now) ≡ None)
+        ensures found { MatchOption result (apply.row_of key.now (rows_of self.now) ≡ None)
             (λ len. (row : Row) × (apply.row_of key.now (rows_of self.now) ≡ Some row) × (len ≡ length row.value)) }
+        ensures short { IfSome result (λ len. len ≤ greatest_value) }
     {
+        a_row_is_read_as_it_is_written();
         let place = self.place_of(key)?;
         Some(value_in(self.region.bytes(place)).len() as u32)
     }

@@ -1,9 +1,9 @@
 //! The keys of a cache, in the order of their bytes.
 ghost use Rattle.std.specs.Prelude.{◌≡◌, ◌+◌, ◌*◌, ◌≤◌, ◌++◌, length, map, take, drop, All};
 ghost use Rattle.layout.specs.Sizes as sizes;
-ghost use Rattle.cache_model.specs.Apply as apply;
-ghost use Rattle.cache_model.specs.KeyBody.{AreKeys};
-ghost use Rattle.cache_model.specs.Spelled.{key_field};
+ghost use Rattle.rows.specs.Apply as apply;
+ghost use Rattle.rows.specs.KeyBody.{AreKeys};
+ghost use Rattle.rows.specs.Spelled.{key_field};
 ghost use Rattle.regions.specs.Contents.{live_at};
 ghost use Rattle.row_cache.specs.Rows.{key_at, rows_of};
 ghost use Rattle.row_cache.specs.inside.Tables.{HasRow};
@@ -11,6 +11,7 @@ ghost use Rattle.row_cache.specs.inside.Tables.{HasRow};
 use super::RowCache;
 use crate::scanned::Scanned;
 use crate::tables::Tables;
+use byteorder::{ByteOrder, LittleEndian};
 use lazy_index::Rows;
 use regions::Region;
 
@@ -69,7 +70,7 @@ fn write_key(into: &mut [u8], key: &[u8]) -> u32
     ensures written { into.new ≡ key_field key.now ++ drop result into.old }
 {
     let (len, behind) = into.split_at_mut(2);
-    len.copy_from_slice((key.len() as u16).to_le_bytes().as_slice());
+    LittleEndian::write_u16(len, key.len() as u16);
     behind[..key.len()].copy_from_slice(key);
     2 + key.len() as u32
 }

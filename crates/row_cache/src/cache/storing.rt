@@ -1,8 +1,8 @@
 //! How a row comes into the segments of a cache, and how it goes.
 ghost use Rattle.std.specs.Prelude.{◌≡◌, ◌≢◌, ℕ, ◌+◌, ◌<◌, ◌≤◌, ◌↔◌, ◌⊎◌, ◌∷◌, true, length, slice_get, Some, None, IfOk, IfErr, IfSome, IsErr, IsSome};
 ghost use Rattle.layout.specs.Sizes as sizes;
-ghost use Rattle.cache_model.specs.Row.{Row, size};
-ghost use Rattle.cache_model.specs.Apply as apply;
+ghost use Rattle.rows.specs.Row.{Row, size};
+ghost use Rattle.rows.specs.Apply as apply;
 ghost use Rattle.common_lemmas.specs.Lists.{delete};
 ghost use Rattle.key_table.specs.Table.{IsSpotFor};
 ghost use Rattle.lazy_index.specs.Lazy.{IsThere};

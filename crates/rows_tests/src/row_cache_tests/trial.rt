@@ -1,6 +1,6 @@
 //! A cache whose calls are made in any order: one that does not fit what stands changes nothing.
 ghost use Rattle.std.specs.Prelude.{◌≡◌, ◌+◌, ◌*◌, ◌<◌, ◌≤◌, ◌⊎◌, length, true, IsSome};
-ghost use Rattle.cache_model.specs.Apply.{has};
+ghost use Rattle.rows.specs.Apply.{has};
 ghost use Rattle.layout.specs.Sizes as sizes;
 ghost use Rattle.regions.specs.Shapes.{active_of, guards_of};
 ghost use Rattle.row_cache.specs.Rows.{rows_of};

@@ -1,7 +1,7 @@
 -- What a log keeps of a reply.
 use Rattle.std.specs.Prelude.{◌≡◌, ℕ, ◌+◌, ◌≤◌, List, length, take, drop, Option}
 use Rattle.std.specs.Option.{option_map, ForSome}
-use Rattle.cache_model.specs.declared.reply_kind.ReplyKind.{ReplyKind}
+use Rattle.rows.specs.declared.reply_kind.ReplyKind.{ReplyKind}
 use Rattle.run_log.specs.declared.reply_log.Recorded.{Recorded}
 
 -- a recorded reply with its body

@@ -6,23 +6,23 @@ use Rattle.std.proofs.lemmas.List.{drop-drop, length-append, length-map, length-
 use Rattle.std.proofs.lemmas.List.Elements.{All-map}
 use Rattle.std.proofs.lemmas.Option.{same_Some}
 use Rattle.layout.specs.Sizes.{tickets}
-use Rattle.trace_text.specs.Operation.{Operation}
+use Rattle.rows.specs.Operation.{Operation, is_put}
 use Rattle.trace_text.specs.Parsed.{AreNumbered, IsWellFormed, trace_in}
-use Rattle.trace_text.specs.Parts.{is_put, longest_value}
+use Rattle.trace_text.specs.Parts.{longest_value}
 use Rattle.trace_text.specs.Trace.{Trace}
 use Rattle.cache_model.specs.declared.entry.Entry.TheVariants.{Done, Evicted}
-use Rattle.cache_model.specs.Apply.{apply}
-use Rattle.cache_model.specs.Evictions.{Evicts}
-use Rattle.cache_model.specs.Holds.{PutHolds}
-use Rattle.cache_model.specs.Row.{Row}
-use Rattle.cache_model.specs.Spelled.{spelled}
+use Rattle.rows.specs.Apply.{apply}
+use Rattle.rows.specs.Evictions.{Evicts}
+use Rattle.rows.specs.Holds.{PutHolds}
+use Rattle.rows.specs.Row.{Row}
+use Rattle.rows.specs.Spelled.{spelled}
 use Rattle.run_log.specs.JournalState.{JournalState}
 use Rattle.run_log.specs.Replies.{Replies}
 use Rattle.layout.specs.Counts.{raised}
 use Rattle.shard_memory.specs.Tickets.{tickets_out}
 use Rattle.shard_rings.specs.Lanes.{LinkEnd, Traffic}
-use Rattle.reclaim.specs.Spaces.{SpaceState}
-use Rattle.reclaim.specs.Works.{pressure}
+use Rattle.shard_store.specs.Stores.{StoreState}
+use Rattle.shard_store.specs.Works.{pressure}
 use Rattle.shard_parts.specs.declared.peer.Peer.{Peer}
 use Rattle.shard_node.specs.declared.shard.Shard.{Shard}
 use Rattle.shard_node.specs.Nodes.{PeerState}
@@ -60,27 +60,27 @@ CountsRows = (bound : ℕ) (cache rest : List Row) (puts : List ℕ) → Evicts 
 -- the log of the reply to the first part that is left has room
 pub own_fits : {L G : Type 0} → KeepsRows → (shard : Shard L G) (operation : Operation) → IsConsistent shard → All IsWellFormed (trace_in shard.trace.now).operations
     → Contains (trace_in shard.trace.now).operations operation → shard.here.left ≡ operation ∷ drop 1 shard.here.left
-    → length (spelled (apply operation shard.space.rows).1).1 ≤ shard.log.room
+    → length (spelled (apply operation shard.store.rows).1).1 ≤ shard.log.room
 own_fits keeps shard operation x formed there first =
     let trace = trace_in shard.trace.now in
-    let short : AreShort (longest_value trace) shard.space.rows = subst (λ m. AreShort m shard.space.rows) x.longest x.short in
-    let holds = (keeps is_short_key (is_short_value (longest_value trace)) operation shard.space.rows (short-put trace operation formed there) short).1 in
-    let body = short-body (longest_value trace) operation shard.space.rows holds in
+    let short : AreShort (longest_value trace) shard.store.rows = subst (λ m. AreShort m shard.store.rows) x.longest x.short in
+    let holds = (keeps is_short_key (is_short_value (longest_value trace)) operation shard.store.rows (short-put trace operation formed there) short).1 in
+    let body = short-body (longest_value trace) operation shard.store.rows holds in
     let all = bodies-left trace operation shard.here.left first in
     let before = x.room.bodies in
     omega (arith, body, all, before)
 
--- The next own part, of command i, was done on the space: what is left of the shard's parts is one less.
-pub record DoesHere {L G : Type 0} (shard : Shard L G) (space : SpaceState) (journal : JournalState) (log : Replies) (keys : Vec ℕ Global) (own : OwnState) (here : RestState)
+-- The next own part, of command i, was done on the store: what is left of the shard's parts is one less.
+pub record DoesHere {L G : Type 0} (shard : Shard L G) (store : StoreState) (journal : JournalState) (log : Replies) (keys : Vec ℕ Global) (own : OwnState) (here : RestState)
     (i : ℕ) (operation : Operation) : Type 0 where
   pub are_formed : All IsWellFormed (trace_in shard.trace.now).operations
   pub are_numbered : AreNumbered shard.trace.now.commands
   pub of_trace : Contains (trace_in shard.trace.now).operations operation
   pub next : slice_get (issued_by shard) shard.own.begun ≡ Some (i, shard.shard)
   pub first : shard.here.left ≡ operation ∷ drop 1 shard.here.left
-  pub few : tickets_out shard.space.lent ≤ tickets
-  pub does : DoesPart shard.own.begun operation shard.space space shard.journal journal shard.log log
-  pub out : space.lends ≡ raised space.backs (tickets_out space.lent)
+  pub few : tickets_out shard.store.lent ≤ tickets
+  pub does : DoesPart shard.own.begun operation shard.store store shard.journal journal shard.log log
+  pub out : store.lends ≡ raised store.backs (tickets_out store.lent)
   pub buffer : vec_len keys ≡ vec_len shard.keys
   pub own_trace : own.trace ≡ shard.own.trace
   pub own_shard : own.shard ≡ shard.own.shard
@@ -91,10 +91,10 @@ pub record DoesHere {L G : Type 0} (shard : Shard L G) (space : SpaceState) (jou
   pub here_left : here.left ≡ drop 1 shard.here.left
 
 module _ {L G : Type 0} (traffic : L → Traffic) (end : L → LinkEnd) (laws : Laws) (kept : KeepsReplied) (tells : TellsNumbers) (peers : AreOfPeers)
-    (keeps : KeepsRows) (counts : CountsRows) (shard : Shard L G) (space : SpaceState) (journal : JournalState) (log : Replies) (keys : Vec ℕ Global)
-    (own : OwnState) (here : RestState) (i : ℕ) (operation : Operation) (x : IsConsistent shard) (did : DoesHere shard space journal log keys own here i operation) where
+    (keeps : KeepsRows) (counts : CountsRows) (shard : Shard L G) (store : StoreState) (journal : JournalState) (log : Replies) (keys : Vec ℕ Global)
+    (own : OwnState) (here : RestState) (i : ℕ) (operation : Operation) (x : IsConsistent shard) (did : DoesHere shard store journal log keys own here i operation) where
   abbrev now : Shard L G
-  now = record shard { space = space; journal = journal; log = log; keys = keys; own = own; here = here }
+  now = record shard { store = store; journal = journal; log = log; keys = keys; own = own; here = here }
 
   abbrev trace : Trace
   trace = trace_in shard.trace.now
@@ -132,14 +132,14 @@ module _ {L G : Type 0} (traffic : L → Traffic) (end : L → LinkEnd) (laws : 
   put : PutHolds is_short_key (is_short_value (longest_value trace)) operation
   put = short-put trace operation did.are_formed did.of_trace
 
-  short : AreShort (longest_value trace) shard.space.rows
-  short = subst (λ m. AreShort m shard.space.rows) x.longest x.short
+  short : AreShort (longest_value trace) shard.store.rows
+  short = subst (λ m. AreShort m shard.store.rows) x.longest x.short
 
   -- an eviction takes a row, and a put adds one at most
-  rows_now : length space.rows + length evicted ≤ length shard.space.rows + cond (is_put operation.kind) 1 0
+  rows_now : length store.rows + length evicted ≤ length shard.store.rows + cond (is_put operation.kind) 1 0
   rows_now =
       let most = few-after operation rest in
-      let count = counts (pressure shard.space.pages shard.space.lent) shard.space.rows rest evicted did.does.works.evicts in
+      let count = counts (pressure shard.store.pages shard.store.lent) shard.store.rows rest evicted did.does.works.evicts in
       let rows = ap length did.does.works.rows in
       omega (arith, most, count, rows)
 
@@ -166,7 +166,7 @@ module _ {L G : Type 0} (traffic : L → Traffic) (end : L → LinkEnd) (laws : 
   bodies_now =
       let all = bodies-left trace operation shard.here.left did.first in
       let left = ap (bodies trace) did.here_left in
-      let body = body-left keeps (longest_value trace) (pressure shard.space.pages shard.space.lent) operation shard.space.rows rest evicted put did.does.works.evicts short in
+      let body = body-left keeps (longest_value trace) (pressure shard.store.pages shard.store.lent) operation shard.store.rows rest evicted put did.does.works.evicts short in
       let reply = ap (λ r. length (spelled r).1) did.does.works.reply in
       let logged = did.does.logs.room in
       let before = x.room.bodies in
@@ -188,11 +188,11 @@ module _ {L G : Type 0} (traffic : L → Traffic) (end : L → LinkEnd) (laws : 
         keys = did.buffer ∙ x.room.keys;
       }
 
-  short_now : AreShort shard.longest space.rows
+  short_now : AreShort shard.longest store.rows
   short_now =
-      subst (λ m. AreShort m space.rows) (sym x.longest)
+      subst (λ m. AreShort m store.rows) (sym x.longest)
       (subst (AreShort (longest_value trace)) (sym did.does.works.rows)
-      (short-after keeps (longest_value trace) (pressure shard.space.pages shard.space.lent) operation shard.space.rows rest evicted put did.does.works.evicts short))
+      (short-after keeps (longest_value trace) (pressure shard.store.pages shard.store.lent) operation shard.store.rows rest evicted put did.does.works.evicts short))
 
   here_now : here.left ≡ drop (count_by (λ part. part.1 == s) (take own.begun (issued_by shard))) (operations_for trace n s s)
   here_now =
@@ -255,7 +255,7 @@ module _ {L G : Type 0} (traffic : L → Traffic) (end : L → LinkEnd) (laws : 
         ∙ x.unanswered p d below k j from there;
   }
 
-  owns : DoesOwn (node_state shard) space journal log own.begun operation
+  owns : DoesOwn (node_state shard) store journal log own.begun operation
   owns = record {
     numbered = numbered shard.trace.now.bytes shard.trace.now.commands did.are_numbered;
     below = x.within;
@@ -272,7 +272,7 @@ module _ {L G : Type 0} (traffic : L → Traffic) (end : L → LinkEnd) (laws : 
   pub own_done : IsStep traffic end shard now
   own_done = record {
     consistent = consistent;
-    standing = own_stands traffic laws kept tells peers (node_state shard) space journal log own.begun operation owns;
+    standing = own_stands traffic laws kept tells peers (node_state shard) store journal log own.begun operation owns;
     same = record { shard = refl; shards = refl; pages = refl; trace = refl; home = did.does.works.same.list; ends = refl };
     turns = refl;
   }

@@ -5,22 +5,22 @@ use Rattle.std.specs.Option.{option_map}
 use Rattle.std.proofs.lemmas.List.{length-set}
 use Rattle.std.proofs.lemmas.List.Sums.{length-filter}
 use Rattle.layout.specs.Sizes.{dense, tickets}
-use Rattle.trace_text.specs.Operation.{Operation}
+use Rattle.rows.specs.Operation.{Operation}
 use Rattle.trace_text.specs.Parts.{origin, parts}
 use Rattle.trace_text.specs.Trace.{Trace}
 use Rattle.cache_model.specs.declared.entry.Entry.{Entry}
-use Rattle.cache_model.specs.Apply.{Reply}
+use Rattle.rows.specs.Apply.{Reply}
 use Rattle.cache_model.specs.Legal.{EvictsAbove, cache_after, command_of, is_done, reply_at}
 use Rattle.cache_model.specs.OwnParts.{issued_parts}
-use Rattle.cache_model.specs.Row.{floor, tight_floor}
-use Rattle.cache_model.specs.Spelled.{spelled}
+use Rattle.rows.specs.Row.{floor, tight_floor}
+use Rattle.rows.specs.Spelled.{spelled}
 use Rattle.run_log.specs.JournalState.{JournalState}
 use Rattle.run_log.specs.Replies.{Replies}
 use Rattle.layout.specs.Counts.{raised}
 use Rattle.shard_memory.specs.Tickets.{tickets_out}
 use Rattle.shard_rings.specs.Lanes.{Traffic}
-use Rattle.reclaim.specs.Spaces.{SpaceState}
-use Rattle.reclaim.specs.Works.{pressure}
+use Rattle.shard_store.specs.Stores.{StoreState}
+use Rattle.shard_store.specs.Works.{pressure}
 use Rattle.shard_node.specs.Nodes.{NodeState, PeerState}
 use Rattle.shard_node.specs.Due.{operations_for}
 use Rattle.shard_node.specs.Standing.{InStanding, done_for}
@@ -40,21 +40,21 @@ KeepsReplied = (trace : Trace) (pages : ℕ) (journal entries : List Entry) (i :
     → reply_at trace pages journal i ≡ Some reply → reply_at trace pages (journal ++ entries) i ≡ Some reply
 
 -- The next own part, which the shard does itself, was done.
-pub record DoesOwn {L G : Type 0} (node : NodeState L G) (space : SpaceState) (journal : JournalState) (log : Replies) (begun : ℕ) (operation : Operation) : Type 0 where
+pub record DoesOwn {L G : Type 0} (node : NodeState L G) (store : StoreState) (journal : JournalState) (log : Replies) (begun : ℕ) (operation : Operation) : Type 0 where
   pub numbered : IsNumbered node.trace.operations
   pub below : node.shard < node.shards
   pub apart : All (λ peer. peer.shard ≢ node.shard) node.peers
-  pub few : tickets_out node.space.lent ≤ tickets
-  pub pages : node.space.pages ≡ node.pages
+  pub few : tickets_out node.store.lent ≤ tickets
+  pub pages : node.store.pages ≡ node.pages
   pub next : slice_get (issued_parts node.trace node.shards node.shard) node.begun ≡ Some (operation.number, node.shard)
   pub there : slice_get (operations_for node.trace node.shards node.shard node.shard) (place_at node.shard (issued_parts node.trace node.shards node.shard) node.begun) ≡ Some operation
-  pub does : DoesPart node.begun operation node.space space node.journal journal node.log log
-  pub out : space.lends ≡ raised space.backs (tickets_out space.lent)
+  pub does : DoesPart node.begun operation node.store store node.journal journal node.log log
+  pub out : store.lends ≡ raised store.backs (tickets_out store.lent)
   pub one_more : begun ≡ node.begun + 1
 
 module _ {L G : Type 0} (traffic : L → Traffic) (laws : Laws) (kept : KeepsReplied) (tells : TellsNumbers) (peers : AreOfPeers)
-    (node : NodeState L G) (space : SpaceState) (journal : JournalState) (log : Replies) (begun : ℕ) (operation : Operation)
-    (x : DoesOwn node space journal log begun operation) where
+    (node : NodeState L G) (store : StoreState) (journal : JournalState) (log : Replies) (begun : ℕ) (operation : Operation)
+    (x : DoesOwn node store journal log begun operation) where
   abbrev n : ℕ
   n = node.shards
 
@@ -77,16 +77,16 @@ module _ {L G : Type 0} (traffic : L → Traffic) (laws : Laws) (kept : KeepsRep
   place = place_at s issued node.begun
 
   abbrev bound : ℕ
-  bound = pressure node.space.pages node.space.lent
+  bound = pressure node.store.pages node.store.lent
 
   abbrev after : NodeState L G
-  after = later traffic node space journal log node.peers begun node.request node.gate node.tally
+  after = later traffic node store journal log node.peers begun node.request node.gate node.tally
 
   grown : journal.entries ≡ entries ++ then_done puts i
   grown = x.does.works.recorded.entries
 
   low : floor node.pages ≤ bound
-  low = subst (λ p. floor p ≤ bound) x.pages (pressure-low node.space.pages (tickets_out node.space.lent) x.few)
+  low = subst (λ p. floor p ≤ bound) x.pages (pressure-low node.store.pages (tickets_out node.store.lent) x.few)
 
   command : command_of node.trace i ≡ Some operation
   command = command-at node.trace n s s place operation x.numbered x.there
@@ -101,28 +101,28 @@ module _ {L G : Type 0} (traffic : L → Traffic) (laws : Laws) (kept : KeepsRep
     unseen : list_any (is_done i) entries ≡ false
     unseen = not-done tells node.trace n s s place entries operation x.numbered so_far x.there
 
-    alone : n ≡ 1 → tickets_out node.space.lent ≡ 0
-    alone one = none-out node.trace n s node.begun entries node.space.lends node.space.backs (tickets_out node.space.lent) one x.below itself.lent.lends itself.lent.out
+    alone : n ≡ 1 → tickets_out node.store.lent ≡ 0
+    alone one = none-out node.trace n s node.begun entries node.store.lends node.store.backs (tickets_out node.store.lent) one x.below itself.lent.lends itself.lent.out
 
-    leads : cache_after node.trace node.pages journal.entries ≡ Some space.rows
+    leads : cache_after node.trace node.pages journal.entries ≡ Some store.rows
     leads =
         ap (cache_after node.trace node.pages) grown
-        ∙ leads-more laws node.trace node.pages bound i entries node.space.rows x.does.works.rest puts operation command itself.journal.legal x.does.works.evicts low
+        ∙ leads-more laws node.trace node.pages bound i entries node.store.rows x.does.works.rest puts operation command itself.journal.legal x.does.works.evicts low
         ∙ ap Some (sym x.does.works.rows)
 
     above : n ≡ 1 → EvictsAbove node.trace node.pages (tight_floor node.pages 0 + dense) journal.entries
     above one =
         let least : ℕ = tight_floor node.pages 0 + dense in
         let same : bound ≡ tight_floor node.pages 0 + dense =
-        ap (λ t. tight_floor node.space.pages t + dense) (alone one) ∙ ap (λ p. tight_floor p 0 + dense) x.pages in
+        ap (λ t. tight_floor node.store.pages t + dense) (alone one) ∙ ap (λ p. tight_floor p 0 + dense) x.pages in
         subst (EvictsAbove node.trace node.pages (tight_floor node.pages 0 + dense)) (sym grown)
-        (above-more laws node.trace node.pages (tight_floor node.pages 0 + dense) bound i entries node.space.rows x.does.works.rest puts
+        (above-more laws node.trace node.pages (tight_floor node.pages 0 + dense) bound i entries node.store.rows x.does.works.rest puts
         itself.journal.legal (itself.journal.pressure one) x.does.works.evicts (omega (arith, same)) (pressure-low node.pages 0 (omega arith)))
 
     replied : reply_at node.trace node.pages journal.entries i ≡ Some x.does.reply
     replied =
         ap (λ es. reply_at node.trace node.pages es i) grown
-        ∙ reply-of laws node.trace node.pages bound i entries node.space.rows x.does.works.rest puts operation unseen command itself.journal.legal x.does.works.evicts low
+        ∙ reply-of laws node.trace node.pages bound i entries node.store.rows x.does.works.rest puts operation unseen command itself.journal.legal x.does.works.evicts low
         ∙ ap Some (sym x.does.works.reply)
 
     others_still : (k : ℕ) → k ≢ i → reply_at node.trace node.pages journal.entries k ≡ reply_at node.trace node.pages entries k
@@ -142,7 +142,7 @@ module _ {L G : Type 0} (traffic : L → Traffic) (laws : Laws) (kept : KeepsRep
         ∙ own-logged node.trace n s node.begun i node.log.replies (reply_at node.trace node.pages entries) (reply_at node.trace node.pages journal.entries) x.does.reply
         x.numbered (peers node.trace n s s x.below) itself.one_each x.next replied others_still itself.logged
 
-    lent_same : space.lends ≡ raised 0 (count_by (λ part. not (part.1 == s)) (take begun issued) + of_others n s journal.entries)
+    lent_same : store.lends ≡ raised 0 (count_by (λ part. not (part.1 == s)) (take begun issued) + of_others n s journal.entries)
     lent_same =
         let asked : count_by (λ part. not (part.1 == s)) (take begun issued) ≡ count_by (λ part. not (part.1 == s)) (take node.begun issued) =
         ap (λ b. count_by (λ part. not (part.1 == s)) (take b issued)) x.one_more ∙ asked-same s issued node.begun i x.next in
@@ -164,7 +164,7 @@ module _ {L G : Type 0} (traffic : L → Traffic) (laws : Laws) (kept : KeepsRep
 
   peer_stays : (peer : PeerState L) → peer.shard ≢ s → StandsWith traffic node peer → StandsWith traffic after peer
   peer_stays peer other =
-      stays traffic node space journal log node.peers begun node.request node.gate node.tally peer
+      stays traffic node store journal log node.peers begun node.request node.gate node.tally peer
       (λ j reply e. ap (λ es. reply_at node.trace node.pages es j) grown ∙ kept node.trace node.pages entries (then_done puts i) j reply e)
       (record {
         done = ap (done_for n peer.shard) grown ∙ done_for-other n peer.shard entries puts i (λ e. other (sym e ∙ mine));

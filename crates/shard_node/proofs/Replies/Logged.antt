@@ -2,11 +2,11 @@
 use mathlib.Core.List.{IsPrefix}
 use Rattle.std.proofs.Common.{◌≡◌, ◌↔◌, ℕ, zero, suc, ◌+◌, ◌-◌, List, [], ◌∷◌, ◌++◌, length, map, take, drop, replicate, slice_get, arith, refl, true, sym, ap, subst, ◌∙◌, Option, Some, None}
 use Rattle.std.proofs.lemmas.List.{length-append}
-use Rattle.trace_text.specs.Operation.{Operation}
+use Rattle.rows.specs.Operation.{Operation}
 use Rattle.trace_text.specs.Parts.{parts}
-use Rattle.cache_model.specs.Apply.{Reply}
+use Rattle.rows.specs.Apply.{Reply}
 use Rattle.cache_model.specs.Legal.{reply_at}
-use Rattle.cache_model.specs.Spelled.{spelled}
+use Rattle.rows.specs.Spelled.{spelled}
 use Rattle.foreign_list.specs.Blocks.{Block}
 use Rattle.run_log.specs.Replies.{Replies}
 use Rattle.shard_rings.specs.Lanes.{Lanes, adds, Traffic}
@@ -44,13 +44,13 @@ module _ {L G : Type 0} (traffic : L → Traffic) where
       (packet : Packet) (reply : Reply)
       → TookReply node a link answers owed packet reply
       → (x : StandsWith traffic node a)
-      → logged_at (later traffic node node.space node.journal log peers node.begun node.request node.gate tally) a.shard
+      → logged_at (later traffic node node.store node.journal log peers node.begun node.request node.gate tally) a.shard
       ≡ map (λ reply. Some (spelled reply)) (x.logged.replies ++ reply ∷ [])
       ++ replicate (length (parts node.trace node.shards node.shard a.shard) - length (x.logged.replies ++ reply ∷ [])) None
-      → StandsWith traffic (later traffic node node.space node.journal log peers node.begun node.request node.gate tally)
+      → StandsWith traffic (later traffic node node.store node.journal log peers node.begun node.request node.gate tally)
       (record a { link = link; held = held; keeps = record a.keeps { answers = answers; owed = owed } })
   taken_with node a peers link held log tally answers owed packet reply took x logged =
-      let now = later traffic node node.space node.journal log peers node.begun node.request node.gate tally in
+      let now = later traffic node node.store node.journal log peers node.begun node.request node.gate tally in
       let requests = ap (λ (ps : Lanes (List Packet)). ps.requests) took.sent in
       let replies = ap (λ (ps : Lanes (List Packet)). ps.replies) took.sent in
       let came : (traffic link).received.requests ≡ (traffic a.link).received.requests = ap (λ (ps : Lanes (List Packet)). ps.requests) took.received in

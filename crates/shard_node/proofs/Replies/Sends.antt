@@ -3,7 +3,7 @@ use mathlib.Core.List.{IsPrefix}
 use Rattle.std.proofs.Common.{◌≡◌, ◌↔◌, ℕ, ◌+◌, ◌<◌, List, [], ◌∷◌, ◌++◌, length, map, take, drop, get_or, append-nil, arith, refl, true, sym, ap, subst, ◌∙◌, sum_by, Option, Some, None}
 use Rattle.std.proofs.lemmas.List.{length-append}
 use Rattle.trace_text.specs.Parts.{parts}
-use Rattle.cache_model.specs.Apply.{Reply}
+use Rattle.rows.specs.Apply.{Reply}
 use Rattle.cache_model.specs.Legal.{reply_at}
 use Rattle.foreign_list.specs.Blocks.{Block}
 use Rattle.shard_rings.specs.Lanes.{Lanes, Traffic}
@@ -116,5 +116,5 @@ module _ {L G : Type 0} (traffic : L → Traffic) where
       let one = each k d inside in
       let a = get_or node.peers k d in
       let b = get_or peers k d in
-      stays traffic node node.space node.journal node.log peers node.begun node.request node.gate node.tally b (λ i reply e. e) (record { done = refl; logged = refl; begun = refl; waiting = refl })
+      stays traffic node node.store node.journal node.log peers node.begun node.request node.gate node.tally b (λ i reply e. e) (record { done = refl; logged = refl; begun = refl; waiting = refl })
       (subst (StandsWith traffic node) (sym one.same) (sent_with node a b.link b.reply one.keeps (each_stands traffic node stands k d inside))))

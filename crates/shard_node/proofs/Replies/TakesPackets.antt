@@ -3,13 +3,13 @@ use Rattle.std.proofs.Common.{◌≡◌, ℕ, ◌+◌, ◌<◌, ◌≤◌, List,
 use Rattle.std.specs.declared.alloc.Global.{Global}
 use Rattle.std.proofs.lemmas.List.{length-map, length-set, length-drop, map-set, get_or-map}
 use Rattle.std.proofs.lemmas.List.Sums.{sum_by-cons}
-use Rattle.trace_text.specs.Operation.{Operation}
+use Rattle.rows.specs.Operation.{Operation}
 use Rattle.trace_text.specs.Parsed.{trace_in}
 use Rattle.trace_text.specs.Parts.{longest_value, parts}
 use Rattle.trace_text.specs.Trace.{Trace}
-use Rattle.cache_model.specs.Bodies.{most_of_body}
-use Rattle.cache_model.specs.Apply.{Reply}
-use Rattle.cache_model.specs.Spelled.{spelled}
+use Rattle.rows.specs.Bodies.{most_of_body}
+use Rattle.rows.specs.Apply.{Reply}
+use Rattle.rows.specs.Spelled.{spelled}
 use Rattle.foreign_list.specs.Blocks.{Block}
 use Rattle.run_log.specs.Replies.{Replies}
 use Rattle.shard_rings.specs.Lanes.{LinkEnd, Lanes, Traffic}
@@ -86,7 +86,7 @@ module _ {L G : Type 0} (traffic : L → Traffic) (end : L → LinkEnd) (shard :
       let now = node_state (record shard { peers = vec; log = log; tally = tally }) in
       let one = stray_with traffic (node_state shard) (peer_state old) new.link (record { requests = old.held_request; replies = new.held_reply }) stray stands in
       subst (λ (p : Peer L). StandsWith traffic now (peer_state p)) (sym is)
-      (stays traffic (node_state shard) shard.space shard.journal log (map peer_state vec.items) shard.own.begun shard.request shard.gate tally _ (λ i reply e. e)
+      (stays traffic (node_state shard) shard.store shard.journal log (map peer_state vec.items) shard.own.begun shard.request shard.gate tally _ (λ i reply e. e)
       (record { done = refl; logged = ap (λ (l : Replies). logged_at (node_state (record shard { log = l })) old.shard) same; begun = refl; waiting = refl }) one)
 
   -- what of the blocks is counted

@@ -5,9 +5,9 @@ use Rattle.std.specs.declared.alloc.Global.{Global}
 use Rattle.std.proofs.lemmas.Bool.{cases_order}
 use Rattle.std.proofs.lemmas.List.{length-map, length-set, get_or-map, get_or-set_same, get_or-set_other, get_or_default}
 use Rattle.std.proofs.lemmas.List.Sums.{sum_by-cons, sum_by-set}
-use Rattle.trace_text.specs.Operation.{Operation}
+use Rattle.rows.specs.Operation.{Operation}
 use Rattle.trace_text.specs.Parsed.{trace_in}
-use Rattle.cache_model.specs.Bodies.{most_of_body}
+use Rattle.rows.specs.Bodies.{most_of_body}
 use Rattle.cache_model.specs.OwnParts.{issued_parts}
 use Rattle.run_log.specs.Replies.{Replies}
 use Rattle.shard_rings.specs.Lanes.{LinkEnd, Traffic}
@@ -210,7 +210,7 @@ module _ {L G : Type 0} (traffic : L → Traffic) (end : L → LinkEnd) (shard :
             let after : All (λ (p : Peer L). StandsWith traffic now (peer_state p)) (slice_set items k new) =
             all_but (λ (p : Peer L). StandsWith traffic node (peer_state p)) (λ (p : Peer L). StandsWith traffic now (peer_state p)) items k new m.below before
             (here (subst (λ (p : Peer L). StandsWith traffic node (peer_state p)) m.here (before k old m.below)))
-            (λ j d inside apart one. stays traffic node shard.space shard.journal log (map peer_state vec.items) shard.own.begun shard.request shard.gate tally (peer_state (get_or items j d)) (λ i reply e. e)
+            (λ j d inside apart one. stays traffic node shard.store shard.journal log (map peer_state vec.items) shard.own.begun shard.request shard.gate tally (peer_state (get_or items j d)) (λ i reply e. e)
             (record { done = refl; logged = others (get_or items j d).shard (λ e. peers_differ shard x j k d old inside m.below apart (e ∙ ap (λ (p : Peer L). p.shard) (sym m.here))); begun = refl; waiting = refl }) one) in
             let own : shard.shard ≢ old.shard = λ e. peer_is_other shard x k old m.below (ap (λ (p : Peer L). p.shard) m.here ∙ sym e) in
             all_stand traffic now (record {

@@ -8,12 +8,12 @@ use Rattle.std.proofs.lemmas.List.{length-map, length_push}
 use Rattle.std.proofs.lemmas.List.Sums.{length-filter, sum_by-cons}
 use Rattle.std.proofs.lemmas.Option.{slice_get-map, slice_get_within}
 use Rattle.layout.specs.Sizes.{tickets}
-use Rattle.trace_text.specs.Operation.{Operation}
+use Rattle.rows.specs.Operation.{Operation}
 use Rattle.trace_text.specs.Parts.{parts}
 use Rattle.cache_model.specs.declared.entry.Entry.{Entry}
 use Rattle.cache_model.specs.Legal.{cache_after, reply_at}
 use Rattle.cache_model.specs.OwnParts.{issued_parts}
-use Rattle.cache_model.specs.Row.{floor}
+use Rattle.rows.specs.Row.{floor}
 use Rattle.run_log.specs.JournalState.{JournalState}
 use Rattle.layout.specs.Counts.{raised}
 use Rattle.shard_memory.specs.Tickets.{tickets_out}
@@ -22,8 +22,9 @@ use Rattle.shard_rings.specs.Request.{request}
 use Rattle.shard_rings.specs.declared.link.Packet.{Packet}
 use Rattle.shard_rings.specs.declared.link.Packet.TheVariants.{Block as InBlock, Bye}
 use Rattle.shard_rings.specs.Lanes.{Traffic}
-use Rattle.reclaim.specs.Spaces.{SpaceState}
-use Rattle.reclaim.specs.Works.{EvictsForBlock, floor_of}
+use Rattle.shard_store.specs.Stores.{StoreState}
+use Rattle.shard_store.specs.Works.{floor_of}
+use Rattle.shard_node.specs.inside.Did.{EvictsForBlock}
 use Rattle.shard_node.specs.declared.waiting.Waiting.{Waiting}
 use Rattle.shard_node.specs.Nodes.{NodeState, PeerState}
 use Rattle.shard_node.specs.Due.{due, operations_for, said}
@@ -80,23 +81,23 @@ next-due packets operations operation front there =
     subst (λ ss. IsPrefix ss dues) (sym said_is) (taken-front (k + 1) dues)
 
 -- The next own part, of an operation that another shard does, was begun: its request was made, behind evictions.
-pub record Begins {L G : Type 0} (node : NodeState L G) (space : SpaceState) (journal : JournalState) (begun : ℕ) (waiting : Waiting) (operation : Operation) : Type 0 where
+pub record Begins {L G : Type 0} (node : NodeState L G) (store : StoreState) (journal : JournalState) (begun : ℕ) (waiting : Waiting) (operation : Operation) : Type 0 where
   pub below : node.shard < node.shards
   pub doer_below : waiting.peer < node.shards
   pub other : waiting.peer ≢ node.shard
   pub idle : node.request ≡ None
-  pub few : tickets_out node.space.lent ≤ tickets
-  pub pages : node.space.pages ≡ node.pages
+  pub few : tickets_out node.store.lent ≤ tickets
+  pub pages : node.store.pages ≡ node.pages
   pub next : slice_get (issued_parts node.trace node.shards node.shard) node.begun ≡ Some (operation.number, waiting.peer)
   pub there : slice_get (operations_for node.trace node.shards node.shard waiting.peer) (place_at waiting.peer (issued_parts node.trace node.shards node.shard) node.begun) ≡ Some operation
   pub asks : waiting.block.piece.bytes ≡ request operation
-  pub evicts : EvictsForBlock node.space space node.journal journal
-  pub lends : space.lends ≡ raised node.space.lends 1
-  pub out : space.lends ≡ raised space.backs (tickets_out space.lent)
+  pub evicts : EvictsForBlock node.store store node.journal journal
+  pub lends : store.lends ≡ raised node.store.lends 1
+  pub out : store.lends ≡ raised store.backs (tickets_out store.lent)
   pub one_more : begun ≡ node.begun + 1
 
-module _ {L G : Type 0} (traffic : L → Traffic) (laws : Laws) (node : NodeState L G) (space : SpaceState) (journal : JournalState) (begun : ℕ) (waiting : Waiting) (operation : Operation)
-    (x : Begins node space journal begun waiting operation) where
+module _ {L G : Type 0} (traffic : L → Traffic) (laws : Laws) (node : NodeState L G) (store : StoreState) (journal : JournalState) (begun : ℕ) (waiting : Waiting) (operation : Operation)
+    (x : Begins node store journal begun waiting operation) where
   abbrev n : ℕ
   n = node.shards
 
@@ -116,16 +117,16 @@ module _ {L G : Type 0} (traffic : L → Traffic) (laws : Laws) (node : NodeStat
   puts = x.evicts.evicted
 
   abbrev bound : ℕ
-  bound = floor_of node.space.pages node.space.lent
+  bound = floor_of node.store.pages node.store.lent
 
   abbrev after : NodeState L G
-  after = later traffic node space journal node.log node.peers begun (Some waiting) node.gate node.tally
+  after = later traffic node store journal node.log node.peers begun (Some waiting) node.gate node.tally
 
   grown : journal.entries ≡ entries ++ evictions puts
   grown = x.evicts.recorded.entries
 
   low : floor node.pages ≤ bound
-  low = subst (λ p. floor p ≤ bound) x.pages (floor-low node.space.pages (tickets_out node.space.lent) x.few)
+  low = subst (λ p. floor p ≤ bound) x.pages (floor-low node.store.pages (tickets_out node.store.lent) x.few)
 
   still : (k : ℕ) → reply_at node.trace node.pages journal.entries k ≡ reply_at node.trace node.pages entries k
   still k = ap (λ es. reply_at node.trace node.pages es k) grown ∙ reply-evicted node.trace node.pages entries puts k
@@ -137,12 +138,12 @@ module _ {L G : Type 0} (traffic : L → Traffic) (laws : Laws) (node : NodeStat
   begun_other r other = ap (λ b. filter (λ (part : ℕ × ℕ). part.1 == r) (take b issued)) x.one_more ∙ begun-other q r issued node.begun operation.number x.next other
 
   module _ (itself : StandsItself traffic node) where
-    leads : cache_after node.trace node.pages journal.entries ≡ Some space.rows
+    leads : cache_after node.trace node.pages journal.entries ≡ Some store.rows
     leads =
         ap (cache_after node.trace node.pages) grown
-        ∙ leads-evicted laws node.trace node.pages bound entries node.space.rows space.rows puts itself.journal.legal x.evicts.evicts low
+        ∙ leads-evicted laws node.trace node.pages bound entries node.store.rows store.rows puts itself.journal.legal x.evicts.evicts low
 
-    lent_more : space.lends ≡ raised 0 (count_by (λ part. not (part.1 == s)) (take begun issued) + of_others n s journal.entries)
+    lent_more : store.lends ≡ raised 0 (count_by (λ part. not (part.1 == s)) (take begun issued) + of_others n s journal.entries)
     lent_more =
         let asked : count_by (λ part. not (part.1 == s)) (take begun issued) ≡ count_by (λ part. not (part.1 == s)) (take node.begun issued) + 1 =
         ap (λ b. count_by (λ part. not (part.1 == s)) (take b issued)) x.one_more ∙ asked-more q s issued node.begun operation.number x.next x.other in
@@ -165,18 +166,18 @@ module _ {L G : Type 0} (traffic : L → Traffic) (laws : Laws) (node : NodeStat
     }
 
   abbrev evicted : NodeState L G
-  evicted = later traffic node space journal node.log node.peers node.begun node.request node.gate node.tally
+  evicted = later traffic node store journal node.log node.peers node.begun node.request node.gate node.tally
 
   -- rows went
   peer_evicts : (peer : PeerState L) → StandsWith traffic node peer → StandsWith traffic evicted peer
   peer_evicts peer =
-      stays traffic node space journal node.log node.peers node.begun node.request node.gate node.tally peer (λ j reply e. still j ∙ e)
+      stays traffic node store journal node.log node.peers node.begun node.request node.gate node.tally peer (λ j reply e. still j ∙ e)
       (record { done = done_same peer.shard; logged = refl; begun = refl; waiting = refl })
 
   -- nothing was begun for this peer
   other_stays : (peer : PeerState L) → peer.shard ≢ q → StandsWith traffic evicted peer → StandsWith traffic after peer
   other_stays peer other =
-      stays traffic evicted space journal node.log node.peers begun (Some waiting) node.gate node.tally peer (λ j reply e. e)
+      stays traffic evicted store journal node.log node.peers begun (Some waiting) node.gate node.tally peer (λ j reply e. e)
       (record {
         done = refl;
         logged = refl;

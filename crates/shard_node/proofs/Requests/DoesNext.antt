@@ -4,11 +4,11 @@ use Rattle.std.specs.List.{list_any}
 use Rattle.std.specs.Option.{option_map}
 use Rattle.std.proofs.lemmas.Bool.{cases_eq}
 use Rattle.layout.specs.Sizes.{tickets}
-use Rattle.trace_text.specs.Operation.{Operation}
+use Rattle.rows.specs.Operation.{Operation}
 use Rattle.trace_text.specs.Parts.{origin}
-use Rattle.cache_model.specs.Apply.{Reply}
+use Rattle.rows.specs.Apply.{Reply}
 use Rattle.cache_model.specs.Legal.{cache_after, command_of, is_done, reply_at}
-use Rattle.cache_model.specs.Row.{floor}
+use Rattle.rows.specs.Row.{floor}
 use Rattle.foreign_list.specs.Blocks.{Block}
 use Rattle.run_log.specs.JournalState.{JournalState}
 use Rattle.layout.specs.Counts.{raised}
@@ -17,8 +17,9 @@ use Rattle.shard_rings.specs.Reply.{HoldsReply}
 use Rattle.shard_rings.specs.Request.{request}
 use Rattle.shard_rings.specs.declared.link.Packet.{Packet}
 use Rattle.shard_rings.specs.Lanes.{Traffic}
-use Rattle.reclaim.specs.Spaces.{SpaceState}
-use Rattle.reclaim.specs.Works.{DoesAbove, floor_of}
+use Rattle.shard_store.specs.Stores.{StoreState}
+use Rattle.shard_store.specs.Works.{floor_of}
+use Rattle.shard_node.specs.inside.Did.{DoesAbove}
 use Rattle.shard_node.specs.Nodes.{NodeState, PeerState}
 use Rattle.shard_node.specs.Due.{due, is_next, is_same, operations_for, requests_taken, said}
 use Rattle.shard_node.specs.Standing.{InStanding, done_for, one_if}
@@ -48,15 +49,15 @@ replies-on reply reply' i none other j answer is = elim (cases_eq j i) [
 
 module _ {L G : Type 0} (traffic : L → Traffic) where
   -- The next request of a peer was done above the floor, and its reply waits to be sent.
-  pub record DoesNext (node : NodeState L G) (a : PeerState L) (space : SpaceState) (journal : JournalState) (packet : Packet) (operation : Operation) (block : Block) (answer : Reply) : Type 0 where
+  pub record DoesNext (node : NodeState L G) (a : PeerState L) (store : StoreState) (journal : JournalState) (packet : Packet) (operation : Operation) (block : Block) (answer : Reply) : Type 0 where
     pub unheard : a.keeps.has_heard_bye ≡ false
     pub idle : a.reply ≡ None
     pub first : slice_get a.keeps.asks 0 ≡ Some operation
     pub same : is_same (Some (request operation)) (said packet) ≡ true
-    pub does : DoesAbove (floor_of node.space.pages node.space.lent) operation answer node.space space node.journal journal
+    pub does : DoesAbove (floor_of node.store.pages node.store.lent) operation answer node.store store node.journal journal
     pub holds : HoldsReply block.piece.bytes operation.number answer
-    pub lends : space.lends ≡ raised node.space.lends 1
-    pub out : space.lends ≡ raised space.backs (tickets_out space.lent)
+    pub lends : store.lends ≡ raised node.store.lends 1
+    pub out : store.lends ≡ raised store.backs (tickets_out store.lent)
 
   -- what holds of a node whatever came
   pub record IsApart (node : NodeState L G) (k : ℕ) (a : PeerState L) : Type 0 where
@@ -67,18 +68,18 @@ module _ {L G : Type 0} (traffic : L → Traffic) where
     pub differs : (j : ℕ) (d : PeerState L) → j < length node.peers → j ≢ k → (get_or node.peers j d).shard ≢ a.shard
     pub many : node.shards ≡ 1 → ⊥
     pub numbered : IsNumbered node.trace.operations
-    pub pages : node.space.pages ≡ node.pages
-    pub few : tickets_out node.space.lent ≤ tickets
+    pub pages : node.store.pages ≡ node.pages
+    pub few : tickets_out node.store.lent ≤ tickets
 
   pub request_done : (laws : Laws) → TellsNumbers → (node : NodeState L G) (k : ℕ) (a : PeerState L) → IsApart node k a
       → (link : L) (held : Option Block) (packet : Packet) (tally : ℕ) → Receives traffic node a link held packet tally
-      → (space : SpaceState) (journal : JournalState) (asks : List Operation) (operation : Operation) (block : Block) (answer : Reply)
-      → DoesNext node a space journal packet operation block answer → asks ≡ drop 1 a.keeps.asks
-      → InStanding traffic node → InStanding traffic (record node { space = space; journal = journal; peers = slice_set node.peers k (served a link held block asks); tally = tally })
-  request_done laws tells node k a apart link held packet tally r space journal asks operation block answer d left stands =
+      → (store : StoreState) (journal : JournalState) (asks : List Operation) (operation : Operation) (block : Block) (answer : Reply)
+      → DoesNext node a store journal packet operation block answer → asks ≡ drop 1 a.keeps.asks
+      → InStanding traffic node → InStanding traffic (record node { store = store; journal = journal; peers = slice_set node.peers k (served a link held block asks); tally = tally })
+  request_done laws tells node k a apart link held packet tally r store journal asks operation block answer d left stands =
       let b = served a link held block asks in
       let peers = slice_set node.peers k b in
-      let now = later traffic node space journal node.log peers node.begun node.request node.gate tally in
+      let now = later traffic node store journal node.log peers node.begun node.request node.gate tally in
       let i = operation.number in
       let n = node.shards in
       let dues = due node.trace n a.shard node.shard in
@@ -92,11 +93,11 @@ module _ {L G : Type 0} (traffic : L → Traffic) where
       let none : list_any (is_done i) node.journal.entries ≡ false = not-done tells node.trace n a.shard node.shard taken node.journal.entries operation apart.numbered x.served here in
       let puts = d.does.evicted in
       let entries : journal.entries ≡ node.journal.entries ++ then_done puts i = d.does.recorded.entries in
-      let bound = floor_of node.space.pages node.space.lent in
-      let low : floor node.pages ≤ bound = subst (λ p. floor p ≤ bound) apart.pages (floor-low node.space.pages (tickets_out node.space.lent) apart.few) in
-      let legal : cache_after node.trace node.pages journal.entries ≡ Some space.rows =
+      let bound = floor_of node.store.pages node.store.lent in
+      let low : floor node.pages ≤ bound = subst (λ p. floor p ≤ bound) apart.pages (floor-low node.store.pages (tickets_out node.store.lent) apart.few) in
+      let legal : cache_after node.trace node.pages journal.entries ≡ Some store.rows =
       ap (cache_after node.trace node.pages) entries
-      ∙ (leads-more laws node.trace node.pages bound i node.journal.entries node.space.rows d.does.rest puts operation command stands.journal.legal d.does.evicts low ∙ ap Some (sym d.does.rows)) in
+      ∙ (leads-more laws node.trace node.pages bound i node.journal.entries node.store.rows d.does.rest puts operation command stands.journal.legal d.does.evicts low ∙ ap Some (sym d.does.rows)) in
       let reply = reply_at node.trace node.pages node.journal.entries in
       let reply' = reply_at node.trace node.pages journal.entries in
       let others : (j : ℕ) → j ≢ i → reply' j ≡ reply j =
@@ -105,13 +106,13 @@ module _ {L G : Type 0} (traffic : L → Traffic) where
       let on : Replies_on traffic node journal = replies-on reply reply' i unanswered others in
       let replied : reply' i ≡ Some answer =
       ap (λ es. reply_at node.trace node.pages es i) entries
-      ∙ (reply-of laws node.trace node.pages bound i node.journal.entries node.space.rows d.does.rest puts operation none command stands.journal.legal d.does.evicts low ∙ ap Some (sym d.does.reply)) in
+      ∙ (reply-of laws node.trace node.pages bound i node.journal.entries node.store.rows d.does.rest puts operation none command stands.journal.legal d.does.evicts low ∙ ap Some (sym d.does.reply)) in
       let done : done_for n a.shard journal.entries ≡ done_for n a.shard node.journal.entries ++ i ∷ [] =
       ap (done_for n a.shard) entries ∙ done_for-more n a.shard node.journal.entries puts i from in
       let done_other : (o : ℕ) → a.shard ≢ o → done_for n o journal.entries ≡ done_for n o node.journal.entries =
       λ o other. ap (done_for n o) entries ∙ done_for-other n o node.journal.entries puts i (λ e. other (sym from ∙ e)) in
       let next : is_next dues taken packet ≡ true = is-due traffic node a link held packet tally r d.unheard x ∙ (ap (λ o. is_same (option_map request o) (said packet)) d.first ∙ d.same) in
-      let with_it = served_with traffic node a peers link (record a.held { requests = held }) space journal tally asks packet operation block answer (record {
+      let with_it = served_with traffic node a peers link (record a.held { requests = held }) store journal tally asks packet operation block answer (record {
         sent = r.sent;
         received = r.received;
         next = next;
@@ -136,5 +137,5 @@ module _ {L G : Type 0} (traffic : L → Traffic) where
         received = receives_one traffic node now k a b a (one_if (block_of packet)) 0 (one_if held) apart.within (apart.here a) refl
             (blocks-came traffic node a link held packet tally r b refl) (blocks-held traffic node a link held packet tally r b refl) (tried traffic node a link held packet tally r) stands.kept.received;
       }) (all_but (StandsWith traffic node) (StandsWith traffic now) node.peers k b apart.within each with_it
-      (λ j e inside away x. stays traffic node space journal node.log peers node.begun node.request node.gate tally (get_or node.peers j e) on
+      (λ j e inside away x. stays traffic node store journal node.log peers node.begun node.request node.gate tally (get_or node.peers j e) on
       (record { done = done_other (get_or node.peers j e).shard (λ same. apart.differs j e inside away (sym same)); logged = refl; begun = refl; waiting = refl }) x))

@@ -1,27 +1,25 @@
 -- What a peer asks next, and what becomes of a block that came.
-use Rattle.std.proofs.Common.{◌≡◌, ℕ, true, false, List, ◌∷◌, drop, slice_get, refl, sym, ap, subst, ◌∙◌, Option, Some, None, Result, Ok, Err, IsErr, IfOk, Decides}
+use Rattle.std.proofs.Common.{◌≡◌, ℕ, true, false, List, ◌∷◌, drop, slice_get, refl, sym, ap, subst, ◌∙◌, Option, Some, None, Decides}
 use Rattle.std.specs.List.{Contains}
-use Rattle.std.specs.Result.{result_ok}
 use Rattle.std.specs.Option.{option_map}
 use Rattle.std.specs.Str.{bytes_eq}
 use Rattle.std.proofs.lemmas.Bool.Decides.{same_from_decides}
 use Rattle.std.proofs.lemmas.Slice.Eq.{bytes_eq-Decides}
-use Rattle.trace_text.specs.Operation.{Operation}
+use Rattle.rows.specs.Operation.{Operation}
 use Rattle.trace_text.specs.Parsed.{trace_in}
-use Rattle.cache_model.specs.Apply.{Reply, apply}
-use Rattle.cache_model.specs.Row.{Row}
+use Rattle.rows.specs.Apply.{Reply, apply}
+use Rattle.rows.specs.Row.{Row}
 use Rattle.foreign_list.specs.Blocks.{Block}
 use Rattle.run_log.specs.JournalState.{JournalState}
-use Rattle.shard_memory.specs.Tickets.{HasIdle}
 use Rattle.shard_memory.specs.declared.share.Share.TheVariants as shares
-use Rattle.shard_rings.specs.Ask.{on_no_line}
 use Rattle.shard_rings.specs.Reply.{HoldsReply}
 use Rattle.shard_rings.specs.Request.{request}
 use Rattle.shard_rings.specs.declared.link.Packet.{Packet}
 use Rattle.shard_rings.specs.declared.link.Packet.TheVariants.{Block as InBlock}
-use Rattle.reclaim.specs.Lending.{LendsBlock}
-use Rattle.reclaim.specs.Spaces.{SpaceState}
-use Rattle.reclaim.specs.Works.{DoesAbove, floor_of}
+use Rattle.shard_store.specs.Lending.{LendsBlock}
+use Rattle.shard_store.specs.Stores.{StoreState}
+use Rattle.shard_store.specs.Works.{floor_of}
+use Rattle.shard_node.specs.inside.Did.{DoesAbove}
 use Rattle.shard_parts.specs.declared.stray_packet.Tried.{Tried}
 use Rattle.shard_parts.specs.declared.stray_packet.Tried.TheVariants.{Nothing, Expected, Other}
 use Rattle.shard_parts.specs.declared.peer.Peer.{Peer}
@@ -42,54 +40,50 @@ module _ {L : Type 0} where
   next-is old operation is = ap (λ os. slice_get os 0) is
 
   -- whether bytes are the request that is due
-  pub same-due : (old : Peer L) (operation asked : Operation) (bytes : List ℕ) → old.asks.left ≡ operation ∷ drop 1 old.asks.left → asked ≡ on_no_line operation
+  pub same-due : (old : Peer L) (operation asked : Operation) (bytes : List ℕ) → old.asks.left ≡ operation ∷ drop 1 old.asks.left → asked ≡ operation
       → is_same (due_next old) (Some bytes) ≡ bytes_eq bytes (request asked)
   same-due old operation asked bytes is line =
       ap (λ o. is_same (option_map request o) (Some bytes)) (next-is old operation is) ∙ bytes-same (request operation) bytes ∙ ap (λ o. bytes_eq bytes (request o)) (sym line)
 
   -- another packet
-  pub set-stray : (packet : Packet) (old : Peer L) (space : SpaceState) (journal : JournalState) (result : Tried) (found : ℕ)
+  pub set-stray : (packet : Packet) (old : Peer L) (store : StoreState) (journal : JournalState) (result : Tried) (found : ℕ)
       → result ≡ Other (record { peer = old.shard; expected = number_said (due_next old); found = found }) → found ≡ number_in packet
-      → is_same (due_next old) (said packet) ≡ false → EndsRequest packet old old space space journal journal result
-  set-stray packet old space journal result found is number other =
-      subst (EndsRequest packet old old space space journal journal) (sym is) (record {
+      → is_same (due_next old) (said packet) ≡ false → EndsRequest packet old old store store journal journal result
+  set-stray packet old store journal result found is number other =
+      subst (EndsRequest packet old old store store journal journal) (sym is) (record {
         other = other;
         asks = refl;
         heard = refl;
         reply = refl;
-        same_space = refl;
+        same_store = refl;
         same_journal = refl;
         stray = ap (λ n. record { peer = old.shard; expected = number_said (due_next old); found = n }) number;
       })
 
-  -- What was asked is done as the command is, where a ticket for its reply is idle: it leaves the commands that the peer will ask,
-  -- and its reply waits in a block, or there was none to be lent.
-  pub record AnswersAsk {E : Type 0} (old new : Peer L) (operation asked : Operation) (result : Result Block E)
-      (space space' : SpaceState) (journal journal' : JournalState) : Type 0 where
+  -- What was asked is done as the command is: it leaves the commands that the peer will ask, and its reply waits in this block.
+  pub record AnswersAsk (old new : Peer L) (operation asked : Operation) (block : Block) (store store' : StoreState) (journal journal' : JournalState) : Type 0 where
     pub of_trace : Contains (trace_in old.asks.trace).operations operation
-    pub line : asked ≡ on_no_line operation
+    pub line : asked ≡ operation
     pub same : (cache : List Row) → apply asked cache ≡ apply operation cache
-    pub idle : HasIdle space.lent shares.Reply
-    pub none : IsErr result → ¬ HasIdle space.lent shares.Reply
-    pub replied : IfOk result (λ block. (answer : Reply) × HoldsReply block.piece.bytes asked.number answer
-        × DoesAbove (floor_of space.pages space.lent) asked answer space space' journal journal')
-    pub lends : IfOk result (LendsBlock shares.Reply space space')
-    pub reply : new.reply ≡ result_ok result
+    pub replied : (answer : Reply) × HoldsReply block.piece.bytes asked.number answer
+        × DoesAbove (floor_of store.pages store.lent) asked answer store store' journal journal'
+    pub lends : LendsBlock shares.Reply store store' block
+    pub reply : new.reply ≡ Some block
     pub left : new.asks.left ≡ drop 1 old.asks.left
     pub trace : new.asks.trace ≡ old.asks.trace
     pub origin : new.asks.origin ≡ old.asks.origin
     pub shard : new.asks.shard ≡ old.asks.shard
     pub heard : new.has_heard_bye ≡ old.has_heard_bye
 
-  is-done-for : {E : Type 0} (old new : Peer L) (operation asked : Operation) (result : Result Block E) (space space' : SpaceState) (journal journal' : JournalState)
-      → AnswersAsk old new operation asked result space space' journal journal' → IsDoneFor operation old new space space' journal journal'
-  is-done-for old new operation asked (Ok block) space space' journal journal' a = record {
+  is-done-for : (old new : Peer L) (operation asked : Operation) (block : Block) (store store' : StoreState) (journal journal' : JournalState)
+      → AnswersAsk old new operation asked block store store' journal journal' → IsDoneFor operation old new store store' journal journal'
+  is-done-for old new operation asked block store store' journal journal' a = record {
     of_trace = a.of_trace;
     reply = block;
     answer = a.replied.0;
     waits = a.reply;
     holds = subst (λ n. HoldsReply block.piece.bytes n a.replied.0) (same_number asked operation a.line) a.replied.1;
-    does = does_operation asked operation a.line a.same (floor_of space.pages space.lent) a.replied.0 space space' journal journal' a.replied.2;
+    does = does_operation asked operation a.line a.same (floor_of store.pages store.lent) a.replied.0 store store' journal journal' a.replied.2;
     lends = a.lends;
     left = a.left;
     trace = a.trace;
@@ -97,26 +91,25 @@ module _ {L : Type 0} where
     shard = a.shard;
     heard = a.heard;
   }
-  is-done-for old new operation asked (Err e) space space' journal journal' a = absurd (a.none refl a.idle)
 
   -- the request came that was due
-  pub answered : {E : Type 0} (old new : Peer L) (block : Block) (operation asked : Operation) (result : Result Block E) (space space' : SpaceState) (journal journal' : JournalState)
-      → old.asks.left ≡ operation ∷ drop 1 old.asks.left → bytes_eq block.piece.bytes (request asked) ≡ true
-      → AnswersAsk old new operation asked result space space' journal journal'
-      → EndsRequest (InBlock block) old new space space' journal journal' Expected
-  answered old new block operation asked result space space' journal journal' is bytes a = (
-    same-due old operation asked block.piece.bytes is a.line ∙ bytes,
-    subst (λ o. EndsExpected o old new space space' journal journal') (sym (next-is old operation is))
-        (is-done-for old new operation asked result space space' journal journal' a),
+  pub answered : (old new : Peer L) (came : Block) (operation asked : Operation) (block : Block) (store store' : StoreState) (journal journal' : JournalState)
+      → old.asks.left ≡ operation ∷ drop 1 old.asks.left → bytes_eq came.piece.bytes (request asked) ≡ true
+      → AnswersAsk old new operation asked block store store' journal journal'
+      → EndsRequest (InBlock came) old new store store' journal journal' Expected
+  answered old new came operation asked block store store' journal journal' is bytes a = (
+    same-due old operation asked came.piece.bytes is a.line ∙ bytes,
+    subst (λ o. EndsExpected o old new store store' journal journal') (sym (next-is old operation is))
+        (is-done-for old new operation asked block store store' journal journal' a),
   )
 
   -- what becomes of the packet does not rest on the link
-  pub relinked : (packet : Packet) (old new : Peer L) (link : L) (space space' : SpaceState) (journal journal' : JournalState) (result : Tried)
-      → EndsRequest packet (record old { link = link }) new space space' journal journal' result → EndsRequest packet old new space space' journal journal' result
-  relinked packet old new link space space' journal journal' Nothing ends = ends
-  relinked packet old new link space space' journal journal' Expected ends = (ends.0, go (next_ask old) ends.1)
+  pub relinked : (packet : Packet) (old new : Peer L) (link : L) (store store' : StoreState) (journal journal' : JournalState) (result : Tried)
+      → EndsRequest packet (record old { link = link }) new store store' journal journal' result → EndsRequest packet old new store store' journal journal' result
+  relinked packet old new link store store' journal journal' Nothing ends = ends
+  relinked packet old new link store store' journal journal' Expected ends = (ends.0, go (next_ask old) ends.1)
     where
-      go : (next : Option Operation) → EndsExpected next (record old { link = link }) new space space' journal journal' → EndsExpected next old new space space' journal journal'
+      go : (next : Option Operation) → EndsExpected next (record old { link = link }) new store store' journal journal' → EndsExpected next old new store store' journal journal'
       go (Some operation) done = record {
         of_trace = done.of_trace;
         reply = done.reply;
@@ -131,13 +124,13 @@ module _ {L : Type 0} where
         shard = done.shard;
         heard = done.heard;
       }
-      go None hears = record { heard = hears.heard; asks = hears.asks; reply = hears.reply; same_space = hears.same_space; same_journal = hears.same_journal }
-  relinked packet old new link space space' journal journal' (Other stray) none = record {
+      go None hears = record { heard = hears.heard; asks = hears.asks; reply = hears.reply; same_store = hears.same_store; same_journal = hears.same_journal }
+  relinked packet old new link store store' journal journal' (Other stray) none = record {
     other = none.other;
     asks = none.asks;
     heard = none.heard;
     reply = none.reply;
-    same_space = none.same_space;
+    same_store = none.same_store;
     same_journal = none.same_journal;
     stray = none.stray;
   }

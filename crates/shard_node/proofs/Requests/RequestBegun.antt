@@ -14,8 +14,9 @@ use Rattle.layout.specs.Counts.{raised}
 use Rattle.shard_memory.specs.Tickets.{tickets_out}
 use Rattle.shard_rings.specs.Lanes.{LinkEnd, Traffic}
 use Rattle.shard_rings.specs.Request.{request}
-use Rattle.reclaim.specs.Spaces.{SpaceState}
-use Rattle.reclaim.specs.Works.{EvictsForBlock, floor_of}
+use Rattle.shard_store.specs.Stores.{StoreState}
+use Rattle.shard_store.specs.Works.{floor_of}
+use Rattle.shard_node.specs.inside.Did.{EvictsForBlock}
 use Rattle.shard_parts.specs.declared.peer.Peer.{Peer}
 use Rattle.shard_node.specs.declared.shard.Shard.{Shard}
 use Rattle.shard_node.specs.declared.waiting.Waiting.{Waiting}
@@ -36,26 +37,26 @@ use Rattle.shard_node.proofs.Requests.SendsRequest.{waits-for, waits-not}
 use Rattle.part_lemmas.proofs.OwnParts.ShortRows.{short-left}
 
 -- The request of the next own part, of this command, was made, and waits: the part is begun.
-pub record MakesRequest {L G : Type 0} (shard : Shard L G) (space : SpaceState) (journal : JournalState) (own : OwnState) (waiting : Waiting) (command : Command) : Type 0 where
+pub record MakesRequest {L G : Type 0} (shard : Shard L G) (store : StoreState) (journal : JournalState) (own : OwnState) (waiting : Waiting) (command : Command) : Type 0 where
   pub are_numbered : AreNumbered shard.trace.now.commands
   pub of_trace : Contains shard.trace.now.commands command
   pub idle : shard.request ≡ None
   pub next : slice_get (issued_by shard) shard.own.begun ≡ Some (command.number, waiting.peer)
   pub other : waiting.peer ≢ shard.shard
   pub below : waiting.peer < shard.shards
-  pub few : tickets_out shard.space.lent ≤ tickets
+  pub few : tickets_out shard.store.lent ≤ tickets
   pub asks : waiting.block.piece.bytes ≡ request (operation shard.trace.now.bytes command)
-  pub evicts : EvictsForBlock shard.space space shard.journal journal
-  pub lends : space.lends ≡ raised shard.space.lends 1
-  pub out : space.lends ≡ raised space.backs (tickets_out space.lent)
+  pub evicts : EvictsForBlock shard.store store shard.journal journal
+  pub lends : store.lends ≡ raised shard.store.lends 1
+  pub out : store.lends ≡ raised store.backs (tickets_out store.lent)
   pub own_trace : own.trace ≡ shard.own.trace
   pub own_shard : own.shard ≡ shard.own.shard
   pub own_begun : own.begun ≡ shard.own.begun + 1
 
-module _ {L G : Type 0} (traffic : L → Traffic) (end : L → LinkEnd) (laws : Laws) (peers : AreOfPeers) (counts : CountsRows) (shard : Shard L G) (space : SpaceState) (journal : JournalState)
-    (own : OwnState) (waiting : Waiting) (command : Command) (x : IsConsistent shard) (did : MakesRequest shard space journal own waiting command) where
+module _ {L G : Type 0} (traffic : L → Traffic) (end : L → LinkEnd) (laws : Laws) (peers : AreOfPeers) (counts : CountsRows) (shard : Shard L G) (store : StoreState) (journal : JournalState)
+    (own : OwnState) (waiting : Waiting) (command : Command) (x : IsConsistent shard) (did : MakesRequest shard store journal own waiting command) where
   abbrev now : Shard L G
-  now = record shard { space = space; journal = journal; own = own; request = Some waiting }
+  now = record shard { store = store; journal = journal; own = own; request = Some waiting }
 
   abbrev n : ℕ
   n = shard.shards
@@ -71,7 +72,7 @@ module _ {L G : Type 0} (traffic : L → Traffic) (end : L → LinkEnd) (laws : 
 
   room_now : HasRoom now
   room_now =
-      let count = counts (floor_of shard.space.pages shard.space.lent) shard.space.rows space.rows did.evicts.evicted did.evicts.evicts in
+      let count = counts (floor_of shard.store.pages shard.store.lent) shard.store.rows store.rows did.evicts.evicted did.evicts.evicts in
       let spare = did.evicts.recorded.spare in
       let entries = length-map did.evicts.evicted (λ put. Evicted put) in
       let most = did.evicts.same.room in
@@ -136,7 +137,7 @@ module _ {L G : Type 0} (traffic : L → Traffic) (end : L → LinkEnd) (laws : 
     waits = λ w is. subst (λ (v : Waiting). Contains (others n s) v.peer) (same_Some waiting w is) (other-there n s q did.below did.other);
     asked = λ k d below. asked_now (get_or shard.peers.items k d) (x.asked k d below);
     room = room_now;
-    short = short-left shard.longest (floor_of shard.space.pages shard.space.lent) shard.space.rows space.rows did.evicts.evicted did.evicts.evicts x.short;
+    short = short-left shard.longest (floor_of shard.store.pages shard.store.lent) shard.store.rows store.rows did.evicts.evicted did.evicts.evicts x.short;
     one_each = x.one_each;
     own_unanswered = λ k i from there. let more = did.own_begun in x.own_unanswered k i (omega (arith, more, from)) there;
     unanswered = x.unanswered;
@@ -145,7 +146,7 @@ module _ {L G : Type 0} (traffic : L → Traffic) (end : L → LinkEnd) (laws : 
   pub request_begun : IsStep traffic end shard now
   request_begun = record {
     consistent = consistent;
-    standing = begins traffic laws (node_state shard) space journal own.begun waiting (operation shard.trace.now.bytes command)
+    standing = begins traffic laws (node_state shard) store journal own.begun waiting (operation shard.trace.now.bytes command)
         (record {
           below = x.within;
           doer_below = did.below;

@@ -8,7 +8,7 @@ use Rattle.std.proofs.lemmas.Bool.{eq-eqb, ne_eqb}
 use Rattle.std.proofs.lemmas.List.{get_or-map, length-append, length-map, length-set, length-take, length_push, map-set, map_push, same_from_push}
 use Rattle.std.proofs.lemmas.List.Sums.{count_by-le-length, length-filter}
 use Rattle.std.proofs.lemmas.Option.{get_or_from_slice_get, slice_get_within}
-use Rattle.trace_text.specs.Operation.{Operation}
+use Rattle.rows.specs.Operation.{Operation}
 use Rattle.trace_text.specs.Parsed.{trace_in}
 use Rattle.trace_text.specs.Parts.{parts}
 use Rattle.cache_model.specs.Legal.{reply_at}
@@ -169,7 +169,7 @@ module _ {L G : Type 0} (traffic : L → Traffic) (end : L → LinkEnd) (shard :
         requests = ap (λ (ps : Lanes (List Packet)). requests_taken (due trace shard.shards old.shard shard.shard) ps.requests) refused.received;
         replies = λ rs left takes. subst (λ (ps : Lanes (List Packet)). Takes trace (operations_for trace shard.shards shard.shard old.shard) ps.replies rs) (sym refused.received) takes;
       }) stands in
-      stays traffic node shard.space shard.journal shard.log (map peer_state vec.items) shard.own.begun shard.request shard.gate shard.tally (peer_state new) (λ i reply e. e)
+      stays traffic node shard.store shard.journal shard.log (map peer_state vec.items) shard.own.begun shard.request shard.gate shard.tally (peer_state new) (λ i reply e. e)
       (record { done = refl; logged = refl; begun = refl; waiting = refl }) one)
       (receives_one traffic node (node_state (record shard { peers = vec })) k (peer_state old) (peer_state new) (peer_state old) 0 0 0
       (let long = length-map shard.peers.items (peer_state {L = L}) in omega (arith, long, below))
@@ -286,7 +286,7 @@ module _ {L G : Type 0} (traffic : L → Traffic) (end : L → LinkEnd) (shard :
         all_but (λ (p : Peer L). StandsWith traffic node (peer_state p)) (λ (p : Peer L). StandsWith traffic (node_state after) (peer_state p)) items k new below before
         (sent_to traffic node (map peer_state vec.items) (peer_state old) link waiting is same sent
         (subst (λ (p : Peer L). StandsWith traffic node (peer_state p)) here (before k old below)))
-        (λ j d less other one. stays traffic node shard.space shard.journal shard.log (map peer_state vec.items) shard.own.begun None shard.gate shard.tally (peer_state (get_or items j d)) (λ i reply e. e)
+        (λ j d less other one. stays traffic node shard.store shard.journal shard.log (map peer_state vec.items) shard.own.begun None shard.gate shard.tally (peer_state (get_or items j d)) (λ i reply e. e)
         (record { done = refl; logged = refl; begun = refl; waiting = sym (waits-not shard.request waiting (get_or items j d).shard is (apart j d less other)) }) one) in
         all_stand traffic (node_state after) (record {
           journal = record { legal = stands.journal.legal; pressure = stands.journal.pressure };

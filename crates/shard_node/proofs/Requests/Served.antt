@@ -3,13 +3,13 @@ use mathlib.Core.List.{IsPrefix}
 use Rattle.std.proofs.Common.{◌≡◌, ◌↔◌, ℕ, zero, suc, ◌+◌, ◌<◌, List, [], ◌∷◌, ◌++◌, length, map, take, drop, slice_get, arith, true, false, sym, ap, subst, ◌∙◌, append-nil, true≢false, Option, Some, None, if◌then◌else◌}
 use Rattle.std.proofs.lemmas.List.{length-append, length-map}
 use Rattle.std.proofs.lemmas.Option.{slice_get_within}
-use Rattle.trace_text.specs.Operation.{Operation}
+use Rattle.rows.specs.Operation.{Operation}
 use Rattle.trace_text.specs.Parts.{parts}
-use Rattle.cache_model.specs.Apply.{Reply}
+use Rattle.rows.specs.Apply.{Reply}
 use Rattle.cache_model.specs.Legal.{reply_at}
 use Rattle.foreign_list.specs.Blocks.{Block}
 use Rattle.run_log.specs.JournalState.{JournalState}
-use Rattle.reclaim.specs.Spaces.{SpaceState}
+use Rattle.shard_store.specs.Stores.{StoreState}
 use Rattle.shard_rings.specs.Lanes.{Lanes, adds, Traffic}
 use Rattle.shard_rings.specs.Reply.{HoldsReply}
 use Rattle.shard_rings.specs.Request.{request}
@@ -72,13 +72,13 @@ module _ {L G : Type 0} (traffic : L → Traffic) where
     pub holds : HoldsReply block.piece.bytes operation.number answer
 
   -- what the peer's standing is where its next request was done, and the reply waits
-  pub served_with : (node : NodeState L G) (a : PeerState L) (peers : List (PeerState L)) (link : L) (held : Lanes (Option Block)) (space : SpaceState) (journal : JournalState) (tally : ℕ)
+  pub served_with : (node : NodeState L G) (a : PeerState L) (peers : List (PeerState L)) (link : L) (held : Lanes (Option Block)) (store : StoreState) (journal : JournalState) (tally : ℕ)
       (asks : List Operation) (packet : Packet) (operation : Operation) (block : Block) (answer : Reply)
       → DidRequest node a link journal packet operation block answer → asks ≡ drop 1 a.keeps.asks
       → StandsWith traffic node a
-      → StandsWith traffic (later traffic node space journal node.log peers node.begun node.request node.gate tally)
+      → StandsWith traffic (later traffic node store journal node.log peers node.begun node.request node.gate tally)
       (record a { link = link; held = held; reply = Some block; keeps = record a.keeps { asks = asks } })
-  served_with node a peers link held space journal tally asks packet operation block answer did left x =
+  served_with node a peers link held store journal tally asks packet operation block answer did left x =
       let reply = reply_at node.trace node.pages journal.entries in
       let requests = ap (λ (ps : Lanes (List Packet)). ps.requests) did.sent in
       let replies = ap (λ (ps : Lanes (List Packet)). ps.replies) did.sent in

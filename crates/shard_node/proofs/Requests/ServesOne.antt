@@ -6,9 +6,9 @@ use Rattle.std.specs.Vec.{with_item}
 use Rattle.std.proofs.lemmas.List.{get_or-map, length-append, length-map, length-set, map-set}
 use Rattle.std.proofs.lemmas.List.Sums.{count_by-le-length, get_or-le-sum_by, sum_by-set}
 use Rattle.layout.specs.Sizes.{tickets}
-use Rattle.trace_text.specs.Operation.{Operation}
+use Rattle.rows.specs.Operation.{Operation, is_put}
 use Rattle.trace_text.specs.Parsed.{AreNumbered, IsWellFormed, Parsed, trace_in}
-use Rattle.trace_text.specs.Parts.{is_put, longest_value}
+use Rattle.trace_text.specs.Parts.{longest_value}
 use Rattle.cache_model.specs.declared.entry.Entry.TheVariants.{Done, Evicted}
 use Rattle.foreign_list.specs.Blocks.{Block}
 use Rattle.run_log.specs.JournalState.{JournalState}
@@ -18,8 +18,8 @@ use Rattle.shard_rings.specs.Lanes.{LinkEnd, Traffic}
 use Rattle.shard_rings.specs.Request.{request}
 use Rattle.shard_rings.specs.declared.link.Lane.TheVariants as lanes
 use Rattle.shard_rings.specs.declared.link.Packet.{Packet}
-use Rattle.reclaim.specs.Spaces.{SpaceState}
-use Rattle.reclaim.specs.Works.{floor_of}
+use Rattle.shard_store.specs.Stores.{StoreState}
+use Rattle.shard_store.specs.Works.{floor_of}
 use Rattle.shard_parts.specs.declared.stray_packet.StrayPacket.{StrayPacket}
 use Rattle.shard_parts.specs.declared.stray_packet.Tried.{Tried}
 use Rattle.shard_parts.specs.declared.stray_packet.Tried.TheVariants.{Nothing, Expected, Other}
@@ -80,8 +80,8 @@ module _ {L G : Type 0} (traffic : L → Traffic) (end : L → LinkEnd) (shard :
   states = map peer_state peers
 
   -- the shard where the peer is as it is now
-  abbrev moved : SpaceState → JournalState → ℕ → Shard L G
-  moved space journal tally = record shard { space = space; journal = journal; peers = with_item shard.peers at new; tally = tally }
+  abbrev moved : StoreState → JournalState → ℕ → Shard L G
+  moved store journal tally = record shard { store = store; journal = journal; peers = with_item shard.peers at new; tally = tally }
 
   inside : at < length states
   inside = let many = length-map peers peer_state in omega (arith, within, many)
@@ -94,23 +94,23 @@ module _ {L G : Type 0} (traffic : L → Traffic) (end : L → LinkEnd) (shard :
       (one_changed (λ a b. end b.link ≡ end a.link) peers at new (λ p. refl) within (λ d. same ∙ ap (λ p. end p.link) (sym (here d))))
 
   -- the node where the peer is as it is now
-  abbrev changed : SpaceState → JournalState → PeerState L → ℕ → NodeState L G
-  changed space journal peer tally = record node { space = space; journal = journal; peers = slice_set states at peer; tally = tally }
+  abbrev changed : StoreState → JournalState → PeerState L → ℕ → NodeState L G
+  changed store journal peer tally = record node { store = store; journal = journal; peers = slice_set states at peer; tally = tally }
 
-  stands-so : (space : SpaceState) (journal : JournalState) (peer : PeerState L) (tally : ℕ) → peer_state new ≡ peer
-      → InStanding traffic (changed space journal peer tally) → InStanding traffic (node_state (record shard { space = space; journal = journal; peers = with_item shard.peers at new; tally = tally }))
-  stands-so space journal peer tally is stands =
-      subst (λ ps. InStanding traffic (record node { space = space; journal = journal; peers = ps; tally = tally }))
+  stands-so : (store : StoreState) (journal : JournalState) (peer : PeerState L) (tally : ℕ) → peer_state new ≡ peer
+      → InStanding traffic (changed store journal peer tally) → InStanding traffic (node_state (record shard { store = store; journal = journal; peers = with_item shard.peers at new; tally = tally }))
+  stands-so store journal peer tally is stands =
+      subst (λ ps. InStanding traffic (record node { store = store; journal = journal; peers = ps; tally = tally }))
       (ap (slice_set states at) (sym is) ∙ sym (map-set peer_state peers at new)) stands
 
   -- nothing was done
   idle_step : (peer : PeerState L) (tally : ℕ) → SameWork old new → end new.link ≡ end old.link → peer_state new ≡ peer
-      → (InStanding traffic node → InStanding traffic (changed shard.space shard.journal peer tally))
+      → (InStanding traffic node → InStanding traffic (changed shard.store shard.journal peer tally))
       → IsStep traffic end shard (record shard { peers = with_item shard.peers at new; tally = tally })
   idle_step peer tally work same is moves = record {
     consistent = work_stays shard (with_item shard.peers at new) tally (length-set peers at new)
         (one_changed SameWork peers at new (λ p. record { shard = refl; asks = refl; answers = refl; owed = refl }) within (λ d. subst (λ p. SameWork p new) (sym (here d)) work)) x;
-    standing = λ stands. stands-so shard.space shard.journal peer tally is (moves stands);
+    standing = λ stands. stands-so shard.store shard.journal peer tally is (moves stands);
     same = record { shard = refl; shards = refl; pages = refl; trace = refl; home = refl; ends = ends same };
     turns = refl;
   }
@@ -126,8 +126,8 @@ module _ {L G : Type 0} (traffic : L → Traffic) (end : L → LinkEnd) (shard :
       })
       takes.came.same_end (ap peer_state takes.same) (none_came traffic node at (peer_state old) new.link inside state-here takes.came.sent takes.came.received)
 
-  module _ (may : MayAsk old) (space : SpaceState) (journal : JournalState) (tally : ℕ) (result : Tried)
-      (serves : Serves traffic end old new shard.space space shard.journal journal shard.tally tally result) where
+  module _ (may : MayAsk old) (store : StoreState) (journal : JournalState) (tally : ℕ) (result : Tried)
+      (serves : Serves traffic end old new shard.store store shard.journal journal shard.tally tally result) where
     abbrev packet : Packet
     packet = serves.packet
 
@@ -135,7 +135,7 @@ module _ {L G : Type 0} (traffic : L → Traffic) (end : L → LinkEnd) (shard :
     receives = record { sent = serves.came.sent; received = serves.came.received; free = may.released; tries = serves.tries }
 
     -- a packet that was set aside, and Bye
-    stray_step : (stray : StrayPacket) → IsNoRequest packet old new shard.space space shard.journal journal stray
+    stray_step : (stray : StrayPacket) → IsNoRequest packet old new shard.store store shard.journal journal stray
         → IsStep traffic end shard (record shard { peers = with_item shard.peers at new; tally = tally })
     stray_step stray none = idle_step (linked (peer_state old) new.link new.held_request) tally
         (record {
@@ -147,7 +147,7 @@ module _ {L G : Type 0} (traffic : L → Traffic) (end : L → LinkEnd) (shard :
         serves.came.same_end (state-after old new old.reply old.asks old.has_heard_bye serves.same none.reply none.asks none.heard)
         (stray_came traffic node (peer_state old) new.link new.held_request packet tally receives at inside state-here may.unheard none.other)
 
-    bye_step : next_ask old ≡ None → is_same None (said packet) ≡ true → HearsBye old new shard.space space shard.journal journal
+    bye_step : next_ask old ≡ None → is_same None (said packet) ≡ true → HearsBye old new shard.store store shard.journal journal
         → IsStep traffic end shard (record shard { peers = with_item shard.peers at new; tally = tally })
     bye_step last said_so hears = idle_step (parted (peer_state old) new.link new.held_request) tally
         (record {
@@ -159,7 +159,7 @@ module _ {L G : Type 0} (traffic : L → Traffic) (end : L → LinkEnd) (shard :
         serves.came.same_end (state-after old new old.reply old.asks true serves.same hears.reply hears.asks hears.heard)
         (bye_came traffic node (peer_state old) new.link new.held_request packet tally receives at inside state-here may.unheard last said_so)
 
-  apart : AreNumbered shard.trace.now.commands → length shard.space.lent ≡ tickets → IsApart traffic node at (peer_state old)
+  apart : AreNumbered shard.trace.now.commands → length shard.store.lent ≡ tickets → IsApart traffic node at (peer_state old)
   apart are many = record {
     within = inside;
     here = state-here;
@@ -172,11 +172,11 @@ module _ {L G : Type 0} (traffic : L → Traffic) (end : L → LinkEnd) (shard :
     many = none_alone shard x at within;
     numbered = numbered shard.trace.now.bytes shard.trace.now.commands are;
     pages = x.pages;
-    few = (let counted = count_by-le-length is_some shard.space.lent in omega (arith, counted, many));
+    few = (let counted = count_by-le-length is_some shard.store.lent in omega (arith, counted, many));
   }
 
   -- there is room for a put, and for what is written down
-  pub puts_room : (operation : Operation) → next_ask old ≡ Some operation → is_put operation.kind ≡ true → length shard.space.rows < shard.space.room
+  pub puts_room : (operation : Operation) → next_ask old ≡ Some operation → is_put operation.kind ≡ true → length shard.store.rows < shard.store.room
   puts_room operation first put =
       let all = puts-left operation old.asks.left (begins old.asks.left operation first) in
       let one : ◌≡◌ {A = ℕ} (cond (is_put operation.kind) 1 0) 1 = ap (λ b. cond b 1 0) put in
@@ -185,7 +185,7 @@ module _ {L G : Type 0} (traffic : L → Traffic) (end : L → LinkEnd) (shard :
       let rows = x.room.rows in
       omega (arith, all, one, among, is, rows)
 
-  pub spare_room : (operation : Operation) → next_ask old ≡ Some operation → length shard.space.rows + 1 ≤ shard.journal.spare
+  pub spare_room : (operation : Operation) → next_ask old ≡ Some operation → length shard.store.rows + 1 ≤ shard.journal.spare
   spare_room operation first =
       let all = ap length (begins old.asks.left operation first) in
       let among = get_or-le-sum_by (λ (peer : Peer L). length peer.asks.left) peers at old within in
@@ -195,15 +195,15 @@ module _ {L G : Type 0} (traffic : L → Traffic) (end : L → LinkEnd) (shard :
 
   -- The next request was done.
   module _ (laws : Laws) (tells : TellsNumbers) (keeps : KeepsRows) (counts : CountsRows) (are : AreNumbered shard.trace.now.commands)
-      (formed : All IsWellFormed (trace_in shard.trace.now).operations) (many : length shard.space.lent ≡ tickets) (may : MayAsk old)
-      (space : SpaceState) (journal : JournalState) (tally : ℕ) (result : Tried) (serves : Serves traffic end old new shard.space space shard.journal journal shard.tally tally result)
-      (out : space.lends ≡ raised space.backs (tickets_out space.lent)) (operation : Operation) (first : next_ask old ≡ Some operation)
-      (said_so : is_same (Some (request operation)) (said serves.packet) ≡ true) (done : IsDoneFor operation old new shard.space space shard.journal journal) where
+      (formed : All IsWellFormed (trace_in shard.trace.now).operations) (many : length shard.store.lent ≡ tickets) (may : MayAsk old)
+      (store : StoreState) (journal : JournalState) (tally : ℕ) (result : Tried) (serves : Serves traffic end old new shard.store store shard.journal journal shard.tally tally result)
+      (out : store.lends ≡ raised store.backs (tickets_out store.lent)) (operation : Operation) (first : next_ask old ≡ Some operation)
+      (said_so : is_same (Some (request operation)) (said serves.packet) ≡ true) (done : IsDoneFor operation old new shard.store store shard.journal journal) where
     abbrev now : Shard L G
-    now = moved space journal tally
+    now = moved store journal tally
 
     abbrev bound : ℕ
-    bound = floor_of shard.space.pages shard.space.lent
+    bound = floor_of shard.store.pages shard.store.lent
 
     left : old.asks.left ≡ operation ∷ drop 1 old.asks.left
     left = begins old.asks.left operation first
@@ -212,10 +212,10 @@ module _ {L G : Type 0} (traffic : L → Traffic) (end : L → LinkEnd) (shard :
     cursors-old = subst (HasCursors shard) (here old) (x.cursors at old within)
 
     -- an eviction takes a row, and a put adds one at most
-    rows_now : length space.rows + length done.does.evicted ≤ length shard.space.rows + cond (is_put operation.kind) 1 0
+    rows_now : length store.rows + length done.does.evicted ≤ length shard.store.rows + cond (is_put operation.kind) 1 0
     rows_now =
         let most = few-after operation done.does.rest in
-        let count = counts bound shard.space.rows done.does.rest done.does.evicted done.does.evicts in
+        let count = counts bound shard.store.rows done.does.rest done.does.evicted done.does.evicts in
         let rows = ap length done.does.rows in
         omega (arith, most, count, rows)
 
@@ -251,14 +251,14 @@ module _ {L G : Type 0} (traffic : L → Traffic) (end : L → LinkEnd) (shard :
         let before = x.room.bodies in
         omega (arith, same, sums, is, before)
 
-    short_now : AreShort shard.longest space.rows
+    short_now : AreShort shard.longest store.rows
     short_now =
         let trace = trace_in shard.trace.now in
         let there : Contains trace.operations operation = subst (λ (t : Parsed). Contains (trace_in t).operations operation) cursors-old.asks_trace done.of_trace in
-        let short : AreShort (longest_value trace) shard.space.rows = subst (λ m. AreShort m shard.space.rows) x.longest x.short in
-        subst (λ m. AreShort m space.rows) (sym x.longest)
+        let short : AreShort (longest_value trace) shard.store.rows = subst (λ m. AreShort m shard.store.rows) x.longest x.short in
+        subst (λ m. AreShort m store.rows) (sym x.longest)
         (subst (AreShort (longest_value trace)) (sym done.does.rows)
-        (short-after keeps (longest_value trace) bound operation shard.space.rows done.does.rest done.does.evicted (short-put trace operation formed there) done.does.evicts short))
+        (short-after keeps (longest_value trace) bound operation shard.store.rows done.does.rest done.does.evicted (short-put trace operation formed there) done.does.evicts short))
 
     cursors_now : HasCursors shard new
     cursors_now =
@@ -282,7 +282,7 @@ module _ {L G : Type 0} (traffic : L → Traffic) (end : L → LinkEnd) (shard :
         let most = done.does.same.room in
         let before = x.room.rows in
         let spared = x.room.spare in
-        goes_on shard space journal (with_item shard.peers at new) tally done.does.same
+        goes_on shard store journal (with_item shard.peers at new) tally done.does.same
         (maps-agree (λ (peer : Peer L). peer.shard) peers (slice_set peers at new) (length-set peers at new)
         (one_changed (λ a b. b.shard ≡ a.shard) peers at new (λ p. refl) within (λ d. ap (λ (p : Peer L). p.shard) serves.same ∙ ap (λ (p : Peer L). p.shard) (sym (here d)))))
         (all_but (HasCursors shard) (HasCursors shard) peers at new within x.cursors cursors_now (λ j d below away c. c))
@@ -294,7 +294,7 @@ module _ {L G : Type 0} (traffic : L → Traffic) (end : L → LinkEnd) (shard :
         short_now
         (omega (arith, rows, puts, most, before), omega (arith, rows, puts, parts, spare, spared), bodies_now) x
 
-    does_next : DoesNext traffic node (peer_state old) space journal serves.packet operation done.reply done.answer
+    does_next : DoesNext traffic node (peer_state old) store journal serves.packet operation done.reply done.answer
     does_next = record {
       unheard = may.unheard;
       idle = may.replied;
@@ -309,41 +309,41 @@ module _ {L G : Type 0} (traffic : L → Traffic) (end : L → LinkEnd) (shard :
     done_step : IsStep traffic end shard now
     done_step = record {
       consistent = consistent;
-      standing = λ stands. stands-so space journal (served (peer_state old) new.link new.held_request done.reply new.asks.left) tally
+      standing = λ stands. stands-so store journal (served (peer_state old) new.link new.held_request done.reply new.asks.left) tally
           (state-after old new (Some done.reply) new.asks old.has_heard_bye serves.same done.waits refl done.heard)
           (request_done traffic laws tells node at (peer_state old) (apart are many) new.link new.held_request serves.packet tally
-          (receives may space journal tally result serves) space journal new.asks.left operation done.reply done.answer does_next done.left stands);
+          (receives may store journal tally result serves) store journal new.asks.left operation done.reply done.answer does_next done.left stands);
       same = record { shard = refl; shards = refl; pages = refl; trace = refl; home = done.does.same.list; ends = ends serves.came.same_end };
       turns = refl;
     }
 
   -- what was asked was tried once
   module _ (laws : Laws) (tells : TellsNumbers) (keeps : KeepsRows) (counts : CountsRows) (are : AreNumbered shard.trace.now.commands)
-      (formed : All IsWellFormed (trace_in shard.trace.now).operations) (many : length shard.space.lent ≡ tickets) (may : MayAsk old)
-      (space : SpaceState) (journal : JournalState) (tally : ℕ) (out : space.lends ≡ raised space.backs (tickets_out space.lent)) where
-    -- space and journal are as they were
-    as-they-were : space ≡ shard.space → journal ≡ shard.journal → IsStep traffic end shard (moved shard.space shard.journal tally) → IsStep traffic end shard (moved space journal tally)
-    as-they-were same_space same_journal step =
-        subst (λ s. IsStep traffic end shard (moved s journal tally)) (sym same_space)
-        (subst (λ j. IsStep traffic end shard (moved shard.space j tally)) (sym same_journal) step)
+      (formed : All IsWellFormed (trace_in shard.trace.now).operations) (many : length shard.store.lent ≡ tickets) (may : MayAsk old)
+      (store : StoreState) (journal : JournalState) (tally : ℕ) (out : store.lends ≡ raised store.backs (tickets_out store.lent)) where
+    -- store and journal are as they were
+    as-they-were : store ≡ shard.store → journal ≡ shard.journal → IsStep traffic end shard (moved shard.store shard.journal tally) → IsStep traffic end shard (moved store journal tally)
+    as-they-were same_store same_journal step =
+        subst (λ s. IsStep traffic end shard (moved s journal tally)) (sym same_store)
+        (subst (λ j. IsStep traffic end shard (moved shard.store j tally)) (sym same_journal) step)
 
-    ended : (result : Tried) (serves : Serves traffic end old new shard.space space shard.journal journal shard.tally tally result)
-        → EndsRequest serves.packet old new shard.space space shard.journal journal result → IsStep traffic end shard (moved space journal tally)
+    ended : (result : Tried) (serves : Serves traffic end old new shard.store store shard.journal journal shard.tally tally result)
+        → EndsRequest serves.packet old new shard.store store shard.journal journal result → IsStep traffic end shard (moved store journal tally)
     ended Nothing serves ends = absurd ends
     ended (Other stray) serves none =
-        as-they-were none.same_space none.same_journal (stray_step may space journal tally (Other stray) serves stray none)
+        as-they-were none.same_store none.same_journal (stray_step may store journal tally (Other stray) serves stray none)
     ended Expected serves ends = go (next_ask old) refl ends.0 ends.1
       where
-        go : (next : Option Operation) → next_ask old ≡ next → is_same (due_next old) (said serves.packet) ≡ true → EndsExpected next old new shard.space space shard.journal journal
-            → IsStep traffic end shard (moved space journal tally)
+        go : (next : Option Operation) → next_ask old ≡ next → is_same (due_next old) (said serves.packet) ≡ true → EndsExpected next old new shard.store store shard.journal journal
+            → IsStep traffic end shard (moved store journal tally)
         go (Some operation) first said_so done =
-            done_step laws tells keeps counts are formed many may space journal tally Expected serves out operation first
+            done_step laws tells keeps counts are formed many may store journal tally Expected serves out operation first
             (ap (λ o. is_same (option_map request o) (said serves.packet)) (sym first) ∙ said_so) done
         go None last said_so hears =
-            as-they-were hears.same_space hears.same_journal
-            (bye_step may space journal tally Expected serves last (ap (λ o. is_same (option_map request o) (said serves.packet)) (sym last) ∙ said_so) hears)
+            as-they-were hears.same_store hears.same_journal
+            (bye_step may store journal tally Expected serves last (ap (λ o. is_same (option_map request o) (said serves.packet)) (sym last) ∙ said_so) hears)
 
-    pub serves_one : (result : Tried) → TriesRequest traffic end old new shard.space space shard.journal journal shard.tally tally result → IsStep traffic end shard (moved space journal tally)
+    pub serves_one : (result : Tried) → TriesRequest traffic end old new shard.store store shard.journal journal shard.tally tally result → IsStep traffic end shard (moved store journal tally)
     serves_one result (inl none) =
-        as-they-were none.1 none.2 (subst (λ t. IsStep traffic end shard (moved shard.space shard.journal t)) (sym none.3) (none_step none.0))
+        as-they-were none.1 none.2 (subst (λ t. IsStep traffic end shard (moved shard.store shard.journal t)) (sym none.3) (none_step none.0))
     serves_one result (inr serves) = ended result serves serves.ends

@@ -6,7 +6,7 @@ use Rattle.std.specs.Option.{option_map}
 use Rattle.std.proofs.lemmas.Bool.{cases_eq}
 use Rattle.std.proofs.lemmas.List.{drop_all, length-append, length-map, take_all}
 use Rattle.std.proofs.lemmas.List.Sums.{sum_by_push}
-use Rattle.trace_text.specs.Operation.{Operation}
+use Rattle.rows.specs.Operation.{Operation}
 use Rattle.trace_text.specs.Parts.{parts}
 use Rattle.cache_model.specs.Legal.{reply_at}
 use Rattle.foreign_list.specs.Blocks.{Block}
@@ -63,7 +63,7 @@ module _ {L G : Type 0} (traffic : L → Traffic) where
       let now : NodeState L G = record node { peers = peers; tally = tally } in
       let each = each_stands traffic node stands in
       let still : (p : PeerState L) → StandsWith traffic node p → StandsWith traffic now p =
-      λ p x. stays traffic node node.space node.journal node.log peers node.begun node.request node.gate tally p (λ i reply e. e) (record { done = refl; logged = refl; begun = refl; waiting = refl }) x in
+      λ p x. stays traffic node node.store node.journal node.log peers node.begun node.request node.gate tally p (λ i reply e. e) (record { done = refl; logged = refl; begun = refl; waiting = refl }) x in
       let received = receives_one traffic node now k a b a came before after within (here a) refl more held releases stands.kept.received in
       all_stand traffic now (record {
         journal = record { legal = stands.journal.legal; pressure = stands.journal.pressure };

@@ -18,8 +18,8 @@ use Rattle.layout.specs.Counts.{raised}
 use Rattle.shard_memory.specs.Tickets.{BecomeIdle, HasIdle, IsIdle, Tickets, tickets_out}
 use Rattle.shard_memory.specs.declared.share.Share.TheVariants.{Request, Reply}
 use Rattle.shard_rings.specs.Lanes.{Traffic}
-use Rattle.reclaim.specs.Lending.{LendsBlock}
-use Rattle.reclaim.specs.Spaces.{SpaceState}
+use Rattle.shard_store.specs.Lending.{LendsBlock}
+use Rattle.shard_store.specs.Stores.{StoreState}
 use Rattle.shard_node.specs.Nodes.{NodeState}
 use Rattle.shard_node.specs.Standing.{InStanding, begun_parts}
 use Rattle.shard_node.proofs.Replies.TakesReplies.{get_set_other}
@@ -88,7 +88,7 @@ still_there lent now t become below = go (slice_get lent t) refl (become t)
 set_long : (lent : Tickets) (at : ℕ) (x : Option PieceId) (t : ℕ) → t < length lent → t < length (slice_set lent at x)
 set_long lent at x t below = let e = length-set lent at x in omega (arith, e, below)
 
-pub tickets_before : (old new : SpaceState) (block : Block) → old.lends < 2 ^ 64 - 1 → length old.lent ≡ tickets → old.lends ≡ raised old.backs (tickets_out old.lent)
+pub tickets_before : (old new : StoreState) (block : Block) → old.lends < 2 ^ 64 - 1 → length old.lent ≡ tickets → old.lends ≡ raised old.backs (tickets_out old.lent)
     → LendsBlock Request old new block → new.backs ≡ old.backs → HasIdle new.lent Reply → HasIdle old.lent Reply
 tickets_before old new block few many out lends same has =
     let t = has.0 in
@@ -114,7 +114,7 @@ few_done (Evicted q ∷ entries) = let e = few_done entries in omega (arith, e)
 
 -- a node in standing lent fewer blocks than can be counted
 pub few_lent : {L G : Type 0} (traffic : L → Traffic) (node : NodeState L G) → InStanding traffic node → node.begun ≤ most_commands * most_shards → length node.journal.entries < 2 ^ 32
-    → node.space.lends < 2 ^ 64 - 1
+    → node.store.lends < 2 ^ 64 - 1
 few_lent traffic node stands begun few =
     let lends = stands.lent.lends in
     let a = count_by-le-length (λ (part : ℕ × ℕ). not (part.1 == node.shard)) (begun_parts node) in

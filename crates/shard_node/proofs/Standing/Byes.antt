@@ -2,7 +2,7 @@
 use Rattle.std.proofs.Common.{◌≡◌, ◌≢◌, ◌↔◌, ℕ, ◌+◌, ◌<◌, ◌≤◌, List, [], ◌∷◌, ◌++◌, length, map, take, drop, get_or, append-nil, arith, refl, true, false, true≢false, sym, ap, subst, ◌∙◌, Bool, Option, Some, None, Vec, is_some, count_by, ◌==◌}
 use Rattle.std.proofs.lemmas.List.{length-append, length-map, map-append, take_all}
 use Rattle.std.proofs.lemmas.List.Sums.{count_by-le-length, length-filter}
-use Rattle.trace_text.specs.Operation.{Operation}
+use Rattle.rows.specs.Operation.{Operation}
 use Rattle.trace_text.specs.Parts.{parts}
 use Rattle.cache_model.specs.Legal.{reply_at}
 use Rattle.std.specs.declared.alloc.Global.{Global}
@@ -150,7 +150,7 @@ module _ {L G : Type 0} (traffic : L → Traffic) where
         received = record { released = stands.kept.received.released; all = omega (arith, received, held, all); counted = stands.kept.received.counted };
       }) (λ k d below.
       let inside : k < length node.peers = omega (arith, below, same) in
-      stays traffic node node.space node.journal node.log peers node.begun node.request node.gate node.tally (get_or peers k d) (λ i reply e. e) (record { done = refl; logged = refl; begun = refl; waiting = refl })
+      stays traffic node node.store node.journal node.log peers node.begun node.request node.gate node.tally (get_or peers k d) (λ i reply e. e) (record { done = refl; logged = refl; begun = refl; waiting = refl })
       (each k d inside (each_stands traffic node stands k d inside)))
 
 -- the parts that the shard issues

@@ -10,7 +10,7 @@ use Rattle.std.proofs.lemmas.List.{get_or-map, get_or-set_other, get_or-set_same
 use Rattle.std.proofs.lemmas.List.Elements.{filter_passes}
 use Rattle.trace_text.specs.Parsed.{trace_in}
 use Rattle.run_log.specs.JournalState.{JournalState}
-use Rattle.reclaim.specs.Spaces.{IsSameSpace, SpaceState}
+use Rattle.shard_store.specs.Stores.{IsSameStore, StoreState}
 use Rattle.shard_parts.specs.declared.peer.Peer.{Peer}
 use Rattle.shard_node.specs.declared.shard.Shard.{Shard}
 use Rattle.shard_node.specs.Due.{operations_for}
@@ -154,15 +154,15 @@ module _ {L : Type 0} where
       of-states end new ∙ (maps-agree (λ (peer : Peer L). end peer.link) old new same agree ∙ sym (of-states end old))
 
 module _ {L G : Type 0} where
-  -- A shard stays consistent as what its peers still will ask and answer, its space and its journal change, where there is room.
-  pub goes_on : (shard : Shard L G) (space : SpaceState) (journal : JournalState) (peers : Vec (Peer L) Global) (tally : ℕ)
-      → IsSameSpace shard.space space → map (λ peer. peer.shard) peers.items ≡ map (λ peer. peer.shard) shard.peers.items
+  -- A shard stays consistent as what its peers still will ask and answer, its store and its journal change, where there is room.
+  pub goes_on : (shard : Shard L G) (store : StoreState) (journal : JournalState) (peers : Vec (Peer L) Global) (tally : ℕ)
+      → IsSameStore shard.store store → map (λ peer. peer.shard) peers.items ≡ map (λ peer. peer.shard) shard.peers.items
       → All (HasCursors shard) peers.items → All (HasAsked shard) peers.items → All (λ peer. AreUnanswered shard peer.shard peer.answers.part) peers.items
-      → AreShort shard.longest space.rows
-      → (let now : Shard L G = record shard { space = space; journal = journal; peers = peers; tally = tally } in
-      (length space.rows + puts_left now ≤ space.room) × (length space.rows + puts_left now + parts_left now ≤ journal.spare) × (bodies_left now ≤ shard.log.room))
-      → IsConsistent shard → IsConsistent (record shard { space = space; journal = journal; peers = peers; tally = tally })
-  goes_on shard space journal peers tally same numbers cursors asked unanswered short room x = record {
+      → AreShort shard.longest store.rows
+      → (let now : Shard L G = record shard { store = store; journal = journal; peers = peers; tally = tally } in
+      (length store.rows + puts_left now ≤ store.room) × (length store.rows + puts_left now + parts_left now ≤ journal.spare) × (bodies_left now ≤ shard.log.room))
+      → IsConsistent shard → IsConsistent (record shard { store = store; journal = journal; peers = peers; tally = tally })
+  goes_on shard store journal peers tally same numbers cursors asked unanswered short room x = record {
     parsed_for = x.parsed_for;
     within = x.within;
     of_shard = same.shard ∙ x.of_shard;
@@ -228,7 +228,7 @@ module _ {L G : Type 0} where
       let rows = x.room.rows in
       let spare = x.room.spare in
       let most = x.room.bodies in
-      goes_on shard shard.space shard.journal peers tally (record { shard = refl; pages = refl; room = refl; list = refl; guards = refl })
+      goes_on shard shard.store shard.journal peers tally (record { shard = refl; pages = refl; room = refl; list = refl; guards = refl })
       (maps-agree (λ (peer : Peer L). peer.shard) old peers.items same (λ k d below. (each k d below).shard))
       (λ k d below. has-cursors shard (get_or old k d) (get_or peers.items k d) (each k d (inside k below)) (x.cursors k d (inside k below)))
       (λ k d below. has-asked shard (get_or old k d) (get_or peers.items k d) (each k d (inside k below)) (x.asked k d (inside k below)))

@@ -10,17 +10,17 @@ use Rattle.std.proofs.lemmas.List.Elements.{All-append, All-cons, All-contains, 
 use Rattle.std.proofs.lemmas.List.FromFn.{get_or-range_with_len, length-range_with_len}
 use Rattle.std.proofs.lemmas.List.Sums.{length-filter}
 use Rattle.std.proofs.lemmas.Option.{get_or_from_slice_get, slice_get-get_or, slice_get_within}
-use Rattle.trace_text.specs.Operation.{Operation}
+use Rattle.rows.specs.Operation.{Operation, is_scan}
 use Rattle.trace_text.specs.Parsed.{AreNumbered, trace_in}
-use Rattle.trace_text.specs.Parts.{has_part, is_scan, origin, owner, parts}
+use Rattle.trace_text.specs.Parts.{has_part, origin, owner, parts}
 use Rattle.trace_text.specs.Trace.{Trace}
 use Rattle.cache_model.specs.declared.entry.Entry.{Entry}
-use Rattle.cache_model.specs.declared.reply_kind.ReplyKind.{ReplyKind}
-use Rattle.cache_model.specs.Apply.{Reply}
+use Rattle.rows.specs.declared.reply_kind.ReplyKind.{ReplyKind}
+use Rattle.rows.specs.Apply.{Reply}
 use Rattle.cache_model.specs.Legal.{after, cache_after, cache_from, command_of, done, is_done, reply_at, reply_on}
 use Rattle.cache_model.specs.OwnParts.{issued_parts, parts_of}
-use Rattle.cache_model.specs.Row.{Row}
-use Rattle.cache_model.specs.Spelled.{spelled}
+use Rattle.rows.specs.Row.{Row}
+use Rattle.rows.specs.Spelled.{spelled}
 use Rattle.shard_rings.specs.Lanes.{Traffic}
 use Rattle.shard_node.specs.Nodes.{NodeState, PeerState, others}
 use Rattle.shard_node.specs.Due.{operations_for}
@@ -246,7 +246,7 @@ module _ {L G : Type 0} (traffic : L → Traffic) (holds : G → ℕ) where
       stands.own ∙ take_all (length (begun_at node s)) (parts trace shard.shards s s) (omega (arith, many, all)) in
       let here : All IsSome (at_shard s (issued_by shard) log) =
       All-same IsSome _ _ stands.logged.own
-      (own-answered tells trace shard.shards s shard.pages shard.journal.entries shard.space.rows (numbered shard.trace.now.bytes shard.trace.now.commands are) stands.journal.legal done-here) in
+      (own-answered tells trace shard.shards s shard.pages shard.journal.entries shard.store.rows (numbered shard.trace.now.bytes shard.trace.now.commands are) stands.journal.legal done-here) in
       let logged = of-peers (LogsWhatCame traffic node) shard.peers.items stands.logged.others in
       let placed = of-peers (KnowsItsPlace traffic node) shard.peers.items stands.placed in
       let there : (q : ℕ) → q < shard.shards → q ≢ s → All IsSome (at_shard q (issued_by shard) log) = λ q below other.

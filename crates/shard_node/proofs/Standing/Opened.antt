@@ -8,14 +8,14 @@ use Rattle.std.proofs.lemmas.List.Sums.{sum_by-cons}
 use Rattle.std.proofs.lemmas.Option.{slice_get-get_or, slice_get_within}
 use Rattle.std.specs.Prelude.{nat_le}
 use Rattle.layout.specs.Sizes.{greatest_key, key_room, most_keys}
-use Rattle.trace_text.specs.Operation.{Operation}
+use Rattle.rows.specs.Operation.{Operation}
 use Rattle.trace_text.specs.Parsed.{IsWellFormed, trace_in}
 use Rattle.trace_text.specs.Parts.{here_parts, here_puts, longest_value, own_parts, reply_bytes}
-use Rattle.cache_model.specs.declared.reply_kind.ReplyKind.{ReplyKind}
-use Rattle.cache_model.specs.Holds.{RowsHold}
+use Rattle.rows.specs.declared.reply_kind.ReplyKind.{ReplyKind}
+use Rattle.rows.specs.Holds.{RowsHold}
 use Rattle.shard_memory.specs.Tickets.{tickets_out}
 use Rattle.shard_rings.specs.Lanes.{Traffic}
-use Rattle.reclaim.specs.Spaces.{IsUnguarded}
+use Rattle.shard_store.specs.Stores.{IsUnguarded}
 use Rattle.shard_parts.specs.declared.peer.Peer.{Peer}
 use Rattle.shard_node.specs.declared.shard.Shard.{Shard}
 use Rattle.shard_node.specs.Nodes.{others}
@@ -48,15 +48,15 @@ module _ {L G : Type 0} (traffic : L → Traffic) where
   pub record IsOpened (shard : Shard L G) : Type 0 where
     pub parsed_for : shard.shards ≡ shard.trace.now.shards
     pub within : shard.shard < shard.shards
-    pub of_shard : shard.space.shard ≡ shard.shard
-    pub pages : shard.space.pages ≡ shard.pages
-    pub unguarded : IsUnguarded shard.space
+    pub of_shard : shard.store.shard ≡ shard.shard
+    pub pages : shard.store.pages ≡ shard.pages
+    pub unguarded : IsUnguarded shard.store
     pub longest : shard.longest ≡ longest_value (trace_in shard.trace.now)
-    pub rows : shard.space.rows ≡ []
-    pub room : shard.space.room ≡ here_puts (trace_in shard.trace.now) shard.shards shard.shard
-    pub lends : shard.space.lends ≡ 0
-    pub backs : shard.space.backs ≡ 0
-    pub idle : tickets_out shard.space.lent ≡ 0
+    pub rows : shard.store.rows ≡ []
+    pub room : shard.store.room ≡ here_puts (trace_in shard.trace.now) shard.shards shard.shard
+    pub lends : shard.store.lends ≡ 0
+    pub backs : shard.store.backs ≡ 0
+    pub idle : tickets_out shard.store.lent ≡ 0
     pub journal : shard.journal ≡ record { entries = []; spare = here_parts (trace_in shard.trace.now) shard.shards shard.shard + here_puts (trace_in shard.trace.now) shard.shards shard.shard }
     pub log : shard.log ≡ record { replies = replicate (own_parts (trace_in shard.trace.now) shard.shards shard.shard) None; room = reply_bytes (trace_in shard.trace.now) shard.shards shard.shard }
     pub keys : vec_len shard.keys ≡ key_room * most_keys
@@ -102,7 +102,7 @@ module _ {L G : Type 0} (traffic : L → Traffic) where
         let parts = all-asks length ∙ here-parts (trace_in shard.trace.now) shard.shards shard.shard some in
         let replies = all-answers (bodies (trace_in shard.trace.now)) in
         let most = reply-room (trace_in shard.trace.now) shard.shards shard.shard some formed in
-        let rows : length shard.space.rows ≡ 0 = ap length x.rows in
+        let rows : length shard.store.rows ≡ 0 = ap length x.rows in
         let room = x.room in
         let spare = ap (λ journal. journal.spare) x.journal in
         let bytes = ap (λ log. log.room) x.log in

@@ -5,13 +5,13 @@ use Rattle.std.specs.List.{All}
 use Rattle.std.proofs.lemmas.Bool.{cases_order}
 use Rattle.std.proofs.lemmas.List.{get_or-set_same, get_or-set_other, length-set}
 use Rattle.std.proofs.lemmas.List.Sums.{sum_by-set}
-use Rattle.cache_model.specs.Apply.{Reply}
+use Rattle.rows.specs.Apply.{Reply}
 use Rattle.cache_model.specs.Legal.{reply_at}
 use Rattle.cache_model.specs.OwnParts.{issued_parts}
 use Rattle.run_log.specs.JournalState.{JournalState}
 use Rattle.run_log.specs.Replies.{Replies}
 use Rattle.shard_rings.specs.Lanes.{Traffic}
-use Rattle.reclaim.specs.Spaces.{SpaceState}
+use Rattle.shard_store.specs.Stores.{StoreState}
 use Rattle.shard_rings.specs.declared.link.Packet.{Packet}
 use Rattle.shard_rings.specs.declared.link.Packet.TheVariants.{Block as InBlock, Bye}
 use Rattle.shard_node.specs.Nodes.{NodeState, PeerState}
@@ -84,9 +84,9 @@ module _ {L G : Type 0} (traffic : L → Traffic) where
   }
 
   -- the node later in its turn
-  abbrev pub later : NodeState L G → SpaceState → JournalState → Replies → List (PeerState L) → ℕ → Option Waiting → G → ℕ → NodeState L G
-  later node space journal log peers begun request gate tally =
-      record node { space = space; journal = journal; log = log; peers = peers; begun = begun; request = request; gate = gate; tally = tally }
+  abbrev pub later : NodeState L G → StoreState → JournalState → Replies → List (PeerState L) → ℕ → Option Waiting → G → ℕ → NodeState L G
+  later node store journal log peers begun request gate tally =
+      record node { store = store; journal = journal; log = log; peers = peers; begun = begun; request = request; gate = gate; tally = tally }
 
   -- what a journal replied to a command it replies still
   abbrev pub Replies_on : NodeState L G → JournalState → Type 0
@@ -100,10 +100,10 @@ module _ {L G : Type 0} (traffic : L → Traffic) where
     pub begun : begun_at now q ≡ begun_at node q
     pub waiting : waiting_request now.request q ≡ waiting_request node.request q
 
-  pub stays : (node : NodeState L G) (space : SpaceState) (journal : JournalState) (log : Replies) (peers : List (PeerState L)) (begun : ℕ) (request : Option Waiting) (gate : G) (tally : ℕ)
-      (peer : PeerState L) → Replies_on node journal → Reads node (later node space journal log peers begun request gate tally) peer.shard
-      → StandsWith node peer → StandsWith (later node space journal log peers begun request gate tally) peer
-  stays node space journal log peers begun request gate tally peer on reads x =
+  pub stays : (node : NodeState L G) (store : StoreState) (journal : JournalState) (log : Replies) (peers : List (PeerState L)) (begun : ℕ) (request : Option Waiting) (gate : G) (tally : ℕ)
+      (peer : PeerState L) → Replies_on node journal → Reads node (later node store journal log peers begun request gate tally) peer.shard
+      → StandsWith node peer → StandsWith (later node store journal log peers begun request gate tally) peer
+  stays node store journal log peers begun request gate tally peer on reads x =
       let reply = reply_at node.trace node.pages journal.entries in
       record {
         asked = x.asked;

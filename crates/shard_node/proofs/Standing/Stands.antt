@@ -4,7 +4,7 @@ use Rattle.std.specs.List.{All}
 use Rattle.std.proofs.lemmas.List.Sums.{sum_by-cons}
 use Rattle.foreign_list.specs.Blocks.{Block}
 use Rattle.shard_rings.specs.Lanes.{Lanes, Traffic}
-use Rattle.reclaim.specs.Spaces.{SpaceState}
+use Rattle.shard_store.specs.Stores.{StoreState}
 use Rattle.layout.specs.Counts.{raised}
 use Rattle.shard_memory.specs.Tickets.{tickets_out}
 use Rattle.shard_node.specs.Nodes.{NodeState, PeerState}
@@ -77,10 +77,10 @@ module _ {L G : Type 0} (traffic : L → Traffic) where
       }) (still (StandsWith traffic node) (StandsWith traffic now) node.peers peers (holding node peers tally) same other (each_stands traffic node stands))
 
   -- blocks come back, and no row changes
-  pub came_back : (node : NodeState L G) (space : SpaceState) → space.rows ≡ node.space.rows → space.lends ≡ node.space.lends
-      → space.lends ≡ raised space.backs (tickets_out space.lent) → InStanding traffic node → InStanding traffic (record node { space = space })
-  came_back node space rows lends out stands =
-      let now : NodeState L G = record node { space = space } in
+  pub came_back : (node : NodeState L G) (store : StoreState) → store.rows ≡ node.store.rows → store.lends ≡ node.store.lends
+      → store.lends ≡ raised store.backs (tickets_out store.lent) → InStanding traffic node → InStanding traffic (record node { store = store })
+  came_back node store rows lends out stands =
+      let now : NodeState L G = record node { store = store } in
       all_stand traffic now (record {
         journal = record { legal = stands.journal.legal ∙ ap Some (sym rows); pressure = stands.journal.pressure };
         own = stands.own;
@@ -88,5 +88,5 @@ module _ {L G : Type 0} (traffic : L → Traffic) where
         logged = stands.logged.own;
         lent = record { lends = lends ∙ stands.lent.lends; out = out };
         received = record { released = stands.kept.received.released; all = stands.kept.received.all; counted = stands.kept.received.counted };
-      }) (λ k d below. stays traffic node space node.journal node.log node.peers node.begun node.request node.gate node.tally (get_or node.peers k d) (λ i reply e. e)
+      }) (λ k d below. stays traffic node store node.journal node.log node.peers node.begun node.request node.gate node.tally (get_or node.peers k d) (λ i reply e. e)
       (record { done = refl; logged = refl; begun = refl; waiting = refl }) (each_stands traffic node stands k d below))

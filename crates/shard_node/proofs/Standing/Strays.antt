@@ -3,7 +3,7 @@ use mathlib.Core.List.{IsPrefix}
 use Rattle.std.proofs.Common.{◌≡◌, ◌↔◌, ℕ, ◌+◌, List, [], ◌∷◌, ◌++◌, length, map, take, drop, sym, ap, subst, ◌∙◌, Option, if◌then◌else◌, true, false}
 use Rattle.foreign_list.specs.Blocks.{Block}
 use Rattle.trace_text.specs.Parts.{parts}
-use Rattle.cache_model.specs.Apply.{Reply}
+use Rattle.rows.specs.Apply.{Reply}
 use Rattle.cache_model.specs.Legal.{reply_at}
 use Rattle.shard_rings.specs.Lanes.{Lanes, Traffic}
 use Rattle.shard_rings.specs.declared.link.Packet.{Packet}

@@ -9,15 +9,15 @@ use Rattle.std.proofs.lemmas.List.{length-map}
 use Rattle.std.proofs.lemmas.List.Elements.{All-take}
 use Rattle.std.proofs.lemmas.List.Sums.{length-filter}
 use Rattle.std.proofs.lemmas.Option.{get_or_from_slice_get, same_Some, slice_get-map, slice_get_within}
-use Rattle.trace_text.specs.Operation.{Operation}
+use Rattle.rows.specs.Operation.{Operation}
 use Rattle.trace_text.specs.Parts.{origin, parts}
 use Rattle.trace_text.specs.Trace.{Trace}
 use Rattle.cache_model.specs.declared.entry.Entry.{Entry}
-use Rattle.cache_model.specs.declared.reply_kind.ReplyKind.{ReplyKind}
+use Rattle.rows.specs.declared.reply_kind.ReplyKind.{ReplyKind}
 use Rattle.cache_model.specs.Legal.{IsComplete, IsLegal, cache_after, done, reply_at}
 use Rattle.cache_model.specs.OwnParts.{HoldsReplies, issued_parts, part_reply, parts_of}
 use Rattle.cache_model.specs.Report.{lent}
-use Rattle.cache_model.specs.Spelled.{spelled}
+use Rattle.rows.specs.Spelled.{spelled}
 use Rattle.layout.specs.Counts.{raised}
 use Rattle.shard_memory.specs.Tickets.{tickets_out}
 use Rattle.shard_rings.specs.Lanes.{Lanes, Traffic}
@@ -47,7 +47,7 @@ module _ {L G : Type 0} (traffic : L → Traffic) (holds : G → ℕ) (peers : A
   within s node here = let many = x.count in let inside = slice_get_within nodes s node here in omega (arith, many, inside)
 
   itself : (s : ℕ) (node : NodeState L G) → slice_get nodes s ≡ Some node
-      → Itself trace n pages s node.journal.entries node.log.replies node.begun node.space.lends
+      → Itself trace n pages s node.journal.entries node.log.replies node.begun node.store.lends
   itself s node here = of-itself traffic holds peers tells trace n pages are s node (x.each s node here)
 
   toward : (a b : ℕ) (node : NodeState L G) (peer : PeerState L) → slice_get nodes a ≡ Some node → Contains node.peers peer → peer.shard ≡ b
@@ -67,7 +67,7 @@ module _ {L G : Type 0} (traffic : L → Traffic) (holds : G → ℕ) (peers : A
   journal-at : (s : ℕ) (node : NodeState L G) → slice_get nodes s ≡ Some node → slice_get (journals_of nodes) s ≡ Some node.journal.entries
   journal-at s node here = slice_get-map (λ (m : NodeState L G). m.journal.entries) nodes s ∙ ap (option_map (λ (m : NodeState L G). m.journal.entries)) here
 
-  leads : (s : ℕ) (node : NodeState L G) → slice_get nodes s ≡ Some node → cache_after trace pages node.journal.entries ≡ Some node.space.rows
+  leads : (s : ℕ) (node : NodeState L G) → slice_get nodes s ≡ Some node → cache_after trace pages node.journal.entries ≡ Some node.store.rows
   leads s node here = leads-to traffic holds peers tells trace n pages are s node (x.each s node here)
 
   legal : All (IsLegal trace pages) (journals_of nodes)
@@ -172,11 +172,11 @@ module _ {L G : Type 0} (traffic : L → Traffic) (holds : G → ℕ) (peers : A
       ∙ sum-agree (λ o. cond (o == s) 0 (count_by (λ i. origin i n == o) numbers)) (λ o. cond (o == s) 0 (length (parts trace n o s))) n
       (λ o below. but-one o s _ _ (λ other. sym (length-filter (λ i. origin i n == o) numbers) ∙ ap length ((alone s node here).complete o below)))
 
-  occupied : (s : ℕ) (node : NodeState L G) → slice_get nodes s ≡ Some node → (node.space.lends ≡ raised 0 (lent trace n s)) × (node.space.backs ≡ raised 0 (lent trace n s))
+  occupied : (s : ℕ) (node : NodeState L G) → slice_get nodes s ≡ Some node → (node.store.lends ≡ raised 0 (lent trace n s)) × (node.store.backs ≡ raised 0 (lent trace n s))
   occupied s node here =
       let d = x.each s node here in
-      let lends : node.space.lends ≡ raised 0 (lent trace n s) = (itself s node here).lent_each ∙ ap₂ (λ j k. raised 0 (j + k)) (asked-all s node here) (done-all s node here) in
-      (lends, all-back node.space.lends node.space.backs (tickets_out node.space.lent) d.standing.lent.out d.done.idle d.counted ∙ lends)
+      let lends : node.store.lends ≡ raised 0 (lent trace n s) = (itself s node here).lent_each ∙ ap₂ (λ j k. raised 0 (j + k)) (asked-all s node here) (done-all s node here) in
+      (lends, all-back node.store.lends node.store.backs (tickets_out node.store.lent) d.standing.lent.out d.done.idle d.counted ∙ lends)
 
   pub agree : Agree traffic trace n pages nodes
   agree = record {

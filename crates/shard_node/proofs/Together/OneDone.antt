@@ -6,15 +6,15 @@ use Rattle.std.specs.Option.{option_map}
 use Rattle.std.proofs.lemmas.Bool.{cases_eq}
 use Rattle.std.proofs.lemmas.List.{length-map}
 use Rattle.std.proofs.lemmas.List.Elements.{All-contains, Contains-get_or}
-use Rattle.trace_text.specs.Operation.{Operation}
+use Rattle.rows.specs.Operation.{Operation}
 use Rattle.trace_text.specs.Parts.{origin, parts}
 use Rattle.trace_text.specs.Trace.{Trace}
 use Rattle.cache_model.specs.declared.entry.Entry.{Entry}
-use Rattle.cache_model.specs.declared.reply_kind.ReplyKind.{ReplyKind}
-use Rattle.cache_model.specs.Apply.{Reply}
+use Rattle.rows.specs.declared.reply_kind.ReplyKind.{ReplyKind}
+use Rattle.rows.specs.Apply.{Reply}
 use Rattle.cache_model.specs.Legal.{cache_after, done, reply_at}
 use Rattle.cache_model.specs.OwnParts.{issued_parts}
-use Rattle.cache_model.specs.Spelled.{spelled}
+use Rattle.rows.specs.Spelled.{spelled}
 use Rattle.layout.specs.Counts.{raised}
 use Rattle.shard_rings.specs.Lanes.{Lanes, Traffic}
 use Rattle.shard_rings.specs.declared.link.Packet.{Packet}
@@ -62,7 +62,7 @@ some-unspelled (Some reply) is = refl
 
 module _ {L G : Type 0} (traffic : L → Traffic) (holds : G → ℕ) (peers : AreOfPeers) (tells : TellsNumbers) where
   itself-done : (node : NodeState L G) → IsNumbered node.trace.operations → InStanding traffic node → IsDone traffic holds node
-      → Itself node.trace node.shards node.pages node.shard node.journal.entries node.log.replies node.begun node.space.lends
+      → Itself node.trace node.shards node.pages node.shard node.journal.entries node.log.replies node.begun node.store.lends
   itself-done node are stands is =
       let entries = node.journal.entries in
       let own = parts node.trace node.shards node.shard node.shard in
@@ -112,14 +112,14 @@ module _ {L G : Type 0} (traffic : L → Traffic) (holds : G → ℕ) (peers : A
 -- Node s of n, done.
 module _ {L G : Type 0} (traffic : L → Traffic) (holds : G → ℕ) (peers : AreOfPeers) (tells : TellsNumbers) (trace : Trace) (n pages : ℕ) (are : IsNumbered trace.operations) (s : ℕ)
     (node : NodeState L G) (d : IsDoneNode traffic holds trace n pages s node) where
-  pub itself : Itself trace n pages s node.journal.entries node.log.replies node.begun node.space.lends
+  pub itself : Itself trace n pages s node.journal.entries node.log.replies node.begun node.store.lends
   itself =
       let entries = node.journal.entries in
       let log = node.log.replies in
-      subst (λ t. Itself t n pages s entries log node.begun node.space.lends) d.of_trace
-      (subst (λ m. Itself node.trace m pages s entries log node.begun node.space.lends) d.of_shards
-      (subst (λ r. Itself node.trace node.shards r s entries log node.begun node.space.lends) d.of_pages
-      (subst (λ a. Itself node.trace node.shards node.pages a entries log node.begun node.space.lends) d.number
+      subst (λ t. Itself t n pages s entries log node.begun node.store.lends) d.of_trace
+      (subst (λ m. Itself node.trace m pages s entries log node.begun node.store.lends) d.of_shards
+      (subst (λ r. Itself node.trace node.shards r s entries log node.begun node.store.lends) d.of_pages
+      (subst (λ a. Itself node.trace node.shards node.pages a entries log node.begun node.store.lends) d.number
       (itself-done traffic holds peers tells node (subst (λ (t : Trace). IsNumbered t.operations) (sym d.of_trace) are) d.standing d.done))))
 
   pub toward : (b : ℕ) (peer : PeerState L) → Contains node.peers peer → peer.shard ≡ b
@@ -142,7 +142,7 @@ module _ {L G : Type 0} (traffic : L → Traffic) (holds : G → ℕ) (peers : A
   pub peer-of : (b : ℕ) → b < n → b ≢ s → (peer : PeerState L) × Contains node.peers peer × (peer.shard ≡ b)
   peer-of b below other = contains-unmapped (λ (p : PeerState L). p.shard) node.peers b (subst (λ qs. Contains qs b) (sym d.peers) (other-there n s b below other))
 
-  pub leads : cache_after trace pages node.journal.entries ≡ Some node.space.rows
+  pub leads : cache_after trace pages node.journal.entries ≡ Some node.store.rows
   leads = ap₂ (λ t r. cache_after t r node.journal.entries) (sym d.of_trace) (sym d.of_pages) ∙ d.standing.journal.legal
 
   -- all that it did for shard o

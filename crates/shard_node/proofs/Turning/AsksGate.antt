@@ -19,7 +19,7 @@ use Rattle.shard_node.proofs.Turning.StepGoes.{no_more, no_rise, still_so}
 use Rattle.std.proofs.lemmas.Option.{slice_get_past}
 use Rattle.shard_memory.specs.Tickets.{HasIdle}
 use Rattle.shard_memory.specs.declared.share.Share.TheVariants.{Reply as ReplyShare}
-use Rattle.reclaim.specs.Spaces.{SpaceState}
+use Rattle.shard_store.specs.Stores.{StoreState}
 use Rattle.layout.specs.Counts.{Rose}
 use Rattle.shard_node.specs.declared.waiting.Waiting.{Waiting}
 use Rattle.shard_parts.specs.Own.{IsFirstPart}
@@ -76,7 +76,7 @@ module _ {L G : Type 0} (traffic : L → Traffic) where
         lent = record { lends = stands.lent.lends; out = stands.lent.out };
         received = record { released = stands.kept.received.released; all = stands.kept.received.all; counted = stands.kept.received.counted };
       }) (λ k d below.
-      stays traffic node node.space node.journal node.log node.peers node.begun node.request gate node.tally (get_or node.peers k d) (λ i reply e. e)
+      stays traffic node node.store node.journal node.log node.peers node.begun node.request gate node.tally (get_or node.peers k d) (λ i reply e. e)
       (record { done = refl; logged = refl; begun = refl; waiting = refl }) (each_stands traffic node stands k d below))
 
   gate_asked : (end : L → LinkEnd) (shard : Shard L G) (gate : G) → IsConsistent shard → IsStep traffic end shard (record shard { gate = gate })
@@ -145,19 +145,19 @@ module _ {L G : Type 0} (traffic : L → Traffic) (holds : G → ℕ) (shard : S
     );
     all = λ all. all;
     idle = λ stands back has. has;
-    space = λ same. refl;
+    store = λ same. refl;
   })
 
   -- a request was made, and met a full lane
   pub asked_back : (now asked sent : Shard L G) (waiting : Waiting) (part : ℕ × ℕ) → now ≡ record shard { gate = now.gate } → slice_get (own_log shard.own) shard.own.begun ≡ Some part
       → (node_state asked).peers ≡ (node_state now).peers → asked.request ≡ Some waiting
-      → (InStanding traffic (node_state now) → asked.space.backs ≡ now.space.backs → HasIdle asked.space.lent ReplyShare → HasIdle now.space.lent ReplyShare)
+      → (InStanding traffic (node_state now) → asked.store.backs ≡ now.store.backs → HasIdle asked.store.lent ReplyShare → HasIdle now.store.lent ReplyShare)
       → (InStanding traffic (node_state shard) → InStanding traffic (node_state now))
       → HeldUp traffic (λ k a b. (w : Waiting) → asked.request ≡ Some w → a.shard ≡ w.peer → Rose (traffic a.link).full.requests (traffic b.link).full.requests) (node_state asked) (node_state sent)
       → HoldsBack traffic holds (node_state shard) (node_state sent)
   asked_back now asked sent waiting part same next peers waits tickets standing held =
       let before : (node_state asked).peers ≡ (node_state shard).peers = peers ∙ ap (λ (s : Shard L G). (node_state s).peers) same in
-      let space : now.space ≡ shard.space = ap (λ (s : Shard L G). s.space) same in
+      let store : now.store ≡ shard.store = ap (λ (s : Shard L G). s.store) same in
       record {
         held = subst (λ ps. Pairs (λ k a b. b.held ≡ a.held) ps (node_state sent).peers) before (pairs_so _ _ _ _ (λ k a b h. h.0) held.peers);
         request = λ w so. elim so [
@@ -170,8 +170,8 @@ module _ {L G : Type 0} (traffic : L → Traffic) (holds : G → ℕ) (shard : S
             absurd (none_some (slice_get (issued_by shard) shard.own.begun) part (slice_get_past (issued_by shard) shard.own.begun (let e = all.0 in omega (arith, e)))
             (ap (λ log. slice_get log shard.own.begun) (sym (own-log-is shard x)) ∙ next));
         idle = λ stands back has.
-            subst (λ (s : SpaceState). HasIdle s.lent ReplyShare) space
-            (tickets (standing stands) (ap (λ (s : SpaceState). s.backs) (sym held.space) ∙ (back ∙ ap (λ (s : SpaceState). s.backs) (sym space)))
-            (subst (λ (s : SpaceState). HasIdle s.lent ReplyShare) held.space has));
-        space = λ same. absurd (none_some asked.request waiting (sym held.request ∙ (same ∙ idle)) waits);
+            subst (λ (s : StoreState). HasIdle s.lent ReplyShare) store
+            (tickets (standing stands) (ap (λ (s : StoreState). s.backs) (sym held.store) ∙ (back ∙ ap (λ (s : StoreState). s.backs) (sym store)))
+            (subst (λ (s : StoreState). HasIdle s.lent ReplyShare) held.store has));
+        store = λ same. absurd (none_some asked.request waiting (sym held.request ∙ (same ∙ idle)) waits);
       }

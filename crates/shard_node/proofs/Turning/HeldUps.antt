@@ -3,12 +3,12 @@ use Rattle.std.proofs.Common.{◌≡◌, ℕ, zero, suc, ◌+◌, ◌<◌, ◌�
 use Rattle.std.proofs.Common.{cond, inl, inr, arith, refl, sym, ap, ◌∙◌}
 use Rattle.std.proofs.lemmas.Bool.{cases_order}
 use Rattle.std.proofs.lemmas.List.Sums.{sum_by-cons}
-use Rattle.trace_text.specs.Operation.{Operation}
+use Rattle.rows.specs.Operation.{Operation}
 use Rattle.foreign_list.specs.Blocks.{Block}
 use Rattle.run_log.specs.JournalState.{JournalState}
 use Rattle.run_log.specs.Replies.{Replies as ReplyLog}
 use Rattle.shard_memory.specs.Tickets.{Tickets}
-use Rattle.reclaim.specs.Spaces.{SpaceState}
+use Rattle.shard_store.specs.Stores.{StoreState}
 use Rattle.layout.specs.Counts.{Rose}
 use Rattle.shard_rings.specs.Lanes.{LinkEnd, Lanes, Traffic}
 use Rattle.shard_rings.specs.Request.{request}
@@ -60,11 +60,11 @@ module _ {L : Type 0} (traffic : L → Traffic) (end : L → LinkEnd) where
   took_none a b log logged tally tally' tried (inr takes) quiet =
       let e = packets_came Replies takes.packet (traffic a.link) (traffic b.link) takes.came.received takes.came.sent in absurd (omega (arith, e, quiet))
 
-  pub served_none : (a b : Peer L) (space space' : SpaceState) (journal journal' : JournalState) (tally tally' : ℕ) (tried : Tried)
-      → TriesRequest traffic end a b space space' journal journal' tally tally' tried → packets (traffic b.link) ≤ packets (traffic a.link)
-      → (held b ≡ held a) × Rose (traffic a.link).empty.requests (traffic b.link).empty.requests × (space' ≡ space) × (journal' ≡ journal)
-  served_none a b space space' journal journal' tally tally' tried (inl none) quiet = (ap (λ (p : Peer L). held p) none.0.same, none.0.came.rose, none.1, none.2)
-  served_none a b space space' journal journal' tally tally' tried (inr serves) quiet =
+  pub served_none : (a b : Peer L) (store store' : StoreState) (journal journal' : JournalState) (tally tally' : ℕ) (tried : Tried)
+      → TriesRequest traffic end a b store store' journal journal' tally tally' tried → packets (traffic b.link) ≤ packets (traffic a.link)
+      → (held b ≡ held a) × Rose (traffic a.link).empty.requests (traffic b.link).empty.requests × (store' ≡ store) × (journal' ≡ journal)
+  served_none a b store store' journal journal' tally tally' tried (inl none) quiet = (ap (λ (p : Peer L). held p) none.0.same, none.0.came.rose, none.1, none.2)
+  served_none a b store store' journal journal' tally tally' tried (inr serves) quiet =
       let e = packets_came Requests serves.packet (traffic a.link) (traffic b.link) serves.came.received serves.came.sent in absurd (omega (arith, e, quiet))
 
 -- What holds up stays what holds up where nothing passes before, and anything happens behind.
@@ -108,7 +108,7 @@ module _ {L G : Type 0} (traffic : L → Traffic) where
   same_pairs a b goes quiet = record { long = goes.peers.long; each = λ k d below. (goes.peers.each k d below).same (none_at a b goes quiet k d below) }
 
   pub held_start : (R : ℕ → PeerState L → PeerState L → Type 0) (a : NodeState L G) → ((k : ℕ) (p : PeerState L) → R k p p) → HeldUp traffic R a a
-  held_start R a r = record { request = refl; begun = refl; gate = refl; space = refl; done = refl; peers = record { long = refl; each = λ k d below. (refl, r k (get_or a.peers k d)) } }
+  held_start R a r = record { request = refl; begun = refl; gate = refl; store = refl; done = refl; peers = record { long = refl; each = λ k d below. (refl, r k (get_or a.peers k d)) } }
 
   -- one place more of a pass over the peers
   pub held_next : (Q : PeerState L → PeerState L → Type 0) (a b c : NodeState L G) (at : ℕ) → Lasts traffic Q → Goes traffic a b → Goes traffic b c → NonePassed traffic a b
@@ -117,7 +117,7 @@ module _ {L G : Type 0} (traffic : L → Traffic) where
     request = two.request ∙ one.request;
     begun = two.begun ∙ one.begun;
     gate = two.gate ∙ one.gate;
-    space = two.space ∙ one.space;
+    store = two.store ∙ one.store;
     done = two.done ∙ one.done;
     peers = record {
       long = second.peers.long ∙ first.peers.long;

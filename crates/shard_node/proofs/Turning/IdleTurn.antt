@@ -10,8 +10,8 @@ use Rattle.cache_model.specs.OwnParts.{issued_parts}
 use Rattle.foreign_list.specs.Blocks.{Block}
 use Rattle.shard_memory.specs.Tickets.{HasIdle, Tickets}
 use Rattle.shard_memory.specs.declared.share.Share.TheVariants.{Request as RequestShare, Reply as ReplyShare}
-use Rattle.reclaim.specs.Lending.{LooksOnce}
-use Rattle.reclaim.specs.Spaces.{SpaceState}
+use Rattle.shard_store.specs.Lending.{LooksOnce}
+use Rattle.shard_store.specs.Stores.{StoreState}
 use Rattle.layout.specs.Counts.{Rose}
 use Rattle.shard_rings.specs.Lanes.{Lanes, on, Traffic}
 use Rattle.shard_rings.specs.declared.link.Lane.{Lane}
@@ -93,8 +93,8 @@ module _ {L G : Type 0} (traffic : L → Traffic) (holds : G → ℕ) where
   -- The steps of a turn that moved nothing.
   pub record MovedNone (a b c d e f g h : NodeState L G) : Type 0 where
     pub home : Goes traffic a b
-    pub same : b ≡ record a { space = b.space }
-    pub looked : LooksOnce a.space b.space
+    pub same : b ≡ record a { store = b.store }
+    pub looked : LooksOnce a.store b.store
     pub released : Goes traffic b c
     pub raced : RacesAll traffic holds b c
     pub replied : Goes traffic c d
@@ -102,14 +102,14 @@ module _ {L G : Type 0} (traffic : L → Traffic) (holds : G → ℕ) where
     pub taken : Goes traffic d e
     pub takes : NonePassed traffic d e → HeldUp traffic (λ k. ReplyLacks traffic) d e
     pub served : Goes traffic e f
-    pub serves : NonePassed traffic e f → HeldUp traffic (λ k. RequestLacks traffic e.space.lent) e f
+    pub serves : NonePassed traffic e f → HeldUp traffic (λ k. RequestLacks traffic e.store.lent) e f
     pub gone : Goes traffic f g
     pub goes : HoldsBack traffic holds f g
     pub done : done_in traffic g ≤ done_in traffic f
     pub byes : Goes traffic g h
     pub tells : NonePassed traffic g h → HeldUp traffic (λ k. ByeWaits traffic holds g) g h
     pub packets : packets_of traffic h ≤ packets_of traffic a
-    pub backs : h.space.backs ≡ a.space.backs
+    pub backs : h.store.backs ≡ a.store.backs
     pub task : SameTask traffic holds a f
     pub stands : InStanding traffic a
     pub stands_later : InStanding traffic f
@@ -151,7 +151,7 @@ module _ {L G : Type 0} (traffic : L → Traffic) (holds : G → ℕ) where
       request-f ∙ all.1,
     )
 
-    idle-e : HasIdle h.space.lent ReplyShare → HasIdle e.space.lent ReplyShare
+    idle-e : HasIdle h.store.lent ReplyShare → HasIdle e.store.lent ReplyShare
     idle-e has =
         let b0 = x.home.backs in
         let b1 = x.released.backs in
@@ -161,9 +161,9 @@ module _ {L G : Type 0} (traffic : L → Traffic) (holds : G → ℕ) where
         let b5 = x.gone.backs in
         let b6 = x.byes.backs in
         let all = x.backs in
-        subst (λ (s : SpaceState). HasIdle s.lent ReplyShare) (x.serves quiet_ef).space
+        subst (λ (s : StoreState). HasIdle s.lent ReplyShare) (x.serves quiet_ef).store
         (x.goes.idle x.stands_later (omega (arith, b0, b1, b2, b3, b4, b5, b6, all))
-        (subst (λ (s : SpaceState). HasIdle s.lent ReplyShare) (x.tells quiet_gh).space has))
+        (subst (λ (s : StoreState). HasIdle s.lent ReplyShare) (x.tells quiet_gh).store has))
 
     -- one peer, step by step
     module _ (k : ℕ) (p q : PeerState L) (here : slice_get a.peers k ≡ Some p) (there : slice_get h.peers k ≡ Some q) where
@@ -227,7 +227,7 @@ module _ {L G : Type 0} (traffic : L → Traffic) (holds : G → ℕ) where
       lacks : (pe.held ≡ pd.held) × ReplyLacks traffic pd pe
       lacks = pair_at _ d.peers e.peers k pd pe (x.takes quiet_de).peers at-d at-e
 
-      asks : (pf.held ≡ pe.held) × RequestLacks traffic e.space.lent pe pf
+      asks : (pf.held ≡ pe.held) × RequestLacks traffic e.store.lent pe pf
       asks = pair_at _ e.peers f.peers k pe pf (x.serves quiet_ef).peers at-e at-f
 
       back : pg.held ≡ pf.held
@@ -361,8 +361,8 @@ module _ {L G : Type 0} (traffic : L → Traffic) (holds : G → ℕ) where
       nothing = nothing;
       peers = λ k p q here there. held-up k p q here there;
       request = λ waiting k so p q here there named. request-full k p q here there waiting so named;
-      own = λ none. back-by holds a.trace f.trace a.shards f.shards a.shard f.shard a.begun f.begun a.gate f.gate h.gate g.gate h.space.lent g.space.lent
-          x.task.trace x.task.shards x.task.shard begun-f gate-f (sym (x.tells quiet_gh).gate) (ap (λ (s : SpaceState). s.lent) (sym (x.tells quiet_gh).space))
+      own = λ none. back-by holds a.trace f.trace a.shards f.shards a.shard f.shard a.begun f.begun a.gate f.gate h.gate g.gate h.store.lent g.store.lent
+          x.task.trace x.task.shards x.task.shard begun-f gate-f (sym (x.tells quiet_gh).gate) (ap (λ (s : StoreState). s.lent) (sym (x.tells quiet_gh).store))
           (x.goes.own (sym (x.tells quiet_gh).request ∙ none));
       looked = λ out.
           let home = x.looked out in
@@ -375,7 +375,7 @@ module _ {L G : Type 0} (traffic : L → Traffic) (holds : G → ℕ) where
           omega (arith, home, l1, l2, l3, l4, l5, l6);
       looked_once = λ same.
           let last = x.tells quiet_gh in
-          let space = last.space ∙ (x.goes.space (sym last.request ∙ (same ∙ sym request-f))
-          ∙ ((x.serves quiet_ef).space ∙ ((x.takes quiet_de).space ∙ ((x.replies quiet_cd).space ∙ x.raced.space)))) in
-          subst (λ (s : SpaceState). LooksOnce a.space s) (sym space) x.looked;
+          let store = last.store ∙ (x.goes.store (sym last.request ∙ (same ∙ sym request-f))
+          ∙ ((x.serves quiet_ef).store ∙ ((x.takes quiet_de).store ∙ ((x.replies quiet_cd).store ∙ x.raced.store)))) in
+          subst (λ (s : StoreState). LooksOnce a.store s) (sym store) x.looked;
     }

@@ -3,7 +3,7 @@ use Rattle.std.proofs.Common.{◌≡◌, ℕ, ◌+◌, ◌<◌, ◌↔◌, Bool,
 use Rattle.foreign_list.specs.Blocks.{Block}
 use Rattle.run_log.specs.JournalState.{JournalState}
 use Rattle.run_log.specs.Replies.{Replies as ReplyLog}
-use Rattle.reclaim.specs.Spaces.{SpaceState}
+use Rattle.shard_store.specs.Stores.{StoreState}
 use Rattle.shard_rings.specs.Lanes.{LinkEnd, Lanes, NoneFell, on, Traffic}
 use Rattle.shard_rings.specs.declared.link.Lane.{Lane}
 use Rattle.shard_rings.specs.declared.link.Lane.TheVariants.{Requests, Replies}
@@ -179,14 +179,14 @@ module _ {L : Type 0} (traffic : L → Traffic) where
         goes_moved (peer_state a) (peer_state b) (ap (λ (p : Peer L). p.shard) takes.same)
         (packets_came Replies takes.packet (traffic a.link) (traffic b.link) takes.came.received takes.came.sent) takes.came.full takes.came.empty
 
-    pub served_goes : (a b : Peer L) (space space' : SpaceState) (journal journal' : JournalState) (tally tally' : ℕ) (tried : Tried)
-        → TriesRequest traffic end a b space space' journal journal' tally tally' tried → GoesOn traffic (peer_state a) (peer_state b)
-    served_goes a b space space' journal journal' tally tally' tried (inl none) =
+    pub served_goes : (a b : Peer L) (store store' : StoreState) (journal journal' : JournalState) (tally tally' : ℕ) (tried : Tried)
+        → TriesRequest traffic end a b store store' journal journal' tally tally' tried → GoesOn traffic (peer_state a) (peer_state b)
+    served_goes a b store store' journal journal' tally tally' tried (inl none) =
         let is = none.0.same in
         goes_quiet (peer_state a) (peer_state b) (ap (λ (p : Peer L). p.shard) is)
         (record { sent = none.0.came.sent; received = none.0.came.received; reply = ap (λ (p : Peer L). p.reply) is; keeps = ap (λ (p : Peer L). (peer_state p).keeps) is })
         none.0.came.full none.0.came.empty (λ lane empty. ap (λ (p : Peer L). on lane (held p)) is ∙ empty)
-    served_goes a b space space' journal journal' tally tally' tried (inr serves) =
+    served_goes a b store store' journal journal' tally tally' tried (inr serves) =
         goes_moved (peer_state a) (peer_state b) (ap (λ (p : Peer L). p.shard) serves.same)
         (packets_came Requests serves.packet (traffic a.link) (traffic b.link) serves.came.received serves.came.sent) serves.came.full serves.came.empty
 
@@ -205,15 +205,15 @@ module _ {L : Type 0} (traffic : L → Traffic) where
     took_more a b log logged tally tally' (Other stray) (inr takes) =
         (λ is. let e = packets_came Replies takes.packet (traffic a.link) (traffic b.link) takes.came.received takes.came.sent in omega (arith, e), λ less. refl)
 
-    pub served_more : (a b : Peer L) (space space' : SpaceState) (journal journal' : JournalState) (tally tally' : ℕ) (tried : Tried)
-        → TriesRequest traffic end a b space space' journal journal' tally tally' tried → IsTrue (has_come tried) ↔ (packets (traffic a.link) < packets (traffic b.link))
-    served_more a b space space' journal journal' tally tally' tried (inl none) =
+    pub served_more : (a b : Peer L) (store store' : StoreState) (journal journal' : JournalState) (tally tally' : ℕ) (tried : Tried)
+        → TriesRequest traffic end a b store store' journal journal' tally tally' tried → IsTrue (has_come tried) ↔ (packets (traffic a.link) < packets (traffic b.link))
+    served_more a b store store' journal journal' tally tally' tried (inl none) =
         subst (λ t. IsTrue (has_come t) ↔ (packets (traffic a.link) < packets (traffic b.link))) (sym none.4)
         (λ is. absurd (false-true is), λ less. let e = packets_same (traffic a.link) (traffic b.link) none.0.came.sent none.0.came.received in absurd (omega (arith, e, less)))
-    served_more a b space space' journal journal' tally tally' Nothing (inr serves) = absurd serves.ends
-    served_more a b space space' journal journal' tally tally' Expected (inr serves) =
+    served_more a b store store' journal journal' tally tally' Nothing (inr serves) = absurd serves.ends
+    served_more a b store store' journal journal' tally tally' Expected (inr serves) =
         (λ is. let e = packets_came Requests serves.packet (traffic a.link) (traffic b.link) serves.came.received serves.came.sent in omega (arith, e), λ less. refl)
-    served_more a b space space' journal journal' tally tally' (Other stray) (inr serves) =
+    served_more a b store store' journal journal' tally tally' (Other stray) (inr serves) =
         (λ is. let e = packets_came Requests serves.packet (traffic a.link) (traffic b.link) serves.came.received serves.came.sent in omega (arith, e), λ less. refl)
 
     -- the request that waits was sent, or the lane was full

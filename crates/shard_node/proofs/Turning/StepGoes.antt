@@ -3,7 +3,7 @@ use Rattle.std.proofs.Common.{◌≡◌, ℕ, ◌+◌, ◌^◌, ◌<◌, ◌≤�
 use Rattle.std.specs.Prelude.{◌⊎◌}
 use Rattle.std.proofs.lemmas.Bool.{cases_order}
 use Rattle.std.proofs.lemmas.List.{length-append}
-use Rattle.trace_text.specs.Operation.{Operation}
+use Rattle.rows.specs.Operation.{Operation}
 use Rattle.cache_model.specs.declared.entry.Entry.{Entry}
 use Rattle.cache_model.specs.Legal.{done}
 use Rattle.foreign_list.specs.Blocks.{Block}
@@ -11,8 +11,8 @@ use Rattle.run_log.specs.JournalState.{JournalState}
 use Rattle.run_log.specs.Replies.{Replies as ReplyLog}
 use Rattle.shard_memory.specs.Tickets.{Tickets}
 use Rattle.shard_memory.specs.declared.share.Share.{Share}
-use Rattle.reclaim.specs.Lending.{ComeHome, LendsBlock}
-use Rattle.reclaim.specs.Spaces.{SpaceState}
+use Rattle.shard_store.specs.Lending.{ComeHome, LendsBlock}
+use Rattle.shard_store.specs.Stores.{StoreState}
 use Rattle.shard_rings.specs.Lanes.{LinkEnd, Traffic}
 use Rattle.shard_rings.specs.declared.link.Packet.{Packet}
 use Rattle.shard_parts.specs.declared.stray_packet.Tried.{Tried}
@@ -41,7 +41,7 @@ same_count m n same = (0, λ most. omega (arith, most, same))
 pub home_more : (lent now : Tickets) (backs later : ℕ) → backs < 2 ^ 64 → ComeHome lent now backs later → backs ≤ later
 home_more lent now backs later few home = let e = home.backs in omega (arith, e, few)
 
-pub lends_more : (share : Share) (old new : SpaceState) (block : Block) → old.backs < 2 ^ 64 → LendsBlock share old new block → old.backs ≤ new.backs
+pub lends_more : (share : Share) (old new : StoreState) (block : Block) → old.backs < 2 ^ 64 → LendsBlock share old new block → old.backs ≤ new.backs
 lends_more share old new block few lends =
     let a = lends.came.backs in
     let b = lends.behind.backs in
@@ -147,15 +147,15 @@ module _ {L : Type 0} (traffic : L → Traffic) where
     took_tally a b log logged tally tally' tried (inl none) = same_count tally tally' none.2
     took_tally a b log logged tally tally' tried (inr takes) = let one = one_try (block_of takes.packet) b.held_reply tally tally' takes.tries in (one.released, one.counts)
 
-    module _ (a b : Peer L) (space space' : SpaceState) (journal journal' : JournalState) (tally tally' : ℕ) where
-      pub served_tally : (tried : Tried) → TriesRequest traffic end a b space space' journal journal' tally tally' tried → (more : ℕ) × CountsOn more tally tally'
+    module _ (a b : Peer L) (store store' : StoreState) (journal journal' : JournalState) (tally tally' : ℕ) where
+      pub served_tally : (tried : Tried) → TriesRequest traffic end a b store store' journal journal' tally tally' tried → (more : ℕ) × CountsOn more tally tally'
       served_tally tried (inl none) = same_count tally tally' none.3
       served_tally tried (inr serves) = let one = one_try (block_of serves.packet) b.held_request tally tally' serves.tries in (one.released, one.counts)
 
-      expected_rises : (next : Option Operation) → space.backs < 2 ^ 64 → EndsExpected next a b space space' journal journal'
-          → (space.backs ≤ space'.backs) × (space.looks ≤ space'.looks) × (length (done journal.entries) ≤ length (done journal'.entries))
+      expected_rises : (next : Option Operation) → store.backs < 2 ^ 64 → EndsExpected next a b store store' journal journal'
+          → (store.backs ≤ store'.backs) × (store.looks ≤ store'.looks) × (length (done journal.entries) ≤ length (done journal'.entries))
       expected_rises (Some operation) few does = (
-        lends_more _ space space' does.reply few does.lends,
+        lends_more _ store store' does.reply few does.lends,
         does.lends.looks,
         let e = ap (λ (entries : List Entry). length (done entries)) does.does.recorded.entries in
             let f = ap length (done-more journal.entries does.does.evicted operation.number) in
@@ -163,26 +163,26 @@ module _ {L : Type 0} (traffic : L → Traffic) where
             omega (arith, e, f, g),
       )
       expected_rises None few hears = (
-        let e = ap (λ (s : SpaceState). s.backs) hears.same_space in omega (arith, e),
-        let e = ap (λ (s : SpaceState). s.looks) hears.same_space in omega (arith, e),
+        let e = ap (λ (s : StoreState). s.backs) hears.same_store in omega (arith, e),
+        let e = ap (λ (s : StoreState). s.looks) hears.same_store in omega (arith, e),
         let e = ap (λ (j : JournalState). length (done j.entries)) hears.same_journal in omega (arith, e),
       )
 
-      ended_rises : (tried : Tried) (packet : Packet) → space.backs < 2 ^ 64 → EndsRequest packet a b space space' journal journal' tried
-          → (space.backs ≤ space'.backs) × (space.looks ≤ space'.looks) × (length (done journal.entries) ≤ length (done journal'.entries))
+      ended_rises : (tried : Tried) (packet : Packet) → store.backs < 2 ^ 64 → EndsRequest packet a b store store' journal journal' tried
+          → (store.backs ≤ store'.backs) × (store.looks ≤ store'.looks) × (length (done journal.entries) ≤ length (done journal'.entries))
       ended_rises Nothing packet few ends = absurd ends
       ended_rises Expected packet few ends = expected_rises (next_ask a) few ends.1
       ended_rises (Other stray) packet few ends = (
-        let e = ap (λ (s : SpaceState). s.backs) ends.same_space in omega (arith, e),
-        let e = ap (λ (s : SpaceState). s.looks) ends.same_space in omega (arith, e),
+        let e = ap (λ (s : StoreState). s.backs) ends.same_store in omega (arith, e),
+        let e = ap (λ (s : StoreState). s.looks) ends.same_store in omega (arith, e),
         let e = ap (λ (j : JournalState). length (done j.entries)) ends.same_journal in omega (arith, e),
       )
 
-      pub served_rises : (tried : Tried) → space.backs < 2 ^ 64 → TriesRequest traffic end a b space space' journal journal' tally tally' tried
-          → (space.backs ≤ space'.backs) × (space.looks ≤ space'.looks) × (length (done journal.entries) ≤ length (done journal'.entries))
+      pub served_rises : (tried : Tried) → store.backs < 2 ^ 64 → TriesRequest traffic end a b store store' journal journal' tally tally' tried
+          → (store.backs ≤ store'.backs) × (store.looks ≤ store'.looks) × (length (done journal.entries) ≤ length (done journal'.entries))
       served_rises tried few (inl none) = (
-        let e = ap (λ (s : SpaceState). s.backs) none.1 in omega (arith, e),
-        let e = ap (λ (s : SpaceState). s.looks) none.1 in omega (arith, e),
+        let e = ap (λ (s : StoreState). s.backs) none.1 in omega (arith, e),
+        let e = ap (λ (s : StoreState). s.looks) none.1 in omega (arith, e),
         let e = ap (λ (j : JournalState). length (done j.entries)) none.2 in omega (arith, e),
       )
       served_rises tried few (inr serves) = ended_rises tried serves.packet few serves.ends

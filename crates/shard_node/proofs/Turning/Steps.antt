@@ -3,9 +3,9 @@ use Rattle.std.proofs.Common.{◌≡◌, ℕ, nat_le, length, map, sum_by, arith
 use Rattle.std.specs.declared.alloc.Global.{Global}
 use Rattle.std.proofs.lemmas.List.{length-map}
 use Rattle.layout.specs.Sizes.{greatest_key}
-use Rattle.cache_model.specs.Holds.{RowsHold}
+use Rattle.rows.specs.Holds.{RowsHold}
 use Rattle.regions.specs.Shapes.{guards_of}
-use Rattle.reclaim.specs.Spaces.{SpaceState}
+use Rattle.shard_store.specs.Stores.{StoreState}
 use Rattle.layout.specs.Counts.{raised}
 use Rattle.shard_memory.specs.Tickets.{tickets_out}
 use Rattle.shard_rings.specs.Lanes.{LinkEnd, Traffic}
@@ -25,19 +25,19 @@ use Rattle.shard_node.proofs.Standing.Stands.{came_back, released}
 
 module _ {L G : Type 0} (traffic : L → Traffic) (end : L → LinkEnd) where
   -- blocks came home
-  pub takes_back : (shard : Shard L G) (space : SpaceState)
-      → space ≡ record shard.space { lent = space.lent; backs = space.backs; looks = space.looks; free = space.free }
-      → space.lends ≡ raised space.backs (tickets_out space.lent)
-      → IsConsistent shard → IsStep traffic end shard (record shard { space = space })
-  takes_back shard space same lends x =
-      let rows : space.rows ≡ shard.space.rows = ap (λ (s : SpaceState). s.rows) same in
+  pub takes_back : (shard : Shard L G) (store : StoreState)
+      → store ≡ record shard.store { lent = store.lent; backs = store.backs; looks = store.looks; free = store.free }
+      → store.lends ≡ raised store.backs (tickets_out store.lent)
+      → IsConsistent shard → IsStep traffic end shard (record shard { store = store })
+  takes_back shard store same lends x =
+      let rows : store.rows ≡ shard.store.rows = ap (λ (s : StoreState). s.rows) same in
       record {
         consistent = record {
           parsed_for = x.parsed_for;
           within = x.within;
-          of_shard = ap (λ (s : SpaceState). s.shard) same ∙ x.of_shard;
-          pages = ap (λ (s : SpaceState). s.pages) same ∙ x.pages;
-          unguarded = ap (λ (s : SpaceState). guards_of s.region 0) same ∙ x.unguarded;
+          of_shard = ap (λ (s : StoreState). s.shard) same ∙ x.of_shard;
+          pages = ap (λ (s : StoreState). s.pages) same ∙ x.pages;
+          unguarded = ap (λ (s : StoreState). guards_of s.region 0) same ∙ x.unguarded;
           longest = x.longest;
           peers = x.peers;
           cursors = λ k d below. let c = x.cursors k d below in record {
@@ -58,7 +58,7 @@ module _ {L G : Type 0} (traffic : L → Traffic) (end : L → LinkEnd) where
           };
           waits = x.waits;
           asked = x.asked;
-          room = let r = x.room in let count = ap length rows in let most = ap (λ (s : SpaceState). s.room) same in let a = r.rows in let b = r.spare in record {
+          room = let r = x.room in let count = ap length rows in let most = ap (λ (s : StoreState). s.room) same in let a = r.rows in let b = r.spare in record {
             rows = omega (arith, count, most, a);
             spare = omega (arith, count, b);
             bodies = r.bodies;
@@ -69,8 +69,8 @@ module _ {L G : Type 0} (traffic : L → Traffic) (end : L → LinkEnd) where
           own_unanswered = x.own_unanswered;
           unanswered = x.unanswered;
         };
-        standing = came_back traffic (node_state shard) space rows (ap (λ (s : SpaceState). s.lends) same) lends;
-        same = record { shard = refl; shards = refl; pages = refl; trace = refl; home = ap (λ (s : SpaceState). s.list) same; ends = refl };
+        standing = came_back traffic (node_state shard) store rows (ap (λ (s : StoreState). s.lends) same) lends;
+        same = record { shard = refl; shards = refl; pages = refl; trace = refl; home = ap (λ (s : StoreState). s.list) same; ends = refl };
         turns = refl;
       }
 

@@ -4,7 +4,7 @@ use Rattle.std.specs.Option.{option_map}
 use Rattle.std.proofs.lemmas.Bool.{cases_eq}
 use Rattle.std.proofs.lemmas.List.{length-append, length-map, same_from_push}
 use Rattle.std.proofs.lemmas.Option.{get_or_from_slice_get, slice_get_within, same_Some}
-use Rattle.trace_text.specs.Operation.{Operation}
+use Rattle.rows.specs.Operation.{Operation}
 use Rattle.trace_text.specs.Parsed.{trace_in}
 use Rattle.trace_text.specs.Trace.{Trace}
 use Rattle.run_log.specs.JournalState.{JournalState}
@@ -14,7 +14,7 @@ use Rattle.shard_rings.specs.Request.{request}
 use Rattle.shard_rings.specs.declared.link.Lane.{Lane}
 use Rattle.shard_rings.specs.declared.link.Lane.TheVariants.{Requests, Replies}
 use Rattle.shard_rings.specs.declared.link.Packet.{Packet}
-use Rattle.reclaim.specs.Spaces.{SpaceState}
+use Rattle.shard_store.specs.Stores.{StoreState}
 use Rattle.shard_parts.specs.declared.stray_packet.StrayPacket.{StrayPacket}
 use Rattle.shard_parts.specs.declared.stray_packet.Tried.{Tried}
 use Rattle.shard_parts.specs.declared.stray_packet.Tried.TheVariants.{Nothing, Expected, Other}
@@ -72,12 +72,12 @@ module _ {L G : Type 0} (traffic : L → Traffic) (end : L → LinkEnd) (holds :
   reply_alone old new log logged tally tally' tried (inr takes) =
       (ap (λ (p : Peer L). p.shard) takes.same, ap (λ (ps : Lanes (List Packet)). ps.requests) takes.came.received)
 
-  pub request_alone : (old new : Peer L) (space space' : SpaceState) (journal journal' : JournalState) (tally tally' : ℕ) (tried : Tried)
-      → TriesRequest traffic end old new space space' journal journal' tally tally' tried
+  pub request_alone : (old new : Peer L) (store store' : StoreState) (journal journal' : JournalState) (tally tally' : ℕ) (tried : Tried)
+      → TriesRequest traffic end old new store store' journal journal' tally tally' tried
       → (new.shard ≡ old.shard) × ((traffic new.link).received.replies ≡ (traffic old.link).received.replies)
-  request_alone old new space space' journal journal' tally tally' tried (inl none) =
+  request_alone old new store store' journal journal' tally tally' tried (inl none) =
       (ap (λ (p : Peer L). p.shard) none.0.same, ap (λ (ps : Lanes (List Packet)). ps.replies) none.0.came.received)
-  request_alone old new space space' journal journal' tally tally' tried (inr serves) =
+  request_alone old new store store' journal journal' tally tally' tried (inr serves) =
       (ap (λ (p : Peer L). p.shard) serves.same, ap (λ (ps : Lanes (List Packet)). ps.replies) serves.came.received)
 
   -- on its own lane one packet came at most
@@ -90,12 +90,12 @@ module _ {L G : Type 0} (traffic : L → Traffic) (end : L → LinkEnd) (holds :
       let all = length-append (traffic old.link).received.replies (takes.packet ∷ []) in
       omega (arith, e, all)
 
-  pub one_request : (old new : Peer L) (space space' : SpaceState) (journal journal' : JournalState) (tally tally' : ℕ) (tried : Tried)
-      → TriesRequest traffic end old new space space' journal journal' tally tally' tried
+  pub one_request : (old new : Peer L) (store store' : StoreState) (journal journal' : JournalState) (tally tally' : ℕ) (tried : Tried)
+      → TriesRequest traffic end old new store store' journal journal' tally tally' tried
       → length (traffic new.link).received.requests ≤ 1 + length (traffic old.link).received.requests
-  one_request old new space space' journal journal' tally tally' tried (inl none) =
+  one_request old new store store' journal journal' tally tally' tried (inl none) =
       let e = ap (λ (ps : Lanes (List Packet)). length ps.requests) none.0.came.received in omega (arith, e)
-  one_request old new space space' journal journal' tally tally' tried (inr serves) =
+  one_request old new store store' journal journal' tally tally' tried (inr serves) =
       let e = ap (λ (ps : Lanes (List Packet)). length ps.requests) serves.came.received in
       let all = length-append (traffic old.link).received.requests (serves.packet ∷ []) in
       omega (arith, e, all)
@@ -184,14 +184,14 @@ module _ {L G : Type 0} (traffic : L → Traffic) (end : L → LinkEnd) (holds :
     said_due : MayAsk old → expected_said (slice_get dues taken) ≡ number_said (due_next old)
     said_due may = due-said asked taken (within may) ∙ ap (λ os. number_said (option_map request (slice_get os 0))) (sym standing.placed.asks)
 
-    pub request_tells : (space space' : SpaceState) (journal journal' : JournalState) (tally tally' : ℕ) (tried : Tried) → MayAsk old
-        → TriesRequest traffic end old new space space' journal journal' tally tally' tried → TriedSays (ReceivesOneStray traffic holds Requests node now k) tried
-    request_tells space space' journal journal' tally tally' tried may (inl none) =
+    pub request_tells : (store store' : StoreState) (journal journal' : JournalState) (tally tally' : ℕ) (tried : Tried) → MayAsk old
+        → TriesRequest traffic end old new store store' journal journal' tally tally' tried → TriedSays (ReceivesOneStray traffic holds Requests node now k) tried
+    request_tells store store' journal journal' tally tally' tried may (inl none) =
         subst (λ t. TriedSays (ReceivesOneStray traffic holds Requests node now k) t) (sym none.4)
         (nothing_came Requests node now k a b here there (ap (λ (ps : Lanes (List Packet)). ps.requests) none.0.came.received))
-    request_tells space space' journal journal' tally tally' Nothing may (inr serves) = absurd serves.ends
-    request_tells space space' journal journal' tally tally' (Other stray) may (inr serves) =
-        let e : IsNoRequest serves.packet old new space space' journal journal' stray = serves.ends in (
+    request_tells store store' journal journal' tally tally' Nothing may (inr serves) = absurd serves.ends
+    request_tells store store' journal journal' tally tally' (Other stray) may (inr serves) =
+        let e : IsNoRequest serves.packet old new store store' journal journal' stray = serves.ends in (
           a,
           b,
           serves.packet,
@@ -203,7 +203,7 @@ module _ {L G : Type 0} (traffic : L → Traffic) (end : L → LinkEnd) (holds :
             e.stray ∙ ap (λ n. record { peer = old.shard; expected = n; found = number_in serves.packet }) (sym (said_due may)),
           ),
         )
-    request_tells space space' journal journal' tally tally' Expected may (inr serves) = λ stray has.
+    request_tells store store' journal journal' tally tally' Expected may (inr serves) = λ stray has.
         let one = one_came Requests node now k a b stray here there has in
         let is : IsStray traffic holds Requests node old.shard (traffic old.link).received.requests one.packet stray = one.is in
         let came : (traffic new.link).received.requests ≡ (traffic old.link).received.requests ++ serves.packet ∷ [] = ap (λ (ps : Lanes (List Packet)). ps.requests) serves.came.received in

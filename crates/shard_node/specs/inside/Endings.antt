@@ -10,5 +10,5 @@ pub use Rattle.shard_parts.specs.Receives.{HasEnded}
 pub record IsAtEnd {L G : Type 0} (shard : Shard L G) : Type 0 where
   pub asked : IsEmpty shard.request
   pub begun : shard.own.begun ≡ length (own_log shard.own)
-  pub idle : tickets_out shard.space.lent ≡ 0
+  pub idle : tickets_out shard.store.lent ≡ 0
   pub peers : All HasEnded shard.peers.items

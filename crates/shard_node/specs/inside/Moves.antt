@@ -84,17 +84,17 @@ module _ {L G : Type 0} (traffic : L → Traffic) where
   pub record Goes (old new : NodeState L G) : Type 0 where
     pub peers : Pairs (λ k. GoesOn traffic) old.peers new.peers
     pub done : done_in old ≤ done_in new
-    pub backs : old.space.backs ≤ new.space.backs
-    pub looks : old.space.looks ≤ new.space.looks
+    pub backs : old.store.backs ≤ new.store.backs
+    pub looks : old.store.looks ≤ new.store.looks
     pub tally : (more : ℕ) × CountsOn more old.tally new.tally
 
-  -- Where no packet went over a link, nothing was done, the space and the own parts are as they were, no block that waits was
+  -- Where no packet went over a link, nothing was done, the store and the own parts are as they were, no block that waits was
   -- touched, and R says what held the node up toward a peer.
   pub record HeldUp (R : ℕ → PeerState L → PeerState L → Type 0) (old new : NodeState L G) : Type 0 where
     pub request : new.request ≡ old.request
     pub begun : new.begun ≡ old.begun
     pub gate : new.gate ≡ old.gate
-    pub space : new.space ≡ old.space
+    pub store : new.store ≡ old.store
     pub done : done_in new ≡ done_in old
     pub peers : Pairs (λ k a b. (b.held ≡ a.held) × R k a b) old.peers new.peers
 
@@ -111,7 +111,7 @@ module _ {L G : Type 0} (traffic : L → Traffic) (holds : G → ℕ) where
     pub request : new.request ≡ old.request
     pub begun : new.begun ≡ old.begun
     pub gate : new.gate ≡ old.gate
-    pub space : new.space ≡ old.space
+    pub store : new.store ≡ old.store
     pub done : done_in traffic new ≡ done_in traffic old
     pub peers : Pairs (λ k a b. SameWith traffic a b
         × Raced traffic holds a.held.requests b.held.requests × Raced traffic holds a.held.replies b.held.replies) old.peers new.peers
@@ -123,9 +123,9 @@ module _ {L G : Type 0} (traffic : L → Traffic) (holds : G → ℕ) where
         → Pairs (λ k a b. a.shard ≡ waiting.peer → Rose (traffic a.link).full.requests (traffic b.link).full.requests) old.peers new.peers
     pub own : IsEmpty new.request → IsHeldBack traffic holds old new
     pub all : HasBegunAll traffic holds old → HasBegunAll traffic holds new
-    pub idle : InStanding traffic old → new.space.backs ≡ old.space.backs → HasIdle new.space.lent ReplyShare → HasIdle old.space.lent ReplyShare
-    -- but for the block of a request that was made, the space is as it was
-    pub space : new.request ≡ old.request → new.space ≡ old.space
+    pub idle : InStanding traffic old → new.store.backs ≡ old.store.backs → HasIdle new.store.lent ReplyShare → HasIdle old.store.lent ReplyShare
+    -- but for the block of a request that was made, the store is as it was
+    pub store : new.request ≡ old.request → new.store ≡ old.store
 
   -- a block that waited was released, and counted
   pub record Frees (old new : NodeState L G) : Type 0 where

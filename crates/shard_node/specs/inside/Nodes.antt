@@ -9,6 +9,6 @@ use Rattle.shard_node.specs.inside.Shards.{IsConsistent}
 -- there from the beginning: it is empty, and has room for them.
 pub record IsConsistentNode {L G : Type 0} (shard : Shard L G) (links : Vec L Global) : Type 0 where
   pub consistent : IsConsistent shard
-  pub idle : shard.turns ≡ 0 → tickets_out shard.space.lent ≡ 0
+  pub idle : shard.turns ≡ 0 → tickets_out shard.store.lent ≡ 0
   pub none : links.items ≡ []
   pub room : length shard.peers.items ≤ vec_capacity links

@@ -4,9 +4,9 @@ use Rattle.std.specs.List.{slice_get}
 use Rattle.layout.specs.Sizes.{greatest_key, key_room, most_keys}
 use Rattle.trace_text.specs.Parsed.{trace_in}
 use Rattle.trace_text.specs.Parts.{longest_value}
-use Rattle.cache_model.specs.Holds.{RowsHold}
+use Rattle.rows.specs.Holds.{RowsHold}
 use Rattle.cache_model.specs.OwnParts.{issued_parts}
-use Rattle.reclaim.specs.Spaces.{IsUnguarded}
+use Rattle.shard_store.specs.Stores.{IsUnguarded}
 use Rattle.shard_parts.specs.declared.peer.Peer.{Peer}
 use Rattle.shard_node.specs.declared.shard.Shard.{Shard}
 use Rattle.shard_node.specs.declared.waiting.Waiting.{Waiting}
@@ -23,7 +23,7 @@ module _ {L G : Type 0} where
     shards = shard.shards;
     pages = shard.pages;
     trace = trace_in shard.trace.now;
-    space = shard.space;
+    store = shard.store;
     journal = shard.journal;
     log = shard.log;
     peers = map peer_state shard.peers.items;
@@ -57,14 +57,14 @@ module _ {L G : Type 0} where
   -- There is room for what is left: a row for each put; in the journal an entry for each part and one for the eviction of each row;
   -- in the log the body of each reply.
   pub record HasRoom (shard : Shard L G) : Type 0 where
-    pub rows : length shard.space.rows + puts_left shard ≤ shard.space.room
-    pub spare : length shard.space.rows + puts_left shard + parts_left shard ≤ shard.journal.spare
+    pub rows : length shard.store.rows + puts_left shard ≤ shard.store.room
+    pub spare : length shard.store.rows + puts_left shard + parts_left shard ≤ shard.journal.spare
     pub bodies : bodies_left shard ≤ shard.log.room
     pub keys : vec_len shard.keys ≡ key_room * most_keys
 
   -- no row is longer than the puts of the trace can make one
   abbrev pub HasShortRows : Shard L G → Type 0
-  HasShortRows shard = RowsHold (λ key. nat_le (length key) greatest_key) (λ value. nat_le (length value) shard.longest) shard.space.rows
+  HasShortRows shard = RowsHold (λ key. nat_le (length key) greatest_key) (λ value. nat_le (length value) shard.longest) shard.store.rows
 
   abbrev pub issued_by : Shard L G → List (ℕ × ℕ)
   issued_by shard = issued_parts (trace_in shard.trace.now) shard.shards shard.shard
@@ -91,9 +91,9 @@ module _ {L G : Type 0} where
   pub record IsConsistent (shard : Shard L G) : Type 0 where
     pub parsed_for : shard.shards ≡ shard.trace.now.shards
     pub within : shard.shard < shard.shards
-    pub of_shard : shard.space.shard ≡ shard.shard
-    pub pages : shard.space.pages ≡ shard.pages
-    pub unguarded : IsUnguarded shard.space
+    pub of_shard : shard.store.shard ≡ shard.shard
+    pub pages : shard.store.pages ≡ shard.pages
+    pub unguarded : IsUnguarded shard.store
     pub longest : shard.longest ≡ longest_value (trace_in shard.trace.now)
     pub peers : map (λ peer. peer.shard) shard.peers.items ≡ others shard.shards shard.shard
     pub cursors : All (HasCursors shard) shard.peers.items

@@ -1,6 +1,6 @@
 -- What the steps of a turn come to, from the shard as the turn began.
 use Rattle.std.specs.Prelude.{◌≡◌, ℕ, true, false}
-use Rattle.reclaim.specs.Lending.{LooksOnce}
+use Rattle.shard_store.specs.Lending.{LooksOnce}
 use Rattle.shard_rings.specs.Lanes.{LinkEnd, Traffic}
 use Rattle.shard_rings.specs.declared.link.Lane.{Lane}
 use Rattle.shard_node.specs.declared.seen.Seen.{Seen}
@@ -17,8 +17,8 @@ module _ {L G : Type 0} (traffic : L → Traffic) (end : L → LinkEnd) where
     pub step : IsStep traffic end old new
     pub received : (lane : Lane) → ReceivesNone traffic lane (node_state old) (node_state new)
     pub goes : Goes traffic (node_state old) (node_state new)
-    pub same : node_state new ≡ record (node_state old) { space = (node_state new).space }
-    pub looked : LooksOnce old.space new.space
+    pub same : node_state new ≡ record (node_state old) { store = (node_state new).store }
+    pub looked : LooksOnce old.store new.store
 
   -- what was seen of the steps, but not whether blocks came home
   pub record SeesSteps (holds : G → ℕ) (lets : G → ℕ → ℕ → G → Type 0) (seen : Seen) (began now : Shard L G) : Type 0 where
@@ -28,7 +28,7 @@ module _ {L G : Type 0} (traffic : L → Traffic) (end : L → LinkEnd) where
     pub told : InStanding traffic (node_state began) → TellsFirst traffic holds seen.stray (node_state began) (node_state now)
     pub caused : InStanding traffic (node_state began) → seen.moved ≡ true
         → HasCause traffic holds (node_state began) (node_state now)
-    pub held_up : InStanding traffic (node_state began) → seen.moved ≡ false → now.space.backs ≡ began.space.backs
+    pub held_up : InStanding traffic (node_state began) → seen.moved ≡ false → now.store.backs ≡ began.store.backs
         → IsIdle traffic holds (node_state began) (node_state now)
 
   -- and whether they did
@@ -47,5 +47,5 @@ module _ {L G : Type 0} (traffic : L → Traffic) (end : L → LinkEnd) where
 
   -- so many blocks had come home as the turn began: whether more have is seen too
   abbrev pub NotesHome : (G → ℕ) → (G → ℕ → ℕ → G → Type 0) → ℕ → Seen → Seen → Shard L G → Type 0
-  NotesHome holds lets back old new shard = (began : Shard L G) → back ≡ began.space.backs → SeesSteps holds lets old began shard
+  NotesHome holds lets back old new shard = (began : Shard L G) → back ≡ began.store.backs → SeesSteps holds lets old began shard
       → SeesTurn holds lets new began shard

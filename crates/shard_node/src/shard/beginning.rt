@@ -16,6 +16,7 @@ ghost use Rattle.shard_node.specs.inside.Steps.{IsStep};
 
 use super::Shard;
 use crate::gate::Gate;
+use crate::messages::request;
 use crate::parts::do_part;
 use crate::waiting::Waiting;
 use cache_model::{
@@ -24,7 +25,7 @@ use cache_model::{
 };
 use shard_memory::Share;
 use shard_parts::send;
-use shard_rings::{Ask, Lane, Link};
+use shard_rings::{Lane, Link, operation_of};
 use trace_text::Command;
 
 impl<'f, L: Link<'f> + Drop, G: Gate + Drop> Shard<'f, L, G> {
@@ -93,7 +94,7 @@ impl<'f, L: Link<'f> + Drop, G: Gate + Drop> Shard<'f, L, G> {
         let Some((command, doer)) = self.own.next() else {
             return false;
         };
-        if doer != self.shard && !self.space.is_idle(Share::Request) {
+        if doer != self.shard && !self.store.is_idle(Share::Request) {
             return false;
         }
         if !self.passes_gate(command.number) {
@@ -144,15 +145,23 @@ impl<'f, L: Link<'f> + Drop, G: Gate + Drop> Shard<'f, L, G> {
         replies_hold_what_was_put();
         issued_parts_are_counted();
         self.trace.commands();
-        self.space.facts();
+        self.store.facts();
         let Some(command) = self.here.first() else {
             return false;
         };
-        let ask = Ask::of(self.trace, command);
+        let operation = operation_of(self.trace, command);
         let part = self.own.begun();
-        let (space, journal, log) = (&mut self.space, &mut self.journal, &mut self.log);
-        do_part(space, &ask, part, self.keys.as_mut_slice(), journal, log);
-        self.space.facts();
+        let (store, journal, log) = (&mut self.store, &mut self.journal, &mut self.log);
+        do_part(
+            store,
+            command.number,
+            &operation,
+            part,
+            self.keys.as_mut_slice(),
+            journal,
+            log,
+        );
+        self.store.facts();
         self.here.pass();
         self.own.pass();
         true
@@ -167,7 +176,7 @@ impl<'f, L: Link<'f> + Drop, G: Gate + Drop> Shard<'f, L, G> {
         requires next { slice_get (issued_by self.old) self.old.own.begun ≡ Some (command.now.number, doer) }
         requires other { doer ≢ self.old.shard }
         requires below { doer < self.old.shards }
-        requires ticket { HasIdle self.old.space.lent Shares.Request }
+        requires ticket { HasIdle self.old.store.lent Shares.Request }
 
         // Nothing passes over a link.
         ensures step { IsStep L.traffic L.end self.old self.new }
@@ -182,23 +191,23 @@ impl<'f, L: Link<'f> + Drop, G: Gate + Drop> Shard<'f, L, G> {
 
         // Tickets of replies are as they were.
         ensures idle { InStanding L.traffic (node_state self.old)
-            → self.new.space.backs ≡ self.old.space.backs
-            → HasIdle self.new.space.lent Shares.Reply → HasIdle self.old.space.lent Shares.Reply }
+            → self.new.store.backs ≡ self.old.store.backs
+            → HasIdle self.new.store.lent Shares.Reply → HasIdle self.old.store.lent Shares.Reply }
     {
         a_journal_goes_on();
         evictions_in_turn_are_legal();
         evictions_are_counted();
         issued_parts_are_counted();
         self.trace.commands();
-        self.space.facts();
+        self.store.facts();
         self.own.facts();
         self.journal.entries();
-        let ask = Ask::of(self.trace, command);
-        if let Ok(block) = self.space.request_block(&ask, &mut self.journal) {
-            self.space.facts();
-            self.own.pass();
-            self.request = Some(Waiting { peer: doer, block });
-        }
+        let operation = operation_of(self.trace, command);
+        let (store, journal) = (&mut self.store, &mut self.journal);
+        let block = request(store, command.number, &operation, journal);
+        self.store.facts();
+        self.own.pass();
+        self.request = Some(Waiting { peer: doer, block });
     }
 
     /// The place of another shard among the peers.

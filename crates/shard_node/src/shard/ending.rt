@@ -33,7 +33,7 @@ impl<'f, L: Drop, G: Drop> Shard<'f, L, G> {
     {
         self.request.is_none()
             && self.own.are_all_begun()
-            && self.space.tickets_out() == 0
+            && self.store.tickets_out() == 0
             && all_ended(self.peers.as_slice())
     }
 }

@@ -13,9 +13,9 @@ use crate::gate::Gate;
 use crate::refusal::NodeRefusal;
 use cache_model::issued_parts_are_counted;
 use foreign_list::{Foreign, OwnerSeat, Tally};
-use reclaim::Space;
 use shard_parts::{Own, Rest, Room, peers_over};
 use shard_rings::Link;
+use shard_store::ShardStore;
 use std::alloc::Global;
 use trace_text::Trace;
 
@@ -55,8 +55,8 @@ impl<'f, L: Link<'f> + Drop, G: Gate + Drop> Shard<'f, L, G> {
         ensures trace { IfOk result (λ s. s.trace.now ≡ trace.now) }
 
         // No block is out.
-        ensures list { IfOk result (λ s. s.space.list ≡ home.now) }
-        ensures lent { IfOk result (λ s. tickets_out s.space.lent ≡ 0) }
+        ensures list { IfOk result (λ s. s.store.list ≡ home.now) }
+        ensures lent { IfOk result (λ s. tickets_out s.store.lent ≡ 0) }
 
         // How it stands before the first turn.
         ensures links { IfOk result (λ s. map (λ peer. peer.link) s.peers.items ≡ links.items) }
@@ -76,8 +76,8 @@ impl<'f, L: Link<'f> + Drop, G: Gate + Drop> Shard<'f, L, G> {
             peers,
             rows,
         } = room;
-        let space = match Space::open(alloc, shard, pages, rows, home, seat) {
-            Ok(space) => space,
+        let store = match ShardStore::open(alloc, shard, pages, rows, home, seat) {
+            Ok(store) => store,
             Err(seat) => return Err(NodeRefusal { seat, links }),
         };
         Ok(Shard {
@@ -86,7 +86,7 @@ impl<'f, L: Link<'f> + Drop, G: Gate + Drop> Shard<'f, L, G> {
             pages,
             trace,
             longest: trace.longest_value(),
-            space,
+            store,
             journal,
             log,
             keys,

@@ -1,11 +1,10 @@
 //! The step that does what other shards ask.
 ghost use Rattle.std.specs.Prelude.{◌≡◌, ◌≢◌, ℕ, ◌⊎◌, ◌↔◌, ◌+◌, ◌<◌, ◌≤◌, length, true, Some, IsTrue};
-ghost use Rattle.trace_text.specs.Operation.{Operation};
-ghost use Rattle.trace_text.specs.Parts.{is_put};
+ghost use Rattle.rows.specs.Operation.{Operation, is_put};
 ghost use Rattle.shard_memory.specs.Tickets.{HasIdle};
 ghost use Rattle.shard_memory.specs.declared.share.Share.{Share as Shares};
 ghost use Rattle.shard_rings.specs.declared.link.Packet.TheVariants.{Block as InBlock, Bye};
-ghost use Rattle.reclaim.specs.Spaces.{IsUnguarded, SpaceState};
+ghost use Rattle.shard_store.specs.Stores.{IsUnguarded, StoreState};
 ghost use Rattle.run_log.specs.JournalState.{JournalState};
 ghost use Rattle.std.specs.List.{slice_get};
 ghost use Rattle.shard_rings.specs.declared.link.Lane.{Lane as AnyLane};
@@ -20,17 +19,18 @@ ghost use Rattle.shard_node.specs.inside.Steps.{IsStep};
 
 use super::Shard;
 use crate::gate::Gate;
+use crate::messages::reply;
 use crate::seen::Seen;
 use cache_model::{
     a_journal_goes_on, evictions_are_counted, evictions_in_turn_are_legal,
     replies_hold_what_was_put,
 };
 use foreign_list::{ForeignBlock, Tally};
-use reclaim::Space;
 use run_log::Journal;
 use shard_memory::Share;
 use shard_parts::{Peer, Tried, release};
-use shard_rings::{Ask, Lane, Link, Packet, is_request, message_number};
+use shard_rings::{Lane, Link, Packet, message_number, operation_of, read_expected};
+use shard_store::ShardStore;
 use trace_text::Trace;
 
 impl<'f, L: Link<'f> + Drop, G: Gate + Drop> Shard<'f, L, G> {
@@ -51,7 +51,7 @@ impl<'f, L: Link<'f> + Drop, G: Gate + Drop> Shard<'f, L, G> {
             L.traffic (node_state self.new))) }
         ensures held_up { NonePassed L.traffic (node_state self.old) (node_state self.new)
             → HeldUp L.traffic (λ k. RequestLacks L.traffic
-            (node_state self.old).space.lent) (node_state self.old) (node_state self.new) }
+            (node_state self.old).store.lent) (node_state self.old) (node_state self.new) }
 
         // The first packet that was not expected.
         ensures tells { InStanding L.traffic (node_state self.old)
@@ -84,7 +84,7 @@ impl<'f, L: Link<'f> + Drop, G: Gate + Drop> Shard<'f, L, G> {
         ensures held_up { NonePassed L.traffic (node_state self.old) (node_state self.new)
             → HeldUp L.traffic (λ k a b. k ≡ at
             → RequestLacks L.traffic
-            (node_state self.old).space.lent a b) (node_state self.old) (node_state self.new) }
+            (node_state self.old).store.lent a b) (node_state self.old) (node_state self.new) }
 
         // Nothing happened to the other peers.
         ensures others { (k : ℕ) → k ≢ at → slice_get (node_state self.new).peers k ≡ slice_get (node_state self.old).peers k }
@@ -124,7 +124,7 @@ impl<'f, L: Link<'f> + Drop, G: Gate + Drop> Shard<'f, L, G> {
         ensures held_up { NonePassed L.traffic (node_state self.old) (node_state self.new)
             → HeldUp L.traffic (λ k a b. k ≡ at
             → RequestLacks L.traffic
-            (node_state self.old).space.lent a b) (node_state self.old) (node_state self.new) }
+            (node_state self.old).store.lent a b) (node_state self.old) (node_state self.new) }
 
         // Nothing happened to the other peers.
         ensures others { (k : ℕ) → k ≢ at → slice_get (node_state self.new).peers k ≡ slice_get (node_state self.old).peers k }
@@ -135,7 +135,7 @@ impl<'f, L: Link<'f> + Drop, G: Gate + Drop> Shard<'f, L, G> {
             → TriedSays (ReceivesOneStray L.traffic G.holds Requests (node_state self.old)
             (node_state self.new) at) result }
     {
-        if !self.space.is_idle(Share::Reply) || !self.peers[at].may_ask() {
+        if !self.store.is_idle(Share::Reply) || !self.peers[at].may_ask() {
             return Tried::Nothing;
         }
         a_journal_goes_on();
@@ -143,11 +143,11 @@ impl<'f, L: Link<'f> + Drop, G: Gate + Drop> Shard<'f, L, G> {
         evictions_are_counted();
         replies_hold_what_was_put();
         self.trace.commands();
-        self.space.facts();
+        self.store.facts();
         let trace = self.trace;
-        let (space, journal, tally) = (&mut self.space, &mut self.journal, &mut self.tally);
-        let tried = serve(&mut self.peers[at], trace, space, journal, tally);
-        self.space.facts();
+        let (store, journal, tally) = (&mut self.store, &mut self.journal, &mut self.tally);
+        let tried = serve(&mut self.peers[at], trace, store, journal, tally);
+        self.store.facts();
         tried
     }
 
@@ -171,25 +171,25 @@ impl<'f, L: Link<'f> + Drop, G: Gate + Drop> Shard<'f, L, G> {
 fn serve<'f, L: Link<'f> + Drop>(
     peer: &mut Peer<'f, L>,
     trace: &Trace,
-    space: &mut Space<'f>,
+    store: &mut ShardStore<'f>,
     journal: &mut Journal,
     tally: &mut Tally,
 ) -> Tried
     requires may { MayAsk peer.old }
     requires trace { peer.old.asks.trace ≡ trace.now }
-    requires idle { HasIdle space.old.lent Shares.Reply }
-    requires unguarded { IsUnguarded space.old }
+    requires idle { HasIdle store.old.lent Shares.Reply }
+    requires unguarded { IsUnguarded store.old }
     requires room { (d : Operation) → next_ask peer.old ≡ Some d → is_put d.kind ≡ true
-        → length space.old.rows < space.old.room }
-    requires spare { (d : Operation) → next_ask peer.old ≡ Some d → length space.old.rows + 1 ≤ journal.old.spare }
+        → length store.old.rows < store.old.room }
+    requires spare { (d : Operation) → next_ask peer.old ≡ Some d → length store.old.rows + 1 ≤ journal.old.spare }
     ensures { TriesRequest
-        L.traffic L.end peer.old peer.new space.old space.new journal.old journal.new tally.old tally.new result }
+        L.traffic L.end peer.old peer.new store.old store.new journal.old journal.new tally.old tally.new result }
 {
     match peer.link.receive(Lane::Requests) {
         None => Tried::Nothing,
         Some(Packet::Bye) => hear_bye(peer),
         Some(Packet::Block(block)) => {
-            let tried = answer(peer, trace, &block, space, journal);
+            let tried = answer(peer, trace, &block, store, journal);
             peer.held_request = release(block, tally);
             tried
         }
@@ -198,8 +198,8 @@ fn serve<'f, L: Link<'f> + Drop>(
 
 /// Hears Bye, where no request is left to come.
 fn hear_bye<'f, L: Drop>(peer: &mut Peer<'f, L>) -> Tried
-    ensures ends { (space : SpaceState) (journal : JournalState)
-        → EndsRequest Bye peer.old peer.new space space journal journal result }
+    ensures ends { (store : StoreState) (journal : JournalState)
+        → EndsRequest Bye peer.old peer.new store store journal journal result }
     ensures same { peer.new ≡ record peer.old { has_heard_bye = peer.new.has_heard_bye } }
 {
     if peer.asks.first().is_some() {
@@ -209,32 +209,32 @@ fn hear_bye<'f, L: Drop>(peer: &mut Peer<'f, L>) -> Tried
     Tried::Expected
 }
 
-/// Does what the block asks, where that is what comes next; the reply waits.
+/// Reads what the block asks, and does it where that is what comes next; the reply waits.
 fn answer<'f, L: Drop>(
     peer: &mut Peer<'f, L>,
     trace: &Trace,
     block: &ForeignBlock<'f>,
-    space: &mut Space<'f>,
+    store: &mut ShardStore<'f>,
     journal: &mut Journal,
 ) -> Tried
     requires trace { peer.old.asks.trace ≡ trace.now }
-    requires idle { HasIdle space.old.lent Shares.Reply }
-    requires unguarded { IsUnguarded space.old }
+    requires idle { HasIdle store.old.lent Shares.Reply }
+    requires unguarded { IsUnguarded store.old }
     requires room { (d : Operation) → next_ask peer.old ≡ Some d → is_put d.kind ≡ true
-        → length space.old.rows < space.old.room }
-    requires spare { (d : Operation) → next_ask peer.old ≡ Some d → length space.old.rows + 1 ≤ journal.old.spare }
-    ensures ends { EndsRequest (InBlock block.now) peer.old peer.new space.old space.new journal.old journal.new result }
+        → length store.old.rows < store.old.room }
+    requires spare { (d : Operation) → next_ask peer.old ≡ Some d → length store.old.rows + 1 ≤ journal.old.spare }
+    ensures ends { EndsRequest (InBlock block.now) peer.old peer.new store.old store.new journal.old journal.new result }
     ensures same { peer.new ≡ record peer.old { reply = peer.new.reply; asks = peer.new.asks } }
 {
     let bytes = block.bytes();
     let Some(command) = peer.asks.first() else {
         return peer.unexpected_request(message_number(bytes));
     };
-    let ask = Ask::of(trace, command);
-    if !is_request(&ask, bytes) {
+    let expected = operation_of(trace, command);
+    let Some(operation) = read_expected(bytes, command.number, &expected) else {
         return peer.unexpected_request(message_number(bytes));
-    }
-    peer.reply = space.reply_block(&ask, journal).ok();
+    };
+    peer.reply = Some(reply(store, command.number, &operation, journal));
     peer.asks.pass();
     Tried::Expected
 }

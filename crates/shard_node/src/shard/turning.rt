@@ -51,7 +51,7 @@ impl<'f, L: Link<'f> + Drop, G: Gate + Drop> Shard<'f, L, G> {
         requires { IsConsistent self.old }
         ensures { SeesTurn L.traffic L.end G.holds G.lets result self.old self.new }
     {
-        let back = self.space.back();
+        let back = self.store.back();
         self.take_back();
         let mut seen = self.make_later_steps();
         self.note_home(&mut seen, back);
@@ -77,6 +77,6 @@ impl<'f, L: Link<'f> + Drop, G: Gate + Drop> Shard<'f, L, G> {
     fn note_home(&self, seen: &mut Seen, back: u64)
         ensures { NotesHome L.traffic L.end G.holds G.lets back seen.old seen.new self.now }
     {
-        seen.note(self.space.back() != back);
+        seen.note(self.store.back() != back);
     }
 }

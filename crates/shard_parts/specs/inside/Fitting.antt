@@ -1,6 +1,6 @@
 -- A reply that fits a command in its body, where its kind is one that the command can be answered.
 use Rattle.std.specs.Prelude.{◌≡◌, ℕ, ◌≤◌, true, List, length}
-use Rattle.cache_model.specs.Apply.{Reply, Value, Keys}
+use Rattle.rows.specs.Apply.{Reply, Value, Keys}
 use Rattle.shard_parts.specs.inside.Rising.{rise}
 
 -- a value is not too long; keys are not too many, and rise from the scan's key on

@@ -2,7 +2,7 @@
 use Rattle.std.specs.Prelude.{ℕ, Bool, true, false, List, [], ◌∷◌, ◌&&◌, if◌then◌else◌}
 use Rattle.std.specs.Ordering.{is_lt, nat_cmp}
 use Rattle.std.specs.Cmp.Lexicographic.{slice_cmp}
-use Rattle.cache_model.specs.Apply.{is_at_most}
+use Rattle.rows.specs.Apply.{is_at_most}
 
 -- a key may come behind another: above it, or, where it is the first, at the other or above it
 abbrev pub may_follow : Bool → List ℕ → List ℕ → Bool

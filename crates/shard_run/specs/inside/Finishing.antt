@@ -22,10 +22,10 @@ pub record HasFinished (trace : Trace) (n pages k : ℕ) (remains : Remains) : T
 pub record Leaves {G : Type 0} (node : NodeState LinkState G) (old new : Remains) : Type 0 where
   pub journals : new.ran.journals ≡ old.ran.journals ++ node.journal ∷ []
   pub logs : new.ran.logs ≡ old.ran.logs ++ node.log ∷ []
-  pub lines : new.ran.lines ≡ old.ran.lines ++ line_of node.space ∷ []
+  pub lines : new.ran.lines ≡ old.ran.lines ++ line_of node.store ∷ []
   pub row : Vec LinkState Global
   pub links : new.links.items ≡ old.links.items ++ row ∷ []
   pub row_is : row.items ≡ links_of node
   pub seat : OwnerState
   pub seats : new.seats.items ≡ old.seats.items ++ seat ∷ []
-  pub at_rest : IsAtRest node.space.list seat
+  pub at_rest : IsAtRest node.store.list seat

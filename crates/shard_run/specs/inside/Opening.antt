@@ -20,7 +20,7 @@ module _ {G : Type 0} where
   pub record AreLeft (n : ℕ) (homes : List OwnedList) (seats : List OwnerState) (nodes : List (NodeState LinkState G)) : Type 0 where
     pub count : length seats + length nodes ≡ n
     pub seated : AreSeatsOf homes seats
-    pub lists : (k : ℕ) (home : OwnedList) (node : NodeState LinkState G) → slice_get homes (length seats + k) ≡ Some home → slice_get nodes k ≡ Some node → node.space.list ≡ home
+    pub lists : (k : ℕ) (home : OwnedList) (node : NodeState LinkState G) → slice_get homes (length seats + k) ≡ Some home → slice_get nodes k ≡ Some node → node.store.list ≡ home
     pub unturned : AreUnturned nodes
 
   -- the seats of these nodes stand behind those that were there
@@ -28,7 +28,7 @@ module _ {G : Type 0} where
     pub count : length new ≡ length old + length nodes
     pub kept : (s : ℕ) (seat : OwnerState) → slice_get old s ≡ Some seat → slice_get new s ≡ Some seat
     pub back : (k : ℕ) (node : NodeState LinkState G) (seat : OwnerState) → slice_get nodes k ≡ Some node → slice_get new (length old + k) ≡ Some seat
-        → IsAtRest node.space.list seat
+        → IsAtRest node.store.list seat
 
   -- The node of the last shard whose seat was left stands before the others, with these links.
   pub record OpensLast (trace : Trace) (n pages : ℕ) (homes : List OwnedList) (links : List LinkState) (seats later_seats : List OwnerState)

@@ -1,7 +1,7 @@
 //! Two shards: a and c belong to shard 0, b and z to shard 1.
 ghost use Rattle.std.specs.Prelude.{◌≡◌, ℕ, List, map, Some, IfOk};
 ghost use Rattle.trace_text.specs.Parsed.{trace_in};
-ghost use Rattle.cache_model.specs.Apply.{Reply};
+ghost use Rattle.rows.specs.Apply.{Reply};
 ghost use Rattle.cache_model.specs.Examples.{two_shards};
 ghost use Rattle.cache_model.specs.Logged.{AreLogged};
 ghost use Rattle.report_text.specs.Views.{replies_in};

@@ -1,5 +1,5 @@
 //! Where rows stand.
-use super::rows::key_of;
+use super::filled::key_of;
 use regions::Place;
 use row_cache::RowCache;
 

@@ -1,53 +1,54 @@
 //! Parts without a node.
 ghost use Rattle.std.specs.Prelude.{◌≡◌, Contains, IfSome};
 ghost use Rattle.foreign_list.specs.OwnerSeats.{IsAtRest};
-ghost use Rattle.reclaim.specs.Spaces.{IsUnguarded};
+ghost use Rattle.shard_store.specs.Stores.{IsUnguarded};
 
+use cache_model::Entry;
 use foreign_list::{Foreign, OwnerSeat};
 use layout::FEWEST_PAGES;
-use reclaim::Space;
 use run_log::Journal;
-use shard_rings::Ask;
+use shard_rings::{Operation, operation_of};
+use shard_store::ShardStore;
 use std::alloc::Global;
-use trace_text::{Command, Kind, Trace};
+use trace_text::{Command, Trace};
 
-/// Does the commands of a trace on a space, at most so many reads, and answers how many rows were read.
+/// Does the commands of a trace on a store, at most so many reads, and answers how many rows were read.
 pub fn read_rows(alloc: Global, trace: &Trace, reads: u32) -> Option<u64> {
     let (home, seat) = Foreign::new(alloc, 0).ok()?;
     let mut journal = Journal::new(alloc, trace.commands().len() as u32).ok()?;
     let mut values = Vec::with_capacity(alloc, 8 * reads as usize).ok()?;
-    let mut space = open_space(alloc, &home, seat)?;
-    let read = do_parts(&mut space, trace, reads, &mut journal, &mut values);
-    drop(space);
+    let mut store = open_store(alloc, &home, seat)?;
+    let read = do_parts(&mut store, trace, reads, &mut journal, &mut values);
+    drop(store);
     Some(read)
 }
 
-fn open_space<'f>(alloc: Global, home: &'f Foreign, seat: OwnerSeat) -> Option<Space<'f>>
+fn open_store<'f>(alloc: Global, home: &'f Foreign, seat: OwnerSeat) -> Option<ShardStore<'f>>
     requires owner { home.now.owner ≡ 0 }
     requires seat { IsAtRest home.now seat }
     ensures unguarded { IfSome result IsUnguarded }
-    ensures room { IfSome result (λ space. space.room ≡ 1) }
+    ensures room { IfSome result (λ store. store.room ≡ 1) }
 {
-    Space::open(alloc, 0, FEWEST_PAGES, 1, home, seat).ok()
+    ShardStore::open(alloc, 0, FEWEST_PAGES, 1, home, seat).ok()
 }
 
 /// Does the commands, at most so many reads, and answers how many rows were read.
 fn do_parts(
-    space: &mut Space<'_>,
+    store: &mut ShardStore<'_>,
     trace: &Trace,
     reads: u32,
     journal: &mut Journal,
     values: &mut Vec<u8>,
 ) -> u64
-    requires unguarded { IsUnguarded space.old }
-    requires room { space.old.room ≡ 1 }
+    requires unguarded { IsUnguarded store.old }
+    requires room { store.old.room ≡ 1 }
 {
     let mut read = 0u64;
     for command in trace.commands() {
         if read == u64::from(reads) {
             break;
         }
-        if do_part(space, trace, command, journal, values) {
+        if do_part(store, trace, command, journal, values) {
             read = read.saturating_add(1);
         }
     }
@@ -56,31 +57,33 @@ fn do_parts(
 
 /// Does a command: the first put stores its row, and each get reads one. Answers whether a row was read.
 fn do_part(
-    space: &mut Space<'_>,
+    store: &mut ShardStore<'_>,
     trace: &Trace,
     command: &Command,
     journal: &mut Journal,
     values: &mut Vec<u8>,
 ) -> bool
     requires command { Contains trace.now.commands command.now }
-    requires unguarded { IsUnguarded space.old }
-    requires room { space.old.room ≡ 1 }
-    ensures unguarded { IsUnguarded space.new }
-    ensures room { space.new.room ≡ 1 }
+    requires unguarded { IsUnguarded store.old }
+    requires room { store.old.room ≡ 1 }
+    ensures unguarded { IsUnguarded store.new }
+    ensures room { store.new.room ≡ 1 }
 {
     if journal.spare() == 0 {
         return false;
     }
-    let ask = Ask::of(trace, command);
-    match ask.kind {
-        Kind::Put if space.rows() == 0 => {
-            space.put(&ask, journal);
+    match operation_of(trace, command) {
+        Operation::Put { key, value } if store.rows() == 0 => {
+            store.put(key, value, command.number, journal);
             false
         }
-        Kind::Get => match space.get_here(&ask, journal) {
-            Some(value) => values.extend_from_slice(value).is_ok(),
-            None => false,
-        },
+        Operation::Get { key } => {
+            journal.add(Entry::Done(command.number));
+            match store.get(key) {
+                Some(value) => values.extend_from_slice(value).is_ok(),
+                None => false,
+            }
+        }
         _ => false,
     }
 }

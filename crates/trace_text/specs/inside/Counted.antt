@@ -1,7 +1,7 @@
 -- What is counted of commands as they are added.
 use Rattle.std.specs.Prelude.{◌≡◌, ℕ, ◌≤◌, List, length, count_by, fold, max}
 use Rattle.trace_text.specs.declared.command.Command.{Command}
-use Rattle.trace_text.specs.Parts.{is_get, is_scan}
+use Rattle.rows.specs.Operation.{is_get, is_scan}
 
 pub record AreCounted (commands : List Command) (gets scans longest : ℕ) : Type 0 where
   pub gets_are : gets ≡ count_by (λ command. is_get command.kind) commands

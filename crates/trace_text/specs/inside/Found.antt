@@ -7,7 +7,8 @@ use Rattle.trace_text.specs.declared.refusal.ParseRefusal.{ParseRefusal}
 use Rattle.trace_text.specs.declared.refusal.ParseRefusal.TheVariants as refusals
 use Rattle.trace_text.specs.Line.{Fields, is_passed, key_fault, value_fault}
 use Rattle.trace_text.specs.Operation.{operation, part}
-use Rattle.trace_text.specs.Parsed.{HasItsFields, LiesWithin}
+use Rattle.rows.specs.Operation.{HasItsFields}
+use Rattle.trace_text.specs.Parsed.{LiesWithin}
 use Rattle.trace_text.specs.Reading.{AtLine, line_reading}
 
 -- the number that one or two digits spell; of other fields it says nothing
@@ -39,10 +40,10 @@ pub record LieIn (line : List ℕ) (found : Found) : Type 0 where
 abbrev pub IsRestOf : List ℕ → List ℕ → Type 0
 IsRestOf text rest = (length rest ≤ length text) × (drop (length text - length rest) text ≡ rest)
 
--- a line's command, in whatever bytes the line stands at this offset
+-- a line's command, in whatever bytes the line stands at this offset, and on which line it stands
 abbrev pub IsCommandAt : List ℕ → ℕ → ℕ → ℕ → Command → Type 0
 IsCommandAt text start number line command = (bytes : List ℕ) → LiesAt bytes start text
-    → (line_reading (number, (line, text)) ≡ Ok (operation bytes command)) × LiesWithin bytes command
+    → (line_reading (number, (line, text)) ≡ Ok (operation bytes command)) × LiesWithin bytes command × (command.line ≡ line)
 
 -- the command's key, in whatever bytes its line stands at this offset
 abbrev pub IsKeyAt : List ℕ → ℕ → Command → List ℕ → Type 0

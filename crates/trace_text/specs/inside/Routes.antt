@@ -1,9 +1,10 @@
 -- Where commands go, as it is written down while a trace is read.
 use Rattle.std.specs.Prelude.{◌≡◌, ℕ, ◌<◌, List, length, map, slice_index_or}
 use Rattle.trace_text.specs.declared.command.Command.{Command}
-use Rattle.trace_text.specs.declared.command.Kind.{Kind}
+use Rattle.rows.specs.declared.kind.Kind.{Kind}
 use Rattle.trace_text.specs.declared.route.Route.{Route}
-use Rattle.trace_text.specs.Operation.{Operation, operation, operations}
+use Rattle.rows.specs.Operation.{Operation}
+use Rattle.trace_text.specs.Operation.{operation, operations}
 use Rattle.trace_text.specs.Parsed.{IsConsistent, Parsed}
 use Rattle.trace_text.specs.Parts.{origin, owner}
 use Rattle.trace_text.specs.inside.Found.{LiesAt}

@@ -1,8 +1,8 @@
 -- Counts of commands by shard and kind.
 use Rattle.std.specs.Prelude.{◌≡◌, ℕ, ◌==◌, ◌+◌, ◌*◌, ◌≤◌, List, count_by, slice_index_or}
-use Rattle.trace_text.specs.declared.command.Kind.{Kind}
-use Rattle.trace_text.specs.declared.command.Kind.TheVariants.{Put, Get, Erase, Scan}
-use Rattle.trace_text.specs.Operation.{Operation}
+use Rattle.rows.specs.declared.kind.Kind.{Kind}
+use Rattle.rows.specs.declared.kind.Kind.TheVariants.{Put, Get, Erase, Scan}
+use Rattle.rows.specs.Operation.{Operation}
 use Rattle.trace_text.specs.Reading.{most_commands}
 
 abbrev pub code : Kind → ℕ

@@ -1,5 +1,5 @@
 use Rattle.std.proofs.Common.{◌+◌, ◌<◌, ◌≤◌, length, ap, arith}
-use Rattle.cache_model.specs.Row.{live, size}
+use Rattle.rows.specs.Row.{live, size}
 use Rattle.regions.specs.Shapes.{held_count}
 use Rattle.region_room.specs.Room.{room}
 use Rattle.dirty_region.specs.Queues.{Queue}

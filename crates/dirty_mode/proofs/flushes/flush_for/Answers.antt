@@ -1,5 +1,5 @@
 use Rattle.std.proofs.Common.{◌-◌, ◌<◌, ap, sym, ◌∙◌}
-use Rattle.cache_model.specs.Row.{live}
+use Rattle.rows.specs.Row.{live}
 use Rattle.dirty_region.specs.Queues.{Queue}
 use Rattle.dirty_mode.specs.DirtyText.{staying}
 use Rattle.dirty_mode.proofs.Flushing.{no_more, staying_next, staying_all, fewer, for_next, for_stop, for_done, Keeps-trans, queue_whole}

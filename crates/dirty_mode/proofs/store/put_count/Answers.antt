@@ -2,8 +2,8 @@ use Rattle.std.proofs.Common.{◌≡◌, ℕ, ◌+◌, List, [], ◌∷◌, cond
 use Rattle.std.specs.List.{count_by}
 use Rattle.std.proofs.lemmas.List.Sums.{sum_by-cons, count_by-le-length}
 use Rattle.trace_text.specs.declared.command.Command.{Command}
-use Rattle.trace_text.specs.Operation.{Operation, operation}
-use Rattle.trace_text.specs.Parts.{is_put}
+use Rattle.rows.specs.Operation.{Operation, is_put}
+use Rattle.trace_text.specs.Operation.{operation}
 use Rattle.dirty_mode.proofs.store.put_count.Goals as goal
 
 same_count : (bytes : List ℕ) (commands : List Command) → count_by (λ (o : Operation). is_put o.kind) (map (operation bytes) commands) ≡ count_by (λ (c : Command). is_put c.kind) commands

@@ -1,6 +1,6 @@
 -- The keys so far are written, and the others are the rest.
 use Rattle.std.proofs.Common.{ℕ, ◌-◌, ◌≤◌, List, drop, length}
-use Rattle.cache_model.specs.KeyBody.{AreKeys}
+use Rattle.rows.specs.KeyBody.{AreKeys}
 use Rattle.mode_lemmas.specs.Writing.{seen}
 use Rattle.index_mode.proofs.Keys.{AreLeft}
 use Rattle.index_mode.proofs.scans.write_each.Given as goal

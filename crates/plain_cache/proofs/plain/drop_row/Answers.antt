@@ -1,6 +1,6 @@
 -- What stays are the rows of other keys.
 use Rattle.std.proofs.Common.{◌≡◌, ap, false, map, sym, ◌∙◌}
-use Rattle.cache_model.specs.Apply.{has, without}
+use Rattle.rows.specs.Apply.{has, without}
 use Rattle.plain_cache.specs.inside.OwnedRow.{row_in}
 use Rattle.plain_cache.proofs.plain.drop_row.Goals as goal
 

@@ -1,6 +1,6 @@
 -- A row's key is added where it is not below the key.
 use Rattle.std.proofs.Common.{◌≡◌, ◌∷◌, ◌++◌, [], ap, sym, ◌∙◌}
-use Rattle.cache_model.specs.Apply.{is_at_most}
+use Rattle.rows.specs.Apply.{is_at_most}
 use Rattle.plain_cache.proofs.RowLists.{key_added, key_passed}
 use Rattle.plain_cache.proofs.plain.keys_from.Goals as goal
 use Rattle.plain_cache.proofs.plain.keys_from.Goals.{then-is_at_most+in_ok-push, else-is_at_most}

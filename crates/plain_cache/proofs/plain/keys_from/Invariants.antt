@@ -1,6 +1,6 @@
 -- The keys of the rows so far.
 use Rattle.std.proofs.Common.{◌≡◌, map, take, filter}
-use Rattle.cache_model.specs.Apply.{is_at_most}
+use Rattle.rows.specs.Apply.{is_at_most}
 use Rattle.plain_cache.specs.inside.OwnedRow.{row_in}
 use Rattle.plain_cache.proofs.plain.keys_from.Given as goal
 

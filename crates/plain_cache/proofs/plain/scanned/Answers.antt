@@ -1,7 +1,7 @@
 -- The keys sorted and cut.
 use Rattle.std.proofs.Common.{◌≡◌, ◌++◌, length, take, drop, map, sym, ap, ◌∙◌}
 use Rattle.std.proofs.Math.Seq.{take-append_seam}
-use Rattle.cache_model.specs.Apply.{in_order}
+use Rattle.rows.specs.Apply.{in_order}
 use Rattle.plain_cache.proofs.Scanned.{scanned_is, scanned_are_short}
 use Rattle.plain_cache.proofs.plain.scanned.Goals as goal
 

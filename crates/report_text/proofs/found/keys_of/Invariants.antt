@@ -1,6 +1,6 @@
 -- The keys so far were taken, and the others are the rest.
 use Rattle.std.proofs.Common.{ℕ, ◌-◌, ◌≤◌, List, drop, length}
-use Rattle.cache_model.specs.KeyBody.{AreKeys}
+use Rattle.rows.specs.KeyBody.{AreKeys}
 use Rattle.report_text.proofs.Gathered.{AreGathered}
 use Rattle.report_text.proofs.found.keys_of.Given as goal
 

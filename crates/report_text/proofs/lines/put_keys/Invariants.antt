@@ -1,6 +1,6 @@
 -- The keys so far were put, and the others are the rest.
 use Rattle.std.proofs.Common.{ℕ, ◌-◌, ◌≤◌, List, drop, length}
-use Rattle.cache_model.specs.KeyBody.{AreKeys}
+use Rattle.rows.specs.KeyBody.{AreKeys}
 use Rattle.report_text.specs.inside.Output.{output}
 use Rattle.report_text.proofs.Keys.{AreAdded}
 use Rattle.report_text.proofs.lines.put_keys.Given as goal

@@ -1,6 +1,6 @@
 -- The lines of the pieces so far were added.
 use Rattle.std.proofs.Common.{ℕ, List, length}
-use Rattle.cache_model.specs.Apply.{Reply}
+use Rattle.rows.specs.Apply.{Reply}
 use Rattle.cache_model.specs.Logged.{AreLogged}
 use Rattle.trace_text.specs.Parsed.{trace_in}
 use Rattle.report_text.specs.Views.{replies_in}

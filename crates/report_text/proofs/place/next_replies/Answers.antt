@@ -1,9 +1,10 @@
 use Rattle.std.proofs.Common.{◌≡◌, ◌%◌, ◌-◌, ◌<◌, ◌≤◌, Bool, true, false, List, ℕ, ◌+◌, arith, cond, get_or, length, ap, ◌∙◌}
 use Rattle.std.proofs.lemmas.List.{get_or_default}
 use Rattle.trace_text.specs.declared.command.Command.{Command}
-use Rattle.trace_text.specs.declared.command.Kind.TheVariants.{Put}
+use Rattle.rows.specs.declared.kind.Kind.TheVariants.{Put}
 use Rattle.trace_text.specs.Parsed.{trace_in}
-use Rattle.trace_text.specs.Parts.{is_scan, origin}
+use Rattle.rows.specs.Operation.{is_scan}
+use Rattle.trace_text.specs.Parts.{origin}
 use Rattle.report_text.proofs.Places.{places_behind, read_there, room_for}
 use Rattle.report_text.proofs.place.next_replies.Goals as goal
 use Rattle.report_text.proofs.place.next_replies.Goals.{After-parts}

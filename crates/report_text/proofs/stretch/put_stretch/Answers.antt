@@ -1,9 +1,9 @@
 use Rattle.std.proofs.Common.{◌≡◌, ◌+◌, ◌<◌, ◌≤◌, get_or, length, refl, sym, subst, arith}
 use Rattle.trace_text.specs.declared.command.Command.{Command}
-use Rattle.trace_text.specs.declared.command.Kind.TheVariants.{Put}
+use Rattle.rows.specs.declared.kind.Kind.TheVariants.{Put}
 use Rattle.trace_text.specs.Parsed.{trace_in}
 use Rattle.trace_text.specs.Parts.{longest_value}
-use Rattle.cache_model.specs.Apply.{Stored}
+use Rattle.rows.specs.Apply.{Stored}
 use Rattle.report_text.specs.inside.Output.{Writes}
 use Rattle.report_text.proofs.Outputs.{Writes-exit}
 use Rattle.report_text.proofs.Places.{answers_for, read_for}

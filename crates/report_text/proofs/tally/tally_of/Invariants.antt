@@ -1,6 +1,6 @@
 -- The answers so far were counted, and the places are those of the next command.
 use Rattle.std.proofs.Common.{◌≡◌, ℕ, List, take}
-use Rattle.cache_model.specs.Apply.{Reply}
+use Rattle.rows.specs.Apply.{Reply}
 use Rattle.cache_model.specs.Logged.{AreLogged}
 use Rattle.cache_model.specs.Summary.{tally}
 use Rattle.trace_text.specs.Parsed.{trace_in}

@@ -1,6 +1,6 @@
 use Rattle.std.proofs.Common.{◌≡◌, ℕ, List, ◌++◌, length, take, drop, sym, ap, ◌∙◌, arith}
 use Rattle.byteorder.specs.Endian.{little_bytes}
-use Rattle.cache_model.specs.Row.{Row}
+use Rattle.rows.specs.Row.{Row}
 use Rattle.row_bytes.specs.declared.links.Links.{Links}
 use Rattle.row_bytes.specs.Rows.{HoldsRow, row_bytes, links_in, number_in, row_in, without_links}
 use Rattle.row_bytes.proofs.Fields.{with_links, newer_written, links_of_bytes, length_of_bytes, number_of_bytes, row_of_bytes}

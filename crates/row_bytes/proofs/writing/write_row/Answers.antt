@@ -1,5 +1,5 @@
 use Rattle.std.proofs.Common.{◌≡◌, sym, subst, ◌∙◌}
-use Rattle.cache_model.specs.Row.{Row}
+use Rattle.rows.specs.Row.{Row}
 use Rattle.row_bytes.specs.Rows.{number_in, row_in, links_in}
 use Rattle.row_bytes.proofs.Fields.{number_of_bytes, row_of_bytes, links_of_bytes}
 use Rattle.row_bytes.proofs.Pieces.{pieces_written}

@@ -1,7 +1,7 @@
 -- The keys so far are appended.
 use Rattle.std.proofs.Common.{◌≡◌, ◌++◌, map, take}
 use Rattle.std.specs.Prelude.{flat_map}
-use Rattle.cache_model.specs.Spelled.{key_field}
+use Rattle.rows.specs.Spelled.{key_field}
 use Rattle.run_log.proofs.keys.append_keys.Given as goal
 
 abbrev pub invariant-loop-key : goal.invariant-loop-key

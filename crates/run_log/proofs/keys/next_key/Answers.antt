@@ -1,7 +1,7 @@
 -- What the first key of the body from there on is.
 use Rattle.std.proofs.Common.{◌∷◌, ◌∙◌, ap, sym, subst}
 use Rattle.std.proofs.lemmas.List.{take_rest}
-use Rattle.cache_model.specs.KeyBody.{AreKeys, AreKeysAt}
+use Rattle.rows.specs.KeyBody.{AreKeys, AreKeysAt}
 use Rattle.run_log.proofs.KeyBodies.{next_cut}
 use Rattle.run_log.proofs.keys.next_key.Goals as goal
 

@@ -1,11 +1,21 @@
 -- The keys are copied into the log.
-use Rattle.shard_node.proofs.OwnParts.QuietParts.{is_scan, quiet_does, same_but_rows}
+use Rattle.std.proofs.Common.{refl}
+use Rattle.rows.specs.Apply.{Keys, scanned}
+use Rattle.rows.specs.Operations.{scan_of}
+use Rattle.shard_node.proofs.OwnParts.QuietParts.{quiet_does, same_but_rows}
 use Rattle.shard_node.proofs.parts.do_scan.Goals as goal
+
+pub scan-scanned-requires-clause-some : goal.scan-scanned-requires-clause-some
+scan-scanned-requires-clause-some c = c.requires.askable.fields.1
+
+pub scan-scanned-requires-clause-most : goal.scan-scanned-requires-clause-most
+scan-scanned-requires-clause-most c = c.requires.askable.fields.2
 
 pub returns : goal.returns
 returns c =
-    let rows = c.args.space.now.rows in
-    let did = c.scan_here-scanned.ensures in
-    let same = same_but_rows c.args.space.now _ rows did.unchanged c.facts.ensures.backs in
-    quiet_does _ _ _ _ _ _ _ _ _ _ (is_scan _ rows c.requires.kind) did.recorded same.0 same.1 same.2
+    let rows = c.args.store.now.rows in
+    let from = c.args.from.now in
+    let did = c.scan-scanned.ensures in
+    let same = same_but_rows c.args.store.now _ rows did.unchanged c.facts.ensures.backs in
+    quiet_does _ (scan_of c.args.number from c.args.count) (Keys (scanned from c.args.count rows)) rows _ _ _ _ _ _ refl c.note_done.ensures same.0 same.1 same.2
     (rw did.keys.spelled at c.record.ensures.replies) (rw did.keys.spelled at c.record.ensures.room)

@@ -3,7 +3,7 @@ use Rattle.std.proofs.Common.{◌≡◌, ℕ, zero, suc, ◌+◌, ◌<◌, ◌�
 use Rattle.std.proofs.lemmas.List.{nil_from_length}
 use Rattle.std.proofs.lemmas.List.Elements.{All-head}
 use Rattle.foreign_list.specs.Blocks.{Block}
-use Rattle.reclaim.specs.Spaces.{SpaceState}
+use Rattle.shard_store.specs.Stores.{StoreState}
 use Rattle.shard_rings.specs.declared.link.Packet.{Packet}
 use Rattle.shard_rings.specs.Lanes.{each_lane, on, Traffic}
 use Rattle.shard_rings.specs.declared.link.Lane.{Lane}
@@ -57,42 +57,42 @@ record Told (lane : Lane) (node : NodeState Traffic (Unit {0})) (m : ℕ) (stray
   came : on lane b.link.received ≡ on lane a.link.received ++ before ++ packet ∷ behind
   is : IsStray link_is holds lane node a.shard (on lane a.link.received ++ before) packet stray
 
-at-first : (lane : Lane) (space : SpaceState) (before after : List Packet) (m : ℕ) (stray : StrayPacket)
-    → HasStray link_is holds lane (at_start space before) (at_start space after) 0 m stray
-    → Told lane (at_start space before) m stray (peer_with before) (peer_with after)
-at-first lane space before after m stray has =
-    subst (λ b. Told lane (at_start space before) m stray (peer_with before) b) (some-is _ _ has.6)
-    (subst (λ a. Told lane (at_start space before) m stray a has.1) (some-is _ _ has.5)
+at-first : (lane : Lane) (store : StoreState) (before after : List Packet) (m : ℕ) (stray : StrayPacket)
+    → HasStray link_is holds lane (at_start store before) (at_start store after) 0 m stray
+    → Told lane (at_start store before) m stray (peer_with before) (peer_with after)
+at-first lane store before after m stray has =
+    subst (λ b. Told lane (at_start store before) m stray (peer_with before) b) (some-is _ _ has.6)
+    (subst (λ a. Told lane (at_start store before) m stray a has.1) (some-is _ _ has.5)
     (record { before = has.2; behind = has.3; packet = has.4; many = has.7; came = has.8; is = has.9 }))
 
 -- nothing came on the lane of replies
-quiet : (space : SpaceState) (before after : List Packet) (j i : ℕ) → HasNone link_is holds Replies (at_start space before) (at_start space after) j i
-quiet space before after zero i stray has = let told = at-first Replies space before after i stray has in not-longer told.before told.packet told.behind told.came
-quiet space before after (suc j) i stray has = none-is has.0 has.5
+quiet : (store : StoreState) (before after : List Packet) (j i : ℕ) → HasNone link_is holds Replies (at_start store before) (at_start store after) j i
+quiet store before after zero i stray has = let told = at-first Replies store before after i stray has in not-longer told.before told.packet told.behind told.came
+quiet store before after (suc j) i stray has = none-is has.0 has.5
 
 -- what came on that of requests
-came : (space : SpaceState) (after : Packet) (j i : ℕ) (stray : StrayPacket) → HasStray link_is holds Requests (at_start space []) (at_start space (after ∷ [])) j i stray
+came : (store : StoreState) (after : Packet) (j i : ℕ) (stray : StrayPacket) → HasStray link_is holds Requests (at_start store []) (at_start store (after ∷ [])) j i stray
     → (is_next to_the_owner 0 after ≡ false) × (stray ≡ record { peer = 0; expected = 1; found = number_in after })
-came space after zero i stray has =
-    let told = at-first Requests space [] (after ∷ []) i stray has in
+came store after zero i stray has =
+    let told = at-first Requests store [] (after ∷ []) i stray has in
     let same = head-is after told.before told.packet told.behind told.came in
-    let is : IsStray link_is holds Requests (at_start space []) 0 [] after stray =
-    (subst (λ p. IsStray link_is holds Requests (at_start space []) 0 [] p stray) same.1
-    (subst (λ (ps : List Packet). IsStray link_is holds Requests (at_start space []) 0 ps told.packet stray) same.0 told.is)) in
+    let is : IsStray link_is holds Requests (at_start store []) 0 [] after stray =
+    (subst (λ p. IsStray link_is holds Requests (at_start store []) 0 [] p stray) same.1
+    (subst (λ (ps : List Packet). IsStray link_is holds Requests (at_start store []) 0 ps told.packet stray) same.0 told.is)) in
     is
-came space after (suc j) i stray has = absurd (none-is has.0 has.5)
+came store after (suc j) i stray has = absurd (none-is has.0 has.5)
 
-silent : (space : SpaceState) (j i : ℕ) (stray : StrayPacket) → HasStray link_is holds Requests (at_start space []) (at_start space []) j i stray → ⊥
-silent space zero i stray has = let told = at-first Requests space [] [] i stray has in not-longer told.before told.packet told.behind told.came
-silent space (suc j) i stray has = none-is has.0 has.5
+silent : (store : StoreState) (j i : ℕ) (stray : StrayPacket) → HasStray link_is holds Requests (at_start store []) (at_start store []) j i stray → ⊥
+silent store zero i stray has = let told = at-first Requests store [] [] i stray has in not-longer told.before told.packet told.behind told.came
+silent store (suc j) i stray has = none-is has.0 has.5
 
-stray : (block : Block) (space : SpaceState) → HasStray link_is holds Requests (at_start space []) (at_start space (packet block of_number_3 ∷ [])) 0 0 (record { peer = 0; expected = 1; found = 3 })
-stray block space = (peer_with [], peer_with (packet block of_number_3 ∷ []), [], [], packet block of_number_3, refl, refl, refl, refl, (refl, refl))
+stray : (block : Block) (store : StoreState) → HasStray link_is holds Requests (at_start store []) (at_start store (packet block of_number_3 ∷ [])) 0 0 (record { peer = 0; expected = 1; found = 3 })
+stray block store = (peer_with [], peer_with (packet block of_number_3 ∷ []), [], [], packet block of_number_3, refl, refl, refl, refl, (refl, refl))
 
 -- behind the request that is expected
-hidden : (block : Block) (space : SpaceState)
-    → HasStray link_is holds Requests (at_start space []) (at_start space (packet block put_request ∷ packet block of_number_3 ∷ [])) 0 1 (record { peer = 0; expected = 0; found = 3 })
-hidden block space = (
+hidden : (block : Block) (store : StoreState)
+    → HasStray link_is holds Requests (at_start store []) (at_start store (packet block put_request ∷ packet block of_number_3 ∷ [])) 0 1 (record { peer = 0; expected = 0; found = 3 })
+hidden block store = (
   peer_with [],
   peer_with (packet block put_request ∷ packet block of_number_3 ∷ []),
   packet block put_request ∷ [],
@@ -105,51 +105,51 @@ hidden block space = (
   (refl, refl),
 )
 
-first-taken : (block : Block) (space : SpaceState) (j i : ℕ) → (j < 0) ⊎ ((j ≡ 0) × (i < 1))
-    → HasNone link_is holds Requests (at_start space []) (at_start space (packet block put_request ∷ packet block of_number_3 ∷ [])) j i
-first-taken block space zero i before stray has =
+first-taken : (block : Block) (store : StoreState) (j i : ℕ) → (j < 0) ⊎ ((j ≡ 0) × (i < 1))
+    → HasNone link_is holds Requests (at_start store []) (at_start store (packet block put_request ∷ packet block of_number_3 ∷ [])) j i
+first-taken block store zero i before stray has =
     let both = packet block put_request ∷ packet block of_number_3 ∷ [] in
-    let told = at-first Requests space [] both i stray has in
+    let told = at-first Requests store [] both i stray has in
     let none : told.before ≡ [] = nil_from_length told.before (let many = told.many in elim before [ inl less ↦ absurd (omega (arith, less)) | inr one ↦ omega (arith, one, many) ]) in
     let here : both ≡ told.packet ∷ told.behind = told.came ∙ ap (λ (ps : List Packet). ps ++ told.packet ∷ told.behind) none in
     let same : told.packet ≡ packet block put_request = cc in
-    let is : IsStray link_is holds Requests (at_start space []) 0 [] (packet block put_request) stray =
-    (subst (λ p. IsStray link_is holds Requests (at_start space []) 0 [] p stray) same
-    (subst (λ (ps : List Packet). IsStray link_is holds Requests (at_start space []) 0 ps told.packet stray) none told.is)) in
+    let is : IsStray link_is holds Requests (at_start store []) 0 [] (packet block put_request) stray =
+    (subst (λ p. IsStray link_is holds Requests (at_start store []) 0 [] p stray) same
+    (subst (λ (ps : List Packet). IsStray link_is holds Requests (at_start store []) 0 ps told.packet stray) none told.is)) in
     true-false is.0
-first-taken block space (suc j) i before stray has = none-is has.0 has.5
+first-taken block store (suc j) i before stray has = none-is has.0 has.5
 
 nothing-said : ◌≡◌ {A = List (Option (List ℕ))} [] (None ∷ []) → ⊥
 nothing-said e = cc
 
-not-done : (space : SpaceState) (after : List Packet) → IsDone link_is holds (at_start space after) → ⊥
-not-done space after done = let heard = (All-head (HasParted link_is holds (at_start space after)) (peer_with after) [] done.parted).told in nothing-said heard
+not-done : (store : StoreState) (after : List Packet) → IsDone link_is holds (at_start store after) → ⊥
+not-done store after done = let heard = (All-head (HasParted link_is holds (at_start store after)) (peer_with after) [] done.parted).told in nothing-said heard
 
 two-three : (x : StrayPacket) → x ≡ record { peer = 0; expected = 1; found = 3 } → x ≡ record { peer = 0; expected = 1; found = 2 } → ⊥
 two-three x e f = let n : 3 ≡ 2 = ap (λ (a : StrayPacket). a.found) (sym e ∙ f) in omega (arith, n)
 
 pub returns : goal.returns
-returns c block space = record {
+returns c block store = record {
   stray = (
-    not-done space (packet block of_number_3 ∷ []),
-    inr ((0, 0, stray block space, λ j i before. elim before [ inl less ↦ absurd (omega (arith, less)) | inr same ↦ absurd (omega (arith, same)) ]), quiet space [] (packet block of_number_3 ∷ [])),
+    not-done store (packet block of_number_3 ∷ []),
+    inr ((0, 0, stray block store, λ j i before. elim before [ inl less ↦ absurd (omega (arith, less)) | inr same ↦ absurd (omega (arith, same)) ]), quiet store [] (packet block of_number_3 ∷ [])),
   );
   other_number = λ answer. elim answer.1 [
-    | inl first ↦ quiet space [] (packet block of_number_3 ∷ []) first.0 first.1 _ first.2
-    | inr first ↦ let one = first.0 in two-three _ (came space (packet block of_number_3) one.0 one.1 _ one.2).1 refl
+    | inl first ↦ quiet store [] (packet block of_number_3 ∷ []) first.0 first.1 _ first.2
+    | inr first ↦ let one = first.0 in two-three _ (came store (packet block of_number_3) one.0 one.1 _ one.2).1 refl
   ];
-  moved = λ answer. answer.1 Requests 0 0 _ (stray block space);
+  moved = λ answer. answer.1 Requests 0 0 _ (stray block store);
   nothing = λ answer. elim answer.1 [
-    | inl first ↦ quiet space [] [] first.0 first.1 _ first.2
-    | inr first ↦ let one = first.0 in silent space one.0 one.1 _ one.2
+    | inl first ↦ quiet store [] [] first.0 first.1 _ first.2
+    | inr first ↦ let one = first.0 in silent store one.0 one.1 _ one.2
   ];
   expected = λ answer. elim answer.1 [
-    | inl first ↦ quiet space [] (packet block put_request ∷ []) first.0 first.1 _ first.2
-    | inr first ↦ let one = first.0 in true-false (came space (packet block put_request) one.0 one.1 _ one.2).0
+    | inl first ↦ quiet store [] (packet block put_request ∷ []) first.0 first.1 _ first.2
+    | inr first ↦ let one = first.0 in true-false (came store (packet block put_request) one.0 one.1 _ one.2).0
   ];
   behind = (
-    not-done space (packet block put_request ∷ packet block of_number_3 ∷ []),
-    inr ((0, 1, hidden block space, first-taken block space), quiet space [] (packet block put_request ∷ packet block of_number_3 ∷ [])),
+    not-done store (packet block put_request ∷ packet block of_number_3 ∷ []),
+    inr ((0, 1, hidden block store, first-taken block store), quiet store [] (packet block put_request ∷ packet block of_number_3 ∷ [])),
   );
-  hidden = λ answer. answer.1 Requests 0 1 _ (hidden block space);
+  hidden = λ answer. answer.1 Requests 0 1 _ (hidden block store);
 }

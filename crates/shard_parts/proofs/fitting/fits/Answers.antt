@@ -1,13 +1,24 @@
-use Rattle.std.proofs.Common.{◌≡◌, true, ap, ◌∙◌, sym}
-use Rattle.cache_model.specs.Fits.{can_answer}
-use Rattle.cache_model.specs.Spelled.{spelled}
+use Rattle.std.proofs.Common.{◌≡◌, true, true≢false, ◌∙◌, sym}
+use Rattle.rows.specs.Fits.{can_answer}
+use Rattle.rows.specs.Spelled.{spelled}
+use Rattle.rows.specs.Operations.{count_of, key_of, kind_of}
 use Rattle.shard_parts.proofs.FitsByBody.{fits_by_body}
 use Rattle.shard_parts.proofs.fitting.fits.Goals as goal
 
 pub returns-then-can_answer : goal.returns-then-can_answer
-returns-then-can_answer c reply sendable view =
-    let body = c.body_fits.ensures reply sendable view in
-    let kind : can_answer c.args.ask.now.kind (spelled reply).0 ≡ true =
-    ap (λ s. can_answer c.args.ask.now.kind s.0) view.spelled ∙ sym c.can_answer.ensures ∙ c.if-can_answer.true in
-    let fits = fits_by_body c.args.longest c.args.ask.now.kind c.args.ask.now.key.now c.args.ask.now.count reply sendable kind in
-    (λ is. fits.0 (body.0 is), λ fit. body.1 (fits.1 fit))
+returns-then-can_answer c number reply sendable view =
+    let operation = c.args.operation.now in
+    let body = rw (c.key-from.ensures, c.count-most.ensures) at (c.body_fits.ensures reply sendable view) in
+    let kind : can_answer (kind_of operation) (spelled reply).0 ≡ true =
+    rw (view.spelled, ← c.kind-answered.ensures, ← c.kind-asked.ensures) (sym c.can_answer.ensures ∙ c.if-can_answer.true) in
+    let fits = fits_by_body c.args.longest (kind_of operation) (key_of operation) (count_of operation) reply sendable in
+    (λ is. fits.1 (kind, body.0 is), λ fit. body.1 (fits.0 fit).1)
+
+pub returns-else-can_answer : goal.returns-else-can_answer
+returns-else-can_answer c number reply sendable view =
+    let operation = c.args.operation.now in
+    let fits = fits_by_body c.args.longest (kind_of operation) (key_of operation) (count_of operation) reply sendable in
+    let no = sym c.can_answer.ensures ∙ c.if-can_answer.false in (
+      λ is. absurd (true≢false (sym is ∙ c.if-can_answer.false)),
+      λ fit. absurd (true≢false (sym (rw (view.spelled, ← c.kind-answered.ensures, ← c.kind-asked.ensures) at (fits.0 fit).0) ∙ no)),
+    )

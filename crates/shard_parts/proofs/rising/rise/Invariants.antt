@@ -1,5 +1,5 @@
 use Rattle.std.proofs.Common.{◌≡◌, ℕ, ◌-◌, List, length, true}
-use Rattle.cache_model.specs.KeyBody.{AreKeys, AreKeysAt}
+use Rattle.rows.specs.KeyBody.{AreKeys, AreKeysAt}
 use Rattle.shard_parts.specs.inside.Rising.{rise}
 use Rattle.shard_parts.proofs.rising.rise.Given as goal
 

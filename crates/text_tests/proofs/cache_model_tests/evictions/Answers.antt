@@ -1,6 +1,6 @@
 -- The numbers are computed.
 use Rattle.std.proofs.Common.{arith, refl}
-use Rattle.cache_model.specs.Evictions.{Evicts}
+use Rattle.rows.specs.Evictions.{Evicts}
 use Rattle.text_tests.proofs.cache_model_tests.evictions.Goals as goal
 
 pub returns : goal.returns

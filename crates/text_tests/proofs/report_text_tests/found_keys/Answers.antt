@@ -1,6 +1,6 @@
 use Rattle.std.proofs.Common.{[], ◌∷◌, ap, ◌∙◌}
 use Rattle.std.specs.Cmp.Lexicographic.{same_text}
-use Rattle.cache_model.specs.declared.reply_kind.ReplyKind.TheVariants as kinds
+use Rattle.rows.specs.declared.reply_kind.ReplyKind.TheVariants as kinds
 use Rattle.text_tests.proofs.Logs.{no_keys, two_keys}
 use Rattle.text_tests.proofs.report_text_tests.found_keys.Goals as goal
 

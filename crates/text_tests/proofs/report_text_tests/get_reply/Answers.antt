@@ -1,5 +1,5 @@
 use Rattle.std.proofs.Common.{arith, refl}
-use Rattle.cache_model.specs.Apply.{Value}
+use Rattle.rows.specs.Apply.{Value}
 use Rattle.text_tests.proofs.report_text_tests.get_reply.Goals as goal
 
 pub returns-then-body-longest-clause-fits : goal.returns-then-body-longest-clause-fits

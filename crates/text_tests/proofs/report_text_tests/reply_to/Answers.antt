@@ -1,7 +1,7 @@
 use Rattle.std.proofs.Common.{subst, sym}
-use Rattle.trace_text.specs.declared.command.Kind.{Kind}
-use Rattle.cache_model.specs.Apply.{Keys}
-use Rattle.cache_model.specs.Fits.{FitsKind}
+use Rattle.rows.specs.declared.kind.Kind.{Kind}
+use Rattle.rows.specs.Apply.{Keys}
+use Rattle.rows.specs.Fits.{FitsKind}
 use Rattle.text_tests.proofs.report_text_tests.reply_to.Goals as goal
 
 pub returns-in-Put-clause-fits : goal.returns-in-Put-clause-fits

@@ -1,6 +1,6 @@
 -- From the offset reached on the body is keys.
 use Rattle.std.proofs.Common.{ℕ, ◌-◌, List, length}
-use Rattle.cache_model.specs.KeyBody.{AreKeysAt}
+use Rattle.rows.specs.KeyBody.{AreKeysAt}
 use Rattle.text_tests.proofs.run_log_tests.spans_of.Given as goal
 
 abbrev pub invariant-loop-span : goal.invariant-loop-span

@@ -1,7 +1,7 @@
 use Rattle.std.proofs.Common.{◌≡◌, sym, ap, ◌∙◌, rules}
 use Rattle.std.specs.Prelude.{Some, None}
 use Rattle.std.proofs.lemmas.Result.{IfOk-from_err}
-use Rattle.trace_text.specs.declared.command.Kind.TheVariants.{Scan}
+use Rattle.rows.specs.declared.kind.Kind.TheVariants.{Scan}
 use Rattle.trace_text.specs.Line.{from_count, from_key, cut_at, unless, key_fault}
 use Rattle.trace_text.proofs.line.scan_in.Goals as goal
 

@@ -1,6 +1,6 @@
 -- What the commands count is what their operations count.
 use Rattle.std.proofs.Common.{refl}
-use Rattle.trace_text.specs.Parts.{is_get, is_scan}
+use Rattle.rows.specs.Operation.{is_get, is_scan}
 use Rattle.trace_text.proofs.Tallies.{count_in, longest_in}
 use Rattle.trace_text.proofs.parts.replies_room.Goals as goal
 

@@ -1,4 +1,5 @@
 -- A command's fields lie in whatever bytes its line lies in.
+use Rattle.std.proofs.Common.{refl}
 use Rattle.trace_text.proofs.Offsets.{lies_in_outer, key-some, key-most, value-most, line_reading_is}
 use Rattle.trace_text.proofs.reading.command_at.Goals as goal
 
@@ -18,6 +19,7 @@ returns-clause-found c bytes lies =
         is_value = rw value.1 found.is_value;
         fields = rw value.1 found.fields;
       },
+      refl,
     )
 
 pub returns-clause-key : goal.returns-clause-key

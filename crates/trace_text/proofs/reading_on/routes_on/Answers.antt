@@ -1,7 +1,7 @@
 -- Each route was written at its place.
 use Rattle.std.proofs.Common.{◌≡◌, length, ap, sym, ◌∙◌}
 use Rattle.trace_text.proofs.Routes.{routes_from_each}
-use Rattle.trace_text.proofs.PlacesRead.{written}
+use Rattle.trace_text.proofs.Stretches.{written}
 use Rattle.trace_text.proofs.reading_on.routes_on.Goals as goal
 
 pub returns : goal.returns

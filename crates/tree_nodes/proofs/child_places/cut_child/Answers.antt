@@ -7,17 +7,17 @@ use Rattle.tree_nodes.proofs.child_places.cut_child.Goals as goal
 pub take_at-requires : goal.take_at-requires
 take_at-requires c =
     let size = length-content c.args.node.now c.requires.node in
-    let eight : length c.as_slice.result.now ≡ 8 = ap (λ (t : List ℕ). length t) (c.as_slice.ensures ∙ c.to_le_bytes.ensures) in
+    let eight : length c.place_bytes.result ≡ 8 = ap (λ (t : List ℕ). length t) c.place_bytes.ensures in
     omega arith
 
 pub returns-clause-node : goal.returns-clause-node
 returns-clause-node c =
     (child_cut c.args.node.now c.take_at.new.content c.args.i c.child_start.result _
     c.requires.node c.requires.i c.child_start.ensures refl
-    (c.take_at.ensures ∙ ap (λ t. taken_out c.child_start.result ((16 - c.args.i) * 8) t c.args.node.now) (c.as_slice.ensures ∙ c.to_le_bytes.ensures))).0
+    (c.take_at.ensures ∙ ap (λ t. taken_out c.child_start.result ((16 - c.args.i) * 8) t c.args.node.now) c.place_bytes.ensures)).0
 
 pub returns-clause-holds : goal.returns-clause-holds
 returns-clause-holds c =
     (child_cut c.args.node.now c.take_at.new.content c.args.i c.child_start.result _
     c.requires.node c.requires.i c.child_start.ensures refl
-    (c.take_at.ensures ∙ ap (λ t. taken_out c.child_start.result ((16 - c.args.i) * 8) t c.args.node.now) (c.as_slice.ensures ∙ c.to_le_bytes.ensures))).1
+    (c.take_at.ensures ∙ ap (λ t. taken_out c.child_start.result ((16 - c.args.i) * 8) t c.args.node.now) c.place_bytes.ensures)).1

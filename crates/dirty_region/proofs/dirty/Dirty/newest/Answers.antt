@@ -1,5 +1,5 @@
 use Rattle.std.proofs.Common.{List, Some, sym, ap, ◌∙◌}
-use Rattle.cache_model.specs.Row.{Row}
+use Rattle.rows.specs.Row.{Row}
 use Rattle.regions.specs.Contents.{live_at}
 use Rattle.regions.specs.declared.place.Place.{Place}
 use Rattle.dirty_region.specs.Queues.{newest}

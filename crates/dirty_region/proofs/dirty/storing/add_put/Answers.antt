@@ -1,5 +1,5 @@
 use Rattle.std.proofs.Common.{◌≡◌, ◌+◌, ◌-◌, refl, sym, ap, subst, ◌∙◌, arith}
-use Rattle.cache_model.specs.Row.{Row}
+use Rattle.rows.specs.Row.{Row}
 use Rattle.key_table.specs.Table.{IsSpotFor}
 use Rattle.regions.specs.Contents.{live_at}
 use Rattle.dirty_region.specs.inside.Rings.{RingState, IsRingOf, AddsPut, pushed, puts_in}

@@ -1,7 +1,7 @@
 -- The live bytes of the rows so far.
 use Rattle.std.proofs.Common.{◌≡◌, ◌*◌, ◌≤◌, map, take}
 use Rattle.plain_cache.specs.inside.OwnedRow.{row_in}
-use Rattle.cache_model.specs.Row.{live}
+use Rattle.rows.specs.Row.{live}
 use Rattle.plain_cache.proofs.plain.Plain.live.Given as goal
 
 abbrev pub invariant-loop-row : goal.invariant-loop-row

@@ -1,6 +1,6 @@
 use Rattle.std.proofs.Common.{◌≡◌, List, sym, ap, subst, ◌∙◌}
-use Rattle.cache_model.specs.Row.{Row}
-use Rattle.cache_model.specs.Apply as apply
+use Rattle.rows.specs.Row.{Row}
+use Rattle.rows.specs.Apply as apply
 use Rattle.row_cache.specs.Rows.{rows_of}
 use Rattle.row_cache.specs.inside.Consistent.{rows_in}
 use Rattle.row_cache.proofs.Caches.{rows_read}

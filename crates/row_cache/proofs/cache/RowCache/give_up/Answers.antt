@@ -1,5 +1,5 @@
 use Rattle.std.proofs.Common.{◌≡◌, ℕ, List, None, length, map, sym, ap, ◌∙◌}
-use Rattle.cache_model.specs.Row.{live}
+use Rattle.rows.specs.Row.{live}
 use Rattle.regions.specs.Contents.{item_if_live, live_at}
 use Rattle.regions.specs.Shapes.{guards_of, shape}
 use Rattle.regions.specs.declared.place.Place.{Place}

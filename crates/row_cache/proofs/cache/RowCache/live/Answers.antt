@@ -1,5 +1,5 @@
 use Rattle.std.proofs.Common.{◌≡◌, sym, ap, ◌∙◌}
-use Rattle.cache_model.specs.Row.{live}
+use Rattle.rows.specs.Row.{live}
 use Rattle.row_cache.specs.Rows.{rows_of}
 use Rattle.row_cache.specs.inside.Consistent.{rows_in}
 use Rattle.row_cache.proofs.Caches.{rows_read}

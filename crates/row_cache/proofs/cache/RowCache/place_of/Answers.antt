@@ -1,7 +1,7 @@
 use Rattle.std.proofs.Common.{◌≡◌, List, Some, None, sym, ap, subst, ◌∙◌}
 use Rattle.std.specs.Prelude.{IsSome}
-use Rattle.cache_model.specs.Row.{Row}
-use Rattle.cache_model.specs.Apply as apply
+use Rattle.rows.specs.Row.{Row}
+use Rattle.rows.specs.Apply as apply
 use Rattle.regions.specs.Contents.{live_at}
 use Rattle.row_cache.specs.Rows.{CacheState, rows_of, row_at, StandsAt}
 use Rattle.row_cache.specs.inside.Consistent.{rows_in}

@@ -1,7 +1,7 @@
 use Rattle.std.proofs.Common.{◌≡◌, ◌<◌, ◌⊎◌, List, true, length, sym, ap, subst, ◌∙◌}
 use Rattle.std.specs.Prelude.{IfOk}
-use Rattle.cache_model.specs.Row.{Row}
-use Rattle.cache_model.specs.Apply as apply
+use Rattle.rows.specs.Row.{Row}
+use Rattle.rows.specs.Apply as apply
 use Rattle.row_cache.specs.Rows.{CacheState, rows_of}
 use Rattle.row_cache.specs.inside.Consistent.{rows_in}
 use Rattle.row_cache.proofs.Caches.{rows_read}

@@ -1,6 +1,6 @@
 use Rattle.std.proofs.Common.{◌≡◌, List, length, sym, ap, ◌∙◌}
 use Rattle.std.proofs.lemmas.List.{length-map}
-use Rattle.cache_model.specs.Row.{Row}
+use Rattle.rows.specs.Row.{Row}
 use Rattle.regions.specs.Contents.{live_at}
 use Rattle.row_cache.specs.Rows.{row_at, rows_of}
 use Rattle.row_cache.specs.inside.Consistent.{rows_in}

@@ -1,11 +1,11 @@
 use Rattle.std.proofs.Common.{◌≡◌, List, length, take, map, filter, sym, ap, subst, ◌∙◌}
-use Rattle.cache_model.specs.Row.{Row}
-use Rattle.cache_model.specs.Apply as apply
+use Rattle.rows.specs.Row.{Row}
+use Rattle.rows.specs.Apply as apply
 use Rattle.regions.specs.Contents.{live_at}
 use Rattle.row_cache.specs.Rows.{rows_at, rows_of}
 use Rattle.row_cache.specs.inside.Consistent.{rows_in}
 use Rattle.row_cache.proofs.Caches.{rows_read}
-use Rattle.cache_model.specs.KeyBody.{AreKeys}
+use Rattle.rows.specs.KeyBody.{AreKeys}
 use Rattle.row_cache.proofs.cache.RowCache.scan.Goals as goal
 
 pub returns-clause-count : goal.returns-clause-count

@@ -1,6 +1,6 @@
 use Rattle.std.proofs.Common.{◌≡◌, ◌∷◌, List, Some, None, sym, ap, subst, ◌∙◌}
-use Rattle.cache_model.specs.Row.{Row}
-use Rattle.cache_model.specs.Apply as apply
+use Rattle.rows.specs.Row.{Row}
+use Rattle.rows.specs.Apply as apply
 use Rattle.regions.specs.Contents.{live_at}
 use Rattle.row_cache.specs.Rows.{AreRelinked, CacheState, rows_of, row_at, StandsAt}
 use Rattle.row_cache.specs.inside.Tables.{TableState, IsListed}

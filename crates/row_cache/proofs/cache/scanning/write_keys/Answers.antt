@@ -1,5 +1,5 @@
 use Rattle.std.proofs.Common.{List, ℕ, ◌-◌, ◌++◌, length, take, drop, inl, inr, ap, ◌∙◌, arith}
-use Rattle.cache_model.specs.Spelled.{key_field}
+use Rattle.rows.specs.Spelled.{key_field}
 use Rattle.regions.specs.Contents.{live_at}
 use Rattle.row_cache.specs.inside.Tables.{HasRow}
 use Rattle.row_cache.proofs.Written.{one_written, next_holds, all_written}

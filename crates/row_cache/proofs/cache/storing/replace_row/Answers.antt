@@ -1,7 +1,7 @@
 use Rattle.std.proofs.Common.{◌≡◌, ◌+◌, ◌-◌, ◌∷◌, ℕ, List, Some, map, sym, ap, subst, ◌∙◌, arith}
 use Rattle.std.specs.Prelude.{slice_get}
 use Rattle.common_lemmas.specs.Lists.{delete}
-use Rattle.cache_model.specs.Row.{Row}
+use Rattle.rows.specs.Row.{Row}
 use Rattle.regions.specs.Segments.{RegionState}
 use Rattle.regions.specs.Contents.{live_at, size_of, Item}
 use Rattle.regions.specs.Stores.{Live}

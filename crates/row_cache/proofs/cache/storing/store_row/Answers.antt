@@ -1,5 +1,5 @@
 use Rattle.std.proofs.Common.{◌+◌, map, subst, ◌∙◌, arith}
-use Rattle.cache_model.specs.Row.{Row}
+use Rattle.rows.specs.Row.{Row}
 use Rattle.regions.specs.Contents.{live_at}
 use Rattle.row_cache.specs.inside.Tables.{AddsRow, IsRowOf}
 use Rattle.row_cache.specs.inside.NewRows.{row_of}

@@ -1,5 +1,5 @@
 use Rattle.std.proofs.Common.{ap, ◌∙◌}
-use Rattle.cache_model.specs.Row.{Row}
+use Rattle.rows.specs.Row.{Row}
 use Rattle.row_cache.proofs.row_keys.RowKeysKeys.key.Goals as goal
 
 pub returns : goal.returns

@@ -1,6 +1,6 @@
 use Rattle.std.proofs.Common.{◌≡◌, sym, ap, subst, ◌∙◌}
-use Rattle.cache_model.specs.KeyBody.{IsKey}
-use Rattle.cache_model.specs.Row.{Row}
+use Rattle.rows.specs.KeyBody.{IsKey}
+use Rattle.rows.specs.Row.{Row}
 use Rattle.regions.specs.Contents.{live_at}
 use Rattle.row_cache.specs.Rows.{key_at}
 use Rattle.row_cache.specs.inside.Tables.{TableState}

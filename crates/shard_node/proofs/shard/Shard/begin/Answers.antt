@@ -60,7 +60,7 @@ ask-requires g c κs =
                 (
                   now_below self now same x doer c.in-Some.ensures.below,
                   elim c.else-doer-self.branch [
-                    | else-doer-self-via-then-doer-self+else-not-is_idle w ↦ subst (λ s. HasIdle s.space.lent Request) (sym same) (w.is_idle.ensures.0 w.if-not-is_idle.false)
+                    | else-doer-self-via-then-doer-self+else-not-is_idle w ↦ subst (λ s. HasIdle s.store.lent Request) (sym same) (w.is_idle.ensures.0 w.if-not-is_idle.false)
                     | else-doer-self-via-else-doer-self w ↦ absurd (c.if-doer-self-2.false (w.if-doer-self.false ∙ sym (ap (λ s. s.shard) same)))
                   ],
                 ),

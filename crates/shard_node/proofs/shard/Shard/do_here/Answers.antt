@@ -5,9 +5,9 @@ use Rattle.std.proofs.lemmas.List.Sums.{count_by-le-length}
 use Rattle.layout.specs.Sizes.{tickets}
 use Rattle.trace_text.specs.Operation.{operation}
 use Rattle.trace_text.specs.Parsed.{AreNumbered, Parsed}
-use Rattle.cache_model.specs.Spelled.{spelled}
+use Rattle.rows.specs.Spelled.{spelled}
 use Rattle.shard_memory.specs.Tickets.{tickets_out}
-use Rattle.shard_rings.specs.Ask.{asked}
+use Rattle.rows.specs.Operations.{numbered}
 use Rattle.shard_node.specs.inside.Parts.{DoesPart}
 use Rattle.shard_node.proofs.Requests.Askable.{part_of_operation}
 use Rattle.shard_node.proofs.OwnParts.OwnDone.{own_done, own_fits}
@@ -19,7 +19,7 @@ use Rattle.part_lemmas.proofs.OwnParts.Growth.{done-more}
 use Rattle.shard_node.proofs.Turning.PeerGoes.{goes_same}
 use Rattle.shard_node.proofs.Turning.StepGoes.{home_more, no_more}
 use Rattle.std.specs.List.{slice_get}
-use Rattle.trace_text.specs.Operation.{Operation}
+use Rattle.rows.specs.Operation.{Operation}
 use Rattle.trace_text.specs.Parsed.{trace_in}
 use Rattle.part_lemmas.proofs.OwnParts.BegunParts.{operation-of}
 use Rattle.shard_node.specs.Due.{operations_for}
@@ -41,7 +41,7 @@ do_part-requires-clause-fits g c =
     subst (λ (t : Parsed). self.here.left ≡ operation t.bytes command ∷ drop 1 self.here.left) x.own.here_trace c.in-Some.ensures.some in
     let there : Contains trace.commands command = subst (λ (t : Parsed). Contains t.commands command) x.own.here_trace c.in-Some.ensures.of_trace in
     let room = own_fits c.replies_hold_what_was_put.ensures.part self (operation trace.bytes command) x c.commands.ensures.well_formed (operation-there trace command there) first in
-    let same = ap (λ part. length (spelled part.1).1) (c.of-ask.ensures.same self.space.rows) in
+    let same = ap (λ part. length (spelled part.1).1) (c.operation_of-operation.ensures.same self.store.rows) in
     omega (arith, room, same)
 
 pub pass-requires-2 : goal.pass-requires-2
@@ -57,11 +57,11 @@ returns g c =
     let first : self.here.left ≡ op ∷ drop 1 self.here.left =
     subst (λ (t : Parsed). self.here.left ≡ operation t.bytes command ∷ drop 1 self.here.left) x.own.here_trace c.in-Some.ensures.some in
     let there : Contains trace.commands command = subst (λ (t : Parsed). Contains t.commands command) x.own.here_trace c.in-Some.ensures.of_trace in
-    let does : DoesPart self.own.begun op self.space c.do_part.new.space self.journal c.do_part.new.journal self.log c.do_part.new.log =
-    subst (λ part. DoesPart part op self.space c.do_part.new.space self.journal c.do_part.new.journal self.log c.do_part.new.log) c.begun-part.ensures
-    (part_of_operation (asked c.of-ask.result) op c.of-ask.ensures.asked c.of-ask.ensures.same c.begun-part.result self.space c.do_part.new.space self.journal c.do_part.new.journal self.log c.do_part.new.log c.do_part.ensures) in
-    let out : tickets_out self.space.lent ≤ tickets =
-    (let all = count_by-le-length is_some self.space.lent in let many = c.facts.ensures.tickets in omega (arith, all, many)) in
+    let does : DoesPart self.own.begun op self.store c.do_part.new.store self.journal c.do_part.new.journal self.log c.do_part.new.log =
+    subst (λ part. DoesPart part op self.store c.do_part.new.store self.journal c.do_part.new.journal self.log c.do_part.new.log) c.begun-part.ensures
+    (part_of_operation (numbered command.number c.operation_of-operation.result) op c.operation_of-operation.ensures.asked c.operation_of-operation.ensures.same c.begun-part.result self.store c.do_part.new.store self.journal c.do_part.new.journal self.log c.do_part.new.log c.do_part.ensures) in
+    let out : tickets_out self.store.lent ≤ tickets =
+    (let all = count_by-le-length is_some self.store.lent in let many = c.facts.ensures.tickets in omega (arith, all, many)) in
     let traffic = g.L.Link.traffic in
     let works = c.do_part.ensures.works in
     let more : length (done c.do_part.new.journal.entries) ≡ length (done self.journal.entries) + 1 =
@@ -77,7 +77,7 @@ returns g c =
           })
           c.a_journal_goes_on.ensures.kept c.a_journal_goes_on.ensures.number c.issued_parts_are_counted.ensures.peer
           c.replies_hold_what_was_put.ensures.part c.evictions_are_counted.ensures.count
-          self c.do_part.new.space c.do_part.new.journal c.do_part.new.log (with_items self.keys c.do_part.new.keys) c.pass-2.new.self c.pass.new.self c.requires.next.0 op x
+          self c.do_part.new.store c.do_part.new.journal c.do_part.new.log (with_items self.keys c.do_part.new.keys) c.pass-2.new.self c.pass.new.self c.requires.next.0 op x
           (record {
             are_formed = c.commands.ensures.well_formed;
             are_numbered = subst (λ commands. AreNumbered commands) c.commands.ensures.value c.commands.ensures.numbered;
@@ -100,7 +100,7 @@ returns g c =
       goes = record {
         peers = pairs_same _ _ (λ k a. goes_same traffic a);
         done = omega (arith, more);
-        backs = home_more self.space.lent c.do_part.new.space.lent self.space.backs c.do_part.new.space.backs c.facts.ensures.backs c.do_part.ensures.came.home;
+        backs = home_more self.store.lent c.do_part.new.store.lent self.store.backs c.do_part.new.store.backs c.facts.ensures.backs c.do_part.ensures.came.home;
         looks = c.do_part.ensures.came.looks;
         tally = no_more self.tally;
       };

@@ -54,7 +54,7 @@ returns g c =
         request = refl;
         begun = refl;
         gate = refl;
-        space = refl;
+        store = refl;
         done = refl;
         peers = seen_pairs peer_state _ c.args.self.now.peers.items items (ap length is ∙ (c.release_all.auto.peers ∙ ap length old))
             (λ k d below.

@@ -54,7 +54,7 @@ returns-then-is_none-2 g c =
         request = refl;
         begun = refl;
         gate = refl;
-        space = refl;
+        store = refl;
         done = refl;
         peers = seen_pairs peer_state _ shard.peers.items (with_items shard.peers peers).items (ap length is ∙ (c.say_byes.auto.peers ∙ ap length old))
             (λ k d below.

@@ -51,7 +51,7 @@ returns g c =
         request = refl;
         begun = refl;
         gate = refl;
-        space = refl;
+        store = refl;
         done = refl;
         peers = seen_pairs peer_state _ c.args.self.now.peers.items items (ap length is ∙ (c.send_replies.auto.peers ∙ ap length old))
             (λ k d below.

@@ -64,7 +64,7 @@ returns-in-Some-send g c =
         request = ap (λ b. let w : Waiting = record { peer = waiting.peer; block = b } in Some w) c.in-Some-send.ensures.sends.0 ∙ sym is;
         begun = refl;
         gate = refl;
-        space = refl;
+        store = refl;
         done = refl;
         peers = one_pair_in peer_state _ self.peers.items c.place_of-at.result old (record old { link = c.send.new.link }) at.0 here
             (λ k d below apart. (refl, λ other there named. absurd (goes_elsewhere self x k c.place_of-at.result d old waiting other below at.0 apart here is there same named)))

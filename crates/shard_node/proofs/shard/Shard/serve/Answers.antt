@@ -50,8 +50,8 @@ loop-at-preserved g c =
       held_up = λ quiet.
           let low = packets_rise traffic (node_state first) (node_state old) so_far.goes in
           let high = packets_rise traffic (node_state old) (node_state new) c.serve_peer.ensures.goes in
-          held_next traffic (RequestLacks traffic (node_state first).space.lent) (node_state first) (node_state old) (node_state new) at (request_lacks_lasts traffic (node_state first).space.lent) so_far.goes c.serve_peer.ensures.goes (omega (arith, quiet, high))
-          (so_far.held_up (omega (arith, quiet, high))) (subst (λ s. HeldUp traffic (λ k a b. k ≡ at → RequestLacks traffic s.lent a b) (node_state old) (node_state new)) (so_far.held_up (omega (arith, quiet, high))).space (c.serve_peer.ensures.held_up (omega (arith, quiet, low))));
+          held_next traffic (RequestLacks traffic (node_state first).store.lent) (node_state first) (node_state old) (node_state new) at (request_lacks_lasts traffic (node_state first).store.lent) so_far.goes c.serve_peer.ensures.goes (omega (arith, quiet, high))
+          (so_far.held_up (omega (arith, quiet, high))) (subst (λ s. HeldUp traffic (λ k a b. k ≡ at → RequestLacks traffic s.lent a b) (node_state old) (node_state new)) (so_far.held_up (omega (arith, quiet, high))).store (c.serve_peer.ensures.held_up (omega (arith, quiet, low))));
       later = λ k from. c.serve_peer.ensures.others k (λ e. omega (arith, e, from)) ∙ so_far.later k (omega (arith, from));
       tells = λ stands.
           subst (Tells (ReceivesOneStray traffic g.G.Gate.holds Requests (node_state first) (node_state new)) c.args.seen.now.stray) (sym c.note_try.ensures.stray)
@@ -69,7 +69,7 @@ returns-clause-held_up g c quiet =
       request = h.request;
       begun = h.begun;
       gate = h.gate;
-      space = h.space;
+      store = h.store;
       done = h.done;
       peers = record {
         long = h.peers.long;

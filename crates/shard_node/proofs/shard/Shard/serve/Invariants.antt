@@ -17,7 +17,7 @@ invariant-loop-at g l = record {
   moved : IsTrue l.seen.moved ↔ (IsTrue l.initial.seen.moved ⊎ (packets_of g.L.Link.traffic (node_state l.initial.self) < packets_of g.L.Link.traffic (node_state l.self)));
   held_up : NonePassed g.L.Link.traffic (node_state l.initial.self) (node_state l.self)
       → HeldUp g.L.Link.traffic
-      (λ k a b. k < l.at → RequestLacks g.L.Link.traffic (node_state l.initial.self).space.lent a b)
+      (λ k a b. k < l.at → RequestLacks g.L.Link.traffic (node_state l.initial.self).store.lent a b)
       (node_state l.initial.self) (node_state l.self);
   later : (k : ℕ) → l.at ≤ k → slice_get (node_state l.self).peers k ≡ slice_get (node_state l.initial.self).peers k;
   tells : InStanding g.L.Link.traffic (node_state l.initial.self)

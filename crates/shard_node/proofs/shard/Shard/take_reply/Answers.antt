@@ -138,7 +138,7 @@ returns-then-not-owes_reply-clause-held_up g c quiet =
       request = refl;
       begun = refl;
       gate = refl;
-      space = refl;
+      store = refl;
       done = refl;
       peers = one_pair peer_state _ self.peers.items c.args.at old old c.requires.peer (sym c.index_mut-peer.ensures.value) (λ k a apart. (refl, λ is. absurd (apart is)))
           (refl, λ is owes none. absurd (true≢false (sym (c.owes_reply.ensures.1 (owes, none)) ∙ c.if-not-owes_reply.true)));
@@ -155,7 +155,7 @@ returns-clause-held_up g c quiet =
       request = refl;
       begun = refl;
       gate = refl;
-      space = refl;
+      store = refl;
       done = refl;
       peers = one_pair peer_state _ self.peers.items c.args.at old c.take_reply.new.self c.requires.peer here (λ k a apart. (refl, λ is. absurd (apart is))) (n.0, λ is owes none. n.1);
     }

@@ -57,7 +57,7 @@ returns-clause-step g c =
     })
     c.a_journal_goes_on.ensures.number c.replies_hold_what_was_put.ensures.part c.evictions_are_counted.ensures.count
     (subst (λ commands. AreNumbered commands) c.commands.ensures.value c.commands.ensures.numbered) c.commands.ensures.well_formed c.facts.ensures.tickets may
-    c.serve-tried.new.space c.serve-tried.new.journal c.serve-tried.new.tally c.facts-2.ensures.lends c.serve-tried.result c.serve-tried.ensures
+    c.serve-tried.new.store c.serve-tried.new.journal c.serve-tried.new.tally c.facts-2.ensures.lends c.serve-tried.result c.serve-tried.ensures
 
 pub returns-clause-replies : goal.returns-clause-replies
 returns-clause-replies g c =
@@ -83,10 +83,10 @@ returns-clause-tells g c stands =
     let here : (d : Peer g.row.L.Denot) → get_or self.peers.items c.args.at d ≡ old = λ d. get_or_default self.peers.items c.args.at d old c.requires.peer ∙ sym c.index_mut.ensures.value in
     let may : MayAsk old = subst (λ (p : Peer g.row.L.Denot). MayAsk p) (c.index.ensures ∙ here c.index.result.now) (c.may_ask.ensures.0 c.if-not-may_ask.false) in
     request_tells traffic g.L.Link.end g.G.Gate.holds self
-    (node_state (record self { peers = with_item self.peers c.args.at c.serve-tried.new.peer; space = c.serve-tried.new.space; journal = c.serve-tried.new.journal; tally = c.serve-tried.new.tally }))
+    (node_state (record self { peers = with_item self.peers c.args.at c.serve-tried.new.peer; store = c.serve-tried.new.store; journal = c.serve-tried.new.journal; tally = c.serve-tried.new.tally }))
     c.args.at old c.serve-tried.new.peer
     (seen_there peer_state self.peers.items c.args.at old c.requires.peer (here old)) (set_seen peer_state self.peers.items c.args.at c.serve-tried.new.peer c.requires.peer) stands
-    self.space c.serve-tried.new.space self.journal c.serve-tried.new.journal self.tally c.serve-tried.new.tally c.serve-tried.result may c.serve-tried.ensures
+    self.store c.serve-tried.new.store self.journal c.serve-tried.new.journal self.tally c.serve-tried.new.tally c.serve-tried.result may c.serve-tried.ensures
 
 pub returns-clause-goes : goal.returns-clause-goes
 returns-clause-goes g c =
@@ -119,7 +119,7 @@ returns-clause-held_up g c quiet =
       request = refl;
       begun = refl;
       gate = refl;
-      space = n.2;
+      store = n.2;
       done = ap (λ j. length (done j.entries)) n.3;
       peers = one_pair peer_state _ self.peers.items c.args.at old c.serve-tried.new.peer c.requires.peer here (λ k a apart. (refl, λ is. absurd (apart is))) (n.0, λ is unheard none replied. inl n.1);
     }

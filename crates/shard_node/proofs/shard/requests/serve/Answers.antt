@@ -24,6 +24,6 @@ returns-in-Some-Bye g c =
         same_end = ap g.L.Link.end (sym link) ∙ c.in-Some-Bye.ensures.same_end;
       };
       tries = (held ∙ c.requires.may.released, refl);
-      ends = relinked Bye old new c.receive.new.self c.args.space.now c.args.space.now c.args.journal.now c.args.journal.now c.hear_bye.result (c.hear_bye.ensures.ends c.args.space.now c.args.journal.now);
+      ends = relinked Bye old new c.receive.new.self c.args.store.now c.args.store.now c.args.journal.now c.args.journal.now c.hear_bye.result (c.hear_bye.ensures.ends c.args.store.now c.args.journal.now);
       same = same ∙ ap (λ (p : Peer g.row.L.Denot). let q : Peer g.row.L.Denot = record old { link = p.link; held_request = p.held_request; reply = p.reply; asks = p.asks; has_heard_bye = new.has_heard_bye } in q) (sym same);
     })

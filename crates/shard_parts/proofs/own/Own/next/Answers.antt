@@ -1,6 +1,6 @@
 use Rattle.std.proofs.Common.{Some, sym, ap, ◌∙◌}
 use Rattle.std.proofs.lemmas.List.{get_or_default}
-use Rattle.trace_text.specs.Operation.{Operation}
+use Rattle.rows.specs.Operation.{Operation}
 use Rattle.trace_text.specs.Parts.{has_part}
 use Rattle.shard_parts.proofs.OwnNext.{all-begun, at-shards, next-in-log}
 use Rattle.part_lemmas.proofs.Cursors.Places.{no_command, no_operation, operation-at}

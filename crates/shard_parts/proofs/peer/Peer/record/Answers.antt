@@ -1,7 +1,7 @@
 use Rattle.std.proofs.Common.{◌≡◌, length, subst, sym, ap, Some, None, arith}
 use Rattle.std.specs.List.{slice_get}
 use Rattle.trace_text.specs.Operation.{operation}
-use Rattle.cache_model.specs.Bodies.{most_of_body}
+use Rattle.rows.specs.Bodies.{most_of_body}
 use Rattle.part_lemmas.proofs.Packets.BodyLengths.{fits_short}
 use Rattle.shard_parts.proofs.peer.Peer.record.Goals as goal
 
@@ -16,6 +16,7 @@ record-requires-clause-fits g c =
     let read = c.in-Some-expected_reply.ensures.some in
     let room = c.requires.room d (ap (λ l. slice_get l 0) c.in-Some.ensures.some) in
     let most = fits_short _ c.args.longest _ _ read.0 read.3 in
-    let same = ap (most_of_body c.args.longest) c.of-ask.ensures.asked in
+    let same = ap (most_of_body c.args.longest) c.operation_of-operation.ensures.asked in
     let body = ap (λ s. length s.1) read.1.spelled in
-    omega (arith, room, most, same, body)
+    let long = ap length c.body.ensures in
+    omega (arith, room, most, same, body, long)

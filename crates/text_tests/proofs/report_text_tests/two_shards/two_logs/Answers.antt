@@ -1,5 +1,5 @@
 use Rattle.std.proofs.Common.{ℕ, List, sym, subst, ◌∷◌, []}
-use Rattle.cache_model.specs.Apply.{Reply}
+use Rattle.rows.specs.Apply.{Reply}
 use Rattle.cache_model.specs.Examples.{two_shards}
 use Rattle.cache_model.specs.Logged.{AreLogged}
 use Rattle.text_tests.proofs.TwoShards.{Log, second_log, two_logged}

@@ -2,10 +2,11 @@
 use Rattle.std.proofs.Common.{◌≡◌, ◌≤◌, ◌+◌, ◌*◌, arith, sym, ◌∙◌}
 use Rattle.std.proofs.Math.Nat.{mul-le-mul_right}
 use Rattle.layout.specs.Sizes.{scan_room}
-use Rattle.trace_text.specs.declared.command.Kind.TheVariants.{Put, Get, Erase, Scan}
+use Rattle.rows.specs.declared.kind.Kind.TheVariants.{Put, Get, Erase, Scan}
 use Rattle.trace_text.specs.Operation.{operations}
 use Rattle.trace_text.specs.Parsed.{trace_in}
-use Rattle.trace_text.specs.Parts.{here_parts, is_scan, most_shards, own_parts, reply_bytes}
+use Rattle.rows.specs.Operation.{is_scan}
+use Rattle.trace_text.specs.Parts.{here_parts, most_shards, own_parts, reply_bytes}
 use Rattle.trace_text.specs.Reading.{most_replies}
 use Rattle.trace_text.specs.Trace.{trace_with}
 use Rattle.trace_text.specs.inside.Routes.{AreIssued, AreOwned}

@@ -1,5 +1,0 @@
-pub mod Holding
-pub mod Evictions
-pub mod Homecoming
-pub mod Pressure
-pub mod Replies

@@ -1,7 +1,0 @@
-use Rattle.reclaim.proofs.giving.give_or_refuse.Goals as goal
-
-pub returns-in-Ok-clause-consistent : goal.returns-in-Ok-clause-consistent
-returns-in-Ok-clause-consistent c shard pages standing h = c.give_at_once.ensures.consistent shard pages standing c.args.cache.now.region h
-
-pub returns-in-Err-NoSpan-clause-consistent : goal.returns-in-Err-NoSpan-clause-consistent
-returns-in-Err-NoSpan-clause-consistent c shard pages standing h = c.give_squeezed.ensures.consistent shard pages standing (c.give_at_once.ensures.consistent shard pages standing c.args.cache.now.region h)

@@ -1,0 +1,11 @@
+-- Which operations can be asked.
+use Rattle.std.specs.Prelude.{◌≤◌, length}
+use Rattle.layout.specs.Sizes.{greatest_value}
+use Rattle.rows.specs.KeyBody.{IsKey}
+use Rattle.rows.specs.Operation.{Operation, HasItsFields}
+
+-- a put has a value, which may be empty, and a scan has a count; the other kinds have neither
+pub record IsAskable (operation : Operation) : Type 0 where
+  pub key : IsKey operation.key
+  pub value : length operation.value ≤ greatest_value
+  pub fields : HasItsFields operation.kind operation.value operation.count

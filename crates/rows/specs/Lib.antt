@@ -1,0 +1,13 @@
+pub mod Apply
+pub mod Askable
+pub mod Bodies
+pub mod Evictions
+pub mod Fits
+pub mod Holds
+pub mod KeyBody
+pub mod Operation
+pub mod Operations
+pub mod Row
+pub mod Shown
+pub mod Spelled
+pub mod Told

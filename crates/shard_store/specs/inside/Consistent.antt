@@ -1,0 +1,56 @@
+-- How a shard's memory and its cache go together.
+use Rattle.std.specs.Prelude.{◌≡◌, ℕ, ◌/◌, ◌≤◌, [], length, Some, slice_get, IsSome, Contains}
+use Rattle.layout.specs.Sizes.{segment_pages, ArePages}
+use Rattle.layout.specs.Extents.{extent}
+use Rattle.shard_memory.specs.Shards.{MemoryState}
+use Rattle.regions.specs.Segments.{RegionState}
+use Rattle.row_cache.specs.Rows.{CacheState, rows_of}
+use Rattle.shard_store.specs.Stores.{StoreState}
+use Rattle.regions.specs.Shapes.{Identity, shape, pieces, active_of, guards_of, held_count, free_count}
+
+-- the piece is a segment of the memory
+pub record IsOf (memory : MemoryState) (piece : Identity) : Type 0 where
+  pub home : piece.home ≡ memory.home
+  pub segment : Contains memory.segments (extent piece.at piece.length)
+
+-- the region holds each segment of the memory, once
+pub record HoldsAll (memory : MemoryState) (region : RegionState) : Type 0 where
+  pub of : (n : ℕ) (piece : Identity) → slice_get (pieces region) n ≡ Some (Some piece) → IsOf memory piece
+  pub apart : (m n : ℕ) (a b : Identity) → slice_get (pieces region) m ≡ Some (Some a) → slice_get (pieces region) n ≡ Some (Some b) → a.at ≡ b.at → m ≡ n
+  pub count : held_count region ≡ length memory.segments
+
+-- The region is made of the segments of the shard's memory, of which no block stays with the shard. So many guards stand.
+pub record IsMadeOf (shard pages standing : ℕ) (memory : MemoryState) (region : RegionState) : Type 0 where
+  pub owner : memory.owner ≡ shard
+  pub size : memory.pages ≡ pages
+  pub are_pages : ArePages pages
+  pub blocks : memory.blocks ≡ []
+  pub most : (shape region).most ≡ pages / segment_pages
+  pub holds : HoldsAll memory region
+  pub guards : guards_of region 0 ≡ standing
+
+-- besides, a segment is active, and one is free
+pub record IsConsistent (shard pages standing : ℕ) (memory : MemoryState) (region : RegionState) : Type 0 where
+  pub made : IsMadeOf shard pages standing memory region
+  pub active : IsSome (active_of region 0)
+  pub free : 1 ≤ free_count region
+
+-- what callers see of both
+abbrev pub store_of : MemoryState → CacheState → StoreState
+store_of memory cache = record {
+  shard = memory.owner;
+  pages = memory.pages;
+  room = cache.room;
+  rows = rows_of cache;
+  list = memory.list;
+  lent = memory.lent;
+  lends = memory.lends;
+  backs = memory.backs;
+  looks = memory.take_wholes;
+  region = cache.region;
+  free = memory.room;
+}
+
+-- so they are, for the shard that it is, with the guards that stand
+abbrev pub IsWhole : MemoryState → CacheState → Type 0
+IsWhole memory cache = IsConsistent memory.owner memory.pages (guards_of cache.region 0) memory cache.region

@@ -1,0 +1,51 @@
+//! Evictions, written into the caller's memory.
+ghost use Rattle.std.specs.Prelude.{◌≡◌, ◌^◌};
+
+use rows::Evictions;
+
+/// The tags of the rows that went, in order, in memory of the caller's. Those that did not fit are counted, and the count stands
+/// at the greatest u64.
+#[derive(Drop)]
+pub struct EvictedTags<'a> {
+    pub tags: &'a mut [u32],
+    /// How many of `tags` were told.
+    pub told: usize,
+    /// How many did not fit.
+    pub missed: u64,
+}
+
+impl<'a> EvictedTags<'a> {
+    /// Nothing was told yet.
+    pub fn new(tags: &'a mut [u32]) -> EvictedTags<'a>
+        ensures same_reference { result.tags.ghost_name ≡ tags.entry.ghost_name }
+        ensures tags { result.tags.now ≡ tags.entry.now }
+        ensures told { result.told ≡ 0 }
+        ensures missed { result.missed ≡ 0 }
+    {
+        EvictedTags {
+            tags,
+            told: 0,
+            missed: 0,
+        }
+    }
+}
+
+impl<'a> Evictions for EvictedTags<'a> {
+    ghost use Rattle.std.proofs.Common.{rules};
+    ghost use Rattle.shard_store.specs.Tags.{IsWritten};
+
+    ghost room = { λ _. 2 ^ 32 };
+
+    ghost tells = { IsWritten };
+
+    fn evicted(&mut self, tag: u32) {
+        if self.told < self.tags.len() {
+            self.tags[self.told] = tag;
+            self.told += 1;
+        } else {
+            self.missed = self.missed.saturating_add(1);
+        }
+    }
+
+    ghost takes_one = { Prim.search rules };
+}

@@ -1,0 +1,30 @@
+//! One shard's memory and cache together: a [`ShardStore`].
+//!
+//! A put that finds no room in the active segment makes some, in an order that is fixed: a free segment, one more from the
+//! pages, compaction, and at last an eviction of the row that was used longest ago. It is proved that at
+//! each eviction more bytes are live than a bound; that nothing is evicted while a segment is free or compaction makes room, no
+//! clause says: tests show it. The rules are those of Seastar's memory and of ScyllaDB's `utils/logalloc`; that each row goes by
+//! itself, after a whole compaction, is ours.
+//!
+//! Whoever calls is told which rows went: see [`Evictions`].
+#![tactic(auto)]
+
+mod evicted_tags;
+mod evicting;
+mod eviction_count;
+mod giving;
+mod law;
+mod looking_up;
+mod making_room;
+mod segments;
+mod store;
+mod storing;
+
+pub use evicted_tags::EvictedTags;
+pub use eviction_count::EvictionCount;
+pub use law::lent_blocks_stay_lent;
+pub use regions::Place;
+pub use row_cache::{Put, Scanned};
+pub use rows::Evictions;
+pub use shard_memory::{GiveRefusal, Share};
+pub use store::ShardStore;

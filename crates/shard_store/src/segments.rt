@@ -1,0 +1,146 @@
+//! Segments of the pages that go to the cache.
+ghost use Rattle.std.specs.Prelude.{◌≡◌, ℕ, ◌+◌, ◌/◌, ◌<◌, ◌≤◌, true, false, None, [], length};
+ghost use Rattle.layout.specs.Sizes.{segment_pages};
+ghost use Rattle.shard_memory.specs.Room.{HasAllRoom, IsTrimmed};
+ghost use Rattle.shard_memory.specs.Shards.{IsCrowded};
+ghost use Rattle.shard_memory.specs.Tickets.{tickets_out};
+ghost use Rattle.regions.specs.Shapes.{active_of, free_count};
+ghost use Rattle.row_cache.specs.Rows.{rows_of, Stay};
+ghost use Rattle.shard_store.specs.Stores.{HoldsTwo};
+ghost use Rattle.shard_store.specs.inside.Consistent.{IsMadeOf, IsConsistent};
+ghost use Rattle.shard_store.specs.inside.Homecoming.{SameTickets, HandsBack};
+
+use row_cache::RowCache;
+use shard_memory::ShardMemory;
+
+// Gives the cache its first two segments, one of them active.
+pub(crate) fn begin(memory: &mut ShardMemory<'_>, cache: &mut RowCache)
+    // Nothing is given or lent yet.
+    requires made { IsMadeOf memory.old.owner memory.old.pages 0 memory.old cache.old.region }
+    requires none { memory.old.segments ≡ [] }
+    requires idle { tickets_out memory.old.lent ≡ 0 }
+    requires free { free_count cache.old.region ≡ 0 }
+    requires active { active_of cache.old.region 0 ≡ None }
+    requires trimmed { IsTrimmed memory.old.room }
+
+    // A segment is active, another one free.
+    ensures consistent { IsConsistent memory.old.owner memory.old.pages 0 memory.new cache.new.region }
+    ensures segments { HoldsTwo cache.new.region }
+
+    // Nothing else has changed.
+    ensures tickets { SameTickets memory.old memory.new }
+    ensures rows { rows_of cache.new ≡ rows_of cache.old }
+    ensures room { cache.new.room ≡ cache.old.room }
+{
+    add_first(memory, cache);
+    add_first(memory, cache);
+    cache.next_active();
+}
+
+// Gives the cache a free segment more, while most of the pages are free.
+fn add_first(memory: &mut ShardMemory<'_>, cache: &mut RowCache)
+    // The pages have another segment.
+    requires made { IsMadeOf memory.old.owner memory.old.pages 0 memory.old cache.old.region }
+    requires few { length memory.old.segments < memory.old.pages / segment_pages }
+    requires idle { tickets_out memory.old.lent ≡ 0 }
+    requires trimmed { IsTrimmed memory.old.room }
+
+    // The cache has one segment more.
+    ensures made { IsMadeOf memory.old.owner memory.old.pages 0 memory.new cache.new.region }
+    ensures one_more { length memory.new.segments ≡ length memory.old.segments + 1 }
+    ensures free { free_count cache.new.region ≡ free_count cache.old.region + 1 }
+    ensures trimmed { IsTrimmed memory.new.room }
+
+    // Nothing else has changed.
+    ensures active { active_of cache.new.region 0 ≡ active_of cache.old.region 0 }
+    ensures tickets { SameTickets memory.old memory.new }
+    ensures rows { rows_of cache.new ≡ rows_of cache.old }
+    ensures room { cache.new.room ≡ cache.old.room }
+{
+    if !add_segment(memory, cache) {
+        unreachable!()
+    }
+}
+
+// Gives the cache a free segment more, out of the pages. False where they have no room for one; then nothing changed.
+pub(crate) fn add_segment(memory: &mut ShardMemory<'_>, cache: &mut RowCache) -> bool
+    requires made { IsMadeOf memory.old.owner memory.old.pages 0 memory.old cache.old.region }
+
+    // Memory and cache go together still.
+    ensures made { IsMadeOf memory.old.owner memory.old.pages 0 memory.new cache.new.region }
+
+    // When no segment is added.
+    ensures crowded { result ≡ false → IsTrimmed memory.old.room → IsCrowded memory.old }
+    ensures unchanged { result ≡ false → (memory.new ≡ memory.old) × (cache.new ≡ cache.old) }
+
+    // Else the cache has another one.
+    ensures one_more { result ≡ true → length memory.new.segments ≡ length memory.old.segments + 1 }
+    ensures free { result ≡ true → free_count cache.new.region ≡ free_count cache.old.region + 1 }
+
+    // Nothing else has changed.
+    ensures trimmed { IsTrimmed memory.old.room → IsTrimmed memory.new.room }
+    ensures active { active_of cache.new.region 0 ≡ active_of cache.old.region 0 }
+    ensures tickets { SameTickets memory.old memory.new }
+    ensures rows { rows_of cache.new ≡ rows_of cache.old }
+    ensures room { cache.new.room ≡ cache.old.room }
+{
+    let Some(piece) = memory.give_segment() else {
+        return false;
+    };
+    memory.facts();
+    cache.add_segment(piece);
+    true
+}
+
+// Gives a free segment of the cache back to the pages, but not the last one. False where no other one is free; then nothing
+// changed.
+pub(crate) fn give_free_back(memory: &mut ShardMemory<'_>, cache: &mut RowCache) -> bool
+    requires made { (guards : ℕ) × IsMadeOf memory.old.owner memory.old.pages guards memory.old cache.old.region }
+
+    // Memory and cache go together still.
+    ensures consistent { (shard pages guards : ℕ) → IsConsistent shard pages guards memory.old cache.old.region
+        → IsConsistent shard pages guards memory.new cache.new.region }
+
+    // What each answer means.
+    ensures room { result ≡ true → HasAllRoom memory.new.room }
+    ensures none { result ≡ false → free_count cache.old.region ≤ 1 }
+    ensures unchanged { result ≡ false → (memory.new ≡ memory.old) × (cache.new ≡ cache.old) }
+    ensures handed { result ≡ true → HandsBack cache.old.region cache.new.region }
+
+    // No row moved, and no block came home.
+    ensures tickets { SameTickets memory.old memory.new }
+    ensures stay { Stay cache.old.region cache.new.region }
+    ensures rows { rows_of cache.new ≡ rows_of cache.old }
+    ensures tables { cache.new.room ≡ cache.old.room }
+{
+    let Some(piece) = cache.take_free() else {
+        return false;
+    };
+    memory.segment_back(piece);
+    true
+}
+
+// Gives all segments of the cache back to the pages. Its rows go.
+pub(crate) fn give_back(memory: &mut ShardMemory<'_>, cache: &mut RowCache)
+    requires made { IsMadeOf memory.old.owner memory.old.pages 0 memory.old cache.old.region }
+    ensures segments { memory.new.segments ≡ [] }
+    ensures blocks { memory.new.blocks ≡ [] }
+    ensures tickets { SameTickets memory.old memory.new }
+{
+    while give_one_back(memory, cache) {}
+}
+
+// Gives one segment of the cache back to the pages. False where it has none.
+fn give_one_back(memory: &mut ShardMemory<'_>, cache: &mut RowCache) -> bool
+    requires made { IsMadeOf memory.old.owner memory.old.pages 0 memory.old cache.old.region }
+    ensures made { result ≡ true → IsMadeOf memory.new.owner memory.new.pages 0 memory.new cache.new.region }
+    ensures one_less { result ≡ true → length memory.new.segments + 1 ≡ length memory.old.segments }
+    ensures none { result ≡ false → (memory.new.segments ≡ []) × (memory.new.blocks ≡ []) }
+    ensures tickets { SameTickets memory.old memory.new }
+{
+    let Some(piece) = cache.give_up() else {
+        return false;
+    };
+    memory.segment_back(piece);
+    true
+}

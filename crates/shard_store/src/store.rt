@@ -1,0 +1,189 @@
+//! The memory and the cache of one shard, as one.
+ghost use Rattle.std.specs.Prelude.{◌≡◌, ◌⊎◌, ◌*◌, ◌-◌, ◌^◌, ◌<◌, ◌≤◌, [], length, take, drop, true, IfOk, IfErr};
+ghost use Rattle.layout.specs.Sizes as sizes;
+ghost use Rattle.rows.specs.Row.{live};
+ghost use Rattle.rows.specs.Apply as apply;
+ghost use Rattle.rows.specs.KeyBody.{AreKeys, IsKey};
+ghost use Rattle.foreign_list.specs.OwnerSeats.{IsAtRest};
+ghost use Rattle.row_cache.specs.Rows.{reply_of};
+ghost use Rattle.shard_memory.specs.Tickets.{tickets_out};
+ghost use Rattle.shard_store.specs.Stores.{StoreState, HoldsTwo, IsSameStore, IsUnguarded};
+ghost use Rattle.shard_store.specs.Lending.{TakesBack};
+ghost use Rattle.shard_store.specs.Works.{DoesAbove, pressure};
+
+mod getting;
+mod lending;
+mod values;
+
+use crate::segments::{begin, give_back};
+use crate::storing::put_evicting;
+use foreign_list::{Foreign, OwnerSeat};
+use layout::SEGMENT_PAGES;
+use row_cache::{Put, RowCache, Scanned};
+use rows::Evictions;
+use shard_memory::ShardMemory;
+use std::alloc::Global;
+use std::marker::Model;
+
+/// The memory and the cache of one shard.
+#[derive(Drop)]
+pub struct ShardStore<'f> {
+    memory: ShardMemory<'f>,
+    cache: RowCache,
+}
+
+impl<'f> Model for ShardStore<'f> {
+    ghost use Rattle.std.specs.Coded.{codes};
+    ghost use Rattle.regions.specs.Shapes.{guards_of};
+    ghost use Rattle.shard_memory.specs.Room.{room_code};
+    ghost use Rattle.shard_store.specs.Stores.{StoreState};
+    ghost use Rattle.shard_store.specs.inside.Consistent.{IsConsistent, store_of};
+
+    ghost Value = { StoreState };
+
+    ghost coded = { Prim.hlevel (codes, room_code) };
+
+    ghost view = { λ s. store_of s.memory s.cache };
+
+    ghost invariant = { λ s. IsConsistent s.memory.owner s.memory.pages (guards_of s.cache.region 0) s.memory s.cache.region };
+}
+
+impl<'f> ShardStore<'f> {
+    /// The store of a shard of so many pages, with room for so many rows, fewer than 4,294,967,295, and none in it,
+    /// whose lent blocks come home over this list. Two segments go to the cache, one of them active.
+    ///
+    /// # Errors
+    /// Want of memory; then the seat is handed back. No other call takes memory.
+    pub fn open(
+        alloc: Global,
+        shard: u32,
+        pages: u32,
+        rows: u32,
+        home: &'f Foreign,
+        seat: OwnerSeat,
+    ) -> Result<ShardStore<'f>, OwnerSeat>
+        // What it is opened with.
+        requires pages { sizes.ArePages pages }
+        requires rows { rows < 2 ^ 32 - 1 }
+        requires owner { home.now.owner ≡ shard }
+        requires seat { IsAtRest home.now seat }
+
+        // Without memory the seat comes back.
+        ensures refused { IfErr result (λ back. back ≡ seat) }
+
+        // It is this shard's, and empty.
+        ensures numbers { IfOk result (λ store. (store.shard ≡ shard) × (store.pages ≡ pages) × (store.room ≡ rows)) }
+        ensures rows { IfOk result (λ store. store.rows ≡ []) }
+        ensures segments { IfOk result (λ store. HoldsTwo store.region) }
+
+        // Nothing is lent, and no guard stands.
+        ensures list { IfOk result (λ store. store.list ≡ home.now) }
+        ensures lent { IfOk result (λ store. (store.lent ≡ seat.lent) × (store.lends ≡ 0) × (store.backs ≡ 0)) }
+        ensures idle { IfOk result (λ store. tickets_out store.lent ≡ 0) }
+        ensures unguarded { IfOk result IsUnguarded }
+    {
+        let Ok(mut cache) = RowCache::new(alloc, rows, pages / SEGMENT_PAGES) else {
+            return Err(seat);
+        };
+        let mut memory = ShardMemory::open(alloc, shard, pages, home, seat)?;
+        begin(&mut memory, &mut cache);
+        Ok(ShardStore { memory, cache })
+    }
+
+    /// Stores a row in front of the others; no other row has its key afterwards. It always stores: where no room can be made
+    /// otherwise, the rows that were used longest ago go, one by one, and each is told.
+    pub fn put<E: Evictions>(
+        &mut self,
+        key: &[u8],
+        value: &[u8],
+        tag: u32,
+        evictions: &mut E,
+    ) -> Put
+        // A row of any size, with no guard standing.
+        requires key { IsKey key.now }
+        requires value { length value.now ≤ sizes.greatest_value }
+        requires unguarded { IsUnguarded self.old }
+
+        // There is room for it, and each other row may be told.
+        requires room { (apply.has key.now self.old.rows ≡ true) ⊎ (length self.old.rows < self.old.room) }
+        requires told { length self.old.rows ≤ E.room evictions.old }
+
+        // What it does, answers and tells.
+        ensures stored { DoesAbove E.tells (pressure self.old.pages self.old.lent) (apply.put key.now value.now tag) (reply_of result)
+            self.old self.new evictions.old evictions.new }
+
+        // Nothing is lent.
+        ensures taken { TakesBack self.old self.new }
+    {
+        put_evicting(
+            &mut self.memory,
+            &mut self.cache,
+            key,
+            value,
+            tag,
+            evictions,
+        )
+    }
+
+    /// Removes the row of a key. False where no row has the key.
+    pub fn erase(&mut self, key: &[u8]) -> bool
+        requires { IsUnguarded self.old }
+
+        // No row has the key then.
+        ensures found { result ≡ apply.has key.now self.old.rows }
+        ensures rows { self.new.rows ≡ apply.without key.now self.old.rows }
+
+        // Nothing else has changed.
+        ensures same { IsSameStore self.old self.new }
+        ensures tickets { (self.new.lent ≡ self.old.lent) × (self.new.lends ≡ self.old.lends) × (self.new.backs ≡ self.old.backs)
+            × (self.new.looks ≡ self.old.looks) }
+    {
+        self.cache.erase(key)
+    }
+
+    /// Writes the first `count` keys at or above `from`, in the order of their bytes, to the front of `into`: each behind its
+    /// length in two bytes, low byte first. The bytes behind them stay. `into` has room for so many keys of the greatest length.
+    pub fn scan(&mut self, from: &[u8], count: u32, into: &mut [u8]) -> Scanned
+        // Some keys, with no guard standing.
+        requires some { 1 ≤ count }
+        requires most { count ≤ sizes.most_keys }
+        requires unguarded { IsUnguarded self.old }
+        requires room { sizes.key_room * count ≤ length into.old }
+
+        // What it writes, and where.
+        ensures count { result.keys ≡ length (apply.scanned from.now count self.old.rows) }
+        ensures keys { AreKeys (take result.bytes into.new) (apply.scanned from.now count self.old.rows) }
+        ensures within { result.bytes ≤ length into.old }
+        ensures behind { drop result.bytes into.new ≡ drop result.bytes into.old }
+
+        // Else nothing changes.
+        ensures unchanged { self.new ≡ self.old }
+    {
+        self.cache.scan(from, count, into)
+    }
+
+    /// How many rows there are.
+    pub fn rows(&self) -> u32
+        ensures { result ≡ length self.now.rows }
+    {
+        self.cache.rows()
+    }
+
+    /// The live bytes: the sizes of all rows together.
+    pub fn live(&self) -> u64
+        ensures { result ≡ live self.now.rows }
+    {
+        self.cache.live()
+    }
+
+    /// Gives the memory back, once every lent block is home, and hands back the owner's seat, with which the list may be closed.
+    pub fn finish(self) -> OwnerSeat
+        requires idle { tickets_out self.lent ≡ 0 }
+        requires unguarded { IsUnguarded self }
+        ensures seat { IsAtRest self.entry.list result }
+    {
+        let (mut memory, mut cache) = (self.memory, self.cache);
+        give_back(&mut memory, &mut cache);
+        memory.finish()
+    }
+}

@@ -1,0 +1,210 @@
+//! The blocks that a store lends, and the guards under which places stay.
+ghost use Rattle.std.specs.Prelude.{◌≡◌, ◌≢◌, ◌⊎◌, ◌↔◌, ◌+◌, ◌-◌, ◌^◌, ◌<◌, ◌≤◌, length, replicate, Some, None, IfOk, IfErr, IfSome, IfNone, IsSome, IsNone, IsTrue, MatchOption};
+ghost use Rattle.layout.specs.Sizes.{greatest_block, tickets};
+ghost use Rattle.rows.specs.Row.{Row};
+ghost use Rattle.rows.specs.Apply as apply;
+ghost use Rattle.regions.specs.Contents.{live_at};
+ghost use Rattle.regions.specs.Shapes.{guards_of};
+ghost use Rattle.row_cache.specs.Rows.{StandsAt};
+ghost use Rattle.layout.specs.Counts.{raised};
+ghost use Rattle.shard_memory.specs.Tickets.{HasIdle, tickets_out};
+ghost use Rattle.shard_store.specs.Stores.{IsSameStore, IsUnguarded, RowsStay, with_guards};
+ghost use Rattle.shard_store.specs.Works.{EvictsForBlock, floor_of, pressure};
+ghost use Rattle.shard_store.specs.Lending.{TakesBack, LooksOnce, LendsBlock, RefusesNow, GivesNow};
+
+use super::ShardStore;
+use crate::giving::{find_block, give_now};
+use foreign_list::ForeignBlock;
+use regions::Place;
+use rows::Evictions;
+use shard_memory::{GiveRefusal, Share};
+
+impl<'f> ShardStore<'f> {
+    /// What holds of a store at each time.
+    pub fn facts(&self)
+        ensures owner { self.now.shard ≡ self.now.list.owner }
+        ensures rows { length self.now.rows ≤ self.now.room }
+        ensures tickets { length self.now.lent ≡ tickets }
+        ensures lends { self.now.lends ≡ raised self.now.backs (tickets_out self.now.lent) }
+        ensures backs { self.now.backs < 2 ^ 64 }
+    {
+        self.memory.facts();
+        self.cache.facts();
+    }
+
+    /// Lends a block of so many bytes with an idle ticket of the share; what stands in it is not said. Where there is no room for it
+    /// otherwise, the rows that were used longest ago go, one by one, and each is told.
+    pub fn lend<E: Evictions>(
+        &mut self,
+        size: u32,
+        share: Share,
+        evictions: &mut E,
+    ) -> ForeignBlock<'f>
+        // A block that may be lent.
+        requires some { 1 ≤ size }
+        requires most { size ≤ greatest_block }
+        requires idle { HasIdle self.old.lent share }
+
+        // Unguarded, and each row may be told.
+        requires unguarded { IsUnguarded self.old }
+        requires told { length self.old.rows ≤ E.room evictions.old }
+
+        // What is lent.
+        ensures size { length result.piece.bytes ≡ size }
+        ensures lends { LendsBlock share self.old self.new result }
+
+        // Rows that went were told.
+        ensures evicted { EvictsForBlock E.tells self.old self.new evictions.old evictions.new }
+
+        // A put behind it evicts above the floor that there was before it.
+        ensures floor { floor_of self.old.pages self.old.lent ≤ pressure self.new.pages self.new.lent }
+    {
+        let (memory, cache) = (&mut self.memory, &mut self.cache);
+        memory.facts();
+        find_block(memory, cache, size, share, evictions)
+    }
+
+    /// The same, where a ticket of the share may be idle or not.
+    ///
+    /// # Errors
+    /// None exactly where no ticket of the share is idle. Nothing changed.
+    pub fn try_lend<E: Evictions>(
+        &mut self,
+        size: u32,
+        share: Share,
+        evictions: &mut E,
+    ) -> Option<ForeignBlock<'f>>
+        // A block that may be lent.
+        requires some { 1 ≤ size }
+        requires most { size ≤ greatest_block }
+
+        // Unguarded, and each row may be told.
+        requires unguarded { IsUnguarded self.old }
+        requires told { length self.old.rows ≤ E.room evictions.old }
+
+        // Without an idle ticket nothing happens.
+        ensures none { IsNone result ↔ ¬ HasIdle self.old.lent share }
+        ensures unchanged { IfNone result ((self.new ≡ self.old) × (evictions.new ≡ evictions.old)) }
+
+        // What is lent.
+        ensures size { IfSome result (λ block. length block.piece.bytes ≡ size) }
+        ensures lends { IfSome result (LendsBlock share self.old self.new) }
+
+        // Rows that went were told.
+        ensures evicted { IfSome result (λ _. EvictsForBlock E.tells self.old self.new evictions.old evictions.new) }
+    {
+        if !self.is_idle(share) {
+            return None;
+        }
+        Some(self.lend(size, share, evictions))
+    }
+
+    /// Lends a block of so many bytes, all of them 0, with an idle ticket of the share. Where there is no room for it, lent blocks
+    /// that were released come home first. Where there is none still, segments and blocks that are out are together as many as the
+    /// pages make segments, and a segment goes back to them that is free besides the last one. Nothing is moved and no row goes, so
+    /// it may be called under a guard.
+    ///
+    /// # Errors
+    /// In this order: `TooLarge` exactly above 16,384 bytes, and `NoTicket` exactly where no ticket of the share is idle as the call
+    /// begins; then nothing changed. `NoSpan` where there is no room after that, with the pools trimmed and one segment free at most.
+    pub fn give_now(&mut self, size: u32, share: Share) -> Result<ForeignBlock<'f>, GiveRefusal>
+        requires { 1 ≤ size }
+
+        // No row moves or goes.
+        ensures same { IsSameStore self.old self.new }
+        ensures rows { self.new.rows ≡ self.old.rows }
+        ensures stay { RowsStay self.old self.new }
+
+        // Why none is given.
+        ensures refused { IfErr result (RefusesNow self.old self.new size share) }
+        ensures unchanged { IfErr result (λ refusal. refusal ≢ GiveRefusal.NoSpan → self.new ≡ self.old) }
+
+        // What is lent, and how room was made.
+        ensures in_turn { IfOk result (λ _. GivesNow size share self.old self.new) }
+        ensures lends { IfOk result (LendsBlock share self.old self.new) }
+        ensures zeros { IfOk result (λ block. block.piece.bytes ≡ replicate size 0) }
+    {
+        let (memory, cache) = (&mut self.memory, &mut self.cache);
+        give_now(memory, cache, size, share)
+    }
+
+    /// Takes back each lent block that was released, by one look at the list, which is left alone where none is out. Answers how
+    /// many came home.
+    pub fn take_back(&mut self) -> u32
+        ensures taken { TakesBack self.old self.new }
+        ensures count { tickets_out self.new.lent + result ≡ tickets_out self.old.lent }
+        ensures looked { LooksOnce self.old self.new }
+        ensures same { self.new ≡ record self.old {
+          lent = self.new.lent;
+          backs = self.new.backs;
+          looks = self.new.looks;
+          free = self.new.free;
+        } }
+    {
+        self.memory.take_back()
+    }
+
+    /// Whether a ticket of the share is idle.
+    pub fn is_idle(&self, share: Share) -> bool
+        ensures { IsTrue result ↔ HasIdle self.now.lent share }
+    {
+        self.memory.is_idle(share)
+    }
+
+    /// How many tickets are not idle.
+    pub fn tickets_out(&self) -> u32
+        ensures { result ≡ tickets_out self.now.lent }
+    {
+        self.memory.tickets_out()
+    }
+
+    /// How many blocks were lent. It stands at the greatest u64.
+    pub fn lent(&self) -> u64
+        ensures { result ≡ self.now.lends }
+    {
+        self.memory.lent()
+    }
+
+    /// How many blocks came home. It stands at the greatest u64.
+    pub fn back(&self) -> u64
+        ensures { result ≡ self.now.backs }
+    {
+        self.memory.back()
+    }
+
+    /// One guard more. While one stands, what stands at a place stays there. Guards nest.
+    pub fn guard(&mut self)
+        requires { guards_of self.old.region 0 < 1000000 }
+        ensures guards { self.new ≡ with_guards self.old (guards_of self.old.region 0 + 1) }
+        ensures count { guards_of self.new.region 0 ≡ guards_of self.old.region 0 + 1 }
+    {
+        self.cache.guard();
+    }
+
+    /// One guard less.
+    pub fn unguard(&mut self)
+        requires { 1 ≤ guards_of self.old.region 0 }
+        ensures guards { self.new ≡ with_guards self.old (guards_of self.old.region 0 - 1) }
+        ensures count { guards_of self.new.region 0 + 1 ≡ guards_of self.old.region 0 }
+    {
+        self.cache.unguard();
+    }
+
+    /// Where the row of a key stands. None where no row has the key.
+    pub fn place_of(&self, key: &[u8]) -> Option<Place>
+        ensures { MatchOption result (apply.row_of key.now self.now.rows ≡ None)
+            (λ place. (row : Row) × (apply.row_of key.now self.now.rows ≡ Some row) × StandsAt self.now.region place row
+            × IsSome (live_at self.now.region place)) }
+    {
+        self.cache.place_of(key)
+    }
+
+    /// The value of the row at a place, live, or dead under a guard.
+    pub fn value_at(&self, place: Place) -> &[u8]
+        requires row { (row : Row) × StandsAt self.now.region place row }
+        requires live { IsSome (live_at self.now.region place) ⊎ (1 ≤ guards_of self.now.region 0) }
+        ensures { (row : Row) × StandsAt self.now.region place row × (result.now ≡ row.value) }
+    {
+        self.cache.value_at(place)
+    }
+}

@@ -1,0 +1,162 @@
+// A store that any calls are made on, and that tells the tags of the rows that go.
+ghost use Rattle.std.specs.Prelude.{◌≡◌};
+ghost use Rattle.foreign_list.specs.OwnerSeats.{IsAtRest};
+ghost use Rattle.regions.specs.Shapes.{guards_of};
+
+use super::HEAD;
+use foreign_list::{Foreign, ForeignBlock, OwnerSeat};
+use layout::{GREATEST_BLOCK, GREATEST_KEY, GREATEST_VALUE};
+use shard_store::{EvictedTags, Put, Scanned, ShardStore, Share};
+use std::alloc::{AllocError, Global};
+use std::test::Fail;
+
+// For how many rows there is room.
+const ROWS: u32 = 800;
+
+// The most keys of a scan, and the room that they take.
+pub(super) const SCANNED: u32 = 5;
+
+pub(super) const SCAN_BYTES: usize = 1290;
+
+// A call that can't be made, or with a tag that has no place, answers None.
+#[derive(Drop)]
+pub(super) struct Drawn<'f> {
+    store: ShardStore<'f>,
+    ghost room: { store.room ≡ 800 },
+    ghost unguarded: { guards_of store.region 0 ≡ 0 },
+}
+
+impl<'f> Drawn<'f> {
+    pub(super) fn new(alloc: Global, home: &'f Foreign, seat: OwnerSeat) -> Result<Drawn<'f>, Fail>
+        requires owner { home.now.owner ≡ 0 }
+        requires seat { IsAtRest home.now seat }
+    {
+        let Ok(store) = ShardStore::open(alloc, 0, 1280, ROWS, home, seat) else {
+            return Err(AllocError.into());
+        };
+        Ok(Drawn { store })
+    }
+
+    // Puts a row. Answers how many tags are in `tags` besides.
+    pub(super) fn put(
+        &mut self,
+        key: &[u8],
+        value: &[u8],
+        tag: u32,
+        tags: &mut [u32],
+    ) -> Option<(Put, usize)> {
+        if key.is_empty() || key.len() > GREATEST_KEY || value.len() > GREATEST_VALUE {
+            return None;
+        }
+        if self.store.rows() >= ROWS {
+            return None;
+        }
+        let mut told = EvictedTags::new(tags);
+        let did = self.store.put(key, value, tag, &mut told);
+        if told.missed > 0 {
+            return None;
+        }
+        Some((did, told.told))
+    }
+
+    // Whether the key has this value, or none.
+    pub(super) fn has(&mut self, key: &[u8], value: Option<&[u8]>) -> bool {
+        self.store.get(key) == value
+    }
+
+    pub(super) fn erase(&mut self, key: &[u8]) -> bool {
+        self.store.erase(key)
+    }
+
+    pub(super) fn scan(&mut self, from: &[u8], count: u32, into: &mut [u8]) -> Option<Scanned> {
+        if count == 0 || count > SCANNED || into.len() < SCAN_BYTES {
+            return None;
+        }
+        Some(self.store.scan(from, count, into))
+    }
+
+    // Lends a block with the value of a key behind its head.
+    pub(super) fn lend_value(
+        &mut self,
+        key: &[u8],
+        tags: &mut [u32],
+    ) -> Option<(ForeignBlock<'f>, Option<u32>, usize)> {
+        if !self.store.is_idle(Share::Reply) {
+            return None;
+        }
+        if self.store.rows() > ROWS {
+            return None;
+        }
+        let mut told = EvictedTags::new(tags);
+        let (block, found) = self.store.lend_value(key, HEAD, Share::Reply, &mut told);
+        if told.missed > 0 {
+            return None;
+        }
+        Some((block, found, told.told))
+    }
+
+    // Lends a block with keys behind its head.
+    pub(super) fn lend_keys(
+        &mut self,
+        from: &[u8],
+        count: u32,
+        tags: &mut [u32],
+    ) -> Option<(ForeignBlock<'f>, Scanned, usize)> {
+        if count == 0 || count > SCANNED {
+            return None;
+        }
+        if !self.store.is_idle(Share::Reply) {
+            return None;
+        }
+        if self.store.rows() > ROWS {
+            return None;
+        }
+        let mut told = EvictedTags::new(tags);
+        let (block, scanned) = self
+            .store
+            .lend_keys(from, count, HEAD, Share::Reply, &mut told);
+        if told.missed > 0 {
+            return None;
+        }
+        Some((block, scanned, told.told))
+    }
+
+    // Lends a block of so many bytes.
+    pub(super) fn lend(
+        &mut self,
+        size: u32,
+        tags: &mut [u32],
+    ) -> Option<(ForeignBlock<'f>, usize)> {
+        if size == 0 || size > GREATEST_BLOCK {
+            return None;
+        }
+        if self.store.rows() > ROWS {
+            return None;
+        }
+        let mut told = EvictedTags::new(tags);
+        let block = self.store.try_lend(size, Share::Request, &mut told)?;
+        if told.missed > 0 {
+            return None;
+        }
+        Some((block, told.told))
+    }
+
+    pub(super) fn take_back(&mut self) -> u32 {
+        self.store.take_back()
+    }
+
+    // How many rows there are, and the live bytes.
+    pub(super) fn size(&self) -> (u32, u64) {
+        (self.store.rows(), self.store.live())
+    }
+
+    // Whether each block that was lent is home.
+    pub(super) fn finish(self) -> bool {
+        let all = self.store.lent() == self.store.back();
+        if self.store.tickets_out() != 0 {
+            return false;
+        }
+        let _seat = self.store.finish();
+        all
+    }
+}
