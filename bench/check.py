@@ -3,91 +3,24 @@
 
     bench/check.py TRACE REPORT [--shards N] [--pages N]
 
-REPORT is what `run` or `sim` wrote of TRACE with these options; without them it is one shard of 8,192 pages. Nothing here is the
-program's: the caches, the hash of a key and the sizes are this script's own. It goes along the journal of each shard with a cache
-and sees that each part of each command is done once, where its key belongs, the parts of one origin in order; that a row which
-goes is the one used longest ago, and goes while more bytes are live than a shard of so many pages may hold; that each reply is
-the cache's at that point, and a scan's the first keys of those found at all shards; and that the last lines say what the caches
-hold, and how many parts went to another shard or came from one. Every byte of the report is compared.
+REPORT is what `run` or `sim` wrote of TRACE with these options; without them it is one shard of 8,192 pages. Nothing
+here is the program's: the caches, the hash of a key and the sizes are those of `cache_model.py`. It goes along the
+journal of each shard with a cache and sees that each part of each command is done once, where its key belongs, the
+parts of one origin in order; that a row which goes is the one used longest ago, and goes while more bytes are live than
+a shard of so many pages may hold; that each reply is the cache's at that point, and a scan's the first keys of those
+found at all shards; and that the last lines say what the caches hold, and how many parts went to another shard or came
+from one. Every byte of the report is compared.
 """
 import argparse
-import bisect
 import sys
 
-BASIS, PRIME, MODULUS = 0xCBF29CE484222325, 0x100000001B3, 2**64
-DENSE, SEGMENT_PAGES, TICKETS, OVERHEAD = 118_776, 32, 32, 40
-
-
-class Cache:
-    """The rows of a shard by the order of use, the one used longest ago first, and their keys in order."""
-
-    def __init__(self):
-        self.rows, self.keys, self.live = {}, [], 0
-
-    def take(self, key):
-        """Takes the row of a key out of the order, as its value, its put's number and its size. None where there is none."""
-        row = self.rows.pop(key, None)
-        self.live -= row[2] if row else 0
-        return row
-
-    def put(self, key, row):
-        """The row of a key that has none is the one used last."""
-        self.rows[key] = row
-        self.live += row[2]
-
-    def forget(self, key):
-        del self.keys[bisect.bisect_left(self.keys, key)]
-
-    def evict(self):
-        """The row used longest ago goes. The number of its put, or None where there is no row."""
-        key = next(iter(self.rows), None)
-        if key is None:
-            return None
-        self.forget(key)
-        return self.take(key)[1]
-
-    def scan(self, key, count):
-        at = bisect.bisect_left(self.keys, key)
-        return self.keys[at:at + count]
-
-    def do(self, number, command):
-        """The reply to a put, a get or an erase."""
-        word, key = command[:2]
-        row = self.take(key)
-        if word == b"put":
-            self.put(key, (command[2], number, (OVERHEAD + len(key) + len(command[2]) + 7) // 8 * 8))
-            if not row:
-                bisect.insort(self.keys, key)
-            return b"replaced" if row else b"stored"
-        if not row:
-            return b"missing"
-        if word == b"get":
-            self.put(key, row)
-            return b"value " + row[0]
-        self.forget(key)
-        return b"erased"
-
-
-def commands_of(trace):
-    """The commands of a trace's bytes, each as a list of its fields."""
-    lines = (line.removesuffix(b"\r") for line in trace.split(b"\n"))
-    return [line.split(b" ", 2) for line in lines if line and not line.startswith(b"#")]
+from cache_model import Cache, bound_of, commands_of, owner_of
 
 
 def owners_of(commands, shards):
     """Of each command the shard that its key belongs to. None of a scan, which all do."""
-    known = {}
-    for key in {command[1] for command in commands}:
-        number = BASIS
-        for byte in key:
-            number = (number ^ byte) * PRIME % MODULUS
-        known[key] = number % shards
+    known = {key: owner_of(key, shards) for key in {command[1] for command in commands}}
     return [None if command[0] == b"scan" else known[command[1]] for command in commands]
-
-
-def bound_of(shards, pages):
-    """Up to so many live bytes no row goes: where no block can be lent, those of all segments but one."""
-    return (pages // SEGMENT_PAGES - (1 if shards == 1 else TICKETS + 2)) * DENSE
 
 
 def number_in(word):
@@ -96,16 +29,19 @@ def number_in(word):
 
 
 def replay(shard, shards, entries, commands, owners, bound):
-    """Goes along a journal. Answers the cache behind it, the replies by command, a scan's as its keys, and how many rows went."""
-    cache, replies, evicted, last = Cache(), {}, 0, [0] * shards
+    """Goes along a journal. Answers the cache behind it, the replies by command, and the live bytes as each row went.
+
+    The reply to a scan is its keys.
+    """
+    cache, replies, evicted, last = Cache(), {}, [], [0] * shards
     for entry in entries:
         where = f"in the journal of shard {shard}, {entry.decode(errors='replace')}"
         if entry.startswith(b"!"):
             if cache.live <= bound:
                 sys.exit(f"{where}: a row goes at {cache.live} live bytes, which are not above {bound}")
+            evicted.append(cache.live)
             if number_in(entry[1:]) != cache.evict():
                 sys.exit(f"{where}: another row was used longest ago")
-            evicted += 1
             continue
         number = number_in(entry)
         origin = (number - 1) % shards
@@ -139,10 +75,10 @@ def lent_by(shard, shards, owners):
 
 
 def check(commands, lines, shards, pages):
-    """Checks the lines of a report, and answers how many rows went."""
+    """Checks the lines of a report, and answers at how many live bytes each row went."""
     if len(lines) != len(commands) + 2 * shards + 1 or lines[-1]:
         sys.exit("the report has more lines or fewer, or its last one does not end")
-    owners, done, gone = owners_of(commands, shards), [[] for _ in commands], 0
+    owners, done, gone = owners_of(commands, shards), [[] for _ in commands], []
     for shard in range(shards):
         words = lines[len(commands) + shard].split(b" ")
         if words[:2] != [b"journal", b"%d" % shard]:
@@ -174,7 +110,8 @@ def main():
     with open(given.trace, "rb") as trace, open(given.report, "rb") as report:
         commands, lines = commands_of(trace.read()), report.read().split(b"\n")
     gone = check(commands, lines, given.shards, given.pages)
-    print(f"{len(commands)} commands, {given.shards} shards, {gone} evictions: as replayed")
+    print(f"{len(commands)} commands, {given.shards} shards, {len(gone)} evictions: as replayed")
 
 
-main()
+if __name__ == "__main__":
+    main()

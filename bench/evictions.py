@@ -3,22 +3,21 @@
 
     bench/evictions.py [NUMBER [COMMANDS [PAGES [LONGEST]]]]
 
-The trace has COMMANDS commands (default 1,000,000) for one shard of PAGES pages (default 1,280, the fewest). They and the
-lengths of the values, at most LONGEST bytes (default 1,000), are drawn by NUMBER (default 1). Puts and gets are as many as the
-limits of a trace and of its replies allow. The report is read entry by entry: each command is done once, in order; each row
-that goes is the one used longest ago, goes for a put, and goes while more bytes are live than the bound, a dense segment for
-each segment but one; each reply, and what the shard holds at the end, is this cache's.
+The trace has COMMANDS commands (default 1,000,000) for one shard of PAGES pages (default 1,280, the fewest). They and
+the lengths of the values, at most LONGEST bytes (default 1,000), are drawn by NUMBER (default 1). Puts and gets are as
+many as the limits of a trace and of its replies allow. The report is replayed as `check.py` does it, every byte of it,
+and besides each row that goes has to go for a put. It ends where no row went.
 """
-import bisect
-import collections
-import os
 import random
 import subprocess
 import sys
 
-PROGRAM = os.path.join(os.path.dirname(os.path.abspath(__file__)), "..", "shardcache")
+from cache_model import OVERHEAD
+from check import check
+from timing import numbers, program
+
+PAGE = 4_096
 MOST_BYTES, MOST_REPLY_BYTES, SCAN_BYTES = 60_000_000, 500_000_000, 8_272
-DENSE, SEGMENT_PAGES, PAGE, OVERHEAD = 118_776, 32, 4_096, 40
 
 
 def drawn_commands(number, commands, pages, longest):
@@ -42,93 +41,32 @@ def drawn_commands(number, commands, pages, longest):
             yield [word.encode(), key]
 
 
-class Cache:
-    """The rows of a shard by the order of use, the one used longest ago first, and their keys in order."""
-
-    def __init__(self):
-        self.rows, self.keys, self.live = collections.OrderedDict(), [], 0
-
-    def size(self, key):
-        return (OVERHEAD + len(key) + len(self.rows[key][0]) + 7) // 8 * 8
-
-    def remove(self, key):
-        self.live -= self.size(key)
-        del self.rows[key]
-        del self.keys[bisect.bisect_left(self.keys, key)]
-
-    def evict(self):
-        """The oldest row goes; the number of its put is answered."""
-        key, (_, number) = next(iter(self.rows.items()))
-        self.remove(key)
-        return number
-
-    def do(self, number, command):
-        """The reply to a command."""
-        word, key = command[:2]
-        if word == b"scan":
-            at = bisect.bisect_left(self.keys, key)
-            return b" ".join([b"keys", *self.keys[at:at + int(command[2])]])
-        found = key in self.rows
-        if word == b"get":
-            if found:
-                self.rows.move_to_end(key)
-            return b"value " + self.rows[key][0] if found else b"missing"
-        if found:
-            self.remove(key)
-        if word == b"erase":
-            return b"erased" if found else b"missing"
-        self.rows[key] = (command[2], number)
-        bisect.insort(self.keys, key)
-        self.live += self.size(key)
-        return b"replaced" if found else b"stored"
-
-
-def check(commands, report, pages):
-    """Checks the report's lines, and answers how many rows went, and at how many live bytes at least."""
-    bound = (pages // SEGMENT_PAGES - 1) * DENSE
-    replies, journal = report[:len(commands)], report[len(commands)].split(b" ")
-    if journal[:2] != [b"journal", b"0"] or len(report) != len(commands) + 3 or report[-1] != b"":
-        sys.exit("the report has other lines")
-    cache, done, evicted, least, pressed = Cache(), 0, 0, None, False
-    for entry in journal[2:]:
+def check_presses(commands, journal):
+    """Sees that a row goes for a put alone, that is: the first command behind it in the journal is one."""
+    pressed = False
+    for entry in journal:
         if entry.startswith(b"!"):
-            if cache.live <= bound:
-                sys.exit(f"before command {done + 1} a row goes at {cache.live} live bytes, which are not above {bound}")
-            least = min(least or cache.live, cache.live)
-            if entry != b"!%d" % cache.evict():
-                sys.exit(f"before command {done + 1} another row goes than the oldest: {entry}")
-            evicted, pressed = evicted + 1, True
-            continue
-        done += 1
-        if entry != b"%d" % done or done > len(commands):
-            sys.exit(f"entry {entry} stands where command {done} is due")
-        command = commands[done - 1]
-        if pressed and command[0] != b"put":
-            sys.exit(f"a row goes for command {done}, which is no put")
-        pressed = False
-        reply = b"%d %s" % (done, cache.do(done, command))
-        if replies[done - 1] != reply:
-            sys.exit(f"a reply is {replies[done - 1][:80]}, and not {reply[:80]}")
-    if done != len(commands) or pressed:
+            pressed = True
+        elif pressed and commands[int(entry) - 1][0] != b"put":
+            sys.exit(f"a row goes for command {int(entry)}, which is no put")
+        else:
+            pressed = False
+    if pressed:
         sys.exit("the journal ends early")
-    line = b"shard 0 rows %d live %d lent 0 back 0" % (len(cache.rows), cache.live)
-    if report[-2] != line:
-        sys.exit(f"the last line is {report[-2]}, and not {line}")
-    return evicted, least
 
 
 def main():
-    given = [int(word) for word in sys.argv[1:5]]
-    number, count, pages, longest = given + [1, 1_000_000, 1_280, 1_000][len(given):]
+    number, count, pages, longest = numbers(__doc__, 1, 1_000_000, 1_280, 1_000)
     commands = list(drawn_commands(number, count, pages, longest))
     trace = b"".join(b" ".join(command) + b"\n" for command in commands)
-    ran = subprocess.run([PROGRAM, "run", "--pages", str(pages)], input=trace, stdout=subprocess.PIPE, check=True)
-    evicted, least = check(commands, ran.stdout.split(b"\n"), pages)
-    if not evicted:
+    ran = subprocess.run([program(), "run", "--pages", str(pages)], input=trace, stdout=subprocess.PIPE, check=True)
+    lines = ran.stdout.split(b"\n")
+    gone = check(commands, lines, 1, pages)
+    check_presses(commands, lines[len(commands)].split(b" ")[2:])
+    if not gone:
         sys.exit("no row went: more commands, or fewer pages")
-    print(f"{count} commands in {len(trace)} bytes, {evicted} evictions, the least at {least / (pages * PAGE):.1%} of the pages' bytes")
+    share = min(gone) / (pages * PAGE)
+    print(f"{count} commands in {len(trace)} bytes, {len(gone)} evictions, the least at {share:.1%} of the pages' bytes")
 
 
-if len(sys.argv) > 5 or not all(word.isdigit() for word in sys.argv[1:]):
-    sys.exit(__doc__)
 main()

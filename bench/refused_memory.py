@@ -3,20 +3,21 @@
 
     bench/refused_memory.py [PAGES]
 
-The program runs two traces on 1, 2 and 4 shards of PAGES pages (default 1,280) again and again, on threads and on one thread:
-first with all its memory, then with its first allocation refused, then with its second, until there is none to refuse. Each time
-no byte may be left that was not freed. Where one was refused, the status is that of want of memory and nothing is written; but a
-thread that cannot be started is done without: then the run ends with its report. In a run on threads of a short trace these are
-twice one for each shard but the first, which read it, and as many for the shards; the report of a longer one, whose memory is
-taken before the shards are driven, is made on threads too. `bench/refused_threads.py` refuses threads as the system does. g++ is needed.
+The program runs two traces on 1, 2 and 4 shards of PAGES pages (default 1,280) again and again, on threads and on one
+thread: first with all its memory, then with its first allocation refused, then with its second, until there is none to
+refuse. Each time no byte may be left that was not freed. Where one was refused, the status is that of want of memory
+and nothing is written; but a thread that cannot be started is done without: then the run ends with its report. In a run
+on threads of a short trace these are twice one for each shard but the first, which read it, and as many for the shards;
+the report of a longer one, whose memory is taken before the shards are driven, is made on threads too.
+`bench/refused_threads.py` refuses threads as the system does. g++ is needed.
 """
 import os
 import subprocess
 import sys
 import tempfile
 
-BENCH = os.path.dirname(os.path.abspath(__file__))
-CRATE = os.path.join(BENCH, "..", "crates", "shardcache_main")
+from timing import BENCH, program
+
 SHORT = b"put a 1\nput b 2\nget a\nscan a 32\nerase b\nput b 3\nget b\nscan b 1\n"
 # so many commands that pieces of the report are made on threads
 LONG = SHORT * 2_000
@@ -34,8 +35,7 @@ def is_report(output, trace, shards):
 
 def main():
     pages = sys.argv[1] if len(sys.argv) > 1 else "1280"
-    # the script at the top builds the program
-    subprocess.run([os.path.join(BENCH, "..", "shardcache"), "run"], stdin=subprocess.DEVNULL, stdout=subprocess.DEVNULL, check=True)
+    built = program()
     with tempfile.TemporaryDirectory() as folder:
         shim, counted = os.path.join(folder, "refused.so"), os.path.join(folder, "counted")
         subprocess.run(["g++", "-O2", "-shared", "-fPIC", "-o", shim, os.path.join(BENCH, "refused_memory.cpp")], check=True)
@@ -43,7 +43,7 @@ def main():
         def run(words, trace, refused):
             """Status, output, allocations asked for, and bytes not freed."""
             given = {"LD_PRELOAD": shim, "COUNTED": counted, "REFUSED": str(refused)}
-            words = [os.path.join(CRATE, "out", "shardcache_main"), *words, "--pages", pages]
+            words = [built, *words, "--pages", pages]
             ran = subprocess.run(words, input=trace, stdout=subprocess.PIPE, env=given, check=False)
             with open(counted, encoding="ascii") as file:
                 return ran.returncode, ran.stdout, *map(int, file.read().split())

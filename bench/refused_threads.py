@@ -3,14 +3,15 @@
 
     bench/refused_threads.py PROGRAM [COMMANDS]
 
-PROGRAM is the built program, crates/shardcache_main/out/shardcache_main. It runs a drawn trace of COMMANDS commands (default
-2,000) on 1, 2, 4 and 16 shards under a limit of processes, in which a thread counts as one, with room for no further thread, for
-one, for three, and for all. The limit does not bind root: started by root, the script runs a copy of the program as `nobody`.
-It looks how many threads the program has while it runs, and says the most that it saw.
+PROGRAM is the built program, crates/shardcache_main/out/shardcache_main. It runs a drawn trace of COMMANDS commands
+(default 2,000) on 1, 2, 4 and 16 shards under a limit of processes, in which a thread counts as one, with room for no
+further thread, for one, for three, and for all. The limit does not bind root: started by root, the script runs a copy
+of the program as `nobody`. It looks how many threads the program has while it runs, and says the most that it saw.
 
-Each run has to end within ten minutes, with status 0. Every report is judged by what no order of the shards can change: a line
-for each command, with its number; each key belongs to one shard, so of one origin's commands on a key of its own the answers are
-those of a cache; a journal for each shard, in which the parts of each origin stand once and in order; and the lines of occupancy.
+Each run has to end within ten minutes, with status 0. Every report is judged by what no order of the shards can change:
+a line for each command, with its number; each key belongs to one shard, so of one origin's commands on a key of its own
+the answers are those of a cache; a journal for each shard, in which the parts of each origin stand once and in order;
+and the lines of occupancy.
 """
 import os
 import pwd
@@ -21,17 +22,10 @@ import sys
 import tempfile
 import time
 
+from cache_model import owner_of
+
 SHARDS = (1, 2, 4, 16)
-MODULUS, PRIME, BASIS = 2**64, 0x100000001B3, 0xCBF29CE484222325
 MINUTES = 10
-
-
-def owner(key, shards):
-    """The shard that keeps a key."""
-    number = BASIS
-    for byte in key.encode():
-        number = (number ^ byte) * PRIME % MODULUS
-    return number % shards
 
 
 def trace_of(commands, shards):
@@ -67,7 +61,7 @@ def judge(output, trace, shards):
     rest = lines[len(trace):]
     if len(rest) != 2 * shards:
         return f"{len(rest)} lines behind the answers"
-    owners = [owner(key, shards) for _, key, _ in trace]
+    owners = [owner_of(key.encode(), shards) for _, key, _ in trace]
     for shard in range(shards):
         words = rest[shard].split()
         entries = [int(word) for word in words[2:]]
@@ -77,7 +71,7 @@ def judge(output, trace, shards):
             own = [entry for entry in entries if (entry - 1) % shards == origin]
             if own != sorted(own):
                 return f"the journal of shard {shard} has not the order of origin {origin}"
-        kept = [(key, value) for key, value in rows.items() if owner(key, shards) == shard]
+        kept = [(key, value) for key, value in rows.items() if owner_of(key.encode(), shards) == shard]
         live = sum((40 + len(key) + len(value) + 7) // 8 * 8 for key, value in kept)
         lent = sum((number % shards == shard) != (at == shard) for number, at in enumerate(owners))
         if rest[shards + shard] != f"shard {shard} rows {len(kept)} live {live} lent {lent} back {lent}":

@@ -9,7 +9,9 @@
     evict     10,000 puts and 40,000 gets of 20,000 keys, values of 1,000 to 12,000 bytes
     churn     900,000 commands over 1,000,000 keys, values of 20 to 100 bytes, 85 % put: small rows go by the hundred thousand
     scans     200,000 puts of keys of their own, a scan behind each of the last 60,000 (a trace may have 64,900 scans)
-    puts      1,000,000 puts of 500,000 keys, values of 48 bytes: about 100 bytes of memory each (with values of 100 bytes the trace would be too long)
+    puts      1,000,000 puts of 500,000 keys, values of 48 bytes: about 100 bytes of memory each (with values of 100 bytes
+              the trace would be too long)
+    values    a script of the mode `values`: 300 values of 1 KiB to 1 MiB, and 667 reads behind each
 """
 import argparse
 

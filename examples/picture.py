@@ -3,54 +3,39 @@
 
     examples/picture.py TRACE REPORT > run.svg
 
-For each shard, from left to right over its journal: the live bytes and the rows, a mark for each eviction, and below them, for each of 80 stretches of
-the journal, the gets that found their row and those that did not, and the share of parts that other shards issued.
+For each shard, from left to right over its journal: the live bytes and the rows, a mark for each eviction, and below
+them, for each of 80 stretches of the journal, the gets that found their row and those that did not, and the share of
+parts that other shards issued. The rows are those of the cache of bench/cache_model.py.
 """
+import os
 import sys
+
+sys.path.append(os.path.join(os.path.dirname(os.path.realpath(__file__)), "..", "bench"))
+from cache_model import Cache, commands_of
 
 WIDTH, STRETCHES = 960, 80
 LIVE, ROWS, EVICTED, HIT, MISS, FOREIGN = "#3b6ea5", "#d98e04", "#c0392b", "#5b9a68", "#c9ced6", "#8e6bbf"
 
 
-def commands_of(trace):
-    """The commands, each as its words: a kind, a key and what follows."""
-    lines = (line.removesuffix(b"\r") for line in trace.split(b"\n"))
-    return [line.split(b" ", 2) for line in lines if line and not line.startswith(b"#")]
+def gone_through(number, shards, entries, commands):
+    """Goes along a shard's journal. Answers of each entry the live bytes and the rows behind it, and its kind.
 
-
-def size_of(key, value):
-    return -(-(40 + len(key) + len(value)) // 8) * 8
-
-
-class Shard:
-    """One shard, gone through entry by entry."""
-
-    def __init__(self, number, shards, commands):
-        self.number, self.shards, self.commands = number, shards, commands
-        self.rows, self.put_at, self.live = {}, {}, 0
-        self.seen = []  # per entry: live bytes, rows, kind of entry, hit or None, issued elsewhere
-
-    def drop(self, key):
-        number, size = self.rows.pop(key)
-        self.put_at.pop(number)
-        self.live -= size
-
-    def do(self, entry):
+    Behind these stands whether a get found its row, None where it is none, and whether another shard issued the command.
+    """
+    cache, seen = Cache(), []
+    for entry in entries:
+        found, kind, foreign = None, "done", False
         if entry.startswith(b"!"):
-            self.drop(self.put_at[int(entry[1:])])
-            self.seen.append((self.live, len(self.rows), "evicted", None, False))
-            return
-        number = int(entry)
-        kind, key, *rest = self.commands[number - 1]
-        found = key in self.rows if kind == b"get" else None
-        if kind in (b"put", b"erase") and key in self.rows:
-            self.drop(key)
-        if kind == b"put":
-            size = size_of(key, rest[0])
-            self.rows[key] = (number, size)
-            self.put_at[number] = key
-            self.live += size
-        self.seen.append((self.live, len(self.rows), "done", found, (number - 1) % self.shards != self.number))
+            cache.evict()
+            kind = "evicted"
+        else:
+            command = commands[int(entry) - 1]
+            foreign = (int(entry) - 1) % shards != number
+            if command[0] != b"scan":
+                reply = cache.do(int(entry), command)
+                found = reply != b"missing" if command[0] == b"get" else None
+        seen.append((cache.live, len(cache.rows), kind, found, foreign))
+    return seen
 
 
 def path(values, most, top, height):
@@ -59,12 +44,11 @@ def path(values, most, top, height):
     return " ".join(f"{x:.1f},{y:.1f}" for x, y in points)
 
 
-def panel(shard, top):
+def panel(number, seen, top):
     """One shard's part of the picture, from `top` on, 150 high."""
-    seen = shard.seen
     most_live, most_rows = max((it[0] for it in seen), default=0), max((it[1] for it in seen), default=0)
     text = [
-        f'<text x="0" y="{top + 12}">shard {shard.number}: {len(seen)} entries, at most {most_rows} rows and {most_live} live bytes</text>',
+        f'<text x="0" y="{top + 12}">shard {number}: {len(seen)} entries, at most {most_rows} rows and {most_live} live bytes</text>',
         f'<polyline fill="none" stroke="{LIVE}" stroke-width="1.5" points="{path([it[0] for it in seen], most_live, top + 20, 70)}"/>',
         f'<polyline fill="none" stroke="{ROWS}" points="{path([it[1] for it in seen], most_rows, top + 20, 70)}"/>',
     ]
@@ -93,18 +77,15 @@ def main():
         commands = commands_of(file.read())
     with open(sys.argv[2], "rb") as file:
         journals = [line.split()[2:] for line in file.read().split(b"\n")[len(commands) :] if line.startswith(b"journal ")]
-    shards = [Shard(number, len(journals), commands) for number in range(len(journals))]
-    for shard, journal in zip(shards, journals):
-        for entry in journal:
-            shard.do(entry)
+    shards = [gone_through(number, len(journals), journal, commands) for number, journal in enumerate(journals)]
     height = 34 + 150 * len(shards)
     print(f'<svg xmlns="http://www.w3.org/2000/svg" viewBox="-8 0 {WIDTH + 16} {height}" font-family="sans-serif" font-size="12">')
     print(f'<rect x="-8" width="{WIDTH + 16}" height="{height}" fill="white"/>')
     legend = [("live bytes", LIVE), ("rows", ROWS), ("evictions", EVICTED), ("gets that found", HIT), ("gets that missed", MISS), ("issued by others", FOREIGN)]
     for k, (name, color) in enumerate(legend):
         print(f'<rect x="{150 * k}" y="8" width="10" height="10" fill="{color}"/><text x="{150 * k + 15}" y="17">{name}</text>')
-    for shard in shards:
-        print("\n".join(panel(shard, 30 + 150 * shard.number)))
+    for number, seen in enumerate(shards):
+        print("\n".join(panel(number, seen, 30 + 150 * number)))
     print("</svg>")
 
 

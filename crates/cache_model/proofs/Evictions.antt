@@ -4,8 +4,8 @@ use Rattle.std.specs.List.{last_or}
 use Rattle.std.specs.Prelude.{nat_lt}
 use Rattle.std.proofs.lemmas.Bool.Decides.{nat_tests}
 use Rattle.layout.specs.Sizes.{dense}
-use Rattle.rows.specs.Evictions.{Evicts, is_of_put}
-use Rattle.rows.specs.Row.{Row, floor, live, tight_floor}
+use Rattle.rows.specs.Evictions.{Evicts}
+use Rattle.rows.specs.Row.{is_of_put, Row, floor, live, tight_floor}
 use Rattle.trace_text.specs.Trace.{Trace}
 use Rattle.cache_model.specs.declared.entry.Entry.{Entry}
 use Rattle.cache_model.specs.declared.entry.Entry.TheVariants.{Evicted}

@@ -10,7 +10,7 @@ use Rattle.rows.specs.declared.kind.Kind.{Kind}
 use Rattle.rows.specs.declared.kind.Kind.TheVariants as kinds
 use Rattle.rows.specs.Apply.{Reply}
 use Rattle.rows.specs.Fits.{Fits, HasFitting}
-use Rattle.rows.specs.KeyBody.{IsKey}
+use Rattle.rows.specs.Spelled.{IsKey}
 use Rattle.rows.specs.Operation.{Operation, is_scan}
 use Rattle.trace_text.specs.Parts.{longest_value, owner}
 use Rattle.trace_text.specs.Trace.{Trace}
@@ -19,7 +19,8 @@ use Rattle.cache_model.specs.Answer.{answer, answer_from, answer_kind}
 use Rattle.cache_model.specs.Bodies.{HasKeys}
 use Rattle.cache_model.specs.Holds.{PutsHold}
 use Rattle.cache_model.specs.Legal.{command_of, reply_at}
-use Rattle.cache_model.specs.Logged.{AreLogged, HoldTheReplies}
+use Rattle.cache_model.specs.Logged.{AreLogged}
+use Rattle.cache_model.specs.Replied.{HoldTheReplies}
 use Rattle.cache_model.specs.OwnParts.{Log, part_reply, parts_of}
 use Rattle.cache_model.specs.Report.{answers}
 use Rattle.cache_model.proofs.Along.{replied}

@@ -21,7 +21,8 @@ use Rattle.rows.specs.declared.reply_kind.ReplyKind.{ReplyKind}
 use Rattle.cache_model.specs.Answer.{answer_from, answer_kind, join, keys_in}
 use Rattle.rows.specs.Apply.{Reply, Keys}
 use Rattle.rows.specs.Fits.{Fits, HasFitting}
-use Rattle.cache_model.specs.Logged.{AreJoined, AreLogged, HasReplies, IsRead}
+use Rattle.cache_model.specs.Logged.{AreLogged}
+use Rattle.cache_model.specs.ReadOff.{AreJoined, HasReplies, IsRead}
 use Rattle.cache_model.specs.OwnParts.{issued_parts, parts_before, parts_of, Log}
 use Rattle.rows.specs.Spelled.{spelled}
 use Rattle.cache_model.proofs.OwnParts.{issued_parts-count}

@@ -7,7 +7,7 @@ use Rattle.std.specs.Prelude.{All, Contains}
 use Rattle.rows.specs.Apply.{apply, in_order, HasDistinctKeys}
 use Rattle.rows.specs.Fits.{Fits}
 use Rattle.rows.specs.Holds.{PutHolds, RowsHold, ReplyHolds}
-use Rattle.rows.specs.KeyBody.{IsKey}
+use Rattle.rows.specs.Spelled.{IsKey}
 use Rattle.rows.specs.Operation.{Operation}
 use Rattle.rows.specs.Row.{Row}
 

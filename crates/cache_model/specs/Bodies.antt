@@ -1,7 +1,7 @@
 -- How long the keys of a trace are, where they bound the body of a reply.
 use Rattle.std.specs.Prelude.{◌≤◌, ◌≡◌, true, length, All}
 use Rattle.layout.specs.Sizes as sizes
-use Rattle.rows.specs.KeyBody.{IsKey}
+use Rattle.rows.specs.Spelled.{IsKey}
 use Rattle.rows.specs.Operation.{is_put}
 use Rattle.trace_text.specs.Trace.{Trace}
 

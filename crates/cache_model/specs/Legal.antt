@@ -7,8 +7,7 @@ use Rattle.trace_text.specs.Parts.{origin, parts}
 use Rattle.trace_text.specs.Trace.{Trace}
 use Rattle.cache_model.specs.declared.entry.Entry.{Entry}
 use Rattle.cache_model.specs.declared.entry.Entry.TheVariants.{Done, Evicted}
-use Rattle.rows.specs.Row.{Row, live, floor}
-use Rattle.rows.specs.Evictions.{is_of_put}
+use Rattle.rows.specs.Row.{Row, live, floor, is_of_put}
 use Rattle.rows.specs.Apply.{Reply, apply}
 
 -- What a shard did, entry by entry: Done(i) for its part of command i, Evicted(q) where the row that put q had

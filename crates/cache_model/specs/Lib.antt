@@ -5,6 +5,8 @@ pub mod Holds
 pub mod Legal
 pub mod Logged
 pub mod OwnParts
+pub mod Replied
 pub mod Report
 pub mod Summary
 pub mod Unbroken
+pub mod ReadOff

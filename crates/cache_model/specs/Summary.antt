@@ -1,5 +1,5 @@
 -- The summary: how many commands were answered how, how many rows were evicted, and what each shard holds.
-use Rattle.std.specs.Prelude.{ℕ, Bool, true, false, List, ◌++◌, length, map, flat_map, count_by, sum_by, codes, decimal}
+use Rattle.std.specs.Prelude.{◌≡◌, ℕ, Bool, true, false, List, ◌++◌, length, map, flat_map, count_by, sum_by, codes, decimal}
 use Rattle.std.specs.List.{enumerate_from}
 use Rattle.trace_text.specs.Trace.{Trace}
 use Rattle.cache_model.specs.declared.entry.Entry.{Entry}
@@ -76,3 +76,6 @@ summary_of answers journals occupancies =
 abbrev pub summary : Trace → ℕ → ℕ → List (List Entry) → List ℕ
 summary trace n pages journals = summary_of (answers trace n pages journals) journals
     (map (occupancy trace n pages) (enumerate_from 0 journals))
+
+abbrev pub IsSummaryOf : Trace → ℕ → ℕ → List ℕ → List (List Entry) → Type 0
+IsSummaryOf trace n pages bytes journals = bytes ≡ summary trace n pages journals

@@ -1,4 +1,5 @@
-//! What a shard's cache means along a trace: journals, the replies in them, answers, reports and summaries.
+//! What a shard's cache means along a trace: journals, which are histories, the replies in them, answers, reports and
+//! summaries.
 //!
 //! The definitions in `specs/` say what a legal journal and a legal report are, over the rows and operations of the crate
 //! `rows`. No type here runs anything: [`Entry`] is the enum that the definitions name. What `rows` has for whoever keeps

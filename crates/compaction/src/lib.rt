@@ -1,4 +1,5 @@
-//! Compaction of a region, after ScyllaDB's `utils/logalloc`.
+//! Compaction of a region, after ScyllaDB's `utils/logalloc`: what other allocators call defragmentation, and logs
+//! cleaning.
 //!
 //! A closed segment with few live bytes is emptied: its live objects are appended to the active segment of its group one by
 //! one, the lowest offset first, their mover is told of each, and then the segment is free. [`compact_one`] empties the

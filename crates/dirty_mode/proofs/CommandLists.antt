@@ -15,9 +15,9 @@ use Rattle.rows.specs.Row.{Row, size}
 use Rattle.dirty_region.specs.declared.refusal.DirtyRefusal.{DirtyRefusal}
 use Rattle.dirty_region.specs.declared.refusal.DirtyRefusal.TheVariants.{TooMany, NoRoom}
 use Rattle.dirty_mode.specs.DirtyText.{line_text, text_of, lines_of, lines_from, puts_after, staying, row_of}
-use Rattle.mode_lemmas.specs.Writing.{Seen, Writes, Goes}
+use Rattle.text_lemmas.specs.Writing.{Output, Writes, Goes}
 use Rattle.dirty_mode.proofs.Flushing.{staying_few, put_text}
-use Rattle.mode_lemmas.proofs.Written.{Goes-next, Goes-stop}
+use Rattle.text_lemmas.proofs.Written.{Goes-next, Goes-stop}
 
 -- the puts of commands
 abbrev pub puts_of : List Operation → ℕ
@@ -55,13 +55,13 @@ module _ (bytes : List ℕ) (items commands : List Command) (same : items ≡ co
       ∙ flat_map-append line_text (lines_of now.kind most (operation bytes now) puts)
       (lines_from most (drop (i + 1) (operations bytes commands)) (puts_after now.kind most (operation bytes now) puts))
 
-  pub command_next : {T E : Type 0} {u : T} {a b c : Seen} {t : List ℕ} (most : ℕ) (puts later : List Row) → later ≡ puts_after now.kind most (operation bytes now) puts
+  pub command_next : {T E : Type 0} {u : T} {a b c : Output} {t : List ℕ} (most : ℕ) (puts later : List Row) → later ≡ puts_after now.kind most (operation bytes now) puts
       → Goes a b t (text_of (lines_from most (drop i (operations bytes commands)) puts)) → Writes {T = T} {E = E} (Ok u) b c (text_of (lines_of now.kind most (operation bytes now) puts))
       → Goes a c t (text_of (lines_from most (drop (i + 1) (operations bytes commands)) later))
   command_next {a = a} {b = b} {c = c} {t = t} most puts later is gone wrote =
       subst (λ ps. Goes a c t (text_of (lines_from most (drop (i + 1) (operations bytes commands)) ps))) (sym is) (Goes-next (subst (Goes a b t) (text_now most puts) gone) wrote)
 
-  pub command_stop : {T E : Type 0} {e : E} {a b c : Seen} {t : List ℕ} (most : ℕ) (puts : List Row)
+  pub command_stop : {T E : Type 0} {e : E} {a b c : Output} {t : List ℕ} (most : ℕ) (puts : List Row)
       → Goes a b t (text_of (lines_from most (drop i (operations bytes commands)) puts)) → Writes {T = T} {E = E} (Err e) b c (text_of (lines_of now.kind most (operation bytes now) puts))
       → Writes {T = T} {E = E} (Err e) a c t
   command_stop {a = a} {b = b} {t = t} most puts gone wrote =
@@ -84,7 +84,7 @@ module _ (bytes : List ℕ) (items commands : List Command) (same : items ≡ co
       (room_behind now.kind most room (puts_of (drop (i + 1) (operations bytes commands))) (puts_of (drop i (operations bytes commands))) (operation bytes now) puts fits count_now)
 
 -- at the end the puts that are left are flushed
-pub text_end : {a b : Seen} {t : List ℕ} (bytes : List ℕ) (items commands : List Command) (most i : ℕ) (puts : List Row) → items ≡ commands → length items ≤ i
+pub text_end : {a b : Output} {t : List ℕ} (bytes : List ℕ) (items commands : List Command) (most i : ℕ) (puts : List Row) → items ≡ commands → length items ≤ i
     → Goes a b t (text_of (lines_from most (drop i (operations bytes commands)) puts)) → Goes a b t (put_text puts)
 text_end {a} {b} {t} bytes items commands most i puts same past gone =
     let none_left : drop i (operations bytes commands) ≡ [] = drop-map (operation bytes) i commands ∙ ap (map (operation bytes)) (ap (drop i) (sym same) ∙ drop_all i items past) in

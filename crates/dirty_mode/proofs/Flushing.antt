@@ -1,19 +1,18 @@
 -- The oldest puts go, one after the other.
-use Rattle.std.proofs.Common.{◌≡◌, ◌≢◌, ℕ, ◌+◌, ◌-◌, ◌<◌, ◌≤◌, inl, inr, Bool, true, false, cond, leb, List, [], ◌∷◌, ◌++◌, length, take, drop, map, Option, Some, None, Ok, Err, refl, sym, ap, ◌∙◌, subst, arith, append-nil, get_or}
-use Rattle.std.proofs.lemmas.List.{map-append, take-append-drop, length-drop, drop-drop}
-use Rattle.std.specs.Prelude.{◌↔◌, IsNone, IsTrue, IfSome}
+use Rattle.std.proofs.Common.{◌≡◌, ℕ, ◌+◌, ◌-◌, ◌<◌, ◌≤◌, inl, inr, Bool, true, false, cond, leb, List, [], ◌∷◌, ◌++◌, length, take, drop, map, Ok, Err, refl, sym, ap, ◌∙◌, subst, arith}
+use Rattle.std.proofs.lemmas.List.{map-append}
+use Rattle.std.proofs.lemmas.List.Folds.{flat_map-map}
+use Rattle.std.specs.Prelude.{◌↔◌, IsTrue, flat_map}
 use Rattle.std.proofs.lemmas.Bool.Decides.{leb_tells}
 use Rattle.std.proofs.lemmas.Bool.{lt-leb, le-leb, leb-true}
 use Rattle.std.proofs.lemmas.List.Concat.{flat_map-append}
-use Rattle.std.specs.Io.KnownBytes.{Appends}
-use Rattle.outside.specs.Moves.{AppendsFront}
 use Rattle.rows.specs.Row.{Row, live}
-use Rattle.dirty_region.specs.Queues.{Queue, line, FlushesOldest, BreaksOff}
+use Rattle.dirty_region.specs.Queues.{Queue, line}
 use Rattle.dirty_mode.specs.DirtyText.{Flushed, going, staying, line_text, text_of}
 use Rattle.dirty_region.specs.State.{DirtyState}
-use Rattle.mode_lemmas.specs.Writing.{Seen, Writes, Goes}
+use Rattle.text_lemmas.specs.Writing.{Output, Writes, Goes}
 use Rattle.dirty_mode.specs.inside.Held.{whole, Keeps}
-use Rattle.mode_lemmas.proofs.Written.{Goes-next, Goes-stop, Goes-done}
+use Rattle.text_lemmas.proofs.Written.{Goes-next, Goes-stop, Goes-done}
 
 -- the text of puts that are flushed
 abbrev pub put_text : List Row → List ℕ
@@ -34,51 +33,9 @@ none_left (put ∷ puts) none = absurd (omega (arith, none))
 pub queue_none : (q : Queue) → q.out ≡ 0 → length q.puts ≡ 0 → q ≡ whole []
 queue_none q out none = queue_whole q out ∙ ap (λ (puts : List Row). whole puts) (none_left q.puts none)
 
-next_text : (puts : List Row) (put : Row) (others : List Row) → puts ≡ put ∷ others → put_text (take 1 puts) ≡ line put
-next_text puts put others e = ap (λ ps. put_text (take 1 ps)) e ∙ append-nil (line put)
-
--- what a flush says where it is done
-abbrev Done : Option ℕ → Queue → Queue → Option (List ℕ) → Option (List ℕ) → Type 0
-Done answer old new before after = IfSome answer (λ number. FlushesOldest number old new before after)
-
--- the line broke off in the block
-module _ (old mid : Queue) (before : List ℕ) (after : List ℕ) (broken : BreaksOff old mid (Some before) (Some after)) where
-  abbrev pub front_of : List ℕ
-  front_of = take broken.count (drop old.out (line broken.put))
-
-  abbrev pub rest_of : List ℕ
-  rest_of = drop mid.out (line broken.put)
-
-  pub line_is : front_of ++ rest_of ≡ drop old.out (put_text (take 1 old.puts))
-  line_is =
-      ap (λ l. front_of ++ l) (ap (λ n. drop n (line broken.put)) broken.counted ∙ sym (drop-drop broken.count old.out (line broken.put)))
-      ∙ (take-append-drop broken.count (drop old.out (line broken.put)) ∙ ap (drop old.out) (sym (next_text old.puts broken.put broken.others broken.oldest)))
-
-  pub front_held : after ≡ before ++ front_of
-  front_held = broken.front
-
-  pub is_held : mid.puts ≢ []
-  is_held e = (let clash : broken.put ∷ broken.others ≡ [] = sym (broken.stays ∙ broken.oldest) ∙ e in cc)
-
-  same_put : (put : Row) (others : List Row) → mid.puts ≡ put ∷ others → put ≡ broken.put
-  same_put put others e = ap (λ l. get_or l 0 put) (sym e ∙ (broken.stays ∙ broken.oldest))
-
-  -- the sink got the rest of the line, or a front of it
-  pub rest_sent : (answer : Option ℕ) (new : Queue) (a b : Option (List ℕ)) → IsNone answer ↔ (mid.puts ≡ []) → Done answer mid new a b → Appends a b rest_of
-  rest_sent None new a b none flushed = absurd (is_held (none.0 refl))
-  rest_sent (Some n) new a b none flushed = subst (λ p. Appends a b (drop mid.out (line p))) (same_put flushed.put new.puts flushed.taken) flushed.whole
-
-  pub rest_front : (new : Queue) (a b : Option (List ℕ)) → BreaksOff mid new a b → AppendsFront a b rest_of
-  rest_front new a b p =
-      subst (λ q. AppendsFront a b (drop mid.out (line q))) (same_put p.put p.others p.oldest) (record {
-        count = p.count;
-        within = let low = p.unfinished in let is = p.counted in let long = length-drop mid.out (line p.put) in omega (arith, low, is, long);
-        appended = p.front;
-      })
-
-  -- what is left of the line
-  pub rest_text : drop mid.out (put_text (take 1 mid.puts)) ≡ rest_of
-  rest_text = ap (drop mid.out) (next_text mid.puts broken.put broken.others (broken.stays ∙ broken.oldest))
+-- the line of the oldest put, of which no byte is out
+pub oldest_text : (q : Queue) → q.out ≡ 0 → drop q.out (flat_map line (take 1 q.puts)) ≡ put_text (take 1 q.puts)
+oldest_text q none = ap (λ n. drop n (flat_map line (take 1 q.puts))) none ∙ sym (flat_map-map line_text Flushed (take 1 q.puts))
 
 -- ---- while the bytes are too many
 
@@ -133,21 +90,21 @@ staying_few most size (put ∷ puts) = few_by (leb (live (put ∷ puts) + size) 
 
 -- ---- the text so far
 
-pub for_next : {T E : Type 0} {u : T} {a b c : Seen} {t : List ℕ} (most size : ℕ) (puts now : List Row) → size ≤ most → most - size < live puts → now ≡ drop 1 puts → Goes a b t (put_text (going most size puts))
+pub for_next : {T E : Type 0} {u : T} {a b c : Output} {t : List ℕ} (most size : ℕ) (puts now : List Row) → size ≤ most → most - size < live puts → now ≡ drop 1 puts → Goes a b t (put_text (going most size puts))
     → Writes {T = T} {E = E} (Ok u) b c (put_text (take 1 puts)) → Goes a c t (put_text (going most size now))
 for_next {a = a} {b = b} {c = c} {t = t} most size puts now fits above is gone wrote =
     let split : put_text (going most size puts) ≡ put_text (take 1 puts) ++ put_text (going most size (drop 1 puts)) =
     ap put_text (going_next most size fits puts above) ∙ put_text-append (take 1 puts) (going most size (drop 1 puts)) in
     subst (λ ps. Goes a c t (put_text (going most size ps))) (sym is) (Goes-next (subst (Goes a b t) split gone) wrote)
 
-pub for_stop : {T E : Type 0} {e : E} {a b c : Seen} {t : List ℕ} (most size : ℕ) (puts : List Row) → size ≤ most → most - size < live puts → Goes a b t (put_text (going most size puts))
+pub for_stop : {T E : Type 0} {e : E} {a b c : Output} {t : List ℕ} (most size : ℕ) (puts : List Row) → size ≤ most → most - size < live puts → Goes a b t (put_text (going most size puts))
     → Writes {T = T} {E = E} (Err e) b c (put_text (take 1 puts)) → Writes {T = T} {E = E} (Err e) a c t
 for_stop {a = a} {b = b} {t = t} most size puts fits above gone wrote =
     let split : put_text (going most size puts) ≡ put_text (take 1 puts) ++ put_text (going most size (drop 1 puts)) =
     ap put_text (going_next most size fits puts above) ∙ put_text-append (take 1 puts) (going most size (drop 1 puts)) in
     Goes-stop (put_text (going most size (drop 1 puts))) (subst (Goes a b t) split gone) wrote
 
-pub for_done : {T E : Type 0} {u : T} {a b : Seen} {t : List ℕ} (most size : ℕ) (puts : List Row) → size ≤ most → live puts ≤ most - size → Goes a b t (put_text (going most size puts))
+pub for_done : {T E : Type 0} {u : T} {a b : Output} {t : List ℕ} (most size : ℕ) (puts : List Row) → size ≤ most → live puts ≤ most - size → Goes a b t (put_text (going most size puts))
     → Writes {T = T} {E = E} (Ok u) a b t
 for_done {a = a} {b = b} {t = t} most size puts fits below gone = Goes-done (subst (Goes a b t) (ap put_text (going_none most size fits puts below)) gone)
 
@@ -156,11 +113,11 @@ all_split : (puts : List Row) → put_text puts ≡ put_text (take 1 puts) ++ pu
 all_split [] = refl
 all_split (put ∷ puts) = put_text-append (put ∷ []) puts
 
-pub all_next : {T E : Type 0} {u : T} {a b c : Seen} {t : List ℕ} (puts now : List Row) → now ≡ drop 1 puts → Goes a b t (put_text puts) → Writes {T = T} {E = E} (Ok u) b c (put_text (take 1 puts))
+pub all_next : {T E : Type 0} {u : T} {a b c : Output} {t : List ℕ} (puts now : List Row) → now ≡ drop 1 puts → Goes a b t (put_text puts) → Writes {T = T} {E = E} (Ok u) b c (put_text (take 1 puts))
     → Goes a c t (put_text now)
 all_next {a = a} {b = b} {c = c} {t = t} puts now is gone wrote = subst (λ ps. Goes a c t (put_text ps)) (sym is) (Goes-next (subst (Goes a b t) (all_split puts) gone) wrote)
 
-pub all_stop : {T E : Type 0} {e : E} {a b c : Seen} {t : List ℕ} (puts : List Row) → Goes a b t (put_text puts) → Writes {T = T} {E = E} (Err e) b c (put_text (take 1 puts)) → Writes {T = T} {E = E} (Err e) a c t
+pub all_stop : {T E : Type 0} {e : E} {a b c : Output} {t : List ℕ} (puts : List Row) → Goes a b t (put_text puts) → Writes {T = T} {E = E} (Err e) b c (put_text (take 1 puts)) → Writes {T = T} {E = E} (Err e) a c t
 all_stop {a = a} {b = b} {t = t} puts gone wrote = Goes-stop (put_text (drop 1 puts)) (subst (Goes a b t) (all_split puts) gone) wrote
 
 -- ---- what stays
@@ -168,5 +125,11 @@ all_stop {a = a} {b = b} {t = t} puts gone wrote = Goes-stop (put_text (drop 1 p
 pub Keeps-trans : {a b c : DirtyState} → Keeps a b → Keeps b c → Keeps a c
 Keeps-trans p q = record {
   room = q.room ∙ p.room;
-  segments = record { most = q.segments.most ∙ p.segments.most; pieces = q.segments.pieces ∙ p.segments.pieces; held = q.segments.held ∙ p.segments.held };
+  segments = record {
+    most = q.segments.most ∙ p.segments.most;
+    groups = q.segments.groups ∙ p.segments.groups;
+    pieces = q.segments.pieces ∙ p.segments.pieces;
+    held = q.segments.held ∙ p.segments.held;
+    guards = λ g. q.segments.guards g ∙ p.segments.guards g;
+  };
 }

@@ -7,7 +7,8 @@ use Rattle.rows.specs.declared.kind.Kind.TheVariants.{Put, Get, Erase, Scan}
 use Rattle.rows.specs.Operation.{Operation, is_put}
 use Rattle.trace_text.specs.Trace.{Trace}
 use Rattle.rows.specs.Row.{Row, live, size}
-use Rattle.dirty_mode.specs.DirtyText.{Flushed, put_in, flushed, puts, get_line, going, staying, row_of, lines_of, puts_after, lines_from}
+use Rattle.dirty_mode.specs.DirtyText.{Flushed, get_line, going, staying, row_of, lines_of, puts_after, lines_from}
+use Rattle.dirty_mode.specs.FlushedPuts.{put_in, flushed, puts}
 use Rattle.dirty_region.specs.Queues.{newest}
 
 put_back : (rows : List Row) → flushed (map Flushed rows) ≡ rows

@@ -1,13 +1,13 @@
 -- What is written of a trace whose puts stay until they are flushed.
-use Rattle.std.specs.Prelude.{ℕ, ◌+◌, ◌/◌, nat_le, if◌then◌else◌, List, [], ◌∷◌, ◌++◌, map, filter, filter_map, flat_map, codes, decimal, count_by, Option, None, Some}
+use Rattle.std.specs.Prelude.{ℕ, ◌+◌, ◌/◌, nat_le, if◌then◌else◌, List, [], ◌∷◌, ◌++◌, map, flat_map, codes, decimal, count_by, Option, None, Some}
 use Rattle.layout.specs.Sizes.{segment_pages}
 use Rattle.rows.specs.declared.kind.Kind.{Kind}
 use Rattle.rows.specs.declared.kind.Kind.TheVariants.{Put, Get, Erase, Scan}
 use Rattle.rows.specs.Operation.{Operation, is_put}
 use Rattle.trace_text.specs.Trace.{Trace}
 use Rattle.rows.specs.Row.{Row, size, live}
-use Rattle.region_room.specs.Room.{room}
-use Rattle.dirty_region.specs.Queues.{newest, line as put_line}
+use Rattle.segmented_store.specs.Room.{room}
+use Rattle.dirty_region.specs.Lines.{newest, line as put_line}
 
 -- ---- lines
 
@@ -79,18 +79,3 @@ put_count trace = count_by (λ operation. is_put operation.kind) trace.operation
 -- the lines, and how many puts there are
 unfoldable pub dirty_text : Trace → ℕ → List ℕ
 dirty_text trace pages = text_of (lines trace pages) ++ codes "dirty " ++ decimal (put_count trace) ++ codes "\n"
-
--- ---- what follows of the lines
-
-abbrev pub put_in : Line → Option Row
-put_in (Flushed put) = Some put
-put_in (Unflushed number value) = None
-put_in (Clean number) = None
-put_in (Passed number) = None
-
--- the puts that are flushed, in order, and those that a trace asks
-abbrev pub flushed : List Line → List Row
-flushed lines = filter_map put_in lines
-
-abbrev pub puts : Trace → List Row
-puts trace = map row_of (filter (λ operation. is_put operation.kind) trace.operations)

@@ -5,7 +5,7 @@ use Rattle.rows.specs.Operation.{Operation}
 use Rattle.trace_text.specs.Trace.{Trace, trace_with}
 use Rattle.cache_model.specs.Examples.{asks}
 use Rattle.rows.specs.Row.{size}
-use Rattle.region_room.specs.Room.{room}
+use Rattle.segmented_store.specs.Room.{room}
 use Rattle.dirty_mode.specs.DirtyText.{text_of, lines_from, dirty_text}
 
 -- two puts of one key, with a get behind each

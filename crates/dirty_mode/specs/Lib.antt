@@ -1,4 +1,5 @@
 pub mod DirtyText
 pub mod Examples
 pub mod Stores
+pub mod FlushedPuts
 pub mod inside

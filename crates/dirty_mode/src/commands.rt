@@ -5,9 +5,9 @@ ghost use Rattle.trace_text.specs.Operation.{operation};
 ghost use Rattle.trace_text.specs.Parsed.{trace_in};
 ghost use Rattle.rows.specs.Operation.{is_put};
 ghost use Rattle.regions.specs.Shapes.{held_count};
-ghost use Rattle.region_room.specs.Room as bound;
+ghost use Rattle.segmented_store.specs.Room as bound;
 ghost use Rattle.dirty_mode.specs.DirtyText.{text_of, lines_of, puts_after, lines_from, put_count};
-ghost use Rattle.mode_lemmas.specs.Writing.{WritesTo};
+ghost use Rattle.text_lemmas.specs.Writing.{Writes};
 ghost use Rattle.dirty_mode.specs.inside.Held.{whole, Keeps};
 
 use crate::answers::{write_get, write_passed};
@@ -15,7 +15,7 @@ use crate::flushes::{flush_all, flush_for};
 use dirty_region::Dirty;
 use outside::{Failed, Sink};
 use row_bytes::row_size;
-use text_block::Block;
+use text_out::Writer;
 use trace_text::{Command, Kind, Trace};
 
 /// Puts the key and the value of a command, where the oldest puts are flushed as long as there is no room.
@@ -24,8 +24,7 @@ fn put<K: Sink>(
     most: u64,
     trace: &Trace,
     command: &Command,
-    sink: &mut K,
-    block: &mut Block,
+    out: &mut Writer<'_, K>,
 ) -> Result<(), Failed>
     requires of_trace { Contains trace.now.commands command.now }
     requires whole { dirty.old.queue.out ≡ 0 }
@@ -35,13 +34,13 @@ fn put<K: Sink>(
     requires room { length dirty.old.queue.puts < dirty.old.room }
     ensures queue { OnOk result (dirty.new.queue ≡ whole (puts_after Kind.Put most (operation trace.now.bytes command.now)
         dirty.old.queue.puts)) }
-    ensures written { WritesTo K.written K.faults result sink.old block.old sink.new block.new
+    ensures written { Writes result out.old out.new
         (text_of (lines_of Kind.Put most (operation trace.now.bytes command.now) dirty.old.queue.puts)) }
     ensures kept { Keeps dirty.old dirty.new }
 {
     let key = trace.key(command);
     let value = trace.value(command);
-    flush_for(dirty, most, row_size(key, value), sink, block)?;
+    flush_for(dirty, most, row_size(key, value), out)?;
     let Ok(()) = dirty.put(key, value, command.number) else {
         unreachable!()
     };
@@ -54,8 +53,7 @@ fn do_command<K: Sink>(
     most: u64,
     trace: &Trace,
     command: &Command,
-    sink: &mut K,
-    block: &mut Block,
+    out: &mut Writer<'_, K>,
 ) -> Result<(), Failed>
     requires of_trace { Contains trace.now.commands command.now }
     requires whole { dirty.old.queue.out ≡ 0 }
@@ -65,19 +63,14 @@ fn do_command<K: Sink>(
     requires room { is_put command.now.kind ≡ true → length dirty.old.queue.puts < dirty.old.room }
     ensures queue { OnOk result (dirty.new.queue ≡ whole (puts_after command.now.kind most (operation trace.now.bytes command.now)
         dirty.old.queue.puts)) }
-    ensures written { WritesTo K.written K.faults result sink.old block.old sink.new block.new
+    ensures written { Writes result out.old out.new
         (text_of (lines_of command.now.kind most (operation trace.now.bytes command.now) dirty.old.queue.puts)) }
     ensures kept { Keeps dirty.old dirty.new }
 {
     match command.kind {
-        Kind::Put => put(dirty, most, trace, command, sink, block),
-        Kind::Get => write_get(
-            sink,
-            block,
-            command.number,
-            dirty.newest(trace.key(command)),
-        ),
-        Kind::Erase | Kind::Scan => write_passed(sink, block, command.number),
+        Kind::Put => put(dirty, most, trace, command, out),
+        Kind::Get => write_get(out, command.number, dirty.newest(trace.key(command))),
+        Kind::Erase | Kind::Scan => write_passed(out, command.number),
     }
 }
 
@@ -86,8 +79,7 @@ pub(crate) fn do_commands<K: Sink>(
     dirty: &mut Dirty,
     most: u64,
     trace: &Trace,
-    sink: &mut K,
-    block: &mut Block,
+    out: &mut Writer<'_, K>,
 ) -> Result<(), Failed>
     requires whole { dirty.old.queue.out ≡ 0 }
     requires some { greatest_object ≤ most }
@@ -95,12 +87,12 @@ pub(crate) fn do_commands<K: Sink>(
     requires held { 3 ≤ held_count dirty.old.region }
     requires room { length dirty.old.queue.puts + put_count (trace_in trace.now) ≤ dirty.old.room }
     ensures queue { OnOk result (dirty.new.queue ≡ whole []) }
-    ensures written { WritesTo K.written K.faults result sink.old block.old sink.new block.new
+    ensures written { Writes result out.old out.new
         (text_of (lines_from most (trace_in trace.now).operations dirty.old.queue.puts)) }
     ensures kept { Keeps dirty.old dirty.new }
 {
     for command in trace.commands() {
-        do_command(dirty, most, trace, command, sink, block)?;
+        do_command(dirty, most, trace, command, out)?;
     }
-    flush_all(dirty, sink, block)
+    flush_all(dirty, out)
 }

@@ -1,4 +1,4 @@
-//! A trace whose puts stay in memory until they are flushed, and what is written of it.
+//! A trace whose puts stay in memory until they are flushed, as in a memtable, and what is written of it.
 //!
 //! The definition is `specs/DirtyText.antt`: a put waits in a queue. Where the segments would hold too many bytes with the next
 //! put, the oldest ones are flushed before, each as its line; what is left is flushed at the end. A get is answered by the

@@ -6,11 +6,11 @@ ghost use Rattle.layout.specs.Counts.{Rose};
 ghost use Rattle.trace_text.specs.Parsed.{trace_in};
 ghost use Rattle.layout.specs.Sizes.{ArePages, greatest_object};
 ghost use Rattle.regions.specs.Shapes.{held_count};
-ghost use Rattle.region_room.specs.Room as bound;
-ghost use Rattle.dirty_region.specs.State.{HoldsSegments};
+ghost use Rattle.segmented_store.specs.Room as bound;
+ghost use Rattle.segmented_store.specs.Segments.{HoldsSegments};
 ghost use Rattle.dirty_mode.specs.DirtyText.{dirty_text, text_of, lines_from, put_count};
 ghost use Rattle.dirty_mode.specs.Stores.{IsEmpty};
-ghost use Rattle.mode_lemmas.specs.Writing.{WritesTo};
+ghost use Rattle.text_lemmas.specs.Writing.{Writes};
 ghost use Rattle.dirty_mode.specs.inside.Held.{whole, Keeps};
 
 use crate::answers::write_count;
@@ -19,9 +19,9 @@ use crate::store::{DirtyStore, open_dirty, put_count};
 use dirty_region::Dirty;
 use layout::SEGMENT_PAGES;
 use outside::{Failed, Sink};
-use region_room::room;
+use segmented_store::{Ranged, room};
 use std::alloc::{AllocError, Global};
-use text_block::{Block, hand_over};
+use text_out::Writer;
 use trace_text::Trace;
 
 /// Opens a store of so many pages for a trace, and runs the trace on it as [`write_dirty`] does.
@@ -56,7 +56,7 @@ pub fn run_dirty<K: Sink>(
 /// each get as it comes, and how many puts there were. The store is empty then.
 ///
 /// # Errors
-/// [`Failed`] where the sink failed. A front of the text was written then; which puts are held and which text waits is not said.
+/// [`Failed`] where the sink failed. A front of the text was written then; which puts are held is not said.
 pub fn write_dirty<K: Sink>(
     store: &mut DirtyStore,
     trace: &Trace,
@@ -81,8 +81,28 @@ pub fn write_dirty<K: Sink>(
     ensures room { store.new.dirty.room ≡ store.old.dirty.room }
     ensures segments { HoldsSegments store.old.dirty.region store.new.dirty.region }
 {
-    let segments = store.pages / SEGMENT_PAGES;
-    write_text(&mut store.dirty, segments, trace, sink, &mut store.block)
+    let mut out = Writer::new(sink);
+    let written = write_on(&mut store.ranged, trace, &mut out);
+    out.into_sink();
+    written
+}
+
+/// The same on a dirty region without puts and the range of its segments.
+fn write_on<K: Sink>(
+    ranged: &mut Ranged<Dirty>,
+    trace: &Trace,
+    out: &mut Writer<'_, K>,
+) -> Result<(), Failed>
+    requires empty { ranged.old.store.queue ≡ whole [] }
+    requires room { put_count (trace_in trace.now) ≤ ranged.old.store.room }
+    ensures written { Writes result out.old out.new (dirty_text (trace_in trace.now) ranged.old.pages) }
+    ensures queue { OnOk result (ranged.new.store.queue ≡ whole []) }
+    ensures empty { OnOk result (out.new.block ≡ []) }
+    ensures pages { ranged.new.pages ≡ ranged.old.pages }
+    ensures kept { Keeps ranged.old.store ranged.new.store }
+{
+    let segments = ranged.pages / SEGMENT_PAGES;
+    write_text(&mut ranged.store, segments, trace, out)
 }
 
 /// Writes the lines of a trace, and how many puts there were.
@@ -90,21 +110,20 @@ fn write_text<K: Sink>(
     dirty: &mut Dirty,
     segments: u32,
     trace: &Trace,
-    sink: &mut K,
-    block: &mut Block,
+    out: &mut Writer<'_, K>,
 ) -> Result<(), Failed>
     requires empty { dirty.old.queue ≡ whole [] }
     requires held { segments ≡ held_count dirty.old.region }
     requires many { 3 ≤ segments }
     requires room { put_count (trace_in trace.now) ≤ dirty.old.room }
-    ensures written { WritesTo K.written K.faults result sink.old block.old sink.new block.new
+    ensures written { Writes result out.old out.new
         (text_of (lines_from (bound.room segments) (trace_in trace.now).operations [])
         ++ codes "dirty " ++ decimal (put_count (trace_in trace.now)) ++ codes "\n") }
     ensures queue { OnOk result (dirty.new.queue ≡ whole []) }
-    ensures empty { OnOk result (block.new.bytes ≡ []) }
+    ensures empty { OnOk result (out.new.block ≡ []) }
     ensures kept { Keeps dirty.old dirty.new }
 {
-    do_commands(dirty, room(segments), trace, sink, block)?;
-    write_count(sink, block, put_count(trace))?;
-    hand_over(sink, block)
+    do_commands(dirty, room(segments), trace, out)?;
+    write_count(out, put_count(trace))?;
+    out.flush()
 }

@@ -1,8 +1,8 @@
 -- What a flush does to the queue, and what is due before and after.
-use Rattle.std.proofs.Common.{◌≡◌, ℕ, suc, ◌+◌, ◌-◌, ◌<◌, ◌≤◌, List, [], ◌∷◌, ◌++◌, length, take, drop, Option, refl, sym, ap, subst, ◌∙◌, arith, append_assoc}
+use Rattle.std.proofs.Common.{◌≡◌, ℕ, suc, ◌+◌, ◌-◌, ◌<◌, ◌≤◌, List, [], ◌∷◌, ◌++◌, length, take, drop, Option, refl, sym, ap, subst, ◌∙◌, arith, append_assoc, append-nil}
 use Rattle.std.specs.Prelude.{flat_map}
 use Rattle.std.proofs.Math.Seq.{drop-append-le}
-use Rattle.std.proofs.lemmas.List.{drop-drop, take_rest, take-append-drop}
+use Rattle.std.proofs.lemmas.List.{drop-drop, drop_all, take_rest, take-append-drop}
 use Rattle.std.specs.Io.KnownBytes.{Appends}
 use Rattle.rows.specs.Row.{Row}
 use Rattle.regions.specs.Stores.{Live}
@@ -67,3 +67,29 @@ flushed q puts out now next number put others text before after is first same nu
       record { put = put; taken = first; number_is = numbered; whole = all; begun = refl },
       (drop out (line put), all, ap (λ ps. drop out (flat_map line ps)) first ∙ drop-append-le out (line put) (flat_map line others) (omega (arith, inside))),
     ))
+
+-- ---- a flush into a writer
+
+-- what is left of the oldest line
+pub rest_line : (q : Queue) (puts : List Row) (out : ℕ) (put : Row) (others : List Row) (text rest : List ℕ) → queue_of puts out ≡ q → puts ≡ put ∷ others → text ≡ line put
+    → rest ≡ drop out text → rest ≡ drop q.out (flat_map line (take 1 q.puts))
+rest_line q puts out put others text rest is first same left =
+    left ∙ ap (drop out) same ∙ ap (drop out) (sym (append-nil (line put))) ∙ ap (λ ps. drop out (flat_map line (take 1 ps))) (sym first)
+    ∙ ap (λ (x : Queue). drop x.out (flat_map line (take 1 x.puts))) is
+
+pub queue_left : (q : Queue) (puts others : List Row) (out next : ℕ) (put : Row) → queue_of puts out ≡ q → puts ≡ put ∷ others → next ≡ 0 → queue_of others next ≡ queue_of (drop 1 q.puts) 0
+queue_left q puts others out next put is first begun =
+    ap (λ n. queue_of others n) begun ∙ ap (λ ps. queue_of (drop 1 ps) 0) (sym first) ∙ ap (λ (x : Queue). queue_of (drop 1 x.puts) 0) is
+
+-- without a put nothing is out
+pub queue_none : (q : Queue) (puts : List Row) (out : ℕ) → queue_of puts out ≡ q → IsOut out puts → puts ≡ [] → q ≡ queue_of (drop 1 q.puts) 0
+queue_none q puts out is low none =
+    sym is ∙ ap (λ ps. queue_of ps out) none ∙ ap (λ n. queue_of [] n) (subst (IsOut out) none low) ∙ ap (λ ps. queue_of (drop 1 ps) 0) (sym none)
+    ∙ ap (λ (x : Queue). queue_of (drop 1 x.puts) 0) is
+
+pub text_none : (q : Queue) (puts : List Row) (out : ℕ) → queue_of puts out ≡ q → puts ≡ [] → [] ≡ drop q.out (flat_map line (take 1 q.puts))
+text_none q puts out is none =
+    sym (ap (λ (x : Queue). drop x.out (flat_map line (take 1 x.puts))) (sym is) ∙ ap (λ ps. drop out (flat_map line (take 1 ps))) none ∙ drop_all out [] (omega arith))
+
+pub puts_none : (r : RingState) (l : Live) → r.count ≡ 0 → puts_in r l ≡ []
+puts_none r l none = ap (listed (nth r l)) none

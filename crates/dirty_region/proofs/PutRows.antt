@@ -13,7 +13,7 @@ use Rattle.key_table.specs.declared.entries.Spot.{Spot}
 use Rattle.key_table.specs.Hash.{tag_of}
 use Rattle.key_table.specs.Table.{Table, AreSame, IsSpotFor, IsTableOf, IsTagged, IsTagOf, rows_of}
 use Rattle.key_table.specs.Table as tables
-use Rattle.dirty_region.specs.inside.PutRows.{PutRows, put_rows, rows_in, Has, IsKeyed, IsPutIndexOf, IsThere, AreApart, AreMarked}
+use Rattle.dirty_region.specs.inside.PutRows.{PutRows, rows_in, Has, IsKeyed, IsPutIndexOf, IsThere, AreApart}
 
 -- ---- how often a list has a number
 

@@ -1,9 +1,7 @@
 -- Segments that come and go.
-use Rattle.std.proofs.Common.{◌≡◌, ℕ, zero, suc, ◌+◌, ◌<◌, true, cond, List, [], ◌∷◌, length, map, Option, Some, None, refl, sym, ap, subst, ◌∙◌, arith}
-use Rattle.std.specs.Prelude.{slice_get, slice_set, slice_index_or, option_map}
-use Rattle.std.specs.List.{count_by}
+use Rattle.std.proofs.Common.{◌≡◌, ℕ, zero, suc, ◌+◌, ◌<◌, true, List, [], ◌∷◌, length, map, Option, Some, None, refl, sym, ap, subst, ◌∙◌, arith}
+use Rattle.std.specs.Prelude.{◌↔◌, slice_get, slice_set, slice_index_or, option_map, IfSome, IsNone, IsSome}
 use Rattle.std.proofs.lemmas.List.{map-set, length-map, length-set, get_or-set_same}
-use Rattle.std.proofs.lemmas.List.Sums.{sum_by-cons}
 use Rattle.raw_range.specs.Memory.{Lent}
 use Rattle.rows.specs.Row.{live}
 use Rattle.regions.specs.Segments.{SegmentState, GroupState, RegionState, segment_at, with_segment, fresh, emptied, all_emptied, ended, group_at, idle}
@@ -12,11 +10,13 @@ use Rattle.regions.specs.Counts.{live_total}
 use Rattle.regions.specs.Contents.{Keeps, item_if_live, live_at, standing_at}
 use Rattle.regions.specs.Stores.{Live}
 use Rattle.regions.specs.declared.place.Place.{Place}
+use Rattle.segmented_store.specs.Segments.{GivesUp}
 use Rattle.dirty_region.specs.inside.PutRows.{PutRows}
 use Rattle.dirty_region.specs.inside.Rings.{RingState, IsRingOf, listed, nth, puts_in, key_at}
 use Rattle.dirty_region.specs.inside.Indexed.{IsIndexOf}
 use Rattle.dirty_region.specs.inside.Consistent.{HasSpare, IsStored}
 use Rattle.dirty_region.proofs.Rings.{some_none}
+use Rattle.dirty_region.proofs.Stored.{segments_same}
 use Rattle.dirty_region.proofs.Indexes.{Moves}
 
 -- ---- where no object changes
@@ -79,15 +79,6 @@ pieces-emptied [] = refl
 pieces-emptied (None ∷ segments) = ap (λ ps. None ∷ ps) (pieces-emptied segments)
 pieces-emptied (Some h ∷ segments) = ap (λ ps. Some (identity h.piece) ∷ ps) (pieces-emptied segments)
 
-held-emptied : (segments : List (Option SegmentState)) → count_by is_held (slots_of (map (λ s. option_map emptied s) segments)) ≡ count_by is_held (slots_of segments)
-held-emptied [] = refl
-held-emptied (None ∷ segments) =
-    let a = sum_by-cons (λ s. cond (is_held s) 1 0) None (slots_of (map (λ s. option_map emptied s) segments)) in let b = sum_by-cons (λ s. cond (is_held s) 1 0) None (slots_of segments) in
-    let rest = held-emptied segments in omega (arith, a, b, rest)
-held-emptied (Some h ∷ segments) =
-    let a = sum_by-cons (λ s. cond (is_held s) 1 0) (Some (slot_of (emptied h))) (slots_of (map (λ s. option_map emptied s) segments)) in
-    let b = sum_by-cons (λ s. cond (is_held s) 1 0) (Some (slot_of h)) (slots_of segments) in let rest = held-emptied segments in omega (arith, a, b, rest)
-
 piece-there : (segments : List (Option SegmentState)) (n : ℕ) (piece : Lent) → slice_index_or segments n None ≡ Some (fresh piece) → slice_get (pieces_in (slots_of segments)) n ≡ Some (Some (identity piece))
 piece-there [] n piece e = absurd (let clash : None ≡ Some (fresh piece) = e in cc)
 piece-there (s ∷ segments) zero piece e = ap (λ (o : Option SegmentState). Some (option_map (λ (b : Slot). b.piece) (option_map slot_of o))) e
@@ -101,9 +92,6 @@ pieces-without r n =
 pub kept_pieces : (old r new : RegionState) → shape r ≡ shape old → new ≡ all_emptied r → pieces new ≡ pieces old
 kept_pieces old r new shapes is = ap (λ (x : RegionState). pieces x) is ∙ (pieces-emptied r.segments ∙ ap (λ (s : Shape). pieces_in s.slots) shapes)
 
-pub kept_held : (r new : RegionState) → new ≡ all_emptied r → held_count new ≡ held_count r
-kept_held r new is = ap (λ (x : RegionState). held_count x) is ∙ held-emptied r.segments
-
 -- the segment with the greatest number, in the words of the region before its objects went
 pub given_up : (old r new : RegionState) → shape r ≡ shape old → (piece : Lent)
     → (n : ℕ) × IsGreatestHeld r n × (segment_at (all_emptied r) n ≡ Some (fresh piece)) × (new ≡ with_segment (all_emptied r) n None)
@@ -116,6 +104,31 @@ given_up old r new shapes piece h =
       ap (λ ps. slice_get ps n) (sym same) ∙ piece-there (all_emptied r).segments n piece h.2,
       ap (λ (x : RegionState). pieces x) h.3 ∙ (pieces-without (all_emptied r) n ∙ ap (λ ps. slice_set ps n None) same),
     )
+
+-- what a region says of the piece that it gives
+abbrev IsGiven : RegionState → RegionState → Option Lent → Type 0
+IsGiven r new o = IfSome o (λ piece. (n : ℕ) × IsGreatestHeld r n × (segment_at (all_emptied r) n ≡ Some (fresh piece)) × (new ≡ with_segment (all_emptied r) n None))
+
+pub groups_given : (o : Option Lent) (r new : RegionState) → (IsNone o → new ≡ all_emptied r) → IsGiven r new o
+    → ((shape new).most ≡ (shape r).most) × ((shape new).groups ≡ map ended (shape r).groups)
+groups_given None r new none some = (ap (λ (x : RegionState). (shape x).most) (none refl), ap (λ (x : RegionState). (shape x).groups) (none refl))
+groups_given (Some p) r new none some = (ap (λ (x : RegionState). (shape x).most) some.3, ap (λ (x : RegionState). (shape x).groups) some.3)
+
+piece_given : (o : Option Lent) (old r new : RegionState) → shape r ≡ shape old → IsGiven r new o
+    → IfSome o (λ piece. (n : ℕ) × IsGreatestHeld old n × (slice_get (pieces old) n ≡ Some (Some (identity piece))) × (pieces new ≡ slice_set (pieces old) n None))
+piece_given None old r new shapes given = tt
+piece_given (Some p) old r new shapes given = given_up old r new shapes p given
+
+pub gives_up : (o : Option Lent) (old r new : RegionState) → shape r ≡ shape old → (IsNone o ↔ (held_count r ≡ 0)) → IsGiven r new o → (IsSome o → held_count new + 1 ≡ held_count r)
+    → (shape new).most ≡ (shape r).most → guards_of new 0 ≡ guards_of old 0 → GivesUp old new o
+gives_up o old r new shapes none given fewer most guards =
+    let same = segments_same old r shapes in record {
+      none = subst (λ n. IsNone o ↔ (n ≡ 0)) same.held none;
+      given = piece_given o old r new shapes given;
+      held = λ some. fewer some ∙ same.held;
+      most = most ∙ same.most;
+      guards = guards;
+    }
 
 guards-ended : (groups : List GroupState) → (group_at (map ended groups) 0).guards ≡ (group_at groups 0).guards
 guards-ended [] = refl

@@ -14,7 +14,8 @@ use Rattle.regions.specs.Stores.{Live, found, store_of}
 use Rattle.regions.specs.declared.place.Place.{Place}
 use Rattle.compaction.specs.Emptied.{HoldsTheSame}
 use Rattle.dirty_region.specs.inside.PutRows.{PutRows, Has, IsKeyed}
-use Rattle.dirty_region.specs.State.{DirtyState, HoldsSegments}
+use Rattle.segmented_store.specs.Segments.{HoldsSegments}
+use Rattle.dirty_region.specs.State.{DirtyState}
 use Rattle.dirty_region.specs.inside.Rings.{RingState, IsRingOf, Drops, slot, position, popped, listed, nth, puts_in, place_of, bare, key_at, nowhere}
 use Rattle.dirty_region.specs.inside.Indexed.{IsKeyedBy, IsNewest, IsIndexOf, IsIndexBehind, nth_key}
 use Rattle.dirty_region.specs.inside.Consistent.{HasSpare, IsStored, IsConsistent}
@@ -43,7 +44,24 @@ spare_same r s same spare =
     }
 
 pub segments_same : (r s : RegionState) → shape s ≡ shape r → HoldsSegments r s
-segments_same r s same = record { most = ap (λ (x : Shape). x.most) same; pieces = ap (λ (x : Shape). pieces_in x.slots) same; held = ap held_in same }
+segments_same r s same = record {
+  most = ap (λ (x : Shape). x.most) same;
+  groups = ap (λ (x : Shape). length x.groups) same;
+  pieces = ap (λ (x : Shape). pieces_in x.slots) same;
+  held = ap held_in same;
+  guards = λ g. ap (λ (x : Shape). (group_at x.groups g).guards) same;
+}
+
+-- the segments with room, and those with an object more
+pub segments_grown : (r m s : RegionState) → HoldsTheSame r m → shape s ≡ shape m → HoldsSegments r s
+segments_grown r m s h same =
+    let more = segments_same m s same in record {
+      most = more.most ∙ h.most;
+      groups = more.groups ∙ h.groups;
+      pieces = more.pieces ∙ h.pieces;
+      held = more.held ∙ h.held;
+      guards = λ g. more.guards g ∙ h.guards g;
+    }
 
 -- ---- the oldest put goes
 
@@ -134,10 +152,10 @@ abbrev pub no_puts : ℕ → RingState
 no_puts room = record { room = room; head = 0; count = 0; first = 0; places = replicate room nowhere }
 
 pub consistent_new : (ring : RingState) (index : PutRows) (r : RegionState) (rows n : ℕ) → ring ≡ no_puts rows → rows < 2 ^ 32 → r ≡ no_segments n → n ≤ 2048 → index.room ≡ rows → ((m : ℕ) → ¬ Has index m)
-    → ((key_of : ℕ → List ℕ) → IsKeyed key_of index) → IsConsistent ring index r 0 0 0
+    → ((key_of : ℕ → List ℕ) → IsKeyed key_of index) → IsConsistent ring index r 0 0
 consistent_new ring index r rows n is_ring small is_region most room none keyed =
-    subst (λ (x : RingState). IsConsistent x index r 0 0 0) (sym is_ring)
-    (subst (λ (y : RegionState). IsConsistent (no_puts rows) index y 0 0 0) (sym is_region)
+    subst (λ (x : RingState). IsConsistent x index r 0 0) (sym is_ring)
+    (subst (λ (y : RegionState). IsConsistent (no_puts rows) index y 0 0) (sym is_region)
     (let s = no_segments n in let held = none_held n in record {
       stored = record {
         ring_of = record {
@@ -170,7 +188,6 @@ consistent_new ring index r rows n is_ring small is_region most room none keyed 
           free = λ two. absurd (omega (arith, two, held));
         };
       };
-      held_is = sym held;
       out_is = refl;
     }))
 
@@ -203,12 +220,12 @@ pub record IsSeen (room count bytes held : ℕ) (now : DirtyState) : Type 0 wher
   pub held_is : held_count now.region ≡ held
   pub total : live_total now.region ≡ bytes
 
-pub seen : (r : RingState) (index : PutRows) (s : RegionState) (bytes held out : ℕ) (now : DirtyState) → IsConsistent r index s bytes held out
-    → (let d : DirtyState = record { room = r.room; queue = record { puts = puts_in r (live_at s); out = out }; first = r.first; region = s } in d ≡ now) → IsSeen r.room r.count bytes held now
-seen r index s bytes held out now is view = record {
+pub seen : (r : RingState) (index : PutRows) (s : RegionState) (bytes out : ℕ) (now : DirtyState) → IsConsistent r index s bytes out
+    → (let d : DirtyState = record { room = r.room; queue = record { puts = puts_in r (live_at s); out = out }; first = r.first; region = s } in d ≡ now) → IsSeen r.room r.count bytes (held_count s) now
+seen r index s bytes out now is view = record {
   room_is = sym (ap (λ (x : DirtyState). x.room) view);
   count_is = sym (ap (λ (x : DirtyState). length x.queue.puts) view) ∙ length-listed (nth r (live_at s)) r.count;
   live_is = sym (ap (λ (x : DirtyState). live x.queue.puts) view) ∙ (is.stored.sizes ∙ sym is.stored.counted);
-  held_is = sym (ap (λ (x : DirtyState). held_count x.region) view) ∙ sym is.held_is;
+  held_is = sym (ap (λ (x : DirtyState). held_count x.region) view);
   total = sym (ap (λ (x : DirtyState). live_total x.region) view) ∙ sym is.stored.counted;
 }

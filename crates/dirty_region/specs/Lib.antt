@@ -1,3 +1,4 @@
+pub mod Lines
 pub mod Queues
 pub mod State
 pub mod Puts

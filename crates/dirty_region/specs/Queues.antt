@@ -1,17 +1,13 @@
 -- A dirty queue: the puts that have not reached the disk, and what is still due of their lines.
-use Rattle.std.specs.Prelude.{◌≡◌, ℕ, ◌+◌, ◌<◌, cond, List, [], ◌∷◌, ◌++◌, length, take, drop, flat_map, codes, Option, None, Some}
+use Rattle.std.specs.Prelude.{◌≡◌, ℕ, ◌+◌, ◌<◌, List, [], ◌∷◌, ◌++◌, length, take, drop, flat_map, Option}
 use Rattle.std.specs.Io.KnownBytes.{Appends}
 use Rattle.rows.specs.Row.{Row}
-use Rattle.rows.specs.Apply.{is_of}
+pub use Rattle.dirty_region.specs.Lines.{line, newest, or_else}
 
 -- the puts, oldest first, each with its key, its value and its number, and how many bytes of the oldest one's line are out
 pub record Queue : Type 0 where
   pub puts : List Row
   pub out : ℕ
-
--- the line of a put: `put`, a space, the key, a space, the value, and LF
-abbrev pub line : Row → List ℕ
-line put = codes "put " ++ put.key ++ codes " " ++ put.value ++ codes "\n"
 
 -- what is still due: the lines of all puts without the bytes that are out
 abbrev pub rest : Queue → List ℕ
@@ -24,16 +20,6 @@ IsOut out (put ∷ puts) = out < length (line put)
 
 abbrev pub IsQueue : Queue → Type 0
 IsQueue queue = IsOut queue.out queue.puts
-
--- the first value, or else the second
-abbrev pub or_else : Option (List ℕ) → Option (List ℕ) → Option (List ℕ)
-or_else None other = other
-or_else (Some value) other = Some value
-
--- the value of the newest put of a key
-abbrev pub newest : List ℕ → List Row → Option (List ℕ)
-newest key [] = None
-newest key (put ∷ puts) = or_else (newest key puts) (cond (is_of key put) (Some put.value) None)
 
 -- what was left of the oldest line was appended, and its put is out of the queue
 pub record FlushesOldest (number : ℕ) (old new : Queue) (before after : Option (List ℕ)) : Type 0 where

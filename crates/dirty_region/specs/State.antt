@@ -1,7 +1,6 @@
 -- A dirty region, as its contracts see it.
-use Rattle.std.specs.Prelude.{◌≡◌, ℕ, List, [], ◌∷◌, ◌++◌}
+use Rattle.std.specs.Prelude.{ℕ, List, [], ◌∷◌, ◌++◌}
 use Rattle.regions.specs.Segments.{RegionState}
-use Rattle.regions.specs.Shapes.{shape, pieces, held_count}
 use Rattle.dirty_region.specs.Queues.{Queue}
 
 -- for how many puts it has room, the queue for which it stands, the position of the oldest put among all puts that ever came, modulo
@@ -19,9 +18,3 @@ empty = record { puts = []; out = 0 }
 -- the queue with a put more, which is the newest
 abbrev pub with_put : List ℕ → List ℕ → ℕ → Queue → Queue
 with_put key value number queue = record queue { puts = queue.puts ++ record { key = key; value = value; number = number } ∷ [] }
-
--- the same segments are held, each with its piece
-pub record HoldsSegments (old new : RegionState) : Type 0 where
-  pub most : (shape new).most ≡ (shape old).most
-  pub pieces : pieces new ≡ pieces old
-  pub held : held_count new ≡ held_count old

@@ -1,14 +1,15 @@
 //! The puts that have not reached the disk.
-ghost use Rattle.std.specs.Prelude.{◌≡◌, ◌↔◌, ◌+◌, ◌<◌, ◌≤◌, ◌^◌, ◌++◌, length, replicate, true, Err, None, IfOk, IfErr, MatchOption};
+ghost use Rattle.std.specs.Prelude.{◌≡◌, ◌↔◌, ℕ, ◌+◌, ◌<◌, ◌≤◌, ◌^◌, ◌++◌, length, replicate, true, Err, None, IfOk, IfErr, MatchOption};
 ghost use Rattle.layout.specs.Sizes as sizes;
 ghost use Rattle.rows.specs.Row.{live, size};
 ghost use Rattle.regions.specs.Segments.{idle};
 ghost use Rattle.regions.specs.Counts.{live_total};
 ghost use Rattle.regions.specs.Shapes.{held_count};
-ghost use Rattle.region_room.specs.Room as bound;
+ghost use Rattle.segmented_store.specs.Room as bound;
 ghost use Rattle.dirty_region.specs.Puts.{Stand};
 ghost use Rattle.dirty_region.specs.Queues.{Queue, line, newest, rest, IsQueue};
-ghost use Rattle.dirty_region.specs.State.{empty, with_put, HoldsSegments};
+ghost use Rattle.segmented_store.specs.Segments.{HoldsSegments};
+ghost use Rattle.dirty_region.specs.State.{empty, with_put};
 ghost use Rattle.dirty_region.specs.declared.refusal.DirtyRefusal.{DirtyRefusal};
 
 mod flushing;
@@ -22,9 +23,10 @@ use crate::put_keys::content_of;
 use crate::refusal::DirtyRefusal;
 use crate::ring::Ring;
 use crate::seeking::{forget, new_index, search};
-use region_room::room;
+use raw_range::Piece;
 use regions::Region;
 use row_bytes::{row_size, value_in};
+use segmented_store::{Segmented, room};
 use std::alloc::{AllocError, Global};
 use std::marker::Model;
 use storing::{add_put, make_way};
@@ -36,7 +38,6 @@ pub struct Dirty {
     ring: Ring,
     index: PutIndex,
     live: u64,
-    held: u32,
     out: usize,
     // memory for a line
     line: Vec<u8>,
@@ -59,7 +60,7 @@ impl Model for Dirty {
       region = d.region;
     } };
 
-    ghost invariant = { λ d. IsConsistent d.ring d.index d.region d.live d.held d.out
+    ghost invariant = { λ d. IsConsistent d.ring d.index d.region d.live d.out
         × (greatest_line ≤ vec_capacity d.line) };
 }
 
@@ -85,7 +86,6 @@ impl Dirty {
             ring: Ring::new(alloc, rows)?,
             index: new_index(alloc, rows)?,
             live: 0,
-            held: 0,
             out: 0,
             line: Vec::with_capacity(alloc, GREATEST_LINE)?,
         })
@@ -124,7 +124,7 @@ impl Dirty {
             return Err(DirtyRefusal::TooMany);
         }
         let size = row_size(key, value);
-        if exceeds(self.live, size, self.held) {
+        if exceeds(self.live, size, self.region.held_segments()) {
             return Err(DirtyRefusal::NoRoom);
         }
         make_way(&mut self.region, &mut self.ring, &self.index, size);
@@ -170,6 +170,23 @@ impl Dirty {
         ensures stand { Stand self.now.first self.now.queue.puts self.now.region }
     {
         let _ = &self.ring;
+    }
+}
+
+impl Segmented for Dirty {
+    ghost region = { λ d. d.region };
+
+    // The queue, and for how many puts there is room.
+    ghost Content = { Queue × ℕ };
+
+    ghost content = { λ d. (d.queue, d.room) };
+
+    fn take_piece(&mut self, piece: Piece) {
+        self.add_segment(piece);
+    }
+
+    fn give_piece(&mut self) -> Option<Piece> {
+        self.give_up()
     }
 }
 

@@ -18,7 +18,8 @@ use row_bytes::{Links, row_size, write_row};
 // The kind of an object that holds a dirty put.
 const DIRTY: u8 = 4;
 
-// A put has no neighbours.
+// The links of a put, which nobody reads: it has no neighbours. They are 0, and not the link that a row of a cache has
+// where it has none.
 const UNLINKED: Links = Links { newer: 0, older: 0 };
 
 // A put as it comes: a key, its value and the number of the put.

@@ -1,5 +1,6 @@
-//! The core of the foreign free list: the list on which other shards put the blocks that they free, and
-//! which the owner takes as a whole, after `xcpu_freelist` of Seastar's `core/memory.cc`.
+//! The core of the foreign free list, which others call a remote or cross-thread free list: the list on which other
+//! shards put the blocks that they free, and which the owner takes as a whole, after `xcpu_freelist` of Seastar's
+//! `core/memory.cc`.
 //!
 //! It is a Treiber stack that is drained whole by one exchange: many push onto it, each by one
 //! compare-and-exchange of the head, and no single element is ever popped.

@@ -1,5 +1,5 @@
 //! The list over which the blocks of one owner come home, from any thread: the foreign free list of Seastar's
-//! `core/memory.cc`, on atomic words.
+//! `core/memory.cc`, a remote free list as others call it, on atomic words.
 //!
 //! The owner lends a piece of its memory with one of [`layout::TICKETS`] tickets, as a [`ForeignBlock`]. Whoever has the block,
 //! on any thread, reads and writes its bytes, and gives it back by [`ForeignBlock::release`]: a look at the list's head, a store

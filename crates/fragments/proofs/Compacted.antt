@@ -12,7 +12,7 @@ use Rattle.compaction.specs.Emptied.{HoldsTheSame}
 use Rattle.fragments.specs.Sizes.{most_fragments}
 use Rattle.fragments.specs.Fragment.{bare, bare_fragment}
 use Rattle.fragments.specs.Chains.{TableShape, TableState, AreChains, HoldParts, Parts, chain_at, owner, place_at, place_of, shape_of}
-use Rattle.fragments.specs.Store.{HoldsSegments}
+use Rattle.segmented_store.specs.Segments.{HoldsSegments}
 
 length_at : (chains : List (List Place)) (e : ℕ) → length (chain_at chains e) ≡ slice_index_or (map length chains) e 0
 length_at [] e = refl

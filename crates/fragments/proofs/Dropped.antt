@@ -6,11 +6,12 @@ use Rattle.regions.specs.Contents.{Item, size_of}
 use Rattle.regions.specs.Stores.{Live, found}
 use Rattle.regions.specs.declared.place.Place.{Place}
 use Rattle.fragments.specs.Sizes.{most_fragments, object_size}
-use Rattle.fragments.specs.Fragment.{back_in, bare, bare_fragment, led_to, link_to, next_in}
+use Rattle.regions.specs.Places.{led_to, link_to}
+use Rattle.fragments.specs.Fragment.{back_in, bare, bare_fragment, next_in}
 use Rattle.fragments.specs.Chains.{TableState, AreChains, HoldParts, IsLinked, Parts, chain_at, first_at, owner, place_at, place_before}
 use Rattle.fragments.specs.Store.{content_of}
 use Rattle.fragments.specs.inside.Linking.{LeadsBack, back_link, next_link}
-use Rattle.fragments.proofs.Places.{leads_on, some_is, some_none, some_same}
+use Rattle.place_lemmas.proofs.Places.{leads_on, some_is, some_none, some_same}
 use Rattle.fragments.proofs.Positions.{chain_past, chain_set, dropped_at, first_past, first_set, room_at}
 use Rattle.fragments.proofs.Lives.{back_link_is, linked_now, next_link_is, there_too}
 use Rattle.fragments.proofs.Read.{length_by_body}

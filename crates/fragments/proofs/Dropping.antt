@@ -14,7 +14,7 @@ use Rattle.fragments.specs.inside.Consistent.{size_of_parts}
 use Rattle.regions.specs.declared.place.Place.{Place}
 use Rattle.fragments.specs.Fragment.{bare, bare_fragment}
 use Rattle.fragments.specs.Chains.{TableState, AreChains, HoldParts, Parts, chain_at, first_at, owner, place_at}
-use Rattle.fragments.proofs.Places.{some_none}
+use Rattle.place_lemmas.proofs.Places.{some_none}
 
 -- the parts, but those of one entry
 abbrev pub with_parts : ℕ → List (List ℕ) → Parts → Parts

@@ -6,11 +6,12 @@ use Rattle.regions.specs.Contents.{Item}
 use Rattle.regions.specs.Stores.{Live, found}
 use Rattle.regions.specs.declared.place.Place.{Place}
 use Rattle.fragments.specs.Sizes.{most_fragments}
-use Rattle.fragments.specs.Fragment.{HasRoom, back_in, bare, bare_fragment, link_to, next_in}
+use Rattle.regions.specs.Places.{HasRoom, link_to}
+use Rattle.fragments.specs.Fragment.{back_in, bare, bare_fragment, next_in}
 use Rattle.fragments.specs.Chains.{TableState, AreChains, HoldParts, IsLinked, Parts, chain_at, first_at, owner, place_at, place_before}
 use Rattle.fragments.specs.Store.{content_of}
 use Rattle.fragments.specs.inside.Linking.{IsPlaced, LeadsBack, back_link, next_link}
-use Rattle.fragments.proofs.Places.{place_cases, some_none, some_same}
+use Rattle.place_lemmas.proofs.Places.{place_cases, some_none, some_same}
 use Rattle.fragments.proofs.Positions.{chain_past, chain_set, first_past, first_set, owner_written}
 use Rattle.fragments.proofs.Lives.{back_link_is, fragment_too, linked_now, name_too, next_link_is, there_too}
 use Rattle.fragments.proofs.Read.{name_read}

@@ -1,6 +1,5 @@
 pub mod Read
 pub mod Slots
-pub mod Places
 pub mod Lives
 pub mod Positions
 pub mod Grown

@@ -9,11 +9,12 @@ use Rattle.regions.specs.Counts.{live_counts, live_total, used_counts}
 use Rattle.regions.specs.Contents.{Item, Standing, ChangesAt, if_live, item_if_live, live_at, size_of, standing_at, with_bytes}
 use Rattle.regions.specs.Stores.{Live, SameBut, without_references}
 use Rattle.regions.specs.declared.place.Place.{Place}
-use Rattle.fragments.specs.Fragment.{IsFragment, back_in, bare, body_in, link_to, name_in, next_in, HasRoom, HasLinks}
+use Rattle.regions.specs.Places.{link_to, HasRoom}
+use Rattle.fragments.specs.Fragment.{IsFragment, back_in, bare, body_in, name_in, next_in, HasLinks}
 use Rattle.fragments.specs.Chains.{IsLinked}
 use Rattle.fragments.specs.Store.{content_of}
 use Rattle.fragments.specs.inside.Linking.{HoldsAFragment, LeadsBack, LeadsOn, back_link, next_link}
-use Rattle.fragments.proofs.Places.{place_cases, some_is, some_none}
+use Rattle.place_lemmas.proofs.Places.{place_cases, some_is, some_none}
 use Rattle.fragments.proofs.Read.{length_held}
 
 -- ---- regions

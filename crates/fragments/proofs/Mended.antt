@@ -7,12 +7,13 @@ use Rattle.std.proofs.lemmas.List.{get_or_past, length-map}
 use Rattle.regions.specs.Contents.{Item}
 use Rattle.regions.specs.Stores.{Live, less, renamed}
 use Rattle.regions.specs.declared.place.Place.{Place}
-use Rattle.fragments.specs.Fragment.{back_in, led_to, name_in, next_in}
+use Rattle.regions.specs.Places.{led_to}
+use Rattle.fragments.specs.Fragment.{back_in, name_in, next_in}
 use Rattle.fragments.specs.Chains.{TableState, AreChains, IsLinked, chain_at, first_at, owner, place_at, place_before}
 use Rattle.fragments.specs.Store.{content_of}
 use Rattle.fragments.specs.inside.Consistent.{AreEntries}
 use Rattle.fragments.specs.inside.Linking.{HoldsAFragment, IsMended, back_link, next_link}
-use Rattle.fragments.proofs.Places.{leads_on, less_here, less_past, place_cases, renamed_here, renamed_past, some_is, some_none}
+use Rattle.place_lemmas.proofs.Places.{leads_on, less_here, less_past, place_cases, renamed_here, renamed_past, some_is, some_none}
 use Rattle.fragments.proofs.Positions.{earlier, first_past, first_set, owner_named, room_at, room_before}
 use Rattle.fragments.proofs.Lives.{back_link_is, linked_holds, next_link_is}
 

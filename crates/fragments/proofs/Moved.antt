@@ -7,11 +7,12 @@ use Rattle.regions.specs.Contents.{Item}
 use Rattle.regions.specs.Stores.{Live, StandsFor, found, less, renamed, store_of}
 use Rattle.regions.specs.declared.place.Place.{Place}
 use Rattle.fragments.specs.Sizes.{most_fragments}
-use Rattle.fragments.specs.Fragment.{HasRoom, back_in, bare, leads_to, link_to, next_in, references}
+use Rattle.regions.specs.Places.{HasRoom, leads_to, link_to}
+use Rattle.fragments.specs.Fragment.{back_in, bare, next_in, references}
 use Rattle.fragments.specs.Chains.{TableState, AreChains, IsLinked, chain_at, first_at, owner, place_at, place_before, place_of}
 use Rattle.fragments.specs.Store.{content_of}
 use Rattle.fragments.specs.inside.Linking.{LeadsBack, LeadsOn, back_link, next_link}
-use Rattle.fragments.proofs.Places.{HasRoomIf, leads, less_here, less_past, listed, none_of, option_tells, place_cases, renamed_here, renamed_past, some_is, some_none}
+use Rattle.place_lemmas.proofs.Places.{HasRoomIf, leads, less_here, less_past, listed, none_of, option_tells, place_cases, renamed_here, renamed_past, some_is, some_none}
 use Rattle.fragments.proofs.Positions.{before_mapped, chain_mapped, place_mapped, room_at, room_before}
 use Rattle.fragments.proofs.Lives.{back_link_is, linked_now, next_link_is, there_too}
 

@@ -11,7 +11,7 @@ use Rattle.fragments.specs.Fragment.{IsFragment}
 use Rattle.fragments.specs.Store.{bytes_at, content_of, follow, next_at, pieces_from}
 use Rattle.fragments.specs.inside.Linking.{HoldsAFragment}
 use Rattle.fragments.specs.inside.Paths.{IsPath, Leads}
-use Rattle.fragments.proofs.Places.{some_is, some_none}
+use Rattle.place_lemmas.proofs.Places.{some_is, some_none}
 
 pub followed : (n : ℕ) (live : Live) (from : Option Place) (ps : List Place) → IsPath live from ps → length ps ≤ n → follow n live from ≡ ps
 followed zero live from [] path few = refl

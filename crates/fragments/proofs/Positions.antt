@@ -7,7 +7,7 @@ use Rattle.std.proofs.lemmas.Option.{slice_get-map}
 use Rattle.regions.specs.Contents.{Item}
 use Rattle.regions.specs.declared.place.Place.{Place}
 use Rattle.fragments.specs.Chains.{TableState, AreChains, chain_at, first_at, owner, place_at, place_before}
-use Rattle.fragments.proofs.Places.{HasRoomIf, some_none}
+use Rattle.place_lemmas.proofs.Places.{HasRoomIf, some_none}
 
 -- ---- an entry is set
 

@@ -7,7 +7,7 @@ use Rattle.regions.specs.Segments.{RegionState}
 use Rattle.regions.specs.Shapes.{held_count}
 use Rattle.regions.specs.Counts.{live_total}
 use Rattle.regions.specs.Contents.{live_at}
-use Rattle.region_room.specs.Room.{room}
+use Rattle.segmented_store.specs.Room.{room}
 use Rattle.fragments.specs.Sizes.{greatest_value, size}
 use Rattle.fragments.specs.Values.{size_if, value_of}
 use Rattle.fragments.specs.Chains.{TableState, HoldParts, Parts, all_parts, chain_at, parts}

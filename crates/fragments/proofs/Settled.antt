@@ -9,7 +9,7 @@ use Rattle.regions.specs.declared.place.Place.{Place}
 use Rattle.fragments.specs.Sizes.{most_fragments}
 use Rattle.fragments.specs.Fragment.{bare, bare_fragment}
 use Rattle.fragments.specs.Chains.{TableState, AreChains, HoldParts, IsLinked, Parts, chain_at, first_at, owner, place_at, place_before}
-use Rattle.fragments.proofs.Places.{some_none}
+use Rattle.place_lemmas.proofs.Places.{some_none}
 use Rattle.fragments.proofs.Positions.{chain_past, chain_set, first_past, first_set, owner_named, owner_written}
 
 module _ (t u : TableState) (name : ℕ) (below : name < t.names) (n_chains : t.names < length t.chains) (n_firsts : t.names < length t.firsts)

@@ -14,12 +14,12 @@ use Rattle.regions.specs.Contents.{Keeps, item_if_live, live_at}
 use Rattle.regions.specs.Stores.{Live, found}
 use Rattle.fragments.specs.Fragment.{bare, bare_fragment}
 use Rattle.regions.specs.declared.place.Place.{Place}
-use Rattle.region_room.specs.Room.{room}
+use Rattle.segmented_store.specs.Room.{room}
 use Rattle.fragments.specs.Values.{IsShort, Values, live, size_if, value_of}
 use Rattle.fragments.specs.Chains.{TableState, AreChains, HoldParts, Parts, all_parts, chain_at, first_at, owner, parts_if, place_at}
-use Rattle.fragments.specs.Store.{HoldsSegments}
+use Rattle.segmented_store.specs.Segments.{HoldsSegments}
 use Rattle.fragments.specs.inside.Consistent.{AreEntries, HasFree, IsConsistent, values_in}
-use Rattle.fragments.proofs.Places.{some_none}
+use Rattle.place_lemmas.proofs.Places.{some_none}
 use Rattle.fragments.proofs.Positions.{no_chain}
 use Rattle.fragments.proofs.Stored.{count_is, live_set, parts_named, parts_written, values_are}
 

@@ -12,12 +12,13 @@ use Rattle.regions.specs.Stores.{Live, found}
 use Rattle.regions.specs.declared.place.Place.{Place}
 use Rattle.fragments.specs.Sizes.{count_of, fragment_bytes, most_fragments, object_size, size}
 use Rattle.fragments.specs.Values.{Values, live, size_if, value_of}
-use Rattle.fragments.specs.Fragment.{bare, bare_fragment, bytes_in, led_to}
+use Rattle.regions.specs.Places.{led_to}
+use Rattle.fragments.specs.Fragment.{bare, bare_fragment, bytes_in}
 use Rattle.fragments.specs.Chains.{TableState, AreChains, HoldParts, Parts, all_parts, chain_at, cut, first_at, owner, parts, parts_if, place_at, place_before}
 use Rattle.fragments.specs.Store.{bytes_at, content_of, follow, next_at, pieces_from, read}
 use Rattle.fragments.specs.inside.Consistent.{AreEntries, IsConsistent, size_of_parts, values_in}
 use Rattle.fragments.specs.inside.Paths.{IsPath, Leads}
-use Rattle.fragments.proofs.Places.{leads_on, some_is, some_none}
+use Rattle.place_lemmas.proofs.Places.{leads_on, some_is, some_none}
 use Rattle.fragments.proofs.Positions.{lists_same, room_at}
 use Rattle.fragments.proofs.Lives.{linked_holds, next_link_is}
 use Rattle.fragments.proofs.Paths.{followed}

@@ -13,11 +13,11 @@ use Rattle.regions.specs.declared.place.Place.{Place}
 use Rattle.fragments.specs.Sizes.{count_of, fragment_bytes, last_of, object_size, size}
 use Rattle.fragments.specs.Fragment.{bare, bare_fragment}
 use Rattle.fragments.specs.Chains.{TableState, AreChains, HoldParts, IsLinked, Parts, chain_at, cut, owner, parts, place_at, place_before}
-use Rattle.fragments.specs.Store.{HoldsSegments}
+use Rattle.segmented_store.specs.Segments.{HoldsSegments}
 use Rattle.fragments.specs.inside.Consistent.{AreEntries}
 use Rattle.fragments.proofs.Compacted.{segments_again}
 use Rattle.fragments.proofs.Dropping.{parts_here, parts_past, with_parts}
-use Rattle.fragments.proofs.Places.{some_none}
+use Rattle.place_lemmas.proofs.Places.{some_none}
 use Rattle.fragments.proofs.Positions.{owner_named}
 
 -- ---- the name of what is written

@@ -5,7 +5,8 @@ use Rattle.regions.specs.Stores.{Live, found}
 use Rattle.regions.specs.declared.place.Place.{Place}
 use Rattle.fragments.specs.Sizes.{fragment_bytes, most_fragments, count_of}
 use Rattle.fragments.specs.Values.{Values, value_of}
-use Rattle.fragments.specs.Fragment.{HasRoom, IsFragment, back_in, bare, bare_fragment, link_to, name_in, next_in}
+use Rattle.regions.specs.Places.{HasRoom, link_to}
+use Rattle.fragments.specs.Fragment.{IsFragment, back_in, bare, bare_fragment, name_in, next_in}
 
 -- how many names there are, the name of the value that is being written, the place of the first fragment of each entry, and the
 -- places of all of them, which only contracts know

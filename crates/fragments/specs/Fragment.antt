@@ -1,34 +1,15 @@
 -- A fragment in the content of an object: what a person with a hex dump would read.
-use Rattle.std.specs.Prelude.{◌≡◌, ℕ, ◌+◌, ◌-◌, ◌*◌, ◌/◌, ◌%◌, ◌^◌, ◌<◌, ◌≤◌, ◌==◌, cond, List, [], ◌∷◌, ◌++◌, length, take, drop, replicate, Option, None, Some}
+use Rattle.std.specs.Prelude.{◌≡◌, ℕ, ◌+◌, ◌-◌, ◌^◌, ◌<◌, ◌≤◌, List, [], ◌++◌, length, take, drop, replicate, Some}
 use Rattle.byteorder.specs.Endian.{little_number, little_bytes}
-use Rattle.layout.specs.Sizes.{segment, descriptor}
+use Rattle.layout.specs.Sizes.{descriptor}
 use Rattle.regions.specs.Contents.{Item}
 use Rattle.regions.specs.declared.place.Place.{Place}
+use Rattle.regions.specs.Places.{leads_to}
 use Rattle.fragments.specs.Sizes.{header, places_size, fragment_bytes, object_size}
 
 -- the kind of an object that holds a fragment
 abbrev pub fragment_kind : ℕ
 fragment_kind = 2
-
--- the link to no fragment
-abbrev pub no_link : ℕ
-no_link = 18446744073709551615
-
--- the link to the fragment at a place, and the link to none
-abbrev pub link_to : Option Place → ℕ
-link_to None = no_link
-link_to (Some p) = p.segment * 2 ^ 32 + p.at
-
--- the place to which a link leads
-abbrev pub place_of_link : ℕ → Place
-place_of_link link = record { segment = link / 2 ^ 32; at = link % 2 ^ 32 }
-
-abbrev pub led_to : ℕ → Option Place
-led_to link = cond (link == no_link) None (Some (place_of_link link))
-
--- a place that a link can lead to
-abbrev pub HasRoom : Place → Type 0
-HasRoom p = (p.segment < 2 ^ 32) × (p.at < segment)
 
 -- Behind the two links: the name and the length in four bytes each, the bytes, and zero bytes up to the size. The lowest byte
 -- of a number stands first.
@@ -76,10 +57,6 @@ IsFragment content = (name : ℕ) × (bytes : List ℕ) × HoldsFragment content
 -- a fragment without its links, which are its reference fields
 abbrev pub bare : Item → Item
 bare item = record { group = item.group; kind = item.kind; content = body_in item.content }
-
--- the place to which a link leads, in front of others
-abbrev pub leads_to : ℕ → List Place → List Place
-leads_to link others = cond (link == no_link) others (place_of_link link ∷ others)
 
 abbrev pub references : Item → List Place
 references item = leads_to (back_in item.content) (leads_to (next_in item.content) [])

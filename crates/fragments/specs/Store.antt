@@ -2,16 +2,18 @@
 use Rattle.std.specs.Prelude.{◌≡◌, ℕ, zero, suc, ◌+◌, ◌≤◌, List, [], ◌∷◌, length, Option, None, Some, IsSome, map, option_map, take}
 use Rattle.std.specs.List.{concat}
 use Rattle.regions.specs.Segments.{RegionState}
-use Rattle.regions.specs.Shapes.{shape, group_count, group_of, active_of, guards_of, held_count, free_count, pieces, HasGroup, IsClosed, IsClosedIn}
+use Rattle.regions.specs.Shapes.{group_count, group_of, active_of, free_count, HasGroup, IsClosed, IsClosedIn}
 use Rattle.regions.specs.Counts.{live_total}
 use Rattle.regions.specs.Contents.{Item, live_at, standing_at}
 use Rattle.regions.specs.Stores as stores
 use Rattle.regions.specs.Stores.{Live}
 use Rattle.regions.specs.declared.place.Place.{Place}
+use Rattle.segmented_store.specs.Segments.{HoldsSegments}
 use Rattle.fragments.specs.Sizes.{most_fragments, size}
 use Rattle.fragments.specs.Values as values
 use Rattle.fragments.specs.Values.{Values}
-use Rattle.fragments.specs.Fragment.{bare, bytes_in, led_to, next_in}
+use Rattle.regions.specs.Places.{led_to}
+use Rattle.fragments.specs.Fragment.{bare, bytes_in, next_in}
 use Rattle.fragments.specs.Chains.{TableState, AreChains, HoldParts, all_parts, parts}
 
 -- a store: the place of the first fragment of each name's value, and the segments in which all fragments stand
@@ -55,14 +57,6 @@ pub record StandsFor (s : StoreState) (t : TableState) : Type 0 where
   pub firsts : take t.names t.firsts ≡ s.firsts
   pub chains : AreChains t (live_at s.region)
   pub parts : HoldParts t (live_at s.region) (all_parts (values_of s) [])
-
--- the segments are those that were there, and the guards
-pub record HoldsSegments (old new : RegionState) : Type 0 where
-  pub most : (shape new).most ≡ (shape old).most
-  pub groups : group_count new ≡ group_count old
-  pub pieces : pieces new ≡ pieces old
-  pub held : held_count new ≡ held_count old
-  pub guards : (g : ℕ) → guards_of new g ≡ guards_of old g
 
 -- each live fragment stood where it stands
 abbrev pub Stay : RegionState → RegionState → Type 0

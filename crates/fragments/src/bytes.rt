@@ -3,6 +3,7 @@ ghost use Rattle.std.specs.Prelude.{◌≡◌, ◌↔◌, IsTrue, ℕ, ◌+◌, 
 ghost use Rattle.byteorder.specs.Endian.{little_bytes};
 ghost use Rattle.layout.specs.Sizes.{descriptor, greatest_object};
 ghost use Rattle.fragments.specs.Sizes as sizes;
+ghost use Rattle.regions.specs.Places as place_links;
 ghost use Rattle.fragments.specs.Fragment as fragments;
 
 use byteorder::{ByteOrder, LittleEndian};
@@ -128,10 +129,10 @@ pub(crate) fn write_fragment(content: &mut [u8], next: u64, name: u32, bytes: &[
     requires short { length bytes.now ≤ sizes.fragment_bytes }
     requires size { length content.old + descriptor ≡ sizes.object_size (length bytes.now) }
     requires zero { content.old ≡ replicate (length content.old) 0 }
-    ensures bytes { content.new ≡ fragments.fragment fragments.no_link next name bytes.now }
+    ensures bytes { content.new ≡ fragments.fragment place_links.no_link next name bytes.now }
     ensures holds { fragments.HoldsFragment content.new name bytes.now }
     ensures name { fragments.name_in content.new ≡ name }
-    ensures back { fragments.back_in content.new ≡ fragments.no_link }
+    ensures back { fragments.back_in content.new ≡ place_links.no_link }
     ensures next { fragments.next_in content.new ≡ next }
 {
     let (header, behind) = content.split_at_mut(HEADER);
@@ -149,7 +150,7 @@ fn write_front(text: &mut [u8], bytes: &[u8])
 
 // The bytes in front of those of the value, in a fragment that is the first of its chain.
 fn header_of(next: u64, name: u32, len: u32) -> [u8; HEADER]
-    ensures bytes { result ≡ little_bytes 8 fragments.no_link ++ little_bytes 8 next ++ little_bytes 4 name ++ little_bytes 4 len }
+    ensures bytes { result ≡ little_bytes 8 place_links.no_link ++ little_bytes 8 next ++ little_bytes 4 name ++ little_bytes 4 len }
     ensures next { next < 2 ^ 64 }
     ensures name { name < 2 ^ 32 }
 {

@@ -1,4 +1,5 @@
-//! Values of up to a mebibyte, in fragments that compaction moves: what ScyllaDB calls managed bytes.
+//! Values of up to a mebibyte, in fragments that compaction moves: what ScyllaDB calls managed bytes, and others blobs
+//! in chunks.
 //!
 //! A value is a chain of objects of a [`regions::Region`] of one group, linked both ways. What a store means is a map from name
 //! to bytes ([`specs/Values.antt`]), read off the bytes of its segments; no clause on the map speaks of places. The tables of a

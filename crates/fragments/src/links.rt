@@ -7,42 +7,17 @@ ghost use Rattle.regions.specs.Counts.{left, live_total};
 ghost use Rattle.regions.specs.Contents.{Item, live_at, size_of};
 ghost use Rattle.regions.specs.Stores.{SameBut};
 ghost use Rattle.fragments.specs.Sizes.{fragment_bytes, object_size};
+ghost use Rattle.regions.specs.Places as place_links;
 ghost use Rattle.fragments.specs.Fragment as fragments;
 ghost use Rattle.fragments.specs.inside.Linking as linking;
 
 use crate::bytes::{
-    FRAGMENT, NO_LINK, back_in, name_in, next_in, object_size, set_back, set_next, write_fragment,
+    FRAGMENT, back_in, name_in, next_in, object_size, set_back, set_next, write_fragment,
 };
-use regions::{Place, Region};
-
-// How many offsets a segment's number is apart from the next one in a link.
-const SEGMENT_STEP: u64 = 4_294_967_296;
+use regions::{Place, Region, led_to, link_to};
 
 // The group of all fragments.
 pub(crate) const GROUP: u32 = 0;
-
-// The link to the fragment at a place, and to none.
-pub(crate) fn link_to(place: Option<Place>) -> u64
-    ensures { result ≡ fragments.link_to place }
-{
-    match place {
-        Some(place) => u64::from(place.segment) * SEGMENT_STEP + u64::from(place.at),
-        None => NO_LINK,
-    }
-}
-
-// The place that a link leads to.
-pub(crate) fn led_to(link: u64) -> Option<Place>
-    ensures { result ≡ fragments.led_to link }
-{
-    if link == NO_LINK {
-        return None;
-    }
-    Some(Place {
-        segment: (link / SEGMENT_STEP) as u32,
-        at: (link % SEGMENT_STEP) as u32,
-    })
-}
 
 // The number of a place's segment has 32 bits.
 pub(crate) fn segment_fits(place: Place)
@@ -52,7 +27,7 @@ pub(crate) fn segment_fits(place: Place)
 // The fragment to which the one at a place leads back.
 pub(crate) fn back_of(region: &Region, at: Place) -> Option<Place>
     requires { linking.HoldsAFragment (live_at region.now at) }
-    ensures { result ≡ fragments.led_to (linking.back_link (live_at region.now) at) }
+    ensures { result ≡ place_links.led_to (linking.back_link (live_at region.now) at) }
 {
     led_to(back_in(region.bytes(at)))
 }
@@ -60,7 +35,7 @@ pub(crate) fn back_of(region: &Region, at: Place) -> Option<Place>
 // The fragment to which the one at a place leads on.
 pub(crate) fn next_of(region: &Region, at: Place) -> Option<Place>
     requires { linking.HoldsAFragment (live_at region.now at) }
-    ensures { result ≡ fragments.led_to (linking.next_link (live_at region.now) at) }
+    ensures { result ≡ place_links.led_to (linking.next_link (live_at region.now) at) }
 {
     led_to(next_in(region.bytes(at)))
 }
@@ -143,7 +118,7 @@ pub(crate) fn place_fragment(
     ensures absent { live_at region.old result ≡ None }
     ensures added { linking.IsPlaced (live_at region.new result) next name bytes.now }
     ensures others { (p : Place) → p ≢ result → live_at region.new p ≡ live_at region.old p }
-    ensures room { fragments.HasRoom result }
+    ensures room { place_links.HasRoom result }
 
     // Counted: its bytes are live. The segments are as they were.
     ensures live_total { live_total region.new ≡ live_total region.old + object_size (length bytes.now) }

@@ -1,16 +1,18 @@
 //! The values of all names.
-ghost use Rattle.std.specs.Prelude.{◌≡◌, ◌↔◌, ◌+◌, ◌-◌, ◌<◌, ◌≤◌, ◌^◌, ℕ, true, false, length, replicate, slice_set, Some, None, Err, IfOk, IfErr, IfSome, IsNone, IsSome, IsTrue, MatchOption};
+ghost use Rattle.std.specs.Prelude.{◌≡◌, ◌↔◌, ◌+◌, ◌-◌, ◌<◌, ◌≤◌, ◌^◌, ℕ, List, Option, true, false, length, replicate, slice_set, Some, None, Err, IfOk, IfErr, IfSome, IsNone, IsSome, IsTrue, MatchOption};
 ghost use Rattle.std.specs.List.{concat};
 ghost use Rattle.layout.specs.Sizes as sizes;
 ghost use Rattle.regions.specs.Segments.{segment_at, with_segment, with_guards, fresh, all_emptied, idle};
 ghost use Rattle.regions.specs.Shapes.{shape, group_count, active_of, guards_of, pieces, held_count, free_count, IsGreatestHeld, IsLeastUnused};
 ghost use Rattle.regions.specs.Counts.{live_total};
 ghost use Rattle.regions.specs.Contents.{Keeps};
-ghost use Rattle.region_room.specs.Room as bound;
+ghost use Rattle.regions.specs.declared.place.Place.{Place};
+ghost use Rattle.segmented_store.specs.Room as bound;
 ghost use Rattle.fragments.specs.Sizes.{greatest_value, size};
 ghost use Rattle.fragments.specs.Values as values;
 ghost use Rattle.fragments.specs.Chains.{TableState};
-ghost use Rattle.fragments.specs.Store.{values_of, StandsFor, HoldsSegments, IsSetBeside, Stay};
+ghost use Rattle.segmented_store.specs.Segments.{HoldsSegments};
+ghost use Rattle.fragments.specs.Store.{values_of, StandsFor, IsSetBeside, Stay};
 
 mod writing;
 
@@ -19,8 +21,8 @@ use crate::links::GROUP;
 use crate::pieces::Pieces;
 use crate::tables::Tables;
 use raw_range::Piece;
-use region_room::room;
 use regions::Region;
+use segmented_store::{Segmented, room};
 use std::alloc::{AllocError, Global};
 use std::marker::Model;
 use writing::{drop_value, set_value};
@@ -128,7 +130,7 @@ impl Fragments {
     ///
     /// # Errors
     /// `TooLong` where the value has more than 1,048,576 bytes; else `NoRoom` where the bytes of all live objects, with the old
-    /// value of the name, and those of the new value's are more than [`region_room::room`] of the segments. Nothing changed.
+    /// value of the name, and those of the new value's are more than [`segmented_store::room`] of the segments. Nothing changed.
     pub fn put(&mut self, name: u32, bytes: &[u8]) -> Result<(), SetRefusal>
         requires name { name < length self.old.firsts }
         requires held { 3 ≤ held_count self.old.region }
@@ -279,6 +281,23 @@ impl Fragments {
         self.live = 0;
         self.segments = self.segments.saturating_sub(1);
         given
+    }
+}
+
+impl Segmented for Fragments {
+    ghost region = { λ f. f.region };
+
+    // Where the first fragment of each name's value stands, and the values.
+    ghost Content = { List (Option Place) × values.Values };
+
+    ghost content = { λ f. (f.firsts, values_of f) };
+
+    fn take_piece(&mut self, piece: Piece) {
+        self.add_segment(piece);
+    }
+
+    fn give_piece(&mut self) -> Option<Piece> {
+        self.give_up()
     }
 }
 

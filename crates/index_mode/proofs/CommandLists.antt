@@ -14,16 +14,18 @@ use Rattle.trace_text.specs.Parsed.{IsWellFormed}
 use Rattle.regions.specs.Segments.{RegionState}
 use Rattle.index_tree.specs.Sizes.{most}
 use Rattle.index_mode.specs.inside.Held.{IsServing}
-use Rattle.index_tree.specs.Store.{HoldsSegments, IndexState, index_in}
-use Rattle.rows.specs.KeyBody.{AreKeys, IsKey}
-use Rattle.rows.specs.Spelled.{key_field}
+use Rattle.segmented_store.specs.Segments.{HoldsSegments}
+use Rattle.index_tree.specs.Store.{IndexState, index_in}
+use Rattle.rows.specs.KeyBody.{AreKeys}
+use Rattle.rows.specs.Spelled.{key_field, IsKey}
 use Rattle.tree_nodes.specs.Nodes.{Entry, IsEntry}
 use Rattle.tree_nodes.specs.Order.{key_cmp}
-use Rattle.index_tree.specs.Indexes.{Index, from, number_of, scanned, with_number}
+use Rattle.index_tree.specs.Indexes.{Index, from, number_of, with_number}
+use Rattle.index_tree.specs.Scans.{scanned}
 use Rattle.index_mode.specs.IndexText.{Answer, put, scanned_keys, put_answer, done, answer_line, index_after, text_from, last_line}
-use Rattle.mode_lemmas.specs.Writing.{Seen, Writes, Goes}
+use Rattle.text_lemmas.specs.Writing.{Output, Writes, Goes}
 use Rattle.index_mode.proofs.Keys.{key_text}
-use Rattle.mode_lemmas.proofs.Written.{Goes-next, Goes-stop}
+use Rattle.text_lemmas.proofs.Written.{Goes-next, Goes-stop}
 
 -- ---- lines
 
@@ -129,7 +131,7 @@ module _ (bytes : List ℕ) (items commands : List Command) (same : items ≡ co
   behind_next bound index later is =
       ap (λ (x : Index). index_after bound x (drop (i + 1) (operations bytes commands))) is ∙ sym (ap (index_after bound index) left_now)
 
-  pub command_next : {T E : Type 0} {u : T} {a b c : Seen} {t : List ℕ} (bound : ℕ) (index later : Index) → later ≡ (now_done bound index).0
+  pub command_next : {T E : Type 0} {u : T} {a b c : Output} {t : List ℕ} (bound : ℕ) (index later : Index) → later ≡ (now_done bound index).0
       → Goes a b t (text_from bound index (drop i (operations bytes commands)))
       → Writes {T = T} {E = E} (Ok u) b c (answer_line now.number (now_done bound index).1)
       → Goes a c t (text_from bound later (drop (i + 1) (operations bytes commands)))
@@ -137,7 +139,7 @@ module _ (bytes : List ℕ) (items commands : List Command) (same : items ≡ co
       subst (λ x. Goes a c t (text_from bound x (drop (i + 1) (operations bytes commands)))) (sym is)
       (Goes-next (subst (Goes a b t) (text_now bound index) gone) wrote)
 
-  pub command_stop : {T E : Type 0} {e : E} {a b c : Seen} {t : List ℕ} (bound : ℕ) (index : Index)
+  pub command_stop : {T E : Type 0} {e : E} {a b c : Output} {t : List ℕ} (bound : ℕ) (index : Index)
       → Goes a b t (text_from bound index (drop i (operations bytes commands)))
       → Writes {T = T} {E = E} (Err e) b c (answer_line now.number (now_done bound index).1)
       → Writes {T = T} {E = E} (Err e) a c t
@@ -163,7 +165,7 @@ none_left : (bytes : List ℕ) (items commands : List Command) (i : ℕ) → ite
 none_left bytes items commands i same past = drop-map (operation bytes) i commands ∙ ap (map (operation bytes)) (ap (drop i) (sym same) ∙ drop_all i items past)
 
 -- but the last line
-pub text_end : {a b : Seen} {t : List ℕ} (bytes : List ℕ) (items commands : List Command) (bound i : ℕ) (index : Index) → items ≡ commands → length items ≤ i
+pub text_end : {a b : Output} {t : List ℕ} (bytes : List ℕ) (items commands : List Command) (bound i : ℕ) (index : Index) → items ≡ commands → length items ≤ i
     → Goes a b t (text_from bound index (drop i (operations bytes commands))) → Goes a b t (last_line index)
 text_end {a} {b} {t} bytes items commands bound i index same past gone =
     subst (λ os. Goes a b t (text_from bound index os)) (none_left bytes items commands i same past) gone

@@ -5,17 +5,18 @@ ghost use Rattle.trace_text.specs.Operation.{operation};
 ghost use Rattle.trace_text.specs.Parsed.{trace_in, IsWellFormed};
 ghost use Rattle.regions.specs.Shapes.{held_count};
 ghost use Rattle.index_tree.specs.Sizes.{most};
-ghost use Rattle.index_tree.specs.Store.{index_in, HoldsSegments};
+ghost use Rattle.segmented_store.specs.Segments.{HoldsSegments};
+ghost use Rattle.index_tree.specs.Store.{index_in};
 ghost use Rattle.index_mode.specs.IndexText as text;
 ghost use Rattle.index_mode.specs.inside.Held.{IsServing};
-ghost use Rattle.mode_lemmas.specs.Writing.{WritesTo};
+ghost use Rattle.text_lemmas.specs.Writing.{Writes};
 ghost use Rattle.rows.specs.declared.kind.Kind.{Kind as Kinds};
 
 use crate::answers::{write_count, write_erase, write_get, write_put};
 use crate::scans::write_scan;
 use index_tree::IndexTree;
 use outside::{Failed, Sink};
-use text_block::Block;
+use text_out::Writer;
 use trace_text::{Command, Kind, Trace};
 
 /// Sets the number of a put under its key.
@@ -23,20 +24,19 @@ fn put<K: Sink>(
     tree: &mut IndexTree,
     trace: &Trace,
     command: &Command,
-    sink: &mut K,
-    block: &mut Block,
+    out: &mut Writer<'_, K>,
 ) -> Result<(), Failed>
     requires of_trace { Contains trace.now.commands command.now }
     requires serving { IsServing tree.old }
     ensures index { index_in tree.new ≡ (text.done Kinds.Put (most (held_count tree.old.region)) (operation trace.now.bytes command.now)
         (index_in tree.old)).0 }
-    ensures written { WritesTo K.written K.faults result sink.old block.old sink.new block.new
+    ensures written { Writes result out.old out.new
         (text.answer_line command.now.number (text.done Kinds.Put (most (held_count tree.old.region))
         (operation trace.now.bytes command.now) (index_in tree.old)).1) }
     ensures segments { HoldsSegments tree.old.region tree.new.region }
 {
     let had = tree.insert(trace.key(command), command.number);
-    write_put(sink, block, command.number, had)
+    write_put(out, command.number, had)
 }
 
 /// Gives the keys of a scan.
@@ -45,20 +45,19 @@ fn scan<K: Sink>(
     keys: &mut [u8],
     trace: &Trace,
     command: &Command,
-    sink: &mut K,
-    block: &mut Block,
+    out: &mut Writer<'_, K>,
 ) -> Result<(), Failed>
     requires of_trace { Contains trace.now.commands command.now }
     requires some { 1 ≤ command.now.count }
     requires most { command.now.count ≤ most_keys }
     requires room { key_room * most_keys ≤ length keys.old }
     ensures room { length keys.new ≡ length keys.old }
-    ensures written { WritesTo K.written K.faults result sink.old block.old sink.new block.new
+    ensures written { Writes result out.old out.new
         (text.answer_line command.now.number (text.Keys (text.scanned_keys (operation trace.now.bytes command.now) (index_in tree.now)))) }
 {
     tree.facts();
     let scanned = tree.range(trace.key(command), command.count, keys);
-    write_scan(sink, block, command.number, &keys[..scanned.bytes as usize])
+    write_scan(out, command.number, &keys[..scanned.bytes as usize])
 }
 
 /// Does a command.
@@ -67,8 +66,7 @@ fn do_command<K: Sink>(
     keys: &mut [u8],
     trace: &Trace,
     command: &Command,
-    sink: &mut K,
-    block: &mut Block,
+    out: &mut Writer<'_, K>,
 ) -> Result<(), Failed>
     requires of_trace { Contains trace.now.commands command.now }
     requires well_formed { IsWellFormed (operation trace.now.bytes command.now) }
@@ -76,17 +74,17 @@ fn do_command<K: Sink>(
     requires room { key_room * most_keys ≤ length keys.old }
     ensures index { index_in tree.new ≡ (text.done command.now.kind (most (held_count tree.old.region))
         (operation trace.now.bytes command.now) (index_in tree.old)).0 }
-    ensures written { WritesTo K.written K.faults result sink.old block.old sink.new block.new
+    ensures written { Writes result out.old out.new
         (text.answer_line command.now.number (text.done command.now.kind (most (held_count tree.old.region))
         (operation trace.now.bytes command.now) (index_in tree.old)).1) }
     ensures segments { HoldsSegments tree.old.region tree.new.region }
     ensures room { length keys.new ≡ length keys.old }
 {
     match command.kind {
-        Kind::Put => put(tree, trace, command, sink, block),
-        Kind::Get => write_get(sink, block, command.number, tree.get(trace.key(command))),
-        Kind::Erase => write_erase(sink, block, command.number, tree.remove(trace.key(command))),
-        Kind::Scan => scan(tree, keys, trace, command, sink, block),
+        Kind::Put => put(tree, trace, command, out),
+        Kind::Get => write_get(out, command.number, tree.get(trace.key(command))),
+        Kind::Erase => write_erase(out, command.number, tree.remove(trace.key(command))),
+        Kind::Scan => scan(tree, keys, trace, command, out),
     }
 }
 
@@ -95,19 +93,18 @@ pub(crate) fn do_commands<K: Sink>(
     tree: &mut IndexTree,
     keys: &mut [u8],
     trace: &Trace,
-    sink: &mut K,
-    block: &mut Block,
+    out: &mut Writer<'_, K>,
 ) -> Result<(), Failed>
     requires serving { IsServing tree.old }
     requires room { key_room * most_keys ≤ length keys.old }
-    ensures written { WritesTo K.written K.faults result sink.old block.old sink.new block.new
+    ensures written { Writes result out.old out.new
         (text.text_from (most (held_count tree.old.region)) (index_in tree.old) (trace_in trace.now).operations) }
     ensures index { OnOk result (index_in tree.new ≡ text.index_after (most (held_count tree.old.region)) (index_in tree.old)
         (trace_in trace.now).operations) }
     ensures segments { HoldsSegments tree.old.region tree.new.region }
 {
     for command in trace.commands() {
-        do_command(tree, keys, trace, command, sink, block)?;
+        do_command(tree, keys, trace, command, out)?;
     }
-    write_count(sink, block, tree.len())
+    write_count(out, tree.len())
 }

@@ -2,32 +2,23 @@
 ghost use Rattle.std.specs.Prelude.{◌≡◌, ◌^◌, ◌<◌, ◌∷◌, ◌++◌, ℕ, List, flat_map, length, codes, decimal};
 ghost use Rattle.rows.specs.KeyBody.{AreKeys};
 ghost use Rattle.index_mode.specs.IndexText as text;
-ghost use Rattle.mode_lemmas.specs.Writing.{WritesTo};
+ghost use Rattle.text_lemmas.specs.Writing.{Writes};
 
-use crate::answers::write_word;
 use outside::{Failed, Sink};
 use run_log::next_key;
-use text_block::{Block, write};
-
-/// A key behind a space.
-fn write_key<K: Sink>(sink: &mut K, block: &mut Block, key: &[u8]) -> Result<(), Failed>
-    ensures { WritesTo K.written K.faults result sink.old block.old sink.new block.new (32 ∷ key.now) }
-{
-    write(sink, block, b" ")?;
-    write(sink, block, key)
-}
+use text_out::Writer;
 
 /// The keys of a body of keys, each behind a space.
-fn write_each<K: Sink>(sink: &mut K, block: &mut Block, body: &[u8]) -> Result<(), Failed>
+fn write_each<K: Sink>(out: &mut Writer<'_, K>, body: &[u8]) -> Result<(), Failed>
     requires keys { (keys : List (List ℕ)) × AreKeys body.now keys }
     requires short { length body.now < 2 ^ 32 }
     ensures { (keys : List (List ℕ)) → AreKeys body.now keys
-        → WritesTo K.written K.faults result sink.old block.old sink.new block.new (flat_map (λ key. 32 ∷ key) keys) }
+        → Writes result out.old out.new (flat_map (λ key. 32 ∷ key) keys) }
 {
     let mut at = 0;
     while let Some(span) = next_key(body, at) {
         let end = span.start + span.len;
-        write_key(sink, block, &body[span.start as usize..end as usize])?;
+        out.put_word(&body[span.start as usize..end as usize])?;
         at = end;
     }
     Ok(())
@@ -35,18 +26,17 @@ fn write_each<K: Sink>(sink: &mut K, block: &mut Block, body: &[u8]) -> Result<(
 
 /// The line of a scan whose keys stand in the body.
 pub(crate) fn write_scan<K: Sink>(
-    sink: &mut K,
-    block: &mut Block,
+    out: &mut Writer<'_, K>,
     number: u32,
     body: &[u8],
 ) -> Result<(), Failed>
     requires keys { (keys : List (List ℕ)) × AreKeys body.now keys }
     requires short { length body.now < 2 ^ 32 }
     ensures { (keys : List (List ℕ)) → AreKeys body.now keys
-        → WritesTo K.written K.faults result sink.old block.old sink.new block.new
+        → Writes result out.old out.new
         (text.answer_line number (text.Keys keys)) }
 {
-    write_word(sink, block, number, b" keys")?;
-    write_each(sink, block, body)?;
-    write(sink, block, b"\n")
+    out.put_numbered(number, b" keys")?;
+    write_each(out, body)?;
+    out.put(b"\n")
 }

@@ -7,18 +7,20 @@ ghost use Rattle.layout.specs.Sizes.{ArePages, key_room, most_keys};
 ghost use Rattle.trace_text.specs.Parsed.{trace_in};
 ghost use Rattle.regions.specs.Shapes.{held_count};
 ghost use Rattle.index_tree.specs.Sizes.{most};
-ghost use Rattle.index_tree.specs.Store.{index_in, HoldsSegments};
+ghost use Rattle.segmented_store.specs.Segments.{HoldsSegments};
+ghost use Rattle.index_tree.specs.Store.{index_in};
 ghost use Rattle.index_mode.specs.IndexText.{index_after, index_left, index_text, text_from};
 ghost use Rattle.index_mode.specs.Stores.{IsEmpty};
 ghost use Rattle.index_mode.specs.inside.Held.{IsServing};
-ghost use Rattle.mode_lemmas.specs.Writing.{WritesTo};
+ghost use Rattle.text_lemmas.specs.Writing.{Writes};
 
 use crate::commands::do_commands;
 use crate::store::{IndexStore, open_index};
 use index_tree::IndexTree;
 use outside::{Failed, Sink};
+use segmented_store::Ranged;
 use std::alloc::{AllocError, Global};
-use text_block::{Block, hand_over};
+use text_out::Writer;
 use trace_text::Trace;
 
 /// Opens an index on so many pages, and runs a trace on it as [`write_index`] does.
@@ -56,7 +58,7 @@ pub fn run_index<K: Sink>(
 /// `I erased` or `I missing`; of a scan `I keys` and the keys. The last line is `index K`.
 ///
 /// # Errors
-/// [`Failed`] where the sink failed. A front of the text was written then; which keys are held and which text waits is not said.
+/// [`Failed`] where the sink failed. A front of the text was written then; which keys are held is not said.
 pub fn write_index<K: Sink>(
     store: &mut IndexStore,
     trace: &Trace,
@@ -76,17 +78,36 @@ pub fn write_index<K: Sink>(
 
     // The index is what the commands make of none, and the memory is as it was.
     ensures index { OnOk result (index_in store.new.index ≡ index_left (trace_in trace.now) store.old.pages) }
-    ensures waiting { OnOk result (store.new.waiting ≡ []) }
     ensures pages { store.new.pages ≡ store.old.pages }
     ensures segments { HoldsSegments store.old.index.region store.new.index.region }
 {
-    write_text(
-        &mut store.tree,
+    let mut out = Writer::new(sink);
+    let written = write_on(
+        &mut store.ranged,
         store.keys.as_mut_slice(),
         trace,
-        sink,
-        &mut store.block,
-    )
+        &mut out,
+    );
+    out.into_sink();
+    written
+}
+
+/// The same on an index and the range of its segments.
+fn write_on<K: Sink>(
+    ranged: &mut Ranged<IndexTree>,
+    keys: &mut [u8],
+    trace: &Trace,
+    out: &mut Writer<'_, K>,
+) -> Result<(), Failed>
+    requires empty { index_in ranged.old.store ≡ [] }
+    requires room { key_room * most_keys ≤ length keys.old }
+    ensures written { Writes result out.old out.new (index_text (trace_in trace.now) ranged.old.pages) }
+    ensures index { OnOk result (index_in ranged.new.store ≡ index_left (trace_in trace.now) ranged.old.pages) }
+    ensures empty { OnOk result (out.new.block ≡ []) }
+    ensures pages { ranged.new.pages ≡ ranged.old.pages }
+    ensures segments { HoldsSegments ranged.old.store.region ranged.new.store.region }
+{
+    write_text(&mut ranged.store, keys, trace, out)
 }
 
 /// Writes the text of a trace.
@@ -94,18 +115,17 @@ fn write_text<K: Sink>(
     tree: &mut IndexTree,
     keys: &mut [u8],
     trace: &Trace,
-    sink: &mut K,
-    block: &mut Block,
+    out: &mut Writer<'_, K>,
 ) -> Result<(), Failed>
     requires serving { IsServing tree.old }
     requires room { key_room * most_keys ≤ length keys.old }
-    ensures written { WritesTo K.written K.faults result sink.old block.old sink.new block.new
+    ensures written { Writes result out.old out.new
         (text_from (most (held_count tree.old.region)) (index_in tree.old) (trace_in trace.now).operations) }
     ensures index { OnOk result (index_in tree.new ≡ index_after (most (held_count tree.old.region)) (index_in tree.old)
         (trace_in trace.now).operations) }
-    ensures empty { OnOk result (block.new.bytes ≡ []) }
+    ensures empty { OnOk result (out.new.block ≡ []) }
     ensures segments { HoldsSegments tree.old.region tree.new.region }
 {
-    do_commands(tree, keys, trace, sink, block)?;
-    hand_over(sink, block)
+    do_commands(tree, keys, trace, out)?;
+    out.flush()
 }

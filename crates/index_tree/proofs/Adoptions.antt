@@ -8,12 +8,13 @@ use Rattle.regions.specs.Contents.{live_at}
 use Rattle.regions.specs.declared.place.Place.{Place}
 use Rattle.tree_nodes.specs.Nodes.{TreeNode, child_at, no_place}
 use Rattle.index_tree.specs.Inserts.{times}
-use Rattle.index_tree.specs.Links.{place_of_link, with_parent}
+use Rattle.regions.specs.Places.{place_of_link}
+use Rattle.index_tree.specs.Links.{with_parent}
 use Rattle.index_tree.specs.Splits.{Adopts, child_places}
 use Rattle.index_tree.specs.Store.{ChangesNode, HoldsNode, nodes_of}
 use Rattle.index_tree.proofs.InsertRows.{all_by_times, times_append, times_here, times_of_all, times_past}
 use Rattle.index_tree.proofs.InnerWrites.{fits_there}
-use Rattle.index_tree.proofs.Places.{place_cases}
+use Rattle.place_lemmas.proofs.Places.{place_cases}
 use Rattle.index_tree.proofs.Touches.{held_same, held_still, live_same, node_past, node_there, same_still, same_then}
 use Rattle.index_tree.proofs.Writes.{eases}
 

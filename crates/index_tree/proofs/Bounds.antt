@@ -10,9 +10,10 @@ use borrow.Author.Tests.{ltb-true}
 use Rattle.regions.specs.declared.place.Place.{Place}
 use Rattle.tree_nodes.specs.Nodes.{Entry, TreeNode, entry_at, no_entry, no_place}
 use Rattle.tree_nodes.specs.Order.{IsBelow, key_cmp}
-use Rattle.index_tree.specs.Links.{Nodes, led_to, link_to}
+use Rattle.regions.specs.Places.{led_to, link_to}
+use Rattle.index_tree.specs.Links.{Nodes}
 use Rattle.index_tree.specs.Trees.{IsBetween, IsFrom, IsSubtree, IsUpTo, children_of, entries_of, held_below, left_of, right_of}
-use Rattle.index_tree.proofs.Places.{leads_on}
+use Rattle.place_lemmas.proofs.Places.{leads_on}
 use Rattle.index_tree.proofs.Moved.{room_of}
 
 less_less : (a b c : List ℕ) → IsBelow a b → IsBelow b c → IsBelow a c

@@ -6,10 +6,11 @@ use Rattle.std.proofs.lemmas.List.{length-take-le}
 use Rattle.std.proofs.lemmas.List.Elements.{All-head}
 use Rattle.regions.specs.declared.place.Place.{Place}
 use Rattle.tree_nodes.specs.Nodes.{TreeNode, child_at}
-use Rattle.index_tree.specs.Links.{HasRoom, Nodes, led_to, link_to}
+use Rattle.regions.specs.Places.{HasRoom, led_to, link_to}
+use Rattle.index_tree.specs.Links.{Nodes}
 use Rattle.index_tree.specs.Trees.{TreeState, children_of, leaves_below, nodes_below, places_of}
 use Rattle.index_tree.specs.inside.Climbs.{HasSubtree, IsBefore, IsLast, IsTreeIn, child_in, parent_in}
-use Rattle.index_tree.proofs.Places.{leads_on, some_is, some_none, some_same}
+use Rattle.place_lemmas.proofs.Places.{leads_on, some_is, some_none, some_same}
 use Rattle.index_tree.proofs.Lists.{Among, among_either, split_first, split_two}
 use Rattle.index_tree.proofs.Positions.{child_got, inner_at, node_at}
 use Rattle.index_tree.proofs.Neighbors.{IsBelow, before_first, before_next, before_spare, below_at, one_level, spare_at}

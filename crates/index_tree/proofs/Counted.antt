@@ -6,14 +6,16 @@ use Rattle.std.proofs.lemmas.Nat.{mul-le}
 use Rattle.std.proofs.lemmas.Bool.Decides.{leb_tells}
 use Rattle.std.proofs.lemmas.List.{length-take-le}
 use Rattle.std.proofs.lemmas.List.Elements.{All-head, All-tail}
-use Rattle.region_room.specs.Room.{room}
+use Rattle.segmented_store.specs.Room.{room}
 use Rattle.regions.specs.declared.place.Place.{Place}
 use Rattle.tree_nodes.specs.Nodes.{Entry, TreeNode, child_at}
-use Rattle.index_tree.specs.Links.{Nodes, led_to, link_to}
-use Rattle.index_tree.specs.Sizes.{most, most_levels, most_segments, node_object}
+use Rattle.regions.specs.Places.{led_to, link_to}
+use Rattle.index_tree.specs.Links.{Nodes}
+use Rattle.index_tree.specs.Sizes.{most, node_object}
+use Rattle.index_tree.specs.Limits.{most_levels, most_segments}
 use Rattle.index_tree.specs.Store.{levels, levels_if}
 use Rattle.index_tree.specs.Trees.{IsNodeOf, IsSubtree, IsTree, TreeState, children_of, entries_of, held_below, index_of, left_of, nodes_below, right_of}
-use Rattle.index_tree.proofs.Places.{leads_on, some_none}
+use Rattle.place_lemmas.proofs.Places.{leads_on, some_none}
 use Rattle.index_tree.proofs.Moved.{room_of}
 use Rattle.index_tree.proofs.Whole.{of_children}
 

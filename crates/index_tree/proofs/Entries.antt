@@ -4,10 +4,11 @@ use Rattle.std.specs.List.{flat_map}
 use Rattle.std.proofs.lemmas.List.Elements.{All-nil}
 use Rattle.regions.specs.declared.place.Place.{Place}
 use Rattle.tree_nodes.specs.Nodes.{Entry, IsEntry, TreeNode}
-use Rattle.index_tree.specs.Links.{Nodes, led_to}
+use Rattle.regions.specs.Places.{led_to}
+use Rattle.index_tree.specs.Links.{Nodes}
 use Rattle.index_tree.specs.Trees.{IsSubtree, IsTree, TreeState, children_of, entries_of, held_below, index_of}
 use Rattle.index_tree.proofs.Moved.{room_of}
-use Rattle.index_tree.proofs.Places.{leads_on}
+use Rattle.place_lemmas.proofs.Places.{leads_on}
 use Rattle.index_tree.proofs.SearchLists.{all_gathered}
 use Rattle.index_tree.proofs.Whole.{of_children}
 

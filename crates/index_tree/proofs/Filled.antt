@@ -8,9 +8,10 @@ use Rattle.regions.specs.Counts.{live_total}
 use Rattle.regions.specs.Contents.{live_at}
 use Rattle.regions.specs.declared.place.Place.{Place}
 use Rattle.compaction.specs.Emptied.{HoldsTheSame}
-use Rattle.region_room.specs.Room.{room}
-use Rattle.index_tree.specs.Sizes.{most_spares, node_object}
-use Rattle.index_tree.specs.Store.{HoldsSegments}
+use Rattle.segmented_store.specs.Room.{room}
+use Rattle.index_tree.specs.Sizes.{node_object}
+use Rattle.segmented_store.specs.Segments.{HoldsSegments}
+use Rattle.index_tree.specs.Limits.{most_spares}
 use Rattle.index_tree.specs.inside.Rosters as rosters
 use Rattle.index_tree.specs.inside.Rosters.{IsRosterOf, RosterState, shape_of, with_spare}
 

@@ -5,11 +5,12 @@ use Rattle.std.proofs.lemmas.List.{take_at, drop_at}
 use Rattle.std.proofs.lemmas.List.Elements.{All-nil, All-cons, All-head, All-tail, All-take, All-drop, All-weaker}
 use Rattle.regions.specs.declared.place.Place.{Place}
 use Rattle.tree_nodes.specs.Nodes.{Entry, TreeNode, CanStand}
-use Rattle.index_tree.specs.Sizes.{fewest_entries}
-use Rattle.index_tree.specs.Links.{Nodes, led_to, link_to, with_parent}
+use Rattle.regions.specs.Places.{led_to, link_to}
+use Rattle.index_tree.specs.Links.{Nodes, with_parent}
+use Rattle.index_tree.specs.Limits.{fewest_entries}
 use Rattle.index_tree.specs.Trees.{IsFrom, IsNodeOf, IsSubtree, IsUpTo, children_of, entries_of, held_below, if_level, leaves_below, nodes_below, row_below}
 use Rattle.index_tree.specs.Inserts.{Branch, Row, of_row}
-use Rattle.index_tree.proofs.Places.{HasRoomIf}
+use Rattle.place_lemmas.proofs.Places.{HasRoomIf}
 use Rattle.index_tree.proofs.FrameRows.{Opened, close_node, gathered, open_node, row_map, row_same}
 
 pub all_front : {A : Type 0} (P : A → Type 0) (xs ys : List A) → All P (xs ++ ys) → All P xs

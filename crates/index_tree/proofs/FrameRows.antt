@@ -6,10 +6,11 @@ use Rattle.std.proofs.lemmas.List.{length-map, get_or-take}
 use Rattle.std.proofs.lemmas.List.Elements.{All-head, All-tail}
 use Rattle.regions.specs.declared.place.Place.{Place}
 use Rattle.tree_nodes.specs.Nodes.{Entry, TreeNode, no_entry, no_place}
-use Rattle.index_tree.specs.Links.{HasRoom, Nodes, led_to, link_to}
+use Rattle.regions.specs.Places.{HasRoom, led_to, link_to}
+use Rattle.index_tree.specs.Links.{Nodes}
 use Rattle.index_tree.specs.Trees.{IsInner, IsNodeOf, IsSubtree, children_of, left_of, right_of}
 use Rattle.index_tree.specs.Inserts.{Branch, Row, entry_of, of_row}
-use Rattle.index_tree.proofs.Places.{leads_on}
+use Rattle.place_lemmas.proofs.Places.{leads_on}
 use Rattle.index_tree.proofs.Moved.{room_of}
 
 abbrev pub branch : Entry → Place → Branch

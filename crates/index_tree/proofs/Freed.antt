@@ -6,12 +6,13 @@ use Rattle.regions.specs.Contents.{Item}
 use Rattle.regions.specs.Stores.{Live}
 use Rattle.regions.specs.declared.place.Place.{Place}
 use Rattle.tree_nodes.specs.Nodes.{TreeNode, child_at, node_in}
-use Rattle.index_tree.specs.Links.{Nodes, led_to}
+use Rattle.regions.specs.Places.{led_to}
+use Rattle.index_tree.specs.Links.{Nodes}
 use Rattle.index_tree.specs.Store.{nodes_of}
 use Rattle.index_tree.specs.Trees.{AreLinked, IsSpare, IsSubtree, IsTree, children_of, held_below, leaves_below, left_of, next_in, nodes_below, right_of}
 use Rattle.index_tree.specs.inside.Listings.{less_place}
 use Rattle.index_tree.specs.inside.Rosters.{AreListed, IsRosterOf, RosterState, unlisted, with_freed}
-use Rattle.index_tree.proofs.Places.{leads_on, place_cases, place_tells, some_is, some_none}
+use Rattle.place_lemmas.proofs.Places.{leads_on, place_cases, place_tells, some_is, some_none}
 use Rattle.index_tree.proofs.Lists.{Among, AreApart, among_behind, among_either, among_flat, among_front, apart_append, apart_behind, apart_both, apart_front}
 use Rattle.index_tree.proofs.Lengths.{one_apart, one_place}
 use Rattle.index_tree.proofs.Mended.{some_node}

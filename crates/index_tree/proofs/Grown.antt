@@ -8,7 +8,7 @@ use Rattle.index_tree.specs.Links.{Nodes}
 use Rattle.index_tree.specs.Trees.{AreLinked, IsSpare, IsSubtree, IsTree, TreeState, leaves_below, nodes_below}
 use Rattle.index_tree.proofs.InsertRows.{all_by_times, times_append, times_of_all}
 use Rattle.index_tree.proofs.Once.{apart_of_once, once_of_apart, stands_at, times_at}
-use Rattle.index_tree.proofs.Places.{some_is}
+use Rattle.place_lemmas.proofs.Places.{some_is}
 
 -- ---- leaves in order
 

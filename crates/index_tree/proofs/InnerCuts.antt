@@ -5,7 +5,8 @@ use Rattle.std.proofs.lemmas.List.{drop_more, length-take-le, length-drop}
 use Rattle.std.proofs.lemmas.List.Edits.{get_or-insert_above, get_or-insert_at, get_or-insert_below, insert-append_left, length-insert}
 use Rattle.tree_nodes.specs.Nodes.{Entry, TreeNode, no_entry, no_place}
 use Rattle.index_tree.specs.Inserts.{Branch}
-use Rattle.index_tree.specs.Links.{link_to, with_child}
+use Rattle.regions.specs.Places.{link_to}
+use Rattle.index_tree.specs.Links.{with_child}
 use Rattle.index_tree.specs.Splits.{back_of, front_of, lower_half, upper_half, wide_children, wide_entries, widened}
 
 module _ {A : Type 0} where

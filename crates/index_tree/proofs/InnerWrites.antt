@@ -7,13 +7,14 @@ use Rattle.regions.specs.Contents.{Item, live_at}
 use Rattle.regions.specs.declared.place.Place.{Place}
 use Rattle.tree_nodes.specs.Nodes.{Entry, TreeNode, CanStand, entry_at, no_place, node_in}
 use Rattle.index_tree.specs.Inserts.{Branch, Touched}
-use Rattle.index_tree.specs.Links.{link_to, with_child}
+use Rattle.regions.specs.Places.{link_to}
+use Rattle.index_tree.specs.Links.{with_child}
 use Rattle.index_tree.specs.Splits.{CutsInner, Halves, back_of, front_of, widened}
 use Rattle.index_tree.specs.Store.{ChangesNode, HoldsNode, nodes_of}
 use Rattle.index_tree.specs.Writes.{WritesNode, with_entry, with_new_child, without_children, without_entries}
 use Rattle.index_tree.specs.declared.split.Split.{Split}
 use Rattle.index_tree.proofs.InnerCuts.{high_back, high_front, high_key, low_back, low_front, low_key, middle_back, middle_key}
-use Rattle.index_tree.proofs.Places.{some_is}
+use Rattle.place_lemmas.proofs.Places.{some_is}
 use Rattle.index_tree.proofs.Touches.{both_held, either_behind, either_here, node_past, node_there, same_then, touched_by, touched_then, value_of}
 use Rattle.index_tree.proofs.Writes.{eases}
 

@@ -9,7 +9,7 @@ use Rattle.regions.specs.Contents.{live_at}
 use Rattle.regions.specs.declared.place.Place.{Place}
 use Rattle.tree_nodes.specs.Nodes.{Entry, TreeNode, child_at, no_place}
 use Rattle.index_tree.specs.Inserts.{Branch, Grows, IsRoom, IsSeparator, Row, Spread, Touched, entry_of, of_row, times}
-use Rattle.index_tree.specs.Links.{HasRoom, link_to, place_of_link}
+use Rattle.regions.specs.Places.{HasRoom, link_to, place_of_link}
 use Rattle.index_tree.specs.Splits.{AdoptsBeside, CutsInner, branch_of, lower_half, upper_half, upper_places, widened}
 use Rattle.index_tree.specs.Spots.{IsChildSpot}
 use Rattle.index_tree.specs.Store.{HoldsNode, nodes_of}
@@ -25,7 +25,7 @@ use Rattle.index_tree.proofs.InsertLeaf.{far_by_times}
 use Rattle.index_tree.proofs.InsertRows.{all_by_times, child_among, child_in, keyed, of_row_append, row_back, times_append, times_here, times_of_all, times_own, times_past}
 use Rattle.index_tree.proofs.InsertedLeaf.{times_get}
 use Rattle.index_tree.proofs.Moved.{room_of}
-use Rattle.index_tree.proofs.Places.{led_back}
+use Rattle.place_lemmas.proofs.Places.{led_back}
 use Rattle.index_tree.proofs.Touches.{if_value, live_same, node_past, touched_among, touched_by, touched_then, value_of}
 use Rattle.index_tree.proofs.InsertWay.{drop_times, got_link, rooms_back, roots_among, row_child, spot_left, spot_right}
 

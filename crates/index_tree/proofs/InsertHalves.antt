@@ -7,7 +7,8 @@ use Rattle.std.proofs.lemmas.List.Elements.{All-append, All-cons, All-drop, All-
 use Rattle.regions.specs.declared.place.Place.{Place}
 use Rattle.tree_nodes.specs.Nodes.{Entry, no_entry, no_place}
 use Rattle.index_tree.specs.Inserts.{Branch, entry_of}
-use Rattle.index_tree.specs.Links.{Nodes, link_to}
+use Rattle.regions.specs.Places.{link_to}
+use Rattle.index_tree.specs.Links.{Nodes}
 use Rattle.index_tree.specs.Splits.{lower_half, upper_half, wide_children}
 use Rattle.index_tree.proofs.FrameRows.{Opened, links_of}
 use Rattle.index_tree.proofs.InsertNode.{Half, entries_inserted, length-links, links_inserted}

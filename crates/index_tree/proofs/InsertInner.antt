@@ -6,8 +6,9 @@ use Rattle.std.proofs.lemmas.List.Elements.{All-append, All-cons, All-drop, All-
 use Rattle.regions.specs.declared.place.Place.{Place}
 use Rattle.tree_nodes.specs.Nodes.{Entry, TreeNode, no_place}
 use Rattle.index_tree.specs.Indexes.{with_number}
-use Rattle.index_tree.specs.Sizes.{fewest_entries}
-use Rattle.index_tree.specs.Links.{HasRoom, Nodes, led_to, link_to, with_parent}
+use Rattle.regions.specs.Places.{HasRoom, led_to, link_to}
+use Rattle.index_tree.specs.Links.{Nodes, with_parent}
+use Rattle.index_tree.specs.Limits.{fewest_entries}
 use Rattle.index_tree.specs.Trees.{IsFrom, IsSubtree, IsUpTo, children_of, entries_of, held_below, leaves_below, next_at, next_in, nodes_below}
 use Rattle.index_tree.specs.Inserts.{AreChained, Branch, Grows, IsSeparator, Row, Spread, entry_of, first_link, of_row, place_in, times}
 use Rattle.index_tree.proofs.Frame.{AgreeBelow, Agrees, adopted_held, adopted_leaves, adopted_nodes, adopted_subtree, all_back, all_front, all_parts, below_children, frame_held, frame_leaves, frame_nodes, frame_subtree, small_link}

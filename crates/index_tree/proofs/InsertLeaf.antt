@@ -8,8 +8,9 @@ use Rattle.regions.specs.declared.place.Place.{Place}
 use Rattle.tree_nodes.specs.Nodes.{CanStand, Entry, IsEntry, TreeNode, no_entry}
 use Rattle.tree_nodes.specs.Order.{AreRising, IsBelow, key_cmp}
 use Rattle.index_tree.specs.Indexes.{with_number}
-use Rattle.index_tree.specs.Sizes.{fewest_entries}
-use Rattle.index_tree.specs.Links.{HasRoom, Nodes, link_to}
+use Rattle.regions.specs.Places.{HasRoom, link_to}
+use Rattle.index_tree.specs.Links.{Nodes}
+use Rattle.index_tree.specs.Limits.{fewest_entries}
 use Rattle.index_tree.specs.Trees.{IsFrom, IsSubtree, IsUpTo, entries_of, next_in}
 use Rattle.index_tree.specs.Writes.{with_entry, with_number_at}
 use Rattle.index_tree.specs.Inserts.{Grows, IsSeparator, times}

@@ -8,12 +8,13 @@ use Rattle.regions.specs.declared.place.Place.{Place}
 use Rattle.tree_nodes.specs.Nodes.{Entry, TreeNode, IsEntry, no_place}
 use Rattle.tree_nodes.specs.Order.{AreRising}
 use Rattle.index_tree.specs.Indexes.{with_number}
-use Rattle.index_tree.specs.Sizes.{fewest_entries}
-use Rattle.index_tree.specs.Links.{HasRoom, Nodes, led_to, link_to, with_parent}
+use Rattle.regions.specs.Places.{HasRoom, led_to, link_to}
+use Rattle.index_tree.specs.Links.{Nodes, with_parent}
+use Rattle.index_tree.specs.Limits.{fewest_entries}
 use Rattle.index_tree.specs.Trees.{IsFrom, IsSubtree, IsUpTo, children_of, entries_of, held_below, leaves_below, next_at, next_in, nodes_below}
 use Rattle.index_tree.specs.Inserts.{AreChained, Branch, IsSeparator, Row, Spread, entry_of, first_link, of_row, place_in, times}
 use Rattle.index_tree.proofs.Frame.{AgreeBelow, Agrees, below_children, frame_held, frame_leaves, frame_nodes, frame_subtree, nodes_from}
-use Rattle.index_tree.proofs.Places.{some_none}
+use Rattle.place_lemmas.proofs.Places.{some_none}
 use Rattle.index_tree.proofs.FrameRows.{Opened, close_node, gathered, links_of, row_map, row_same}
 use Rattle.index_tree.proofs.InsertRows.{IsAbove, RowKeys, above_from, chained_agree, row_agree, row_keys, row_leaves_among, times_append}
 

@@ -11,10 +11,10 @@ use Rattle.tree_nodes.specs.Nodes.{Entry, TreeNode, no_entry}
 use Rattle.tree_nodes.specs.Order.{AreRising, IsBelow, key_cmp}
 use Rattle.index_tree.specs.Indexes.{with_number}
 use Rattle.index_tree.specs.Links.{Nodes}
-use Rattle.index_tree.specs.Sizes.{fewest_entries}
+use Rattle.index_tree.specs.Limits.{fewest_entries}
 use Rattle.index_tree.specs.Trees.{IsBetween, IsFrom, IsNodeOf, IsSubtree, IsUpTo, held_below, leaves_below, next_in, nodes_below}
 use Rattle.index_tree.specs.Inserts.{AreChained, Branch, Row, Spread, entry_of, first_link, of_row, times}
-use Rattle.index_tree.proofs.Places.{place_tells, some_none}
+use Rattle.place_lemmas.proofs.Places.{place_tells, some_none}
 use Rattle.index_tree.proofs.Bounds.{held_between}
 use Rattle.index_tree.proofs.FrameRows.{gathered, left_in, open_node, right_in, row_map, row_same}
 use Rattle.index_tree.proofs.Frame.{AgreeBelow, Agrees, all_back, all_front, all_parts, below_children, frame_held, frame_leaves, frame_nodes, frame_subtree}

@@ -8,7 +8,7 @@ use Rattle.regions.specs.declared.place.Place.{Place}
 use Rattle.tree_nodes.specs.Nodes.{TreeNode, child_at}
 use Rattle.tree_nodes.specs.Order.{AreRising}
 use Rattle.index_tree.specs.Inserts.{Branch, Grows, IsRoom, Touched, times}
-use Rattle.index_tree.specs.Links.{place_of_link, link_to}
+use Rattle.regions.specs.Places.{place_of_link, link_to}
 use Rattle.index_tree.specs.Splits.{AdoptsBeside, CutsInner, branch_of, upper_places, widened}
 use Rattle.index_tree.specs.Spots.{IsChildSpot}
 use Rattle.index_tree.specs.Store.{HoldsNode, nodes_of}

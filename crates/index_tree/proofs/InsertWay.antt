@@ -5,12 +5,13 @@ use Rattle.regions.specs.declared.place.Place.{Place}
 use Rattle.tree_nodes.specs.Nodes.{Entry, no_entry, no_place}
 use Rattle.tree_nodes.specs.Order.{IsBelow, key_cmp}
 use Rattle.index_tree.specs.Inserts.{Branch, Row, entry_of, of_row, times}
-use Rattle.index_tree.specs.Links.{Nodes, link_to, place_of_link}
+use Rattle.regions.specs.Places.{link_to, place_of_link}
+use Rattle.index_tree.specs.Links.{Nodes}
 use Rattle.index_tree.specs.Trees.{IsFrom, IsSubtree, IsUpTo, nodes_below}
 use Rattle.index_tree.proofs.FrameRows.{left_in, links_of, right_in, row_room}
 use Rattle.index_tree.proofs.InsertNode.{roots}
 use Rattle.index_tree.proofs.InsertRows.{child_in, keyed, times_append, times_own}
-use Rattle.index_tree.proofs.Places.{led_back}
+use Rattle.place_lemmas.proofs.Places.{led_back}
 
 -- ---- the child of a key
 

@@ -10,7 +10,8 @@ use Rattle.regions.specs.declared.place.Place.{Place}
 use Rattle.tree_nodes.specs.Nodes.{TreeNode, entry_at}
 use Rattle.tree_nodes.specs.Order.{AreRising, count_below}
 use Rattle.index_tree.specs.Inserts.{Branch, Grows, IsRoom, Touched, times}
-use Rattle.index_tree.specs.Links.{HasRoom, Nodes, link_to}
+use Rattle.regions.specs.Places.{HasRoom, link_to}
+use Rattle.index_tree.specs.Links.{Nodes}
 use Rattle.index_tree.specs.Splits.{CutsLeaf, branch_of}
 use Rattle.index_tree.specs.Store.{HoldsNode, nodes_of}
 use Rattle.index_tree.specs.Trees.{IsFrom, IsSubtree, IsUpTo}
@@ -20,7 +21,7 @@ use Rattle.index_tree.proofs.FrameRows.{branch}
 use Rattle.index_tree.proofs.InsertLeaf.{leaf_grown, leaf_replaced, leaf_split, refilled}
 use Rattle.index_tree.proofs.InsertOrder.{AllAbove, AllBelow}
 use Rattle.index_tree.proofs.InsertRows.{keyed, times_here, times_own, times_past}
-use Rattle.index_tree.proofs.Places.{some_same}
+use Rattle.place_lemmas.proofs.Places.{some_same}
 use Rattle.index_tree.proofs.Spots.{Counts, Has, IsCut, above_free, above_here, cut_below}
 use Rattle.index_tree.proofs.Touches.{live_same, node_past, touched_among, touched_by, value_of}
 

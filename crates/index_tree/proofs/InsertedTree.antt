@@ -16,7 +16,7 @@ use Rattle.tree_nodes.specs.Nodes.{Entry}
 use Rattle.tree_nodes.specs.Order.{AreRising, IsBelow, key_cmp}
 use Rattle.index_tree.specs.Indexes.{Index, above, below, number_of, with_number}
 use Rattle.index_tree.specs.Inserts.{IsRoom, Plants, Touched, times}
-use Rattle.index_tree.specs.Links.{HasRoom}
+use Rattle.regions.specs.Places.{HasRoom}
 use Rattle.index_tree.specs.Sizes.{most}
 use Rattle.index_tree.specs.Store.{HoldsNode, nodes_of}
 use Rattle.index_tree.specs.Trees.{IsSpare, nodes_below, places_of}

@@ -9,7 +9,8 @@ use Rattle.regions.specs.Contents.{live_at}
 use Rattle.regions.specs.declared.place.Place.{Place}
 use Rattle.tree_nodes.specs.Nodes.{Entry, TreeNode, entry_at, no_entry}
 use Rattle.index_tree.specs.Inserts.{Touched}
-use Rattle.index_tree.specs.Links.{link_to, with_next}
+use Rattle.regions.specs.Places.{link_to}
+use Rattle.index_tree.specs.Links.{with_next}
 use Rattle.index_tree.specs.Splits.{AddsToHalf, CutsLeaf, refilled}
 use Rattle.index_tree.specs.Store.{ChangesNode, HoldsNode, nodes_of}
 use Rattle.index_tree.specs.Trees.{entries_of}

@@ -3,7 +3,7 @@ use Rattle.std.proofs.Common.{◌≡◌, ◌≢◌, ℕ, zero, suc, ◌≤◌, L
 use Rattle.std.specs.List.{slice_get}
 use Rattle.regions.specs.declared.place.Place.{Place}
 use Rattle.index_tree.proofs.Lists.{Among, AreApart, apart_behind}
-use Rattle.index_tree.proofs.Places.{some_is, some_none}
+use Rattle.place_lemmas.proofs.Places.{some_is, some_none}
 
 pub one_apart : (p : Place) → AreApart (p ∷ [])
 one_apart p zero zero q e f = refl

@@ -34,7 +34,6 @@ pub mod Neighbors
 pub mod NewRoot
 pub mod Once
 pub mod Placed
-pub mod Places
 pub mod Planted
 pub mod Positions
 pub mod Pruned

@@ -2,7 +2,7 @@
 use Rattle.std.proofs.Common.{◌≡◌, ℕ, zero, suc, ◌+◌, ◌<◌, ◌⊎◌, inl, inr, List, [], ◌∷◌, ◌++◌, length, Some, refl, sym, ap, subst, ◌∙◌, arith, zero-add, append_assoc}
 use Rattle.std.specs.List.{flat_map, slice_get}
 use Rattle.regions.specs.declared.place.Place.{Place}
-use Rattle.index_tree.proofs.Places.{some_is, some_none}
+use Rattle.place_lemmas.proofs.Places.{some_is, some_none}
 
 -- the place is in the list
 abbrev pub Among : Place → List Place → Type 0

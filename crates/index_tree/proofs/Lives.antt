@@ -10,7 +10,7 @@ use Rattle.regions.specs.declared.place.Place.{Place}
 use Rattle.tree_nodes.specs.Nodes.{TreeNode, IsNode, node_bytes, node_in}
 use Rattle.index_tree.specs.Links.{bare, bare_node}
 use Rattle.index_tree.specs.Store.{ChangesNode, HoldsNode}
-use Rattle.index_tree.proofs.Places.{place_cases, some_is, some_none}
+use Rattle.place_lemmas.proofs.Places.{place_cases, some_is, some_none}
 
 -- a content is written over that is the same without its places
 rewritten_same : (a b : Option Standing) (bytes ws : List ℕ) → option_map (λ (s : Standing). s.item.content) a ≡ Some bytes → bare_node (node_in ws) ≡ bare_node (node_in bytes)

@@ -7,13 +7,14 @@ use Rattle.regions.specs.Contents.{Item, live_at}
 use Rattle.regions.specs.Stores.{Live, SameBut}
 use Rattle.regions.specs.declared.place.Place.{Place}
 use Rattle.tree_nodes.specs.Nodes.{TreeNode, child_at, no_place, node_in}
-use Rattle.index_tree.specs.Links.{bare, led_to, link_to, with_child, with_next, with_parent}
+use Rattle.regions.specs.Places.{led_to, link_to}
+use Rattle.index_tree.specs.Links.{bare, with_child, with_next, with_parent}
 use Rattle.index_tree.specs.Moves.{mended, relinked}
 use Rattle.index_tree.specs.Store.{ChangesNode, HoldsNode, nodes_of}
 use Rattle.index_tree.specs.Trees.{entries_of, next_in}
 use Rattle.index_tree.specs.inside.Climbs.{HoldNodes, child_in, parent_in}
 use Rattle.index_tree.specs.inside.Mends.{AreItsChildren, ChangesIf, IsItsFront, IsItsParent, Mends, mended_children, mended_next, mended_parent}
-use Rattle.index_tree.proofs.Places.{option_tells, place_cases, some_is, some_none}
+use Rattle.place_lemmas.proofs.Places.{option_tells, place_cases, some_is, some_none}
 
 -- ---- regions
 

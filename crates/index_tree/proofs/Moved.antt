@@ -7,10 +7,11 @@ use Rattle.std.proofs.lemmas.List.Elements.{All-head, All-tail, All-map, All-wea
 use Rattle.regions.specs.Stores.{renamed}
 use Rattle.regions.specs.declared.place.Place.{Place}
 use Rattle.tree_nodes.specs.Nodes.{Entry, TreeNode, CanStand, child_at, no_place}
-use Rattle.index_tree.specs.Links.{HasRoom, Nodes, led_to, link_to, place_of_link}
+use Rattle.regions.specs.Places.{HasRoom, led_to, link_to, place_of_link}
+use Rattle.index_tree.specs.Links.{Nodes}
 use Rattle.index_tree.specs.Trees.{IsInner, IsNodeOf, IsSubtree, IsRooted, TreeState, children_of, entries_of, held_below, index_of, left_of, right_of}
 use Rattle.index_tree.specs.Moves.{mended, moved, moved_tree, relinked}
-use Rattle.index_tree.proofs.Places.{HasRoomIf, led_back, leads_on, place_cases, place_tells, renamed_here, renamed_past, some_none, some_same}
+use Rattle.place_lemmas.proofs.Places.{HasRoomIf, led_back, leads_on, place_cases, place_tells, renamed_here, renamed_past, some_none, some_same}
 
 -- a function of each element, of the elements that another function gives
 flat_map_same : {A : Type 0} (f g : ℕ → List A) (r : ℕ → ℕ) (xs : List ℕ) → All (λ x. f (r x) ≡ g x) xs → flat_map f (map r xs) ≡ flat_map g xs

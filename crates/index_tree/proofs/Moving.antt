@@ -9,7 +9,8 @@ use Rattle.regions.specs.Stores.{Live, StandsFor, found, less, renamed, store_of
 use Rattle.regions.specs.declared.place.Place.{Place}
 use Rattle.tree_nodes.specs.Nodes.{TreeNode, child_at, no_place, node_in}
 use Rattle.index_tree.specs.Indexes.{Index}
-use Rattle.index_tree.specs.Links.{HasRoom, Nodes, bare, led_to, link_to, references}
+use Rattle.regions.specs.Places.{HasRoom, led_to, link_to}
+use Rattle.index_tree.specs.Links.{Nodes, bare, references}
 use Rattle.index_tree.specs.Moves.{mended, moved, moved_tree}
 use Rattle.index_tree.specs.Sizes.{node_kind}
 use Rattle.index_tree.specs.Store.{nodes_of}
@@ -17,7 +18,7 @@ use Rattle.index_tree.specs.Trees.{IsTree, TreeState, entries_of, index_of, next
 use Rattle.index_tree.specs.inside.Climbs.{HoldNodes, IsBefore, IsTreeIn, child_in, parent_in}
 use Rattle.index_tree.specs.inside.Mends.{AreItsChildren, IsItsFront, IsItsParent, Mends, mended_next, mended_parent}
 use Rattle.index_tree.specs.inside.Rosters.{AreListed, IsRosterOf, RosterState, Shape, moved_roster, place_of, shape_of}
-use Rattle.index_tree.proofs.Places.{leads_on, less_here, less_past, option_cases, place_cases, place_tells, renamed_here, renamed_past, some_none, some_same}
+use Rattle.place_lemmas.proofs.Places.{leads_on, less_here, less_past, option_cases, place_cases, place_tells, renamed_here, renamed_past, some_none, some_same}
 use Rattle.index_tree.proofs.Lists.{Among, among_either}
 use Rattle.index_tree.proofs.Mended.{lives}
 use Rattle.index_tree.proofs.Moved.{index_moved, node_moved}

@@ -6,10 +6,11 @@ use Rattle.std.proofs.lemmas.Bool.Decides.{leb_tells}
 use Rattle.std.proofs.lemmas.List.Elements.{All-nil, All-cons, All-head, All-tail}
 use Rattle.regions.specs.declared.place.Place.{Place}
 use Rattle.tree_nodes.specs.Nodes.{TreeNode, child_at, no_place}
-use Rattle.index_tree.specs.Links.{HasRoom, Nodes, led_to, link_to}
+use Rattle.regions.specs.Places.{HasRoom, led_to, link_to}
+use Rattle.index_tree.specs.Links.{Nodes}
 use Rattle.index_tree.specs.Trees.{AreLinked, IsSpare, IsSubtree, TreeState, children_of, leaves_below, next_at, next_in, nodes_below, places_of}
 use Rattle.index_tree.specs.inside.Climbs.{HasSubtree, IsBefore, IsTreeIn, child_in, parent_in}
-use Rattle.index_tree.proofs.Places.{leads_on, some_is, some_none, some_same}
+use Rattle.place_lemmas.proofs.Places.{leads_on, some_is, some_none, some_same}
 use Rattle.index_tree.proofs.Lists.{Among, AreApart, among_either, apart_behind, apart_both, apart_index, apart_less, got_behind}
 use Rattle.index_tree.proofs.Moved.{room_of}
 use Rattle.index_tree.proofs.Positions.{IsInnerAt, Spot, child_got, inner_at, leaf_at, no_link, node_at, none_child, same_link, spot}

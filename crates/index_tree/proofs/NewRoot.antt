@@ -7,8 +7,9 @@ use Rattle.regions.specs.declared.place.Place.{Place}
 use Rattle.tree_nodes.specs.Nodes.{Entry, no_place}
 use Rattle.index_tree.specs.Indexes.{with_number}
 use Rattle.index_tree.specs.Inserts.{AreChained, Branch, Grows, IsSeparator, Plants, Row, of_row, times}
-use Rattle.index_tree.specs.Links.{HasRoom, Nodes, led_to, link_to, with_parent}
-use Rattle.index_tree.specs.Sizes.{fewest_entries}
+use Rattle.regions.specs.Places.{HasRoom, led_to, link_to}
+use Rattle.index_tree.specs.Links.{Nodes, with_parent}
+use Rattle.index_tree.specs.Limits.{fewest_entries}
 use Rattle.index_tree.specs.Splits.{top_node}
 use Rattle.index_tree.specs.Trees.{IsSubtree, children_of, entries_of, held_below, leaves_below, next_at, next_in, nodes_below}
 use Rattle.index_tree.proofs.Frame.{Agrees, adopted_held, adopted_leaves, adopted_nodes, adopted_subtree, all_back, all_front, below_children, small_link}

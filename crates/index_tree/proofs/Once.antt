@@ -4,7 +4,7 @@ use Rattle.std.specs.List.{slice_get}
 use Rattle.regions.specs.declared.place.Place.{Place}
 use Rattle.index_tree.specs.Inserts.{times}
 use Rattle.index_tree.proofs.Lists.{AreApart}
-use Rattle.index_tree.proofs.Places.{place_tells, some_is, some_none}
+use Rattle.place_lemmas.proofs.Places.{place_tells, some_is, some_none}
 use Rattle.index_tree.proofs.InsertRows.{times_here, times_own, times_past}
 
 pub times_at : (p : Place) (xs : List Place) (i : ℕ) → slice_get xs i ≡ Some p → 1 ≤ times p xs

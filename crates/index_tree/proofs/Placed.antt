@@ -6,11 +6,11 @@ use Rattle.regions.specs.Contents.{Item}
 use Rattle.regions.specs.Stores.{Live}
 use Rattle.regions.specs.declared.place.Place.{Place}
 use Rattle.tree_nodes.specs.Nodes.{TreeNode, no_place, node_in, started}
-use Rattle.index_tree.specs.Links.{HasRoom}
+use Rattle.regions.specs.Places.{HasRoom}
 use Rattle.index_tree.specs.Store.{HoldsNode, nodes_of}
 use Rattle.index_tree.specs.Trees.{IsSpare, nodes_below, places_of}
 use Rattle.index_tree.specs.inside.Rosters.{AreListed, IsPlaced, IsRosterOf, RosterState, with_spare}
-use Rattle.index_tree.proofs.Places.{place_cases, some_none, some_same}
+use Rattle.place_lemmas.proofs.Places.{place_cases, some_none, some_same}
 use Rattle.index_tree.proofs.Lengths.{one_apart, one_place}
 use Rattle.index_tree.proofs.Lists.{Among, AreApart, among_behind, among_either, among_front, apart_append, apart_behind, apart_both, apart_front, got_either}
 use Rattle.index_tree.proofs.Mended.{some_node}

@@ -7,7 +7,8 @@ use Rattle.regions.specs.Contents.{live_at}
 use Rattle.regions.specs.declared.place.Place.{Place}
 use Rattle.tree_nodes.specs.Nodes.{TreeNode, IsEntry, no_place, started}
 use Rattle.index_tree.specs.Inserts.{Branch, Grows, IsRoom, Plants, Touched, times}
-use Rattle.index_tree.specs.Links.{HasRoom, link_to, place_of_link, with_parent}
+use Rattle.regions.specs.Places.{HasRoom, link_to, place_of_link}
+use Rattle.index_tree.specs.Links.{with_parent}
 use Rattle.index_tree.specs.Splits.{Adopts, AdoptsBeside, branch_of, child_places, top_node}
 use Rattle.index_tree.specs.Store.{HoldsNode, nodes_of}
 use Rattle.tree_nodes.specs.Order.{IsBelow}
@@ -21,7 +22,7 @@ use Rattle.index_tree.proofs.InsertLeaf.{far_by_times}
 use Rattle.index_tree.proofs.InsertRows.{keyed, times_append, times_here, times_of_all, times_own, times_past}
 use Rattle.index_tree.proofs.InsertedLeaf.{times_get}
 use Rattle.index_tree.proofs.Moved.{room_of}
-use Rattle.index_tree.proofs.Places.{led_back}
+use Rattle.place_lemmas.proofs.Places.{led_back}
 use Rattle.index_tree.proofs.NewRoot.{planted_higher, planted_same}
 use Rattle.index_tree.proofs.Touches.{held_same, live_same, node_there, same_then, touched_among, touched_by, touched_then}
 

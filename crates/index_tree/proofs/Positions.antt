@@ -4,10 +4,11 @@ use Rattle.std.specs.List.{flat_map, slice_get}
 use Rattle.std.proofs.lemmas.List.Elements.{All-head, All-tail}
 use Rattle.regions.specs.declared.place.Place.{Place}
 use Rattle.tree_nodes.specs.Nodes.{TreeNode, CanStand, child_at, no_place}
-use Rattle.index_tree.specs.Links.{HasRoom, Nodes, led_to, link_to, place_of_link}
+use Rattle.regions.specs.Places.{HasRoom, led_to, link_to, place_of_link}
+use Rattle.index_tree.specs.Links.{Nodes}
 use Rattle.index_tree.specs.Trees.{IsSubtree, children_of, leaves_below, left_of, nodes_below, right_of}
 use Rattle.index_tree.specs.inside.Climbs.{HasSubtree}
-use Rattle.index_tree.proofs.Places.{leads_on, led_back, some_is, some_none}
+use Rattle.place_lemmas.proofs.Places.{leads_on, led_back, some_is, some_none}
 use Rattle.index_tree.proofs.Lists.{Among, AreApart, among_flat, apart_behind, apart_within, in_flat, split_one}
 use Rattle.index_tree.proofs.Moved.{room_of}
 

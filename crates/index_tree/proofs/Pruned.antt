@@ -12,7 +12,8 @@ use Rattle.regions.specs.declared.place.Place.{Place}
 use Rattle.tree_nodes.specs.Nodes.{Entry, TreeNode, child_at, no_place, started}
 use Rattle.index_tree.specs.Indexes.{without}
 use Rattle.index_tree.specs.Inserts.{AreChained, Branch, Row, entry_of, times}
-use Rattle.index_tree.specs.Links.{Nodes, led_to, link_to, place_of_link, with_parent}
+use Rattle.regions.specs.Places.{led_to, link_to, place_of_link}
+use Rattle.index_tree.specs.Links.{Nodes, with_parent}
 use Rattle.index_tree.specs.Prunes.{Prunes}
 use Rattle.index_tree.specs.Removes.{IsTrunk, Loses}
 use Rattle.index_tree.specs.Store.{ChangesNode, HoldsNode, nodes_of}
@@ -25,7 +26,7 @@ use Rattle.index_tree.proofs.InsertNode.{chained_same, next_adopted}
 use Rattle.index_tree.proofs.InsertRows.{all_by_times, leaves_among, times_append, times_here, times_of_all}
 use Rattle.index_tree.proofs.Mended.{lives}
 use Rattle.index_tree.proofs.Moved.{room_of}
-use Rattle.index_tree.proofs.Places.{leads_on, led_back, place_cases, some_is, some_none}
+use Rattle.place_lemmas.proofs.Places.{leads_on, led_back, place_cases, some_is, some_none}
 use Rattle.index_tree.proofs.RemoveInner.{child_many}
 use Rattle.index_tree.proofs.RemoveRows.{tight_of}
 use Rattle.index_tree.proofs.Rows.{left_between}

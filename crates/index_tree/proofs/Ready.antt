@@ -6,10 +6,12 @@ use Rattle.regions.specs.Shapes.{free_count, held_count}
 use Rattle.regions.specs.Counts.{live_total}
 use Rattle.regions.specs.Contents.{live_at}
 use Rattle.regions.specs.declared.place.Place.{Place}
-use Rattle.region_room.specs.Room.{room}
+use Rattle.segmented_store.specs.Room.{room}
 use Rattle.index_tree.specs.Indexes.{Index, IsIndex}
-use Rattle.index_tree.specs.Sizes.{most, most_spares, node_object}
-use Rattle.index_tree.specs.Store.{HoldsSegments, levels, levels_if, nodes_of}
+use Rattle.index_tree.specs.Sizes.{most, node_object}
+use Rattle.segmented_store.specs.Segments.{HoldsSegments}
+use Rattle.index_tree.specs.Store.{levels, levels_if, nodes_of}
+use Rattle.index_tree.specs.Limits.{most_spares}
 use Rattle.index_tree.specs.Trees.{nodes_below, places_of}
 use Rattle.index_tree.specs.inside.Consistent.{HasFree, IsConsistent}
 use Rattle.index_tree.specs.inside.Rosters.{IsRosterOf, RosterState}
@@ -17,7 +19,7 @@ use Rattle.index_tree.proofs.Counted.{eight_fit, few_nodes}
 use Rattle.index_tree.proofs.Lengths.{same_length}
 use Rattle.index_tree.proofs.Mended.{some_node}
 use Rattle.index_tree.proofs.Neighbors.{node_here}
-use Rattle.index_tree.proofs.Places.{is_some_by}
+use Rattle.place_lemmas.proofs.Places.{is_some_by}
 
 -- the list of all nodes is as long as that of the tree's
 pub listed_length : (r : RosterState) (region : RegionState) → IsRosterOf r (live_at region)

@@ -7,9 +7,10 @@ use Rattle.regions.specs.Contents.{Item, Standing, if_live, item_if_live, live_a
 use Rattle.regions.specs.Stores.{SameBut, renamed, without_references}
 use Rattle.regions.specs.declared.place.Place.{Place}
 use Rattle.tree_nodes.specs.Nodes.{TreeNode, no_place, node_in}
-use Rattle.index_tree.specs.Links.{HasRoom, all_led_to, bare, leads_to, link_to, place_of_link, references}
+use Rattle.regions.specs.Places.{HasRoom, leads_to, link_to, place_of_link}
+use Rattle.index_tree.specs.Links.{all_led_to, bare, references}
 use Rattle.index_tree.specs.Moves.{mended, relinked}
-use Rattle.index_tree.proofs.Places.{led_back, renamed_here, renamed_past, some_is, some_none}
+use Rattle.place_lemmas.proofs.Places.{led_back, renamed_here, renamed_past, some_is, some_none}
 use Rattle.index_tree.proofs.Mended.{relinked_hit, relinked_miss}
 use Rattle.index_tree.proofs.Positions.{no_link}
 

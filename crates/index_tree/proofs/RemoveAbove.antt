@@ -8,7 +8,8 @@ use Rattle.regions.specs.declared.place.Place.{Place}
 use Rattle.tree_nodes.specs.Nodes.{Entry, TreeNode, IsEntry, no_place, started}
 use Rattle.tree_nodes.specs.Order.{IsBelow}
 use Rattle.index_tree.specs.Indexes.{without}
-use Rattle.index_tree.specs.Links.{Nodes, led_to}
+use Rattle.regions.specs.Places.{led_to}
+use Rattle.index_tree.specs.Links.{Nodes}
 use Rattle.index_tree.specs.Trees.{IsBetween, IsFrom, IsSubtree, IsUpTo, children_of, entries_of, held_below, if_level, leaves_below, nodes_below, row_below}
 use Rattle.index_tree.specs.Inserts.{AreChained, Branch, Row, entry_of, first_link, of_row, times}
 use Rattle.index_tree.specs.Removes.{Alters, IsInnerTrunk, Loses}

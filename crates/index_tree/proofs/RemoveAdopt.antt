@@ -6,11 +6,12 @@ use Rattle.regions.specs.Stores.{SameBut}
 use Rattle.regions.specs.declared.place.Place.{Place}
 use Rattle.std.proofs.lemmas.Bool.Decides.{eqb_tells}
 use Rattle.tree_nodes.specs.Nodes.{TreeNode, child_at, node_in}
-use Rattle.index_tree.specs.Links.{HasRoom, led_to, link_to, place_of_link, with_parent}
+use Rattle.regions.specs.Places.{HasRoom, led_to, link_to, place_of_link}
+use Rattle.index_tree.specs.Links.{with_parent}
 use Rattle.index_tree.specs.Mended.{Adopts, HasKids}
 use Rattle.index_tree.specs.Store.{ChangesNode, HoldsNode, nodes_of}
 use Rattle.index_tree.specs.Writes.{blank}
-use Rattle.index_tree.proofs.Places.{led_back, leads_on, place_cases}
+use Rattle.place_lemmas.proofs.Places.{led_back, leads_on, place_cases}
 use Rattle.index_tree.proofs.Writes.{eases}
 use Rattle.index_tree.proofs.RemoveWrites.{holds_still, same_then}
 

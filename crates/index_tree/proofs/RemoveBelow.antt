@@ -7,14 +7,15 @@ use Rattle.regions.specs.declared.place.Place.{Place}
 use Rattle.tree_nodes.specs.Nodes.{Entry, TreeNode, child_at, entry_at, no_place}
 use Rattle.tree_nodes.specs.Order.{count_below, key_cmp}
 use Rattle.index_tree.specs.Indexes.{number_of}
-use Rattle.index_tree.specs.Sizes.{fewest_entries}
-use Rattle.index_tree.specs.Links.{HasRoom, Nodes, led_to, link_to, place_of_link}
+use Rattle.regions.specs.Places.{HasRoom, led_to, link_to, place_of_link}
+use Rattle.index_tree.specs.Links.{Nodes}
+use Rattle.index_tree.specs.Limits.{fewest_entries}
 use Rattle.index_tree.specs.Trees.{IsFrom, IsSubtree, IsUpTo, entries_of, held_below, left_of, nodes_below, right_of}
 use Rattle.index_tree.specs.Ways.{AllAbove, AllBelow, LeadsTo}
 use Rattle.index_tree.specs.Writes.{without_entries}
 use Rattle.index_tree.specs.Inserts.{Branch, entry_of, of_row, times}
 use Rattle.index_tree.specs.Removes.{CanLose, IsShort, Loses}
-use Rattle.index_tree.proofs.Places.{led_back, some_none, some_same}
+use Rattle.place_lemmas.proofs.Places.{led_back, some_none, some_same}
 use Rattle.index_tree.proofs.Moved.{room_of}
 use Rattle.index_tree.proofs.FrameRows.{Opened, gathered, left_in, links_of, open_node, right_in}
 use Rattle.index_tree.proofs.InsertRows.{child_in, keyed, times_append}

@@ -8,11 +8,12 @@ use Rattle.regions.specs.Stores.{SameBut, without_references}
 use Rattle.index_tree.specs.Writes.{blank}
 use Rattle.regions.specs.declared.place.Place.{Place}
 use Rattle.tree_nodes.specs.Nodes.{TreeNode, child_at}
-use Rattle.index_tree.specs.Links.{Nodes, led_to}
+use Rattle.regions.specs.Places.{led_to}
+use Rattle.index_tree.specs.Links.{Nodes}
 use Rattle.index_tree.specs.Store.{HoldsNode, nodes_of}
 use Rattle.index_tree.specs.Mended.{Adopts, AreUneven, HasKids, IsMendedAt, OnlyThree}
 use Rattle.index_tree.specs.Removes.{IsShort, Loses}
-use Rattle.index_tree.proofs.Places.{place_cases, some_is, some_none, some_same}
+use Rattle.place_lemmas.proofs.Places.{place_cases, some_is, some_none, some_same}
 use Rattle.index_tree.proofs.InsertRows.{child_in}
 use Rattle.index_tree.proofs.SearchNode.{in_some, of_some_value}
 use Rattle.index_tree.proofs.RemoveFinal.{even_mended, left_kids, one_mended, right_kids}

@@ -7,12 +7,13 @@ use Rattle.regions.specs.Segments.{RegionState}
 use Rattle.regions.specs.Contents.{live_at}
 use Rattle.regions.specs.declared.place.Place.{Place}
 use Rattle.tree_nodes.specs.Nodes.{TreeNode, no_place}
-use Rattle.index_tree.specs.Links.{HasRoom, Nodes, link_to, place_of_link, with_parent}
+use Rattle.regions.specs.Places.{HasRoom, link_to, place_of_link}
+use Rattle.index_tree.specs.Links.{Nodes, with_parent}
 use Rattle.index_tree.specs.Trees.{nodes_below}
 use Rattle.index_tree.specs.Inserts.{Branch, of_row, place_in, times}
 use Rattle.index_tree.specs.Mended.{Adopts}
 use Rattle.index_tree.specs.Store.{nodes_of}
-use Rattle.index_tree.proofs.Places.{led_back, place_tells}
+use Rattle.place_lemmas.proofs.Places.{led_back, place_tells}
 use Rattle.index_tree.proofs.Frame.{Agrees, below_children, nodes_from}
 use Rattle.index_tree.proofs.FrameRows.{links_of}
 use Rattle.index_tree.proofs.InsertRows.{all_by_times, times_append, times_here}

@@ -8,7 +8,8 @@ use Rattle.regions.specs.Segments.{RegionState}
 use Rattle.regions.specs.Contents.{live_at}
 use Rattle.regions.specs.declared.place.Place.{Place}
 use Rattle.tree_nodes.specs.Nodes.{Entry, TreeNode, IsEntry, entry_at, no_entry}
-use Rattle.index_tree.specs.Links.{HasRoom, Nodes, led_to, link_to, with_parent}
+use Rattle.regions.specs.Places.{HasRoom, led_to, link_to}
+use Rattle.index_tree.specs.Links.{Nodes, with_parent}
 use Rattle.index_tree.specs.Store.{HoldsNode, nodes_of}
 use Rattle.index_tree.specs.Trees.{IsFrom, IsSubtree, IsUpTo, children_of, entries_of, nodes_below}
 use Rattle.index_tree.specs.Ways.{LeadsTo}
@@ -16,7 +17,7 @@ use Rattle.index_tree.specs.Inserts.{Branch, entry_of, of_row, place_in, times}
 use Rattle.index_tree.specs.Pairs.{AreMendedAbove}
 use Rattle.index_tree.specs.Mended.{Adopts, HasKids, IsMendedAt, OnlyThree}
 use Rattle.index_tree.specs.Removes.{IsInnerTrunk, Loses}
-use Rattle.index_tree.proofs.Places.{some_same}
+use Rattle.place_lemmas.proofs.Places.{some_same}
 use Rattle.index_tree.proofs.Moved.{room_of}
 use Rattle.index_tree.proofs.Frame.{all_back, all_front}
 use Rattle.index_tree.proofs.FrameRows.{Opened, branch, left_in, right_in}

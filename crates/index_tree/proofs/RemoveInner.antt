@@ -6,12 +6,13 @@ use Rattle.std.proofs.lemmas.List.{length-map, map-append}
 use Rattle.std.proofs.lemmas.List.Elements.{All-append, All-cons, All-head, All-tail, All-weaker}
 use Rattle.regions.specs.declared.place.Place.{Place}
 use Rattle.tree_nodes.specs.Nodes.{Entry, TreeNode, CanStand, IsEntry, no_place}
-use Rattle.index_tree.specs.Sizes.{fewest_entries}
-use Rattle.index_tree.specs.Links.{HasRoom, Nodes, led_to, link_to, with_parent}
+use Rattle.regions.specs.Places.{HasRoom, led_to, link_to}
+use Rattle.index_tree.specs.Links.{Nodes, with_parent}
+use Rattle.index_tree.specs.Limits.{fewest_entries}
 use Rattle.index_tree.specs.Trees.{IsFrom, IsSubtree, children_of, entries_of, held_below, leaves_below, next_at, next_in, nodes_below, row_below}
 use Rattle.index_tree.specs.Inserts.{AreChained, Branch, Row, entry_of, first_link, of_row, place_in, times}
 use Rattle.index_tree.specs.Removes.{Alters, IsInnerTrunk}
-use Rattle.index_tree.proofs.Places.{some_none}
+use Rattle.place_lemmas.proofs.Places.{some_none}
 use Rattle.index_tree.proofs.Frame.{Agrees, adopted_held, adopted_leaves, adopted_nodes, adopted_rows, adopted_subtree, all_back, all_front, below_children, nodes_from}
 use Rattle.index_tree.proofs.FrameRows.{Opened, branch, close_node, gathered, links_of, row_gathered}
 use Rattle.index_tree.proofs.InsertRows.{IsAbove, RowKeys, above_from, leaves_among, of_row_append, row_keys, times_append}

@@ -9,8 +9,9 @@ use Rattle.regions.specs.declared.place.Place.{Place}
 use Rattle.tree_nodes.specs.Nodes.{Entry, TreeNode, IsEntry, entry_at, no_entry, started}
 use Rattle.tree_nodes.specs.Order.{AreRising, count_below, key_cmp}
 use Rattle.index_tree.specs.Indexes.{number_of}
-use Rattle.index_tree.specs.Sizes.{fewest_entries}
-use Rattle.index_tree.specs.Links.{Nodes, led_to}
+use Rattle.regions.specs.Places.{led_to}
+use Rattle.index_tree.specs.Links.{Nodes}
+use Rattle.index_tree.specs.Limits.{fewest_entries}
 use Rattle.index_tree.specs.Trees.{IsFrom, IsNodeOf, IsUpTo, children_of, entries_of, held_below, nodes_below}
 use Rattle.index_tree.specs.Ways.{LeadsTo}
 use Rattle.index_tree.specs.Inserts.{Branch, entry_of, of_row, times}

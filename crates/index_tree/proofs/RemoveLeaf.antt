@@ -9,7 +9,8 @@ use Rattle.regions.specs.declared.place.Place.{Place}
 use Rattle.tree_nodes.specs.Nodes.{Entry, TreeNode, CanStand, IsEntry, entry_at, no_entry, no_place, started}
 use Rattle.tree_nodes.specs.Order.{AreRising, IsBelow, key_cmp}
 use Rattle.index_tree.specs.Indexes.{Index, above, below, without}
-use Rattle.index_tree.specs.Links.{HasRoom, Nodes}
+use Rattle.regions.specs.Places.{HasRoom}
+use Rattle.index_tree.specs.Links.{Nodes}
 use Rattle.index_tree.specs.Trees.{IsFrom, IsSubtree, IsUpTo, entries_of, if_level, next_in}
 use Rattle.index_tree.specs.Writes.{without_entries}
 use Rattle.index_tree.specs.Inserts.{Row, times}

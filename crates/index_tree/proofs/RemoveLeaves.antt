@@ -11,7 +11,7 @@ use Rattle.index_tree.specs.Ways.{LeadsTo}
 use Rattle.index_tree.specs.Inserts.{entry_of, of_row, times}
 use Rattle.index_tree.specs.Mended.{IsMendedAt, OnlyThree}
 use Rattle.index_tree.specs.Removes.{Loses}
-use Rattle.index_tree.proofs.Places.{some_same}
+use Rattle.place_lemmas.proofs.Places.{some_same}
 use Rattle.index_tree.proofs.FrameRows.{Opened, left_in, right_in}
 use Rattle.index_tree.proofs.InsertRows.{child_in, keyed, times_append}
 use Rattle.index_tree.proofs.RemovePair.{PairIn}

@@ -6,7 +6,7 @@ use Rattle.std.proofs.lemmas.List.Edits.{length-remove, remove-append_left}
 use Rattle.std.proofs.lemmas.List.Elements.{All-append, All-cons, All-drop, All-nil, All-tail, All-take, All-weaker}
 use Rattle.regions.specs.declared.place.Place.{Place}
 use Rattle.tree_nodes.specs.Nodes.{Entry, no_place}
-use Rattle.index_tree.specs.Links.{link_to}
+use Rattle.regions.specs.Places.{link_to}
 use Rattle.index_tree.specs.Inserts.{Branch}
 use Rattle.index_tree.proofs.Frame.{all_front}
 use Rattle.index_tree.proofs.FrameRows.{branch, links_of}

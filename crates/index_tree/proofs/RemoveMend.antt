@@ -6,11 +6,12 @@ use Rattle.std.proofs.lemmas.List.Edits.{insert_end, length-remove}
 use Rattle.std.proofs.lemmas.List.Elements.{All-append, All-cons, All-drop, All-head, All-nil, All-take}
 use Rattle.regions.specs.declared.place.Place.{Place}
 use Rattle.tree_nodes.specs.Nodes.{Entry, TreeNode, IsEntry, entry_at, no_entry, no_place, started}
-use Rattle.index_tree.specs.Links.{link_to, Nodes}
+use Rattle.regions.specs.Places.{link_to}
+use Rattle.index_tree.specs.Links.{Nodes}
 use Rattle.index_tree.specs.Inserts.{Branch, Row, entry_of}
 use Rattle.index_tree.specs.Removes.{Alters, IsLooseNode, IsTrunk}
 use Rattle.index_tree.specs.Pairs.{AreMended, GaveLeft, GaveRight, Joined, gains, gives, gives_child, last_of, separated, separator}
-use Rattle.index_tree.proofs.Places.{some_same}
+use Rattle.place_lemmas.proofs.Places.{some_same}
 use Rattle.index_tree.proofs.Frame.{all_back}
 use Rattle.index_tree.proofs.FrameRows.{branch}
 use Rattle.index_tree.proofs.InsertRows.{keyed}

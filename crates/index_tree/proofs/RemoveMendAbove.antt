@@ -6,7 +6,8 @@ use Rattle.std.proofs.lemmas.List.Edits.{insert_end, length-remove}
 use Rattle.std.proofs.lemmas.List.Elements.{All-cons, All-get_or, All-nil}
 use Rattle.regions.specs.declared.place.Place.{Place}
 use Rattle.tree_nodes.specs.Nodes.{Entry, TreeNode, IsEntry, child_at, entry_at, no_entry, no_place, started}
-use Rattle.index_tree.specs.Links.{Nodes, link_to}
+use Rattle.regions.specs.Places.{link_to}
+use Rattle.index_tree.specs.Links.{Nodes}
 use Rattle.index_tree.specs.Inserts.{Branch, entry_of, place_in}
 use Rattle.index_tree.specs.Removes.{IsInnerTrunk}
 use Rattle.index_tree.specs.Pairs.{AreMendedAbove, GaveLeftAbove, GaveRightAbove, JoinedAbove, last_of, separated, separator, gives, gives_child}

@@ -5,7 +5,7 @@ use Rattle.std.specs.List.{flat_map}
 use Rattle.regions.specs.declared.place.Place.{Place}
 use Rattle.tree_nodes.specs.Nodes.{Entry, TreeNode}
 use Rattle.index_tree.specs.Indexes.{Index}
-use Rattle.index_tree.specs.Sizes.{fewest_entries}
+use Rattle.index_tree.specs.Limits.{fewest_entries}
 use Rattle.index_tree.specs.Links.{Nodes}
 use Rattle.index_tree.specs.Trees.{IsNodeOf, IsSubtree, entries_of, held_below, leaves_below, nodes_below, row_below}
 use Rattle.index_tree.specs.Inserts.{AreChained, Branch, Row, first_link, of_row, times}

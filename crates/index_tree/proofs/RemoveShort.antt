@@ -3,12 +3,13 @@ use Rattle.std.proofs.Common.{◌≡◌, ℕ, zero, suc, ◌-◌, ◌<◌, ◌�
 use Rattle.std.proofs.lemmas.List.{get_or-take, length-map}
 use Rattle.regions.specs.declared.place.Place.{Place}
 use Rattle.tree_nodes.specs.Nodes.{Entry, TreeNode, child_at, no_place}
-use Rattle.index_tree.specs.Links.{HasRoom, Nodes, led_to, link_to, place_of_link}
+use Rattle.regions.specs.Places.{HasRoom, led_to, link_to, place_of_link}
+use Rattle.index_tree.specs.Links.{Nodes}
 use Rattle.index_tree.specs.Trees.{entries_of, left_of, right_of}
 use Rattle.index_tree.specs.Ways.{LeadsTo}
 use Rattle.index_tree.specs.Inserts.{Branch, entry_of}
 use Rattle.index_tree.specs.Removes.{IsShort, Loses}
-use Rattle.index_tree.proofs.Places.{led_back, leads_on, some_same}
+use Rattle.place_lemmas.proofs.Places.{led_back, leads_on, some_same}
 use Rattle.index_tree.proofs.Moved.{room_of}
 use Rattle.index_tree.proofs.FrameRows.{Opened, left_in, links_of, open_node, right_in}
 use Rattle.index_tree.proofs.InsertRows.{child_in}

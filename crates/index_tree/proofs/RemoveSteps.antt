@@ -5,7 +5,8 @@ use Rattle.std.proofs.lemmas.Bool.{cases_lt, lt-ltb, le-ltb}
 use Rattle.std.proofs.lemmas.List.{length-map}
 use Rattle.regions.specs.declared.place.Place.{Place}
 use Rattle.tree_nodes.specs.Nodes.{Entry, TreeNode, entry_at, no_entry}
-use Rattle.index_tree.specs.Links.{Nodes, led_to}
+use Rattle.regions.specs.Places.{led_to}
+use Rattle.index_tree.specs.Links.{Nodes}
 use Rattle.index_tree.specs.Trees.{IsFrom, IsSubtree, IsUpTo, children_of, entries_of, left_of, nodes_below, right_of}
 use Rattle.index_tree.specs.Ways.{LeadsTo}
 use Rattle.index_tree.specs.Inserts.{Branch, Row, entry_of, of_row, times}

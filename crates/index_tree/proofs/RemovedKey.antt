@@ -15,7 +15,8 @@ use Rattle.index_tree.specs.Inserts.{times}
 use Rattle.index_tree.specs.Links.{Nodes}
 use Rattle.index_tree.specs.Prunes.{Prunes}
 use Rattle.index_tree.specs.Removes.{CanLose}
-use Rattle.index_tree.specs.Sizes.{most_spares, node_object}
+use Rattle.index_tree.specs.Sizes.{node_object}
+use Rattle.index_tree.specs.Limits.{most_spares}
 use Rattle.index_tree.specs.Store.{nodes_of}
 use Rattle.index_tree.specs.Trees.{held_below, nodes_below, places_of}
 use Rattle.index_tree.specs.Writes.{blank}

@@ -6,7 +6,8 @@ use Rattle.std.specs.Prelude.{◌==◌}
 use Rattle.std.specs.List.{flat_map}
 use Rattle.std.proofs.lemmas.Bool.Decides.{eqb_tells}
 use Rattle.regions.specs.declared.place.Place.{Place}
-use Rattle.index_tree.specs.Links.{Nodes, led_to}
+use Rattle.regions.specs.Places.{led_to}
+use Rattle.index_tree.specs.Links.{Nodes}
 use Rattle.index_tree.specs.Trees.{children_of, if_level, row_below}
 
 -- lists that are equal to such two

@@ -10,10 +10,11 @@ use Rattle.std.proofs.lemmas.List.Elements.{All-get_or, All-weaker, All-from_get
 use Rattle.regions.specs.declared.place.Place.{Place}
 use Rattle.tree_nodes.specs.Nodes.{Entry, TreeNode, child_at, entry_at, no_entry, no_place}
 use Rattle.tree_nodes.specs.Order.{IsBelow, key_cmp}
-use Rattle.index_tree.specs.Links.{Nodes, led_to, link_to}
+use Rattle.regions.specs.Places.{led_to, link_to}
+use Rattle.index_tree.specs.Links.{Nodes}
 use Rattle.index_tree.specs.Trees.{IsBetween, IsNodeOf, IsSubtree, IsUpTo, children_of, entries_of, held_below, leaves_below, left_of, right_of}
 use Rattle.index_tree.specs.Ways.{AllAbove, AllBelow, LeadsTo, held_in}
-use Rattle.index_tree.proofs.Places.{leads_on}
+use Rattle.place_lemmas.proofs.Places.{leads_on}
 use Rattle.index_tree.proofs.Moved.{room_of}
 use Rattle.index_tree.proofs.Bounds.{held_between}
 use Rattle.index_tree.proofs.Bounds.{greater_less, tied}

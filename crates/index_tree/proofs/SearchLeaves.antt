@@ -6,10 +6,11 @@ use Rattle.std.proofs.lemmas.List.Elements.{All-nil, All-cons, All-head, All-tai
 use Rattle.regions.specs.declared.place.Place.{Place}
 use Rattle.tree_nodes.specs.Nodes.{TreeNode, CanStand}
 use Rattle.tree_nodes.specs.Order.{AreRising}
-use Rattle.index_tree.specs.Links.{HasRoom, Nodes, led_to}
+use Rattle.regions.specs.Places.{HasRoom, led_to}
+use Rattle.index_tree.specs.Links.{Nodes}
 use Rattle.index_tree.specs.Trees.{IsSubtree, children_of, leaves_below, left_of, right_of}
 use Rattle.index_tree.specs.Ways.{IsOnWay}
-use Rattle.index_tree.proofs.Places.{some_none}
+use Rattle.place_lemmas.proofs.Places.{some_none}
 use Rattle.index_tree.proofs.SearchDown.{child_place, of_all}
 
 -- a node stands at a place, and its keys rise

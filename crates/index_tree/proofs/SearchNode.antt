@@ -14,7 +14,7 @@ use Rattle.index_tree.specs.Indexes.{number_of}
 use Rattle.index_tree.specs.Store.{HoldsNode, nodes_of}
 use Rattle.index_tree.specs.Trees.{entries_of}
 use Rattle.index_tree.specs.Ways.{AllAbove, AllBelow, LeadsTo}
-use Rattle.index_tree.proofs.Places.{some_none}
+use Rattle.place_lemmas.proofs.Places.{some_none}
 use Rattle.index_tree.proofs.Bounds.{greater_less, tied}
 use Rattle.index_tree.proofs.SearchLists.{less_less, number_amid, reversed, rising_at}
 use Rattle.index_tree.proofs.SearchDown.{split_at}

@@ -12,12 +12,13 @@ use Rattle.std.proofs.Math.Seq.{take-append_seam, drop-append_seam}
 use Rattle.regions.specs.declared.place.Place.{Place}
 use Rattle.tree_nodes.specs.Nodes.{Entry, TreeNode, CanStand, IsEntry, entry_at, no_entry}
 use Rattle.tree_nodes.specs.Order.{AreRising, IsBelow, count_below, key_cmp}
-use Rattle.index_tree.specs.Indexes.{from, written}
-use Rattle.index_tree.specs.Links.{Nodes, led_to}
-use Rattle.index_tree.specs.Scans.{IsWritten}
+use Rattle.index_tree.specs.Indexes.{from}
+use Rattle.regions.specs.Places.{led_to}
+use Rattle.index_tree.specs.Links.{Nodes}
+use Rattle.index_tree.specs.Scans.{IsWritten, written}
 use Rattle.index_tree.specs.Trees.{AreLinked, IsSubtree, entries_of, held_below, leaves_below, next_at, next_in}
 use Rattle.index_tree.specs.Ways.{IsOnWay, held_in}
-use Rattle.index_tree.proofs.Places.{leads_on, some_none, some_same}
+use Rattle.place_lemmas.proofs.Places.{leads_on, some_none, some_same}
 use Rattle.index_tree.proofs.Bounds.{greater_less}
 use Rattle.index_tree.proofs.SearchLists.{all_kept, from_amid}
 use Rattle.index_tree.proofs.SearchNode.{SplitsAt, splits}

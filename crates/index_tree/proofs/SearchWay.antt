@@ -8,10 +8,11 @@ use Rattle.regions.specs.declared.place.Place.{Place}
 use Rattle.tree_nodes.specs.Nodes.{Entry, TreeNode, child_at, no_place}
 use Rattle.tree_nodes.specs.Order.{AreRising, IsBelow}
 use Rattle.index_tree.specs.Indexes.{from, number_of}
-use Rattle.index_tree.specs.Links.{Nodes, led_to, link_to}
+use Rattle.regions.specs.Places.{led_to, link_to}
+use Rattle.index_tree.specs.Links.{Nodes}
 use Rattle.index_tree.specs.Trees.{IsNodeOf, IsSubtree, children_of, entries_of, held_below, leaves_below, left_of, right_of}
 use Rattle.index_tree.specs.Ways.{AllAbove, AllBelow, IsOnWay, LeadsTo, held_in}
-use Rattle.index_tree.proofs.Places.{some_same}
+use Rattle.place_lemmas.proofs.Places.{some_same}
 use Rattle.index_tree.proofs.SearchLists.{from_amid, number_amid, rising_gathered}
 use Rattle.index_tree.proofs.SearchDown.{behind_above, child_is, child_place, children_apart, front_below, gathered_at, gathered_twice, held_in_leaves, led_on, length-links, links}
 

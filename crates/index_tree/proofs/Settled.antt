@@ -8,7 +8,8 @@ use Rattle.regions.specs.Counts.{live_total}
 use Rattle.regions.specs.Contents.{live_at}
 use Rattle.regions.specs.declared.place.Place.{Place}
 use Rattle.index_tree.specs.Indexes.{IsIndex}
-use Rattle.index_tree.specs.Sizes.{most, most_spares, node_object}
+use Rattle.index_tree.specs.Sizes.{most, node_object}
+use Rattle.index_tree.specs.Limits.{most_spares}
 use Rattle.index_tree.specs.inside.Consistent.{IsConsistent}
 use Rattle.index_tree.specs.inside.Rosters.{IsRosterOf, RosterState}
 

@@ -9,7 +9,8 @@ use Rattle.regions.specs.Contents.{live_at}
 use Rattle.regions.specs.declared.place.Place.{Place}
 use Rattle.tree_nodes.specs.Nodes.{TreeNode, no_place}
 use Rattle.index_tree.specs.Inserts.{Branch, Touched, times}
-use Rattle.index_tree.specs.Links.{link_to, place_of_link, with_parent}
+use Rattle.regions.specs.Places.{link_to, place_of_link}
+use Rattle.index_tree.specs.Links.{with_parent}
 use Rattle.index_tree.specs.Splits.{Adopts, AdoptsBeside, CutsInner, child_places, upper_places, wide_children}
 use Rattle.index_tree.specs.Store.{HoldsNode, nodes_of}
 use Rattle.index_tree.specs.declared.split.Split.{Split}

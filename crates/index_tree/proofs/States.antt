@@ -17,13 +17,14 @@ use Rattle.regions.specs.Stores.{Live}
 use Rattle.regions.specs.declared.place.Place.{Place}
 use Rattle.tree_nodes.specs.Nodes.{node_in}
 use Rattle.index_tree.specs.Indexes.{Index}
-use Rattle.index_tree.specs.Sizes.{most, most_levels, most_segments}
+use Rattle.index_tree.specs.Sizes.{most}
+use Rattle.index_tree.specs.Limits.{most_levels, most_segments}
 use Rattle.index_tree.specs.Store.{levels, levels_if, nodes_of}
 use Rattle.index_tree.specs.Trees.{IsSpare, held_below, index_of}
 use Rattle.index_tree.specs.inside.Rosters.{IsRosterOf, RosterState}
 use Rattle.index_tree.specs.inside.Consistent.{HasFree, IsConsistent}
 use Rattle.index_tree.proofs.Counted.{few_levels, most_grows}
-use Rattle.index_tree.proofs.Places.{some_none}
+use Rattle.place_lemmas.proofs.Places.{some_none}
 
 active_guarded : (r : RegionState) (g guards : ℕ) → active_of (with_guards r g guards) 0 ≡ active_of r 0
 active_guarded r g guards = elim (cases_eq 0 g) [

@@ -10,7 +10,7 @@ use Rattle.tree_nodes.specs.Nodes.{TreeNode, node_in}
 use Rattle.index_tree.specs.Inserts.{Touched, times}
 use Rattle.index_tree.specs.Store.{HoldsNode, nodes_of}
 use Rattle.index_tree.specs.Writes.{WritesNode, blank}
-use Rattle.index_tree.proofs.Places.{place_cases, some_is, some_none}
+use Rattle.place_lemmas.proofs.Places.{place_cases, some_is, some_none}
 use Rattle.index_tree.proofs.InsertRows.{all_by_times, times_here, times_of_all}
 
 -- a node stands where one is held

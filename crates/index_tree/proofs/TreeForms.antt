@@ -7,7 +7,7 @@ use Rattle.index_tree.specs.Inserts.{AreChained, times}
 use Rattle.index_tree.specs.Links.{Nodes}
 use Rattle.index_tree.specs.Trees.{AreLinked}
 use Rattle.index_tree.proofs.InsertRows.{times_here, times_own, times_past}
-use Rattle.index_tree.proofs.Places.{place_cases, some_is, some_none}
+use Rattle.place_lemmas.proofs.Places.{place_cases, some_is, some_none}
 
 pub chained_of : (nodes : Nodes) (ps : List Place) → AreLinked nodes ps → AreChained nodes ps no_place
 chained_of nodes [] linked = tt

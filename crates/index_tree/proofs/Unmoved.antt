@@ -10,7 +10,7 @@ use Rattle.index_tree.specs.Sizes.{node_kind}
 use Rattle.index_tree.specs.Store.{nodes_of}
 use Rattle.index_tree.specs.Writes.{blank}
 use Rattle.index_tree.specs.inside.Rosters.{AreListed}
-use Rattle.index_tree.proofs.Places.{some_is, some_none}
+use Rattle.place_lemmas.proofs.Places.{some_is, some_none}
 
 blank_if : (l : Bool) (i : Item) → option_map blank (if_live l i) ≡ if_live l (blank i)
 blank_if true i = refl

@@ -6,10 +6,11 @@ use Rattle.std.proofs.lemmas.List.Elements.{All-nil, All-cons, All-append, All-h
 use Rattle.regions.specs.Stores.{renamed}
 use Rattle.regions.specs.declared.place.Place.{Place}
 use Rattle.tree_nodes.specs.Nodes.{TreeNode, child_at, no_place}
-use Rattle.index_tree.specs.Links.{HasRoom, Nodes, led_to, link_to}
+use Rattle.regions.specs.Places.{HasRoom, led_to, link_to}
+use Rattle.index_tree.specs.Links.{Nodes}
 use Rattle.index_tree.specs.Trees.{AreLinked, IsNodeOf, IsSpare, IsSubtree, IsTree, TreeState, children_of, leaves_below, left_of, next_at, next_in, nodes_below, places_of, right_of}
 use Rattle.index_tree.specs.Moves.{mended, moved, moved_tree, relinked}
-use Rattle.index_tree.proofs.Places.{leads_on, option_cases, place_cases, place_tells, renamed_here, renamed_past, some_is, some_none}
+use Rattle.place_lemmas.proofs.Places.{leads_on, option_cases, place_cases, place_tells, renamed_here, renamed_past, some_is, some_none}
 use Rattle.index_tree.proofs.Moved.{moved_past, node_moved, none_mended, relinked_none, relinked_place, room_of, room_renamed, rooted_moved}
 
 flat_map_mapped : (f g : ℕ → List Place) (h : Place → Place) (r : ℕ → ℕ) (xs : List ℕ) → All (λ x. f (r x) ≡ map h (g x)) xs → flat_map f (map r xs) ≡ map h (flat_map g xs)

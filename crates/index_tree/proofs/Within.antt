@@ -4,11 +4,12 @@ use Rattle.std.specs.List.{flat_map}
 use Rattle.std.proofs.lemmas.List.Elements.{All-head, All-tail, All-weaker}
 use Rattle.regions.specs.declared.place.Place.{Place}
 use Rattle.tree_nodes.specs.Nodes.{TreeNode, child_at}
-use Rattle.index_tree.specs.Links.{Nodes, led_to, link_to}
+use Rattle.regions.specs.Places.{led_to, link_to}
+use Rattle.index_tree.specs.Links.{Nodes}
 use Rattle.index_tree.specs.Trees.{AreLinked, IsNodeOf, IsSpare, IsSubtree, IsTree, TreeState, children_of, entries_of, held_below, if_level, index_of, leaves_below, left_of, next_at, next_in, nodes_below, places_of, right_of, row_below}
 use Rattle.index_tree.specs.inside.Climbs.{IsTreeIn}
 use Rattle.index_tree.proofs.Lists.{AreApart}
-use Rattle.index_tree.proofs.Places.{leads_on}
+use Rattle.place_lemmas.proofs.Places.{leads_on}
 use Rattle.index_tree.proofs.Moved.{room_of}
 use Rattle.index_tree.proofs.Whole.{Stands, leaves_stand, of_children}
 

@@ -11,7 +11,7 @@ use Rattle.tree_nodes.specs.Nodes.{TreeNode, IsNode, node_in}
 use Rattle.index_tree.specs.Links.{bare}
 use Rattle.index_tree.specs.Store.{ChangesNode, HoldsNode, nodes_of}
 use Rattle.index_tree.specs.Writes.{WritesNode, blank}
-use Rattle.index_tree.proofs.Places.{place_cases, some_is, some_none}
+use Rattle.place_lemmas.proofs.Places.{place_cases, some_is, some_none}
 
 abbrev content_of : Standing → List ℕ
 content_of s = s.item.content

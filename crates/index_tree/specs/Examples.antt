@@ -3,7 +3,8 @@ use Rattle.std.specs.Prelude.{ℕ, ◌==◌, cond, List, [], ◌∷◌, codes, r
 use Rattle.regions.specs.declared.place.Place.{Place}
 use Rattle.tree_nodes.specs.Nodes.{Entry, TreeNode, no_place}
 use Rattle.index_tree.specs.Indexes.{Index, with_number}
-use Rattle.index_tree.specs.Links.{Nodes, link_to}
+use Rattle.regions.specs.Places.{link_to}
+use Rattle.index_tree.specs.Links.{Nodes}
 use Rattle.index_tree.specs.Trees.{TreeState}
 
 -- an index into which b was put with the number 1, and then a with 2

@@ -1,10 +1,7 @@
 -- An index: keys with their numbers, in rising byte order of distinct keys.
-use Rattle.std.specs.Prelude.{ℕ, List, ◌∷◌, ◌++◌, Option, length, take, filter, find, option_map}
-use Rattle.std.specs.List.{flat_map}
+use Rattle.std.specs.Prelude.{ℕ, List, ◌∷◌, ◌++◌, Option, filter, find, option_map}
 use Rattle.std.specs.Ordering.{is_lt, is_le, is_eq}
-use Rattle.byteorder.specs.Endian.{little_bytes}
-use Rattle.tree_nodes.specs.Nodes.{Entry}
-use Rattle.tree_nodes.specs.Order.{AreRising, key_cmp}
+use Rattle.tree_nodes.specs.Order.{Entry, AreRising, key_cmp}
 
 abbrev pub Index : Type 0
 Index = List Entry
@@ -33,11 +30,3 @@ with_number key number index = below key index ++ record { key = key; number = n
 -- the index without a key
 abbrev pub without : List ℕ → Index → Index
 without key index = below key index ++ above key index
-
--- an entry's key as a scan writes it: its length in two bytes, and its bytes
-abbrev pub written : Entry → List ℕ
-written e = little_bytes 2 (length e.key) ++ e.key
-
--- what a scan writes of so many keys at or above a key
-abbrev pub scanned : List ℕ → ℕ → Index → List ℕ
-scanned lo count index = flat_map written (take count (from lo index))

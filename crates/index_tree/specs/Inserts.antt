@@ -7,8 +7,9 @@ use Rattle.regions.specs.Stores.{Live, SameBut, is_place}
 use Rattle.regions.specs.declared.place.Place.{Place}
 use Rattle.tree_nodes.specs.Nodes.{Entry, IsEntry, no_place}
 use Rattle.index_tree.specs.Indexes.{with_number}
-use Rattle.index_tree.specs.Links.{HasRoom, Nodes, link_to}
-use Rattle.index_tree.specs.Sizes.{fewest_entries}
+use Rattle.regions.specs.Places.{HasRoom, link_to}
+use Rattle.index_tree.specs.Links.{Nodes}
+use Rattle.index_tree.specs.Limits.{fewest_entries}
 use Rattle.index_tree.specs.Store.{HoldsNode, nodes_of}
 use Rattle.index_tree.specs.Trees.{IsFrom, IsSubtree, IsUpTo, entries_of, held_below, leaves_below, next_at, nodes_below}
 use Rattle.index_tree.specs.Writes.{blank}

@@ -16,3 +16,4 @@ pub mod Removes
 pub mod Pairs
 pub mod Mended
 pub mod Prunes
+pub mod Limits

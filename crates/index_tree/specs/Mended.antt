@@ -5,7 +5,8 @@ use Rattle.regions.specs.Contents.{live_at}
 use Rattle.regions.specs.Stores.{Live, SameBut}
 use Rattle.regions.specs.declared.place.Place.{Place}
 use Rattle.tree_nodes.specs.Nodes.{TreeNode, child_at}
-use Rattle.index_tree.specs.Links.{HasRoom, Nodes, link_to, with_parent}
+use Rattle.regions.specs.Places.{HasRoom, link_to}
+use Rattle.index_tree.specs.Links.{Nodes, with_parent}
 use Rattle.index_tree.specs.Pairs.{AreMendedIf}
 use Rattle.index_tree.specs.Store.{HoldsNode, nodes_of}
 use Rattle.index_tree.specs.Writes.{blank}

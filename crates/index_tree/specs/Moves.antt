@@ -3,7 +3,8 @@ use Rattle.std.specs.Prelude.{ℕ, ◌==◌, cond, map, None, Some, option_map}
 use Rattle.regions.specs.Stores.{is_place, renamed}
 use Rattle.regions.specs.declared.place.Place.{Place}
 use Rattle.tree_nodes.specs.Nodes.{TreeNode}
-use Rattle.index_tree.specs.Links.{Nodes, link_to}
+use Rattle.regions.specs.Places.{link_to}
+use Rattle.index_tree.specs.Links.{Nodes}
 use Rattle.index_tree.specs.Trees.{TreeState}
 
 -- a number that led to one place leads to another

@@ -6,7 +6,8 @@ use Rattle.tree_nodes.specs.Nodes.{TreeNode, CanStand, child_at, no_place, start
 use Rattle.tree_nodes.specs.Order.{AreRising}
 use Rattle.index_tree.specs.Indexes.{Index, without}
 use Rattle.index_tree.specs.Inserts.{AreChained, Branch, Row, entry_of, first_link, of_row, times}
-use Rattle.index_tree.specs.Links.{Nodes, HasRoom, link_to}
+use Rattle.regions.specs.Places.{HasRoom, link_to}
+use Rattle.index_tree.specs.Links.{Nodes}
 use Rattle.index_tree.specs.Trees.{IsFrom, IsSubtree, IsUpTo, entries_of, held_below, leaves_below, left_of, nodes_below, right_of, row_below}
 use Rattle.index_tree.specs.Ways.{LeadsTo}
 

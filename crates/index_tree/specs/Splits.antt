@@ -7,7 +7,8 @@ use Rattle.regions.specs.declared.place.Place.{Place}
 use Rattle.tree_nodes.specs.Nodes.{Entry, TreeNode, children_count, no_entry, no_place, started}
 use Rattle.index_tree.specs.declared.split.Split.{Split}
 use Rattle.index_tree.specs.Inserts.{Branch, times}
-use Rattle.index_tree.specs.Links.{Nodes, link_to, place_of_link, with_parent}
+use Rattle.regions.specs.Places.{link_to, place_of_link}
+use Rattle.index_tree.specs.Links.{Nodes, with_parent}
 use Rattle.index_tree.specs.Store.{HoldsNode, nodes_of}
 use Rattle.index_tree.specs.Writes.{blank}
 use Rattle.index_tree.specs.Trees.{entries_of}

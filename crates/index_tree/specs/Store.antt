@@ -2,7 +2,6 @@
 use Rattle.std.specs.Prelude.{◌≡◌, ◌≢◌, ℕ, suc, List, Option, None, Some, IsSome, option_map}
 use mathlib.Core.List.{Sublist}
 use Rattle.regions.specs.Segments.{RegionState}
-use Rattle.regions.specs.Shapes.{shape, group_count, guards_of, held_count, pieces}
 use Rattle.regions.specs.Contents.{Item, live_at}
 use Rattle.regions.specs.Stores.{Live, SameBut}
 use Rattle.regions.specs.declared.place.Place.{Place}
@@ -42,14 +41,6 @@ levels t = levels_if t.root t.level
 pub record AreNodes (s : IndexState) : Type 0 where
   pub nodes : (p : Place) → IsSome (live_at s.region p) → HoldsNode (live_at s.region) p
   pub tree : IsTree (nodes_in s) s.tree
-
--- the segments are those that were there, and the guards
-pub record HoldsSegments (old new : RegionState) : Type 0 where
-  pub most : (shape new).most ≡ (shape old).most
-  pub groups : group_count new ≡ group_count old
-  pub pieces : pieces new ≡ pieces old
-  pub held : held_count new ≡ held_count old
-  pub guards : (g : ℕ) → guards_of new g ≡ guards_of old g
 
 -- where the nodes of a level of the tree stand, from left to right
 abbrev pub places_at : IndexState → ℕ → List Place

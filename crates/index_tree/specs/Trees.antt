@@ -12,8 +12,9 @@ use Rattle.regions.specs.declared.place.Place.{Place}
 use Rattle.tree_nodes.specs.Nodes.{Entry, TreeNode, CanStand, child_at, entry_at, no_place}
 use Rattle.tree_nodes.specs.Order.{AreRising, IsBelow, key_cmp}
 use Rattle.index_tree.specs.Indexes.{Index}
-use Rattle.index_tree.specs.Links.{Nodes, HasRoom, led_to, link_to}
-use Rattle.index_tree.specs.Sizes.{fewest_entries}
+use Rattle.regions.specs.Places.{HasRoom, led_to, link_to}
+use Rattle.index_tree.specs.Links.{Nodes}
+use Rattle.index_tree.specs.Limits.{fewest_entries}
 
 -- ---- what a tree holds
 

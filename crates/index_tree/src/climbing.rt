@@ -6,8 +6,8 @@ ghost use Rattle.tree_nodes.specs.Nodes.{child_at};
 ghost use Rattle.index_tree.specs.Store.{HoldsNode, nodes_of};
 ghost use Rattle.index_tree.specs.inside.Climbs.{HasSubtree, HoldNodes, IsLast};
 
-use crate::fields::{child_of, count_at, led_to};
-use regions::{Place, Region};
+use crate::fields::{child_of, count_at};
+use regions::{Place, Region, led_to};
 
 /// Which child of the node at a place has this number.
 pub(crate) fn child_index(region: &Region, at: Place, link: u64) -> u16

@@ -2,43 +2,17 @@
 ghost use Rattle.std.specs.Prelude.{◌≡◌, ◌<◌, IfSome, length};
 ghost use Rattle.regions.specs.Contents.{live_at};
 ghost use Rattle.tree_nodes.specs.Nodes.{child_at, children_count};
+ghost use Rattle.regions.specs.Places as place_links;
 ghost use Rattle.index_tree.specs.Links as links;
 ghost use Rattle.index_tree.specs.Store.{ChangesNode, HoldsNode, nodes_of};
 
 use regions::{Place, Region};
-use tree_nodes::NO_PLACE;
-
-// How many offsets a segment's number is apart from the next one in a place's number.
-const SEGMENT_STEP: u64 = 4_294_967_296;
-
-/// The number that a place is written as, and that of none.
-pub(crate) fn link_to(place: Option<Place>) -> u64
-    ensures { result ≡ links.link_to place }
-{
-    match place {
-        Some(place) => u64::from(place.segment) * SEGMENT_STEP + u64::from(place.at),
-        None => NO_PLACE,
-    }
-}
-
-/// The place that a number leads to.
-pub(crate) fn led_to(link: u64) -> Option<Place>
-    ensures { result ≡ links.led_to link }
-{
-    if link == NO_PLACE {
-        return None;
-    }
-    Some(Place {
-        segment: (link / SEGMENT_STEP) as u32,
-        at: (link % SEGMENT_STEP) as u32,
-    })
-}
 
 /// The number of the parent of the node at a place. Where a node stands, a number can lead.
 pub(crate) fn parent_at(region: &Region, at: Place) -> u64
     requires { HoldsNode (live_at region.now) at }
     ensures parent { IfSome (nodes_of (live_at region.now) at) (λ node. result ≡ node.parent) }
-    ensures room { links.HasRoom at }
+    ensures room { place_links.HasRoom at }
 {
     tree_nodes::parent(region.bytes(at))
 }

@@ -3,16 +3,16 @@ ghost use Rattle.std.specs.Prelude.{◌≡◌, ◌+◌, ◌-◌, ◌*◌, ◌<�
 ghost use Rattle.regions.specs.Shapes.{group_count, guards_of, held_count, free_count};
 ghost use Rattle.regions.specs.Counts.{live_total};
 ghost use Rattle.regions.specs.Contents.{live_at};
-ghost use Rattle.region_room.specs.Room.{room};
+ghost use Rattle.segmented_store.specs.Room.{room};
 ghost use Rattle.index_tree.specs.Sizes.{node_object};
-ghost use Rattle.index_tree.specs.Store.{HoldsSegments};
+ghost use Rattle.segmented_store.specs.Segments.{HoldsSegments};
 ghost use Rattle.index_tree.specs.inside.Rosters.{IsRosterOf};
 
 use crate::placing::NODE_OBJECT;
 use crate::roots::Roots;
 use crate::spares::MOST_SPARES;
-use region_room::make_room;
 use regions::Region;
+use segmented_store::make_room;
 
 // Places one spare node more. Nodes may move before.
 fn add_spare(region: &mut Region, roots: &mut Roots)

@@ -11,9 +11,9 @@ use crate::fields::{child_of, count_at};
 use crate::finding::{child_for, has_key};
 use crate::search::below_at;
 use crate::split::Inserted;
-use crate::splitting::{place_of, split_inner, split_leaf, widen};
+use crate::splitting::{split_inner, split_leaf, widen};
 use crate::writing::{add_at, set_number_at};
-use regions::{Place, Region};
+use regions::{Place, Region, place_of};
 
 /// Puts a key with its number into a leaf, or sets the number of the key where it is there.
 pub(crate) fn insert_into_leaf(

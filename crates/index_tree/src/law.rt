@@ -2,9 +2,11 @@
 ghost use Rattle.std.specs.Prelude.{◌≡◌, ◌≢◌, ℕ, List, [], ◌∷◌, All, Option, None, Some, codes};
 ghost use Rattle.regions.specs.declared.place.Place.{Place};
 ghost use Rattle.index_tree.specs.Sizes.{node_room, most};
-ghost use Rattle.index_tree.specs.Links.{Nodes, HasRoom};
+ghost use Rattle.regions.specs.Places.{HasRoom};
+ghost use Rattle.index_tree.specs.Links.{Nodes};
 ghost use Rattle.index_tree.specs.Trees.{AreLinked, IsBetween, IsSubtree, held_below, TreeState, IsTree, index_of, leaves_below, places_of, row_below};
-ghost use Rattle.index_tree.specs.Indexes.{number_of, scanned, with_number, without};
+ghost use Rattle.index_tree.specs.Indexes.{number_of, with_number, without};
+ghost use Rattle.index_tree.specs.Scans.{scanned};
 ghost use Rattle.index_tree.specs.Examples.{put_a, put_b, left_place, right_place, root_place, two_leaves, two_leaves_tree};
 ghost use Rattle.index_tree.specs.Moves.{moved, moved_tree};
 

@@ -3,16 +3,15 @@ ghost use Rattle.std.specs.Prelude.{◌≡◌, ◌<◌, Some, IsSome, IfSome};
 ghost use Rattle.regions.specs.Contents.{live_at};
 ghost use Rattle.regions.specs.declared.place.Place.{Place};
 ghost use Rattle.tree_nodes.specs.Nodes.{children_count};
+ghost use Rattle.regions.specs.Places as place_links;
 ghost use Rattle.index_tree.specs.Links as links;
 ghost use Rattle.index_tree.specs.Store.{ChangesNode, HoldsNode, nodes_of};
 ghost use Rattle.index_tree.specs.inside.Climbs.{HoldNodes};
 ghost use Rattle.index_tree.specs.inside.Mends.{AreItsChildren, ChangesIf, IsItsFront, IsItsParent, Mends, mended_children, mended_next, mended_parent};
 
 use crate::climbing::child_index;
-use crate::fields::{
-    child_of, count_at, led_to, link_to, set_child_of, set_next_at, set_parent_at,
-};
-use regions::{Place, Region};
+use crate::fields::{child_of, count_at, set_child_of, set_next_at, set_parent_at};
+use regions::{Place, Region, led_to, link_to};
 
 /// The children of the node have another place as their parent.
 pub(crate) fn mend_children(region: &mut Region, from: Place, to: Place)
@@ -30,7 +29,7 @@ pub(crate) fn mend_children(region: &mut Region, from: Place, to: Place)
 // The node at a place, if there is one, has another parent.
 fn lead_up(region: &mut Region, at: Option<Place>, to: Place)
     requires { IfSome at (λ p. HoldsNode (live_at region.old) p) }
-    ensures { ChangesIf at (links.with_parent (links.link_to (Some to))) region.old region.new }
+    ensures { ChangesIf at (links.with_parent (place_links.link_to (Some to))) region.old region.new }
 {
     if let Some(place) = at {
         set_parent_at(region, place, link_to(Some(to)));
@@ -40,7 +39,7 @@ fn lead_up(region: &mut Region, at: Option<Place>, to: Place)
 // The node at a place, if there is one, has another next leaf.
 fn lead_on(region: &mut Region, at: Option<Place>, to: Place)
     requires { IfSome at (λ p. HoldsNode (live_at region.old) p) }
-    ensures { ChangesIf at (links.with_next (links.link_to (Some to))) region.old region.new }
+    ensures { ChangesIf at (links.with_next (place_links.link_to (Some to))) region.old region.new }
 {
     if let Some(place) = at {
         set_next_at(region, place, link_to(Some(to)));
@@ -72,7 +71,7 @@ pub(crate) fn mend_parent(region: &mut Region, parent: Option<Place>, from: Plac
 fn lead_down(region: &mut Region, at: Place, i: u16, to: Place)
     requires node { HoldsNode (live_at region.old) at }
     requires i { i < children_count }
-    ensures { ChangesNode at (links.with_child i (links.link_to (Some to))) region.old region.new }
+    ensures { ChangesNode at (links.with_child i (place_links.link_to (Some to))) region.old region.new }
 {
     set_child_of(region, at, i, link_to(Some(to)));
 }

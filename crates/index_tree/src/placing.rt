@@ -4,13 +4,13 @@ ghost use Rattle.regions.specs.Shapes.{shape, group_count};
 ghost use Rattle.regions.specs.Counts.{left, live_total};
 ghost use Rattle.regions.specs.Contents.{live_at};
 ghost use Rattle.regions.specs.declared.place.Place.{Place};
-ghost use Rattle.index_tree.specs.Links as links;
+ghost use Rattle.regions.specs.Places as place_links;
 ghost use Rattle.index_tree.specs.Sizes.{most, node_object};
 ghost use Rattle.index_tree.specs.Store.{HoldsNode};
 ghost use Rattle.index_tree.specs.inside.Rosters.{IsPlaced};
 
-use region_room::room;
 use regions::{Place, Region};
+use segmented_store::room;
 
 // The group of all nodes, the kind of an object that holds one, and its bytes.
 pub(crate) const GROUP: u32 = 0;
@@ -28,7 +28,7 @@ pub(crate) fn place_node(region: &mut Region) -> Place
     ensures absent { live_at region.old result ≡ None }
     ensures added { IsPlaced (live_at region.new result) }
     ensures others { (p : Place) → p ≢ result → live_at region.new p ≡ live_at region.old p }
-    ensures room { links.HasRoom result }
+    ensures room { place_links.HasRoom result }
 
     // Counted: its bytes are live. The segments are as they were.
     ensures live_total { live_total region.new ≡ live_total region.old + node_object }

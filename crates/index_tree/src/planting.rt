@@ -3,17 +3,17 @@ ghost use Rattle.std.specs.Prelude.{◌≡◌, ◌≢◌, ℕ, ◌+◌, ◌<◌,
 ghost use Rattle.layout.specs.Sizes.{greatest_key};
 ghost use Rattle.regions.specs.Contents.{live_at};
 ghost use Rattle.index_tree.specs.Inserts.{IsRoom, Plants, Touched, times};
-ghost use Rattle.index_tree.specs.Links as links;
+ghost use Rattle.regions.specs.Places as place_links;
 ghost use Rattle.index_tree.specs.Splits.{AdoptsBeside, branch_of, top_node};
 ghost use Rattle.index_tree.specs.Store.{HoldsNode, nodes_of};
 ghost use Rattle.index_tree.specs.Trees.{IsSubtree, nodes_below};
 
-use crate::fields::{link_to, set_child_of};
+use crate::fields::set_child_of;
 use crate::inserting::insert_below;
 use crate::split::{Planted, Split};
 use crate::splitting::adopt;
 use crate::writing::{add_at, start_at};
-use regions::{Place, Region};
+use regions::{Place, Region, link_to};
 
 /// Makes a node the root above one that was split and the new node behind it.
 pub(crate) fn raise(region: &mut Region, top: Place, root: Place, level: u16, split: &Split)
@@ -22,10 +22,10 @@ pub(crate) fn raise(region: &mut Region, top: Place, root: Place, level: u16, sp
     requires behind { HoldsNode (live_at region.old) split.now.place }
     requires not_root { top ≢ root }
     requires not_behind { top ≢ split.now.place }
-    requires root_room { links.HasRoom root }
-    requires behind_room { links.HasRoom split.now.place }
+    requires root_room { place_links.HasRoom root }
+    requires behind_room { place_links.HasRoom split.now.place }
     ensures top { nodes_of (live_at region.new) top ≡ Some (top_node level root (branch_of split.now)) }
-    ensures adopts { AdoptsBeside (root ∷ split.now.place ∷ []) top top (links.link_to (Some top)) region.old region.new }
+    ensures adopts { AdoptsBeside (root ∷ split.now.place ∷ []) top top (place_links.link_to (Some top)) region.old region.new }
 {
     start_top(region, top, root, level, split);
     adopt(region, top, 2);
@@ -83,7 +83,7 @@ pub(crate) fn insert_at_root(
 pub(crate) fn plant(region: &mut Region, spares: &[Place], key: &[u8], number: u32) -> Planted
     requires spares { 1 ≤ length spares.now }
     requires held { All (HoldsNode (live_at region.old)) spares.now }
-    requires rooms { All links.HasRoom spares.now }
+    requires rooms { All place_links.HasRoom spares.now }
     requires some_key { 1 ≤ length key.now }
     requires short_key { length key.now ≤ greatest_key }
     ensures planted { Plants (nodes_of (live_at region.old)) (nodes_of (live_at region.new)) 0 None result.level result.root

@@ -13,12 +13,11 @@ ghost use Rattle.index_tree.specs.Trees.{IsSubtree, held_below, nodes_below};
 ghost use Rattle.index_tree.specs.Writes.{blank};
 ghost use Rattle.index_tree.specs.inside.Climbs.{HoldNodes};
 
-use crate::fields::{child_of, count_at, link_to, set_parent_at};
+use crate::fields::{child_of, count_at, set_parent_at};
 use crate::removing::remove_below;
 use crate::spares::Spares;
-use crate::splitting::place_of;
 use crate::writing::start_at;
-use regions::{Place, Region};
+use regions::{Place, Region, link_to, place_of};
 
 /// What a removal left: the root with its level, if there is one, and the nodes that are free.
 #[derive(Drop)]

@@ -15,13 +15,13 @@ ghost use Rattle.index_tree.specs.Store.{HoldsNode, nodes_of};
 ghost use Rattle.index_tree.specs.Mended.{Adopts, AreUneven, HasKids, IsMendedAt, OnlyThree};
 ghost use Rattle.index_tree.specs.Writes.{WritesNode, blank, without_entries};
 
-use crate::fields::{child_of, count_at, led_to, link_to, set_parent_at};
+use crate::fields::{child_of, count_at, set_parent_at};
 use crate::leaves::mend_leaves;
 use crate::pairs::mend_above;
 use crate::search::{below_at, has_at, number_at, way_at};
 use crate::spares::Spares;
 use crate::writing::cut_run_at;
-use regions::{Place, Region};
+use regions::{Place, Region, led_to, link_to};
 
 /// The bytes of a node's content.
 const NODE: usize = 4384;

@@ -7,7 +7,8 @@ ghost use Rattle.regions.specs.declared.place.Place.{Place};
 ghost use Rattle.layout.specs.Sizes.{greatest_key};
 ghost use Rattle.index_tree.specs.Inserts.{Plants, Touched};
 ghost use Rattle.index_tree.specs.Links as links;
-ghost use Rattle.index_tree.specs.Sizes.{most_levels, node_object};
+ghost use Rattle.index_tree.specs.Sizes.{node_object};
+ghost use Rattle.index_tree.specs.Limits.{most_levels};
 ghost use Rattle.index_tree.specs.Store.{HoldsNode, levels, nodes_of};
 ghost use Rattle.index_tree.specs.Trees.{nodes_below, places_of};
 ghost use Rattle.index_tree.specs.inside.Climbs.{HoldNodes, IsBefore, IsInFrontOf, IsTreeIn, StandsIn};
@@ -15,14 +16,14 @@ ghost use Rattle.index_tree.specs.inside.Rosters as rosters;
 ghost use Rattle.index_tree.specs.inside.Rosters.{IsSameTree, Remain};
 
 use crate::climbing::{child_index, last_leaf};
-use crate::fields::{child_of, led_to, level_at, link_to, parent_at};
+use crate::fields::{child_of, level_at, parent_at};
 use crate::mending::{mend_children, mend_front, mend_parent};
 use crate::placing::{kill_node, place_node};
 use crate::planting::{insert_at_root, plant};
 use crate::roster::Roster;
 use crate::spares::{MOST_SPARES, Spares, renamed};
 use crate::split::Planted;
-use regions::{Movers, Place, Region};
+use regions::{Movers, Place, Region, led_to, link_to};
 use std::marker::Model;
 
 // The root, its level, and the spare nodes.

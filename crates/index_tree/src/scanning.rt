@@ -5,14 +5,15 @@ ghost use Rattle.layout.specs.Sizes as sizes;
 ghost use Rattle.regions.specs.Contents.{live_at};
 ghost use Rattle.regions.specs.declared.place.Place.{Place};
 ghost use Rattle.index_tree.specs.Indexes as indexes;
+ghost use Rattle.index_tree.specs.Scans as scans;
 ghost use Rattle.index_tree.specs.Scans.{IsWritten};
 ghost use Rattle.index_tree.specs.Store.{HoldsNode, nodes_of};
 ghost use Rattle.index_tree.specs.Trees.{AreLinked, IsSubtree, held_below, leaves_below};
 
-use crate::fields::{count_at, led_to, next_at};
+use crate::fields::{count_at, next_at};
 use crate::search::{below_at, key_at, leaf_of};
 use byteorder::{ByteOrder, LittleEndian};
-use regions::{Place, Region};
+use regions::{Place, Region, led_to};
 
 /// What a scan wrote.
 #[derive(Clone, Copy, Debug, PartialEq, Eq)]
@@ -38,7 +39,7 @@ pub(crate) fn range(
     requires most { count ≤ sizes.most_keys }
     requires room { sizes.key_room * count ≤ length into.old }
     ensures keys { result.keys ≡ length (take count (indexes.from lo.now (held_below (nodes_of (live_at region.now)) level root))) }
-    ensures bytes { take result.bytes into.new ≡ indexes.scanned lo.now count (held_below (nodes_of (live_at region.now)) level root) }
+    ensures bytes { take result.bytes into.new ≡ scans.scanned lo.now count (held_below (nodes_of (live_at region.now)) level root) }
     ensures within { result.bytes ≤ length into.old }
     ensures behind { drop result.bytes into.new ≡ drop result.bytes into.old }
 {

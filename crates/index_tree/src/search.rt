@@ -9,8 +9,8 @@ ghost use Rattle.index_tree.specs.Store.{HoldsNode, nodes_of};
 ghost use Rattle.index_tree.specs.Trees.{IsSubtree, entries_of, held_below, leaves_below};
 ghost use Rattle.index_tree.specs.Ways.{IsOnWay, LeadsTo};
 
-use crate::fields::{child_of, count_at, led_to};
-use regions::{Place, Region};
+use crate::fields::{child_of, count_at};
+use regions::{Place, Region, led_to};
 
 /// How many keys of the node at a place are below a key: the first eight bytes of each are read, and at most five keys whole.
 pub(crate) fn below_at(region: &Region, at: Place, key: &[u8]) -> u16

@@ -8,15 +8,12 @@ ghost use Rattle.index_tree.specs.Inserts.{Touched, times};
 ghost use Rattle.index_tree.specs.Splits.{AddsToHalf, Adopts, AdoptsBeside, CutsInner, CutsLeaf, Halves};
 ghost use Rattle.index_tree.specs.Splits.{back_of, branch_of, child_places, front_of, upper_places, widened};
 ghost use Rattle.index_tree.specs.Writes.{WritesNode};
-ghost use Rattle.index_tree.specs.Links as links;
+ghost use Rattle.regions.specs.Places as place_links;
 
-use crate::fields::{child_of, link_to, set_child_of, set_next_at, set_parent_at};
+use crate::fields::{child_of, set_child_of, set_next_at, set_parent_at};
 use crate::split::Split;
 use crate::writing::{add_at, add_child_at, copy_node, cut_children_at, cut_run_at};
-use regions::{Place, Region};
-
-// How many offsets a segment's number is apart from the next one in a place's number.
-const SEGMENT_STEP: u64 = 4_294_967_296;
+use regions::{Place, Region, link_to, place_of};
 
 /// The key of an entry of the node at a place, as that which separates a new node.
 pub(crate) fn split_before(region: &Region, at: Place, i: u16, place: Place) -> Split
@@ -144,7 +141,7 @@ pub(crate) fn split_inner(
     ensures cut { IfSome (nodes_of (live_at region.old) at)
         (λ node. CutsInner i (branch_of split.now) at new node result (nodes_of (live_at region.new))) }
     ensures adopts { IfSome (nodes_of (live_at region.old) at)
-        (λ node. AdoptsBeside (upper_places i (branch_of split.now) node) at new (links.link_to (Some new)) region.old region.new) }
+        (λ node. AdoptsBeside (upper_places i (branch_of split.now) node) at new (place_links.link_to (Some new)) region.old region.new) }
 {
     let middle = cut_inner(region, at, new, i, split);
     adopt(region, new, 9);
@@ -257,21 +254,11 @@ pub(crate) fn adopt(region: &mut Region, at: Place, n: u16)
     requires children { All (HoldsNode (live_at region.old)) (child_places n (nodes_of (live_at region.old) at)) }
     requires apart { times at (child_places n (nodes_of (live_at region.old) at)) ≡ 0 }
     ensures { Adopts (child_places n (nodes_of (live_at region.old) at)) (child_places n (nodes_of (live_at region.old) at))
-        (links.link_to (Some at)) region.old region.new }
+        (place_links.link_to (Some at)) region.old region.new }
 {
     let link = link_to(Some(at));
     for j in 0..n {
         let child = place_of(child_of(region, at, j));
         set_parent_at(region, child, link);
-    }
-}
-
-/// The place that a number is written for.
-pub(crate) fn place_of(link: u64) -> Place
-    ensures { result ≡ links.place_of_link link }
-{
-    Place {
-        segment: (link / SEGMENT_STEP) as u32,
-        at: (link % SEGMENT_STEP) as u32,
     }
 }

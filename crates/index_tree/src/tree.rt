@@ -6,9 +6,12 @@ ghost use Rattle.regions.specs.Shapes.{shape, group_count, active_of, guards_of,
 ghost use Rattle.regions.specs.Contents.{Item, Keeps, live_at};
 ghost use Rattle.regions.specs.declared.place.Place.{Place};
 ghost use Rattle.tree_nodes.specs.Nodes.{IsEntry};
-ghost use Rattle.index_tree.specs.Sizes.{most, most_levels, most_spares, node_kind};
+ghost use Rattle.index_tree.specs.Sizes.{most, node_kind};
+ghost use Rattle.index_tree.specs.Limits.{most_levels, most_spares};
 ghost use Rattle.index_tree.specs.Indexes as indexes;
-ghost use Rattle.index_tree.specs.Store.{index_in, levels, AreNodes, HoldsSegments, Stay};
+ghost use Rattle.segmented_store.specs.Segments.{HoldsSegments};
+ghost use Rattle.index_tree.specs.Store.{index_in, levels, AreNodes, Stay};
+ghost use Rattle.index_tree.specs.Scans as scans;
 
 use crate::filling::fill_spares;
 use crate::placing::{GROUP, most_keys};
@@ -18,6 +21,7 @@ use crate::scanning::{TreeScanned, range};
 use crate::search::get;
 use raw_range::Piece;
 use regions::Region;
+use segmented_store::Segmented;
 use std::alloc::{AllocError, Global};
 use std::marker::Model;
 
@@ -214,7 +218,7 @@ impl IndexTree {
         requires most { count ≤ sizes.most_keys }
         requires room { sizes.key_room * count ≤ length into.old }
         ensures keys { result.keys ≡ length (take count (indexes.from lo.now (index_in self.now))) }
-        ensures bytes { take result.bytes into.new ≡ indexes.scanned lo.now count (index_in self.now) }
+        ensures bytes { take result.bytes into.new ≡ scans.scanned lo.now count (index_in self.now) }
         ensures within { result.bytes ≤ length into.old }
         ensures behind { drop result.bytes into.new ≡ drop result.bytes into.old }
     {
@@ -279,5 +283,21 @@ impl IndexTree {
         self.keys = 0;
         self.segments = self.segments.saturating_sub(1);
         given
+    }
+}
+
+impl Segmented for IndexTree {
+    ghost region = { λ t. t.region };
+
+    ghost Content = { indexes.Index };
+
+    ghost content = { index_in };
+
+    fn take_piece(&mut self, piece: Piece) {
+        self.add_segment(piece);
+    }
+
+    fn give_piece(&mut self) -> Option<Piece> {
+        self.give_up()
     }
 }

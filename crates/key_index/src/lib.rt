@@ -1,4 +1,4 @@
-//! An index of rows in the order of their keys.
+//! An ordered index of rows: their numbers in the order of their keys, in blocks.
 //!
 //! The keys stand elsewhere, and a [`Keys`] reads them. The index keeps the numbers of the rows, in blocks, and
 //! beside each number eight bytes of the row's key. A search that has seen that its key shares the bytes before

@@ -1,8 +1,8 @@
-//! A table of rows by key, for exact look-up.
+//! A hash table of rows by key, with open addressing and linear probing, for exact look-up.
 //!
-//! The keys stand elsewhere, and a [`Keys`] reads them. The table keeps the number of each row and a tag, 32 bits of the
-//! hash of its key, so that it reads a key only where the tags agree. A slot holds a row or none; a row stands at the slot
-//! of its tag or behind it, and no empty slot between.
+//! The keys stand elsewhere, and a [`Keys`] reads them. The table keeps the number of each row and a tag (a
+//! fingerprint), 32 bits of the hash of its key, so that it reads a key only where the tags agree. A slot holds a row
+//! or none; a row stands at the slot of its tag or behind it, and no empty slot between.
 //!
 //! Fewer than 64 slots in a row hold rows: a row that would make so many is not put in, and whoever has the table keeps it
 //! elsewhere. So no search passes 64 slots, and no removal moves more rows than that, whatever the keys are.

@@ -82,7 +82,7 @@ pub const REQUEST_SLOTS: usize = 4;
 /// The packets that the ring of a lane of replies holds.
 pub const REPLY_SLOTS: usize = 8;
 
-/// The most bytes of a trace.
+/// The most bytes of a trace, and of a script.
 pub const MOST_TRACE_BYTES: u32 = 67_108_864;
 
 /// The sizes hang together: what one of them says of another.

@@ -1,4 +1,4 @@
-//! Rows by their keys, for exact look-up and for look-ups in order.
+//! Rows by their keys: a hash table for exact look-up, and an ordered index for look-ups in order.
 //!
 //! A table finds the row of a key. The order of keys is kept in blocks, which learn of a row only once order is asked
 //! for: until then it is late, and goes again without a word to the blocks. A row that the table does not take, since too

@@ -1,4 +1,4 @@
-//! A table of entries that are all alike at first, which is written as far as it was ever set.
+//! A table of entries that are all alike at first, written as far as it was ever set: a lazily initialised array.
 #![tactic(auto)]
 
 pub use table::LazyTable;

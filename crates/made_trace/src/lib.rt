@@ -1,4 +1,4 @@
-//! A trace that is made of a number: a large valid input that anybody can make again, byte for byte.
+//! A trace that is made of a number, its seed: a large valid input that anybody can make again, byte for byte.
 //!
 //! The words come from the generator `Lcg64Xsh32`; what they make is `specs/Made.antt`. The mix is ours.
 #![tactic(auto)]

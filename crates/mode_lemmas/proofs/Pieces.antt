@@ -1,10 +1,10 @@
 -- The pieces of a region as a segment comes, and as one goes once all objects are gone.
 use Rattle.std.proofs.Common.{◌≡◌, ℕ, zero, suc, List, [], ◌∷◌, map, Option, Some, None, refl, sym, ap, ◌∙◌}
-use Rattle.std.specs.Prelude.{slice_get, slice_index_or, slice_set, option_map}
+use Rattle.std.specs.Prelude.{slice_get, slice_index_or, slice_set, option_map, IfSome, IsNone}
 use Rattle.std.proofs.lemmas.List.{map-set}
 use Rattle.raw_range.specs.Memory.{Lent}
 use Rattle.regions.specs.Segments.{GroupState, RegionState, SegmentState, all_emptied, emptied, ended, fresh, group_at, segment_at, with_segment}
-use Rattle.regions.specs.Shapes.{Slot, guards_of, identity, pieces, pieces_in, shape, slot_of, slots_of}
+use Rattle.regions.specs.Shapes.{Slot, IsGreatestHeld, guards_of, identity, pieces, pieces_in, shape, slot_of, slots_of}
 
 pub added_piece : (r s : RegionState) (n : ℕ) (piece : Lent) → pieces s ≡ pieces (with_segment r n (Some (fresh piece))) → pieces s ≡ slice_set (pieces r) n (Some (identity piece))
 added_piece r s n piece is =
@@ -41,3 +41,20 @@ guards_left r s n is = ap (λ (x : RegionState). guards_of x 0) is ∙ ended_gua
 
 pub most_left : (r s : RegionState) (n : ℕ) → s ≡ with_segment (all_emptied r) n None → (shape s).most ≡ (shape r).most
 most_left r s n is = ap (λ (x : RegionState). (shape x).most) is
+
+-- what a region says of the piece that it gives
+abbrev pub IsGiven : RegionState → RegionState → Option Lent → Type 0
+IsGiven r s o = IfSome o (λ piece. (n : ℕ) × IsGreatestHeld r n × (segment_at (all_emptied r) n ≡ Some (fresh piece)) × (s ≡ with_segment (all_emptied r) n None))
+
+pub pieces_given : (o : Option Lent) (r s : RegionState) → IsGiven r s o
+    → IfSome o (λ piece. (n : ℕ) × IsGreatestHeld r n × (slice_get (pieces r) n ≡ Some (Some (identity piece))) × (pieces s ≡ slice_set (pieces r) n None))
+pieces_given None r s given = tt
+pieces_given (Some p) r s given = (given.0, given.1, given_piece r given.0 p given.2, left_pieces r s given.0 given.3)
+
+pub most_given : (o : Option Lent) (r s : RegionState) → (IsNone o → s ≡ all_emptied r) → IsGiven r s o → (shape s).most ≡ (shape r).most
+most_given None r s none given = ap (λ (x : RegionState). (shape x).most) (none refl)
+most_given (Some p) r s none given = most_left r s given.0 given.3
+
+pub guards_given : (o : Option Lent) (r s : RegionState) → (IsNone o → s ≡ all_emptied r) → IsGiven r s o → guards_of s 0 ≡ guards_of r 0
+guards_given None r s none given = ap (λ (x : RegionState). guards_of x 0) (none refl) ∙ ended_guards r.groups
+guards_given (Some p) r s none given = guards_left r s given.0 given.3

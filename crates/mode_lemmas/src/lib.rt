@@ -1,3 +1,3 @@
-//! What the modes with a store of their own have in common, for contracts and proofs: a text on its way to a sink, and a store
-//! whose segments are the front of a range. There is nothing to call here.
+//! What the modes with a store of their own have in common, for contracts and proofs: a store whose segments are the front
+//! of a range. There is nothing to call here.
 #![tactic(auto)]

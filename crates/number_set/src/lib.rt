@@ -1,4 +1,5 @@
-//! Sets of numbers below a bound, one bit each, whose least and greatest number is found by a look at whole words.
+//! Bitmaps: sets of numbers below a bound, one bit each, whose least and greatest number is found by a look at whole
+//! words.
 #![tactic(auto)]
 
 mod bits;

@@ -1,4 +1,4 @@
-//! The objects of a segment, after ScyllaDB's `utils/logalloc`.
+//! The objects of a segment of a log-structured allocator (LSA), after ScyllaDB's `utils/logalloc`.
 //!
 //! A segment has 131,072 bytes. Objects stand in it from offset 0 on without gaps, each behind a
 //! descriptor of 8 bytes, little endian: the state (0 end, 1 live, 2 dead), the kind, two zero bytes and

@@ -1,4 +1,4 @@
-//! Where a program's bytes come from and where they go.
+//! Where a program's bytes come from and where they go: input and output as traits.
 //!
 //! A [`Source`] gives bytes and a [`Sink`] takes them, piece by piece. Either may tell which bytes
 //! it has left or was given, so that a contract can speak of them, and each counts its faults, so

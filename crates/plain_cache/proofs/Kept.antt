@@ -1,6 +1,6 @@
 -- What a get finds along a journal from which no row goes.
 use Rattle.std.proofs.Common.{◌≡◌, ℕ, ◌≤◌, Bool, true, false, not, ◌&&◌, cond, nat_lt, List, [], ◌∷◌, ◌++◌, map, append_assoc, Option, Some, None, IsSome, refl, sym, ap, subst, ◌∙◌, arith}
-use Rattle.std.specs.List.{find, list_any}
+use Rattle.std.specs.List.{list_any}
 use Rattle.std.specs.Option.{option_map, option_and_then}
 use Rattle.std.specs.Str.{bytes_eq}
 use Rattle.std.proofs.lemmas.Bool.Decides.{nat_tests}
@@ -13,7 +13,6 @@ use Rattle.cache_model.specs.declared.entry.Entry.{Entry}
 use Rattle.cache_model.specs.declared.entry.Entry.TheVariants.{Done, Evicted}
 use Rattle.rows.specs.Row.{Row, floor, live}
 use Rattle.rows.specs.Apply.{Reply, apply, apply_kind, get_where, is_of, row_of, without}
-use Rattle.rows.specs.Evictions.{is_of_put}
 use Rattle.cache_model.specs.Legal.{after, cache_after, cache_from, can_evict, command_of, done, is_done, reply_at, IsLegal}
 use Rattle.plain_cache.specs.Kept.{StaysWithin, commands_done, reply_of_get, set_by, value_behind, value_of}
 

@@ -1,5 +1,5 @@
-//! The meaning run: [`Plain`] is a cache that is a list of rows, and does each part of a command as the definitions of
-//! [`cache_model`] say. The names of `cache_model` and `run_log` are passed on.
+//! The meaning run, a reference implementation: [`Plain`] is a cache that is a list of rows, and does each part of a
+//! command as the definitions of [`cache_model`] say. The names of `cache_model` and `run_log` are passed on.
 #![tactic(auto)]
 
 mod law;

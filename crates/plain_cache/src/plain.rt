@@ -5,9 +5,8 @@ ghost use Rattle.std.specs.List.{last_or};
 ghost use Rattle.trace_text.specs.Operation.{operation};
 ghost use Rattle.rows.specs.Apply.{apply, get, has, is_at_most, is_of, put, row_of, scan, scanned, without, HasDistinctKeys};
 ghost use Rattle.plain_cache.specs.inside.OwnedRow.{row_in, IsPositionOf, IsSmall};
-ghost use Rattle.rows.specs.Evictions.{is_of_put};
+ghost use Rattle.rows.specs.Row.{is_of_put, live, floor};
 ghost use Rattle.cache_model.specs.Legal.{can_evict};
-ghost use Rattle.rows.specs.Row.{live, floor};
 ghost use Rattle.layout.specs.Sizes.{ArePages, greatest_key, greatest_value, row_overhead};
 ghost use Rattle.rows.specs.Spelled.{key_field, spelled, with_body};
 

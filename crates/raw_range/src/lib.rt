@@ -1,5 +1,5 @@
-//! The bytes of one shard: a range of pages, from which pieces are taken and to which they are put
-//! back. This is the one crate with raw memory, and few short functions of it touch that memory.
+//! The bytes of one shard, its arena: a range of pages, from which pieces are taken and to which they are put back.
+//! This is the one crate with raw memory, and few short functions of it touch that memory.
 #![tactic(auto)]
 
 mod deposit;

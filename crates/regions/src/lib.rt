@@ -1,4 +1,4 @@
-//! Segments of one shard and the objects in them, after ScyllaDB's `utils/logalloc`.
+//! Segments of one shard and the objects in them: a log-structured allocator (LSA), after ScyllaDB's `utils/logalloc`.
 //!
 //! A region holds pieces of 131,072 bytes, its segments, and its groups share the free ones. Each segment is free, or closed
 //! or active in one group. Objects are appended to the active segment of their group, and move within their group alone. An
@@ -6,6 +6,7 @@
 #![tactic(auto)]
 
 mod group;
+mod link;
 mod live_table;
 mod movers;
 mod place;
@@ -13,6 +14,7 @@ mod region;
 mod segment;
 mod slots;
 
+pub use link::{led_to, link_to, place_of};
 pub use movers::Movers;
 pub use place::{NeedSegment, Place};
 pub use region::Region;

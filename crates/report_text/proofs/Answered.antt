@@ -14,9 +14,8 @@ use Rattle.rows.specs.declared.reply_kind.ReplyKind.{ReplyKind}
 use Rattle.cache_model.specs.Answer.{answer_from, answer_kind, join, keys_in}
 use Rattle.rows.specs.Apply.{Reply, Stored, Replaced, Value, Missing, Erased, Keys}
 use Rattle.rows.specs.Fits.{Fits, FitsKind}
-use Rattle.rows.specs.KeyBody.{IsKey}
-use Rattle.cache_model.specs.Logged.{AreJoined, HasReplies, IsRead}
-use Rattle.rows.specs.Spelled.{spelled}
+use Rattle.rows.specs.Spelled.{IsKey, spelled}
+use Rattle.cache_model.specs.ReadOff.{AreJoined, HasReplies, IsRead}
 use Rattle.cache_model.specs.OwnParts.{Log}
 use Rattle.report_text.specs.inside.Found.{HasFound}
 use Rattle.report_text.specs.inside.Spells.{HasLegalKeys}

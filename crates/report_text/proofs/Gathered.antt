@@ -4,8 +4,8 @@ use Rattle.std.specs.Prelude.{All}
 use Rattle.std.proofs.lemmas.List.{length-map, map-append}
 use denote.Ref.{Bor}
 use Rattle.rows.specs.Apply.{Keys}
-use Rattle.rows.specs.KeyBody.{AreKeys, IsKey}
-use Rattle.rows.specs.Spelled.{spelled}
+use Rattle.rows.specs.KeyBody.{AreKeys}
+use Rattle.rows.specs.Spelled.{IsKey, spelled}
 use Rattle.report_text.proofs.Keys.{Cuts}
 
 abbrev pub texts : List (Bor (List ℕ)) → List (List ℕ)

@@ -3,8 +3,9 @@ use Rattle.std.proofs.Common.{◌≡◌, ℕ, ◌+◌, ◌-◌, ◌≤◌, List,
 use Rattle.std.specs.List.{flat_map}
 use Rattle.outside.specs.declared.failure.Failed.{Failed}
 use Rattle.rows.specs.KeyBody.{AreKeys, AreKeysAt}
-use Rattle.report_text.specs.inside.Output.{Output, Writes}
-use Rattle.report_text.proofs.Outputs.{Added, Writes-then, Writes-stop}
+use Rattle.text_lemmas.specs.Writing.{Output, Writes}
+use Rattle.text_lemmas.proofs.Written.{Writes-then, Writes-stop}
+use Rattle.report_text.proofs.Outputs.{Added}
 use Rattle.report_text.proofs.LineTexts.{key_piece}
 
 -- a front of the keys was put, and the others are the rest of the body

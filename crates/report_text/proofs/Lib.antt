@@ -1,5 +1,4 @@
 pub mod Answered
-pub mod Fronts
 pub mod Gathered
 pub mod Joined
 pub mod Keys

@@ -11,7 +11,8 @@ use Rattle.trace_text.specs.Parsed.{Parsed, trace_in}
 use Rattle.trace_text.specs.Parts.{longest_value, origin}
 use Rattle.trace_text.specs.Trace.{Trace}
 use Rattle.rows.specs.Apply.{Reply}
-use Rattle.cache_model.specs.Logged.{AreLogged, IsRead}
+use Rattle.cache_model.specs.Logged.{AreLogged}
+use Rattle.cache_model.specs.ReadOff.{IsRead}
 use Rattle.cache_model.specs.OwnParts.{parts_before, Log}
 use Rattle.run_log.specs.Replies.{Replies}
 use Rattle.report_text.specs.inside.Places.{ArePlaces}

@@ -3,8 +3,8 @@ use Rattle.std.proofs.Common.{◌≡◌, ℕ, ◌+◌, ◌-◌, ◌<◌, ◌≤�
 use Rattle.std.specs.List.{flat_map}
 use Rattle.std.proofs.lemmas.List.{take_all}
 use Rattle.std.proofs.lemmas.List.Concat.{flat_map-append}
-use Rattle.report_text.specs.inside.Output.{Output, Writes}
-use Rattle.report_text.proofs.Outputs.{Writes-then, Writes-stop}
+use Rattle.text_lemmas.specs.Writing.{Output, Writes}
+use Rattle.text_lemmas.proofs.Written.{Writes-then, Writes-stop}
 
 module _ {X : Type 0} (f : X → List ℕ) (xs : List X) where
   abbrev pub lines : ℕ → ℕ → List ℕ

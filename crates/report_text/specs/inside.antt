@@ -1,6 +1,6 @@
+pub mod AnsweredRun
 pub mod Found
 pub mod Merged
-pub mod Output
 pub mod Pieces
 pub mod Places
 pub mod Spells

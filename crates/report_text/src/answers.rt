@@ -6,19 +6,19 @@ ghost use Rattle.trace_text.specs.Operation.{operation};
 ghost use Rattle.rows.specs.Operation.{is_scan};
 ghost use Rattle.cache_model.specs.Answer.{join};
 ghost use Rattle.rows.specs.Apply.{Reply, Keys};
-ghost use Rattle.cache_model.specs.Logged.{IsRead};
+ghost use Rattle.cache_model.specs.ReadOff.{IsRead};
 ghost use Rattle.cache_model.specs.Report.{line, answer_text};
 ghost use Rattle.rows.specs.Spelled.{spelled};
 ghost use Rattle.report_text.specs.inside.Found.{HasFound};
-ghost use Rattle.report_text.specs.inside.Output.{Writes, output};
+ghost use Rattle.text_lemmas.specs.Writing.{Writes};
 ghost use Rattle.report_text.specs.inside.Spells.{HasLegalKeys};
 
 use crate::found::joined_keys;
 use crate::lines::put_reply_line;
-use crate::writer::Writer;
 use cache_model::one_shard_answers_alone;
 use outside::{Failed, Sink};
 use run_log::ReplyLog;
+use text_out::Writer;
 use trace_text::{Command, Kind};
 
 /// The line of an answer that is one reply of a log.
@@ -30,7 +30,7 @@ fn put_one<K: Sink>(
 ) -> Result<(), Failed>
     requires answered { (reply : Reply) × HasLegalKeys reply × (slice_get log.now.replies part ≡ Some (Some (spelled reply))) }
     ensures { (reply : Reply) → slice_get log.now.replies part ≡ Some (Some (spelled reply)) → HasLegalKeys reply →
-        Writes result (output K.written K.faults writer.old) (output K.written K.faults writer.new) (line (answer_text (number, reply))) }
+        Writes result writer.old writer.new (line (answer_text (number, reply))) }
 {
     let (kind, body) = log.reply(part).unwrap();
     put_reply_line(writer, number, kind, body)
@@ -38,7 +38,7 @@ fn put_one<K: Sink>(
 
 /// The words, each behind a space.
 fn put_words<K: Sink>(writer: &mut Writer<'_, K>, words: &[&[u8]]) -> Result<(), Failed>
-    ensures { Writes result (output K.written K.faults writer.old) (output K.written K.faults writer.new)
+    ensures { Writes result writer.old writer.new
         (flat_map (λ word. 32 ∷ word) (map (λ word. word.now) words.now)) }
 {
     for word in words {
@@ -53,7 +53,7 @@ fn put_keys_line<K: Sink>(
     number: u32,
     keys: &[&[u8]],
 ) -> Result<(), Failed>
-    ensures { Writes result (output K.written K.faults writer.old) (output K.written K.faults writer.new)
+    ensures { Writes result writer.old writer.new
         (line (answer_text (number, Keys (map (λ key. key.now) keys.now)))) }
 {
     writer.put_number(u64::from(number))?;
@@ -74,7 +74,7 @@ fn put_scan<K: Sink>(
     requires room { first + shards < 2 ^ 32 }
     requires replied { (lists : List (List (List ℕ))) × HasFound log.now.replies first shards lists }
     ensures { (lists : List (List (List ℕ))) → HasFound log.now.replies first shards lists →
-        Writes result (output K.written K.faults writer.old) (output K.written K.faults writer.new) (line
+        Writes result writer.old writer.new (line
         (answer_text (command.now.number, Keys (join command.now.count lists)))) }
 {
     let keys = joined_keys(log, first, shards, command.count);
@@ -105,7 +105,7 @@ pub(crate) fn put_answer<K: Sink>(
         × IsRead longest shards (operation bytes command.now) log.now.replies first answer }
     ensures { (bytes : List ℕ) (longest : ℕ) (answer : ℕ × Reply)
         → IsRead longest shards (operation bytes command.now) log.now.replies first answer →
-        Writes result (output K.written K.faults writer.old) (output K.written K.faults writer.new) (line (answer_text answer)) }
+        Writes result writer.old writer.new (line (answer_text answer)) }
 {
     one_shard_answers_alone();
     if is_joined(command.kind, shards) {

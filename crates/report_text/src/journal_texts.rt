@@ -1,22 +1,22 @@
 //! The lines of the journals, made in memory of their own.
-ghost use Rattle.std.specs.Prelude.{◌≡◌, ◌<◌, ℕ, length, flat_map, vec_len, IfOk, OnOk, OnErr};
+ghost use Rattle.std.specs.Prelude.{◌≡◌, ◌<◌, ℕ, [], length, flat_map, vec_len, IfOk, OnOk, OnErr};
 ghost use Rattle.std.specs.List.{enumerate_from, slice_index_or};
 ghost use Rattle.std.specs.Io.KnownBytes.{Appends};
 ghost use Rattle.layout.specs.Counts.{Rose};
 ghost use Rattle.cache_model.specs.Report.{line, journal_text};
 ghost use Rattle.report_text.specs.Views.{journals_in};
-ghost use Rattle.report_text.specs.inside.Output.{Writes, output};
+ghost use Rattle.text_lemmas.specs.Writing.{Writes};
 ghost use Rattle.report_text.specs.inside.Pieces.{SaysJournal};
 
 use crate::held::Held;
 use crate::lines::put_journal;
 use crate::report::put_journals;
-use crate::writer::Writer;
 use outside::{Failed, Sink};
 use run_log::Journal;
 use std::alloc::{AllocError, Global};
 use std::thread;
 use std::thread::Threads;
+use text_out::Writer;
 use trace_text::Trace;
 
 /// The most bytes of an entry of a journal's line.
@@ -26,14 +26,10 @@ const ENTRY: usize = 12;
 const FRAME: usize = 32;
 
 /// Texts with nothing in them, one for each shard, with room for all that its journal may have.
-pub(crate) fn empty_texts(
-    alloc: Global,
-    trace: &Trace,
-    shards: u32,
-) -> Result<Vec<Held>, AllocError>
-    requires parsed_for { shards ≡ trace.now.shards }
-    ensures { IfOk result (λ texts. vec_len texts ≡ shards) }
+pub(crate) fn empty_texts(alloc: Global, trace: &Trace) -> Result<Vec<Held>, AllocError>
+    ensures { IfOk result (λ texts. vec_len texts ≡ trace.now.shards) }
 {
+    let shards = trace.shards();
     let mut texts = Vec::with_capacity(alloc, shards as usize)?;
     for shard in 0..shards {
         let needs = trace.needs(shard, shards);
@@ -52,7 +48,7 @@ pub(crate) fn put_journals_on<R: Threads + Sync, K: Sink>(
     journals: &[Journal],
 ) -> Result<(), Failed>
     requires threads { 0 < threads }
-    ensures { Writes result (output K.written K.faults writer.old) (output K.written K.faults writer.new)
+    ensures { Writes result writer.old writer.new
         (flat_map (λ journal. line (journal_text journal)) (enumerate_from 0 (journals_in journals.now))) }
 {
     if texts.len() != journals.len() {
@@ -68,7 +64,21 @@ fn write_journal<K: Sink>(sink: &mut K, shard: u64, journal: &Journal) -> Result
     ensures failed { OnErr result (Rose (K.faults sink.old) (K.faults sink.new)) }
 {
     let mut writer = Writer::new(sink);
-    put_journal(&mut writer, shard, journal)?;
+    let written = finish_journal(&mut writer, shard, journal);
+    writer.into_sink();
+    written
+}
+
+/// The line of a shard's journal. The sink has it then.
+fn finish_journal<K: Sink>(
+    writer: &mut Writer<'_, K>,
+    shard: u64,
+    journal: &Journal,
+) -> Result<(), Failed>
+    ensures wrote { Writes result writer.old writer.new (line (journal_text (shard, journal.now.entries))) }
+    ensures empty { OnOk result (writer.new.block ≡ []) }
+{
+    put_journal(writer, shard, journal)?;
     writer.flush()
 }
 
@@ -109,7 +119,7 @@ fn put_made_journal<K: Sink>(
     text: &Held,
 ) -> Result<(), Failed>
     requires { SaysJournal shard journal.now text.now }
-    ensures { Writes result (output K.written K.faults writer.old) (output K.written K.faults writer.new)
+    ensures { Writes result writer.old writer.new
         (line (journal_text (shard, journal.now.entries))) }
 {
     match text.whole() {
@@ -127,7 +137,7 @@ fn put_made_journals<K: Sink>(
     requires one_each { length texts.now ≡ length journals.now }
     requires says { (k : ℕ) (d : Held) (e : _) → k < length journals.now
         → SaysJournal k (slice_index_or journals.now k e) (slice_index_or texts.now k d) }
-    ensures { Writes result (output K.written K.faults writer.old) (output K.written K.faults writer.new)
+    ensures { Writes result writer.old writer.new
         (flat_map (λ journal. line (journal_text journal)) (enumerate_from 0 (journals_in journals.now))) }
 {
     for (shard, journal) in journals.iter().enumerate() {

@@ -4,6 +4,7 @@
 //! [`write_summary`].
 #![tactic(auto)]
 
+mod answered_run;
 mod answers;
 mod found;
 mod held;
@@ -18,7 +19,6 @@ mod side_by_side;
 mod stretch;
 mod summary;
 mod tally;
-mod writer;
 
 pub use report::write_report;
 pub use reserved::Texts;

@@ -6,14 +6,14 @@ ghost use Rattle.rows.specs.KeyBody.{AreKeys};
 ghost use Rattle.cache_model.specs.Report.{line, answer_text, reply_text, entry_text, journal_text, occupancy_text};
 ghost use Rattle.report_text.specs.inside.Spells.{Spells};
 ghost use Rattle.report_text.specs.Views.{occupancies_in, occupancy_in};
-ghost use Rattle.report_text.specs.inside.Output.{Writes, output};
+ghost use Rattle.text_lemmas.specs.Writing.{Writes};
 ghost use Rattle.report_text.specs.inside.Words.{word};
 
 use crate::ShardLine;
-use crate::writer::Writer;
 use cache_model::{Entry, ReplyKind};
 use outside::{Failed, Sink};
 use run_log::{Journal, next_key};
+use text_out::Writer;
 
 fn word(kind: ReplyKind) -> &'static [u8]
     ensures { result.now ≡ word kind }
@@ -33,7 +33,7 @@ fn put_keys<K: Sink>(writer: &mut Writer<'_, K>, body: &[u8]) -> Result<(), Fail
     requires keys { (keys : List (List ℕ)) × AreKeys body.now keys }
     requires short { length body.now < 2 ^ 32 }
     ensures { (keys : List (List ℕ)) → AreKeys body.now keys
-        → Writes result (output K.written K.faults writer.old) (output K.written K.faults writer.new)
+        → Writes result writer.old writer.new
         (flat_map (λ key. 32 ∷ key) keys) }
 {
     let mut at = 0;
@@ -54,7 +54,7 @@ fn put_reply<K: Sink>(
     requires reply { (reply : Reply) × Spells kind body.now reply }
     requires short { length body.now < 2 ^ 32 }
     ensures { (reply : Reply) → Spells kind body.now reply
-        → Writes result (output K.written K.faults writer.old) (output K.written K.faults writer.new) (reply_text reply) }
+        → Writes result writer.old writer.new (reply_text reply) }
 {
     writer.put(word(kind))?;
     match kind {
@@ -73,7 +73,7 @@ pub(crate) fn put_reply_line<K: Sink>(
     requires reply { (reply : Reply) × Spells kind body.now reply }
     requires short { length body.now < 2 ^ 32 }
     ensures { (reply : Reply) → Spells kind body.now reply
-        → Writes result (output K.written K.faults writer.old) (output K.written K.faults writer.new)
+        → Writes result writer.old writer.new
         (line (answer_text (number, reply))) }
 {
     writer.put_number(u64::from(number))?;
@@ -83,7 +83,7 @@ pub(crate) fn put_reply_line<K: Sink>(
 }
 
 fn put_entry<K: Sink>(writer: &mut Writer<'_, K>, entry: Entry) -> Result<(), Failed>
-    ensures { Writes result (output K.written K.faults writer.old) (output K.written K.faults writer.new) (32 ∷ entry_text entry) }
+    ensures { Writes result writer.old writer.new (32 ∷ entry_text entry) }
 {
     match entry {
         Entry::Done(number) => writer.put_field(b" ", u64::from(number)),
@@ -92,7 +92,7 @@ fn put_entry<K: Sink>(writer: &mut Writer<'_, K>, entry: Entry) -> Result<(), Fa
 }
 
 fn put_entries<K: Sink>(writer: &mut Writer<'_, K>, entries: &[Entry]) -> Result<(), Failed>
-    ensures { Writes result (output K.written K.faults writer.old) (output K.written K.faults writer.new)
+    ensures { Writes result writer.old writer.new
         (flat_map (λ entry. 32 ∷ entry_text entry) entries.now) }
 {
     for entry in entries {
@@ -107,7 +107,7 @@ pub(crate) fn put_journal<K: Sink>(
     shard: u64,
     journal: &Journal,
 ) -> Result<(), Failed>
-    ensures { Writes result (output K.written K.faults writer.old) (output K.written K.faults writer.new)
+    ensures { Writes result writer.old writer.new
         (line (journal_text (shard, journal.now.entries))) }
 {
     writer.put_field(b"journal ", shard)?;
@@ -117,7 +117,7 @@ pub(crate) fn put_journal<K: Sink>(
 
 /// Fields, each a name and a number.
 fn put_fields<K: Sink>(writer: &mut Writer<'_, K>, fields: &[(&[u8], u64)]) -> Result<(), Failed>
-    ensures { Writes result (output K.written K.faults writer.old) (output K.written K.faults writer.new)
+    ensures { Writes result writer.old writer.new
         (flat_map (λ field. field.0.now ++ decimal field.1) fields.now) }
 {
     for (name, number) in fields {
@@ -131,7 +131,7 @@ pub(crate) fn put_field_line<K: Sink>(
     writer: &mut Writer<'_, K>,
     fields: &[(&[u8], u64)],
 ) -> Result<(), Failed>
-    ensures { Writes result (output K.written K.faults writer.old) (output K.written K.faults writer.new)
+    ensures { Writes result writer.old writer.new
         (line (flat_map (λ field. field.0.now ++ decimal field.1) fields.now)) }
 {
     put_fields(writer, fields)?;
@@ -144,7 +144,7 @@ fn put_shard_line<K: Sink>(
     shard: u64,
     occupancy: &ShardLine,
 ) -> Result<(), Failed>
-    ensures { Writes result (output K.written K.faults writer.old) (output K.written K.faults writer.new)
+    ensures { Writes result writer.old writer.new
         (line (occupancy_text (shard, occupancy_in occupancy.now))) }
 {
     put_field_line(
@@ -161,7 +161,7 @@ fn put_shard_line<K: Sink>(
 
 /// The lines of what the shards hold.
 fn put_shard_lines<K: Sink>(writer: &mut Writer<'_, K>, lines: &[ShardLine]) -> Result<(), Failed>
-    ensures { Writes result (output K.written K.faults writer.old) (output K.written K.faults writer.new)
+    ensures { Writes result writer.old writer.new
         (flat_map (λ occupancy. line (occupancy_text occupancy)) (enumerate_from 0 (occupancies_in lines.now))) }
 {
     for (shard, line) in lines.iter().enumerate() {
@@ -172,9 +172,9 @@ fn put_shard_lines<K: Sink>(writer: &mut Writer<'_, K>, lines: &[ShardLine]) -> 
 
 /// The last lines, of what the shards hold. The sink has the whole text then.
 pub(crate) fn finish<K: Sink>(writer: &mut Writer<'_, K>, lines: &[ShardLine]) -> Result<(), Failed>
-    ensures wrote { Writes result (output K.written K.faults writer.old) (output K.written K.faults writer.new)
+    ensures wrote { Writes result writer.old writer.new
         (flat_map (λ occupancy. line (occupancy_text occupancy)) (enumerate_from 0 (occupancies_in lines.now))) }
-    ensures empty { OnOk result (writer.new.block.items ≡ []) }
+    ensures empty { OnOk result (writer.new.block ≡ []) }
 {
     put_shard_lines(writer, lines)?;
     writer.flush()

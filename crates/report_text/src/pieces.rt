@@ -1,26 +1,27 @@
 //! Pieces of the report: the lines of some of the answers, made in memory of their own.
-ghost use Rattle.std.specs.Prelude.{◌≡◌, ◌+◌, ◌<◌, ◌≤◌, ℕ, min, All, List, length, vec_len, IfOk, OnOk, OnErr};
+ghost use Rattle.std.specs.Prelude.{◌≡◌, ◌+◌, ◌<◌, ◌≤◌, ℕ, [], min, All, List, length, vec_len, IfOk, OnOk, OnErr};
 ghost use Rattle.std.specs.List.{slice_index_or};
 ghost use Rattle.std.specs.Io.KnownBytes.{Appends};
 ghost use Rattle.layout.specs.Counts.{Rose};
 ghost use Rattle.trace_text.specs.Parsed.{trace_in};
 ghost use Rattle.rows.specs.Apply.{Reply};
-ghost use Rattle.cache_model.specs.Logged.{AreLogged};
 ghost use Rattle.report_text.specs.Views.{replies_in};
-ghost use Rattle.report_text.specs.inside.Output.{Writes, output};
+ghost use Rattle.report_text.specs.inside.AnsweredRun.{Have};
+ghost use Rattle.text_lemmas.specs.Writing.{Writes};
 ghost use Rattle.report_text.specs.inside.Places.{ArePlaces};
 ghost use Rattle.report_text.specs.inside.Stretches.{IsStretch, answer_lines};
 ghost use Rattle.report_text.specs.inside.Pieces.{AreRound, SaysAnswers, begins, piece_commands};
 
+use crate::answered_run::Answered;
 use crate::held::Held;
 use crate::place::{Places, next_replies};
 use crate::stretch::{Stretch, no_commands, put_stretch};
-use crate::writer::Writer;
 use outside::{Failed, Sink};
 use run_log::ReplyLog;
 use std::alloc::{AllocError, Global};
 use std::thread;
 use std::thread::Threads;
+use text_out::Writer;
 use trace_text::Trace;
 
 /// How many commands a piece has, but for the last ones.
@@ -100,37 +101,45 @@ pub(crate) fn begin_round(
 }
 
 /// Gives the sink the lines of the answers to the commands of a stretch.
-fn write_stretch<K: Sink>(
-    sink: &mut K,
-    trace: &Trace,
-    shards: u32,
-    logs: &[ReplyLog],
-    stretch: &Stretch,
-) -> Result<(), Failed>
-    requires parsed_for { shards ≡ trace.now.shards }
-    requires one_log_each { length logs.now ≡ shards }
-    requires answered { (answers : List (ℕ × Reply)) × AreLogged (trace_in trace.now) shards (replies_in logs.now) answers }
-    requires stretch { IsStretch trace.now stretch.now }
-    ensures written { OnOk result ((answers : List (ℕ × Reply)) → AreLogged (trace_in trace.now) shards (replies_in logs.now) answers
+fn write_stretch<K: Sink>(sink: &mut K, run: &Answered<'_>, stretch: &Stretch) -> Result<(), Failed>
+    requires answered { (answers : List (ℕ × Reply)) × Have run.now.trace.now run.now.shards run.now.logs.now answers }
+    requires stretch { IsStretch run.now.trace.now stretch.now }
+    ensures written { OnOk result ((answers : List (ℕ × Reply)) → Have run.now.trace.now run.now.shards run.now.logs.now answers
         → Appends (K.written sink.old) (K.written sink.new) (answer_lines answers stretch.now.from stretch.now.to)) }
     ensures failed { OnErr result (Rose (K.faults sink.old) (K.faults sink.new)) }
 {
     let mut writer = Writer::new(sink);
-    put_stretch(&mut writer, trace, shards, logs, stretch)?;
+    let written = finish_stretch(&mut writer, run, stretch);
+    writer.into_sink();
+    written
+}
+
+/// The lines of the answers to a stretch of commands. The sink has them then.
+fn finish_stretch<K: Sink>(
+    writer: &mut Writer<'_, K>,
+    run: &Answered<'_>,
+    stretch: &Stretch,
+) -> Result<(), Failed>
+    requires answered { (answers : List (ℕ × Reply)) × Have run.now.trace.now run.now.shards run.now.logs.now answers }
+    requires stretch { IsStretch run.now.trace.now stretch.now }
+    ensures wrote { (answers : List (ℕ × Reply)) → Have run.now.trace.now run.now.shards run.now.logs.now answers →
+        Writes result writer.old writer.new (answer_lines answers stretch.now.from stretch.now.to) }
+    ensures empty { OnOk result (writer.new.block ≡ []) }
+{
+    put_stretch(writer, run, stretch)?;
     writer.flush()
 }
 
 /// Writes the lines of a piece into its memory.
-fn make_piece(piece: &mut Piece, trace: &Trace, shards: u32, logs: &[ReplyLog])
-    requires parsed_for { shards ≡ trace.now.shards }
-    requires one_log_each { length logs.now ≡ shards }
-    requires answered { (answers : List (ℕ × Reply)) × AreLogged (trace_in trace.now) shards (replies_in logs.now) answers }
-    requires stretch { IsStretch trace.now piece.old.stretch }
+fn make_piece(piece: &mut Piece, run: &Answered<'_>)
+    requires answered { (answers : List (ℕ × Reply)) × Have run.now.trace.now run.now.shards run.now.logs.now answers }
+    requires stretch { IsStretch run.now.trace.now piece.old.stretch }
     ensures stretch { piece.new.stretch ≡ piece.old.stretch }
-    ensures says { SaysAnswers (trace_in trace.now) shards (replies_in logs.now) piece.new.stretch piece.new.text }
+    ensures says { SaysAnswers (trace_in run.now.trace.now) run.now.shards (replies_in run.now.logs.now)
+        piece.new.stretch piece.new.text }
 {
     piece.text.clear();
-    let _ = write_stretch(&mut piece.text, trace, shards, logs, &piece.stretch);
+    let _ = write_stretch(&mut piece.text, run, &piece.stretch);
 }
 
 /// Writes the lines of each piece, on at most so many threads.
@@ -138,71 +147,57 @@ pub(crate) fn make_pieces<R: Threads + Sync>(
     rt: &R,
     threads: usize,
     pieces: &mut [Piece],
-    trace: &Trace,
-    shards: u32,
-    logs: &[ReplyLog],
+    run: &Answered<'_>,
 )
     requires threads { 0 < threads }
-    requires parsed_for { shards ≡ trace.now.shards }
-    requires one_log_each { length logs.now ≡ shards }
-    requires answered { (answers : List (ℕ × Reply)) × AreLogged (trace_in trace.now) shards (replies_in logs.now) answers }
-    requires stretches { All (λ piece. IsStretch trace.now piece.stretch) pieces.old }
+    requires answered { (answers : List (ℕ × Reply)) × Have run.now.trace.now run.now.shards run.now.logs.now answers }
+    requires stretches { All (λ piece. IsStretch run.now.trace.now piece.stretch) pieces.old }
     ensures len { length pieces.new ≡ length pieces.old }
     ensures stretches { (k : ℕ) (d : Piece) → k < length pieces.old
         → (slice_index_or pieces.new k d).stretch ≡ (slice_index_or pieces.old k d).stretch }
-    ensures says { All (λ piece. SaysAnswers (trace_in trace.now) shards (replies_in logs.now) piece.stretch piece.text) pieces.new }
+    ensures says { All (λ piece. SaysAnswers (trace_in run.now.trace.now) run.now.shards (replies_in run.now.logs.now)
+        piece.stretch piece.text) pieces.new }
 {
-    thread::for_each_mut(
-        rt,
-        pieces,
-        threads,
-        &|_, piece| make_piece(piece, trace, shards, logs),
-    );
+    thread::for_each_mut(rt, pieces, threads, &|_, piece| make_piece(piece, run));
 }
 
 /// The lines of a piece, which are written straight to the sink where there was no room for them.
 fn put_piece<K: Sink>(
     writer: &mut Writer<'_, K>,
-    trace: &Trace,
-    shards: u32,
-    logs: &[ReplyLog],
+    run: &Answered<'_>,
     piece: &Piece,
 ) -> Result<(), Failed>
-    requires parsed_for { shards ≡ trace.now.shards }
-    requires one_log_each { length logs.now ≡ shards }
-    requires answered { (answers : List (ℕ × Reply)) × AreLogged (trace_in trace.now) shards (replies_in logs.now) answers }
-    requires stretch { IsStretch trace.now piece.now.stretch }
-    requires says { SaysAnswers (trace_in trace.now) shards (replies_in logs.now) piece.now.stretch piece.now.text }
-    ensures { (answers : List (ℕ × Reply)) → AreLogged (trace_in trace.now) shards (replies_in logs.now) answers →
-        Writes result (output K.written K.faults writer.old) (output K.written K.faults writer.new)
+    requires answered { (answers : List (ℕ × Reply)) × Have run.now.trace.now run.now.shards run.now.logs.now answers }
+    requires stretch { IsStretch run.now.trace.now piece.now.stretch }
+    requires says { SaysAnswers (trace_in run.now.trace.now) run.now.shards (replies_in run.now.logs.now)
+        piece.now.stretch piece.now.text }
+    ensures { (answers : List (ℕ × Reply)) → Have run.now.trace.now run.now.shards run.now.logs.now answers →
+        Writes result writer.old writer.new
         (answer_lines answers piece.now.stretch.from piece.now.stretch.to) }
 {
     match piece.text.whole() {
         Some(text) => writer.put(text),
-        None => put_stretch(writer, trace, shards, logs, &piece.stretch),
+        None => put_stretch(writer, run, &piece.stretch),
     }
 }
 
 /// The lines of all pieces of a round, in order.
 pub(crate) fn put_pieces<K: Sink>(
     writer: &mut Writer<'_, K>,
-    trace: &Trace,
-    shards: u32,
-    logs: &[ReplyLog],
+    run: &Answered<'_>,
     pieces: &[Piece],
 ) -> Result<(), Failed>
-    requires parsed_for { shards ≡ trace.now.shards }
-    requires one_log_each { length logs.now ≡ shards }
-    requires answered { (answers : List (ℕ × Reply)) × AreLogged (trace_in trace.now) shards (replies_in logs.now) answers }
-    requires round { (start : ℕ) × AreRound trace.now start pieces.now }
-    requires says { All (λ piece. SaysAnswers (trace_in trace.now) shards (replies_in logs.now) piece.stretch piece.text) pieces.now }
-    ensures { (start : ℕ) (answers : List (ℕ × Reply)) → AreRound trace.now start pieces.now
-        → AreLogged (trace_in trace.now) shards (replies_in logs.now) answers →
-        Writes result (output K.written K.faults writer.old) (output K.written K.faults writer.new)
-        (answer_lines answers start (begins (length trace.now.commands) start (length pieces.now))) }
+    requires answered { (answers : List (ℕ × Reply)) × Have run.now.trace.now run.now.shards run.now.logs.now answers }
+    requires round { (start : ℕ) × AreRound run.now.trace.now start pieces.now }
+    requires says { All (λ piece. SaysAnswers (trace_in run.now.trace.now) run.now.shards (replies_in run.now.logs.now)
+        piece.stretch piece.text) pieces.now }
+    ensures { (start : ℕ) (answers : List (ℕ × Reply)) → AreRound run.now.trace.now start pieces.now
+        → Have run.now.trace.now run.now.shards run.now.logs.now answers →
+        Writes result writer.old writer.new
+        (answer_lines answers start (begins (length run.now.trace.now.commands) start (length pieces.now))) }
 {
     for piece in pieces {
-        put_piece(writer, trace, shards, logs, piece)?;
+        put_piece(writer, run, piece)?;
     }
     Ok(())
 }

@@ -6,7 +6,8 @@ ghost use Rattle.trace_text.specs.Parsed.{trace_in};
 ghost use Rattle.trace_text.specs.Parts.{longest_value, most_shards, origin};
 ghost use Rattle.trace_text.specs.declared.command.Command.{Command as TraceCommand};
 ghost use Rattle.rows.specs.Apply.{Reply};
-ghost use Rattle.cache_model.specs.Logged.{AreLogged, IsRead};
+ghost use Rattle.cache_model.specs.Logged.{AreLogged};
+ghost use Rattle.cache_model.specs.ReadOff.{IsRead};
 ghost use Rattle.report_text.specs.Views.{replies_in};
 ghost use Rattle.report_text.specs.inside.Places.{ArePlaces};
 

@@ -1,5 +1,5 @@
 //! The report.
-ghost use Rattle.std.specs.Prelude.{◌≡◌, ℕ, ◌≤◌, List, length, flat_map, OnOk, OnErr};
+ghost use Rattle.std.specs.Prelude.{◌≡◌, ℕ, ◌≤◌, [], List, length, flat_map, OnOk, OnErr};
 ghost use Rattle.std.specs.List.{enumerate_from};
 ghost use Rattle.std.specs.Io.KnownBytes.{Appends};
 ghost use Rattle.outside.specs.Moves.{AppendsFront};
@@ -9,15 +9,17 @@ ghost use Rattle.cache_model.specs.Logged.{AreLogged};
 ghost use Rattle.cache_model.specs.Report.{line, answer_text, journal_text, report_of};
 ghost use Rattle.trace_text.specs.Parsed.{trace_in};
 ghost use Rattle.report_text.specs.Views.{journals_in, occupancies_in, replies_in};
-ghost use Rattle.report_text.specs.inside.Output.{Writes, output};
+ghost use Rattle.report_text.specs.inside.AnsweredRun.{Have};
+ghost use Rattle.text_lemmas.specs.Writing.{Writes};
 
 use crate::ShardLine;
+use crate::answered_run::Answered;
 use crate::lines::{finish, put_journal};
 use crate::stretch::{all_commands, put_stretch};
-use crate::writer::Writer;
 use cache_model::answers_are_read_by_command;
 use outside::{Failed, Sink};
 use run_log::{Journal, ReplyLog};
+use text_out::Writer;
 use trace_text::Trace;
 
 /// Writes the report of a run of `trace` on `shards` shards, 1 to 16, each with its log, its journal and
@@ -61,34 +63,53 @@ pub fn write_report<K: Sink>(
     ensures failed { OnErr result (Rose (K.faults sink.old) (K.faults sink.new)) }
     ensures never_falls { K.faults sink.old ≤ K.faults sink.new }
 {
+    let run = Answered {
+        trace,
+        shards,
+        logs,
+    };
     let mut writer = Writer::new(sink);
-    put_answers(&mut writer, trace, shards, logs)?;
-    put_journals(&mut writer, journals)?;
-    finish(&mut writer, lines)
+    let written = put_report(&mut writer, &run, journals, lines);
+    writer.into_sink();
+    written
 }
 
+/// The report. The sink has the whole text then.
+fn put_report<K: Sink>(
+    writer: &mut Writer<'_, K>,
+    run: &Answered<'_>,
+    journals: &[Journal],
+    lines: &[ShardLine],
+) -> Result<(), Failed>
+    requires answered { (answers : List (ℕ × Reply)) × Have run.now.trace.now run.now.shards run.now.logs.now answers }
+    ensures wrote { (answers : List (ℕ × Reply)) → Have run.now.trace.now run.now.shards run.now.logs.now answers →
+        Writes result writer.old writer.new (report_of answers (journals_in journals.now) (occupancies_in lines.now)) }
+    ensures empty { OnOk result (writer.new.block ≡ []) }
+{
+    put_answers(writer, run)?;
+    put_journals(writer, journals)?;
+    finish(writer, lines)
+}
+
+/// The lines of the answers to all commands.
 pub(crate) fn put_answers<K: Sink>(
     writer: &mut Writer<'_, K>,
-    trace: &Trace,
-    shards: u32,
-    logs: &[ReplyLog],
+    run: &Answered<'_>,
 ) -> Result<(), Failed>
-    requires parsed_for { shards ≡ trace.now.shards }
-    requires one_log_each { length logs.now ≡ shards }
-    requires answered { (answers : List (ℕ × Reply)) × AreLogged (trace_in trace.now) shards (replies_in logs.now) answers }
-    ensures { (answers : List (ℕ × Reply)) → AreLogged (trace_in trace.now) shards (replies_in logs.now) answers →
-        Writes result (output K.written K.faults writer.old) (output K.written K.faults writer.new) (flat_map
+    requires answered { (answers : List (ℕ × Reply)) × Have run.now.trace.now run.now.shards run.now.logs.now answers }
+    ensures { (answers : List (ℕ × Reply)) → Have run.now.trace.now run.now.shards run.now.logs.now answers →
+        Writes result writer.old writer.new (flat_map
         (λ answer. line (answer_text answer)) answers) }
 {
     answers_are_read_by_command();
-    put_stretch(writer, trace, shards, logs, &all_commands(trace))
+    put_stretch(writer, run, &all_commands(run.trace))
 }
 
 pub(crate) fn put_journals<K: Sink>(
     writer: &mut Writer<'_, K>,
     journals: &[Journal],
 ) -> Result<(), Failed>
-    ensures { Writes result (output K.written K.faults writer.old) (output K.written K.faults writer.new)
+    ensures { Writes result writer.old writer.new
         (flat_map (λ journal. line (journal_text journal)) (enumerate_from 0 (journals_in journals.now))) }
 {
     for (shard, journal) in journals.iter().enumerate() {

@@ -1,6 +1,5 @@
 //! The memory in which a report is made on threads, reserved before the run.
-ghost use Rattle.std.specs.Prelude.{◌≡◌, ◌^◌, ◌<◌, ◌≤◌, length};
-ghost use Rattle.trace_text.specs.Parts.{most_shards};
+ghost use Rattle.std.specs.Prelude.{◌^◌, ◌<◌, ◌≤◌, length};
 
 use crate::held::Held;
 use crate::journal_texts::empty_texts;
@@ -41,34 +40,27 @@ pub struct Texts {
 }
 
 impl Texts {
-    /// Texts for the report of this trace, made on at most `threads` threads, with `shards` shards, for which the trace was parsed.
-    /// For one thread, or no more than 8,192 commands, there are none.
+    /// Texts for the report of this trace, made on at most `threads` threads. For one thread, or no more than 8,192 commands, there
+    /// are none.
     ///
     /// # Errors
     ///
     /// [`AllocError`] where there is no memory. No other call takes any for a report.
-    pub fn new(
-        alloc: Global,
-        threads: usize,
-        trace: &Trace,
-        shards: u32,
-    ) -> Result<Texts, AllocError>
-        requires parsed_for { shards ≡ trace.now.shards }
-    {
+    pub fn new(alloc: Global, threads: usize, trace: &Trace) -> Result<Texts, AllocError> {
         if threads == 1 || trace.commands().len() <= FEW {
             return Ok(Texts {
                 pieces: Vec::new(alloc),
                 journals: Vec::new(alloc),
             });
         }
-        let room = thread_room(trace, shards);
+        let room = thread_room(trace);
         Ok(Texts {
             pieces: empty_pieces(
                 alloc,
                 threads.min(MOST_SHARDS as usize) * room.pieces,
                 room.bytes,
             )?,
-            journals: empty_texts(alloc, trace, shards)?,
+            journals: empty_texts(alloc, trace)?,
         })
     }
 }
@@ -82,13 +74,12 @@ struct Room {
 }
 
 /// As many pieces as have room, but one at least.
-fn thread_room(trace: &Trace, shards: u32) -> Room
-    requires parsed_for { shards ≡ trace.now.shards }
+fn thread_room(trace: &Trace) -> Room
     requires some { 0 < length trace.now.commands }
     ensures few { result.pieces ≤ 64 }
 {
     let values = PIECE * (FRAME + trace.longest_value() as usize);
-    let lines = values + PIECE * keys_share(trace, shards);
+    let lines = values + PIECE * keys_share(trace);
     Room {
         pieces: (MOST_BYTES / lines).clamp(1, MOST_PIECES),
         bytes: lines.min(values.max(MOST_BYTES)),
@@ -97,22 +88,20 @@ fn thread_room(trace: &Trace, shards: u32) -> Room
 
 /// An even share of the keys that scans may find, in bytes: [`KEYS`] for each of their parts but the first, of which each scan has
 /// one at least where there are several shards.
-fn keys_share(trace: &Trace, shards: u32) -> usize
-    requires parsed_for { shards ≡ trace.now.shards }
+fn keys_share(trace: &Trace) -> usize
     requires some { 0 < length trace.now.commands }
     ensures { result ≤ KEYS }
 {
     let commands = trace.commands().len();
-    let beside = parts_in(trace, shards).saturating_sub(commands);
+    let beside = parts_in(trace).saturating_sub(commands);
     (beside * KEYS / commands).min(KEYS)
 }
 
 /// How many parts the commands have together.
-fn parts_in(trace: &Trace, shards: u32) -> usize
-    requires parsed_for { shards ≡ trace.now.shards }
-    requires most { shards ≤ most_shards }
+fn parts_in(trace: &Trace) -> usize
     ensures { result < 2 ^ 37 }
 {
+    let shards = trace.shards();
     let mut parts = 0;
     for shard in 0..shards {
         parts += trace.needs(shard, shards).own_parts as usize;

@@ -1,18 +1,16 @@
 //! Commands that stand one behind another, and the lines of their answers.
 ghost use Rattle.std.specs.Prelude.{◌≡◌, ℕ, List, length};
-ghost use Rattle.trace_text.specs.Parsed.{trace_in};
 ghost use Rattle.rows.specs.Apply.{Reply};
-ghost use Rattle.cache_model.specs.Logged.{AreLogged};
-ghost use Rattle.report_text.specs.Views.{replies_in};
-ghost use Rattle.report_text.specs.inside.Output.{Writes, output};
+ghost use Rattle.report_text.specs.inside.AnsweredRun.{Have};
+ghost use Rattle.text_lemmas.specs.Writing.{Writes};
 ghost use Rattle.report_text.specs.inside.Stretches.{IsStretch, answer_lines};
 
+use crate::answered_run::Answered;
 use crate::answers::put_answer;
 use crate::place::{Places, next_replies};
-use crate::writer::Writer;
 use cache_model::answers_are_read_by_command;
 use outside::{Failed, Sink};
-use run_log::ReplyLog;
+use text_out::Writer;
 use trace_text::{MOST_SHARDS, Trace};
 
 /// The commands from one on, up to another, and the places before the first of them.
@@ -48,25 +46,22 @@ pub(crate) fn all_commands(trace: &Trace) -> Stretch
 /// The lines of the answers to the commands of a stretch.
 pub(crate) fn put_stretch<K: Sink>(
     writer: &mut Writer<'_, K>,
-    trace: &Trace,
-    shards: u32,
-    logs: &[ReplyLog],
+    run: &Answered<'_>,
     stretch: &Stretch,
 ) -> Result<(), Failed>
-    requires parsed_for { shards ≡ trace.now.shards }
-    requires one_log_each { length logs.now ≡ shards }
-    requires answered { (answers : List (ℕ × Reply)) × AreLogged (trace_in trace.now) shards (replies_in logs.now) answers }
-    requires stretch { IsStretch trace.now stretch.now }
-    ensures { (answers : List (ℕ × Reply)) → AreLogged (trace_in trace.now) shards (replies_in logs.now) answers →
-        Writes result (output K.written K.faults writer.old) (output K.written K.faults writer.new)
+    requires answered { (answers : List (ℕ × Reply)) × Have run.now.trace.now run.now.shards run.now.logs.now answers }
+    requires stretch { IsStretch run.now.trace.now stretch.now }
+    ensures { (answers : List (ℕ × Reply)) → Have run.now.trace.now run.now.shards run.now.logs.now answers →
+        Writes result writer.old writer.new
         (answer_lines answers stretch.now.from stretch.now.to) }
 {
     answers_are_read_by_command();
+    let (trace, logs) = (run.trace, run.logs);
     let commands = trace.commands();
     let mut places = stretch.places;
     for index in stretch.from..stretch.to {
         let (log, first) = next_replies(&mut places, trace, index, logs);
-        put_answer(writer, &commands[index], shards, log, first)?;
+        put_answer(writer, &commands[index], run.shards, log, first)?;
     }
     Ok(())
 }

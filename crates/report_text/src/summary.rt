@@ -1,5 +1,5 @@
 //! The summary.
-ghost use Rattle.std.specs.Prelude.{◌≡◌, ◌^◌, ◌<◌, ◌≤◌, ℕ, List, ◌++◌, length, count_by, codes, decimal, OnOk, OnErr};
+ghost use Rattle.std.specs.Prelude.{◌≡◌, ◌^◌, ◌<◌, ◌≤◌, ℕ, [], List, ◌++◌, length, count_by, codes, decimal, OnOk, OnErr};
 ghost use Rattle.std.specs.Io.KnownBytes.{Appends};
 ghost use Rattle.outside.specs.Moves.{AppendsFront};
 ghost use Rattle.layout.specs.Counts.{Rose};
@@ -9,16 +9,18 @@ ghost use Rattle.cache_model.specs.Logged.{AreLogged};
 ghost use Rattle.cache_model.specs.Report.{line};
 ghost use Rattle.cache_model.specs.Summary.{evictions, is_evicted, summary_of, tally, tally_text};
 ghost use Rattle.report_text.specs.Views.{journals_in, occupancies_in, replies_in};
-ghost use Rattle.report_text.specs.inside.Output.{Writes, output};
+ghost use Rattle.report_text.specs.inside.AnsweredRun.{Have};
+ghost use Rattle.text_lemmas.specs.Writing.{Writes};
 ghost use Rattle.report_text.specs.inside.Tallies.{tally_in};
 
 use crate::ShardLine;
+use crate::answered_run::Answered;
 use crate::lines::{finish, put_field_line};
 use crate::tally::{Tally, tally_of};
-use crate::writer::Writer;
 use cache_model::{Entry, answers_are_read_by_command};
 use outside::{Failed, Sink};
 use run_log::{Journal, ReplyLog};
+use text_out::Writer;
 use trace_text::Trace;
 
 /// Writes the summary of a run of `trace` on `shards` shards, 1 to 16, each with its log, its journal and its line. Each
@@ -60,36 +62,52 @@ pub fn write_summary<K: Sink>(
     ensures failed { OnErr result (Rose (K.faults sink.old) (K.faults sink.new)) }
     ensures never_falls { K.faults sink.old ≤ K.faults sink.new }
 {
+    let run = Answered {
+        trace,
+        shards,
+        logs,
+    };
     let mut writer = Writer::new(sink);
-    put_counts(&mut writer, trace, shards, logs)?;
-    put_evictions(&mut writer, journals)?;
-    finish(&mut writer, lines)
+    let written = put_summary(&mut writer, &run, journals, lines);
+    writer.into_sink();
+    written
+}
+
+/// The summary. The sink has the whole text then.
+fn put_summary<K: Sink>(
+    writer: &mut Writer<'_, K>,
+    run: &Answered<'_>,
+    journals: &[Journal],
+    lines: &[ShardLine],
+) -> Result<(), Failed>
+    requires few { length journals.now < 2 ^ 32 }
+    requires answered { (answers : List (ℕ × Reply)) × Have run.now.trace.now run.now.shards run.now.logs.now answers }
+    ensures wrote { (answers : List (ℕ × Reply)) → Have run.now.trace.now run.now.shards run.now.logs.now answers →
+        Writes result writer.old writer.new (summary_of answers (journals_in journals.now) (occupancies_in lines.now)) }
+    ensures empty { OnOk result (writer.new.block ≡ []) }
+{
+    put_counts(writer, run)?;
+    put_evictions(writer, journals)?;
+    finish(writer, lines)
 }
 
 /// The lines of the commands and of their answers, counted.
-fn put_counts<K: Sink>(
-    writer: &mut Writer<'_, K>,
-    trace: &Trace,
-    shards: u32,
-    logs: &[ReplyLog],
-) -> Result<(), Failed>
-    requires parsed_for { shards ≡ trace.now.shards }
-    requires one_log_each { length logs.now ≡ shards }
-    requires answered { (answers : List (ℕ × Reply)) × AreLogged (trace_in trace.now) shards (replies_in logs.now) answers }
-    ensures { (answers : List (ℕ × Reply)) → AreLogged (trace_in trace.now) shards (replies_in logs.now) answers →
-        Writes result (output K.written K.faults writer.old) (output K.written K.faults writer.new) (line
+fn put_counts<K: Sink>(writer: &mut Writer<'_, K>, run: &Answered<'_>) -> Result<(), Failed>
+    requires answered { (answers : List (ℕ × Reply)) × Have run.now.trace.now run.now.shards run.now.logs.now answers }
+    ensures { (answers : List (ℕ × Reply)) → Have run.now.trace.now run.now.shards run.now.logs.now answers →
+        Writes result writer.old writer.new (line
         (codes "commands " ++ decimal (length answers)) ++ line (tally_text (tally answers))) }
 {
     answers_are_read_by_command();
-    let commands = trace.commands().len() as u64;
+    let commands = run.trace.commands().len() as u64;
     put_field_line(writer, &[(b"commands ", commands)])?;
-    let tally = tally_of(trace, shards, logs);
+    let tally = tally_of(run);
     put_tally(writer, &tally)
 }
 
 /// The line of the counted answers.
 fn put_tally<K: Sink>(writer: &mut Writer<'_, K>, tally: &Tally) -> Result<(), Failed>
-    ensures { Writes result (output K.written K.faults writer.old) (output K.written K.faults writer.new)
+    ensures { Writes result writer.old writer.new
         (line (tally_text (tally_in tally.now))) }
 {
     put_field_line(
@@ -132,7 +150,7 @@ fn evictions_of(journals: &[Journal]) -> u64
 /// The line of the evictions.
 fn put_evictions<K: Sink>(writer: &mut Writer<'_, K>, journals: &[Journal]) -> Result<(), Failed>
     requires few { length journals.now < 2 ^ 32 }
-    ensures { Writes result (output K.written K.faults writer.old) (output K.written K.faults writer.new)
+    ensures { Writes result writer.old writer.new
         (line (codes "evictions " ++ decimal (evictions (journals_in journals.now)))) }
 {
     put_field_line(writer, &[(b"evictions ", evictions_of(journals))])

@@ -1,19 +1,18 @@
 //! How many commands were answered how.
-ghost use Rattle.std.specs.Prelude.{◌≡◌, ◌+◌, ◌^◌, ◌<◌, ℕ, List, [], length, Some};
+ghost use Rattle.std.specs.Prelude.{◌≡◌, ◌+◌, ◌^◌, ◌<◌, ℕ, List, [], Some};
 ghost use Rattle.std.specs.List.{slice_get};
-ghost use Rattle.trace_text.specs.Parsed.{trace_in};
 ghost use Rattle.rows.specs.Apply.{Reply};
-ghost use Rattle.cache_model.specs.Logged.{AreLogged};
 ghost use Rattle.rows.specs.Spelled.{spelled};
 ghost use Rattle.cache_model.specs.Summary.{tally};
 ghost use Rattle.rows.specs.declared.reply_kind.ReplyKind.{ReplyKind as KindOfReply};
-ghost use Rattle.report_text.specs.Views.{replies_in};
+ghost use Rattle.report_text.specs.inside.AnsweredRun.{Have};
 ghost use Rattle.report_text.specs.inside.Tallies.{tally_in, total, with_answer};
 
+use crate::answered_run::Answered;
 use crate::place::next_replies;
 use cache_model::{ReplyKind, answers_are_read_by_command};
 use run_log::ReplyLog;
-use trace_text::{MOST_SHARDS, Trace};
+use trace_text::MOST_SHARDS;
 
 /// The numbers of answers, by their kind.
 #[derive(Clone, Copy)]
@@ -68,15 +67,14 @@ fn kind_at(log: &ReplyLog, part: u32) -> ReplyKind
     kind
 }
 
-/// The answers to the commands of a trace, counted.
-pub(crate) fn tally_of(trace: &Trace, shards: u32, logs: &[ReplyLog]) -> Tally
-    requires parsed_for { shards ≡ trace.now.shards }
-    requires one_log_each { length logs.now ≡ shards }
-    requires answered { (answers : List (ℕ × Reply)) × AreLogged (trace_in trace.now) shards (replies_in logs.now) answers }
-    ensures { (answers : List (ℕ × Reply)) → AreLogged (trace_in trace.now) shards (replies_in logs.now) answers
+/// The answers to the commands of a run, counted.
+pub(crate) fn tally_of(run: &Answered<'_>) -> Tally
+    requires answered { (answers : List (ℕ × Reply)) × Have run.now.trace.now run.now.shards run.now.logs.now answers }
+    ensures { (answers : List (ℕ × Reply)) → Have run.now.trace.now run.now.shards run.now.logs.now answers
         → tally_in result ≡ tally answers }
 {
     answers_are_read_by_command();
+    let (trace, logs) = (run.trace, run.logs);
     let mut places = [0; MOST_SHARDS as usize];
     let mut tally = Tally::none();
     for index in 0..trace.commands().len() {

@@ -1,5 +1,5 @@
-//! A row in the content of a segment's object: a header of 32 bytes, the key, the value, and zero bytes up to the size. The
-//! header ends with two links to other rows; which rows these are is not said here.
+//! A row in the content of a segment's object: a header of 32 bytes, the key, the value, and zero bytes up to the size.
+//! The header ends with two links to other rows, of a doubly linked list; which rows these are is not said here.
 //!
 //! The layout is this project's. What the bytes mean is `specs/Rows.antt`, in both directions: the bytes of a row, and
 //! the row that bytes are read as.

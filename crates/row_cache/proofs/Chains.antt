@@ -4,7 +4,8 @@ use Rattle.std.specs.Prelude.{⊤}
 use Rattle.std.specs.List.{last_or}
 use Rattle.regions.specs.Stores.{Live}
 use Rattle.regions.specs.declared.place.Place.{Place}
-use Rattle.row_cache.specs.Links.{AreApart, AreLinked, HaveRoom, Lacks, first_or, link_to, newer_at, older_at}
+use Rattle.regions.specs.Places.{link_to}
+use Rattle.row_cache.specs.Links.{AreApart, AreLinked, HaveRoom, Lacks, first_or, newer_at, older_at}
 use Rattle.row_cache.specs.inside.Chained.{JoinsLinks, LinksBefore, LinksBehind, SetsLinks}
 
 pub some_is : {A : Type 0} {a b : A} → Some a ≡ Some b → a ≡ b

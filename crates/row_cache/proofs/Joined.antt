@@ -3,15 +3,15 @@ use Rattle.std.proofs.Common.{◌≡◌, ◌≢◌, ℕ, zero, suc, ◌+◌, ◌
 use Rattle.std.specs.Prelude.{⊤}
 use Rattle.std.specs.List.{last_or}
 use Rattle.std.specs.Option.{option_eq}
-use Rattle.std.proofs.lemmas.Bool.Decides.{eqb_tells}
-use Rattle.row_bytes.specs.Rows.{newer_in, older_in, no_link}
+use Rattle.row_bytes.specs.Rows.{newer_in, older_in}
 use Rattle.regions.specs.Stores.{Live, is_place}
 use Rattle.regions.specs.declared.place.Place.{Place}
-use Rattle.row_cache.specs.Links.{AreLinked, HasRoom, HaveRoom, content_of, first_or, follow, led_to, link_to, newer_at, older_at, place_of_link}
+use Rattle.regions.specs.Places.{led_to, link_to}
+use Rattle.row_cache.specs.Links.{AreLinked, HaveRoom, content_of, first_or, follow, newer_at, older_at}
 use Rattle.row_cache.specs.declared.ends.Ends.{Ends}
 use Rattle.row_cache.specs.inside.Chained.{HoldRows, IsChain, JoinsLinks, LinksBefore, LinksBehind, SetsLinks}
 use Rattle.row_cache.proofs.States.{place_cases}
-use Rattle.row_cache.proofs.Moving.{place_tells}
+use Rattle.place_lemmas.proofs.Places.{HasRoomIf, leads_on, place_tells}
 use Rattle.row_cache.proofs.Chains.{some_is, last_append, linked_split, none_some, room_split}
 
 -- ---- two writes
@@ -56,23 +56,6 @@ before_some at a old new here kept others = record {
   ];
 }
 
--- ---- where a link leads
-
-abbrev at_fields : ℕ → ℕ → Place
-at_fields s a = record { segment = s; at = a }
-
-pub led_back : (p : Place) → HasRoom p → place_of_link (link_to (Some p)) ≡ p
-led_back p h =
-    let s : (p.segment * 4294967296 + p.at) / 4294967296 ≡ p.segment = (let small = h.1 in omega (arith, small)) in
-    let a : (p.segment * 4294967296 + p.at) % 4294967296 ≡ p.at = (let small = h.1 in omega (arith, small)) in
-    ap (λ n. at_fields n ((p.segment * 4294967296 + p.at) % 4294967296)) s ∙ ap (λ n. at_fields p.segment n) a
-
-pub leads_on : (p : Place) → HasRoom p → led_to (link_to (Some p)) ≡ Some p
-leads_on p h = elim (eqb_tells (link_to (Some p)) no_link) [
-  | inl e ↦ absurd (let q = e.1 in let s = h.0 in let a = h.1 in omega (arith, q, s, a))
-  | inr far ↦ ap (λ b. cond b None (Some (place_of_link (link_to (Some p))))) far.0 ∙ ap (λ q. Some q) (led_back p h)
-]
-
 pub followed : (k : ℕ) (live : Live) (before : Option Place) (ps : List Place) → length ps ≤ k → AreLinked live before ps None → HaveRoom ps → follow k live (first_or None ps) ≡ ps
 followed zero live before [] h l room = refl
 followed (suc k) live before [] h l room = refl
@@ -81,7 +64,7 @@ followed (suc k) live before (p ∷ []) h l room =
     ap (λ link. p ∷ follow k live (led_to link)) l.1 ∙ ap (λ (qs : List Place). p ∷ qs) (followed k live (Some p) [] (omega arith) tt tt)
 followed (suc k) live before (p ∷ q ∷ ps) h l room =
     ap (λ link. p ∷ follow k live (led_to link)) l.1
-    ∙ (ap (λ o. p ∷ follow k live o) (leads_on q (room.1).0)
+    ∙ (ap (λ o. p ∷ follow k live o) (leads_on (Some q) (room.1).0)
     ∙ ap (λ (qs : List Place). p ∷ qs) (followed k live (Some p) (q ∷ ps) (omega (arith, h)) l.2 room.1))
 
 -- ---- the neighbours of a row
@@ -93,15 +76,6 @@ rows_split live (x ∷ xs) ys h = (let r = rows_split live xs ys h.1 in ((h.0, r
 pub rows_merge : (live : Live) (xs ys : List Place) → HoldRows live xs → HoldRows live ys → HoldRows live (xs ++ ys)
 rows_merge live [] ys h k = k
 rows_merge live (x ∷ xs) ys h k = (h.0, rows_merge live xs ys h.1 k)
-
--- a link leads to the row to which it is one
-abbrev pub HasRoomIf : Option Place → Type 0
-HasRoomIf None = ⊤
-HasRoomIf (Some p) = HasRoom p
-
-leads : (o : Option Place) → HasRoomIf o → led_to (link_to o) ≡ o
-leads None h = refl
-leads (Some p) h = leads_on p h
 
 last_room : (o : Option Place) (xs : List Place) → HasRoomIf o → HaveRoom xs → HasRoomIf (last_or o xs)
 last_room o [] h k = h
@@ -119,11 +93,11 @@ older_is live ends at xs ys c = (linked_split live None xs (at ∷ ys) None c.li
 
 pub newer_led : (live : Live) (ends : Ends) (at : Place) (xs ys : List Place) → IsChain live ends (xs ++ at ∷ ys) → led_to (newer_at live at) ≡ last_or None xs
 newer_led live ends at xs ys c =
-    ap led_to (newer_is live ends at xs ys c) ∙ leads (last_or None xs) (last_room None xs tt (room_split xs (at ∷ ys) c.room).0)
+    ap led_to (newer_is live ends at xs ys c) ∙ leads_on (last_or None xs) (last_room None xs tt (room_split xs (at ∷ ys) c.room).0)
 
 pub older_led : (live : Live) (ends : Ends) (at : Place) (xs ys : List Place) → IsChain live ends (xs ++ at ∷ ys) → led_to (older_at live at) ≡ first_or None ys
 older_led live ends at xs ys c =
-    ap led_to (older_is live ends at xs ys c) ∙ leads (first_or None ys) (first_room ys (room_split xs (at ∷ ys) c.room).1.1)
+    ap led_to (older_is live ends at xs ys c) ∙ leads_on (first_or None ys) (first_room ys (room_split xs (at ∷ ys) c.room).1.1)
 
 -- the same of a row that has the links of another one
 pub newer_like : (live : Live) (ends : Ends) (from to : Place) (xs ys : List Place) (o : Option Place) → o ≡ led_to (newer_at live to) → live to ≡ live from

@@ -5,13 +5,14 @@ use Rattle.std.specs.List.{last_or}
 use Rattle.row_bytes.specs.Rows.{newer_in, older_in}
 use Rattle.regions.specs.Stores.{Live, less}
 use Rattle.regions.specs.declared.place.Place.{Place}
-use Rattle.row_cache.specs.Links.{AreLinked, HasRoom, Lacks, content_of, first_or, link_to}
+use Rattle.regions.specs.Places.{HasRoom, link_to}
+use Rattle.row_cache.specs.Links.{AreLinked, Lacks, content_of, first_or}
 use Rattle.row_cache.specs.declared.ends.Ends.{Ends}
 use Rattle.row_cache.specs.inside.Tables.{HoldsARow}
 use Rattle.row_cache.specs.inside.Chained.{HoldRows, IsChain, JoinsLinks, LinksBefore, LinksBehind, SetsLinks}
 use Rattle.row_cache.proofs.States.{some_none}
 use Rattle.row_cache.proofs.Relinked.{Relives, holds_still}
-use Rattle.row_cache.proofs.Moving.{less_here, less_past}
+use Rattle.place_lemmas.proofs.Places.{less_here, less_past}
 use Rattle.row_cache.proofs.Chains.{some_is, apart_split, apart_merge, disjoint_rest, disjoint_more, last_append, last_past, none_some, fronted, joined_before, joined_behind, lacks_split, lacks_merge, room_split, room_merge, unlinked, relocated}
 use Rattle.row_cache.proofs.Joined.{rows_split, rows_merge, last_behind, newer_is, older_is}
 

@@ -5,8 +5,7 @@ use Rattle.std.proofs.lemmas.List.Sums.{sum_by-cons}
 use Rattle.std.proofs.lemmas.Bool.Decides.{eqb_tells}
 use Rattle.std.specs.List.{last_or, sum}
 use Rattle.std.specs.Prelude.{slice_get, IsSome, option_map}
-use Rattle.rows.specs.Row.{Row, live, size}
-use Rattle.rows.specs.Evictions.{is_of_put}
+use Rattle.rows.specs.Row.{Row, live, size, is_of_put}
 use Rattle.row_bytes.specs.Rows.{HoldsRow, IsRow, row_in, without_links}
 use Rattle.common_lemmas.specs.Lists.{times, delete}
 use Rattle.regions.specs.Segments.{RegionState, SegmentState, idle}

@@ -2,12 +2,13 @@
 use Rattle.std.proofs.Common.{◌≡◌, ◌≢◌, ℕ, ◌⊎◌, inl, inr, true, false, cond, ◌&&◌, Some, None, refl, sym, ap, subst, ◌∙◌, arith}
 use Rattle.std.specs.Prelude.{nat_lt, ◌==◌, slice_get, slice_set, IsSome, option_map}
 use Rattle.std.proofs.lemmas.Bool.{cases_eq}
-use Rattle.std.proofs.lemmas.Bool.Decides.{leb_tells, eqb_tells}
+use Rattle.std.proofs.lemmas.Bool.Decides.{leb_tells}
 use Rattle.rows.specs.Row.{Row}
 use Rattle.common_lemmas.specs.Lists.{times}
 use Rattle.regions.specs.Contents.{Item}
-use Rattle.regions.specs.Stores.{Live, StandsFor, store_of, found, is_place, less, renamed}
+use Rattle.regions.specs.Stores.{Live, StandsFor, store_of, found, less, renamed}
 use Rattle.regions.specs.declared.place.Place.{Place}
+use Rattle.place_lemmas.proofs.Places.{less_here, less_past, renamed_here, renamed_past}
 use Rattle.row_cache.specs.Links.{bare}
 use Rattle.row_cache.specs.inside.Tables.{IsRowOf, TableState, AreTablesOf, IsListed, ReplacesRow, place_of}
 use Rattle.row_cache.proofs.Numbers.{listed_below}
@@ -38,31 +39,6 @@ tables_stand t live are =
     }
 
 -- ---- one row is moved
-
-abbrev at_fields : ℕ → ℕ → Place
-at_fields s a = record { segment = s; at = a }
-
-pub place_tells : (p q : Place) → ((is_place p q ≡ true) × (p ≡ q)) ⊎ ((is_place p q ≡ false) × (p ≢ q))
-place_tells p q = elim (eqb_tells p.segment q.segment) [
-  | inl a ↦
-      elim (eqb_tells p.at q.at) [
-        | inl b ↦ inl (ap (λ x. x && (p.at == q.at)) a.0 ∙ b.0, ap (λ (s : ℕ). at_fields s p.at) a.1 ∙ ap (λ (x : ℕ). at_fields q.segment x) b.1)
-        | inr b ↦ inr (ap (λ x. x && (p.at == q.at)) a.0 ∙ b.0, λ e. b.1 (ap (λ (x : Place). x.at) e))
-      ]
-  | inr a ↦ inr (ap (λ x. x && (p.at == q.at)) a.0, λ e. a.1 (ap (λ (x : Place). x.segment) e))
-]
-
-pub less_here : (p : Place) (live : Live) → less p live p ≡ None
-less_here p live = elim (place_tells p p) [ inl h ↦ ap (λ b. cond b None (live p)) h.0 | inr h ↦ absurd (h.1 refl) ]
-
-pub less_past : (p q : Place) (live : Live) → p ≢ q → less p live q ≡ live q
-less_past p q live far = elim (place_tells p q) [ inl h ↦ absurd (far h.1) | inr h ↦ ap (λ b. cond b None (live q)) h.0 ]
-
-pub renamed_here : (from to : Place) → renamed from to from ≡ to
-renamed_here from to = elim (place_tells from from) [ inl h ↦ ap (λ b. cond b to from) h.0 | inr h ↦ absurd (h.1 refl) ]
-
-pub renamed_past : (from to p : Place) → from ≢ p → renamed from to p ≡ p
-renamed_past from to p far = elim (place_tells from p) [ inl h ↦ absurd (far h.1) | inr h ↦ ap (λ b. cond b to p) h.0 ]
 
 -- the row that is moved
 pub record IsMoved (t : TableState) (live : Live) (from to : Place) (i : Item) : Type 0 where

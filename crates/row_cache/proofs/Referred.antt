@@ -11,10 +11,11 @@ use Rattle.row_cache.specs.Links.{content_of}
 use Rattle.row_cache.specs.declared.ends.Ends.{Ends}
 use Rattle.row_cache.specs.inside.Tables.{AreTablesOf, IsListed, IsRowOf, TableState}
 use Rattle.row_cache.specs.inside.Chained.{IsChain, IsLinked, place_in}
-use Rattle.row_cache.specs.inside.Moved.{leads_to, references}
+use Rattle.regions.specs.Places.{leads_to}
+use Rattle.row_cache.specs.inside.Moved.{references}
 use Rattle.row_cache.proofs.Kept.{here_has}
 use Rattle.row_cache.proofs.Listed.{listed_apart}
-use Rattle.row_cache.proofs.Moving.{less_here, less_past, renamed_here, renamed_past}
+use Rattle.place_lemmas.proofs.Places.{less_here, less_past, renamed_here, renamed_past}
 use Rattle.row_cache.proofs.Numbered.{chain_at, place_is, split_at, split_places}
 use Rattle.row_cache.proofs.Relinked.{Relives}
 use Rattle.row_cache.proofs.Renamed.{IsIn, chain_refs, refs}

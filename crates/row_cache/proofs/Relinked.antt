@@ -14,7 +14,7 @@ use Rattle.regions.specs.declared.place.Place.{Place}
 use Rattle.row_cache.specs.Links.{bare, content_of}
 use Rattle.row_cache.specs.Rows.{AreRelinked, HasOtherLinks, IsSameRow, Stay, content_at, key_at, row_at}
 use Rattle.row_cache.specs.inside.Tables.{AreTablesOf, HoldsARow, IsRowOf, TableState}
-use Rattle.row_cache.proofs.Moving.{place_tells}
+use Rattle.place_lemmas.proofs.Places.{place_tells}
 use Rattle.row_cache.proofs.States.{some_none, some_same, place_cases}
 
 -- ---- one row

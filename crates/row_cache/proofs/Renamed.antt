@@ -1,33 +1,14 @@
 -- What the links of rows refer to, where a row is moved.
 use Rattle.std.proofs.Common.{◌≡◌, ◌⊎◌, inl, inr, cond, List, [], ◌∷◌, ◌++◌, map, Option, Some, None, refl, sym, ap, subst, ◌∙◌, arith}
 use Rattle.std.specs.Prelude.{option_map}
-use Rattle.std.proofs.lemmas.Bool.Decides.{eqb_tells}
-use Rattle.row_bytes.specs.Rows.{no_link}
 use Rattle.regions.specs.Stores.{Live, renamed}
 use Rattle.regions.specs.declared.place.Place.{Place}
-use Rattle.row_cache.specs.Links.{AreLinked, HasRoom, HaveRoom, Lacks, first_or, link_to, newer_at, older_at, place_of_link}
+use Rattle.regions.specs.Places.{leads_to, link_to}
+use Rattle.row_cache.specs.Links.{AreLinked, HaveRoom, Lacks, first_or, newer_at, older_at}
 use Rattle.row_cache.specs.declared.ends.Ends.{Ends}
 use Rattle.row_cache.specs.inside.Chained.{IsChain}
-use Rattle.row_cache.specs.inside.Moved.{leads_to}
 use Rattle.row_cache.proofs.Chains.{lacks_split}
-use Rattle.row_cache.proofs.Joined.{led_back}
-use Rattle.row_cache.proofs.Moving.{renamed_here, renamed_past}
-
-abbrev pub HasRoomIf : Option Place → Type 0
-HasRoomIf None = Unit {0}
-HasRoomIf (Some p) = HasRoom p
-
-abbrev listed : Option Place → List Place → List Place
-listed None others = others
-listed (Some p) others = p ∷ others
-
--- what a link leads to
-leads : (o : Option Place) (others : List Place) → HasRoomIf o → leads_to (link_to o) others ≡ listed o others
-leads None others h = refl
-leads (Some p) others h = elim (eqb_tells (link_to (Some p)) no_link) [
-  | inl e ↦ absurd (let q = e.1 in let s = h.0 in let a = h.1 in omega (arith, q, s, a))
-  | inr far ↦ ap (λ b. cond b others (place_of_link (link_to (Some p)) ∷ others)) far.0 ∙ ap (λ (q : Place). q ∷ others) (led_back p h)
-]
+use Rattle.place_lemmas.proofs.Places.{HasRoomIf, leads, listed, renamed_here, renamed_past}
 
 abbrev pub refs : Live → Place → List Place
 refs live p = leads_to (newer_at live p) (leads_to (older_at live p) [])

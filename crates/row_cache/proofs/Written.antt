@@ -7,9 +7,9 @@ use Rattle.std.proofs.lemmas.List.{drop-drop, drop_all, length-drop, length-map,
 use Rattle.std.proofs.lemmas.List.Elements.{All-contains, All-map, All-take, Contains-append_right}
 use Rattle.std.proofs.lemmas.Grind.{flat_map-append}
 use Rattle.std.proofs.Math.Seq.{take-append_seam, drop-append_seam}
-use Rattle.rows.specs.KeyBody.{IsKey, AreKeys}
+use Rattle.rows.specs.KeyBody.{AreKeys}
+use Rattle.rows.specs.Spelled.{IsKey, key_field}
 use Rattle.rows.specs.Row.{Row}
-use Rattle.rows.specs.Spelled.{key_field}
 use Rattle.regions.specs.Stores.{Live}
 use Rattle.regions.specs.declared.place.Place.{Place}
 use Rattle.row_cache.specs.Rows.{key_at}

@@ -1,10 +1,10 @@
 -- How the rows of a cache are linked: each to the row that was used next after it, and to the one that was used next before it.
-use Rattle.std.specs.Prelude.{◌≡◌, ◌≢◌, ⊤, ℕ, zero, suc, ◌+◌, ◌*◌, ◌/◌, ◌%◌, ◌^◌, ◌<◌, ◌==◌, cond, List, [], ◌∷◌, Option, None, Some}
-use Rattle.layout.specs.Sizes.{segment}
-use Rattle.row_bytes.specs.Rows.{newer_in, older_in, no_link, without_links}
+use Rattle.std.specs.Prelude.{◌≡◌, ◌≢◌, ⊤, ℕ, zero, suc, List, [], ◌∷◌, Option, None, Some}
+use Rattle.row_bytes.specs.Rows.{newer_in, older_in, without_links}
 use Rattle.regions.specs.Contents.{Item}
 use Rattle.regions.specs.Stores.{Live}
 use Rattle.regions.specs.declared.place.Place.{Place}
+use Rattle.regions.specs.Places.{HasRoom, led_to, link_to}
 
 -- a row without its links
 abbrev pub bare : Item → Item
@@ -14,18 +14,6 @@ bare item = record item { content = without_links item.content }
 abbrev pub content_of : Option Item → List ℕ
 content_of None = []
 content_of (Some item) = item.content
-
--- the link to the row at a place, and the link to none
-abbrev pub link_to : Option Place → ℕ
-link_to None = no_link
-link_to (Some p) = p.segment * 2 ^ 32 + p.at
-
--- the place of the row that a link leads to
-abbrev pub place_of_link : ℕ → Place
-place_of_link link = record { segment = link / 2 ^ 32; at = link % 2 ^ 32 }
-
-abbrev pub led_to : ℕ → Option Place
-led_to link = cond (link == no_link) None (Some (place_of_link link))
 
 -- the links of the row at a place
 abbrev pub newer_at : Live → Place → ℕ
@@ -61,10 +49,6 @@ Lacks p (q ∷ qs) = (q ≢ p) × Lacks p qs
 abbrev pub AreApart : List Place → Type 0
 AreApart [] = ⊤
 AreApart (p ∷ ps) = Lacks p ps × AreApart ps
-
--- a place that a link can lead to
-abbrev pub HasRoom : Place → Type 0
-HasRoom p = (p.segment < 2 ^ 32) × (p.at < segment)
 
 abbrev pub HaveRoom : List Place → Type 0
 HaveRoom [] = ⊤

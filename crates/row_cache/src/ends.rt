@@ -3,13 +3,14 @@ ghost use Rattle.std.specs.Prelude.{◌≡◌, ◌≢◌, List, ◌∷◌, ◌++
 ghost use Rattle.std.specs.List.{last_or};
 ghost use Rattle.regions.specs.Contents.{live_at};
 ghost use Rattle.regions.specs.Stores.{less};
+ghost use Rattle.regions.specs.Places as place_links;
 ghost use Rattle.row_cache.specs.Links as links;
 ghost use Rattle.row_cache.specs.Rows.{AreRelinked};
 ghost use Rattle.row_cache.specs.inside.Tables.{HoldsARow};
 ghost use Rattle.row_cache.specs.inside.Chained as chained;
 
-use crate::links::{link_both, link_newer, link_older, link_to, neighbours_of};
-use regions::{Place, Region};
+use crate::links::{link_both, link_newer, link_older, neighbours_of};
+use regions::{Place, Region, link_to};
 use row_bytes::{Links, NO_LINK};
 
 // The places of the row that was used last, and of the one that was used longest ago. None where there is no row.
@@ -34,7 +35,7 @@ impl Ends {
     // The row at a place, which is not in the chain, comes in front.
     pub(crate) fn push_front(&mut self, region: &mut Region, at: Place)
         requires row { HoldsARow (live_at region.old at) }
-        requires room { links.HasRoom at }
+        requires room { place_links.HasRoom at }
         requires chain { chained.IsBeside at (live_at region.old) self.old }
         ensures chain { (ps : List Place) → chained.IsChain (live_at region.old) self.old ps → links.Lacks at ps
             → chained.IsChain (live_at region.new) self.new (at ∷ ps) }
@@ -67,7 +68,7 @@ impl Ends {
     // The row that is live at both places, with the same links, stands at the second from now on.
     pub(crate) fn relocate(&mut self, region: &mut Region, from: Place, to: Place)
         requires row { HoldsARow (live_at region.old to) }
-        requires room { links.HasRoom to }
+        requires room { place_links.HasRoom to }
         requires same { live_at region.old to ≡ live_at region.old from }
         requires apart { from ≢ to }
         requires chain { chained.IsAmong from (less to (live_at region.old)) self.old }

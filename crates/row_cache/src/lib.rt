@@ -1,4 +1,4 @@
-//! The rows of one shard's cache, in segments that compaction moves.
+//! The rows of one shard's cache, in segments that compaction moves, in the order of their use: an LRU cache.
 //!
 //! A row is an object of a [`regions::Region`]; its bytes are those of `row_bytes`. Rows have numbers. The tables of a
 //! cache tell the place of each and the order of their keys, and are the mover of its region: what ScyllaDB's row cache has

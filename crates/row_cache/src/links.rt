@@ -1,44 +1,19 @@
 //! The links of rows, in the bytes of the segments.
 ghost use Rattle.std.specs.Prelude.{◌≡◌, ◌≢◌, ◌<◌, ◌^◌, ℕ, Some, None};
 ghost use Rattle.regions.specs.Contents.{Item, live_at};
+ghost use Rattle.regions.specs.Places as place_links;
 ghost use Rattle.row_cache.specs.Links as links;
 ghost use Rattle.row_cache.specs.Rows.{AreRelinked};
 ghost use Rattle.row_cache.specs.inside.Tables.{HoldsARow};
 
-use regions::{Place, Region};
-use row_bytes::{Links, NO_LINK, newer_in, older_in, set_newer, set_older};
+use regions::{Place, Region, led_to};
+use row_bytes::{Links, newer_in, older_in, set_newer, set_older};
 
 // The places of the row that was used next after one, and of the row that was used next before it.
 #[derive(Clone, Copy)]
 pub(crate) struct Neighbours {
     pub(crate) newer: Option<Place>,
     pub(crate) older: Option<Place>,
-}
-
-// How many offsets a segment's number is apart from the next one in a link.
-const SEGMENT_STEP: u64 = 4_294_967_296;
-
-// The link to the row at a place, and to none.
-pub(crate) fn link_to(place: Option<Place>) -> u64
-    ensures { result ≡ links.link_to place }
-{
-    match place {
-        Some(place) => u64::from(place.segment) * SEGMENT_STEP + u64::from(place.at),
-        None => NO_LINK,
-    }
-}
-
-// The place that a link leads to.
-fn led_to(link: u64) -> Option<Place>
-    ensures { result ≡ links.led_to link }
-{
-    if link == NO_LINK {
-        return None;
-    }
-    Some(Place {
-        segment: (link / SEGMENT_STEP) as u32,
-        at: (link % SEGMENT_STEP) as u32,
-    })
 }
 
 // The number of a place's segment has 32 bits.
@@ -49,8 +24,8 @@ pub(crate) fn segment_fits(place: Place)
 // The rows to which the links of the row at a place lead.
 pub(crate) fn neighbours_of(region: &Region, at: Place) -> Neighbours
     requires { HoldsARow (live_at region.now at) }
-    ensures newer { result.newer ≡ links.led_to (links.newer_at (live_at region.now) at) }
-    ensures older { result.older ≡ links.led_to (links.older_at (live_at region.now) at) }
+    ensures newer { result.newer ≡ place_links.led_to (links.newer_at (live_at region.now) at) }
+    ensures older { result.older ≡ place_links.led_to (links.older_at (live_at region.now) at) }
 {
     let content = region.bytes(at);
     Neighbours {

@@ -4,13 +4,14 @@ ghost use Rattle.std.specs.List.{last_or};
 ghost use Rattle.layout.specs.Sizes as sizes;
 ghost use Rattle.rows.specs.Row.{Row};
 ghost use Rattle.rows.specs.Apply.{in_order, is_at_most};
-ghost use Rattle.rows.specs.KeyBody.{IsKey};
+ghost use Rattle.rows.specs.Spelled.{IsKey};
 ghost use Rattle.common_lemmas.specs.Lists.{delete, times};
 ghost use Rattle.key_table.specs.Table.{AreSame};
 ghost use Rattle.lazy_index.specs.Lazy.{Has, IsKeyed, IsStanding, IsThere, rows_in};
 ghost use Rattle.regions.specs.Contents.{Item, live_at};
 ghost use Rattle.regions.specs.Stores.{Live};
 ghost use Rattle.row_bytes.specs.Rows.{number_in};
+ghost use Rattle.regions.specs.Places as place_links;
 ghost use Rattle.row_cache.specs.Links as links;
 ghost use Rattle.row_cache.specs.Rows.{key_at, row_at, rows_at, AreRelinked};
 ghost use Rattle.row_cache.specs.inside.Sought.{IsFound, IsMissing};
@@ -179,7 +180,7 @@ impl Tables {
     pub(crate) fn replace(&mut self, region: &mut Region, number: u32, place: Place)
         requires listed { tables.IsListed self.old number }
         requires replaces { tables.ReplacesSomeRow self.old number place (live_at region.old) }
-        requires room { links.HasRoom place }
+        requires room { place_links.HasRoom place }
         requires linked { chained.IsLinkedBut number self.old (live_at region.old) }
         ensures recency { self.new.recency ≡ number ∷ delete number self.old.recency }
         ensures places { self.new.places ≡ slice_set self.old.places number place }

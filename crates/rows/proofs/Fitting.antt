@@ -8,7 +8,7 @@ use Rattle.rows.specs.declared.kind.Kind.TheVariants as kinds
 use Rattle.rows.specs.Operation.{Operation}
 use Rattle.rows.specs.Apply.{Stored, Replaced, Missing, Erased, apply_kind, get_where, has, in_order, is_at_most, is_of, row_of, HasDistinctKeys}
 use Rattle.rows.specs.Fits.{FitsKind}
-use Rattle.rows.specs.KeyBody.{IsKey}
+use Rattle.rows.specs.Spelled.{IsKey}
 use Rattle.rows.specs.Row.{Row}
 use Rattle.rows.proofs.KeyOrder.{All-in_order, All-scanned}
 use Rattle.rows.proofs.Looked.{All-find}

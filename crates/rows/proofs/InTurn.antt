@@ -2,8 +2,8 @@
 use Rattle.std.proofs.Common.{◌≡◌, ℕ, ◌+◌, ◌-◌, ◌<◌, true, List, [], ◌∷◌, ◌++◌, length, take, None, arith, refl, sym, ap}
 use Rattle.std.specs.List.{last_or}
 use Rattle.std.proofs.lemmas.List.{length-take-le}
-use Rattle.rows.specs.Row.{Row, live}
-use Rattle.rows.specs.Evictions.{Evicts, is_of_put}
+use Rattle.rows.specs.Row.{Row, live, is_of_put}
+use Rattle.rows.specs.Evictions.{Evicts}
 
 pub none : (bound : ℕ) (cache : List Row) → Evicts bound cache [] cache
 unfolding Evicts

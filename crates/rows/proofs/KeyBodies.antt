@@ -6,8 +6,8 @@ use Rattle.std.specs.Prelude.{All}
 use Rattle.std.proofs.lemmas.List.Elements.{All-head, All-tail}
 use Rattle.std.proofs.lemmas.Nat.{from_le_bytes-to_le_bytes_2}
 use Rattle.std.proofs.Math.Seq.{take-append_seam, drop-append_seam}
-use Rattle.rows.specs.KeyBody.{IsKey, AreKeys}
-use Rattle.rows.specs.Spelled.{key_field}
+use Rattle.rows.specs.KeyBody.{AreKeys}
+use Rattle.rows.specs.Spelled.{IsKey, key_field}
 
 length_read : (key rest : List ℕ) → length key ≤ 256 → from_le_bytes w16 (take 2 (key_field key ++ rest)) ≡ length key
 length_read key rest short = let fits : length key < 2 ^ 16 = omega (arith, short) in from_le_bytes-to_le_bytes_2 (length key) fits

@@ -1,7 +1,7 @@
 -- Which operations can be asked.
 use Rattle.std.specs.Prelude.{◌≤◌, length}
 use Rattle.layout.specs.Sizes.{greatest_value}
-use Rattle.rows.specs.KeyBody.{IsKey}
+use Rattle.rows.specs.Spelled.{IsKey}
 use Rattle.rows.specs.Operation.{Operation, HasItsFields}
 
 -- a put has a value, which may be empty, and a scan has a count; the other kinds have neither

@@ -1,15 +1,13 @@
 -- Which replies fit an operation: what a shard expects of the shard that does a part, and what logs hold.
-use Rattle.std.specs.Prelude.{◌≡◌, ℕ, ◌≤◌, Bool, true, false, List, length, All, Option, Some, None}
+use Rattle.std.specs.Prelude.{◌≡◌, ℕ, ◌≤◌, true, List, length, All, Option, Some, None}
 use Rattle.std.specs.Ordering.{nat_cmp}
 use Rattle.std.specs.Cmp.Lexicographic.{slice_cmp}
 use Rattle.std.specs.List.Sorted.{IsStrictlySortedBy}
 use Rattle.rows.specs.declared.kind.Kind.{Kind}
 use Rattle.rows.specs.declared.kind.Kind.TheVariants as kinds
 use Rattle.rows.specs.Operation.{Operation}
-use Rattle.rows.specs.declared.reply_kind.ReplyKind.{ReplyKind}
-use Rattle.rows.specs.declared.reply_kind.ReplyKind.TheVariants as answered
 use Rattle.rows.specs.Apply.{Reply, Stored, Replaced, Value, Missing, Erased, Keys, is_at_most}
-use Rattle.rows.specs.KeyBody.{IsKey}
+use Rattle.rows.specs.Spelled.{IsKey}
 
 -- the keys of a scan: at most its count of them, strictly rising, each at or above its key, and as long as a trace's keys are
 pub record AreFound (key : List ℕ) (count : ℕ) (keys : List (List ℕ)) : Type 0 where
@@ -17,17 +15,6 @@ pub record AreFound (key : List ℕ) (count : ℕ) (keys : List (List ℕ)) : Ty
   pub rising : IsStrictlySortedBy (slice_cmp nat_cmp) keys
   pub from : All (λ other. is_at_most key other ≡ true) keys
   pub lengths : All IsKey keys
-
--- whether an operation of a kind can be answered so
-abbrev pub can_answer : Kind → ReplyKind → Bool
-can_answer kinds.Put answered.Stored = true
-can_answer kinds.Put answered.Replaced = true
-can_answer kinds.Get answered.Value = true
-can_answer kinds.Get answered.Missing = true
-can_answer kinds.Erase answered.Erased = true
-can_answer kinds.Erase answered.Missing = true
-can_answer kinds.Scan answered.Keys = true
-can_answer kind reply = false
 
 -- which replies the kinds of operations can have, where no value is longer than `longest`
 abbrev pub FitsKind : Kind → ℕ → List ℕ → ℕ → Reply → Type 0

@@ -1,12 +1,6 @@
 -- A body of keys, as it is read: one key after another.
 use Rattle.std.specs.Prelude.{◌≡◌, ℕ, ◌≤◌, List, length, drop, flat_map, All}
-use Rattle.layout.specs.Sizes as sizes
-use Rattle.rows.specs.Spelled.{key_field}
-
--- as long as a trace's keys are
-pub record IsKey (key : List ℕ) : Type 0 where
-  pub some : 1 ≤ length key
-  pub short : length key ≤ sizes.greatest_key
+use Rattle.rows.specs.Spelled.{IsKey, key_field}
 
 -- the body is these keys, each behind its length
 pub record AreKeys (body : List ℕ) (keys : List (List ℕ)) : Type 0 where

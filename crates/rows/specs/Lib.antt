@@ -11,3 +11,4 @@ pub mod Row
 pub mod Shown
 pub mod Spelled
 pub mod Told
+pub mod CanAnswer

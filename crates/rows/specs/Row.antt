@@ -1,5 +1,5 @@
 -- The rows of a shard's cache.
-use Rattle.std.specs.Prelude.{ℕ, ◌+◌, ◌-◌, ◌*◌, ◌/◌, List, length, sum_by}
+use Rattle.std.specs.Prelude.{ℕ, ◌==◌, ◌+◌, ◌-◌, ◌*◌, ◌/◌, Bool, false, List, length, sum_by, Option, Some, None}
 use Rattle.layout.specs.Sizes.{dense, row_overhead, segment_pages, tickets}
 
 -- a row, with the number of the put that stored it
@@ -26,3 +26,8 @@ floor pages = (pages / segment_pages - (tickets + 2)) * dense
 -- what the live bytes exceed at an eviction while so many blocks are lent
 abbrev pub tight_floor : ℕ → ℕ → ℕ
 tight_floor pages lent = (pages / segment_pages - 2 - lent) * dense
+
+-- the least recently used row is the last; it is the row of put q
+abbrev pub is_of_put : ℕ → Option Row → Bool
+is_of_put q None = false
+is_of_put q (Some row) = row.number == q

@@ -5,12 +5,13 @@ ghost use Rattle.std.specs.List.{last_or};
 ghost use Rattle.std.specs.List.Sorted.{IsStrictlySortedBy};
 ghost use Rattle.std.specs.Ordering.{nat_cmp};
 ghost use Rattle.rows.specs.Apply.{apply, has, in_order, row_of, without, HasDistinctKeys};
-ghost use Rattle.rows.specs.Evictions.{Evicts, is_of_put};
+ghost use Rattle.rows.specs.Evictions.{Evicts};
+ghost use Rattle.rows.specs.Row.{is_of_put, Row, live};
 ghost use Rattle.rows.specs.Fits.{Fits};
 ghost use Rattle.rows.specs.Holds.{PutHolds, RowsHold, ReplyHolds};
-ghost use Rattle.rows.specs.KeyBody.{AreKeys, IsKey};
+ghost use Rattle.rows.specs.KeyBody.{AreKeys};
+ghost use Rattle.rows.specs.Spelled.{IsKey};
 ghost use Rattle.rows.specs.Operation.{Operation};
-ghost use Rattle.rows.specs.Row.{Row, live};
 
 /// Evictions in turn: of none, of one more at the end, and how many rows they leave.
 pub fn evictions_are_counted()

@@ -1,5 +1,5 @@
-//! What rows mean: a row, an operation on rows, one part of it done, and its reply; the bytes that rows count, the floors,
-//! evictions in turn, and which replies fit an operation.
+//! What rows mean: a row, an operation on rows, one part of it done, and its reply; the bytes that rows count, the
+//! floors, evictions in turn, the row used longest ago (LRU) first, and which replies fit an operation.
 //!
 //! The definitions in `specs/` know of no trace, no journal and no message. No type here runs anything: [`Kind`] and
 //! [`ReplyKind`] are the two enums that the definitions name, and [`is_at_most`] and [`sort_keys`] are the order of keys.

@@ -1,6 +1,6 @@
 //! What an operation can be answered.
 ghost use Rattle.std.specs.Prelude.{◌≡◌};
-ghost use Rattle.rows.specs.Fits.{can_answer};
+ghost use Rattle.rows.specs.CanAnswer.{can_answer};
 
 use crate::kind::Kind;
 

@@ -7,8 +7,8 @@ use Rattle.std.proofs.lemmas.List.Elements.{All-head, All-tail}
 use Rattle.std.proofs.lemmas.Nat.{from_le_bytes-to_le_bytes_2}
 use Rattle.std.proofs.Math.Seq.{take-append_seam, drop-append_seam}
 use Rattle.trace_text.specs.Operation.{part}
-use Rattle.rows.specs.Spelled.{key_field}
-use Rattle.rows.specs.KeyBody.{IsKey, AreKeys, AreKeysAt}
+use Rattle.rows.specs.Spelled.{key_field, IsKey}
+use Rattle.rows.specs.KeyBody.{AreKeys, AreKeysAt}
 
 -- the length that two bytes spell
 abbrev pub len_of : ℕ → ℕ → ℕ

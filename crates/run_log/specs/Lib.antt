@@ -1,5 +1,5 @@
 pub mod JournalState
 pub mod Recorded
 pub mod Replies
-pub mod ShardLines
+pub mod Runs
 pub mod inside

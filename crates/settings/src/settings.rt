@@ -36,7 +36,7 @@ pub struct Settings {
     pub shards: u32,
     /// The pages of each shard.
     pub pages: u32,
-    /// The number from which what a mode chooses is drawn.
+    /// The seed: the number from which what a mode chooses is drawn.
     pub number: u32,
     /// The commands of a made trace.
     pub commands: u32,

@@ -1,5 +1,5 @@
-//! Drives the nodes of a run turn by turn: each on a thread of its own, or all on one thread in an order that is drawn from a
-//! number or given.
+//! Drives the nodes of a run turn by turn: each on a thread of its own, or all on one thread in an order that is drawn
+//! from a number, its seed, or given: a deterministic simulation.
 //!
 //! What is promised: [`drive_threads`] and [`drive_numbered`] return only when all nodes are done. All three calls change the
 //! nodes by turns alone: each place of the row holds the node that stood there, a node in standing stays so, and what no turn

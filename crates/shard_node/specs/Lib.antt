@@ -3,6 +3,6 @@ pub mod Links
 pub mod Due
 pub mod Standing
 pub mod Turns
-pub mod Rans
+pub mod Lines
 pub mod Together
 pub mod inside

@@ -1,12 +1,13 @@
 //! One shard at work on its parts of a trace: a node.
 //!
-//! A node does the parts that other shards ask of it, and issues its own, turn by turn. A turn waits for nobody. Here stand
-//! what holds of a node between turns and what a turn may answer ([`specs/Standing.antt`], [`specs/Turns.antt`]), the gate
-//! that an own command waits for, the record of a run, the turn (`src/shard/turning.rt`), and the node itself ([`Node`],
-//! `src/node.rt`): it is opened with all the memory that it takes, turned until it is done, and finished into the record of the run.
-//! What it does without its store stands in `shard_parts`: the cursors over the trace, and how it deals with another shard.
-//! What it does on its store, with its journal (`src/doing.rt`), and in blocks that go to other shards (`src/messages.rt`) is its own:
-//! the store knows of neither.
+//! A node does the parts that other shards ask of it, and issues its own, turn by turn. A turn waits for nobody: it is
+//! one poll of an event loop. Here stand what holds of a node between turns and what a turn may answer
+//! ([`specs/Standing.antt`], [`specs/Turns.antt`]), the gate that an own command waits for, the record of a run, the
+//! turn (`src/shard/turning.rt`), and the node itself ([`Node`], `src/node.rt`): it is opened with all the memory that
+//! it takes, turned until it is done, and finished into the record of the run. What it does without its store stands in
+//! `shard_parts`: the cursors over the trace, and how it deals with another shard. What it does on its store, with its
+//! journal (`src/doing.rt`), and in blocks that go to other shards (`src/messages.rt`) is its own: the store knows of
+//! neither.
 //!
 //! What a node that is done says, over any links, is a law: [`a_done_node_is_complete`]. What the nodes of a run say together,
 //! once all of them are done, is another: [`done_nodes_agree`].

@@ -9,7 +9,7 @@ ghost use Rattle.shard_store.specs.Stores.{IsUnguarded};
 ghost use Rattle.shard_node.specs.Nodes.{others};
 ghost use Rattle.shard_node.specs.Standing.{InStanding};
 ghost use Rattle.shard_node.specs.Links.{IsUnused};
-ghost use Rattle.shard_node.specs.Rans.{line_of};
+ghost use Rattle.shard_node.specs.Lines.{line_of};
 ghost use Rattle.shard_node.specs.Turns.{GoesThroughGate, IsAnswer, IsDone, IsSameNode};
 ghost use Rattle.shard_node.specs.declared.turn.Turn.{Turn as Turns};
 
@@ -112,7 +112,7 @@ impl<'f, L: Link<'f> + Drop, G: Gate + Drop> Node<'f, L, G> {
         let Ok(room) = Vec::with_capacity(alloc, links.len()) else {
             return Err(NodeRefusal { seat, links });
         };
-        match Shard::open(alloc, shard, shards, pages, trace, home, seat, links, gate) {
+        match Shard::open(alloc, shard, pages, trace, home, seat, links, gate) {
             Ok(shard) => Ok(Node {
                 shard,
                 links: room,

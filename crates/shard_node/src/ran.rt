@@ -22,7 +22,7 @@ pub struct Ran {
 
 impl Model for Ran {
     ghost use Rattle.std.specs.Prelude.{◌≡◌, ◌≤◌, length, vec_capacity};
-    ghost use Rattle.shard_node.specs.Rans.{RanState};
+    ghost use Rattle.run_log.specs.Runs.{RanState};
 
     ghost Value = { RanState };
 

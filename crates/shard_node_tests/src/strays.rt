@@ -2,7 +2,7 @@
 ghost use Rattle.std.specs.Prelude.{◌≡◌, IfOk, OnOk};
 ghost use Rattle.trace_text.specs.Parsed.{trace_in};
 ghost use Rattle.foreign_list.specs.OwnerSeats.{IsAtRest};
-ghost use Rattle.shard_node.specs.Rans.{IsOfRun};
+ghost use Rattle.run_log.specs.Runs.{IsOfRun};
 
 use super::replies::play_right;
 use super::trial::{Lender, Trial, parsed};

@@ -6,7 +6,7 @@ ghost use Rattle.shard_rings.specs.Links.{traffic_of};
 ghost use Rattle.shard_store.specs.Stores.{IsUnguarded};
 ghost use Rattle.shard_rings.specs.Mesh.{IsMesh};
 ghost use Rattle.shard_node.specs.Links.{IsUnused};
-ghost use Rattle.shard_node.specs.Rans.{IsOfRun};
+ghost use Rattle.run_log.specs.Runs.{IsOfRun};
 
 use foreign_list::{Foreign, ForeignBlock, OwnerSeat};
 use run_log::Journal;

@@ -1,7 +1,7 @@
 //! Two nodes that ask each other, in random orders of their turns and of what goes between them.
 ghost use Rattle.std.specs.Prelude.{◌≡◌};
 ghost use Rattle.foreign_list.specs.OwnerSeats.{IsAtRest};
-ghost use Rattle.shard_node.specs.Rans.{IsOfRun};
+ghost use Rattle.run_log.specs.Runs.{IsOfRun};
 
 use super::judged::{Left, are_right};
 use super::trial::{Trial, parsed};

@@ -3,7 +3,8 @@ use Rattle.std.proofs.Common.{◌≡◌, ◌↔◌, ℕ, false, true, List, refl
 use Rattle.rows.specs.declared.kind.Kind.{Kind}
 use Rattle.rows.specs.declared.kind.Kind.TheVariants.{Put, Get, Erase, Scan}
 use Rattle.rows.specs.Apply.{Reply, Stored, Replaced, Value, Missing, Erased, Keys}
-use Rattle.rows.specs.Fits.{FitsKind, can_answer}
+use Rattle.rows.specs.Fits.{FitsKind}
+use Rattle.rows.specs.CanAnswer.{can_answer}
 use Rattle.rows.specs.KeyBody.{AreKeys}
 use Rattle.rows.specs.declared.reply_kind.ReplyKind.{ReplyKind}
 use Rattle.rows.specs.declared.reply_kind.ReplyKind.TheVariants as answered

@@ -18,10 +18,6 @@ use Rattle.part_lemmas.proofs.Cursors.Places.{IsNumbered, length-operations, no_
 use Rattle.part_lemmas.proofs.OwnParts.PartsBefore.{GoRound}
 use Rattle.part_lemmas.proofs.OwnParts.IssuedParts.{AreCounted, issued-cut, lower, part-stands, place-end, scans-here}
 
--- the same with the shards that the trace was parsed for
-pub at-shards : (trace : Parsed) (n o at to begun : ℕ) → StandsAtPart trace n o at to begun → StandsAtPart trace trace.shards o at to begun
-at-shards trace n o at to begun stands = subst (λ m. StandsAtPart trace m o at to begun) stands.shards stands
-
 pub is-of-shard : (trace : Parsed) (n o at : ℕ) (d : Operation) → AreNumbered trace.commands → at % n ≡ o → at < length trace.commands
     → origin (get_or (trace_in trace).operations at d).number n ≡ o
 is-of-shard trace n o at d are here within =

@@ -24,7 +24,6 @@ IsFirstPart log k part = (k ≡ 0) ⊎ ((before : ℕ × ℕ) × (slice_get log 
 
 -- The next part is of the command at the place, which is one of the shard o's, or the end, and shard `to` does it.
 pub record StandsAtPart (trace : Parsed) (n o at to begun : ℕ) : Type 0 where
-  pub shards : n ≡ trace.shards
   pub origin : at % n ≡ o
   pub below : to < n
   pub part : begun ≡ part_at trace n o to at

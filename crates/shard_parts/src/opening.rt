@@ -3,7 +3,8 @@ ghost use Rattle.std.specs.Prelude.{◌≡◌, ◌+◌, ◌*◌, ◌<◌, ◌≤
 ghost use Rattle.std.specs.List.{slice_get};
 ghost use Rattle.layout.specs.Sizes.{key_room, most_keys};
 ghost use Rattle.trace_text.specs.Parsed.{trace_in};
-ghost use Rattle.trace_text.specs.Parts.{here_parts, here_puts, own_parts, reply_bytes};
+ghost use Rattle.trace_text.specs.Parts.{own_parts};
+ghost use Rattle.trace_text.specs.PartCounts.{here_parts, here_puts, reply_bytes};
 ghost use Rattle.part_lemmas.specs.Exchange.{others};
 ghost use Rattle.shard_parts.specs.Opening.{IsNewPeer};
 
@@ -25,32 +26,27 @@ pub struct Room<'f, L: Drop> {
 }
 
 impl<'f, L: Drop> Room<'f, L> {
-    /// What a shard of so many takes, for which the trace was parsed.
+    /// What a shard takes for its part of the trace.
     ///
     /// # Errors
     /// There is no memory.
-    pub fn new(
-        alloc: Global,
-        shard: u32,
-        shards: u32,
-        trace: &Trace,
-    ) -> Result<Room<'f, L>, AllocError>
-        requires parsed_for { shards ≡ trace.now.shards }
-        requires within { shard < shards }
+    pub fn new(alloc: Global, shard: u32, trace: &Trace) -> Result<Room<'f, L>, AllocError>
+        requires within { shard < trace.now.shards }
         ensures journal { IfOk result (λ room. room.journal ≡ record {
           entries = [];
-          spare = here_parts
-              (trace_in trace.now) shards shard + here_puts (trace_in trace.now) shards shard;
+          spare = here_parts (trace_in trace.now) trace.now.shards shard
+              + here_puts (trace_in trace.now) trace.now.shards shard;
         }) }
         ensures log { IfOk result (λ room. room.log ≡ record {
-          replies = replicate (own_parts (trace_in trace.now) shards shard) None;
-          room = reply_bytes (trace_in trace.now) shards shard;
+          replies = replicate (own_parts (trace_in trace.now) trace.now.shards shard) None;
+          room = reply_bytes (trace_in trace.now) trace.now.shards shard;
         }) }
         ensures keys { IfOk result (λ room. vec_len room.keys ≡ key_room * most_keys) }
-        ensures rows { IfOk result (λ room. room.rows ≡ here_puts (trace_in trace.now) shards shard) }
-        ensures peers { IfOk result (λ room. (room.peers.items ≡ []) × (shards ≤ vec_capacity room.peers + 1)) }
+        ensures rows { IfOk result (λ room. room.rows ≡ here_puts (trace_in trace.now) trace.now.shards shard) }
+        ensures peers { IfOk result (λ room. (room.peers.items ≡ []) × (trace.now.shards ≤ vec_capacity room.peers + 1)) }
     {
         trace.commands();
+        let shards = trace.shards();
         let needs = trace.needs(shard, shards);
         Ok(Room {
             journal: Journal::new(alloc, needs.here_parts + needs.here_puts)?,
@@ -79,28 +75,25 @@ fn number_at(shards: u32, shard: u32, at: usize) -> u32
 /// The other shards, in rising order: one for each link. There is room for them.
 pub fn peers_over<'f, L: Drop>(
     trace: &'f Trace,
-    shards: u32,
     shard: u32,
     links: Vec<L>,
     mut peers: Vec<Peer<'f, L>>,
 ) -> Vec<Peer<'f, L>>
     // One link for each other shard.
-    requires parsed_for { shards ≡ trace.now.shards }
-    requires within { shard < shards }
-    requires links { length links.items + 1 ≡ shards }
+    requires within { shard < trace.now.shards }
+    requires links { length links.items + 1 ≡ trace.now.shards }
     requires none { peers.items ≡ [] }
-    requires room { shards ≤ vec_capacity peers + 1 }
+    requires room { trace.now.shards ≤ vec_capacity peers + 1 }
 
     // A peer over each, in rising order.
     ensures links { map (λ peer. peer.link) result.items ≡ links.items }
-    ensures numbers { map (λ peer. peer.shard) result.items ≡ others shards shard }
-    ensures new { All (IsNewPeer trace.now shards shard) result.items }
+    ensures numbers { map (λ peer. peer.shard) result.items ≡ others trace.now.shards shard }
+    ensures new { All (IsNewPeer trace.now trace.now.shards shard) result.items }
 {
+    let shards = trace.shards();
     for link in links {
         let number = number_at(shards, shard, peers.len());
-        peers
-            .push(Peer::new(trace, shards, shard, number, link))
-            .unwrap();
+        peers.push(Peer::new(trace, shard, number, link)).unwrap();
     }
     peers
 }

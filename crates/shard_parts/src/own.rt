@@ -19,7 +19,6 @@ use trace_text::{Command, Trace};
 #[derive(Drop)]
 pub struct Own<'f> {
     trace: &'f Trace,
-    shards: u32,
     shard: u32,
     next: Part,
     begun: u32,
@@ -39,23 +38,21 @@ impl<'f> Model for Own<'f> {
 
     ghost view = { λ o. record { trace = o.trace.now; shard = o.shard; begun = o.begun } };
 
-    ghost invariant = { λ o. StandsAtPart o.trace.now o.shards o.shard o.next.at o.next.to o.begun };
+    ghost invariant = { λ o. StandsAtPart o.trace.now o.trace.now.shards o.shard o.next.at o.next.to o.begun };
 }
 
 impl<'f> Own<'f> {
-    /// All parts that the shard issues, of so many shards, for which the trace was parsed.
-    pub fn of(trace: &'f Trace, shards: u32, shard: u32) -> Own<'f>
-        requires parsed_for { shards ≡ trace.now.shards }
-        requires shard { shard < shards }
+    /// All parts of the commands of a trace that the shard issues.
+    pub fn of(trace: &'f Trace, shard: u32) -> Own<'f>
+        requires shard { shard < trace.now.shards }
         ensures trace { result.trace ≡ trace.now }
         ensures shard { result.shard ≡ shard }
         ensures begun { result.begun ≡ 0 }
     {
         shards_take_turns(trace);
-        let next = first_part(trace, shards, shard as usize);
+        let next = first_part(trace, shard as usize);
         Own {
             trace,
-            shards,
             shard,
             next,
             begun: 0,
@@ -129,18 +126,17 @@ impl<'f> Own<'f> {
     {
         issued_parts_are_counted();
         shards_take_turns(self.trace);
-        self.next = part_after(self.trace, self.shards, self.shard, self.next);
+        self.next = part_after(self.trace, self.shard, self.next);
         self.begun += 1;
     }
 }
 
 /// The first part of the command at the place.
-fn first_part(trace: &Trace, shards: u32, at: usize) -> Part
-    requires parsed_for { shards ≡ trace.now.shards }
+fn first_part(trace: &Trace, at: usize) -> Part
     ensures at { result.at ≡ at }
-    ensures below { result.to < shards }
+    ensures below { result.to < trace.now.shards }
     ensures does { (d : Operation) → at < length trace.now.commands
-        → has_part shards result.to (slice_index_or (trace_in trace.now).operations at d) ≡ true }
+        → has_part trace.now.shards result.to (slice_index_or (trace_in trace.now).operations at d) ≡ true }
     ensures first { shards_before result.to (slice_get (trace_in trace.now).operations at) ≡ 0 }
 {
     let commands = trace.commands();
@@ -153,29 +149,30 @@ fn first_part(trace: &Trace, shards: u32, at: usize) -> Part
 }
 
 /// The part that the shard issues next.
-fn part_after(trace: &Trace, shards: u32, shard: u32, part: Part) -> Part
+fn part_after(trace: &Trace, shard: u32, part: Part) -> Part
     // A part that the shard issues.
-    requires parsed_for { shards ≡ trace.now.shards }
-    requires origin { part.at % shards ≡ shard }
+    requires origin { part.at % trace.now.shards ≡ shard }
     requires within { part.at < length trace.now.commands }
-    requires to { part.to < shards }
+    requires to { part.to < trace.now.shards }
 
     // One of its parts, or the end.
-    ensures origin { result.at % shards ≡ shard }
-    ensures below { result.to < shards }
+    ensures origin { result.at % trace.now.shards ≡ shard }
+    ensures below { result.to < trace.now.shards }
     ensures does { (d : Operation) → result.at < length trace.now.commands
-        → has_part shards result.to (slice_index_or (trace_in trace.now).operations result.at d) ≡ true }
+        → has_part trace.now.shards result.to (slice_index_or (trace_in trace.now).operations result.at d) ≡ true }
 
     // None stands between them.
-    ensures next { part_at trace.now shards shard result.to result.at ≡ part_at trace.now shards shard part.to part.at + 1 }
+    ensures next { part_at trace.now trace.now.shards shard result.to result.at
+        ≡ part_at trace.now trace.now.shards shard part.to part.at + 1 }
 {
     shards_take_turns(trace);
     trace.commands();
+    let shards = trace.shards();
     if trace.is_scan(part.at) && part.to + 1 < shards {
         return Part {
             at: part.at,
             to: part.to + 1,
         };
     }
-    first_part(trace, shards, part.at + shards as usize)
+    first_part(trace, part.at + shards as usize)
 }

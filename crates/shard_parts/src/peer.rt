@@ -29,19 +29,12 @@ pub struct Peer<'f, L: Drop> {
 
 impl<'f, L: Drop> Peer<'f, L> {
     /// Another shard, before anything went over the link toward it.
-    pub(crate) fn new(
-        trace: &'f Trace,
-        shards: u32,
-        shard: u32,
-        number: u32,
-        link: L,
-    ) -> Peer<'f, L>
-        requires parsed_for { shards ≡ trace.now.shards }
-        requires within { shard < shards }
-        requires number { number < shards }
+    pub(crate) fn new(trace: &'f Trace, shard: u32, number: u32, link: L) -> Peer<'f, L>
+        requires within { shard < trace.now.shards }
+        requires number { number < trace.now.shards }
         ensures number { result.shard ≡ number }
         ensures link { result.link ≡ link }
-        ensures new { IsNewPeer trace.now shards shard result }
+        ensures new { IsNewPeer trace.now trace.now.shards shard result }
     {
         Peer {
             shard: number,
@@ -49,9 +42,9 @@ impl<'f, L: Drop> Peer<'f, L> {
             held_request: None,
             held_reply: None,
             reply: None,
-            asks: Rest::of(trace, shards, number, shard),
+            asks: Rest::of(trace, number, shard),
             has_heard_bye: false,
-            answers: Rest::of(trace, shards, shard, number),
+            answers: Rest::of(trace, shard, number),
             owed: 0,
             has_sent_bye: false,
         }

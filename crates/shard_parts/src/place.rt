@@ -16,16 +16,16 @@ pub(crate) struct Place {
     pub(crate) before: u32,
 }
 
-/// The place `shards` further, of the next command that the shard of the command at this place issues.
-pub(crate) fn past(trace: &Trace, place: Place, shards: u32) -> Place
+/// The place of the next command that the shard of the command at this place issues: as many further as there are shards.
+pub(crate) fn past(trace: &Trace, place: Place) -> Place
     requires within { place.at < length trace.now.commands }
-    requires some { 1 ≤ shards }
-    requires at { place.at + shards < 2 ^ 64 }
-    requires before { place.before + shards < 2 ^ 32 }
-    ensures at { result.at ≡ place.at + shards }
+    requires at { place.at + trace.now.shards < 2 ^ 64 }
+    requires before { place.before + trace.now.shards < 2 ^ 32 }
+    ensures at { result.at ≡ place.at + trace.now.shards }
     ensures before { (d : Operation) → result.before ≡ place.before
-        + (if is_scan (slice_index_or (trace_in trace.now).operations place.at d).kind then shards else 1) }
+        + (if is_scan (slice_index_or (trace_in trace.now).operations place.at d).kind then trace.now.shards else 1) }
 {
+    let shards = trace.shards();
     Place {
         at: place.at + shards as usize,
         before: place.before + if trace.is_scan(place.at) { shards } else { 1 },

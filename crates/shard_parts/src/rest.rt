@@ -20,7 +20,6 @@ use trace_text::{Command, Trace};
 #[derive(Drop)]
 pub struct Rest<'f> {
     trace: &'f Trace,
-    shards: u32,
     origin: u32,
     shard: u32,
     // Of the first of them, or one behind the last command.
@@ -36,33 +35,31 @@ impl<'f> Model for Rest<'f> {
       trace = r.trace.now;
       origin = r.origin;
       shard = r.shard;
-      left = left_from r.trace.now r.shards r.origin r.shard r.next.at;
-      part = part_at r.trace.now r.shards r.origin r.shard r.next.at;
+      left = left_from r.trace.now r.trace.now.shards r.origin r.shard r.next.at;
+      part = part_at r.trace.now r.trace.now.shards r.origin r.shard r.next.at;
     } };
 
-    ghost invariant = { λ r. StandsAt r.trace.now r.shards r.origin r.shard r.next.at r.next.before };
+    ghost invariant = { λ r. StandsAt r.trace.now r.trace.now.shards r.origin r.shard r.next.at r.next.before };
 }
 
 impl<'f> Rest<'f> {
-    /// All commands that the shard `origin` issues to `shard`, of so many shards, for which the trace was parsed.
-    pub fn of(trace: &'f Trace, shards: u32, origin: u32, shard: u32) -> Rest<'f>
-        requires parsed_for { shards ≡ trace.now.shards }
-        requires origin { origin < shards }
-        requires shard { shard < shards }
+    /// All commands of a trace that the shard `origin` issues to `shard`.
+    pub fn of(trace: &'f Trace, origin: u32, shard: u32) -> Rest<'f>
+        requires origin { origin < trace.now.shards }
+        requires shard { shard < trace.now.shards }
         ensures trace { result.trace ≡ trace.now }
         ensures origin { result.origin ≡ origin }
         ensures shard { result.shard ≡ shard }
-        ensures left { result.left ≡ operations_for (trace_in trace.now) shards origin shard }
+        ensures left { result.left ≡ operations_for (trace_in trace.now) trace.now.shards origin shard }
     {
         shards_take_turns(trace);
         let first = Place {
             at: origin as usize,
             before: 0,
         };
-        let next = find(trace, shards, origin, shard, first);
+        let next = find(trace, origin, shard, first);
         Rest {
             trace,
-            shards,
             origin,
             shard,
             next,
@@ -146,30 +143,29 @@ impl<'f> Rest<'f> {
         shards_take_turns(self.trace);
         let commands = self.trace.commands();
         if self.next.at < commands.len() {
-            let from = past(self.trace, self.next, self.shards);
-            self.next = find(self.trace, self.shards, self.origin, self.shard, from);
+            let from = past(self.trace, self.next);
+            self.next = find(self.trace, self.origin, self.shard, from);
         }
     }
 }
 
 /// The place of the first command from this one on that the shard `origin` issues to `shard`. The place belongs to a command
-/// that `origin` issues, and so does each `shards` places further.
-fn find(trace: &Trace, shards: u32, origin: u32, shard: u32, from: Place) -> Place
-    requires parsed_for { shards ≡ trace.now.shards }
-    requires origin { from.at % shards ≡ origin }
-    requires before { from.before ≡ parts_before (trace_in trace.now) shards origin from.at }
-    ensures left { (place : ℕ) → place ≤ from.at → from.at < place + shards
-        → left_from trace.now shards origin shard result.at ≡ left_from trace.now shards origin shard place }
-    ensures origin { result.at % shards ≡ origin }
-    ensures before { result.before ≡ parts_before (trace_in trace.now) shards origin result.at }
+/// that `origin` issues, and so does each that is as many places further as there are shards.
+fn find(trace: &Trace, origin: u32, shard: u32, from: Place) -> Place
+    requires origin { from.at % trace.now.shards ≡ origin }
+    requires before { from.before ≡ parts_before (trace_in trace.now) trace.now.shards origin from.at }
+    ensures left { (place : ℕ) → place ≤ from.at → from.at < place + trace.now.shards
+        → left_from trace.now trace.now.shards origin shard result.at ≡ left_from trace.now trace.now.shards origin shard place }
+    ensures origin { result.at % trace.now.shards ≡ origin }
+    ensures before { result.before ≡ parts_before (trace_in trace.now) trace.now.shards origin result.at }
     ensures here { (d : Operation) → result.at < length trace.now.commands
-        → is_for shards origin shard (slice_index_or (trace_in trace.now).operations result.at d) ≡ true }
+        → is_for trace.now.shards origin shard (slice_index_or (trace_in trace.now).operations result.at d) ≡ true }
 {
     shards_take_turns(trace);
     let commands = trace.commands();
     let mut next = from;
     while next.at < commands.len() && !trace.has_part(next.at, shard) {
-        next = past(trace, next, shards);
+        next = past(trace, next);
     }
     next
 }

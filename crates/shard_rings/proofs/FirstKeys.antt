@@ -8,8 +8,7 @@ use Rattle.std.proofs.lemmas.List.{take-append-drop, length-take}
 use Rattle.std.proofs.Math.Seq.{drop-append_seam}
 use Rattle.byteorder.specs.Endian.{little_number}
 use Rattle.byteorder.specs.Numbers.{little_number-reads_back}
-use Rattle.rows.specs.KeyBody.{IsKey}
-use Rattle.rows.specs.Spelled.{key_field}
+use Rattle.rows.specs.Spelled.{IsKey, key_field}
 use Rattle.shard_rings.specs.inside.Body.{HasKeys}
 use Rattle.shard_rings.proofs.Numbers.{IsBytes, cells, split-cells, two_again}
 

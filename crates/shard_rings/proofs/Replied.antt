@@ -6,7 +6,7 @@ use Rattle.std.proofs.lemmas.List.Elements.{All-contains, All-head, All-map, All
 use Rattle.rows.specs.declared.kind.Kind.{Kind}
 use Rattle.rows.specs.declared.kind.Kind.TheVariants as kinds
 use Rattle.rows.specs.Operation.{HasItsFields, Operation}
-use Rattle.rows.specs.KeyBody.{IsKey}
+use Rattle.rows.specs.Spelled.{IsKey}
 use Rattle.rows.specs.Apply.{Stored, Replaced, Erased, Missing, apply_kind, get_where, has, is_at_most, in_order, is_of, row_of}
 use Rattle.rows.specs.Row.{Row}
 use Rattle.shard_rings.specs.Reply.{IsSendable, IsSendableRow}

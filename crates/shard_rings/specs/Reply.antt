@@ -3,12 +3,11 @@ use Rattle.std.specs.Prelude.{ℕ, ◌<◌, ◌≤◌, ◌^◌, List, ◌∷◌,
 use Rattle.std.specs.Int.{w16, w32, to_le_bytes}
 use Rattle.std.specs.Io.{StartsWith}
 use Rattle.layout.specs.Sizes.{greatest_value}
-use Rattle.rows.specs.KeyBody.{IsKey}
+use Rattle.rows.specs.Spelled.{IsKey, spelled}
 use Rattle.rows.specs.declared.reply_kind.ReplyKind.{ReplyKind}
 use Rattle.rows.specs.declared.reply_kind.ReplyKind.TheVariants as kinds
 use Rattle.rows.specs.Apply.{Reply, Stored, Replaced, Value, Missing, Erased, Keys}
 use Rattle.rows.specs.Row.{Row}
-use Rattle.rows.specs.Spelled.{spelled}
 use Rattle.rows.specs.Shown.{key_count}
 
 abbrev pub reply_byte : ReplyKind → ℕ

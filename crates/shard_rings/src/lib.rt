@@ -4,9 +4,10 @@
 //! `specs/Request.antt` and `specs/Reply.antt` say so. Both are written and read here: what is asked is an [`Operation`], and what
 //! is answered a [`Reply`].
 //!
-//! They go over links. A [`Link`] is one shard's end toward one other, with a lane for requests and one for replies each way, and
-//! waits for nobody. [`ring_links`] gives the ends of all shards, over rings between threads; [`MemoryLink`] has the other end
-//! beside it, for one thread. `specs/Lanes.antt`, `specs/Links.antt` and `specs/Mesh.antt` say what a link is.
+//! They go over links. A [`Link`] is one shard's end toward one other, with a lane for requests and one for replies
+//! each way, and waits for nobody. [`ring_links`] gives the ends of all shards, over rings between threads, each of one
+//! producer and one consumer (SPSC); [`MemoryLink`] has the other end beside it, for one thread. `specs/Lanes.antt`,
+//! `specs/Links.antt` and `specs/Mesh.antt` say what a link is.
 #![tactic(auto)]
 
 mod asking;

@@ -3,7 +3,7 @@ ghost use Rattle.std.specs.Prelude.{◌≡◌, ◌≢◌, ◌+◌, ◌≤◌, �
 ghost use Rattle.std.specs.Str.{bytes_eq};
 ghost use Rattle.layout.specs.Sizes.{greatest_request, greatest_value, message_header};
 ghost use Rattle.rows.specs.Operation.{Operation as Asked};
-ghost use Rattle.rows.specs.KeyBody.{IsKey};
+ghost use Rattle.rows.specs.Spelled.{IsKey};
 ghost use Rattle.rows.specs.Askable.{IsAskable};
 ghost use Rattle.rows.specs.Operations.{key_of, numbered, of_fields, value_of};
 ghost use Rattle.shard_rings.specs.Request.{kind_byte, request, IsRequest};

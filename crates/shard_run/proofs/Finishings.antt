@@ -7,7 +7,8 @@ use Rattle.trace_text.specs.Trace.{Trace}
 use Rattle.foreign_list.specs.OwnerSeats.{OwnerState, IsAtRest}
 use Rattle.shard_rings.specs.Links.{LinkState, traffic_of}
 use Rattle.shard_node.specs.Nodes.{NodeState}
-use Rattle.shard_node.specs.Rans.{IsOfRun, line_of}
+use Rattle.run_log.specs.Runs.{IsOfRun}
+use Rattle.shard_node.specs.Lines.{line_of}
 use Rattle.shard_node.specs.Turns.{IsDone}
 use Rattle.shard_run.specs.Opening.{links_of}
 use Rattle.shard_run.specs.Remaining.{AllCanFinish, AllHaveFacts, AreLeftBy, CanFinish, HasFacts, IsRoomFor}

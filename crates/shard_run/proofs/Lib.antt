@@ -2,6 +2,7 @@ pub mod Driven
 pub mod Finishings
 pub mod Getting
 pub mod LentBlocks
+pub mod Numbered
 pub mod Openings
 pub mod Others
 pub mod Partings

@@ -1,4 +1,4 @@
--- What nodes that agree leave is a run.
+-- What nodes that agree leave is a finished run.
 use Rattle.std.proofs.Common.{◌≡◌, ℕ, suc, ◌+◌, ◌≤◌, IsSome, List, [], ◌∷◌, length, map, Some, slice_get, refl, sym, ap, subst, ◌∙◌, arith}
 use Rattle.std.specs.List.{All, enumerate_from, slice_index_or}
 use Rattle.std.specs.Prelude.{unwrap_or}
@@ -8,24 +8,33 @@ use Rattle.layout.specs.Sizes.{dense}
 use Rattle.trace_text.specs.Parts.{most_shards}
 use Rattle.trace_text.specs.Reading.{most_commands}
 use Rattle.trace_text.specs.Trace.{Trace}
-use Rattle.cache_model.specs.Legal.{EvictsAbove, IsComplete, IsLegal, cache_after}
-use Rattle.cache_model.specs.OwnParts.{HoldsReplies, part_reply, parts_of}
-use Rattle.cache_model.specs.Report.{lent, occupancy}
+use Rattle.cache_model.specs.declared.entry.Entry.{Entry}
+use Rattle.cache_model.specs.Bodies.{HasKeys}
+use Rattle.cache_model.specs.Legal.{EvictsAbove, IsComplete, IsLegal, cache_after, command_of}
+use Rattle.cache_model.specs.Logged.{AreLogged}
+use Rattle.cache_model.specs.Replied.{HoldTheReplies}
+use Rattle.cache_model.specs.OwnParts.{HoldsReplies, Log, part_reply, parts_of}
+use Rattle.cache_model.specs.Report.{answers, lent, occupancy}
 use Rattle.rows.specs.Row.{live, tight_floor}
 use Rattle.foreign_list.specs.Lists.{OwnedList}
 use Rattle.run_log.specs.JournalState.{JournalState}
-use Rattle.run_log.specs.ShardLines.{occupancies_in, occupancy_in}
 use Rattle.shard_rings.specs.Links.{LinkState, traffic_of}
 use Rattle.shard_node.specs.Nodes.{NodeState}
-use Rattle.shard_node.specs.Rans.{IsOfRun, line_of}
+use Rattle.run_log.specs.Runs.{IsFinished, IsOfRun, journals_in, occupancies_in, occupancy_in, replies_in}
+use Rattle.shard_node.specs.Lines.{line_of}
 use Rattle.shard_node.specs.Standing.{InStanding}
 use Rattle.shard_node.specs.Together.{Agree, journals_of as journals_by, logs_of as logs_by}
 use Rattle.shard_run.specs.Remaining.{AreLeftBy}
-use Rattle.shard_run.specs.Running.{IsRun, WereDriven, journals_of, logs_of}
+use Rattle.shard_run.specs.Running.{WereDriven}
 use Rattle.shard_run.specs.declared.remains.Remains.{Remains}
 use Rattle.shard_run.proofs.Driven.{as_many, was_opened}
 use Rattle.shard_run.proofs.Getting.{all_at, all_mapped}
 use Rattle.shard_run.proofs.LentBlocks.{few_lent}
+
+-- the law of logs, as its function promises it
+abbrev pub LogLaw : Type 0
+LogLaw = (trace : Trace) (n pages : ℕ) (journals : List (List Entry)) (logs : List Log) → HoldTheReplies trace n pages journals logs
+    → AreLogged trace n logs (answers trace n pages journals)
 
 -- two lists made of one, place by place
 pub one_by_one : {X Y Z : Type 0} (f : X → Y) (g : X → Z) (h : ℕ × Z → Y) (at : ℕ) (xs : List X) → ((k : ℕ) (x : X) → slice_get xs k ≡ Some x → f x ≡ h (at + k, g x))
@@ -41,13 +50,13 @@ one_by_one {X} f g h at (x ∷ xs) each =
 
 module _ {G : Type 0} (holds : G → ℕ) (trace : Trace) (n pages : ℕ) (homes : List OwnedList) (nodes : List (NodeState LinkState G)) (d : WereDriven holds trace n pages homes nodes)
     (remains : Remains) (left : AreLeftBy nodes remains) (of_run : IsOfRun trace (length nodes) pages remains.ran) where
-  same_journals : journals_of remains.ran ≡ journals_by nodes
+  same_journals : journals_in remains.ran.journals ≡ journals_by nodes
   same_journals = ap (map (λ (journal : JournalState). journal.entries)) left.journals ∙ map-map (λ (journal : JournalState). journal.entries) (λ node. node.journal) nodes
 
-  same_logs : logs_of remains.ran ≡ logs_by nodes
+  same_logs : replies_in remains.ran.logs ≡ logs_by nodes
   same_logs = ap (map (λ log. log.replies)) left.logs ∙ map-map (λ log. log.replies) (λ node. node.log) nodes
 
-  pressure : n ≡ 1 → All (EvictsAbove trace pages (tight_floor pages 0 + dense)) (journals_of remains.ran)
+  pressure : n ≡ 1 → All (EvictsAbove trace pages (tight_floor pages 0 + dense)) (journals_in remains.ran.journals)
   pressure one = subst (λ l. All (EvictsAbove trace pages (tight_floor pages 0 + dense)) l) (sym same_journals)
       (all_mapped (EvictsAbove trace pages (tight_floor pages 0 + dense)) (λ node. node.journal.entries) nodes (λ s node at.
       let was = was_opened holds trace n pages homes nodes d s node at in
@@ -70,24 +79,41 @@ module _ {G : Type 0} (holds : G → ℕ) (trace : Trace) (n pages : ℕ) (homes
         ∙ (ap (λ k. (record { rows = length (unwrap_or (cache_after trace pages node.journal.entries) []); live = live (unwrap_or (cache_after trace pages node.journal.entries) []); lent = k; back = node.store.backs })) lends
         ∙ ap (λ k. (record { rows = length (unwrap_or (cache_after trace pages node.journal.entries) []); live = live (unwrap_or (cache_after trace pages node.journal.entries) []); lent = lent trace n (0 + s); back = k })) backs)
 
-    occupied : occupancies_in remains.ran.lines ≡ map (occupancy trace n pages) (enumerate_from 0 (journals_of remains.ran))
+    occupied : occupancies_in remains.ran.lines ≡ map (occupancy trace n pages) (enumerate_from 0 (journals_in remains.ran.journals))
     occupied =
         ap occupancies_in left.lines ∙ (map-map occupancy_in (λ node. line_of node.store) nodes
         ∙ (one_by_one (λ node. occupancy_in (line_of node.store)) (λ node. node.journal.entries) (occupancy trace n pages) 0 nodes occupied_at
         ∙ ap (λ journals. map (occupancy trace n pages) (enumerate_from 0 journals)) (sym same_journals)))
 
-    pub is_run : IsRun trace n pages remains.ran
-    is_run = record {
-      of_run = record { of_trace = of_run.of_trace; of_shards = of_run.of_shards ∙ as_many holds trace n pages homes nodes d; of_pages = of_run.of_pages };
-      one_journal_each = ap length left.journals ∙ (length-map nodes (λ node. node.journal) ∙ as_many holds trace n pages homes nodes d);
-      one_log_each = ap length left.logs ∙ (length-map nodes (λ node. node.log) ∙ as_many holds trace n pages homes nodes d);
-      one_line_each = ap length left.lines ∙ (length-map nodes (λ node. line_of node.store) ∙ as_many holds trace n pages homes nodes d);
-      legal = subst (λ l. All (IsLegal trace pages) l) (sym same_journals) agree.legal;
-      complete = λ s e below. subst (λ l. IsComplete trace n s (slice_index_or l s e)) (sym same_journals) (agree.complete s e below);
+    counted : length remains.ran.journals ≡ n
+    counted = ap length left.journals ∙ (length-map nodes (λ node. node.journal) ∙ as_many holds trace n pages homes nodes d)
+
+    -- the journals reply to each part, and the logs hold these replies
+    holding : HasKeys trace → All (λ operation. command_of trace operation.number ≡ Some operation) trace.operations
+        → HoldTheReplies trace n pages (journals_in remains.ran.journals) (replies_in remains.ran.logs)
+    holding keys commands = record {
+      one_journal_each = length-map remains.ran.journals (λ journal. journal.entries) ∙ counted;
+      keys = keys;
+      commands = commands;
       replied = subst (λ l. All (λ operation. All (λ part. IsSome (part_reply trace pages l part)) (parts_of n operation)) trace.operations) (sym same_journals) agree.replied;
       logged = λ o e below.
-          subst (λ l. HoldsReplies trace n o (part_reply trace pages l) (slice_index_or (logs_of remains.ran) o e)) (sym same_journals)
+          subst (λ l. HoldsReplies trace n o (part_reply trace pages l) (slice_index_or (replies_in remains.ran.logs) o e)) (sym same_journals)
           (subst (λ l. HoldsReplies trace n o (part_reply trace pages (journals_by nodes)) (slice_index_or l o e)) (sym same_logs) (agree.logged o e below));
-      occupied = occupied;
-      pressure = pressure;
     }
+
+    pub is_finished : LogLaw → HasKeys trace → All (λ operation. command_of trace operation.number ≡ Some operation) trace.operations
+        → IsFinished trace n pages remains.ran
+    is_finished law keys commands =
+        let entries = length-map remains.ran.journals (λ journal. journal.entries) in
+        let legal : All (IsLegal trace pages) (journals_in remains.ran.journals) = subst (λ l. All (IsLegal trace pages) l) (sym same_journals) agree.legal in
+        record {
+          of_run = record { of_trace = of_run.of_trace; of_shards = of_run.of_shards ∙ as_many holds trace n pages homes nodes d; of_pages = of_run.of_pages };
+          journal_each = counted;
+          log_each = ap length left.logs ∙ (length-map nodes (λ node. node.log) ∙ as_many holds trace n pages homes nodes d);
+          line_each = ap length left.lines ∙ (length-map nodes (λ node. line_of node.store) ∙ as_many holds trace n pages homes nodes d);
+          legal = λ s e below. legal s e (omega (arith, entries, counted, below));
+          complete = λ s e below. subst (λ l. IsComplete trace n s (slice_index_or l s e)) (sym same_journals) (agree.complete s e below);
+          logged = law trace n pages (journals_in remains.ran.journals) (replies_in remains.ran.logs) (holding keys commands);
+          occupied = occupied;
+          evicts = λ one e. pressure one 0 e (omega (arith, entries, counted, one));
+        }

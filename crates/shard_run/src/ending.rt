@@ -1,15 +1,17 @@
 //! The end of a run.
 ghost use Rattle.std.specs.Prelude.{List};
 ghost use Rattle.trace_text.specs.Parsed.{trace_in};
+ghost use Rattle.run_log.specs.Runs.{IsFinished};
 ghost use Rattle.foreign_list.specs.Lists.{OwnedList};
 ghost use Rattle.shard_run.specs.Opening.{AreAtRest};
 ghost use Rattle.shard_run.specs.Remaining.{IsRoomFor};
-ghost use Rattle.shard_run.specs.Running.{IsRun, WereDriven};
+ghost use Rattle.shard_run.specs.Running.{WereDriven};
 
 use crate::closing::close_links;
 use crate::finishing::finish_nodes;
 use crate::remains::Remains;
 use crate::trace_facts::facts_of;
+use cache_model::logs_hold_the_answers;
 use foreign_list::OwnerSeat;
 use shard_node::{Gate, Node, Ran, done_nodes_agree};
 use shard_rings::RingLink;
@@ -32,12 +34,13 @@ pub fn finish_run<'f, G: Gate + Drop>(
     requires driven { (homes : List OwnedList)
         × WereDriven G.holds (trace_in trace.now) trace.now.shards into.ran.pages homes nodes.items }
     requires room { IsRoomFor (trace_in trace.now) trace.now.shards into.ran.pages into }
-    ensures run { IsRun (trace_in trace.now) trace.now.shards into.entry.ran.pages result.ran }
+    ensures run { IsFinished (trace_in trace.now) trace.now.shards into.entry.ran.pages result.ran }
     ensures seats { (homes : List OwnedList)
         → WereDriven G.holds (trace_in trace.now) trace.now.shards into.entry.ran.pages homes nodes.entry.items
         → AreAtRest trace.now.shards homes result.seats.items }
 {
     facts_of(trace);
+    logs_hold_the_answers();
     done_nodes_agree::<RingLink<'f>, G>();
     let Remains { ran, links, seats } = finish_nodes(nodes, into);
     close_links(links);

@@ -2,7 +2,7 @@
 ghost use Rattle.std.specs.Prelude.{◌+◌, ◌<◌, length};
 ghost use Rattle.shard_rings.specs.Links.{traffic_of};
 ghost use Rattle.shard_node.specs.Turns.{IsDone};
-ghost use Rattle.shard_node.specs.Rans.{IsOfRun};
+ghost use Rattle.run_log.specs.Runs.{IsOfRun};
 ghost use Rattle.shard_run.specs.Remaining.{AllCanFinish, AllHaveFacts, AreLeftBy, HasFacts, IsRoomFor};
 ghost use Rattle.shard_run.specs.inside.Finishing.{HasFinished, Leaves};
 

@@ -5,9 +5,9 @@
 //! [`finish_nodes`] and [`close_links`]: its journals are legal and complete, its logs hold the replies that stand in the
 //! journals, and its caches and blocks are what a report says. It takes no memory.
 //!
-//! `specs/Opening.antt` says what nodes are that were opened, `specs/Running.antt` when they were driven and what a run is,
-//! `specs/Remaining.antt` what nodes leave, and `specs/Closing.antt` what went over a pair as it ended. Driving them is another
-//! crate's.
+//! `specs/Opening.antt` says what nodes are that were opened, `specs/Running.antt` when they were driven, `specs/Remaining.antt`
+//! what nodes leave, and `specs/Closing.antt` what went over a pair as it ended. When a run is finished, `run_log/specs/Runs.antt`
+//! says. Driving the nodes is another crate's.
 #![tactic(auto)]
 
 mod closing;

@@ -6,7 +6,6 @@ ghost use Rattle.shard_rings.specs.Mesh.{IsMesh};
 ghost use Rattle.shard_run.specs.Opening.{AreAtRest, AreLists, AreOpened, AreSeatsOf};
 ghost use Rattle.shard_run.specs.inside.Opening.{AreLeft, AreUnturned, AreUnused, GivesBack, OpensLast};
 
-use crate::trace_facts::facts_of;
 use foreign_list::{Foreign, OwnerSeat};
 use shard_node::{Gate, Gates, Node, NodeRefusal};
 use shard_rings::{RingLink, ring_links};
@@ -31,15 +30,14 @@ pub fn open_nodes<'f, G: Gates>(
     ensures opened { IfOk result (λ nodes. AreOpened (trace_in trace.now) trace.now.shards pages homes.now nodes.items) }
     ensures refused { IfErr result (λ back. AreAtRest trace.now.shards homes.now back.items) }
 {
-    let shards = shards_of(trace, homes);
-    let Ok(links) = ring_links(alloc, shards) else {
+    let Ok(links) = ring_links(alloc, trace.shards()) else {
         return Err(seats);
     };
     let Ok(mut nodes) = Vec::with_capacity(alloc, homes.len()) else {
         return Err(seats);
     };
     match open_all(
-        alloc, trace, shards, pages, homes, links, gates, &mut seats, &mut nodes,
+        alloc, trace, pages, homes, links, gates, &mut seats, &mut nodes,
     ) {
         Ok(()) => Ok(nodes),
         Err(_) => {
@@ -49,21 +47,11 @@ pub fn open_nodes<'f, G: Gates>(
     }
 }
 
-/// How many shards a trace was parsed for: as many as there are lists.
-fn shards_of(trace: &Trace, homes: &[Foreign]) -> u32
-    requires { length homes.now ≡ trace.now.shards }
-    ensures { result ≡ trace.now.shards }
-{
-    facts_of(trace);
-    homes.len() as u32
-}
-
 /// Opens the node of each shard, from the last one on. So the seats that are left are always those of the first shards, and those
 /// of nodes that are abandoned stand behind them.
 fn open_all<'f, G: Gates>(
     alloc: Global,
     trace: &'f Trace,
-    shards: u32,
     pages: u32,
     homes: &'f [Foreign],
     mut links: Vec<Vec<RingLink<'f>>>,
@@ -73,26 +61,25 @@ fn open_all<'f, G: Gates>(
 ) -> Result<(), AllocError>
     // What all shards share.
     requires pages { ArePages pages }
-    requires parsed_for { shards ≡ trace.now.shards }
 
     // What each shard starts with.
-    requires lists { AreLists shards homes.now }
-    requires one_each { length seats.old.items ≡ shards }
+    requires lists { AreLists trace.now.shards homes.now }
+    requires one_each { length seats.old.items ≡ trace.now.shards }
     requires seats { AreSeatsOf homes.now seats.old.items }
-    requires links { length links.items ≡ shards }
+    requires links { length links.items ≡ trace.now.shards }
     requires mesh { IsMesh links.items }
 
     // No node yet, and room for all.
     requires none { nodes.old.items ≡ [] }
-    requires room { shards ≤ vec_capacity nodes.old }
+    requires room { trace.now.shards ≤ vec_capacity nodes.old }
 
     // All nodes, or as far as it came.
     ensures opened { OnOk result (AreOpened (trace_in trace.now) trace.now.shards pages homes.now nodes.new.items) }
     ensures refused { OnErr result (AreLeft trace.now.shards homes.now seats.new.items nodes.new.items) }
-    ensures room { shards ≤ vec_capacity seats.new }
+    ensures room { trace.now.shards ≤ vec_capacity seats.new }
 {
     while let Some(own) = links.pop() {
-        open_last(alloc, trace, shards, pages, homes, own, gates, seats, nodes)?;
+        open_last(alloc, trace, pages, homes, own, gates, seats, nodes)?;
     }
     Ok(())
 }
@@ -101,7 +88,6 @@ fn open_all<'f, G: Gates>(
 fn open_last<'f, G: Gates>(
     alloc: Global,
     trace: &'f Trace,
-    shards: u32,
     pages: u32,
     homes: &'f [Foreign],
     links: Vec<RingLink<'f>>,
@@ -111,27 +97,27 @@ fn open_last<'f, G: Gates>(
 ) -> Result<(), AllocError>
     // What all shards share.
     requires pages { ArePages pages }
-    requires parsed_for { shards ≡ trace.now.shards }
-    requires lists { AreLists shards homes.now }
+    requires lists { AreLists trace.now.shards homes.now }
 
     // What the last of them starts with.
     requires some { 0 < length seats.old.items }
-    requires within { length seats.old.items + length nodes.old.items ≡ shards }
+    requires within { length seats.old.items + length nodes.old.items ≡ trace.now.shards }
     requires seats { AreSeatsOf homes.now seats.old.items }
-    requires links { length links.items + 1 ≡ shards }
+    requires links { length links.items + 1 ≡ trace.now.shards }
     requires unused { AreUnused links.items }
-    requires room { shards ≤ vec_capacity nodes.old }
+    requires room { trace.now.shards ≤ vec_capacity nodes.old }
 
     // One node more, or nothing changed.
     ensures opened { OnOk result
-        (OpensLast
-        (trace_in trace.now) shards pages homes.now links.entry.items seats.old.items seats.new.items nodes.old.items nodes.new.items) }
+        (OpensLast (trace_in trace.now) trace.now.shards pages homes.now links.entry.items
+        seats.old.items seats.new.items nodes.old.items nodes.new.items) }
     ensures refused { OnErr result ((seats.new.items ≡ seats.old.items) × (nodes.new.items ≡ nodes.old.items)) }
 
     // The memory of both is kept.
     ensures seats_room { vec_capacity seats.old ≤ vec_capacity seats.new }
     ensures nodes_room { vec_capacity nodes.old ≤ vec_capacity nodes.new }
 {
+    let shards = trace.shards();
     let seat = seats.pop().unwrap();
     let shard = seats.len();
     let (number, home) = (shard as u32, &homes[shard]);

@@ -1,5 +1,5 @@
 //! What the nodes of a run leave.
-ghost use Rattle.std.specs.Prelude.{◌≡◌, IfOk};
+ghost use Rattle.std.specs.Prelude.{IfOk};
 ghost use Rattle.trace_text.specs.Parsed.{trace_in};
 
 use foreign_list::OwnerSeat;
@@ -21,19 +21,14 @@ pub struct Remains<'f> {
 impl<'f> Remains<'f> {
     ghost use Rattle.shard_run.specs.Remaining.{IsRoomFor};
 
-    /// Room for what the nodes will leave that run this trace, of so many shards, for which it was parsed, with so many pages each.
+    /// Room for what the nodes will leave that run this trace, with so many pages each.
     ///
     /// # Errors
     /// There is no memory.
-    pub fn new(
-        alloc: Global,
-        trace: &Trace,
-        shards: u32,
-        pages: u32,
-    ) -> Result<Remains<'f>, AllocError>
-        requires parsed_for { shards ≡ trace.now.shards }
-        ensures { IfOk result (λ remains. IsRoomFor (trace_in trace.now) shards pages remains) }
+    pub fn new(alloc: Global, trace: &Trace, pages: u32) -> Result<Remains<'f>, AllocError>
+        ensures { IfOk result (λ remains. IsRoomFor (trace_in trace.now) trace.now.shards pages remains) }
     {
+        let shards = trace.shards();
         Ok(Remains {
             ran: Ran::new(alloc, trace, shards, pages)?,
             links: Vec::with_capacity(alloc, shards as usize)?,

@@ -2,8 +2,7 @@
 ghost use Rattle.std.specs.Prelude.{◌≡◌, ◌⊎◌, ℕ, ◌+◌, ◌-◌, ◌<◌, ◌≤◌, length, take, true, None};
 ghost use Rattle.std.specs.List.{last_or};
 ghost use Rattle.layout.specs.Sizes.{greatest_object};
-ghost use Rattle.rows.specs.Row.{live};
-ghost use Rattle.rows.specs.Evictions.{is_of_put};
+ghost use Rattle.rows.specs.Row.{live, is_of_put};
 ghost use Rattle.shard_memory.specs.Shards.{MemoryState};
 ghost use Rattle.regions.specs.Counts.{left};
 ghost use Rattle.row_cache.specs.Rows.{rows_of};

@@ -3,7 +3,8 @@ ghost use Rattle.std.specs.Prelude.{◌≡◌, ◌⊎◌, ◌*◌, ◌-◌, ◌^
 ghost use Rattle.layout.specs.Sizes as sizes;
 ghost use Rattle.rows.specs.Row.{live};
 ghost use Rattle.rows.specs.Apply as apply;
-ghost use Rattle.rows.specs.KeyBody.{AreKeys, IsKey};
+ghost use Rattle.rows.specs.KeyBody.{AreKeys};
+ghost use Rattle.rows.specs.Spelled.{IsKey};
 ghost use Rattle.foreign_list.specs.OwnerSeats.{IsAtRest};
 ghost use Rattle.row_cache.specs.Rows.{reply_of};
 ghost use Rattle.shard_memory.specs.Tickets.{tickets_out};

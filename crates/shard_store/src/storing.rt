@@ -1,7 +1,7 @@
 //! How a row is stored, behind the evictions that make room for it.
 ghost use Rattle.std.specs.Prelude.{◌≡◌, ◌⊎◌, ℕ, ◌<◌, ◌≤◌, length, true, IsSome};
 ghost use Rattle.layout.specs.Sizes.{greatest_value};
-ghost use Rattle.rows.specs.KeyBody.{IsKey};
+ghost use Rattle.rows.specs.Spelled.{IsKey};
 ghost use Rattle.rows.specs.Row.{size};
 ghost use Rattle.rows.specs.Apply as apply;
 ghost use Rattle.shard_memory.specs.Shards.{MemoryState};

@@ -1,5 +1,5 @@
 -- The report of what the shards did.
-use Rattle.std.proofs.Common.{◌≡◌, ℕ, ◌+◌, ◌<◌, List, [], ◌∷◌, length, map, get_or, Option, Some, None, arith, refl, sym, subst, inl, inr, ◌⊎◌, ◌∙◌}
+use Rattle.std.proofs.Common.{◌≡◌, ℕ, ◌+◌, ◌<◌, List, [], ◌∷◌, length, map, get_or, Option, Some, None, arith, refl, ◌∙◌}
 use Rattle.std.specs.List.{All, AllByRecursion as ByRecursion, enumerate_from, filter_map, slice_get}
 use Rattle.std.specs.Option.{option_map}
 use Rattle.std.proofs.lemmas.List.{length-map}
@@ -15,16 +15,13 @@ use Rattle.rows.specs.Apply.{Reply}
 use Rattle.rows.specs.Holds.{ReplyHolds}
 use Rattle.cache_model.specs.Holds.{PutsHold}
 use Rattle.cache_model.specs.Logged.{AreLogged}
-use Rattle.cache_model.specs.Summary.{summary}
+use Rattle.cache_model.specs.Summary.{IsSummaryOf, summary}
 use Rattle.cache_model.specs.Report.{IsReportOf, Occupancy, answers, journal_text, occupancy, report, report_of, text_lines}
 use Rattle.cache_model.specs.Unbroken.{IsUnbroken, is_unbroken}
-use Rattle.report_text.specs.Views.{journals_in, replies_in}
-use Rattle.shard_node.specs.Rans.{RanState}
+use Rattle.run_log.specs.Runs.{IsFinished, RanState, journals_in, replies_in}
 use Rattle.settings.specs.declared.settings.Settings.{Settings as Found}
-use Rattle.settings.specs.declared.settings.mode.Mode.TheVariants.{Run, Sim, Gen}
 use Rattle.settings.specs.Settings.{view}
-use Rattle.shardcache.specs.Table.{IsOutput, IsRecordOf, Reports}
-use Rattle.trace_run.specs.Finished.{IsRunOf}
+use Rattle.shardcache.specs.Meanings.{Shown}
 use Rattle.shardcache.proofs.Unbroken.{key-unbroken, value-unbroken}
 
 -- the laws of answers and of reports, as their functions promise them
@@ -54,7 +51,7 @@ puts-hold trace formed = λ i d within is.
     (key-unbroken (get_or trace.operations i d).key (formed i d within).key, value-unbroken (get_or trace.operations i d).value (formed i d within).value)
 
 -- the report of the journals is legal
-pub reported : ReportLaws → (trace : Trace) (n pages : ℕ) (ran : RanState) → All IsWellFormed trace.operations → IsRunOf trace n pages ran
+pub reported : ReportLaws → (trace : Trace) (n pages : ℕ) (ran : RanState) → All IsWellFormed trace.operations → IsFinished trace n pages ran
     → IsReportOf trace n pages (report trace n pages (journals_in ran.journals)) (journals_in ran.journals)
 reported laws trace n pages ran formed run =
     let journals = journals_in ran.journals in
@@ -72,38 +69,14 @@ reported laws trace n pages ran formed run =
       text = refl;
     }
 
--- the record is that of the run
-recorded : (found : Found) (trace : Trace) (ran : RanState) → IsRunOf trace found.shards found.pages ran → IsRecordOf (view found) trace ran
-recorded found trace ran run = record {
-  of_trace = run.of_run.of_trace;
-  of_shards = run.of_run.of_shards;
-  of_pages = run.of_run.of_pages;
-  journal_each = run.journal_each;
-  log_each = run.log_each;
-  line_each = run.line_each;
-  logged = run.logged;
-  occupied = run.occupied;
-}
+-- ---- what is shown of a run
 
--- ---- by the mode
+pub shows_report : ReportLaws → (found : Found) (trace : Trace) (ran : RanState) → All IsWellFormed trace.operations → IsFinished trace found.shards found.pages ran
+    → Shown IsReportOf (view found) trace (Some ran) (report trace found.shards found.pages (journals_in ran.journals))
+shows_report laws found trace ran formed run =
+    (ran, refl, run, reported laws trace found.shards found.pages ran formed run)
 
-pub of_reading : ReportLaws → (found : Found) (trace : Trace) (ran : RanState) → All IsWellFormed trace.operations
-    → IsRunOf trace found.shards found.pages ran → (found.mode ≡ Run) ⊎ (found.mode ≡ Sim)
-    → IsOutput found.mode (view found) trace (Some ran) (report trace found.shards found.pages (journals_in ran.journals))
-of_reading laws found trace ran formed run mode = go mode
-  where
-    text : List ℕ
-    text = report trace found.shards found.pages (journals_in ran.journals)
-
-    reports : Reports (view found) trace ran text
-    reports = record { report = reported laws trace found.shards found.pages ran formed run; evicts = run.evicts }
-
-    go : (found.mode ≡ Run) ⊎ (found.mode ≡ Sim) → IsOutput found.mode (view found) trace (Some ran) text
-    go (inl is) = subst (λ m. IsOutput m (view found) trace (Some ran) text) (sym is) (ran, refl, recorded found trace ran run, reports)
-    go (inr is) = subst (λ m. IsOutput m (view found) trace (Some ran) text) (sym is) (ran, refl, recorded found trace ran run, reports)
-
-pub of_making : (found : Found) (trace : Trace) (ran : RanState) → IsRunOf trace found.shards found.pages ran → found.mode ≡ Gen
-    → IsOutput found.mode (view found) trace (Some ran) (summary trace found.shards found.pages (journals_in ran.journals))
-of_making found trace ran run is =
-    subst (λ m. IsOutput m (view found) trace (Some ran) (summary trace found.shards found.pages (journals_in ran.journals))) (sym is)
-    (ran, refl, recorded found trace ran run, record { shards = run.journal_each; legal = run.legal; complete = run.complete; summary = refl })
+pub shows_summary : (found : Found) (trace : Trace) (ran : RanState) → IsFinished trace found.shards found.pages ran
+    → Shown IsSummaryOf (view found) trace (Some ran) (summary trace found.shards found.pages (journals_in ran.journals))
+shows_summary found trace ran run =
+    (ran, refl, run, refl)

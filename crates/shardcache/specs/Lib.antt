@@ -1,4 +1,5 @@
 pub mod Codes
+pub mod Meanings
 pub mod Table
 pub mod TraceFor
 pub mod inside

@@ -1,27 +1,26 @@
-//! What is written: a line that says why, a report, a summary.
+//! What is written of a run: its report or its summary; and of what is refused, a line that says why.
 ghost use Rattle.std.specs.Prelude.{◌≡◌, ◌≢◌, ◌⊎◌, ℕ, List, OnOk, OnErr, Some};
 ghost use Rattle.layout.specs.Counts.{Rose};
-ghost use Rattle.cache_model.specs.Report.{report};
-ghost use Rattle.cache_model.specs.Summary.{summary};
-ghost use Rattle.report_text.specs.Views.{journals_in};
+ghost use Rattle.cache_model.specs.Report.{IsReportOf, report};
+ghost use Rattle.cache_model.specs.Summary.{IsSummaryOf, summary};
+ghost use Rattle.run_log.specs.Runs.{IsFinished, journals_in};
 ghost use Rattle.trace_text.specs.Parsed.{trace_in};
 ghost use Rattle.trace_text.specs.Reading.{AtLine, TooLong};
 ghost use Rattle.value_script.specs.Reading as script_refusal;
 ghost use Rattle.settings.specs.Settings.{view};
-ghost use Rattle.shardcache.specs.Table.{IsOutput};
+ghost use Rattle.shardcache.specs.Meanings.{Shown};
 ghost use Rattle.shardcache.specs.TraceFor.{refusal_text, refused_line, script_refusal_text};
-ghost use Rattle.shardcache.specs.inside.Ending.{EndsOutput, EndsWith, Runs};
-ghost use Rattle.trace_run.specs.Finished.{IsRunOf};
+ghost use Rattle.shardcache.specs.inside.Ending.{EndsOutput, EndsWith};
 
+use crate::asked::Asked;
 use crate::status::Status;
 use cache_model::{a_report_has_its_lines, answers_are_read_by_command, replies_hold_what_was_put};
 use outside::{Failed, Sink, write_all};
 use report_text::{Texts, write_report_on, write_summary};
-use settings::{Mode, Settings};
 use shard_node::Ran;
 use std::alloc::Global;
 use std::thread::Threads;
-use trace_text::{Cause, Trace};
+use trace_text::Cause;
 use value_script::Cause as ScriptCause;
 
 /// Writes a text to its end, and answers this status, or that the sink failed.
@@ -72,28 +71,25 @@ pub(crate) fn refuse_script<K: Sink>(
     refuse_line(alloc, sink, line, cause.name())
 }
 
-/// Writes the report of what the shards did, made in these texts.
-pub(crate) fn report_run<R: Threads + Sync, K: Sink>(
+/// Writes the text of a report, made in these texts.
+fn print_report<R: Threads + Sync, K: Sink>(
     rt: &R,
     texts: &mut Texts,
     sink: &mut K,
-    settings: Settings,
-    trace: &Trace,
+    asked: &Asked<'_>,
     ran: &Ran,
 ) -> Status
-    requires parsed_for { settings.shards ≡ trace.now.shards }
-    requires run { IsRunOf (trace_in trace.now) settings.shards settings.pages ran.now }
+    requires run { IsFinished (trace_in asked.now.trace.now) asked.now.trace.now.shards asked.now.settings.pages ran.now }
     ensures written { EndsOutput result (K.written sink.old) (K.written sink.new)
-        (report (trace_in trace.now) settings.shards settings.pages (journals_in ran.now.journals)) }
+        (report (trace_in asked.now.trace.now) asked.now.trace.now.shards asked.now.settings.pages (journals_in ran.now.journals)) }
     ensures fault { result ≡ Status.WriteFault → Rose (K.faults sink.old) (K.faults sink.new) }
 {
     match write_report_on(
         rt,
         texts,
-        settings.threads(),
+        asked.settings.threads(),
         sink,
-        trace,
-        settings.shards,
+        asked.trace,
         ran.logs(),
         ran.journals(),
         ran.lines(),
@@ -103,23 +99,17 @@ pub(crate) fn report_run<R: Threads + Sync, K: Sink>(
     }
 }
 
-/// Writes the summary of what the shards did.
-pub(crate) fn summarize_run<K: Sink>(
-    sink: &mut K,
-    settings: Settings,
-    trace: &Trace,
-    ran: &Ran,
-) -> Status
-    requires parsed_for { settings.shards ≡ trace.now.shards }
-    requires run { IsRunOf (trace_in trace.now) settings.shards settings.pages ran.now }
+/// Writes the text of a summary.
+fn print_summary<K: Sink>(sink: &mut K, asked: &Asked<'_>, ran: &Ran) -> Status
+    requires run { IsFinished (trace_in asked.now.trace.now) asked.now.settings.shards asked.now.settings.pages ran.now }
     ensures written { EndsOutput result (K.written sink.old) (K.written sink.new)
-        (summary (trace_in trace.now) settings.shards settings.pages (journals_in ran.now.journals)) }
+        (summary (trace_in asked.now.trace.now) asked.now.settings.shards asked.now.settings.pages (journals_in ran.now.journals)) }
     ensures fault { result ≡ Status.WriteFault → Rose (K.faults sink.old) (K.faults sink.new) }
 {
     match write_summary(
         sink,
-        trace,
-        settings.shards,
+        asked.trace,
+        asked.settings.shards,
         ran.logs(),
         ran.journals(),
         ran.lines(),
@@ -129,31 +119,36 @@ pub(crate) fn summarize_run<K: Sink>(
     }
 }
 
-/// Writes what the mode says of a run.
-pub(crate) fn write_output<R: Threads + Sync, K: Sink>(
+/// Writes the report of what the shards did, made in these texts.
+pub(crate) fn report_run<R: Threads + Sync, K: Sink>(
     rt: &R,
     texts: &mut Texts,
     sink: &mut K,
-    settings: Settings,
-    trace: &Trace,
+    asked: &Asked<'_>,
     ran: &Ran,
 ) -> Status
-    requires parsed_for { settings.shards ≡ trace.now.shards }
-    requires run { IsRunOf (trace_in trace.now) settings.shards settings.pages ran.now }
-    requires runs { Runs settings.mode }
-    ensures written { (text : List ℕ) × IsOutput settings.mode (view settings) (trace_in trace.now) (Some ran.now) text
+    requires run { IsFinished (trace_in asked.now.trace.now) asked.now.trace.now.shards asked.now.settings.pages ran.now }
+    ensures written { (text : List ℕ)
+        × Shown IsReportOf (view asked.now.settings) (trace_in asked.now.trace.now) (Some ran.now) text
         × EndsOutput result (K.written sink.old) (K.written sink.new) text }
     ensures fault { result ≡ Status.WriteFault → Rose (K.faults sink.old) (K.faults sink.new) }
 {
-    trace.commands();
+    asked.trace.commands();
     replies_hold_what_was_put();
     a_report_has_its_lines();
     answers_are_read_by_command();
-    match settings.mode {
-        Mode::Run | Mode::Sim => report_run(rt, texts, sink, settings, trace, ran),
-        Mode::Gen => summarize_run(sink, settings, trace, ran),
-        Mode::Dirty | Mode::Index | Mode::Values => unreachable!(),
-    }
+    print_report(rt, texts, sink, asked, ran)
+}
+
+/// Writes the summary of what the shards did.
+pub(crate) fn summarize_run<K: Sink>(sink: &mut K, asked: &Asked<'_>, ran: &Ran) -> Status
+    requires run { IsFinished (trace_in asked.now.trace.now) asked.now.trace.now.shards asked.now.settings.pages ran.now }
+    ensures written { (text : List ℕ)
+        × Shown IsSummaryOf (view asked.now.settings) (trace_in asked.now.trace.now) (Some ran.now) text
+        × EndsOutput result (K.written sink.old) (K.written sink.new) text }
+    ensures fault { result ≡ Status.WriteFault → Rose (K.faults sink.old) (K.faults sink.new) }
+{
+    print_summary(sink, asked, ran)
 }
 
 /// The status of a call that wrote a whole text, or met a fault of the sink.
@@ -167,7 +162,7 @@ pub(crate) fn written_or_fault(written: Result<(), Failed>) -> Status
     }
 }
 
-/// Writes that a trace is too long.
+/// Writes that a trace or a script is too long.
 pub(crate) fn too_long<K: Sink>(sink: &mut K) -> Status
     ensures written { EndsWith result Status.Refused (K.written sink.old) (K.written sink.new) (refusal_text TooLong) }
     ensures cases { (result ≡ Status.Refused) ⊎ (result ≡ Status.WriteFault) }

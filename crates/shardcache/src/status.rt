@@ -5,11 +5,11 @@ ghost use Rattle.shardcache.specs.Codes.{code_of};
 /// How a call of the program ended.
 #[derive(Clone, Copy, Debug, PartialEq, Eq)]
 pub enum Status {
-    /// The report was written.
+    /// All that the mode writes was written: the report, the summary, or the answers of a store.
     Done,
     /// The words ask for nothing that the program does.
     Usage,
-    /// The trace is refused.
+    /// The trace or the script is refused.
     Refused,
     /// The source failed.
     ReadFault,

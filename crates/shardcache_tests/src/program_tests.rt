@@ -10,8 +10,8 @@ mod stores;
 mod summaries;
 
 use outside::{MemorySink, MemorySource};
-use shard_node::{Gates, OpenGates};
-use shardcache::{Outcome, Status, shardcache};
+use shard_node::Gates;
+use shardcache::{Outcome, Status, shardcache, shardcache_gated};
 use std::alloc::{AllocError, Global};
 use std::sync::Wait;
 use std::test::Fail;
@@ -26,7 +26,11 @@ fn answer<R: Threads + Wait + Sync>(
     failing: &[u64],
     room: usize,
 ) -> Result<(Status, Vec<u8>), AllocError> {
-    answer_through(rt, alloc, words, input, failing, room, &OpenGates)
+    let texts = words_of(alloc, words)?;
+    let mut source = source_of(alloc, input, failing)?;
+    let mut sink = MemorySink::new(alloc, room)?;
+    let status = call(rt, alloc, texts.as_slice(), &mut source, &mut sink);
+    Ok((status, Vec::from_slice(alloc, sink.bytes())?))
 }
 
 /// The same with gates of one's own.
@@ -42,12 +46,24 @@ fn answer_through<R: Threads + Wait + Sync, G: Gates>(
     let texts = words_of(alloc, words)?;
     let mut source = source_of(alloc, input, failing)?;
     let mut sink = MemorySink::new(alloc, room)?;
-    let status = call(rt, alloc, texts.as_slice(), &mut source, &mut sink, gates);
+    let status = call_gated(rt, alloc, texts.as_slice(), &mut source, &mut sink, gates);
     Ok((status, Vec::from_slice(alloc, sink.bytes())?))
 }
 
 /// The call alone.
-fn call<R: Threads + Wait + Sync, G: Gates>(
+fn call<R: Threads + Wait + Sync>(
+    rt: &R,
+    alloc: Global,
+    words: &[String],
+    source: &mut MemorySource,
+    sink: &mut MemorySink,
+) -> Status {
+    let Outcome { status, ran: _ } = shardcache(rt, alloc, words, source, sink);
+    status
+}
+
+/// The call with gates of one's own, alone.
+fn call_gated<R: Threads + Wait + Sync, G: Gates>(
     rt: &R,
     alloc: Global,
     words: &[String],
@@ -55,7 +71,7 @@ fn call<R: Threads + Wait + Sync, G: Gates>(
     sink: &mut MemorySink,
     gates: &G,
 ) -> Status {
-    let Outcome { status, ran: _ } = shardcache(rt, alloc, words, source, sink, gates);
+    let Outcome { status, ran: _ } = shardcache_gated(rt, alloc, words, source, sink, gates);
     status
 }
 

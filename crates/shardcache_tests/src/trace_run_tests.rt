@@ -1,6 +1,5 @@
 //! Runs that evict, beside the definitions run: a plain cache accepts each eviction that the journal has, and gives each reply
 //! that the log has.
-ghost use Rattle.std.specs.Prelude.{◌≡◌, IfOk, IfSome};
 
 mod scheduled;
 mod side_by_side;
@@ -69,9 +68,7 @@ fn drawn_trace(
     shards: u32,
     lengths: Lengths,
     commands: u32,
-) -> Result<Option<Trace>, AllocError>
-    ensures { IfOk result (λ drawn. IfSome drawn (λ trace. trace.shards ≡ shards)) }
-{
+) -> Result<Option<Trace>, AllocError> {
     let mut words = Lcg64Xsh32::new(7, 1);
     let mut bytes = Vec::new(alloc);
     for number in 0..commands {
@@ -214,12 +211,10 @@ fn runs_the_same<R: Threads + Wait + Sync>(
     rt: &R,
     alloc: Global,
     trace: &Trace,
-    shards: u32,
     order: Order,
-) -> Result<bool, AllocError>
-    requires { shards ≡ trace.now.shards }
-{
-    let ran = run_trace(rt, alloc, trace, shards, PAGES, order, &OpenGates)?;
+) -> Result<bool, AllocError> {
+    let shards = trace.shards();
+    let ran = run_trace(rt, alloc, trace, PAGES, order, &OpenGates)?;
     let (evicted, same) = (evictions(&ran), are_the_same(alloc, trace, shards, &ran));
     drop(ran);
     Ok((shards > 1 || evicted > 500) && same?)
@@ -240,7 +235,7 @@ fn a_plain_cache_evicts_and_replies_the_same(rt: HostRuntime) -> Result<(), Fail
         let alloc = rt.alloc();
         let trace = drawn_trace(alloc, shards, lengths, commands)?.ok_or("no trace")?;
         for order in [Order::Threads, Order::Numbered(3)] {
-            let same = runs_the_same(&rt, alloc, &trace, shards, order)?;
+            let same = runs_the_same(&rt, alloc, &trace, order)?;
             assert!(rt; same, "{shards} {lengths:?}");
         }
     }

@@ -1,4 +1,5 @@
-//! Small objects of up to four pages, from pools by size class, after the small pools of Seastar's `core/memory.cc`.
+//! Small objects of up to four pages, from pools by size class, as a slab allocator has them, after the small pools of
+//! Seastar's `core/memory.cc`.
 //!
 //! There are 37 classes, four per doubling. A pool takes its memory in spans of pages and cuts each into as many
 //! objects as fit. Taking an object and giving it back cost a constant number of steps, and the span of a place is

@@ -20,11 +20,10 @@ use Rattle.rows.specs.declared.reply_kind.ReplyKind.{ReplyKind}
 use Rattle.rows.specs.declared.reply_kind.ReplyKind.TheVariants as kinds
 use Rattle.cache_model.specs.Answer.{answer_from}
 use Rattle.rows.specs.Apply.{Reply, Stored, Replaced, Value, Missing, Erased, Keys, is_at_most}
-use Rattle.rows.specs.KeyBody.{IsKey}
+use Rattle.rows.specs.Spelled.{IsKey, spelled}
 use Rattle.rows.specs.Fits.{AreFound, Fits, FitsKind, HasFitting}
 use Rattle.cache_model.specs.Logged.{AreLogged}
 use Rattle.cache_model.specs.OwnParts.{issued_parts, parts_of}
-use Rattle.rows.specs.Spelled.{spelled}
 
 -- ---- replies by the kind of their command
 

@@ -15,7 +15,7 @@ use Rattle.rows.specs.declared.reply_kind.ReplyKind.{ReplyKind}
 use Rattle.rows.specs.declared.reply_kind.ReplyKind.TheVariants as kinds
 use Rattle.rows.specs.Apply.{Reply, Stored, Missing, Keys, is_at_most}
 use Rattle.cache_model.specs.Examples.{first, joined_scan, second, two_shards}
-use Rattle.rows.specs.KeyBody.{IsKey}
+use Rattle.rows.specs.Spelled.{IsKey}
 use Rattle.rows.specs.Fits.{AreFound, HasFitting}
 use Rattle.cache_model.specs.Logged.{AreLogged}
 use Rattle.cache_model.specs.OwnParts.{HoldsReplies, part_reply, parts_of}

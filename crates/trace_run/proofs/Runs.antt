@@ -1,55 +1,16 @@
--- What a run came to, as the report wants it.
+-- The nodes of a run, before and after they were driven.
 use Rattle.std.proofs.Common.{◌≡◌, ℕ, ◌<◌, List, [], ◌∷◌, ◌++◌, length, take, drop, get_or, Some, arith, refl, sym, ap, subst, ◌∙◌}
 use Rattle.std.specs.List.{All, slice_get}
-use Rattle.std.proofs.lemmas.List.{length-map}
 use Rattle.std.proofs.lemmas.Option.{get_or_from_slice_get, slice_get-get_or, slice_get_within}
 use Rattle.trace_text.specs.Trace.{Trace}
-use Rattle.trace_text.specs.Parsed.{AreNumbered, IsWellFormed, Parsed, trace_in}
-use Rattle.cache_model.specs.declared.entry.Entry.{Entry}
-use Rattle.cache_model.specs.Logged.{AreLogged, HoldTheReplies}
-use Rattle.cache_model.specs.Report.{answers}
-use Rattle.cache_model.specs.OwnParts.{Log}
 use Rattle.foreign_list.specs.Lists.{OwnedList}
 use Rattle.shard_rings.specs.Links.{LinkState, end_of, traffic_of}
 use Rattle.shard_node.specs.Nodes.{NodeState}
-use Rattle.shard_node.specs.Rans.{RanState}
 use Rattle.shard_node.specs.Standing.{InStanding}
 use Rattle.shard_node.specs.Turns.{IsDone, IsSameNode}
 use Rattle.shard_drive.specs.Drives.{AtEach}
 use Rattle.shard_run.specs.Opening.{AreOpened}
-use Rattle.shard_run.specs.Running.{IsRun, WereDriven, journals_of, logs_of}
-use Rattle.trace_run.specs.Finished.{IsRunOf}
-use Rattle.trace_run.proofs.Numbered.{command_at, numbered}
-
--- the law of logs, as its function promises it
-abbrev pub LogLaw : Type 0
-LogLaw = (trace : Trace) (n pages : ℕ) (journals : List (List Entry)) (logs : List Log) → HoldTheReplies trace n pages journals logs → AreLogged trace n logs (answers trace n pages journals)
-
-pub run_of : LogLaw → (parsed : Parsed) (n pages : ℕ) (ran : RanState) → All IsWellFormed (trace_in parsed).operations → AreNumbered parsed.commands
-    → IsRun (trace_in parsed) n pages ran → IsRunOf (trace_in parsed) n pages ran
-run_of law parsed n pages ran formed numbers run =
-    let trace = trace_in parsed in
-    let journals = length-map ran.journals (λ journal. journal.entries) in
-    let count = run.one_journal_each in
-    record {
-      of_run = run.of_run;
-      journal_each = run.one_journal_each;
-      log_each = run.one_log_each;
-      line_each = run.one_line_each;
-      legal = λ s d below. run.legal s d (omega (arith, journals, count, below));
-      complete = run.complete;
-      logged = law trace n pages (journals_of ran) (logs_of ran) (record {
-        one_journal_each = journals ∙ count;
-        keys = λ i d within put. record { some = (formed i d within).key_some; short = (formed i d within).key_most };
-        commands = λ i d within. command_at trace.operations i d (numbered parsed.bytes parsed.commands numbers) within;
-        replied = run.replied;
-        logged = run.logged;
-      });
-      occupied = run.occupied;
-      evicts = λ one d. run.pressure one 0 d (omega (arith, journals, count, one));
-    }
-
--- The nodes of a run, before and after they were driven.
+use Rattle.shard_run.specs.Running.{WereDriven}
 
 something_at : {X : Type 0} (xs : List X) (i : ℕ) → i < length xs → (x : X) × (slice_get xs i ≡ Some x)
 something_at [] i within = absurd (omega (arith, within))

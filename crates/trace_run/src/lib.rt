@@ -1,7 +1,7 @@
 //! A whole run of a trace on shards: their nodes are opened, driven and taken apart, and what they did is left.
 //!
-//! The definition is `specs/Finished.antt`: the journals are legal and complete, the logs have the answers, and the lines say what
-//! the caches hold.
+//! What it leaves is a finished run, as `run_log/specs/Runs.antt` defines one: the journals are legal and complete, the logs have the
+//! answers, and the lines say what the caches hold.
 #![tactic(auto)]
 
 mod run;

@@ -1,18 +1,14 @@
 //! A run of a trace on all shards.
-ghost use Rattle.std.specs.Prelude.{◌≡◌, ◌<◌, List, length, All, IfOk, IfErr};
+ghost use Rattle.std.specs.Prelude.{◌<◌, length, All, IfOk, IfErr};
 ghost use Rattle.layout.specs.Sizes.{ArePages};
 ghost use Rattle.trace_text.specs.Parsed.{trace_in};
-ghost use Rattle.foreign_list.specs.Lists.{OwnedList};
+ghost use Rattle.run_log.specs.Runs.{IsFinished};
 ghost use Rattle.shard_rings.specs.Links.{end_of, traffic_of};
 ghost use Rattle.shard_node.specs.Standing.{InStanding};
 ghost use Rattle.shard_node.specs.Turns.{IsDone, IsSameNode};
 ghost use Rattle.shard_drive.specs.Drives.{AtEach};
 ghost use Rattle.shard_run.specs.Opening.{AreAtRest};
-ghost use Rattle.shard_run.specs.Remaining.{IsRoomFor};
-ghost use Rattle.shard_run.specs.Running.{WereDriven};
-ghost use Rattle.trace_run.specs.Finished.{IsRunOf};
 
-use cache_model::logs_hold_the_answers;
 use foreign_list::{Foreign, OwnerSeat};
 use shard_drive::{drive_numbered, drive_threads};
 use shard_node::{Gate, Gates, Node, Ran};
@@ -49,25 +45,6 @@ where
     }
 }
 
-/// Ends a run, whose nodes are all done. There is room for what they leave. The seats at the lists are handed back.
-fn end_run<'f, G: Gate + Drop>(
-    trace: &Trace,
-    nodes: Vec<Node<'f, RingLink<'f>, G>>,
-    into: Remains<'f>,
-) -> Ended
-    requires driven { (homes : List OwnedList)
-        × WereDriven G.holds (trace_in trace.now) trace.now.shards into.ran.pages homes nodes.items }
-    requires room { IsRoomFor (trace_in trace.now) trace.now.shards into.ran.pages into }
-    ensures run { IsRunOf (trace_in trace.now) trace.now.shards into.entry.ran.pages result.ran }
-    ensures seats { (homes : List OwnedList)
-        → WereDriven G.holds (trace_in trace.now) trace.now.shards into.entry.ran.pages homes nodes.entry.items
-        → AreAtRest trace.now.shards homes result.seats.items }
-{
-    trace.commands();
-    logs_hold_the_answers();
-    finish_run(trace, nodes, into)
-}
-
 /// Runs a trace over these lists, whose seats are handed back.
 ///
 /// # Errors
@@ -76,7 +53,6 @@ fn run_over<'f, R, G>(
     rt: &R,
     alloc: Global,
     trace: &'f Trace,
-    shards: u32,
     pages: u32,
     order: Order,
     gates: &G,
@@ -86,23 +62,22 @@ fn run_over<'f, R, G>(
 where
     R: Threads + Wait + Sync,
     G: Gates,
-    requires parsed_for { shards ≡ trace.now.shards }
     requires pages { ArePages pages }
-    requires seats { AreAtRest shards homes.now seats.items }
-    ensures run { IfOk result (λ ended. IsRunOf (trace_in trace.now) shards pages ended.ran) }
-    ensures seats { IfOk result (λ ended. AreAtRest shards homes.now ended.seats.items) }
-    ensures refused { IfErr result (λ back. AreAtRest shards homes.now back.items) }
+    requires seats { AreAtRest trace.now.shards homes.now seats.items }
+    ensures run { IfOk result (λ ended. IsFinished (trace_in trace.now) trace.now.shards pages ended.ran) }
+    ensures seats { IfOk result (λ ended. AreAtRest trace.now.shards homes.now ended.seats.items) }
+    ensures refused { IfErr result (λ back. AreAtRest trace.now.shards homes.now back.items) }
 {
     trace.commands();
-    let Ok(remains) = Remains::new(alloc, trace, shards, pages) else {
+    let Ok(remains) = Remains::new(alloc, trace, pages) else {
         return Err(seats);
     };
     let mut nodes = open_nodes(alloc, trace, pages, homes, seats, gates)?;
     drive(rt, nodes.as_mut_slice(), order);
-    Ok(end_run(trace, nodes, remains))
+    Ok(finish_run(trace, nodes, remains))
 }
 
-/// Runs a trace on its shards, each of so many pages.
+/// Runs a trace on the shards that it was parsed for, each of so many pages.
 ///
 /// # Errors
 /// Want of memory, which is all taken before the first turn; then nothing was done.
@@ -110,7 +85,6 @@ pub fn run_trace<R, G>(
     rt: &R,
     alloc: Global,
     trace: &Trace,
-    shards: u32,
     pages: u32,
     order: Order,
     gates: &G,
@@ -118,16 +92,15 @@ pub fn run_trace<R, G>(
 where
     R: Threads + Wait + Sync,
     G: Gates,
-    requires parsed_for { shards ≡ trace.now.shards }
     requires pages { ArePages pages }
-    ensures { IfOk result (λ ran. IsRunOf (trace_in trace.now) shards pages ran) }
+    ensures { IfOk result (λ ran. IsFinished (trace_in trace.now) trace.now.shards pages ran) }
 {
+    let shards = trace.shards();
     let (homes, seats) = open_lists(alloc, shards)?;
     match run_over(
         rt,
         alloc,
         trace,
-        shards,
         pages,
         order,
         gates,

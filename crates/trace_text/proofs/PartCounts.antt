@@ -7,7 +7,8 @@ use Rattle.std.proofs.lemmas.List.Sums.{length-filter, sum_by-cons}
 use Rattle.std.proofs.Math.Nat.{mod-lt}
 use Rattle.rows.specs.Operation.{Operation, is_scan}
 use Rattle.trace_text.specs.Trace.{Trace}
-use Rattle.trace_text.specs.Parts.{done_at, has_part, hash, here_parts, issued, origin, own_parts, owner, parts}
+use Rattle.trace_text.specs.Parts.{has_part, hash, origin, own_parts, owner, parts}
+use Rattle.trace_text.specs.PartCounts.{done_at, here_parts, issued}
 
 abbrev pub one_if : Bool → ℕ
 one_if b = cond b 1 0

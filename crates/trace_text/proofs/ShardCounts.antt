@@ -13,7 +13,8 @@ use Rattle.trace_text.specs.declared.route.Route.{Route}
 use Rattle.rows.specs.Operation.{Operation, is_get, is_put, is_scan}
 use Rattle.trace_text.specs.Operation.{operation, operations}
 use Rattle.trace_text.specs.Parsed.{Parsed}
-use Rattle.trace_text.specs.Parts.{here_parts, here_puts, longest_value, origin, own_parts, owner, reply_bytes}
+use Rattle.trace_text.specs.Parts.{longest_value, origin, own_parts, owner}
+use Rattle.trace_text.specs.PartCounts.{here_parts, here_puts, reply_bytes}
 use Rattle.trace_text.specs.Reading.{most_commands}
 use Rattle.trace_text.specs.Trace.{Trace}
 use Rattle.trace_text.specs.inside.Routes.{AreIssued, AreOwned, IsRouted, routes}

@@ -12,7 +12,8 @@ use Rattle.rows.specs.Operation.{Operation, is_scan, is_get}
 use Rattle.trace_text.specs.Operation.{operation, operations, part}
 use Rattle.layout.specs.Sizes.{scan_room}
 use Rattle.trace_text.specs.Trace.{Trace, trace_with}
-use Rattle.trace_text.specs.Parts.{origin, longest_value, reply_bytes, replies_room}
+use Rattle.trace_text.specs.Parts.{origin, longest_value, replies_room}
+use Rattle.trace_text.specs.PartCounts.{reply_bytes}
 
 abbrev one_if : Bool → ℕ
 one_if b = if b then 1 else 0

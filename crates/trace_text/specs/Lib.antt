@@ -5,4 +5,5 @@ pub mod Parsed
 pub mod Parts
 pub mod Reading
 pub mod Trace
+pub mod PartCounts
 pub mod inside

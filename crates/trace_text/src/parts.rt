@@ -3,7 +3,8 @@ ghost use Rattle.std.specs.Prelude.{◌≡◌, ℕ, ◌+◌, ◌%◌, ◌<◌, �
 ghost use Rattle.trace_text.specs.Parsed.{LiesWithin, trace_in};
 ghost use Rattle.trace_text.specs.Operation.{operations};
 ghost use Rattle.rows.specs.Operation.{is_get, is_scan};
-ghost use Rattle.trace_text.specs.Parts.{most_shards, hash, owner, origin, issued, done_at, own_parts, here_parts, here_puts, longest_value, reply_bytes, replies_room};
+ghost use Rattle.trace_text.specs.Parts.{most_shards, hash, owner, origin, own_parts, longest_value, replies_room};
+ghost use Rattle.trace_text.specs.PartCounts.{issued, done_at, here_parts, here_puts, reply_bytes};
 ghost use Rattle.trace_text.specs.Reading.{most_commands};
 ghost use Rattle.trace_text.specs.Trace.{trace_with};
 

@@ -42,6 +42,15 @@ impl Model for Trace {
 }
 
 impl Trace {
+    /// The number of shards that it was parsed for, 1 to 16.
+    pub fn shards(&self) -> u32
+        ensures value { result ≡ self.now.shards }
+        ensures some { 1 ≤ result }
+        ensures few { result ≤ most_shards }
+    {
+        self.shards
+    }
+
     /// The commands, in order.
     pub fn commands(&self) -> &[Command]
         // The commands, as they are read off the bytes.

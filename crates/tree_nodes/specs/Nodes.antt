@@ -3,11 +3,9 @@ use Rattle.std.specs.Prelude.{◌≡◌, ℕ, zero, suc, ◌-◌, ◌*◌, ◌^�
 use Rattle.std.specs.List.{concat}
 use Rattle.byteorder.specs.Endian.{little_number, little_bytes}
 use Rattle.layout.specs.Sizes.{greatest_key}
+pub use Rattle.tree_nodes.specs.Order.{Entry, node_size}
 
--- the bytes of a node's content, of its header, of an entry, and of an entry in front of its key; where the children stand
-abbrev pub node_size : ℕ
-node_size = 4384
-
+-- the bytes of a node's header, of an entry, and of an entry in front of its key; where the children stand
 abbrev pub header : ℕ
 header = 24
 
@@ -30,10 +28,6 @@ children_count = 17
 -- the place of no node
 abbrev pub no_place : ℕ
 no_place = 18446744073709551615
-
-pub record Entry : Type 0 where
-  pub key : List ℕ
-  pub number : ℕ
 
 pub record TreeNode : Type 0 where
   pub parent : ℕ

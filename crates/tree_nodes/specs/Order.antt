@@ -1,10 +1,17 @@
--- The order of keys.
+-- The entries of a node, in the order of their keys.
 use Rattle.std.specs.Prelude.{◌≡◌, ℕ, List, [], ◌∷◌, All, count_by}
 use Rattle.std.specs.Ordering.{nat_cmp, is_lt}
 use Rattle.std.specs.Cmp.Lexicographic.{slice_cmp}
 use Rattle.std.specs.declared.cmp.Ordering.{Ordering}
 use Rattle.std.specs.declared.cmp.Ordering.TheVariants.{Less}
-use Rattle.tree_nodes.specs.Nodes.{Entry}
+
+-- the bytes of a node's content
+abbrev pub node_size : ℕ
+node_size = 4384
+
+pub record Entry : Type 0 where
+  pub key : List ℕ
+  pub number : ℕ
 
 -- keys in the order of their bytes
 unfoldable pub key_cmp : List ℕ → List ℕ → Ordering

@@ -1,7 +1,7 @@
 -- The loop over the lines of a script.
-use Rattle.std.proofs.Common.{◌≡◌, ℕ, ◌+◌, ◌-◌, ◌<◌, ◌≤◌, Bool, true, false, cond, not, List, [], ◌∷◌, ◌++◌, length, append_assoc, length-append, Result, Ok, Err, arith, refl, sym, ap, ◌∙◌, inl, inr}
+use Rattle.std.proofs.Common.{◌≡◌, ℕ, ◌+◌, ◌-◌, ◌<◌, ◌≤◌, true, false, cond, not, List, [], ◌∷◌, ◌++◌, length, length-append, Result, Ok, Err, arith, refl, sym, ap, ◌∙◌, inl, inr}
 use Rattle.std.specs.Prelude.{All}
-use Rattle.std.proofs.lemmas.List.{append-nil, drop-drop, map-append}
+use Rattle.std.proofs.lemmas.List.{drop-drop, map-append}
 use Rattle.std.proofs.lemmas.List.Elements.{All-push}
 use Rattle.trace_text.specs.Line.{is_passed}
 use Rattle.trace_text.specs.Reading.{lines, command_lines, most_commands}
@@ -9,8 +9,9 @@ use Rattle.value_script.specs.declared.command.Command.{Command}
 use Rattle.value_script.specs.declared.refusal.ScriptRefusal.{ScriptRefusal}
 use Rattle.value_script.specs.declared.refusal.ScriptRefusal.TheVariants as refusals
 use Rattle.value_script.specs.inside.Found.{AddsLine, IsCommandAt, IsRestOf, LiesAt, RefusesLine}
-use Rattle.value_script.specs.Order.{Order, order, orders}
-use Rattle.value_script.specs.Reading.{Refusal, IsRefusedAs, orders_of, line_reading, with_first, with_later}
+use Rattle.value_script.specs.Order.{Order}
+use Rattle.value_script.specs.Commands.{order, orders}
+use Rattle.value_script.specs.Reading.{Refusal, IsRefusedAs, orders_of, with_first, with_later}
 use Rattle.value_script.specs.Script.{IsSound}
 
 -- behind these orders, what the later lines ask

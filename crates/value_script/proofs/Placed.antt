@@ -1,5 +1,5 @@
 -- Where the value of a line stands in the script.
-use Rattle.std.proofs.Common.{◌≡◌, ℕ, ◌+◌, ◌-◌, ◌<◌, ◌≤◌, List, length, take, drop, Ok, All, arith, refl, sym, ap, ◌∙◌}
+use Rattle.std.proofs.Common.{◌≡◌, ℕ, ◌+◌, ◌-◌, ◌<◌, List, length, take, drop, Ok, All, arith, refl, sym, ◌∙◌}
 use Rattle.std.proofs.lemmas.Bool.{lt-ltb}
 use Rattle.std.proofs.lemmas.List.{drop-drop, drop-take, take-take, take_all}
 use Rattle.std.proofs.lemmas.List.Elements.{All-map}
@@ -7,7 +7,8 @@ use Rattle.trace_text.specs.Reading.{most_commands}
 use Rattle.value_script.specs.declared.command.Command.{Command}
 use Rattle.value_script.specs.inside.Found.{LiesAt, IsRestOf}
 use Rattle.value_script.specs.Line.{order_of}
-use Rattle.value_script.specs.Order.{Order, order, orders, IsWellFormed}
+use Rattle.value_script.specs.Order.{Order}
+use Rattle.value_script.specs.Commands.{order, orders, IsWellFormed}
 use Rattle.value_script.specs.Reading.{line_reading}
 use Rattle.value_script.specs.Script.{IsSound}
 

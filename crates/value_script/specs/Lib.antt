@@ -3,4 +3,5 @@ pub mod Line
 pub mod Order
 pub mod Reading
 pub mod Script
+pub mod Commands
 pub mod inside

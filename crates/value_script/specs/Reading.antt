@@ -1,5 +1,5 @@
 -- The reading of a script.
-use Rattle.std.specs.Prelude.{◌≡◌, ℕ, ◌+◌, nat_lt, nat_le, List, [], ◌∷◌, length, Result, Ok, Err, if◌then◌else◌}
+use Rattle.std.specs.Prelude.{◌≡◌, ℕ, ◌+◌, nat_lt, List, [], ◌∷◌, length, Result, Ok, Err, if◌then◌else◌}
 use Rattle.layout.specs.Sizes.{most_trace_bytes}
 use Rattle.trace_text.specs.Reading.{lines, command_lines, most_commands}
 use Rattle.value_script.specs.declared.refusal.Cause.{Cause}

@@ -1,10 +1,10 @@
 -- What contracts see of a script that was read.
 use Rattle.std.specs.Prelude.{◌≡◌, ℕ, ◌+◌, ◌≤◌, List, length, Ok, All}
-use Rattle.layout.specs.Sizes.{most_trace_bytes}
 use Rattle.trace_text.specs.Reading.{most_commands}
 use Rattle.value_script.specs.declared.command.Command.{Command}
 use Rattle.value_script.specs.declared.command.Command.TheVariants as commands
-use Rattle.value_script.specs.Order.{Order, order, orders, IsWellFormed}
+use Rattle.value_script.specs.Order.{Order}
+use Rattle.value_script.specs.Commands.{order, orders, IsWellFormed}
 use Rattle.value_script.specs.Reading.{script_of}
 
 pub record Parsed : Type 0 where

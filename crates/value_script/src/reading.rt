@@ -2,7 +2,7 @@
 ghost use Rattle.std.specs.Prelude.{◌≡◌, ℕ, ◌+◌, ◌<◌, ◌≤◌, ◌^◌, length, All, IfOk, IfErr, OnOk, Ok, Err};
 ghost use Rattle.layout.specs.Sizes.{most_trace_bytes};
 ghost use Rattle.trace_text.specs.Reading.{command_lines, lines, most_commands};
-ghost use Rattle.value_script.specs.Order.{orders};
+ghost use Rattle.value_script.specs.Commands.{orders};
 ghost use Rattle.value_script.specs.Reading.{AtLine, line_reading, orders_of, script_of, IsRefusedAs};
 ghost use Rattle.value_script.specs.Script.{script_in, IsSound};
 ghost use Rattle.value_script.specs.inside.Found.{AddsLine, IsCommandAt, RefusesLine};

@@ -2,7 +2,7 @@
 ghost use Rattle.std.specs.Prelude.{◌≡◌, ◌+◌, ◌≤◌, length, All, Ok};
 ghost use Rattle.trace_text.specs.Operation.{part};
 ghost use Rattle.trace_text.specs.Reading.{most_commands};
-ghost use Rattle.value_script.specs.Order.{IsWellFormed};
+ghost use Rattle.value_script.specs.Commands.{IsWellFormed};
 ghost use Rattle.value_script.specs.Reading.{script_of};
 ghost use Rattle.value_script.specs.Script.{script_in, IsSound};
 

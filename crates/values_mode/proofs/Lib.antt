@@ -1,5 +1,4 @@
 pub mod Ends
-pub mod Ranges
+pub mod Lines
 pub mod Serving
 pub mod Taken
-pub mod Written

@@ -1,5 +1,5 @@
 -- A part of a value, from its pieces.
-use Rattle.std.proofs.Common.{◌≡◌, ℕ, ◌+◌, ◌-◌, ◌≤◌, List, [], ◌++◌, append-nil, append_assoc, length, take, drop, arith, refl, sym, ap, ◌∙◌, inl, inr}
+use Rattle.std.proofs.Common.{◌≡◌, ℕ, ◌+◌, ◌-◌, List, [], ◌++◌, append-nil, length, take, drop, arith, sym, ap, ◌∙◌, inl, inr}
 use Rattle.std.proofs.lemmas.Bool.{cases_lt}
 use Rattle.std.proofs.lemmas.List.{take-append-le, drop-append-le, take_all, length-take-le}
 use Rattle.std.proofs.Math.Seq.{take-append-add, drop-append-add}
@@ -30,21 +30,20 @@ left_over n xs = elim (cases_lt n (length xs)) [
   | inr le ↦ ap (λ l. n - length l) (take_all n xs le)
 ]
 
-pub front_short : (n : ℕ) (xs : List ℕ) → length (take n xs) ≤ n
-front_short n xs = elim (cases_lt n (length xs)) [
-  | inl lt ↦ let cut = length-take-le n xs (omega (arith, lt)) in omega (arith, cut)
-  | inr le ↦ rw (take_all n xs le) le
-]
-
 -- the first piece gives its part, and the others the rest
-pub part_more : (skip left : ℕ) (piece others : List ℕ)
+part_more : (skip left : ℕ) (piece others : List ℕ)
     → take left (drop skip (piece ++ others)) ≡ take left (drop skip piece) ++ take (left - length (take left (drop skip piece))) (drop (skip - length piece) others)
 part_more skip left piece others =
     ap (take left) (drop_parts skip piece others) ∙ take_parts left (drop skip piece) (drop (skip - length piece) others)
     ∙ ap (λ m. take left (drop skip piece) ++ take m (drop (skip - length piece) others)) (sym (left_over left (drop skip piece)))
 
--- behind what was added, and the rest
-pub part_added : (start block after part rest later : List ℕ) (whole : List ℕ) → block ++ rest ≡ start ++ whole → after ≡ block ++ part → rest ≡ part ++ later
-    → after ++ later ≡ start ++ whole
-part_added start block after part rest later whole was is split =
-    ap (λ l. l ++ later) is ∙ append_assoc block part later ∙ ap (λ l. block ++ l) (sym split) ∙ was
+-- the same of a part that was cut from the first piece of all that are left
+pub part_cut : (skip left : ℕ) (piece others part whole : List ℕ) → whole ≡ piece ++ others → part ≡ take left (drop skip piece)
+    → take left (drop skip whole) ≡ part ++ take (left - length part) (drop (skip - length piece) others)
+part_cut skip left piece others part whole e cut =
+    ap (λ l. take left (drop skip l)) e ∙ part_more skip left piece others
+    ∙ ap (λ (q : List ℕ). q ++ take (left - length q) (drop (skip - length piece) others)) (sym cut)
+
+-- no piece is left
+pub nothing_left : (skip left : ℕ) → take {A = ℕ} left (drop skip []) ≡ []
+nothing_left skip left = ap (take left) (drop_past skip [] (omega arith)) ∙ take_all left [] (omega arith)

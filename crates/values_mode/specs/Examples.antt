@@ -1,6 +1,6 @@
 -- Scripts on which the definition is checked.
 use Rattle.std.specs.Prelude.{◌≡◌, ◌*◌, List, [], ◌∷◌, replicate, codes, None}
-use Rattle.region_room.specs.Room.{room}
+use Rattle.segmented_store.specs.Room.{room}
 use Rattle.fragments.specs.Sizes.{size, greatest_value}
 use Rattle.fragments.specs.Values.{Values}
 use Rattle.value_script.specs.Order as orders

@@ -1,4 +1,5 @@
 pub mod State
 pub mod Text
 pub mod Examples
+pub mod Left
 pub mod inside

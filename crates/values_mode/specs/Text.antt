@@ -2,7 +2,7 @@
 use Rattle.std.specs.Prelude.{ℕ, ◌+◌, ◌/◌, nat_lt, List, [], ◌∷◌, ◌++◌, length, take, drop, replicate, Option, None, Some, is_some, slice_set, codes, decimal, if◌then◌else◌}
 use Rattle.std.specs.List.{count_by}
 use Rattle.layout.specs.Sizes.{segment_pages}
-use Rattle.region_room.specs.Room.{room}
+use Rattle.segmented_store.specs.Room.{room}
 use Rattle.fragments.specs.Sizes.{size}
 use Rattle.fragments.specs.Values.{Values, value_of, live}
 use Rattle.value_script.specs.Order as orders
@@ -63,15 +63,6 @@ text_from bytes number values (order ∷ later) =
 -- no name has a value
 abbrev pub no_values : Values
 no_values = replicate orders.names None
-
--- the values behind these commands
-abbrev pub values_after : ℕ → Values → List Order → Values
-values_after bytes values [] = values
-values_after bytes values (order ∷ later) = values_after bytes (done bytes values order).0 later
-
--- the values that a script leaves, with so many pages
-unfoldable pub values_left : List Order → ℕ → Values
-values_left script pages = values_after (room (pages / segment_pages)) no_values script
 
 -- the text of a script with so many pages, which are cut into segments
 unfoldable pub values_text : List Order → ℕ → List ℕ

@@ -1,3 +1,3 @@
 -- What only the private parts of the mode cite.
-pub mod Segments
+pub mod Open
 pub mod Steps

@@ -4,9 +4,7 @@
 #![tactic(auto)]
 
 mod answers;
-mod block;
 mod law;
-mod segments;
 mod store;
 mod writing;
 

@@ -1,25 +1,30 @@
 //! The text of a script.
-ghost use Rattle.std.specs.Prelude.{◌≡◌, ◌≤◌, [], ◌++◌, length, vec_capacity, IfOk, OnOk, OnErr};
+ghost use Rattle.std.specs.Prelude.{◌≡◌, ◌≤◌, [], length, IfOk, OnOk, OnErr};
 ghost use Rattle.std.specs.Io.KnownBytes.{Appends};
 ghost use Rattle.layout.specs.Counts.{Rose};
 ghost use Rattle.layout.specs.Sizes.{ArePages};
 ghost use Rattle.outside.specs.Moves.{AppendsFront};
 ghost use Rattle.regions.specs.Shapes.{held_count};
-ghost use Rattle.region_room.specs.Room.{room};
-ghost use Rattle.fragments.specs.Store.{values_of, HoldsSegments};
-ghost use Rattle.value_script.specs.Order.{names, order};
-ghost use Rattle.value_script.specs.Script.{script_in, IsSound};
+ghost use Rattle.segmented_store.specs.Room.{room};
+ghost use Rattle.segmented_store.specs.Segments.{HoldsSegments};
+ghost use Rattle.fragments.specs.Store.{values_of};
+ghost use Rattle.value_script.specs.Order.{names};
+ghost use Rattle.value_script.specs.Commands.{order};
+ghost use Rattle.value_script.specs.Script.{script_in};
 ghost use Rattle.values_mode.specs.State.{IsEmpty};
-ghost use Rattle.values_mode.specs.Text.{answer_line, done, last_line, text_from, values_after, values_left, values_text};
-ghost use Rattle.values_mode.specs.inside.Steps.{Adds, IsServing};
+ghost use Rattle.values_mode.specs.Text.{last_line, no_values, text_from, values_text};
+ghost use Rattle.values_mode.specs.Left.{values_after, values_left};
+ghost use Rattle.values_mode.specs.inside.Steps.{IsServing};
+ghost use Rattle.text_lemmas.specs.Writing.{Writes};
 
 use crate::answers::{answer, put_last};
-use crate::block::{hand_over, make_room};
 use crate::store::{ValueStore, open_values};
 use fragments::Fragments;
 use outside::{Failed, Sink};
+use segmented_store::Ranged;
 use std::alloc::{AllocError, Global};
-use value_script::{Command, Script};
+use text_out::Writer;
+use value_script::Script;
 
 /// Opens a store of so many pages, and does the commands of a script as [`write_values`] does.
 ///
@@ -56,7 +61,7 @@ pub fn run_values<K: Sink>(
 /// is `values V live L`: how many names have a value, and the live bytes.
 ///
 /// # Errors
-/// [`Failed`] where the sink failed. A front of the text was written then; which values are held and which text waits is not said.
+/// [`Failed`] where the sink failed. A front of the text was written then; which values are held is not said.
 pub fn write_values<K: Sink>(
     store: &mut ValueStore,
     script: &Script,
@@ -76,87 +81,60 @@ pub fn write_values<K: Sink>(
 
     // The values are what the commands make of none, and the memory is as it was.
     ensures values { OnOk result (values_of store.new.values ≡ values_left (script_in script.now) store.old.pages) }
-    ensures waiting { OnOk result (store.new.waiting ≡ []) }
     ensures pages { store.new.pages ≡ store.old.pages }
     ensures segments { HoldsSegments store.old.values.region store.new.values.region }
 {
-    write_text(&mut store.fragments, &mut store.block, script, sink)
+    let mut out = Writer::new(sink);
+    let written = write_on(&mut store.ranged, script, &mut out);
+    out.into_sink();
+    written
 }
 
-/// Does a command, and adds its answer to the block.
-fn write_answer<K: Sink>(
-    store: &mut Fragments,
-    block: &mut Vec<u8>,
+/// The same on the values of a store and the range of its segments. The sink has the whole text then.
+fn write_on<K: Sink>(
+    ranged: &mut Ranged<Fragments>,
     script: &Script,
-    number: u32,
-    command: Command,
-    sink: &mut K,
+    out: &mut Writer<'_, K>,
 ) -> Result<(), Failed>
-    requires serving { IsServing store.old }
-    requires sound { IsSound script.now.bytes command }
-    requires room { 65536 ≤ vec_capacity block.old }
-
-    // The values, and the answer.
-    ensures values { OnOk result (values_of store.new
-        ≡ (done (room (held_count store.old.region)) (values_of store.old) (order script.now.bytes command)).0) }
-    ensures added { OnOk result (Adds (K.written sink.old) (K.written sink.new) block.old.items block.new.items
-        (answer_line number (done (room (held_count store.old.region)) (values_of store.old) (order script.now.bytes command)).1)) }
-    ensures segments { HoldsSegments store.old.region store.new.region }
-    ensures room { 65536 ≤ vec_capacity block.new }
-
-    // It fails only where the sink does, and then nothing was done.
-    ensures unchanged { OnErr result (store.new ≡ store.old) }
-    ensures front { OnErr result (AppendsFront (K.written sink.old) (K.written sink.new) block.old.items) }
-    ensures failed { OnErr result (Rose (K.faults sink.old) (K.faults sink.new)) }
-    ensures never_falls { K.faults sink.old ≤ K.faults sink.new }
+    requires none { values_of ranged.old.store ≡ no_values }
+    requires many { length ranged.old.store.firsts ≡ names }
+    ensures written { Writes result out.old out.new (values_text (script_in script.now) ranged.old.pages) }
+    ensures empty { OnOk result (out.new.block ≡ []) }
+    ensures values { OnOk result (values_of ranged.new.store ≡ values_left (script_in script.now) ranged.old.pages) }
+    ensures many { length ranged.new.store.firsts ≡ names }
+    ensures pages { ranged.new.pages ≡ ranged.old.pages }
+    ensures segments { HoldsSegments ranged.old.store.region ranged.new.store.region }
 {
-    make_room(sink, block)?;
-    answer(store, block, script, number, command);
-    Ok(())
+    write_text(&mut ranged.store, script, out)
 }
 
-/// Writes what the block has and the last line.
-fn write_last<K: Sink>(store: &Fragments, block: &mut Vec<u8>, sink: &mut K) -> Result<(), Failed>
+/// Writes the last line. The sink has the whole text then.
+fn write_last<K: Sink>(store: &Fragments, out: &mut Writer<'_, K>) -> Result<(), Failed>
     requires names { length store.now.firsts ≡ names }
-    requires room { 65536 ≤ vec_capacity block.old }
-    ensures written { OnOk result (Appends (K.written sink.old) (K.written sink.new) (block.old.items ++ last_line (values_of store.now))) }
-    ensures front { OnErr result (AppendsFront (K.written sink.old) (K.written sink.new)
-        (block.old.items ++ last_line (values_of store.now))) }
-    ensures empty { OnOk result (block.new.items ≡ []) }
-    ensures room { 65536 ≤ vec_capacity block.new }
-    ensures failed { OnErr result (Rose (K.faults sink.old) (K.faults sink.new)) }
-    ensures never_falls { K.faults sink.old ≤ K.faults sink.new }
+    ensures written { Writes result out.old out.new (last_line (values_of store.now)) }
+    ensures empty { OnOk result (out.new.block ≡ []) }
 {
-    make_room(sink, block)?;
-    put_last(store, block);
-    hand_over(sink, block)
+    put_last(store, out)?;
+    out.flush()
 }
 
 /// The text of a script, from what a store holds on.
 fn write_text<K: Sink>(
     store: &mut Fragments,
-    block: &mut Vec<u8>,
     script: &Script,
-    sink: &mut K,
+    out: &mut Writer<'_, K>,
 ) -> Result<(), Failed>
     requires serving { IsServing store.old }
-    requires empty { block.old.items ≡ [] }
-    requires room { 65536 ≤ vec_capacity block.old }
-    ensures written { OnOk result (Appends (K.written sink.old) (K.written sink.new)
-        (text_from (room (held_count store.old.region)) 1 (values_of store.old) (script_in script.now))) }
-    ensures front { OnErr result (AppendsFront (K.written sink.old) (K.written sink.new)
-        (text_from (room (held_count store.old.region)) 1 (values_of store.old) (script_in script.now))) }
+    ensures written { Writes result out.old out.new
+        (text_from (room (held_count store.old.region)) 1 (values_of store.old) (script_in script.now)) }
     ensures values { OnOk result (values_of store.new
         ≡ values_after (room (held_count store.old.region)) (values_of store.old) (script_in script.now)) }
-    ensures empty { OnOk result (block.new.items ≡ []) }
-    ensures room { 65536 ≤ vec_capacity block.new }
-    ensures failed { OnErr result (Rose (K.faults sink.old) (K.faults sink.new)) }
-    ensures never_falls { K.faults sink.old ≤ K.faults sink.new }
+    ensures empty { OnOk result (out.new.block ≡ []) }
     ensures serving { IsServing store.new }
     ensures segments { HoldsSegments store.old.region store.new.region }
 {
     for (index, command) in script.commands().iter().enumerate() {
-        write_answer(store, block, script, index as u32 + 1, *command, sink)?;
+        answer(store, out, script, index as u32 + 1, *command)?;
     }
-    write_last(store, block, sink)
+    write_last(store, out)
 }

@@ -2,7 +2,8 @@
 use Rattle.std.specs.Prelude.{◌≡◌, List}
 use Rattle.rows.specs.Row.{Row}
 use Rattle.dirty_region.specs.Queues.{Queue}
-use Rattle.dirty_region.specs.State.{DirtyState, HoldsSegments}
+use Rattle.segmented_store.specs.Segments.{HoldsSegments}
+use Rattle.dirty_region.specs.State.{DirtyState}
 
 -- no byte of a line is out
 abbrev pub whole : List Row → Queue

@@ -26,7 +26,6 @@ pub record IsStored (ring : RingState) (index : PutRows) (r : RegionState) (byte
   pub sizes : live (puts_in ring (live_at r)) ≡ live_total r
   pub spare : HasSpare r
 
-pub record IsConsistent (ring : RingState) (index : PutRows) (r : RegionState) (bytes held out : ℕ) : Type 0 where
+pub record IsConsistent (ring : RingState) (index : PutRows) (r : RegionState) (bytes out : ℕ) : Type 0 where
   pub stored : IsStored ring index r bytes
-  pub held_is : held ≡ held_count r
   pub out_is : IsOut out (puts_in ring (live_at r))

@@ -1,5 +1,6 @@
 //! The oldest put goes to the disk.
-ghost use Rattle.std.specs.Prelude.{◌≡◌, ◌↔◌, ◌+◌, ◌%◌, ◌^◌, ◌≤◌, [], ◌∷◌, IfOk, OnErr, IsNone, IfSome, vec_capacity};
+ghost use Rattle.std.specs.Prelude.{◌≡◌, ◌↔◌, ◌+◌, ◌%◌, ◌^◌, ◌≤◌, [], ◌∷◌, length, take, drop, flat_map};
+ghost use Rattle.std.specs.Prelude.{IfOk, OnOk, OnErr, IsNone, IfSome, vec_capacity};
 ghost use Rattle.layout.specs.Counts.{Rose};
 ghost use Rattle.dirty_region.specs.Queues.{line, FlushesOldest, BreaksOff, GoesOn};
 ghost use Rattle.dirty_region.specs.inside.Rings.{IsRingOf, nth, puts_in};
@@ -7,7 +8,8 @@ ghost use Rattle.dirty_region.specs.inside.Lines.{greatest_line};
 ghost use Rattle.dirty_region.specs.inside.Consistent.{IsStored};
 ghost use Rattle.regions.specs.Shapes.{shape};
 ghost use Rattle.regions.specs.Contents.{live_at};
-ghost use Rattle.dirty_region.specs.State.{HoldsSegments};
+ghost use Rattle.segmented_store.specs.Segments.{HoldsSegments};
+ghost use Rattle.text_lemmas.specs.Writing.{Writes};
 
 use super::Dirty;
 use super::storing::drop_oldest;
@@ -18,6 +20,7 @@ use crate::ring::Ring;
 use outside::{Failed, Sink};
 use regions::Region;
 use row_bytes::{key_in, put_in, value_in};
+use text_out::Writer;
 
 impl Dirty {
     /// Writes what is left of the oldest put's line, takes the put out, and answers its number. None where there is no put.
@@ -62,6 +65,46 @@ impl Dirty {
         );
         Ok(Some(number))
     }
+
+    /// Adds what is left of the oldest put's line to a writer, and takes the put out. Nothing where there is no put. The
+    /// line may wait in the writer's block then.
+    ///
+    /// # Errors
+    /// [`Failed`] where the writer's sink failed. The put stays, with as many bytes of its line out as before.
+    pub fn flush_into<K: Sink>(&mut self, writer: &mut Writer<'_, K>) -> Result<(), Failed>
+        ensures queue { OnOk result (self.new.queue ≡ record { puts = drop 1 self.old.queue.puts; out = 0 }) }
+        ensures written { Writes result writer.old writer.new
+            (drop self.old.queue.out (flat_map line (take 1 self.old.queue.puts))) }
+        ensures stays { OnErr result (self.new.queue ≡ self.old.queue) }
+
+        // The room and the segments are as they were.
+        ensures room { self.new.room ≡ self.old.room }
+        ensures segments { HoldsSegments self.old.region self.new.region }
+    {
+        if self.ring.len() == 0 {
+            return Ok(());
+        }
+        make_oldest_line(&self.region, &self.ring, &mut self.line);
+        if let Err(failed) = writer.put(rest_of(self.line.as_slice(), self.out)) {
+            return Err(failed);
+        }
+        take_out(
+            &mut self.region,
+            &mut self.ring,
+            &mut self.index,
+            &mut self.live,
+            &mut self.out,
+        );
+        Ok(())
+    }
+}
+
+// What is left of a line, of which `out` bytes are out.
+fn rest_of(line: &[u8], out: usize) -> &[u8]
+    requires { out ≤ length line.now }
+    ensures { result.now ≡ drop out line.now }
+{
+    &line[out..]
 }
 
 // Takes the oldest put, whose line is out, out of the queue. No byte of the next line is out.

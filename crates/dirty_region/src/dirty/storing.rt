@@ -6,7 +6,7 @@ ghost use Rattle.object_log.specs.Objects.{IsSize};
 ghost use Rattle.regions.specs.Shapes.{shape, held_count, HasGroup};
 ghost use Rattle.regions.specs.Counts.{left, live_total};
 ghost use Rattle.regions.specs.Contents.{live_at};
-ghost use Rattle.region_room.specs.Room as bound;
+ghost use Rattle.segmented_store.specs.Room as bound;
 ghost use Rattle.compaction.specs.Emptied.{HoldsTheSame};
 ghost use Rattle.dirty_region.specs.inside.Rings.{IsRingOf, nth, popped, puts_in};
 ghost use Rattle.dirty_region.specs.inside.Indexed.{IsIndexOf, IsIndexBut};
@@ -18,8 +18,8 @@ use crate::put_index::PutIndex;
 use crate::ring::Ring;
 use crate::seeking::{enter, forget_oldest};
 use key_table::Spot;
-use region_room::make_room;
 use regions::Region;
+use segmented_store::make_room;
 
 // Makes room for an object of the size. The puts are the same, wherever they stand.
 pub(super) fn make_way(region: &mut Region, ring: &mut Ring, index: &PutIndex, size: u32)

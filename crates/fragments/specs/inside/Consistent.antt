@@ -4,7 +4,7 @@ use Rattle.regions.specs.Segments.{RegionState}
 use Rattle.regions.specs.Shapes.{shape, active_of, group_count, held_count, free_count}
 use Rattle.regions.specs.Counts.{live_total}
 use Rattle.regions.specs.Contents.{live_at}
-use Rattle.region_room.specs.Room.{room}
+use Rattle.segmented_store.specs.Room.{room}
 use Rattle.fragments.specs.Sizes.{object_size}
 use Rattle.fragments.specs.Values.{Values, IsShort, live, value_of}
 use Rattle.fragments.specs.Chains.{TableState, AreChains, HoldParts, all_parts}

@@ -3,7 +3,8 @@ use Rattle.std.specs.Prelude.{◌≡◌, ◌≢◌, ℕ, List, Option, Some, sli
 use Rattle.regions.specs.Contents.{Item}
 use Rattle.regions.specs.Stores.{Live}
 use Rattle.regions.specs.declared.place.Place.{Place}
-use Rattle.fragments.specs.Fragment.{HoldsFragment, IsFragment, back_in, fragment_kind, link_to, next_in, no_link}
+use Rattle.regions.specs.Places.{link_to, no_link}
+use Rattle.fragments.specs.Fragment.{HoldsFragment, IsFragment, back_in, fragment_kind, next_in}
 use Rattle.fragments.specs.Chains.{TableState, first_at}
 use Rattle.fragments.specs.Store.{content_of}
 

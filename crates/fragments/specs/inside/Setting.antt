@@ -6,7 +6,8 @@ use Rattle.regions.specs.Counts.{live_total}
 use Rattle.regions.specs.Contents.{live_at}
 use Rattle.fragments.specs.Sizes.{size}
 use Rattle.fragments.specs.Chains.{TableState, AreChains, HoldParts, Parts, parts}
-use Rattle.fragments.specs.Store.{HoldsSegments, IsRegion, Stay}
+use Rattle.segmented_store.specs.Segments.{HoldsSegments}
+use Rattle.fragments.specs.Store.{IsRegion, Stay}
 use Rattle.fragments.specs.inside.Consistent.{size_of_parts}
 
 -- The value that is being written has these bytes now. Those of the names are as they were, and the segments are those that

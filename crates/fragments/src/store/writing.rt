@@ -3,17 +3,18 @@ ghost use Rattle.std.specs.Prelude.{◌≡◌, ◌≢◌, ◌+◌, ◌-◌, ◌*
 ghost use Rattle.regions.specs.Shapes.{shape, group_count, guards_of, held_count, free_count};
 ghost use Rattle.regions.specs.Counts.{live_total};
 ghost use Rattle.regions.specs.Contents.{live_at};
-ghost use Rattle.region_room.specs.Room.{room};
+ghost use Rattle.segmented_store.specs.Room.{room};
 ghost use Rattle.fragments.specs.Sizes.{fragment_bytes, greatest_value, most_fragments, object_size, size};
 ghost use Rattle.fragments.specs.Chains as chains;
-ghost use Rattle.fragments.specs.Store.{HoldsSegments, Stay};
+ghost use Rattle.segmented_store.specs.Segments.{HoldsSegments};
+ghost use Rattle.fragments.specs.Store.{Stay};
 ghost use Rattle.fragments.specs.inside.Consistent.{size_of_parts};
 ghost use Rattle.fragments.specs.inside.Setting.{Writes, Replaces, Sets};
 
 use crate::bytes::{FRAGMENT_BYTES, fragment_count, object_size};
 use crate::tables::Tables;
-use region_room::make_room;
 use regions::Region;
+use segmented_store::make_room;
 
 // Places one more fragment in front of those of the value that is being written.
 fn add_part(region: &mut Region, tables: &mut Tables, part: &[u8])

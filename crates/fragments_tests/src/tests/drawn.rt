@@ -5,7 +5,7 @@ use super::trial::{Trial, letters};
 use fragments::{SetRefusal, value_size};
 use rand_core::utils::NextWord;
 use rand_pcg::Lcg64Xsh32;
-use region_room::room;
+use segmented_store::room;
 use std::alloc::{AllocError, Global};
 
 const NAMES: u32 = 200;

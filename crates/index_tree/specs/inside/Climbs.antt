@@ -3,7 +3,8 @@ use Rattle.std.specs.Prelude.{◌≡◌, ℕ, List, [], ◌∷◌, ◌++◌, All
 use Rattle.regions.specs.Stores.{Live}
 use Rattle.regions.specs.declared.place.Place.{Place}
 use Rattle.tree_nodes.specs.Nodes.{TreeNode, child_at, no_place}
-use Rattle.index_tree.specs.Links.{Nodes, link_to}
+use Rattle.regions.specs.Places.{link_to}
+use Rattle.index_tree.specs.Links.{Nodes}
 use Rattle.index_tree.specs.Store.{HoldsNode, nodes_of}
 use Rattle.index_tree.specs.Trees.{AreLinked, IsRooted, IsSpare, IsSubtree, TreeState, leaves_below, next_at, nodes_below, places_of}
 

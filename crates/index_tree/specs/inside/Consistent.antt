@@ -6,7 +6,8 @@ use Rattle.regions.specs.Counts.{live_total}
 use Rattle.regions.specs.Contents.{live_at}
 use Rattle.regions.specs.declared.place.Place.{Place}
 use Rattle.index_tree.specs.Indexes.{IsIndex}
-use Rattle.index_tree.specs.Sizes.{most, most_segments, most_spares, node_object}
+use Rattle.index_tree.specs.Sizes.{most, node_object}
+use Rattle.index_tree.specs.Limits.{most_segments, most_spares}
 use Rattle.index_tree.specs.inside.Rosters.{IsRosterOf, RosterState}
 
 -- a segment is free, but where none is held, or only the active one

@@ -5,7 +5,8 @@ use Rattle.regions.specs.Contents.{live_at}
 use Rattle.regions.specs.Stores.{SameBut}
 use Rattle.regions.specs.declared.place.Place.{Place}
 use Rattle.tree_nodes.specs.Nodes.{TreeNode, child_at}
-use Rattle.index_tree.specs.Links.{Nodes, bare, led_to, link_to}
+use Rattle.regions.specs.Places.{led_to, link_to}
+use Rattle.index_tree.specs.Links.{Nodes, bare}
 use Rattle.index_tree.specs.Moves.{relinked}
 use Rattle.index_tree.specs.Store.{nodes_of}
 use Rattle.index_tree.specs.Trees.{entries_of, next_at}

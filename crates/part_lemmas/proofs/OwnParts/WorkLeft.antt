@@ -12,7 +12,8 @@ use Rattle.rows.specs.declared.kind.Kind.{Kind}
 use Rattle.rows.specs.declared.kind.Kind.TheVariants as kinds
 use Rattle.rows.specs.Operation.{Operation, HasItsFields, is_get, is_put, is_scan}
 use Rattle.trace_text.specs.Parsed.{IsWellFormed}
-use Rattle.trace_text.specs.Parts.{has_part, hash, here_parts, here_puts, longest_value, origin, own_parts, owner, reply_bytes}
+use Rattle.trace_text.specs.Parts.{has_part, hash, longest_value, origin, own_parts, owner}
+use Rattle.trace_text.specs.PartCounts.{here_parts, here_puts, reply_bytes}
 use Rattle.trace_text.specs.Trace.{Trace}
 use Rattle.rows.specs.Bodies.{most_of_body, most_of_kind}
 use Rattle.part_lemmas.specs.Due.{operations_for}

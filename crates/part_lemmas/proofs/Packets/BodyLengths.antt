@@ -8,8 +8,7 @@ use Rattle.rows.specs.declared.kind.Kind.{Kind}
 use Rattle.rows.specs.Apply.{Reply, Stored, Replaced, Value, Missing, Erased, Keys}
 use Rattle.rows.specs.Bodies.{most_of_kind}
 use Rattle.rows.specs.Fits.{FitsKind}
-use Rattle.rows.specs.KeyBody.{IsKey}
-use Rattle.rows.specs.Spelled.{key_field, spelled}
+use Rattle.rows.specs.Spelled.{IsKey, key_field, spelled}
 use Rattle.shard_rings.specs.Reply.{IsSendable}
 
 keys_length : (keys : List (List ℕ)) → All IsKey keys → length (flat_map key_field keys) ≤ 258 * length keys

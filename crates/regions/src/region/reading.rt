@@ -2,7 +2,7 @@
 ghost use Rattle.std.specs.Prelude.{◌≡◌, ◌↔◌, ◌⊎◌, ℕ, ◌-◌, ◌<◌, ◌≤◌, Some, option_map, IsSome, IsNone, IfSome};
 ghost use Rattle.layout.specs.Sizes as sizes;
 ghost use Rattle.regions.specs.declared.place.Place.{Place};
-ghost use Rattle.regions.specs.Shapes.{shape, group_count, group_of, active_of, guards_of, guards_at, free_count, HasGroup, IsHeld, IsFree, IsClosed, IsClosedIn};
+ghost use Rattle.regions.specs.Shapes.{shape, group_count, group_of, active_of, guards_of, guards_at, held_count, free_count, HasGroup, IsHeld, IsFree, IsClosed, IsClosedIn};
 ghost use Rattle.regions.specs.Counts.{live_bytes_at, left};
 ghost use Rattle.regions.specs.Contents.{Item, standing_at, live_at};
 ghost use Rattle.regions.specs.Stores.{Bare, StandsFor, store_of, itself};
@@ -52,6 +52,13 @@ impl Region {
         ensures { result ≡ guards_of self.now group }
     {
         self.groups[group as usize].guards()
+    }
+
+    /// How many segments are held.
+    pub fn held_segments(&self) -> u32
+        ensures { result ≡ held_count self.now }
+    {
+        self.held.len()
     }
 
     /// How many segments are free.

@@ -7,8 +7,7 @@ use Rattle.std.specs.List.Sorted.{IsStrictlySortedBy}
 use Rattle.layout.specs.Sizes.{most_keys}
 use Rattle.rows.specs.declared.reply_kind.ReplyKind.{ReplyKind}
 use Rattle.rows.specs.Apply.{Keys}
-use Rattle.rows.specs.KeyBody.{IsKey}
-use Rattle.rows.specs.Spelled.{spelled}
+use Rattle.rows.specs.Spelled.{IsKey, spelled}
 
 -- from part `first` on the log has the replies of n shards, each with its list of keys
 pub record HasFound (log : List (Option (ReplyKind × List ℕ))) (first n : ℕ) (lists : List (List (List ℕ))) : Type 0 where

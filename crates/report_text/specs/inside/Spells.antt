@@ -2,8 +2,7 @@
 use Rattle.std.specs.Prelude.{◌≡◌, ℕ, List, All}
 use Rattle.rows.specs.declared.reply_kind.ReplyKind.{ReplyKind}
 use Rattle.rows.specs.Apply.{Reply, Stored, Replaced, Value, Missing, Erased, Keys}
-use Rattle.rows.specs.KeyBody.{IsKey}
-use Rattle.rows.specs.Spelled.{spelled}
+use Rattle.rows.specs.Spelled.{IsKey, spelled}
 
 -- any keys are as long as a trace's are
 abbrev pub HasLegalKeys : Reply → Type 0

@@ -4,7 +4,8 @@ use Rattle.std.specs.List.{last_or}
 use Rattle.regions.specs.Stores.{Live}
 use Rattle.regions.specs.declared.place.Place.{Place}
 use Rattle.common_lemmas.specs.Lists.{delete}
-use Rattle.row_cache.specs.Links.{AreApart, AreLinked, HasRoom, HaveRoom, Lacks, first_or, link_to, newer_at, older_at}
+use Rattle.regions.specs.Places.{HasRoom, link_to}
+use Rattle.row_cache.specs.Links.{AreApart, AreLinked, HaveRoom, Lacks, first_or, newer_at, older_at}
 use Rattle.row_cache.specs.declared.ends.Ends.{Ends}
 use Rattle.row_cache.specs.inside.Tables.{HoldsARow, TableState}
 

@@ -9,7 +9,7 @@ ghost use Rattle.lazy_index.specs.Lazy.{IsThere};
 ghost use Rattle.regions.specs.Shapes.{shape, active_of};
 ghost use Rattle.regions.specs.Counts.{left, live_total};
 ghost use Rattle.regions.specs.Contents.{Item, live_at, size_of};
-ghost use Rattle.row_cache.specs.Links.{HasRoom};
+ghost use Rattle.regions.specs.Places.{HasRoom};
 ghost use Rattle.row_cache.specs.Rows.{key_at, reply_of, Stay};
 ghost use Rattle.row_cache.specs.inside.Tables.{Drops, HoldsARow, IsListed, PlacesRow, SwapsRow};
 ghost use Rattle.row_cache.specs.inside.Consistent.{HasOneGroup, IsConsistent, rows_in, rows_with};
@@ -26,7 +26,7 @@ use row_bytes::{Links, NO_LINK, row_size, write_row};
 // The kind of an object that holds a row.
 const ROW: u8 = 1;
 
-// The links of a row that is not in the chain yet.
+// The links of a row that is not in the chain yet: both lead to no row.
 const UNLINKED: Links = Links {
     newer: NO_LINK,
     older: NO_LINK,

@@ -10,7 +10,8 @@ use Rattle.std.specs.Prelude.{nat_le}
 use Rattle.layout.specs.Sizes.{greatest_key, key_room, most_keys}
 use Rattle.rows.specs.Operation.{Operation}
 use Rattle.trace_text.specs.Parsed.{IsWellFormed, trace_in}
-use Rattle.trace_text.specs.Parts.{here_parts, here_puts, longest_value, own_parts, reply_bytes}
+use Rattle.trace_text.specs.Parts.{longest_value, own_parts}
+use Rattle.trace_text.specs.PartCounts.{here_parts, here_puts, reply_bytes}
 use Rattle.rows.specs.declared.reply_kind.ReplyKind.{ReplyKind}
 use Rattle.rows.specs.Holds.{RowsHold}
 use Rattle.shard_memory.specs.Tickets.{tickets_out}

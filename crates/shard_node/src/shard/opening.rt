@@ -28,7 +28,6 @@ impl<'f, L: Link<'f> + Drop, G: Gate + Drop> Shard<'f, L, G> {
     pub(crate) fn open(
         alloc: Global,
         shard: u32,
-        shards: u32,
         pages: u32,
         trace: &'f Trace,
         home: &'f Foreign,
@@ -40,9 +39,8 @@ impl<'f, L: Link<'f> + Drop, G: Gate + Drop> Shard<'f, L, G> {
         requires pages { ArePages pages }
         requires owner { home.now.owner ≡ shard }
         requires seat { IsAtRest home.now seat }
-        requires parsed_for { shards ≡ trace.now.shards }
-        requires within { shard < shards }
-        requires links { length links.items + 1 ≡ shards }
+        requires within { shard < trace.now.shards }
+        requires links { length links.items + 1 ≡ trace.now.shards }
         requires unused { All (IsUnused L.traffic) links.items }
 
         // Without memory, seat and links come back.
@@ -51,7 +49,7 @@ impl<'f, L: Link<'f> + Drop, G: Gate + Drop> Shard<'f, L, G> {
         // Which shard it is.
         ensures consistent { IfOk result IsConsistent }
         ensures standing { IfOk result (λ s. InStanding L.traffic (node_state s)) }
-        ensures numbers { IfOk result (λ s. (s.shard ≡ shard) × (s.shards ≡ shards) × (s.pages ≡ pages)) }
+        ensures numbers { IfOk result (λ s. (s.shard ≡ shard) × (s.shards ≡ trace.now.shards) × (s.pages ≡ pages)) }
         ensures trace { IfOk result (λ s. s.trace.now ≡ trace.now) }
 
         // No block is out.
@@ -60,13 +58,14 @@ impl<'f, L: Link<'f> + Drop, G: Gate + Drop> Shard<'f, L, G> {
 
         // How it stands before the first turn.
         ensures links { IfOk result (λ s. map (λ peer. peer.link) s.peers.items ≡ links.items) }
-        ensures peers { IfOk result (λ s. map (λ peer. peer.shard) s.peers.items ≡ others shards shard) }
+        ensures peers { IfOk result (λ s. map (λ peer. peer.shard) s.peers.items ≡ others trace.now.shards shard) }
         ensures gate { IfOk result (λ s. s.gate ≡ gate) }
         ensures turns { IfOk result (λ s. s.turns ≡ 0) }
     {
         issued_parts_are_counted();
         trace.commands();
-        let Ok(room) = Room::new(alloc, shard, shards, trace) else {
+        let shards = trace.shards();
+        let Ok(room) = Room::new(alloc, shard, trace) else {
             return Err(NodeRefusal { seat, links });
         };
         let Room {
@@ -90,9 +89,9 @@ impl<'f, L: Link<'f> + Drop, G: Gate + Drop> Shard<'f, L, G> {
             journal,
             log,
             keys,
-            peers: peers_over(trace, shards, shard, links, peers),
-            own: Own::of(trace, shards, shard),
-            here: Rest::of(trace, shards, shard, shard),
+            peers: peers_over(trace, shard, links, peers),
+            own: Own::of(trace, shard),
+            here: Rest::of(trace, shard, shard),
             request: None,
             gate,
             tally: Tally::new(),

@@ -1,23 +1,21 @@
 -- How the last steps of a call end.
-use Rattle.std.specs.Prelude.{◌≡◌, ℕ, ◌⊎◌, List, [], Ok, Err, Option, None}
-use Rattle.std.specs.Io.KnownBytes.{Appends}
+use Rattle.std.specs.Prelude.{◌≡◌, ℕ, ◌⊎◌, true, List, [], codes, Ok, Err, Option, None}
+use Rattle.std.specs.Io.KnownBytes.{Appends, Consumes}
 use Rattle.outside.specs.Moves.{AppendsFront}
 use Rattle.trace_text.specs.declared.refusal.Cause.{Cause}
 use Rattle.trace_text.specs.Reading.{AtLine}
-use Rattle.trace_text.specs.Trace.{Trace}
-use Rattle.value_script.specs.Order.{Order}
 use Rattle.value_script.specs.Reading.{script_of}
 use Rattle.value_script.specs.Reading as script_refusal
 use Rattle.value_script.specs.declared.refusal.Cause.{Cause as ScriptCause}
-use Rattle.values_mode.specs.Text.{values_text}
-use Rattle.shard_node.specs.Rans.{RanState}
-use Rattle.settings.specs.declared.settings.mode.Mode.{Mode}
-use Rattle.settings.specs.declared.settings.mode.Mode.TheVariants.{Run, Sim, Gen, Dirty, Index, Values}
+use Rattle.cache_model.specs.Report.{line}
+use Rattle.run_log.specs.Runs.{RanState}
 use Rattle.shardcache.specs.declared.status.Status.{Status}
 use Rattle.shardcache.specs.declared.status.Status.TheVariants as status
 use Rattle.settings.specs.Settings.{Settings}
-use Rattle.shardcache.specs.Table.{IsOutput}
+use Rattle.shardcache.specs.Meanings.{Does, Meaning, Reading, ReadsAs, Refuses}
 use Rattle.shardcache.specs.TraceFor.{refusal_text, script_refusal_text, trace_for}
+
+-- ---- what is written
 
 -- A text was written to its end with this status; or the sink failed, and a front of it was written; or memory ran
 -- out, and nothing was.
@@ -31,53 +29,53 @@ abbrev pub EndsOutput : Status → Option (List ℕ) → Option (List ℕ) → L
 EndsOutput answered before after text =
     ((answered ≡ status.Done) × Appends before after text) ⊎ ((answered ≡ status.WriteFault) × AppendsFront before after text)
 
--- a mode that runs a trace on shards
-abbrev pub Runs : Mode → Type 0
-Runs Run = Unit {0}
-Runs Sim = Unit {0}
-Runs Gen = Unit {0}
-Runs Dirty = ⊥
-Runs Index = ⊥
-Runs Values = ⊥
-
--- what is to be written of a trace was, or a front of it; or memory ran out, and nothing was
-abbrev pub EndsTrace : Settings → Trace → Status → Option RanState → Option (List ℕ) → Option (List ℕ) → Type 0
-EndsTrace settings trace answered ran before after =
-    ((text : List ℕ) × IsOutput settings.mode settings trace ran text × EndsOutput answered before after text)
+-- what is to be written of what was accepted was, or a front of it; or memory ran out, and nothing was
+abbrev pub EndsInput : {Input : Type 0} → (Settings → Input → Option RanState → List ℕ → Type 0) → Settings → Input → Status
+    → Option RanState → Option (List ℕ) → Option (List ℕ) → Type 0
+EndsInput IsOutput settings input answered ran before after =
+    ((text : List ℕ) × IsOutput settings input ran text × EndsOutput answered before after text)
     ⊎ ((answered ≡ status.Memory) × (ran ≡ None) × Appends before after [])
 
--- the bytes are a trace of which this is left and written, by a mode that runs one
-abbrev pub AcceptsTrace : Mode → Settings → List ℕ → Option RanState → List ℕ → Type 0
-AcceptsTrace mode settings bytes ran text =
-    (trace : Trace) × (trace_for settings bytes ≡ Ok trace) × IsOutput mode settings trace ran text
+-- ---- what was read
 
--- the bytes are refused as a trace, at a line, with this text
-abbrev pub RefusesTrace : Settings → List ℕ → List ℕ → Type 0
-RefusesTrace settings bytes text = (number : ℕ) × (cause : Cause) × (trace_for settings bytes ≡ Err (AtLine number cause))
-    × (text ≡ refusal_text (AtLine number cause))
+-- the bytes are refused as a trace, at a line, and that was written; or memory ran out, and nothing was
+abbrev pub RefusesTrace : Settings → List ℕ → Status → Option (List ℕ) → Option (List ℕ) → Type 0
+RefusesTrace settings bytes answered before after =
+    ((number : ℕ) × (cause : Cause) × (trace_for settings bytes ≡ Err (AtLine number cause))
+    × EndsWith answered status.Refused before after (refusal_text (AtLine number cause)))
+    ⊎ ((answered ≡ status.Memory) × Appends before after [])
 
--- the same for what each mode takes
-abbrev pub Accepts : Mode → Settings → List ℕ → Option RanState → List ℕ → Type 0
-Accepts Run settings bytes ran text = AcceptsTrace Run settings bytes ran text
-Accepts Sim settings bytes ran text = AcceptsTrace Sim settings bytes ran text
-Accepts Gen settings bytes ran text = AcceptsTrace Gen settings bytes ran text
-Accepts Dirty settings bytes ran text = AcceptsTrace Dirty settings bytes ran text
-Accepts Index settings bytes ran text = AcceptsTrace Index settings bytes ran text
-Accepts Values settings bytes ran text =
-    (script : List Order) × (script_of bytes ≡ Ok script) × (ran ≡ None) × (text ≡ values_text script settings.pages)
+-- the same of a script
+abbrev pub RefusesScript : List ℕ → Status → Option (List ℕ) → Option (List ℕ) → Type 0
+RefusesScript bytes answered before after =
+    ((number : ℕ) × (cause : ScriptCause) × (script_of bytes ≡ Err (script_refusal.AtLine number cause))
+    × EndsWith answered status.Refused before after (script_refusal_text (script_refusal.AtLine number cause)))
+    ⊎ ((answered ≡ status.Memory) × Appends before after [])
 
-abbrev pub RefusesLine : Mode → Settings → List ℕ → List ℕ → Type 0
-RefusesLine Run settings bytes text = RefusesTrace settings bytes text
-RefusesLine Sim settings bytes text = RefusesTrace settings bytes text
-RefusesLine Gen settings bytes text = RefusesTrace settings bytes text
-RefusesLine Dirty settings bytes text = RefusesTrace settings bytes text
-RefusesLine Index settings bytes text = RefusesTrace settings bytes text
-RefusesLine Values settings bytes text = (number : ℕ) × (cause : ScriptCause)
-    × (script_of bytes ≡ Err (script_refusal.AtLine number cause)) × (text ≡ script_refusal_text (script_refusal.AtLine number cause))
+-- this was taken, and accepted
+pub record Takes (r : Reading) (found : Settings) (before left : Option (List ℕ)) (input : r.Input) : Type 0 where
+  pub taken : List ℕ
+  pub took : Consumes before left taken
+  pub reads : ReadsAs r found taken left (Ok input)
 
--- The bytes were accepted and what is to be written of them was, or they were refused at a line and that was written.
-abbrev pub EndsRun : Settings → Status → Option RanState → List ℕ → Option (List ℕ) → Option (List ℕ) → Type 0
-EndsRun settings answered ran bytes before after =
-    ((text : List ℕ) × Accepts settings.mode settings bytes ran text × EndsOutput answered before after text)
-    ⊎ (((text : List ℕ) × (ran ≡ None) × RefusesLine settings.mode settings bytes text × EndsWith answered status.Refused before after text)
-    ⊎ ((answered ≡ status.Memory) × (ran ≡ None) × Appends before after []))
+-- The bytes that were taken were refused and that was written, or the source failed and that was, or memory ran out.
+abbrev pub EndsUnread : Reading → Type 0 → Settings → Status → List ℕ → Option (List ℕ) → Option (List ℕ) → Option (List ℕ) → Type 0
+EndsUnread r failed found answered taken left before after =
+    ((text : List ℕ) × Refuses r found taken left text × EndsWith answered status.Refused before after text)
+    ⊎ ((failed × (r.reads ≡ true) × EndsWith answered status.ReadFault before after (line (codes "read fault")))
+    ⊎ ((answered ≡ status.Memory) × Appends before after []))
+
+-- nothing was accepted
+pub record Stops (r : Reading) (failed : Type 0) (found : Settings) (answered : Status)
+    (before left before_sink after_sink : Option (List ℕ)) : Type 0 where
+  pub taken : List ℕ
+  pub took : Consumes before left taken
+  pub ending : EndsUnread r failed found answered taken left before_sink after_sink
+
+-- What was taken was accepted, and what is to be written of it was, or a front of it; or nothing was accepted, and nothing run.
+pub record EndsCall (m : Meaning) (failed : Type 0) (found : Settings) (answered : Status) (ran : Option RanState)
+    (before left before_sink after_sink : Option (List ℕ)) : Type 0 where
+  pub taken : List ℕ
+  pub took : Consumes before left taken
+  pub ending : ((text : List ℕ) × Does m found taken left ran text × EndsOutput answered before_sink after_sink text)
+      ⊎ ((ran ≡ None) × EndsUnread m.reading failed found answered taken left before_sink after_sink)

@@ -61,7 +61,7 @@ fn run_into<'f>(
 ) -> Option<Ran>
     requires two { trace.now.shards ≡ 2 }
     requires seats { AreAtRest 2 homes.now seats.items }
-    requires room { IsRoomFor (trace_in trace.now) 2 1280 remains }
+    requires room { IsRoomFor (trace_in trace.now) trace.now.shards 1280 remains }
 {
     let Ok(mut nodes) = open_nodes(alloc, trace, PAGES, homes, seats, &OpenGates) else {
         return None;
@@ -83,7 +83,7 @@ fn run_by_schedule<'f>(
     requires two { trace.now.shards ≡ 2 }
     requires seats { AreAtRest 2 homes.now seats.items }
 {
-    match Remains::new(alloc, trace, 2, PAGES) {
+    match Remains::new(alloc, trace, PAGES) {
         Ok(remains) => run_into(alloc, trace, homes, seats, remains),
         Err(_) => None,
     }

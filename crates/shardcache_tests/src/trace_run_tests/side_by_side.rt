@@ -2,10 +2,10 @@
 //!
 //! The commands of each of three origins go round 40 keys of its own, so what they are answered does not depend on the order
 //! of the shards' turns: a put, a get of it, a scan of the keys up to it, and an erase of a key that is never there.
-ghost use Rattle.std.specs.Prelude.{◌≡◌, ◌<◌, ◌≤◌, length};
+ghost use Rattle.std.specs.Prelude.{◌<◌, ◌≤◌, length};
 ghost use Rattle.layout.specs.Sizes.{most_trace_bytes};
 ghost use Rattle.trace_text.specs.Parsed.{trace_in};
-ghost use Rattle.trace_run.specs.Finished.{IsRunOf};
+ghost use Rattle.run_log.specs.Runs.{IsFinished};
 
 use super::PAGES;
 use outside::MemorySink;
@@ -144,10 +144,9 @@ fn writes_on<R: Threads + Wait + Sync>(
     text: &[u8],
 ) -> Result<bool, AllocError>
     requires threads { 0 < threads }
-    requires parsed_for { trace.now.shards ≡ 3 }
-    requires run { IsRunOf (trace_in trace.now) 3 1280 ran.now }
+    requires run { IsFinished (trace_in trace.now) trace.now.shards 1280 ran.now }
 {
-    let mut texts = Texts::new(alloc, threads, trace, SHARDS)?;
+    let mut texts = Texts::new(alloc, threads, trace)?;
     let mut sink = MemorySink::new(alloc, text.len().saturating_add(1))?;
     let written = write_report_on(
         rt,
@@ -155,7 +154,6 @@ fn writes_on<R: Threads + Wait + Sync>(
         threads,
         &mut sink,
         trace,
-        SHARDS,
         ran.logs(),
         ran.journals(),
         ran.lines(),
@@ -176,7 +174,7 @@ fn is_reported<R: Threads + Wait + Sync>(
     let bytes = Vec::from_slice(alloc, lines)?;
     let trace = parse_on(rt, alloc, threads, bytes, SHARDS)?;
     let order = Order::Numbered(7);
-    let ran = run_trace(rt, alloc, &trace, SHARDS, PAGES, order, &OpenGates)?;
+    let ran = run_trace(rt, alloc, &trace, PAGES, order, &OpenGates)?;
     let text = text_of(alloc, &ran)?;
     Ok(writes_on(rt, alloc, threads, &trace, &ran, &text)?)
 }

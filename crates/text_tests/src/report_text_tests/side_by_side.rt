@@ -91,7 +91,7 @@ fn values(alloc: Global) -> Result<(Vec<u8>, Vec<(ReplyKind, &'static [u8])>), A
 /// Texts for the report of these commands on one shard, made on five threads.
 fn texts_for(rt: &impl Abort, alloc: Global, input: &[u8]) -> Result<Texts, Fail> {
     let trace = trace_of(rt, alloc, input)?;
-    Ok(Texts::new(alloc, 5, &trace, 1)?)
+    Ok(Texts::new(alloc, 5, &trace)?)
 }
 
 /// Whether the report of these commands on one shard, with these replies and [`GETS`] parts done, is this text where it is made in

@@ -37,7 +37,6 @@ pub(super) fn writes_on<R: Threads + Sync>(
         threads,
         &mut sink,
         run.trace,
-        run.shards,
         run.logs,
         run.journals,
         run.lines,

@@ -4,7 +4,7 @@ use super::trial::Trial;
 use index_tree::Full;
 use rand_core::utils::NextWord;
 use rand_pcg::Lcg64Xsh32;
-use region_room::room;
+use segmented_store::room;
 use std::alloc::{AllocError, Global};
 use std::collections::BTreeMap;
 

@@ -7,7 +7,8 @@ use Rattle.trace_text.specs.Line.{is_passed}
 use Rattle.value_script.specs.declared.line.Found.{Found}
 use Rattle.value_script.specs.declared.line.Found.TheVariants as found
 use Rattle.value_script.specs.declared.refusal.Cause.{Cause}
-use Rattle.value_script.specs.Order.{Order, Set, Read, Drop, order, IsWellFormed}
+use Rattle.value_script.specs.Order.{Order, Set, Read, Drop}
+use Rattle.value_script.specs.Commands.{order, IsWellFormed}
 use Rattle.value_script.specs.Reading.{AtLine, line_reading}
 use Rattle.value_script.specs.Script.{IsSound}
 

@@ -1,6 +1,6 @@
 use Rattle.std.proofs.Common.{sym, append_assoc}
 use Rattle.std.specs.Prelude.{◌++◌, decimal, codes}
-use Rattle.mode_lemmas.proofs.Written.{Writes-then, Writes-same, Writes-stop, Writes-exit}
+use Rattle.text_lemmas.proofs.Written.{Writes-then, Writes-same, Writes-stop, Writes-exit}
 use Rattle.dirty_mode.proofs.answers.write_found.Goals as goal
 
 pub returns-in_err-write_word : goal.returns-in_err-write_word

@@ -1,5 +1,5 @@
-use Rattle.mode_lemmas.proofs.Written.{Writes-then}
+use Rattle.text_lemmas.proofs.Written.{Writes-then}
 use Rattle.dirty_mode.proofs.answers.write_value.Goals as goal
 
 pub returns : goal.returns
-returns g c = Writes-then c.in_ok-write.ensures c.write-2.ensures
+returns g c = Writes-then c.in_ok-put.ensures c.end_line.ensures

@@ -3,7 +3,7 @@ use Rattle.trace_text.specs.Operation.{operations}
 use Rattle.dirty_region.specs.Queues.{Queue}
 use Rattle.dirty_mode.proofs.CommandLists.{puts_of, room_now, room_next, command_next, command_stop, text_end}
 use Rattle.dirty_mode.proofs.Flushing.{Keeps-trans}
-use Rattle.mode_lemmas.proofs.Written.{Goes-end, Writes-exit}
+use Rattle.text_lemmas.proofs.Written.{Goes-end, Writes-exit}
 use Rattle.dirty_mode.proofs.commands.do_commands.Goals as goal
 
 pub do_command-requires-clause-room : goal.do_command-requires-clause-room
@@ -33,3 +33,9 @@ pub returns-clause-written : goal.returns-clause-written
 returns-clause-written g c =
     let t = c.args.trace.now in let k = c.commands-command-items in let l = c.loop-command in
     Goes-end (text_end t.bytes k.result.now t.commands c.args.most l.command-index l.dirty.queue.puts k.ensures.value c.loop-command-test.false l.invariant.gone) c.flush_all.ensures.written
+
+pub returns-in_err-do_command-clause-kept : goal.returns-in_err-do_command-clause-kept
+returns-in_err-do_command-clause-kept g c = Keeps-trans c.loop-command.invariant.kept c.in_err-do_command.ensures.kept
+
+pub returns-clause-kept : goal.returns-clause-kept
+returns-clause-kept g c = Keeps-trans c.loop-command.invariant.kept c.flush_all.ensures.kept

@@ -1,10 +1,11 @@
 use Rattle.std.proofs.Common.{◌+◌, ◌<◌, ◌≤◌, length, ap, arith}
 use Rattle.rows.specs.Row.{live, size}
 use Rattle.regions.specs.Shapes.{held_count}
-use Rattle.region_room.specs.Room.{room}
+use Rattle.segmented_store.specs.Room.{room}
 use Rattle.dirty_region.specs.Queues.{Queue}
+use Rattle.dirty_mode.specs.inside.Held.{Keeps}
 use Rattle.dirty_mode.proofs.CommandLists.{size_most, taken}
-use Rattle.dirty_mode.proofs.Flushing.{staying_few, staying_fits}
+use Rattle.dirty_mode.proofs.Flushing.{Keeps-trans, staying_few, staying_fits}
 use Rattle.dirty_mode.proofs.commands.put.Goals as goal
 
 pub unreachable-requires : goal.unreachable-requires
@@ -21,3 +22,8 @@ unreachable-requires g c =
     let need : live c.flush_for.new.dirty.queue.puts + size c.key-key.result.now c.value-value.result.now ≤ room (held_count c.flush_for.new.dirty.region) =
     omega (arith, below, bytes_are, above, held, size_is) in
     taken c.put.result c.in_default.field-0 _ _ _ _ c.in_default.is c.put.ensures.too_many c.put.ensures.no_room low need
+
+pub returns-clause-kept : goal.returns-clause-kept
+returns-clause-kept g c =
+    let second : Keeps c.flush_for.new.dirty c.put.new.self = record { room = c.put.ensures.room; segments = c.put.ensures.segments } in
+    Keeps-trans c.in_ok-flush_for.ensures.kept second

@@ -1,7 +1,7 @@
 use Rattle.std.proofs.Common.{◌≡◌, length, ap, arith}
 use Rattle.dirty_region.specs.Queues.{Queue}
 use Rattle.dirty_mode.proofs.Flushing.{all_next, all_stop, queue_none, Keeps-trans}
-use Rattle.mode_lemmas.proofs.Written.{Writes-exit}
+use Rattle.text_lemmas.proofs.Written.{Writes-exit}
 use Rattle.dirty_mode.proofs.flushes.flush_all.Goals as goal
 
 pub loop-dirty-preserved : goal.loop-dirty-preserved
@@ -22,3 +22,6 @@ returns-clause-queue g c =
     let q = c.loop-dirty.dirty.queue in let len = c.len.ensures in let test = c.loop-dirty-test.false in
     let none : length q.puts ≡ 0 = omega (arith, len, test) in
     queue_none q c.loop-dirty.invariant.whole none
+
+pub returns-in_err-flush_next-clause-kept : goal.returns-in_err-flush_next-clause-kept
+returns-in_err-flush_next-clause-kept g c = Keeps-trans c.loop-dirty.invariant.kept c.in_err-flush_next.ensures.kept

@@ -1,6 +1,6 @@
 -- The puts so far are flushed.
 use Rattle.std.proofs.Common.{◌≡◌, length}
-use Rattle.mode_lemmas.specs.Writing.{Goes, seen}
+use Rattle.text_lemmas.specs.Writing.{Goes}
 use Rattle.dirty_mode.specs.inside.Held.{Keeps}
 use Rattle.dirty_mode.proofs.Flushing.{put_text}
 use Rattle.dirty_mode.proofs.flushes.flush_all.Given as goal
@@ -8,7 +8,7 @@ use Rattle.dirty_mode.proofs.flushes.flush_all.Given as goal
 abbrev pub invariant-loop-dirty : goal.invariant-loop-dirty
 invariant-loop-dirty g l = record {
   whole : l.dirty.queue.out ≡ 0;
-  gone : Goes (seen g.K.Sink.written g.K.Sink.faults l.fn.sink l.fn.block) (seen g.K.Sink.written g.K.Sink.faults l.sink l.block)
+  gone : Goes l.fn.out l.out
       (put_text l.fn.dirty.queue.puts) (put_text l.dirty.queue.puts);
   kept : Keeps l.fn.dirty l.dirty;
 }

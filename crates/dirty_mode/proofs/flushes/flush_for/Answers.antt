@@ -4,7 +4,7 @@ use Rattle.dirty_region.specs.Queues.{Queue}
 use Rattle.dirty_mode.specs.DirtyText.{staying}
 use Rattle.dirty_mode.proofs.Flushing.{no_more, staying_next, staying_all, fewer, for_next, for_stop, for_done, Keeps-trans, queue_whole}
 use Rattle.dirty_mode.specs.inside.Held.{whole}
-use Rattle.mode_lemmas.proofs.Written.{Writes-exit}
+use Rattle.text_lemmas.proofs.Written.{Writes-exit}
 use Rattle.dirty_mode.proofs.flushes.flush_for.Goals as goal
 
 pub loop-dirty-preserved : goal.loop-dirty-preserved

@@ -1,6 +1,6 @@
 use Rattle.std.specs.Prelude.{◌/◌}
 use Rattle.layout.specs.Sizes.{segment_pages}
-use Rattle.region_room.specs.Room.{room}
+use Rattle.segmented_store.specs.Room.{room}
 use Rattle.dirty_mode.proofs.InOrder.{in_order}
 use Rattle.dirty_mode.proofs.law.puts_are_flushed_in_order.Goals as goal
 

@@ -1,12 +1,12 @@
-use Rattle.std.proofs.Common.{◌∙◌}
-use Rattle.mode_lemmas.proofs.Ranges.{none_held}
+use Rattle.std.proofs.Common.{ℕ, ap, ◌∙◌}
+use Rattle.dirty_region.specs.Queues.{Queue}
 use Rattle.dirty_mode.proofs.store.open_dirty.Goals as goal
 
-pub add_segments-requires-clause-none : goal.add_segments-requires-clause-none
-add_segments-requires-clause-none c = none_held c.in_ok-range.range c.in_ok-dirty.dirty.region _ c.in_ok-dirty.ensures.region c.in_ok-dirty.ensures.held c.in_ok-range.ensures.none_allocated
+pub returns-clause-room : goal.returns-clause-room
+returns-clause-room c = ap (λ (x : Queue × ℕ). x.1) c.in_ok-ranged.ensures.content ∙ (c.in_ok-dirty.ensures.room ∙ c.put_count.ensures)
 
 pub returns-clause-empty : goal.returns-clause-empty
-returns-clause-empty c = record { queue = c.add_segments.ensures.queue ∙ c.in_ok-dirty.ensures.empty; waiting = c.in_ok-block.ensures }
+returns-clause-empty c = record { queue = ap (λ (x : Queue × ℕ). x.0) c.in_ok-ranged.ensures.content ∙ c.in_ok-dirty.ensures.empty }
 
 pub returns-clause-held : goal.returns-clause-held
-returns-clause-held c = c.add_segments.ensures.added.held
+returns-clause-held c = c.in_ok-ranged.ensures.held

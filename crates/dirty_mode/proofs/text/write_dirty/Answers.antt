@@ -1,55 +1,58 @@
-use Rattle.std.proofs.Common.{◌≡◌, ◌≤◌, [], ap, subst, sym, ◌∙◌}
+use Rattle.std.proofs.Common.{◌≡◌, ◌≤◌, ap, subst, sym, rules, ◌∙◌}
 use Rattle.std.specs.Prelude.{Result, Ok, Err}
 use Rattle.std.specs.Result.{OnOk}
 use Rattle.trace_text.specs.Parsed.{trace_in}
-use Rattle.dirty_region.specs.State.{HoldsSegments, empty}
+use Rattle.segmented_store.specs.Segments.{HoldsSegments}
+use Rattle.dirty_region.specs.State.{empty}
 use Rattle.dirty_mode.specs.DirtyText.{dirty_text, put_count}
 use Rattle.dirty_mode.specs.Stores.{IsEmpty, StoreState}
-use Rattle.mode_lemmas.proofs.Ranges.{first_kept}
-use Rattle.mode_lemmas.proofs.Written.{Writes-same, written_all, written_front, written_failed}
+use Rattle.text_lemmas.proofs.Written.{Writes-same}
+use Rattle.text_lemmas.proofs.Sent.{sent_all, sent_front, sent_failed, sent_later}
 use Rattle.dirty_mode.proofs.text.write_dirty.Goals as goal
 
-empty_if : {T E : Type 0} (r : Result T E) (store : StoreState) → OnOk r (store.dirty.queue ≡ empty) → OnOk r (store.waiting ≡ []) → OnOk r (IsEmpty store)
-empty_if (Ok v) store queue waiting = record { queue = queue; waiting = waiting }
-empty_if (Err e) store queue waiting = tt
+empty_if : {T E : Type 0} (r : Result T E) (store : StoreState) → OnOk r (store.dirty.queue ≡ empty) → OnOk r (IsEmpty store)
+empty_if (Ok v) store queue = record { queue = queue }
+empty_if (Err e) store queue = tt
 
-pub write_text-requires-clause-empty : goal.write_text-requires-clause-empty
-write_text-requires-clause-empty g c = ap (λ (s : StoreState). s.dirty.queue) c.store.view_is ∙ c.requires.empty.queue
+pub write_on-written-requires-clause-empty : goal.write_on-written-requires-clause-empty
+write_on-written-requires-clause-empty g c = ap (λ (s : StoreState). s.dirty.queue) c.store.view_is ∙ c.requires.empty.queue
 
-pub write_text-requires-clause-room : goal.write_text-requires-clause-room
-write_text-requires-clause-room g c = subst (λ (s : StoreState). put_count (trace_in c.args.trace.now) ≤ s.dirty.room) (sym c.store.view_is) c.requires.room
-
-pub invariant_of-store : goal.invariant_of-store
-invariant_of-store g c =
-    let s = c.store.inside in let same = c.write_text.ensures.kept.segments in
-    (c.store.invariant.0, first_kept s.range s.dirty.region c.write_text.new.dirty.region _ c.store.invariant.1 same.most same.pieces same.held)
+pub write_on-written-requires-clause-room : goal.write_on-written-requires-clause-room
+write_on-written-requires-clause-room g c = subst (λ (s : StoreState). put_count (trace_in c.args.trace.now) ≤ s.dirty.room) (sym c.store.view_is) c.requires.room
 
 pub returns-clause-written : goal.returns-clause-written
-unfolding dirty_text
 returns-clause-written g c =
     let same = ap (λ (s : StoreState). dirty_text (trace_in c.args.trace.now) s.pages) c.store.view_is in
-    let none = ap (λ (s : StoreState). s.waiting) c.store.view_is ∙ c.requires.empty.waiting in
-    written_all c.write_text.result _ _ _ none c.write_text.ensures.empty (Writes-same same c.write_text.ensures.written)
+    sent_all g.K.Sink.written g.K.Sink.faults _ _ c.into_sink.result.now _ _ _ c.write_on-written.result c.new-out.result c.write_on-written.new.out c.new-out.ensures c.into_sink.ensures (search rules)
+    c.write_on-written.ensures.empty (Writes-same same c.write_on-written.ensures.written)
 
 pub returns-clause-front : goal.returns-clause-front
-unfolding dirty_text
 returns-clause-front g c =
     let same = ap (λ (s : StoreState). dirty_text (trace_in c.args.trace.now) s.pages) c.store.view_is in
-    let none = ap (λ (s : StoreState). s.waiting) c.store.view_is ∙ c.requires.empty.waiting in
-    written_front c.write_text.result _ _ _ none (Writes-same same c.write_text.ensures.written)
+    sent_front g.K.Sink.written g.K.Sink.faults _ _ c.into_sink.result.now _ _ _ c.write_on-written.result c.new-out.result c.write_on-written.new.out c.new-out.ensures c.into_sink.ensures (search rules)
+    c.write_on-written.ensures.empty (Writes-same same c.write_on-written.ensures.written)
 
 pub returns-clause-failed : goal.returns-clause-failed
-returns-clause-failed g c = written_failed c.write_text.result _ _ _ c.write_text.ensures.written
+returns-clause-failed g c =
+    let same = ap (λ (s : StoreState). dirty_text (trace_in c.args.trace.now) s.pages) c.store.view_is in
+    sent_failed g.K.Sink.written g.K.Sink.faults _ _ c.into_sink.result.now _ _ _ c.write_on-written.result c.new-out.result c.write_on-written.new.out c.new-out.ensures c.into_sink.ensures (search rules)
+    c.write_on-written.ensures.empty (Writes-same same c.write_on-written.ensures.written)
+
+pub returns-clause-never_falls : goal.returns-clause-never_falls
+returns-clause-never_falls g c =
+    let same = ap (λ (s : StoreState). dirty_text (trace_in c.args.trace.now) s.pages) c.store.view_is in
+    sent_later g.K.Sink.written g.K.Sink.faults _ _ c.into_sink.result.now _ _ _ c.write_on-written.result c.new-out.result c.write_on-written.new.out c.new-out.ensures c.into_sink.ensures (search rules)
+    c.write_on-written.ensures.empty (Writes-same same c.write_on-written.ensures.written)
 
 pub returns-clause-empty : goal.returns-clause-empty
-returns-clause-empty g c = empty_if c.write_text.result _ c.write_text.ensures.queue c.write_text.ensures.empty
+returns-clause-empty g c = empty_if c.write_on-written.result _ c.write_on-written.ensures.queue
 
 pub returns-clause-pages : goal.returns-clause-pages
-returns-clause-pages g c = ap (λ (s : StoreState). s.pages) c.store.view_is
+returns-clause-pages g c = c.write_on-written.ensures.pages ∙ ap (λ (s : StoreState). s.pages) c.store.view_is
 
 pub returns-clause-room : goal.returns-clause-room
-returns-clause-room g c = c.write_text.ensures.kept.room ∙ ap (λ (s : StoreState). s.dirty.room) c.store.view_is
+returns-clause-room g c = c.write_on-written.ensures.kept.room ∙ ap (λ (s : StoreState). s.dirty.room) c.store.view_is
 
 pub returns-clause-segments : goal.returns-clause-segments
 returns-clause-segments g c =
-    subst (λ (s : StoreState). HoldsSegments s.dirty.region c.write_text.new.dirty.region) c.store.view_is c.write_text.ensures.kept.segments
+    subst (λ (s : StoreState). HoldsSegments s.dirty.region c.write_on-written.new.ranged.store.region) c.store.view_is c.write_on-written.ensures.kept.segments

@@ -2,10 +2,10 @@ use Rattle.std.proofs.Common.{ap, [], ◌∙◌, append-nil}
 use Rattle.std.specs.Prelude.{◌++◌, codes, decimal}
 use Rattle.std.proofs.lemmas.Result.{on_ok_weaker}
 use Rattle.trace_text.specs.Parsed.{trace_in}
-use Rattle.region_room.specs.Room.{room}
+use Rattle.segmented_store.specs.Room.{room}
 use Rattle.dirty_region.specs.Queues.{Queue}
 use Rattle.dirty_mode.specs.DirtyText.{lines_from, put_count, text_of}
-use Rattle.mode_lemmas.proofs.Written.{Writes-then, Writes-same, Writes-stop, Writes-exit, join}
+use Rattle.text_lemmas.proofs.Written.{Writes-then, Writes-same, Writes-stop, Writes-exit, join}
 use Rattle.dirty_mode.proofs.text.write_text.Goals as goal
 
 pub returns-in_err-do_commands-clause-written : goal.returns-in_err-do_commands-clause-written
@@ -32,7 +32,7 @@ returns-clause-written g c =
     let count = ap (λ n. codes "dirty " ++ decimal n ++ codes "\n") c.put_count.ensures in
     Writes-same (append-nil _) (Writes-then
     (Writes-same (join lines (codes "dirty ") (decimal (put_count t)) (codes "\n")) (Writes-then (Writes-same (bound ∙ none) c.in_ok-do_commands.ensures.written) (Writes-same count c.in_ok-write_count.ensures)))
-    c.hand_over.ensures.wrote)
+    c.flush.ensures.wrote)
 
 pub returns-clause-queue : goal.returns-clause-queue
-returns-clause-queue g c = on_ok_weaker c.hand_over.result (λ _. c.in_ok-do_commands.ensures.queue) c.hand_over.ensures.empty
+returns-clause-queue g c = on_ok_weaker c.flush.result (λ _. c.in_ok-do_commands.ensures.queue) c.flush.ensures.empty

@@ -1,6 +1,7 @@
 use Rattle.std.proofs.Common.{ap, ◌∙◌}
 use Rattle.std.specs.Prelude.{drop, List, ℕ}
-use Rattle.fragments.specs.Fragment.{next_in, no_link}
+use Rattle.regions.specs.Places.{no_link}
+use Rattle.fragments.specs.Fragment.{next_in}
 use Rattle.fragments.proofs.Read.{next_of_bytes, pieces_written}
 use Rattle.fragments.proofs.bytes.write_fragment.Goals as goal
 

@@ -5,7 +5,7 @@ use Rattle.regions.specs.Shapes.{held_count}
 use Rattle.index_tree.specs.Sizes.{most}
 use Rattle.index_tree.specs.Store.{index_in}
 use Rattle.index_mode.proofs.CommandLists.{behind_end, behind_next, command_next, command_stop, index_by, line_by, text_end, well_formed_now, segments_then, served_still, where_ok}
-use Rattle.mode_lemmas.proofs.Written.{Goes-end, Writes-exit, Writes-same}
+use Rattle.text_lemmas.proofs.Written.{Goes-end, Writes-exit, Writes-same}
 use Rattle.index_mode.proofs.commands.do_commands.Goals as goal
 
 pub do_command-requires-clause-well_formed : goal.do_command-requires-clause-well_formed

@@ -5,7 +5,7 @@ use Rattle.index_tree.specs.Store.{index_in}
 use Rattle.regions.specs.Shapes.{held_count}
 use Rattle.index_mode.specs.IndexText.{answer_line}
 use Rattle.index_mode.proofs.CommandLists.{put_at, same_index}
-use Rattle.mode_lemmas.proofs.Written.{Writes-same}
+use Rattle.text_lemmas.proofs.Written.{Writes-same}
 use Rattle.index_mode.proofs.commands.put.Goals as goal
 
 pub returns-clause-index : goal.returns-clause-index

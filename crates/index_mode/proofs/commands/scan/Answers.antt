@@ -1,5 +1,5 @@
 use Rattle.std.proofs.Common.{ap, ◌∙◌}
-use Rattle.index_tree.specs.Indexes.{scanned}
+use Rattle.index_tree.specs.Scans.{scanned}
 use Rattle.trace_text.specs.Operation.{operation}
 use Rattle.index_tree.specs.Store.{index_in}
 use Rattle.index_mode.specs.IndexText.{scanned_keys}

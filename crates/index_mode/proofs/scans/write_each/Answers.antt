@@ -1,17 +1,17 @@
 use Rattle.std.proofs.Common.{◌+◌, ◌-◌, take, drop}
 use Rattle.index_mode.proofs.Keys.{left_next, left_stop, cuts_at}
-use Rattle.mode_lemmas.proofs.Written.{Writes-exit}
+use Rattle.text_lemmas.proofs.Written.{Writes-exit}
 use Rattle.index_mode.proofs.scans.write_each.Goals as goal
 
-pub returns-in_err-write_key : goal.returns-in_err-write_key
-returns-in_err-write_key g c = λ keys are.
+pub returns-in_err-put_word : goal.returns-in_err-put_word
+returns-in_err-put_word g c = λ keys are.
     let body = c.args.body.now in
     let at = c.loop-span.at in
     let span = c.in-Some.span in
     let cuts = cuts_at body at span.start span.len c.loop-span.invariant.within c.in-Some.ensures.first in
     Writes-exit _ c.from_residual.ensures.1
     (left_stop _ _ _ (drop at body) (take (span.start + span.len - span.start) (drop span.start body)) (drop (span.start + span.len) body) keys
-    (c.loop-span.invariant.left keys are) cuts c.in_err-write_key.ensures)
+    (c.loop-span.invariant.left keys are) cuts c.in_err-put_word.ensures)
 
 pub loop-span-preserved : goal.loop-span-preserved
 loop-span-preserved g c =
@@ -23,5 +23,5 @@ loop-span-preserved g c =
       within = c.in-Some.ensures.within;
       left = λ keys are.
           left_next _ _ _ (drop at body) (take (span.start + span.len - span.start) (drop span.start body)) (drop (span.start + span.len) body) keys
-          (c.loop-span.invariant.left keys are) cuts c.in_ok-write_key.ensures;
+          (c.loop-span.invariant.left keys are) cuts c.in_ok-put_word.ensures;
     }

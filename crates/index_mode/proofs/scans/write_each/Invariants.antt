@@ -1,7 +1,6 @@
 -- The keys so far are written, and the others are the rest.
 use Rattle.std.proofs.Common.{ℕ, ◌-◌, ◌≤◌, List, drop, length}
 use Rattle.rows.specs.KeyBody.{AreKeys}
-use Rattle.mode_lemmas.specs.Writing.{seen}
 use Rattle.index_mode.proofs.Keys.{AreLeft}
 use Rattle.index_mode.proofs.scans.write_each.Given as goal
 
@@ -9,7 +8,7 @@ abbrev pub invariant-loop-span : goal.invariant-loop-span
 invariant-loop-span g l = record {
   within : l.at ≤ length l.body;
   left : (keys : List (List ℕ)) → AreKeys l.body keys →
-      AreLeft (seen g.K.Sink.written g.K.Sink.faults l.fn.sink l.fn.block) (seen g.K.Sink.written g.K.Sink.faults l.sink l.block) (drop l.at l.body) keys;
+      AreLeft l.fn.out l.out (drop l.at l.body) keys;
 }
 
 abbrev pub decreases-loop-span : goal.decreases-loop-span

@@ -5,7 +5,7 @@ use Rattle.regions.specs.declared.place.Place.{Place}
 use Rattle.index_tree.specs.Store.{nodes_of}
 use Rattle.index_tree.specs.inside.Climbs.{HasSubtree, IsLast}
 use Rattle.index_tree.proofs.Climbed.{deeper, last_read}
-use Rattle.index_tree.proofs.Places.{some_is}
+use Rattle.place_lemmas.proofs.Places.{some_is}
 use Rattle.index_tree.proofs.climbing.+last_leaf.Goals as goal
 
 pub returns-in_default : goal.returns-in_default

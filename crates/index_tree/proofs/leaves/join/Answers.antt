@@ -5,7 +5,7 @@ use Rattle.index_tree.specs.Links.{with_next}
 use Rattle.index_tree.specs.Pairs.{gives, gives_child, takes}
 use Rattle.index_tree.specs.Store.{nodes_of}
 use Rattle.index_tree.proofs.LeafMends.{joined_all, known, mended_by}
-use Rattle.index_tree.proofs.Places.{some_is}
+use Rattle.place_lemmas.proofs.Places.{some_is}
 use Rattle.index_tree.proofs.RemoveWrites.{three_written}
 use Rattle.index_tree.proofs.Touches.{held_still, node_past, value_of}
 use Rattle.index_tree.proofs.leaves.join.Goals as goal

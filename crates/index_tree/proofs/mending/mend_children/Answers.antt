@@ -3,7 +3,7 @@ use Rattle.std.proofs.Common.{refl}
 use Rattle.std.specs.Prelude.{IsSome, Option}
 use Rattle.tree_nodes.specs.Nodes.{TreeNode}
 use Rattle.regions.specs.Contents.{live_at}
-use Rattle.index_tree.specs.Links.{led_to}
+use Rattle.regions.specs.Places.{led_to}
 use Rattle.index_tree.specs.Store.{nodes_of}
 use Rattle.index_tree.specs.Trees.{entries_of}
 use Rattle.index_tree.specs.inside.Climbs.{child_in}

@@ -2,13 +2,14 @@ use Rattle.std.proofs.Common.{◌≡◌, Option, Some, sym, ap, subst, ◌∙◌
 use Rattle.regions.specs.Contents.{live_at}
 use Rattle.regions.specs.declared.place.Place.{Place}
 use Rattle.tree_nodes.specs.Nodes.{child_at}
-use Rattle.index_tree.specs.Links.{link_to, with_child}
+use Rattle.regions.specs.Places.{link_to}
+use Rattle.index_tree.specs.Links.{with_child}
 use Rattle.index_tree.specs.Store.{nodes_of}
 use Rattle.index_tree.specs.inside.Climbs.{child_in}
 use Rattle.index_tree.specs.inside.Mends.{ChangesIf}
 use Rattle.index_tree.proofs.Climbed.{read_of}
 use Rattle.index_tree.proofs.Mended.{changes_if, changes_none, parent_mended}
-use Rattle.index_tree.proofs.Places.{some_is, some_none}
+use Rattle.place_lemmas.proofs.Places.{some_is, some_none}
 use Rattle.index_tree.proofs.mending.mend_parent.Goals as goal
 
 pub returns-in-Some : goal.returns-in-Some

@@ -1,5 +1,5 @@
 use Rattle.std.proofs.Common.{Some}
-use Rattle.index_tree.specs.Links.{link_to}
+use Rattle.regions.specs.Places.{link_to}
 use Rattle.index_tree.specs.Splits.{branch_of}
 use Rattle.index_tree.proofs.Planted.{adopts_two, top_now, two_apart, two_held}
 use Rattle.index_tree.proofs.planting.raise.Goals as goal

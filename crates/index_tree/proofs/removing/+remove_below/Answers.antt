@@ -8,7 +8,7 @@ use Rattle.index_tree.specs.Indexes.{number_of}
 use Rattle.index_tree.specs.Store.{nodes_of}
 use Rattle.index_tree.specs.Trees.{entries_of}
 use Rattle.index_tree.specs.Removes.{Loses}
-use Rattle.index_tree.proofs.Places.{some_none}
+use Rattle.place_lemmas.proofs.Places.{some_none}
 use Rattle.index_tree.proofs.SearchNode.{is_live, of_some_value}
 use Rattle.index_tree.proofs.RemoveLeaves.{seen}
 use Rattle.index_tree.proofs.RemoveKept.{loses_turned}

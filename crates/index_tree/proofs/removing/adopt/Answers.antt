@@ -2,10 +2,11 @@ use Rattle.std.proofs.Common.{◌≡◌, ◌+◌, ◌≤◌, ℕ, Some, length, 
 use Rattle.regions.specs.Contents.{live_at}
 use Rattle.regions.specs.declared.place.Place.{Place}
 use Rattle.tree_nodes.specs.Nodes.{child_at, node_in}
-use Rattle.index_tree.specs.Links.{link_to, with_parent}
+use Rattle.regions.specs.Places.{link_to}
+use Rattle.index_tree.specs.Links.{with_parent}
 use Rattle.index_tree.specs.Mended.{Adopts, HasKids}
 use Rattle.index_tree.specs.Store.{ChangesNode, HoldsNode, nodes_of}
-use Rattle.index_tree.proofs.Places.{some_none, some_same}
+use Rattle.place_lemmas.proofs.Places.{some_none, some_same}
 use Rattle.index_tree.proofs.SearchNode.{in_some, node_there, of_some_value}
 use Rattle.index_tree.proofs.RemoveAdopt.{IsAdopting, adopts_all, adopts_more, adopts_none, kid, kid_holds, kid_is, parent_is}
 use Rattle.index_tree.proofs.removing.adopt.Goals as goal

@@ -8,7 +8,7 @@ use Rattle.index_tree.specs.Store.{HoldsNode, nodes_of}
 use Rattle.index_tree.specs.Mended.{AreUneven, IsMendedAt}
 use Rattle.index_tree.specs.Removes.{Loses}
 use Rattle.index_tree.specs.Writes.{blank}
-use Rattle.index_tree.proofs.Places.{some_none}
+use Rattle.place_lemmas.proofs.Places.{some_none}
 use Rattle.index_tree.proofs.SearchNode.{is_live}
 use Rattle.index_tree.proofs.RemoveWrites.{same_then}
 use Rattle.index_tree.proofs.RemoveShort.{opened}

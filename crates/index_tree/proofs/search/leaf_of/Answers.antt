@@ -3,7 +3,7 @@ use Rattle.regions.specs.Contents.{live_at}
 use Rattle.regions.specs.declared.place.Place.{Place}
 use Rattle.index_tree.specs.Store.{nodes_of}
 use Rattle.index_tree.specs.Trees.{leaves_below}
-use Rattle.index_tree.proofs.Places.{some_none, some_same}
+use Rattle.place_lemmas.proofs.Places.{some_none, some_same}
 use Rattle.index_tree.proofs.SearchNode.{is_live}
 use Rattle.index_tree.proofs.SearchWay.{IsTreeOnWay, leads_within, node_of_tree, starts, steps, tree_rises}
 use Rattle.index_tree.proofs.search.leaf_of.Goals as goal

@@ -1,5 +1,5 @@
 use Rattle.std.proofs.Common.{Some}
-use Rattle.index_tree.specs.Links.{link_to}
+use Rattle.regions.specs.Places.{link_to}
 use Rattle.index_tree.specs.Splits.{branch_of}
 use Rattle.index_tree.proofs.SplitInner.{held_new, places_apart, places_held, split_adopts, split_cut}
 use Rattle.index_tree.proofs.splitting.split_inner.Goals as goal

@@ -2,7 +2,8 @@ use Rattle.std.proofs.Common.{◌≡◌, ◌≤◌, [], ◌∷◌, Some, length,
 use Rattle.regions.specs.Contents.{live_at}
 use Rattle.tree_nodes.specs.Nodes.{TreeNode}
 use Rattle.std.proofs.lemmas.List.Elements.{All-head, All-tail}
-use Rattle.index_tree.specs.Links.{link_to, with_next}
+use Rattle.regions.specs.Places.{link_to}
+use Rattle.index_tree.specs.Links.{with_next}
 use Rattle.index_tree.specs.Splits.{CutsLeaf}
 use Rattle.index_tree.specs.Store.{ChangesNode, HoldsNode, nodes_of}
 use Rattle.index_tree.proofs.InsertRows.{keyed}

@@ -1,6 +1,6 @@
 use Rattle.std.proofs.Common.{ℕ, ap, subst, sym}
 use Rattle.trace_text.specs.Operation.{operation}
-use Rattle.report_text.specs.inside.Output.{Writes}
+use Rattle.text_lemmas.specs.Writing.{Writes}
 use Rattle.report_text.proofs.Answered.{answer-pair, read_joined, read_one}
 use Rattle.report_text.proofs.LineTexts.{answer_line}
 use Rattle.report_text.proofs.answers.put_answer.Goals as goal

@@ -1,7 +1,7 @@
 use Rattle.std.proofs.Common.{subst}
-use Rattle.report_text.specs.inside.Output.{Writes}
+use Rattle.text_lemmas.specs.Writing.{Writes}
 use Rattle.report_text.proofs.Gathered.{texts}
-use Rattle.report_text.proofs.Outputs.{Writes-then, Writes-stop, Writes-exit}
+use Rattle.text_lemmas.proofs.Written.{Writes-then, Writes-stop, Writes-exit}
 use Rattle.report_text.proofs.LineTexts.{keys_line_is}
 use Rattle.report_text.proofs.answers.put_keys_line.Goals as goal
 

@@ -1,6 +1,7 @@
 use Rattle.std.proofs.Common.{arith, subst}
-use Rattle.report_text.specs.inside.Output.{Writes}
-use Rattle.report_text.proofs.Outputs.{Writes-next, Writes-broken, Writes-all, Writes-exit}
+use Rattle.text_lemmas.specs.Writing.{Writes}
+use Rattle.text_lemmas.proofs.Written.{Writes-exit}
+use Rattle.report_text.proofs.Outputs.{Writes-next, Writes-broken, Writes-all}
 use Rattle.report_text.proofs.LineTexts.{word_piece, words_are}
 use Rattle.report_text.proofs.answers.put_words.Goals as goal
 

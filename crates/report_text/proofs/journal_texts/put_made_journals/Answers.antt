@@ -1,5 +1,6 @@
 use Rattle.std.proofs.Common.{sym}
-use Rattle.report_text.proofs.Outputs.{Writes-next-numbered, Writes-broken-numbered, Writes-all-numbered, Writes-exit}
+use Rattle.text_lemmas.proofs.Written.{Writes-exit}
+use Rattle.report_text.proofs.Outputs.{Writes-next-numbered, Writes-broken-numbered, Writes-all-numbered}
 use Rattle.report_text.proofs.LineTexts.{journal_line, entries_of}
 use Rattle.report_text.proofs.journal_texts.put_made_journals.Goals as goal
 

@@ -1,7 +1,7 @@
 use Rattle.std.proofs.Common.{subst, append-nil}
 use Rattle.std.proofs.lemmas.Result.{IfOk-from_err}
-use Rattle.report_text.specs.inside.Output.{Writes}
-use Rattle.report_text.proofs.Outputs.{Writes-then, Writes-exit}
+use Rattle.text_lemmas.specs.Writing.{Writes}
+use Rattle.text_lemmas.proofs.Written.{Writes-then, Writes-exit}
 use Rattle.report_text.proofs.lines.finish.Goals as goal
 
 pub returns-in_err-put_shard_lines : goal.returns-in_err-put_shard_lines

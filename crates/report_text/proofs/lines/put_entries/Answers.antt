@@ -1,5 +1,6 @@
 use Rattle.cache_model.specs.declared.entry.Entry.TheVariants.{Done}
-use Rattle.report_text.proofs.Outputs.{Writes-next, Writes-broken, Writes-exit}
+use Rattle.text_lemmas.proofs.Written.{Writes-exit}
+use Rattle.report_text.proofs.Outputs.{Writes-next, Writes-broken}
 use Rattle.report_text.proofs.LineTexts.{entry_piece}
 use Rattle.report_text.proofs.lines.put_entries.Goals as goal
 

@@ -2,11 +2,10 @@
 use Rattle.std.proofs.Common.{◌∷◌, take}
 use Rattle.std.specs.List.{flat_map}
 use Rattle.cache_model.specs.Report.{entry_text}
-use Rattle.report_text.specs.inside.Output.{output}
 use Rattle.report_text.proofs.Outputs.{Added}
 use Rattle.report_text.proofs.lines.put_entries.Given as goal
 
 abbrev pub invariant-loop-entry : goal.invariant-loop-entry
 invariant-loop-entry g l =
-    Added (output g.K.Sink.written g.K.Sink.faults l.fn.writer) (output g.K.Sink.written g.K.Sink.faults l.writer)
+    Added l.fn.writer l.writer
     (flat_map (λ entry. 32 ∷ entry_text entry) (take l.entry-index l.entries))

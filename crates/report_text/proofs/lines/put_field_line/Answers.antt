@@ -1,4 +1,4 @@
-use Rattle.report_text.proofs.Outputs.{Writes-then}
+use Rattle.text_lemmas.proofs.Written.{Writes-then}
 use Rattle.report_text.proofs.lines.put_field_line.Goals as goal
 
 pub returns : goal.returns

@@ -1,5 +1,6 @@
 use Rattle.std.proofs.Common.{arith}
-use Rattle.report_text.proofs.Outputs.{Writes-next, Writes-broken, Writes-all, Writes-exit}
+use Rattle.text_lemmas.proofs.Written.{Writes-exit}
+use Rattle.report_text.proofs.Outputs.{Writes-next, Writes-broken, Writes-all}
 use Rattle.report_text.proofs.LineTexts.{field_piece}
 use Rattle.report_text.proofs.lines.put_fields.Goals as goal
 

@@ -1,4 +1,4 @@
-use Rattle.report_text.proofs.Outputs.{Writes-then, Writes-stop, Writes-exit}
+use Rattle.text_lemmas.proofs.Written.{Writes-then, Writes-stop, Writes-exit}
 use Rattle.report_text.proofs.lines.put_journal.Goals as goal
 
 pub returns-in_err-put_field : goal.returns-in_err-put_field

@@ -1,6 +1,6 @@
 use Rattle.std.proofs.Common.{◌+◌, ◌-◌, take, drop}
 use Rattle.report_text.proofs.Keys.{added_next, added_broken, cuts_at}
-use Rattle.report_text.proofs.Outputs.{Writes-exit}
+use Rattle.text_lemmas.proofs.Written.{Writes-exit}
 use Rattle.report_text.proofs.lines.put_keys.Goals as goal
 
 pub returns-in_err-put_word : goal.returns-in_err-put_word

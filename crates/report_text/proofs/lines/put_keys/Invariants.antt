@@ -1,7 +1,6 @@
 -- The keys so far were put, and the others are the rest.
 use Rattle.std.proofs.Common.{ℕ, ◌-◌, ◌≤◌, List, drop, length}
 use Rattle.rows.specs.KeyBody.{AreKeys}
-use Rattle.report_text.specs.inside.Output.{output}
 use Rattle.report_text.proofs.Keys.{AreAdded}
 use Rattle.report_text.proofs.lines.put_keys.Given as goal
 
@@ -9,7 +8,7 @@ abbrev pub invariant-loop-span : goal.invariant-loop-span
 invariant-loop-span g l = record {
   within : l.at ≤ length l.body;
   added : (keys : List (List ℕ)) → AreKeys l.body keys →
-      AreAdded (output g.K.Sink.written g.K.Sink.faults l.fn.writer) (output g.K.Sink.written g.K.Sink.faults l.writer) (drop l.at l.body) keys;
+      AreAdded l.fn.writer l.writer (drop l.at l.body) keys;
 }
 
 abbrev pub decreases-loop-span : goal.decreases-loop-span

@@ -1,7 +1,7 @@
 use Rattle.std.proofs.Common.{subst}
-use Rattle.report_text.specs.inside.Output.{Writes}
+use Rattle.text_lemmas.specs.Writing.{Writes}
 use Rattle.report_text.proofs.KeysOfReplies.{keys_in, keys_of}
-use Rattle.report_text.proofs.Outputs.{Writes-then, Writes-stop, Writes-exit}
+use Rattle.text_lemmas.proofs.Written.{Writes-then, Writes-stop, Writes-exit}
 use Rattle.report_text.proofs.LineTexts.{begins, keys_said, words_spelled}
 use Rattle.report_text.proofs.lines.put_reply.Goals as goal
 

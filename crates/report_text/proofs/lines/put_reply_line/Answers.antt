@@ -1,6 +1,6 @@
 use Rattle.std.proofs.Common.{subst}
-use Rattle.report_text.specs.inside.Output.{Writes}
-use Rattle.report_text.proofs.Outputs.{Writes-then, Writes-stop, Writes-exit}
+use Rattle.text_lemmas.specs.Writing.{Writes}
+use Rattle.text_lemmas.proofs.Written.{Writes-then, Writes-stop, Writes-exit}
 use Rattle.report_text.proofs.LineTexts.{reply_line_is}
 use Rattle.report_text.proofs.lines.put_reply_line.Goals as goal
 

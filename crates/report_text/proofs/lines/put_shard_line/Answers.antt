@@ -1,5 +1,5 @@
 use Rattle.std.proofs.Common.{subst}
-use Rattle.report_text.specs.inside.Output.{Writes}
+use Rattle.text_lemmas.specs.Writing.{Writes}
 use Rattle.report_text.specs.Views.{occupancy_in}
 use Rattle.report_text.proofs.LineTexts.{shard_line_is}
 use Rattle.report_text.proofs.lines.put_shard_line.Goals as goal

@@ -2,7 +2,8 @@ use Rattle.std.proofs.Common.{get_or}
 use Rattle.std.proofs.lemmas.List.{get_or_default}
 use Rattle.report_text.specs.Views.{occupancy_in}
 use Rattle.run_log.specs.declared.shard_line.ShardLine.{ShardLine}
-use Rattle.report_text.proofs.Outputs.{Writes-next-numbered, Writes-broken-numbered, Writes-all-numbered, Writes-exit}
+use Rattle.text_lemmas.proofs.Written.{Writes-exit}
+use Rattle.report_text.proofs.Outputs.{Writes-next-numbered, Writes-broken-numbered, Writes-all-numbered}
 use Rattle.report_text.proofs.LineTexts.{occupancy_line}
 use Rattle.report_text.proofs.lines.put_shard_lines.Goals as goal
 

@@ -1,8 +1,8 @@
 use Rattle.std.proofs.Common.{◌≡◌, ◌≤◌, List, length, refl, sym, ap, ◌∙◌, subst, arith}
 use Rattle.trace_text.specs.declared.command.Command.{Command}
-use Rattle.report_text.specs.inside.Output.{Writes}
+use Rattle.text_lemmas.specs.Writing.{Writes}
 use Rattle.report_text.specs.inside.Pieces.{begins}
-use Rattle.report_text.proofs.Outputs.{Writes-exit}
+use Rattle.text_lemmas.proofs.Written.{Writes-exit}
 use Rattle.report_text.proofs.Places.{answers_for}
 use Rattle.report_text.proofs.Rounds.{begins-past, begins-within, round_kept}
 use Rattle.report_text.proofs.Stretches.{lines-all, Lines-to, Lines-next, Lines-broken}
@@ -11,7 +11,7 @@ use Rattle.report_text.proofs.side_by_side.put_rounds.Goals as goal
 
 pub loop-from-preserved : goal.loop-from-preserved
 loop-from-preserved g c =
-    let trace = c.args.trace.now in
+    let trace = c.args.run.now.trace.now in
     let n = length trace.commands in
     let from = c.loop-from.from in
     let made = c.make_pieces.new.pieces in
@@ -30,12 +30,12 @@ loop-from-preserved g c =
 
 pub returns-in_err-put_pieces : goal.returns-in_err-put_pieces
 returns-in_err-put_pieces g c = λ answers logged.
-    let trace = c.args.trace.now in
+    let trace = c.args.run.now.trace.now in
     let n = length trace.commands in
     let from = c.loop-from.from in
     let made = c.make_pieces.new.pieces in
     let round = round_kept trace from c.begin_round-to.new.pieces made c.make_pieces.ensures.len c.make_pieces.ensures.stretches c.begin_round-to.ensures.round in
-    let each : length answers ≡ n = answers_for c.answers_are_read_by_command.ensures.count trace c.args.shards trace.commands c.args.logs.now answers refl logged in
+    let each : length answers ≡ n = answers_for c.answers_are_read_by_command.ensures.count trace c.args.run.now.shards trace.commands c.args.run.now.logs.now answers refl logged in
     Writes-exit _ c.from_residual.ensures.1
     (subst (Writes _ _ _) (lines-all answer_line answers 0 n refl (omega (arith, each)))
     (Lines-broken answer_line answers 0 from (begins n from (length made)) n (omega arith) (begins-past n from (length made) c.loop-from.invariant.within) (begins-within n from (length made))
@@ -43,9 +43,9 @@ returns-in_err-put_pieces g c = λ answers logged.
 
 pub returns : goal.returns
 returns g c = λ answers logged.
-    let trace = c.args.trace.now in
+    let trace = c.args.run.now.trace.now in
     let each : length answers ≡ length trace.commands =
-    answers_for c.answers_are_read_by_command.ensures.count trace c.args.shards trace.commands c.args.logs.now answers refl logged in
+    answers_for c.answers_are_read_by_command.ensures.count trace c.args.run.now.shards trace.commands c.args.run.now.logs.now answers refl logged in
     let last = ap (λ (list : List Command). length list) c.commands-commands.ensures.value in
     subst (Writes _ _ _) (lines-all answer_line answers 0 c.loop-from.from refl (omega (arith, each, last, c.loop-from-test.false)))
     (c.loop-from.invariant.added answers logged)

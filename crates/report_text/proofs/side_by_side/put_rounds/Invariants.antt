@@ -4,7 +4,6 @@ use Rattle.rows.specs.Apply.{Reply}
 use Rattle.cache_model.specs.Logged.{AreLogged}
 use Rattle.trace_text.specs.Parsed.{trace_in}
 use Rattle.report_text.specs.Views.{replies_in}
-use Rattle.report_text.specs.inside.Output.{output}
 use Rattle.report_text.specs.inside.Places.{ArePlaces}
 use Rattle.report_text.specs.inside.Stretches.{answer_lines}
 use Rattle.report_text.proofs.Outputs.{Added}
@@ -13,11 +12,11 @@ use Rattle.report_text.proofs.side_by_side.put_rounds.Given as goal
 abbrev pub invariant-loop-from : goal.invariant-loop-from
 invariant-loop-from g l = record {
   pieces : 0 < length l.pieces;
-  within : l.from ≤ length l.trace.commands;
-  places : ArePlaces (trace_in l.trace) l.trace.shards l.from l.places;
-  added : (answers : List (ℕ × Reply)) → AreLogged (trace_in l.trace) l.shards (replies_in l.logs) answers →
-      Added (output g.K.Sink.written g.K.Sink.faults l.fn.writer) (output g.K.Sink.written g.K.Sink.faults l.writer) (answer_lines answers 0 l.from);
+  within : l.from ≤ length l.run.trace.now.commands;
+  places : ArePlaces (trace_in l.run.trace.now) l.run.trace.now.shards l.from l.places;
+  added : (answers : List (ℕ × Reply)) → AreLogged (trace_in l.run.trace.now) l.run.shards (replies_in l.run.logs.now) answers →
+      Added l.fn.writer l.writer (answer_lines answers 0 l.from);
 }
 
 abbrev pub decreases-loop-from : goal.decreases-loop-from
-decreases-loop-from g l = length l.trace.commands - l.from
+decreases-loop-from g l = length l.run.trace.now.commands - l.from

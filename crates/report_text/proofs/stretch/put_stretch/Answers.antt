@@ -4,8 +4,8 @@ use Rattle.rows.specs.declared.kind.Kind.TheVariants.{Put}
 use Rattle.trace_text.specs.Parsed.{trace_in}
 use Rattle.trace_text.specs.Parts.{longest_value}
 use Rattle.rows.specs.Apply.{Stored}
-use Rattle.report_text.specs.inside.Output.{Writes}
-use Rattle.report_text.proofs.Outputs.{Writes-exit}
+use Rattle.text_lemmas.specs.Writing.{Writes}
+use Rattle.text_lemmas.proofs.Written.{Writes-exit}
 use Rattle.report_text.proofs.Places.{answers_for, read_for}
 use Rattle.report_text.proofs.Stretches.{lines-one, Lines-next, Lines-broken}
 use Rattle.report_text.proofs.LineTexts.{answer_line}
@@ -20,11 +20,11 @@ put_answer-requires-clause-read g c =
     let k = c.commands-commands in
     let r = c.next_replies-first in
     let i = c.loop-index.index in (
-      c.args.trace.now.bytes,
-      longest_value (trace_in c.args.trace.now),
+      c.args.run.now.trace.now.bytes,
+      longest_value (trace_in c.args.run.now.trace.now),
       get_or all.0 i (0, Stored),
-      read_for c.args.trace.now c.args.shards i r.result.1 k.result.now c.args.logs.now
-          r.result.0.now all.0 none (0, Stored) c.requires.parsed_for k.ensures.value r.ensures.read all.1,
+      read_for c.args.run.now.trace.now c.args.run.now.shards i r.result.1 k.result.now c.args.run.now.logs.now
+          r.result.0.now all.0 none (0, Stored) c.args.run.now.parsed_for k.ensures.value r.ensures.read all.1,
     )
 
 pub loop-index-preserved : goal.loop-index-preserved
@@ -36,14 +36,14 @@ loop-index-preserved g c = record {
       let k = c.commands-commands in
       let r = c.next_replies-first in
       let i = c.loop-index.index in
-      let each : length answers ≡ length c.args.trace.now.commands =
-      answers_for c.answers_are_read_by_command.ensures.count c.args.trace.now c.args.shards c.args.trace.now.commands c.args.logs.now answers refl logged in
+      let each : length answers ≡ length c.args.run.now.trace.now.commands =
+      answers_for c.answers_are_read_by_command.ensures.count c.args.run.now.trace.now c.args.run.now.shards c.args.run.now.trace.now.commands c.args.run.now.logs.now answers refl logged in
       let within : i < length answers = omega (arith, c.loop-index-test.true, c.requires.stretch.within, each) in
-      let read = read_for c.args.trace.now c.args.shards i r.result.1 k.result.now c.args.logs.now r.result.0.now answers none (0, Stored) c.requires.parsed_for k.ensures.value r.ensures.read logged in
+      let read = read_for c.args.run.now.trace.now c.args.run.now.shards i r.result.1 k.result.now c.args.run.now.logs.now r.result.0.now answers none (0, Stored) c.args.run.now.parsed_for k.ensures.value r.ensures.read logged in
       let next : i ≤ i + 1 = omega arith in
       Lines-next answer_line answers c.args.stretch.now.from i (i + 1) c.loop-index.invariant.from next (c.loop-index.invariant.added answers logged)
       (subst (Writes _ _ _) (sym (lines-one answer_line answers i (0, Stored) within))
-      (c.in_ok-put_answer.ensures c.args.trace.now.bytes (longest_value (trace_in c.args.trace.now)) (get_or answers i (0, Stored)) read));
+      (c.in_ok-put_answer.ensures c.args.run.now.trace.now.bytes (longest_value (trace_in c.args.run.now.trace.now)) (get_or answers i (0, Stored)) read));
 }
 
 pub returns-in_err-put_answer : goal.returns-in_err-put_answer
@@ -51,16 +51,16 @@ returns-in_err-put_answer g c = λ answers logged.
     let k = c.commands-commands in
     let r = c.next_replies-first in
     let i = c.loop-index.index in
-    let each : length answers ≡ length c.args.trace.now.commands =
-    answers_for c.answers_are_read_by_command.ensures.count c.args.trace.now c.args.shards c.args.trace.now.commands c.args.logs.now answers refl logged in
+    let each : length answers ≡ length c.args.run.now.trace.now.commands =
+    answers_for c.answers_are_read_by_command.ensures.count c.args.run.now.trace.now c.args.run.now.shards c.args.run.now.trace.now.commands c.args.run.now.logs.now answers refl logged in
     let within : i < length answers = omega (arith, c.loop-index-test.true, c.requires.stretch.within, each) in
-    let read = read_for c.args.trace.now c.args.shards i r.result.1 k.result.now c.args.logs.now r.result.0.now answers none (0, Stored) c.requires.parsed_for k.ensures.value r.ensures.read logged in
+    let read = read_for c.args.run.now.trace.now c.args.run.now.shards i r.result.1 k.result.now c.args.run.now.logs.now r.result.0.now answers none (0, Stored) c.args.run.now.parsed_for k.ensures.value r.ensures.read logged in
     let next : i ≤ i + 1 = omega arith in
     let below : i + 1 ≤ c.args.stretch.now.to = omega (arith, c.loop-index-test.true) in
     Writes-exit _ c.from_residual.ensures.1
     (Lines-broken answer_line answers c.args.stretch.now.from i (i + 1) c.args.stretch.now.to c.loop-index.invariant.from next below (c.loop-index.invariant.added answers logged)
     (subst (Writes _ _ _) (sym (lines-one answer_line answers i (0, Stored) within))
-    (c.in_err-put_answer.ensures c.args.trace.now.bytes (longest_value (trace_in c.args.trace.now)) (get_or answers i (0, Stored)) read)))
+    (c.in_err-put_answer.ensures c.args.run.now.trace.now.bytes (longest_value (trace_in c.args.run.now.trace.now)) (get_or answers i (0, Stored)) read)))
 
 pub returns : goal.returns
 returns g c = λ answers logged.

@@ -4,7 +4,6 @@ use Rattle.rows.specs.Apply.{Reply}
 use Rattle.cache_model.specs.Logged.{AreLogged}
 use Rattle.trace_text.specs.Parsed.{trace_in}
 use Rattle.report_text.specs.Views.{replies_in}
-use Rattle.report_text.specs.inside.Output.{output}
 use Rattle.report_text.specs.inside.Places.{ArePlaces}
 use Rattle.report_text.specs.inside.Stretches.{answer_lines}
 use Rattle.report_text.proofs.Outputs.{Added}
@@ -14,7 +13,7 @@ abbrev pub invariant-loop-index : goal.invariant-loop-index
 invariant-loop-index g l = record {
   from : l.stretch.from ≤ l.index;
   to : l.index ≤ l.stretch.to;
-  places : ArePlaces (trace_in l.trace) l.trace.shards l.index l.places;
-  added : (answers : List (ℕ × Reply)) → AreLogged (trace_in l.trace) l.shards (replies_in l.logs) answers →
-      Added (output g.K.Sink.written g.K.Sink.faults l.fn.writer) (output g.K.Sink.written g.K.Sink.faults l.writer) (answer_lines answers l.stretch.from l.index);
+  places : ArePlaces (trace_in l.run.trace.now) l.run.trace.now.shards l.index l.places;
+  added : (answers : List (ℕ × Reply)) → AreLogged (trace_in l.run.trace.now) l.run.shards (replies_in l.run.logs.now) answers →
+      Added l.fn.writer l.writer (answer_lines answers l.stretch.from l.index);
 }

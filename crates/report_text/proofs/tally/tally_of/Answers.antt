@@ -20,10 +20,10 @@ kind_at-requires c =
     let k = c.commands-index-end in
     let r = c.next_replies-first in
     let i = c.loop-index.index in
-    let n = c.args.shards in
-    let some : 1 ≤ n = omega (arith, k.ensures.some_shards, c.requires.parsed_for) in
-    let read = read_for c.args.trace.now n i r.result.1 k.result.now c.args.logs.now r.result.0.now all.0 none (0, Stored) c.requires.parsed_for k.ensures.value r.ensures.read all.1 in
-    let at = read_kind (longest_value (trace_in c.args.trace.now)) n (operation c.args.trace.now.bytes (get_or k.result.now i none)) r.result.0.now.replies r.result.1
+    let n = c.args.run.now.shards in
+    let some : 1 ≤ n = omega (arith, k.ensures.some_shards, c.args.run.now.parsed_for) in
+    let read = read_for c.args.run.now.trace.now n i r.result.1 k.result.now c.args.run.now.logs.now r.result.0.now all.0 none (0, Stored) c.args.run.now.parsed_for k.ensures.value r.ensures.read all.1 in
+    let at = read_kind (longest_value (trace_in c.args.run.now.trace.now)) n (operation c.args.run.now.trace.now.bytes (get_or k.result.now i none)) r.result.0.now.replies r.result.1
     (get_or all.0 i (0, Stored)) some read in
     (at.part, at.recorded)
 
@@ -35,13 +35,13 @@ loop-index-preserved c = record {
       let k = c.commands-index-end in
       let r = c.next_replies-first in
       let i = c.loop-index.index in
-      let n = c.args.shards in
-      let some : 1 ≤ n = omega (arith, k.ensures.some_shards, c.requires.parsed_for) in
+      let n = c.args.run.now.shards in
+      let some : 1 ≤ n = omega (arith, k.ensures.some_shards, c.args.run.now.parsed_for) in
       let each = c.answers_are_read_by_command.ensures.count in
       let within : i < length answers =
-      omega (arith, c.loop-index-test.true, answers_for each c.args.trace.now n k.result.now c.args.logs.now answers k.ensures.value logged) in
-      let read = read_for c.args.trace.now n i r.result.1 k.result.now c.args.logs.now r.result.0.now answers none (0, Stored) c.requires.parsed_for k.ensures.value r.ensures.read logged in
-      let at = read_kind (longest_value (trace_in c.args.trace.now)) n (operation c.args.trace.now.bytes (get_or k.result.now i none)) r.result.0.now.replies r.result.1
+      omega (arith, c.loop-index-test.true, answers_for each c.args.run.now.trace.now n k.result.now c.args.run.now.logs.now answers k.ensures.value logged) in
+      let read = read_for c.args.run.now.trace.now n i r.result.1 k.result.now c.args.run.now.logs.now r.result.0.now answers none (0, Stored) c.args.run.now.parsed_for k.ensures.value r.ensures.read logged in
+      let at = read_kind (longest_value (trace_in c.args.run.now.trace.now)) n (operation c.args.run.now.trace.now.bytes (get_or k.result.now i none)) r.result.0.now.replies r.result.1
       (get_or answers i (0, Stored)) some read in
       c.add.ensures.counted (get_or answers i (0, Stored)).1 (c.kind_at.ensures at.part at.recorded ∙ at.same)
       ∙ ap (with_answer (get_or answers i (0, Stored)).1) (c.loop-index.invariant.counted answers logged)
@@ -52,5 +52,5 @@ pub returns : goal.returns
 returns c = λ answers logged.
     let k = c.commands-index-end in
     let each = c.answers_are_read_by_command.ensures.count in
-    let many = answers_for each c.args.trace.now c.args.shards k.result.now c.args.logs.now answers k.ensures.value logged in
+    let many = answers_for each c.args.run.now.trace.now c.args.run.now.shards k.result.now c.args.run.now.logs.now answers k.ensures.value logged in
     c.loop-index.invariant.counted answers logged ∙ tally_all answers c.loop-index.index (omega (arith, many, c.loop-index-test.false))

@@ -11,7 +11,7 @@ use Rattle.report_text.proofs.tally.tally_of.Given as goal
 
 abbrev pub invariant-loop-index : goal.invariant-loop-index
 invariant-loop-index l = record {
-  places : ArePlaces (trace_in l.trace) l.trace.shards l.index l.places;
+  places : ArePlaces (trace_in l.run.trace.now) l.run.trace.now.shards l.index l.places;
   many : total l.tally ≡ l.index;
-  counted : (answers : List (ℕ × Reply)) → AreLogged (trace_in l.trace) l.shards (replies_in l.logs) answers → tally_in l.tally ≡ tally (take l.index answers);
+  counted : (answers : List (ℕ × Reply)) → AreLogged (trace_in l.run.trace.now) l.run.shards (replies_in l.run.logs.now) answers → tally_in l.tally ≡ tally (take l.index answers);
 }

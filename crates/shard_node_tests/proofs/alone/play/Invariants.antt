@@ -1,5 +1,5 @@
 use Rattle.std.specs.Prelude.{◌≡◌, []}
-use Rattle.shard_node.specs.Rans.{IsOfRun}
+use Rattle.run_log.specs.Runs.{IsOfRun}
 use Rattle.shard_node.specs.Standing.{InStanding}
 use Rattle.shard_node_tests.proofs.alone.play.Given as goal
 

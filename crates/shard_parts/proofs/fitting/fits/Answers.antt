@@ -1,5 +1,5 @@
 use Rattle.std.proofs.Common.{◌≡◌, true, true≢false, ◌∙◌, sym}
-use Rattle.rows.specs.Fits.{can_answer}
+use Rattle.rows.specs.CanAnswer.{can_answer}
 use Rattle.rows.specs.Spelled.{spelled}
 use Rattle.rows.specs.Operations.{count_of, key_of, kind_of}
 use Rattle.shard_parts.proofs.FitsByBody.{fits_by_body}

@@ -8,6 +8,6 @@ abbrev pub invariant-loop-link : goal.invariant-loop-link
 invariant-loop-link g l =
     (map (λ peer. peer.link) l.peers.items ++ into_iter_items l.link-iterator ≡ l.fn.links.items)
     × (into_iter_len l.link-iterator ≡ length (into_iter_items l.link-iterator))
-    × (map (λ peer. peer.shard) l.peers.items ≡ take (length l.peers.items) (others l.fn.shards l.fn.shard))
-    × All (IsNewPeer l.fn.trace l.fn.shards l.fn.shard) l.peers.items
-    × (l.fn.shards ≤ vec_capacity l.peers + 1)
+    × (map (λ peer. peer.shard) l.peers.items ≡ take (length l.peers.items) (others l.fn.trace.shards l.fn.shard))
+    × All (IsNewPeer l.fn.trace l.fn.trace.shards l.fn.shard) l.peers.items
+    × (l.fn.trace.shards ≤ vec_capacity l.peers + 1)

@@ -4,10 +4,11 @@ use Rattle.trace_text.specs.Operation.{operation}
 use Rattle.trace_text.specs.Parsed.{trace_in}
 use Rattle.trace_text.specs.Reading.{most_commands}
 use Rattle.shard_rings.specs.Links.{traffic_of}
-use Rattle.shard_node.specs.Rans.{IsOfRun}
+use Rattle.run_log.specs.Runs.{IsOfRun}
 use Rattle.shard_run.specs.Remaining.{AllCanFinish, IsRoomFor}
 use Rattle.shard_run.proofs.Driven.{as_many, can_finish, paired, seats_back, together}
-use Rattle.shard_run.proofs.Runs.{is_run}
+use Rattle.shard_run.proofs.Numbered.{commands_found, keys_of}
+use Rattle.shard_run.proofs.Runs.{is_finished}
 use Rattle.shard_run.proofs.ending.finish_run.Goals as goal
 
 pub finish_nodes-ran-requires-clause-nodes : goal.finish_nodes-ran-requires-clause-nodes
@@ -41,7 +42,8 @@ returns-clause-run g c =
     let agree = c.done_nodes_agree.ensures traffic_of g.G.Gate.holds trace trace.shards pages nodes c.facts_of.ensures.numbered c.facts_of.ensures.some_shards met in
     let of_run = subst (λ t. IsOfRun t (length nodes) pages c.finish_nodes-ran.result.ran) c.requires.room.run.of_trace c.finish_nodes-ran.ensures.run in
     let short = subst (λ k. k ≤ most_commands) (sym (length-map trace.commands (operation trace.bytes))) c.facts_of.ensures.few in
-    is_run g.G.Gate.holds (trace_in trace) trace.shards pages homes nodes driven.1 c.finish_nodes-ran.result left of_run agree c.facts_of.ensures.most_shards short
+    is_finished g.G.Gate.holds (trace_in trace) trace.shards pages homes nodes driven.1 c.finish_nodes-ran.result left of_run agree c.facts_of.ensures.most_shards short
+    c.logs_hold_the_answers.ensures (keys_of trace c.facts_of.ensures.well_formed) (commands_found trace c.facts_of.ensures.numbered)
 
 pub returns-clause-seats : goal.returns-clause-seats
 returns-clause-seats g c homes driven =

@@ -1,8 +1,15 @@
 use Rattle.std.proofs.Common.{length, ap, arith, sym, ◌∙◌}
 use Rattle.std.specs.Vec.Iter.{into_iter_items}
 use Rattle.std.proofs.lemmas.List.{nil_from_length}
-use Rattle.shard_run.proofs.Finishings.{next_is_done, next_within, next_so_far, one_finished, all_finished, all_have_facts, still_of_run}
+use Rattle.shard_run.proofs.Finishings.{next_is_done, next_within, next_so_far, none_finished, one_finished, all_finished, all_have_facts, still_of_run}
 use Rattle.shard_run.proofs.finishing.finish_nodes.Goals as goal
+
+pub loop-node-init : goal.loop-node-init
+loop-node-init g c =
+    let gives = c.into_iter-node-iterator.ensures.into_iter_gives in (
+      none_finished c.args.into.ran.trace c.args.into.ran.pages c.args.nodes.items _ c.args.into gives.0 c.requires.room,
+      gives.1 ∙ c.args.nodes.ok.0 ∙ sym (ap length gives.0),
+    )
 
 pub finish_one-requires-clause-done : goal.finish_one-requires-clause-done
 finish_one-requires-clause-done g c =

@@ -1,4 +1,4 @@
-use Rattle.std.proofs.Common.{◌≡◌, ◌+◌, ◌∷◌, [], ◌++◌, length, length-append, arith, sym, ap, subst, ◌∙◌}
+use Rattle.std.proofs.Common.{◌≡◌, ◌∷◌, [], ◌++◌, length, length-append, arith, sym, ap, subst, ◌∙◌}
 use Rattle.shard_run.specs.Opening.{AreAtRest}
 use Rattle.shard_run.proofs.Getting.{pushed}
 use Rattle.shard_run.proofs.Seated.{one_more}

@@ -1,4 +1,4 @@
-use Rattle.std.specs.Prelude.{◌+◌, ◌-◌, ◌≤◌, length, vec_capacity, vec_len}
+use Rattle.std.specs.Prelude.{◌-◌, ◌≤◌, length, vec_capacity, vec_len}
 use Rattle.shard_run.specs.Opening.{AreAtRest}
 use Rattle.shard_run.proofs.lists.open_lists.Given as goal
 

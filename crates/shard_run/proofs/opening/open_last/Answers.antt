@@ -8,6 +8,7 @@ use Rattle.shard_run.proofs.opening.open_last.Goals as goal
 
 pub open-requires : goal.open-requires
 open-requires g c κs =
+    let value = c.shards-shards.ensures.value in
     let fewer = c.pop.new.self in
     let pop : c.args.seats.now.items ≡ fewer.items ++ c.unwrap-seat.result ∷ [] = subst (λ r. c.args.seats.now.items ≡ fewer.items ++ option_to_list r) c.unwrap-seat.ensures c.pop.ensures.items in
     let place : c.len-shard.result ≡ length fewer.items = c.len-shard.ensures ∙ fewer.ok.0 in
@@ -25,11 +26,11 @@ open-requires g c κs =
           (
             last_seat c.args.homes.now c.args.seats.now.items fewer.items c.unwrap-seat.result home c.requires.seats pop (subst (λ j. slice_get c.args.homes.now j ≡ Some home) place home_at),
             (
-              c.requires.parsed_for,
+              value,
               (
-                omega (arith, place, count, within),
+                omega (arith, place, count, within, value),
                 (
-                  c.requires.links,
+                  c.requires.links ∙ sym value,
                   λ k d lt. let u = c.requires.unused k (get_or c.args.links.items k d) (slice_get-get_or c.args.links.items k d lt) in record { sent = ap (λ o. o.sent) u.0; received = ap (λ i. i.received) u.1 },
                 ),
               ),
@@ -60,11 +61,11 @@ returns-in-Ok-clause-opened g c =
           let same : c.index-homes-shard.result ≡ home = same_Some _ _ (sym home_at ∙ subst (λ j. slice_get c.args.homes.now j ≡ Some home) (sym place) at) in
           record {
             number = opened.numbers.0 ∙ place;
-            shards = opened.numbers.1;
+            shards = opened.numbers.1 ∙ c.shards-shards.ensures.value;
             room = opened.numbers.2;
             work = opened.trace;
             list = opened.list ∙ same;
-            peers = opened.peers ∙ ap (others c.args.shards) place;
+            peers = opened.peers ∙ ap (λ n. others n c.len-shard.result) c.shards-shards.ensures.value ∙ ap (others c.args.trace.now.shards) place;
             standing = opened.standing;
             unturned = opened.turns;
           };

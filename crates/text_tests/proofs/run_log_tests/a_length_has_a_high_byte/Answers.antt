@@ -1,7 +1,8 @@
 -- One key of 256 letters.
 use Rattle.std.proofs.Common.{ℕ, List, [], ◌∷◌, replicate, refl, lit≤, subst, sym}
 use Rattle.std.proofs.lemmas.List.Elements.{All-from_recursion}
-use Rattle.rows.specs.KeyBody.{IsKey, AreKeysAt}
+use Rattle.rows.specs.KeyBody.{AreKeysAt}
+use Rattle.rows.specs.Spelled.{IsKey}
 use Rattle.text_tests.proofs.run_log_tests.a_length_has_a_high_byte.Goals as goal
 
 abbrev long : List ℕ

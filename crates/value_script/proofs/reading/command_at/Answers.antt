@@ -1,8 +1,9 @@
 -- The value lies in whatever bytes its line lies in.
-use Rattle.std.proofs.Common.{◌≡◌, ℕ, List, length, Ok}
+use Rattle.std.proofs.Common.{◌≡◌, Ok}
 use Rattle.value_script.specs.inside.Found.{IsRestOf}
 use Rattle.value_script.specs.Line.{order_of}
-use Rattle.value_script.specs.Order.{Set, IsWellFormed}
+use Rattle.value_script.specs.Order.{Set}
+use Rattle.value_script.specs.Commands.{IsWellFormed}
 use Rattle.value_script.proofs.Placed.{end_in, reads_as}
 use Rattle.value_script.proofs.reading.command_at.Goals as goal
 

@@ -1,10 +1,12 @@
--- A front of what the block had and of the last line.
-use Rattle.fragments.specs.Store.{values_of}
-use Rattle.values_mode.specs.Text.{last_line}
-use Rattle.values_mode.proofs.Written.{front_sent_if}
+use Rattle.std.proofs.lemmas.Result.{IfOk-from_err}
+use Rattle.text_lemmas.proofs.Written.{Writes-exit, Writes-last}
 use Rattle.values_mode.proofs.writing.write_last.Goals as goal
 
-pub returns-clause-front : goal.returns-clause-front
-returns-clause-front g c =
-    front_sent_if c.hand_over.result _ _ _ c.args.block.now.items c.make_room.new.block.items c.put_last.new.block.items (last_line (values_of c.args.store.now))
-    c.in_ok-make_room.ensures.sent c.put_last.ensures.text c.hand_over.ensures.front
+pub returns-in_err-put_last : goal.returns-in_err-put_last
+returns-in_err-put_last g c = record {
+  written = Writes-exit _ c.from_residual.ensures.1 c.in_err-put_last.ensures;
+  empty = IfOk-from_err _ _ c.from_residual.ensures.0;
+}
+
+pub returns : goal.returns
+returns g c = record { written = Writes-last c.in_ok-put_last.ensures c.flush.ensures.wrote; empty = c.flush.ensures.empty }

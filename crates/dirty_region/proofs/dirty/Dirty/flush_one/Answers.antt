@@ -1,8 +1,10 @@
-use Rattle.std.proofs.Common.{◌+◌, ◌%◌, ◌^◌, ◌<◌, ◌≤◌, length, sym, ap, subst, ◌∙◌, arith}
+use Rattle.std.proofs.Common.{◌+◌, ◌%◌, ◌^◌, ◌<◌, ◌≤◌, length, refl, sym, ap, subst, ◌∙◌, arith}
 use Rattle.regions.specs.Contents.{live_at}
+use Rattle.segmented_store.specs.Segments.{HoldsSegments}
 use Rattle.dirty_region.specs.State.{DirtyState}
 use Rattle.dirty_region.specs.inside.Rings.{nth, puts_in}
 use Rattle.dirty_region.proofs.Flushed.{out_low, out_kept, puts_first, broken_off, flushed}
+use Rattle.dirty_region.proofs.Stored.{segments_same}
 use Rattle.dirty_region.proofs.dirty.Dirty.flush_one.Goals as goal
 
 pub write_rest-requires : goal.write_rest-requires
@@ -19,7 +21,7 @@ invariant_of-self g c =
     let some : 1 ≤ s.ring.count = omega (arith, none, len) in
     let text = c.as_slice.ensures.value ∙ c.make_oldest_line-number.ensures.line in
     let low = subst (λ t. c.write_rest.new.out < length t) text c.in-Err.ensures.unfinished in (
-      record { stored = i.stored; held_is = i.held_is; out_is = out_kept c.write_rest.new.out (puts_in s.ring live) (nth s.ring live 0) _ (puts_first s.ring live some) low },
+      record { stored = i.stored; out_is = out_kept c.write_rest.new.out (puts_in s.ring live) (nth s.ring live 0) _ (puts_first s.ring live some) low },
       c.make_oldest_line-number.ensures.room,
     )
 
@@ -63,3 +65,12 @@ returns-clause-rest g c =
 
 pub returns-clause-next : goal.returns-clause-next
 returns-clause-next g c = c.take_out.ensures.first ∙ ap (λ (x : DirtyState). (x.first + 1) % 2 ^ 32) c.self.view_is
+
+pub returns-in-Err-clause-segments : goal.returns-in-Err-clause-segments
+returns-in-Err-clause-segments g c =
+    let r = c.self.inside.region in subst (λ (x : DirtyState). HoldsSegments x.region r) c.self.view_is (segments_same r r refl)
+
+pub returns-clause-segments : goal.returns-clause-segments
+returns-clause-segments g c =
+    let r = c.self.inside.region in
+    subst (λ (x : DirtyState). HoldsSegments x.region c.take_out.new.region) c.self.view_is (segments_same r c.take_out.new.region c.take_out.ensures.shape)

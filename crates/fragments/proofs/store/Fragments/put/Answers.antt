@@ -2,7 +2,7 @@ use Rattle.std.proofs.Common.{◌≡◌, ℕ, ◌+◌, ◌-◌, ◌<◌, ◌≤�
 use Rattle.std.specs.Prelude.{slice_set}
 use Rattle.std.proofs.lemmas.List.{length-take}
 use Rattle.regions.specs.Shapes.{held_count}
-use Rattle.region_room.specs.Room.{room}
+use Rattle.segmented_store.specs.Room.{room}
 use Rattle.fragments.specs.Values.{live, size_if, value_of}
 use Rattle.fragments.specs.Chains.{TableState}
 use Rattle.fragments.specs.Sizes.{greatest_value}

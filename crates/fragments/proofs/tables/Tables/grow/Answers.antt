@@ -6,7 +6,7 @@ use Rattle.regions.specs.declared.place.Place.{Place}
 use Rattle.fragments.specs.Chains as chains
 use Rattle.fragments.specs.inside.Consistent.{AreEntries}
 use Rattle.fragments.specs.inside.Linking.{HoldsAFragment, IsPlaced, LeadsBack}
-use Rattle.fragments.proofs.Places.{some_none}
+use Rattle.place_lemmas.proofs.Places.{some_none}
 use Rattle.fragments.proofs.Grown.{chains_grown, parts_grown}
 use Rattle.fragments.proofs.Lives.{linked_holds, same_live}
 use Rattle.fragments.proofs.tables.Tables.grow.Goals as goal

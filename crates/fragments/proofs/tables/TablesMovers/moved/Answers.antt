@@ -9,7 +9,7 @@ use Rattle.fragments.specs.inside.Linking.{IsMended, LeadsBack, LeadsOn}
 use Rattle.fragments.proofs.Lives.{same_live}
 use Rattle.fragments.proofs.Mended as mended
 use Rattle.fragments.proofs.Mended.{IsAt, found_at}
-use Rattle.fragments.proofs.Places.{option_cases, some_none}
+use Rattle.place_lemmas.proofs.Places.{option_cases, some_none}
 use Rattle.fragments.proofs.Moved.{chains_moved, chains_stand, names_moved, references_moved}
 use Rattle.fragments.proofs.tables.TablesMovers.moved.Goals as goal
 

@@ -2,13 +2,13 @@ use Rattle.std.proofs.Common.{◌≡◌, ℕ, suc, ◌+◌, ◌-◌, ◌≤◌, 
 use Rattle.regions.specs.Contents.{live_at}
 use Rattle.regions.specs.declared.place.Place.{Place}
 use Rattle.tree_nodes.specs.Nodes.{child_at}
-use Rattle.index_tree.specs.Links.{link_to}
+use Rattle.regions.specs.Places.{link_to}
 use Rattle.index_tree.specs.Store.{nodes_of}
 use Rattle.index_tree.specs.Trees.{leaves_below, places_of}
 use Rattle.index_tree.specs.inside.Climbs.{HasSubtree, IsBefore, IsLast, child_in}
 use Rattle.index_tree.proofs.Climbed.{above_it, child_led, first_child, in_front, no_parent, parent_led, read_of, there_of}
 use Rattle.index_tree.proofs.Mended.{lives}
-use Rattle.index_tree.proofs.Places.{some_is, some_none}
+use Rattle.place_lemmas.proofs.Places.{some_is, some_none}
 use Rattle.index_tree.proofs.Positions.{node_at}
 use Rattle.index_tree.proofs.roots.Roots.+leaf_before.Goals as goal
 

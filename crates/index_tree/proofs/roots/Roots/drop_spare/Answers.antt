@@ -5,7 +5,7 @@ use Rattle.regions.specs.declared.place.Place.{Place}
 use Rattle.index_tree.specs.inside.Listings.{less_place}
 use Rattle.index_tree.specs.inside.Rosters.{IsRosterOf, RosterState, with_freed}
 use Rattle.index_tree.proofs.Freed.{one_fewer, roster_without, was_listed}
-use Rattle.index_tree.proofs.Places.{place_cases}
+use Rattle.place_lemmas.proofs.Places.{place_cases}
 use Rattle.index_tree.proofs.roots.Roots.drop_spare.Goals as goal
 
 pub returns-clause-roster : goal.returns-clause-roster

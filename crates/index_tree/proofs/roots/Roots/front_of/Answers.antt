@@ -4,7 +4,7 @@ use Rattle.index_tree.specs.Store.{nodes_of}
 use Rattle.index_tree.proofs.Climbed.{before_top, low_stands, parent_led, read_of}
 use Rattle.index_tree.proofs.Mended.{lives}
 use Rattle.index_tree.proofs.Neighbors.{before_inner, node_here}
-use Rattle.index_tree.proofs.Places.{is_none_by, is_some_by}
+use Rattle.place_lemmas.proofs.Places.{is_none_by, is_some_by}
 use Rattle.index_tree.proofs.roots.Roots.front_of.Goals as goal
 
 pub level_at-requires : goal.level_at-requires

@@ -3,7 +3,7 @@ use Rattle.std.specs.Prelude.{option_map}
 use Rattle.regions.specs.Contents.{Item, live_at}
 use Rattle.regions.specs.Stores.{less}
 use Rattle.tree_nodes.specs.Nodes.{node_in}
-use Rattle.index_tree.specs.Links.{led_to}
+use Rattle.regions.specs.Places.{led_to}
 use Rattle.index_tree.specs.Store.{nodes_of}
 use Rattle.index_tree.specs.inside.Climbs.{parent_in}
 use Rattle.index_tree.specs.inside.Rosters.{IsRosterOf, RosterState, place_of, shape_of}

@@ -1,5 +1,5 @@
 use Rattle.std.proofs.Common.{◌≤◌, sym, ap, subst, ◌∙◌}
-use Rattle.index_tree.specs.Sizes.{most_levels}
+use Rattle.index_tree.specs.Limits.{most_levels}
 use Rattle.index_tree.specs.Store.{IndexState, index_in, levels}
 use Rattle.index_tree.proofs.States.{low_enough, none_high}
 use Rattle.index_tree.proofs.tree.IndexTree.height.Goals as goal

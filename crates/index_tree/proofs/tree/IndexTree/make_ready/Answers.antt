@@ -1,7 +1,8 @@
 use Rattle.std.proofs.Common.{◌+◌, ◌≤◌, sym, ap, subst, ◌∙◌, arith}
 use Rattle.regions.specs.Shapes.{held_count}
 use Rattle.index_tree.specs.Sizes.{most}
-use Rattle.index_tree.specs.Store.{HoldsSegments, IndexState, index_in, levels}
+use Rattle.segmented_store.specs.Segments.{HoldsSegments}
+use Rattle.index_tree.specs.Store.{IndexState, index_in, levels}
 use Rattle.index_tree.proofs.Ready.{filled, free_there, levels_filled, room_for}
 use Rattle.index_tree.proofs.States.{low_enough}
 use Rattle.index_tree.proofs.tree.IndexTree.make_ready.Goals as goal

@@ -4,7 +4,7 @@ use Rattle.regions.specs.Shapes.{group_count, held_count, shape}
 use Rattle.regions.specs.Counts.{live_total}
 use Rattle.regions.specs.Contents.{item_if_live, live_at, standing_in}
 use Rattle.regions.specs.declared.place.Place.{Place}
-use Rattle.index_tree.specs.Sizes.{most_segments}
+use Rattle.index_tree.specs.Limits.{most_segments}
 use Rattle.index_tree.specs.Store.{nodes_of}
 use Rattle.index_tree.specs.Trees.{index_of}
 use Rattle.index_tree.specs.inside.Consistent.{IsConsistent}

@@ -1,7 +1,8 @@
 use Rattle.std.proofs.Common.{ap, ◌∙◌, Option, length, take}
 use Rattle.regions.specs.Contents.{live_at}
 use Rattle.regions.specs.declared.place.Place.{Place}
-use Rattle.index_tree.specs.Indexes.{from, scanned}
+use Rattle.index_tree.specs.Indexes.{from}
+use Rattle.index_tree.specs.Scans.{scanned}
 use Rattle.index_tree.specs.Store.{IndexState, index_in, nodes_of}
 use Rattle.index_tree.specs.Trees.{held_below}
 use Rattle.index_tree.proofs.tree.IndexTree.range.Goals as goal

@@ -1,10 +1,9 @@
 use Rattle.std.proofs.Common.{◌≡◌, ◌-◌, length, take, List, Some, None, true, false, sym, ap, subst, ◌∙◌}
 use Rattle.std.specs.List.{last_or}
-use Rattle.rows.specs.Evictions.{is_of_put}
+use Rattle.rows.specs.Row.{is_of_put, Row}
 use Rattle.common_lemmas.specs.Lists.{delete}
 use Rattle.row_cache.specs.Rows.{rows_of}
 use Rattle.row_cache.specs.inside.Consistent.{rows_in, rows_with}
-use Rattle.rows.specs.Row.{Row}
 use Rattle.row_cache.proofs.Caches.{no_numbers, rows_read}
 use Rattle.row_cache.specs.inside.Tables.{IsListed}
 use Rattle.row_cache.proofs.Listed.{last_listed}

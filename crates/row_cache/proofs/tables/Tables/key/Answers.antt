@@ -1,5 +1,5 @@
 use Rattle.std.proofs.Common.{◌≡◌, sym, ap, subst, ◌∙◌}
-use Rattle.rows.specs.KeyBody.{IsKey}
+use Rattle.rows.specs.Spelled.{IsKey}
 use Rattle.rows.specs.Row.{Row}
 use Rattle.regions.specs.Contents.{live_at}
 use Rattle.row_cache.specs.Rows.{key_at}

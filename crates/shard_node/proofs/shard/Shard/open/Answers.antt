@@ -1,4 +1,4 @@
-use Rattle.std.proofs.Common.{◌∙◌, None, refl}
+use Rattle.std.proofs.Common.{ℕ, ◌∙◌, None, refl, subst, sym}
 use Rattle.shard_node.specs.declared.shard.Shard.{Shard}
 use Rattle.shard_node.specs.Links.{IsUnused}
 use Rattle.shard_node.proofs.Standing.Opened.{IsOpened, opens-consistent}
@@ -7,10 +7,11 @@ use Rattle.shard_node.proofs.Standing.OpenedStands.{opens-standing}
 use Rattle.shard_node.proofs.shard.Shard.open.Given.{Over}
 use Rattle.shard_node.proofs.shard.Shard.open.Goals as goal
 
-abbrev made : (g : Over) → goal.After-new-2 g → Shard g.row.L.Denot g.row.G.Denot
-made g c = record {
+-- the shard, of so many
+abbrev made_of : (g : Over) → goal.After-new-2 g → ℕ → Shard g.row.L.Denot g.row.G.Denot
+made_of g c n = record {
   shard = c.args.shard;
-  shards = c.args.shards;
+  shards = n;
   pages = c.args.pages;
   trace = c.args.trace;
   longest = c.longest_value.result;
@@ -27,9 +28,12 @@ made g c = record {
   turns = 0;
 }
 
-opened : (g : Over) (c : goal.After-new-2 g) → IsOpened g.L.Link.traffic (made g c)
-opened g c = record {
-  parsed_for = c.requires.parsed_for;
+abbrev made : (g : Over) → goal.After-new-2 g → Shard g.row.L.Denot g.row.G.Denot
+made g c = made_of g c c.shards-shards.result
+
+opened_of : (g : Over) (c : goal.After-new-2 g) → IsOpened g.L.Link.traffic (made_of g c c.args.trace.now.shards)
+opened_of g c = record {
+  parsed_for = refl;
   within = c.requires.within;
   of_shard = c.in-Ok-open.ensures.numbers.0;
   pages = c.in-Ok-open.ensures.numbers.1;
@@ -56,6 +60,9 @@ opened g c = record {
   request = refl;
   tally = c.new-2.ensures;
 }
+
+opened : (g : Over) (c : goal.After-new-2 g) → IsOpened g.L.Link.traffic (made g c)
+opened g c = subst (λ n. IsOpened g.L.Link.traffic (made_of g c n)) (sym c.shards-shards.ensures.value) (opened_of g c)
 
 pub returns-clause-consistent : goal.returns-clause-consistent
 returns-clause-consistent g c =

@@ -13,10 +13,10 @@ returns-clause-rest c = rw (← c.self.view_is) (last-left _ _ _ _ _ _ c.self.in
 
 pub returns-clause-few : goal.returns-clause-few
 returns-clause-few c =
-    rw (← c.self.view_is) (few-left c.self.inside.trace.now c.self.inside.shards c.self.inside.origin c.self.inside.shard c.self.inside.next.at (rw c.commands.ensures.value at c.commands.ensures.few))
+    rw (← c.self.view_is) (few-left c.self.inside.trace.now c.self.inside.trace.now.shards c.self.inside.origin c.self.inside.shard c.self.inside.next.at (rw c.commands.ensures.value at c.commands.ensures.few))
 
 pub returns-clause-parts : goal.returns-clause-parts
 returns-clause-parts c =
     let few = rw c.commands.ensures.value at c.commands.ensures.few in
     rw (← c.self.view_is)
-    (few-parts c.parts_go_up_by_command.ensures.most c.self.inside.trace.now c.self.inside.shards c.self.inside.origin c.self.inside.shard c.self.inside.next.at c.self.invariant.shard (rw c.self.invariant.shards c.commands.ensures.most_shards) few)
+    (few-parts c.parts_go_up_by_command.ensures.most c.self.inside.trace.now c.self.inside.trace.now.shards c.self.inside.origin c.self.inside.shard c.self.inside.next.at c.self.invariant.shard c.commands.ensures.most_shards few)

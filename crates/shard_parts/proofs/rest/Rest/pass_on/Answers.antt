@@ -6,16 +6,16 @@ use Rattle.part_lemmas.proofs.Cursors.Places.{after-first, no_command, no_operat
 use Rattle.shard_parts.proofs.rest.Rest.pass_on.Goals as goal
 
 pub find-self-inside-requires-clause-origin : goal.find-self-inside-requires-clause-origin
-find-self-inside-requires-clause-origin c = ap (λ at. at % c.self.inside.shards) c.past-from.ensures.at ∙ round _ _ _ c.self.invariant.origin
+find-self-inside-requires-clause-origin c = ap (λ at. at % c.self.inside.trace.now.shards) c.past-from.ensures.at ∙ round _ _ _ c.self.invariant.origin
 
 pub find-self-inside-requires-clause-before : goal.find-self-inside-requires-clause-before
 find-self-inside-requires-clause-before c =
     let value = c.commands-commands.ensures.value in
     let within : c.self.inside.next.at < length c.self.inside.trace.now.commands = rw value at c.if-self-commands.true in
     c.past-from.ensures.before no_operation
-    ∙ parts-behind c.self.inside.trace.now c.self.inside.shards c.self.inside.origin c.self.inside.next.at c.self.inside.next.before no_operation c.shards_take_turns.ensures.next c.self.invariant.shards
+    ∙ parts-behind c.self.inside.trace.now c.self.inside.trace.now.shards c.self.inside.origin c.self.inside.next.at c.self.inside.next.before no_operation c.shards_take_turns.ensures.next c.self.invariant.shards
     c.self.invariant.origin within c.self.invariant.parts
-    ∙ ap (λ at. parts_before (trace_in c.self.inside.trace.now) c.self.inside.shards c.self.inside.origin at) (sym c.past-from.ensures.at)
+    ∙ ap (λ at. parts_before (trace_in c.self.inside.trace.now) c.self.inside.trace.now.shards c.self.inside.origin at) (sym c.past-from.ensures.at)
 
 pub returns-then-self-commands-clause-left : goal.returns-then-self-commands-clause-left
 returns-then-self-commands-clause-left c =
@@ -24,4 +24,4 @@ returns-then-self-commands-clause-left c =
     let further = c.past-from.ensures.at in
     rw (← c.self.view_is)
     (c.find-self-inside.ensures.left (suc c.self.inside.next.at) (omega (arith, further, below)) (omega (arith, further))
-    ∙ after-first c.self.inside.trace.now c.self.inside.shards c.self.inside.origin c.self.inside.shard c.self.inside.next.at no_command no_operation within (c.self.invariant.here no_operation within))
+    ∙ after-first c.self.inside.trace.now c.self.inside.trace.now.shards c.self.inside.origin c.self.inside.shard c.self.inside.next.at no_command no_operation within (c.self.invariant.here no_operation within))

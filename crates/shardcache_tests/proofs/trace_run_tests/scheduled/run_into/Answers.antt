@@ -21,5 +21,4 @@ finish_run-requires-clause-driven c = (
 
 pub finish_run-requires-clause-room : goal.finish_run-requires-clause-room
 finish_run-requires-clause-room c =
-    subst (λ p. IsRoomFor (trace_in c.args.trace.now) c.args.trace.now.shards p c.args.remains) (sym c.requires.room.run.of_pages)
-    (subst (λ n. IsRoomFor (trace_in c.args.trace.now) n 1280 c.args.remains) (sym c.requires.two) c.requires.room)
+    subst (λ p. IsRoomFor (trace_in c.args.trace.now) c.args.trace.now.shards p c.args.remains) (sym c.requires.room.run.of_pages) c.requires.room

@@ -6,7 +6,8 @@ use Rattle.rows.specs.declared.kind.Kind.TheVariants.{Put, Get, Erase, Scan}
 use Rattle.trace_text.specs.Operation.{operations}
 use Rattle.trace_text.specs.Parsed.{trace_in}
 use Rattle.rows.specs.Operation.{is_scan}
-use Rattle.trace_text.specs.Parts.{here_parts, most_shards, own_parts, reply_bytes}
+use Rattle.trace_text.specs.Parts.{most_shards, own_parts}
+use Rattle.trace_text.specs.PartCounts.{here_parts, reply_bytes}
 use Rattle.trace_text.specs.Reading.{most_replies}
 use Rattle.trace_text.specs.Trace.{trace_with}
 use Rattle.trace_text.specs.inside.Routes.{AreIssued, AreOwned}

@@ -1,0 +1,18 @@
+-- The limits of a tree.
+use Rattle.std.specs.Prelude.{ℕ}
+
+-- the fewest entries of a node that is not the root
+abbrev pub fewest_entries : ℕ
+fewest_entries = 8
+
+-- the most spare nodes
+abbrev pub most_spares : ℕ
+most_spares = 8
+
+-- the most levels of a tree
+abbrev pub most_levels : ℕ
+most_levels = 6
+
+-- the most segments
+abbrev pub most_segments : ℕ
+most_segments = 2048

@@ -1,0 +1,12 @@
+use Rattle.std.proofs.lemmas.Result.{IfOk-from_err}
+use Rattle.text_lemmas.proofs.Written.{Writes-exit, Writes-last}
+use Rattle.report_text.proofs.journal_texts.finish_journal.Goals as goal
+
+pub returns-in_err-put_journal : goal.returns-in_err-put_journal
+returns-in_err-put_journal g c = record {
+  wrote = Writes-exit _ c.from_residual.ensures.1 c.in_err-put_journal.ensures;
+  empty = IfOk-from_err _ _ c.from_residual.ensures.0;
+}
+
+pub returns : goal.returns
+returns g c = record { wrote = Writes-last c.in_ok-put_journal.ensures c.flush.ensures.wrote; empty = c.flush.ensures.empty }

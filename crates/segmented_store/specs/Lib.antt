@@ -1,0 +1,3 @@
+pub mod Ranged
+pub mod Room
+pub mod Segments
