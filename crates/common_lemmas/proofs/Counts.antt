@@ -1,7 +1,9 @@
 -- How often a list has a number.
-use Rattle.std.proofs.Common.{◌≡◌, ◌≢◌, ℕ, zero, suc, ◌+◌, ◌≤◌, inl, inr, Bool, true, false, List, [], ◌∷◌, length, filter, cond, eqb, IsPermutation, refl, sym, ap, subst, ◌∙◌, arith}
+use Rattle.std.proofs.Common.{◌≡◌, ◌≢◌, ℕ, zero, suc, ◌+◌, ◌≤◌, inl, inr, Bool, true, false, List, [], ◌∷◌, length, map, filter, cond, eqb, IsPermutation, refl, sym, ap, subst, ◌∙◌, arith}
+use Rattle.std.specs.Prelude.{All}
 use Rattle.std.proofs.lemmas.Bool.Decides.{nat_tests, eqb_tells}
 use Rattle.std.proofs.lemmas.Bool.{cases_eq}
+use Rattle.std.proofs.lemmas.List.Elements.{All-nil, All-cons}
 use Rattle.std.proofs.lemmas.List.Sorted.{IsPermutation-refl, IsPermutation-cons, IsPermutation-swap, IsPermutation-trans}
 use Rattle.common_lemmas.specs.Lists.{times, delete}
 
@@ -16,6 +18,13 @@ times_there x y xs h = grind (arith, nat_tests)
 
 pub times_cons_le : (x y : ℕ) (xs : List ℕ) → times x xs ≤ times x (y ∷ xs)
 times_cons_le x y xs = grind (arith, nat_tests)
+
+-- what holds of each number that some things have holds of all of them
+pub all_numbered : {X : Type 0} (number : X → ℕ) (P : ℕ → Type 0) (xs : List X) → ((n : ℕ) → 1 ≤ times n (map number xs) → P n) → All (λ x. P (number x)) xs
+all_numbered number P [] is = All-nil (λ x. P (number x))
+all_numbered number P (x ∷ xs) is =
+    All-cons (λ x. P (number x)) x xs (is (number x) (let h = times_here (number x) (map number xs) in omega (arith, h)))
+    (all_numbered number P xs (λ n h. is n (let more = times_cons_le n (number x) (map number xs) in omega (arith, more, h))))
 
 pub delete_here : (x : ℕ) (xs : List ℕ) → delete x (x ∷ xs) ≡ xs
 delete_here x xs = elim (eqb_tells x x) [ inl h ↦ ap (λ b. cond b xs (x ∷ delete x xs)) h.0 | inr h ↦ absurd (h.1 refl) ]

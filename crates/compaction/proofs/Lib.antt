@@ -1,5 +1,6 @@
 pub mod Moves
 pub mod Shut
+pub mod Copies
 pub mod Drains
 pub mod Chosen
 pub mod Full

@@ -11,7 +11,6 @@ pub(crate) fn is_any_sparse(region: &Region) -> bool
     ensures none { result ≡ false → AreDense region.now }
     ensures some { result ≡ true → (n : ℕ) × IsClosed region.now n × IsSparse region.now n }
 {
-    region.facts();
     for group in 0..region.groups() {
         if region.sparse_segments(group) > 0 {
             return true;
@@ -25,7 +24,6 @@ pub(crate) fn sparsest(region: &Region) -> Option<u32>
     ensures none { IsNone result → (n : ℕ) → IsMovable region.now n → IsDense region.now n }
     ensures some { IfSome result (IsSparsest (IsMovable region.now) region.now) }
 {
-    region.facts();
     let mut found = None;
     for group in 0..region.groups() {
         found = sparsest_with(region, group, found);

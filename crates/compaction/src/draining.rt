@@ -97,12 +97,12 @@ pub(crate) fn drain<M: Movers>(region: &mut Region, movers: &mut M, group: u32, 
     ensures took { Took group source region.old region.new }
 {
     let mut from = 0;
-    while let Some((at, kind, size)) = region.next_live(source, from) {
+    while let Some(found) = region.next_live(source, from) {
         let place = Place {
             segment: source,
-            at,
+            at: found.at,
         };
-        take_out(region, movers, group, place, kind, size);
-        from = at + size;
+        take_out(region, movers, group, place, found.kind, found.size);
+        from = found.at + found.size;
     }
 }

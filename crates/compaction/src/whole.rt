@@ -1,9 +1,9 @@
 //! Segments are emptied until two are free or none is sparse.
-ghost use Rattle.std.specs.Prelude.{◌≡◌, ◌↔◌, ◌⊎◌, ℕ, ◌<◌, ◌≤◌, true, false, List, Some, IsNone, IfSome};
+ghost use Rattle.std.specs.Prelude.{◌≡◌, ◌↔◌, ◌⊎◌, ℕ, ◌+◌, ◌-◌, ◌*◌, ◌<◌, ◌≤◌, true, false, List, Some, IsNone, IfSome};
 ghost use Rattle.layout.specs.Sizes as sizes;
 ghost use Rattle.regions.specs.Segments.{RegionState};
-ghost use Rattle.regions.specs.Shapes.{active_of, guards_of, free_count, HasGroup, IsUnguarded};
-ghost use Rattle.regions.specs.Counts.{used_total, left};
+ghost use Rattle.regions.specs.Shapes.{active_of, guards_of, group_count, held_count, free_count, HasGroup, IsUnguarded};
+ghost use Rattle.regions.specs.Counts.{used_total, live_total, left};
 ghost use Rattle.regions.specs.Contents.{live_at};
 ghost use Rattle.regions.specs.Stores.{store_of};
 ghost use Rattle.compaction.specs.Sparse.{IsCompacted, IsDense, IsSpent};
@@ -19,7 +19,9 @@ use regions::{Movers, Region};
 /// emptied. A segment is free before and after.
 ///
 /// `Guarded` where any group has a guard, and then nothing changed. `NoneSparse` only where nothing is left to compact: every
-/// closed segment is dense, each active one is dense or has room for an object of any size, and at most one is free.
+/// closed segment is dense, each active one is dense or has room for an object of any size, and at most one is free. Then all
+/// segments are dense but one and one for each group, and where some group has too little room or no active segment, all but
+/// one for each group.
 pub fn pass<M: Movers>(region: &mut Region, movers: &mut M) -> Compacted
     requires fits { M.fits movers.old (live_at region.old) }
     requires free { 1 ≤ free_count region.old }
@@ -29,6 +31,10 @@ pub fn pass<M: Movers>(region: &mut Region, movers: &mut M) -> Compacted
     ensures unchanged { result ≡ Compacted.Guarded → (region.new ≡ region.old) × (movers.new ≡ movers.old) }
     ensures freed { result ≡ Compacted.Freed → 2 ≤ free_count region.new }
     ensures none { result ≡ Compacted.NoneSparse → IsCompacted region.new }
+    ensures most { result ≡ Compacted.NoneSparse
+        → (held_count region.new - 1 - group_count region.new) * (sizes.dense + 1) ≤ live_total region.new }
+    ensures full { result ≡ Compacted.NoneSparse → (g : ℕ) → HasGroup region.new g → left region.new g < sizes.greatest_object
+        → (held_count region.new - group_count region.new) * (sizes.dense + 1) ≤ live_total region.new }
     ensures enough { IsUnguarded region.old → 2 ≤ free_count region.old
         → (result ≡ Compacted.Freed) × (region.new ≡ region.old) × (movers.new ≡ movers.old) }
 

@@ -9,9 +9,9 @@ use Rattle.std.proofs.lemmas.List.Concat.{flat_map-append}
 use Rattle.rows.specs.Row.{Row, live}
 use Rattle.dirty_region.specs.Queues.{Queue, line}
 use Rattle.dirty_mode.specs.DirtyText.{Flushed, going, staying, line_text, text_of}
-use Rattle.dirty_region.specs.State.{DirtyState}
+use Rattle.dirty_region.specs.State.{DirtyState, Keeps}
 use Rattle.text_lemmas.specs.Writing.{Output, Writes, Goes}
-use Rattle.dirty_mode.specs.inside.Held.{whole, Keeps}
+use Rattle.dirty_mode.specs.inside.Held.{whole}
 use Rattle.text_lemmas.proofs.Written.{Goes-next, Goes-stop, Goes-done}
 
 -- the text of puts that are flushed

@@ -8,7 +8,8 @@ ghost use Rattle.regions.specs.Shapes.{held_count};
 ghost use Rattle.segmented_store.specs.Room as bound;
 ghost use Rattle.dirty_mode.specs.DirtyText.{text_of, lines_of, puts_after, lines_from, put_count};
 ghost use Rattle.text_lemmas.specs.Writing.{Writes};
-ghost use Rattle.dirty_mode.specs.inside.Held.{whole, Keeps};
+ghost use Rattle.dirty_region.specs.State.{Keeps};
+ghost use Rattle.dirty_mode.specs.inside.Held.{whole};
 
 use crate::answers::{write_get, write_passed};
 use crate::flushes::{flush_all, flush_for};

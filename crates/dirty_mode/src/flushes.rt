@@ -3,7 +3,8 @@ ghost use Rattle.std.specs.Prelude.{◌≡◌, ◌↔◌, ◌-◌, ◌<◌, ◌�
 ghost use Rattle.rows.specs.Row.{live};
 ghost use Rattle.dirty_mode.specs.DirtyText.{text_of, going, staying, Flushed};
 ghost use Rattle.text_lemmas.specs.Writing.{Writes};
-ghost use Rattle.dirty_mode.specs.inside.Held.{whole, Keeps};
+ghost use Rattle.dirty_region.specs.State.{Keeps};
+ghost use Rattle.dirty_mode.specs.inside.Held.{whole};
 
 use dirty_region::Dirty;
 use outside::{Failed, Sink};

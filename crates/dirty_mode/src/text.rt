@@ -1,17 +1,17 @@
 //! What is written of a trace.
 ghost use Rattle.std.specs.Prelude.{◌≡◌, ◌≤◌, ◌++◌, [], codes, decimal, IfOk, OnOk, OnErr};
 ghost use Rattle.std.specs.Io.KnownBytes.{Appends};
-ghost use Rattle.outside.specs.Moves.{AppendsFront};
+ghost use Rattle.outside.specs.Moves.{AppendsFront, Sends};
 ghost use Rattle.layout.specs.Counts.{Rose};
 ghost use Rattle.trace_text.specs.Parsed.{trace_in};
 ghost use Rattle.layout.specs.Sizes.{ArePages, greatest_object};
 ghost use Rattle.regions.specs.Shapes.{held_count};
 ghost use Rattle.segmented_store.specs.Room as bound;
-ghost use Rattle.segmented_store.specs.Segments.{HoldsSegments};
 ghost use Rattle.dirty_mode.specs.DirtyText.{dirty_text, text_of, lines_from, put_count};
 ghost use Rattle.dirty_mode.specs.Stores.{IsEmpty};
 ghost use Rattle.text_lemmas.specs.Writing.{Writes};
-ghost use Rattle.dirty_mode.specs.inside.Held.{whole, Keeps};
+ghost use Rattle.dirty_region.specs.State.{Keeps};
+ghost use Rattle.dirty_mode.specs.inside.Held.{whole};
 
 use crate::answers::write_count;
 use crate::commands::do_commands;
@@ -65,21 +65,14 @@ pub fn write_dirty<K: Sink>(
     requires empty { IsEmpty store.old }
     requires room { put_count (trace_in trace.now) ≤ store.old.dirty.room }
 
-    // The whole text, or a front of it.
-    ensures written { OnOk result (Appends (K.written sink.old) (K.written sink.new)
-        (dirty_text (trace_in trace.now) store.old.pages)) }
-    ensures front { OnErr result (AppendsFront (K.written sink.old) (K.written sink.new)
-        (dirty_text (trace_in trace.now) store.old.pages)) }
-
-    // It fails only where the sink does.
-    ensures failed { OnErr result (Rose (K.faults sink.old) (K.faults sink.new)) }
-    ensures never_falls { K.faults sink.old ≤ K.faults sink.new }
+    // The whole text, or a front of it, and then the sink failed.
+    ensures sent { Sends K.written K.faults sink.old sink.new result
+        (dirty_text (trace_in trace.now) store.old.pages) }
 
     // All puts are flushed, and the memory is as it was.
     ensures empty { OnOk result (IsEmpty store.new) }
     ensures pages { store.new.pages ≡ store.old.pages }
-    ensures room { store.new.dirty.room ≡ store.old.dirty.room }
-    ensures segments { HoldsSegments store.old.dirty.region store.new.dirty.region }
+    ensures kept { Keeps store.old.dirty store.new.dirty }
 {
     let mut out = Writer::new(sink);
     let written = write_on(&mut store.ranged, trace, &mut out);

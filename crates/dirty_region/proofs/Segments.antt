@@ -17,7 +17,7 @@ use Rattle.dirty_region.specs.inside.Indexed.{IsIndexOf}
 use Rattle.dirty_region.specs.inside.Consistent.{HasSpare, IsStored}
 use Rattle.dirty_region.proofs.Rings.{some_none}
 use Rattle.dirty_region.proofs.Stored.{segments_same}
-use Rattle.dirty_region.proofs.Indexes.{Moves}
+use Rattle.dirty_region.proofs.Indexes.{moves}
 
 -- ---- where no object changes
 
@@ -146,9 +146,9 @@ spare_emptied r new spare most groups free = record {
 pub no_puts_left : (ring : RingState) (l : Live) → ring.count ≡ 0 → puts_in ring l ≡ []
 no_puts_left ring l none = ap (listed (nth ring l)) none
 
-pub stored_emptied : (ring : RingState) (index : PutRows) (r s : RegionState) (bytes : ℕ) → IsStored ring index r bytes → ring.count ≡ 0 → Moves index → ((p : Place) → standing_at s p ≡ None)
+pub stored_emptied : (ring : RingState) (index : PutRows) (r s : RegionState) (bytes : ℕ) → IsStored ring index r bytes → ring.count ≡ 0 → ((p : Place) → standing_at s p ≡ None)
     → live_total s ≡ 0 → HasSpare s → IsStored ring index s bytes
-stored_emptied ring index r s bytes h none moves objects total spare =
+stored_emptied ring index r s bytes h none objects total spare =
     let old = ap live (no_puts_left ring (live_at r) none) in let sizes = h.sizes in let counted = h.counted in record {
       ring_of = record {
         numbers = h.ring_of.numbers;
@@ -157,7 +157,8 @@ stored_emptied ring index r s bytes h none moves objects total spare =
       };
       index_of = record {
         room = h.index_of.room;
-        keyed = moves (key_at (live_at r) ring.places) (key_at (live_at s) ring.places) (λ n has. absurd (let w = h.index_of.has.only n has in let l = w.2 in omega (arith, l, none))) h.index_of.keyed;
+        keyed = moves index (key_at (live_at r) ring.places) (key_at (live_at s) ring.places) (λ n has. absurd (let w = h.index_of.has.only n has in let l = w.2 in omega (arith, l, none))) h.index_of.keyed;
+        once = h.index_of.once;
         has = record {
           only = λ n has. absurd (let w = h.index_of.has.only n has in let l = w.2 in omega (arith, l, none));
           those = λ k low high. absurd (omega (arith, high, none));

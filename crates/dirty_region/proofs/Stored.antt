@@ -22,7 +22,7 @@ use Rattle.dirty_region.specs.inside.Consistent.{HasSpare, IsStored, IsConsisten
 use Rattle.dirty_region.proofs.Listed.{listed_same, length-listed}
 use Rattle.dirty_region.proofs.Rings.{some_same, some_none, put_is, ring_popped, puts_popped}
 use Rattle.dirty_region.proofs.Moving.{place_there, of_some}
-use Rattle.dirty_region.proofs.Indexes.{Moves, index_popped, keyed_elsewhere, newest_same}
+use Rattle.dirty_region.proofs.Indexes.{index_popped, keyed_elsewhere, newest_same, once_none}
 
 -- ---- the segments
 
@@ -68,8 +68,8 @@ segments_grown r m s h same =
 pub stored_popped : (r : RingState) (index : PutRows) (old new : RegionState) (bytes left gone : ℕ) (p : Place) → IsRingOf r (live_at old) → 1 ≤ r.count
     → live (puts_in r (live_at old)) ≡ live_total old → bytes ≡ live_total old → HasSpare old → slice_get r.places (slot r 0) ≡ Some p → Drops p (live_at old) (live_at new)
     → IfSome (live_at old p) (λ item. gone ≡ size_of item) → live_total new + gone ≡ live_total old → shape new ≡ shape old → left ≡ bytes - gone
-    → Moves index → IsIndexBehind r (live_at old) index → IsStored (popped r) index new left
-stored_popped r index old new bytes left gone p of some sizes counted spare here drops is_size total same less moves by =
+    → IsIndexBehind r (live_at old) index → IsStored (popped r) index new left
+stored_popped r index old new bytes left gone p of some sizes counted spare here drops is_size total same less by =
     let popped_is = ring_popped r (live_at old) (live_at new) p of some here drops in
     let least : 0 < r.count = omega (arith, some) in
     let first = of.puts 0 least in
@@ -81,7 +81,7 @@ stored_popped r index old new bytes left gone p of some sizes counted spare here
     let sum = sum_by-cons (λ (x : Row). size x.key x.value) (nth r (live_at old) 0) (puts_in (popped r) (live_at new)) in
     record {
       ring_of = popped_is.ring_of;
-      index_of = index_popped r (live_at old) (live_at new) index of.numbers moves popped_is by;
+      index_of = index_popped r (live_at old) (live_at new) index of.numbers popped_is by;
       counted = omega (arith, counted, total, less);
       sizes = omega (arith, sizes, total, one, split, sum);
       spare = spare_same old new same spare;
@@ -109,13 +109,13 @@ pub puts_moved : (r u : RingState) (l m : Live) → IsRingOf r l → IsRingOf u 
 puts_moved r u l m of now rest same =
     ap (λ n. listed (nth u m) n) (ap (λ (x : RingState). x.count) rest) ∙ listed_same (nth u m) (nth r l) r.count (put_moved_on r u l m of now rest same)
 
-pub index_moved : (r u : RingState) (l m : Live) (index : PutRows) → Moves index → IsRingOf r l → IsRingOf u m → apart_from_places u ≡ apart_from_places r
+pub index_moved : (r u : RingState) (l m : Live) (index : PutRows) → IsRingOf r l → IsRingOf u m → apart_from_places u ≡ apart_from_places r
     → ((n : ℕ) → store_of bare (place_of u) m n ≡ store_of bare (place_of r) l n) → IsIndexOf r l index → IsIndexOf u m index
-index_moved r u l m index moves of now rest same by =
+index_moved r u l m index of now rest same by =
     let count : u.count ≡ r.count = ap (λ (x : RingState). x.count) rest in
     let keys : (k : ℕ) → k < r.count → nth_key u m k ≡ nth_key r l k = λ k low. ap (λ (x : Row). x.key) (put_moved_on r u l m of now rest same k low) in
     subst (λ n. IsKeyedBy u m 0 n (IsNewest u m) index) (sym count)
-    (keyed_elsewhere r u l m 0 r.count (IsNewest r l) (IsNewest u m) index moves (ap (λ (x : RingState). x.room) rest) (λ k. ap (λ (x : RingState). slot x k) rest) keys
+    (keyed_elsewhere r u l m 0 r.count (IsNewest r l) (IsNewest u m) index (ap (λ (x : RingState). x.room) rest) (λ k. ap (λ (x : RingState). slot x k) rest) keys
     (λ k low high. newest_same r u l m k count high keys) by)
 
 pub spare_made : (r s : RegionState) (size : ℕ) → HoldsTheSame r s → HasSpare r → 1 ≤ size → size ≤ left s 0 → 1 ≤ free_count s → HasSpare s
@@ -173,6 +173,7 @@ consistent_new ring index r rows n is_ring small is_region most room none keyed 
         index_of = record {
           room = room;
           keyed = keyed (key_at (live_at s) (no_puts rows).places);
+          once = once_none index none;
           has = record {
             only = λ m h. absurd (none m h);
             those = λ k low high. absurd (omega (arith, high));

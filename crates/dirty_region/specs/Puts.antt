@@ -1,15 +1,12 @@
 -- Where the puts of a dirty region stand, and what stands there.
 use Rattle.std.specs.Prelude.{◌≡◌, ℕ, ◌+◌, ◌%◌, ◌^◌, ◌<◌, List, length, Option, Some, slice_get}
+pub use Rattle.layout.specs.Kinds.{dirty_kind}
 use Rattle.rows.specs.Row.{Row}
 use Rattle.row_bytes.specs.Rows.{row_bytes}
 use Rattle.row_bytes.specs.declared.links.Links.{Links}
 use Rattle.regions.specs.Segments.{RegionState}
 use Rattle.regions.specs.Contents.{Item, live_at}
 use Rattle.regions.specs.declared.place.Place.{Place}
-
--- the kind of an object that holds a dirty put
-abbrev pub dirty_kind : ℕ
-dirty_kind = 4
 
 -- the links of a dirty put, which has no neighbours
 abbrev pub unlinked : Links

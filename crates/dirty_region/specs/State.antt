@@ -1,6 +1,7 @@
 -- A dirty region, as its contracts see it.
-use Rattle.std.specs.Prelude.{ℕ, List, [], ◌∷◌, ◌++◌}
+use Rattle.std.specs.Prelude.{◌≡◌, ℕ, List, [], ◌∷◌, ◌++◌}
 use Rattle.regions.specs.Segments.{RegionState}
+use Rattle.segmented_store.specs.Segments.{HoldsSegments}
 use Rattle.dirty_region.specs.Queues.{Queue}
 
 -- for how many puts it has room, the queue for which it stands, the position of the oldest put among all puts that ever came, modulo
@@ -10,6 +11,11 @@ pub record DirtyState : Type 0 where
   pub queue : Queue
   pub first : ℕ
   pub region : RegionState
+
+-- the room and the segments are as they were
+pub record Keeps (old new : DirtyState) : Type 0 where
+  pub room : new.room ≡ old.room
+  pub segments : HoldsSegments old.region new.region
 
 -- no put
 abbrev pub empty : Queue

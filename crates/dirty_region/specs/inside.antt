@@ -3,5 +3,4 @@ pub mod Rings
 pub mod PutRows
 pub mod Indexed
 pub mod Consistent
-pub mod NewPuts
 pub mod Lines

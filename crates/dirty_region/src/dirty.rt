@@ -8,8 +8,7 @@ ghost use Rattle.regions.specs.Shapes.{held_count};
 ghost use Rattle.segmented_store.specs.Room as bound;
 ghost use Rattle.dirty_region.specs.Puts.{Stand};
 ghost use Rattle.dirty_region.specs.Queues.{Queue, line, newest, rest, IsQueue};
-ghost use Rattle.segmented_store.specs.Segments.{HoldsSegments};
-ghost use Rattle.dirty_region.specs.State.{empty, with_put};
+ghost use Rattle.dirty_region.specs.State.{empty, with_put, Keeps};
 ghost use Rattle.dirty_region.specs.declared.refusal.DirtyRefusal.{DirtyRefusal};
 
 mod flushing;
@@ -17,7 +16,6 @@ mod segments;
 mod storing;
 
 use crate::line::GREATEST_LINE;
-use crate::objects::NewPut;
 use crate::put_index::PutIndex;
 use crate::put_keys::content_of;
 use crate::refusal::DirtyRefusal;
@@ -25,7 +23,7 @@ use crate::ring::Ring;
 use crate::seeking::{forget, new_index, search};
 use raw_range::Piece;
 use regions::Region;
-use row_bytes::{row_size, value_in};
+use row_bytes::{NewRow, row_size, value_in};
 use segmented_store::{Segmented, room};
 use std::alloc::{AllocError, Global};
 use std::marker::Model;
@@ -70,7 +68,7 @@ impl Dirty {
     /// # Errors
     /// `AllocError` where memory is not found. No other call takes memory.
     pub fn new(alloc: Global, rows: u32, segments: u32) -> Result<Dirty, AllocError>
-        requires segments { segments ≤ 2048 }
+        requires segments { segments ≤ sizes.most_segments }
         ensures room { IfOk result (λ d. d.room ≡ rows) }
         ensures empty { IfOk result (λ d. d.queue ≡ empty) }
         ensures first { IfOk result (λ d. d.first ≡ 0) }
@@ -117,8 +115,7 @@ impl Dirty {
 
         // The oldest put's position, the room and the segments are as they were.
         ensures first { self.new.first ≡ self.old.first }
-        ensures room { self.new.room ≡ self.old.room }
-        ensures segments { HoldsSegments self.old.region self.new.region }
+        ensures kept { Keeps self.old self.new }
     {
         if self.ring.len() == self.ring.room() {
             return Err(DirtyRefusal::TooMany);
@@ -129,7 +126,7 @@ impl Dirty {
         }
         make_way(&mut self.region, &mut self.ring, &self.index, size);
         let spot = forget(&mut self.index, &self.ring, &self.region, key);
-        let put = NewPut { key, value, number };
+        let put = NewRow { key, value, number };
         add_put(&mut self.region, &mut self.ring, &mut self.index, spot, put);
         self.live += u64::from(size);
         Ok(())
@@ -169,6 +166,7 @@ impl Dirty {
         ensures live { live self.now.queue.puts ≡ live_total self.now.region }
         ensures stand { Stand self.now.first self.now.queue.puts self.now.region }
     {
+        // What always holds of the fields is known where one of them is used.
         let _ = &self.ring;
     }
 }

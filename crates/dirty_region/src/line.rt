@@ -16,9 +16,9 @@ pub(crate) const GREATEST_LINE: usize = GREATEST_KEY + GREATEST_VALUE + 6;
 pub(crate) fn make_line(text: &mut Vec<u8>, key: &[u8], value: &[u8])
     requires short_key { length key.now ≤ greatest_key }
     requires short_value { length value.now ≤ greatest_value }
-    requires room { greatest_line ≤ vec_capacity text.old }
+    requires capacity { greatest_line ≤ vec_capacity text.old }
     ensures line { text.new.items ≡ line (record { key = key.now; value = value.now; number = 0 }) }
-    ensures room { greatest_line ≤ vec_capacity text.new }
+    ensures capacity { greatest_line ≤ vec_capacity text.new }
 {
     text.clear();
     text.extend_from_slice(b"put ").unwrap();

@@ -3,51 +3,40 @@ ghost use Rattle.std.specs.Prelude.{◌≡◌, ◌+◌, ◌≤◌, ◌<◌, ◌�
 ghost use Rattle.layout.specs.Sizes.{descriptor};
 ghost use Rattle.rows.specs.Row.{size};
 ghost use Rattle.object_log.specs.Objects.{IsSize};
+ghost use Rattle.row_bytes.specs.NewRows.{row_of, CanStand};
 ghost use Rattle.row_bytes.specs.Rows as rows;
 ghost use Rattle.regions.specs.Shapes.{shape, HasGroup};
 ghost use Rattle.regions.specs.Counts.{left, live_total};
 ghost use Rattle.regions.specs.Contents.{live_at, size_of, standing_at, zeros, ChangesAt};
 ghost use Rattle.dirty_region.specs.Puts.{dirty_kind, unlinked};
 ghost use Rattle.dirty_region.specs.inside.Rings.{HoldsAPut, AddsPut, Drops};
-ghost use Rattle.dirty_region.specs.inside.NewPuts.{row_of, CanStand};
 
-use layout::DESCRIPTOR;
+use layout::{DESCRIPTOR, ObjectKind};
 use regions::{Place, Region};
-use row_bytes::{Links, row_size, write_row};
-
-// The kind of an object that holds a dirty put.
-const DIRTY: u8 = 4;
+use row_bytes::{Links, NewRow, row_size, write_row};
 
 // The links of a put, which nobody reads: it has no neighbours. They are 0, and not the link that a row of a cache has
 // where it has none.
 const UNLINKED: Links = Links { newer: 0, older: 0 };
 
-// A put as it comes: a key, its value and the number of the put.
-#[derive(Clone, Copy)]
-pub(crate) struct NewPut<'a> {
-    pub(crate) key: &'a [u8],
-    pub(crate) value: &'a [u8],
-    pub(crate) number: u32,
-}
-
 // A new object that is to hold a put, and whose content is zero: there is room for it.
 fn new_object(region: &mut Region, size: u32) -> Place
     requires group { HasGroup region.old 0 }
     requires size { IsSize size }
-    requires room { size ≤ left region.old 0 }
+    requires left { size ≤ left region.old 0 }
     ensures unused { standing_at region.old result ≡ None }
     ensures added { ChangesAt result (Some (zeros (Some 0) dirty_kind size)) region.old region.new }
     ensures live { live_total region.new ≡ live_total region.old + size }
     ensures shape { shape region.new ≡ shape region.old }
 {
-    let Ok(place) = region.place(0, DIRTY, size) else {
+    let Ok(place) = region.place(0, ObjectKind::Dirty as u8, size) else {
         unreachable!()
     };
     place
 }
 
 // Writes a put with its position into the content of a new object.
-fn write_put(content: &mut [u8], position: u32, put: NewPut<'_>)
+fn write_put(content: &mut [u8], position: u32, put: NewRow<'_>)
     requires put { CanStand put }
     requires size { length content.old + descriptor ≡ size put.key.now put.value.now }
     requires zero { content.old ≡ replicate (length content.old) 0 }
@@ -60,10 +49,10 @@ fn write_put(content: &mut [u8], position: u32, put: NewPut<'_>)
 }
 
 // Places a put as a new object with its position, for which there is room.
-pub(crate) fn place_put(region: &mut Region, position: u32, put: NewPut<'_>) -> Place
+pub(crate) fn place_put(region: &mut Region, position: u32, put: NewRow<'_>) -> Place
     requires group { HasGroup region.old 0 }
     requires put { CanStand put }
-    requires room { size put.key.now put.value.now ≤ left region.old 0 }
+    requires left { size put.key.now put.value.now ≤ left region.old 0 }
     ensures added { AddsPut result position (row_of put.entry) (live_at region.old) (live_at region.new) }
     ensures live { live_total region.new ≡ live_total region.old + size put.entry.key.now put.entry.value.now }
     ensures shape { shape region.new ≡ shape region.old }

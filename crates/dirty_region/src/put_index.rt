@@ -121,17 +121,6 @@ impl PutIndex {
         }
         take_stray(&mut self.strays, keys, key, found.row)
     }
-
-    // What holds of each index, whoever keeps the keys of its rows: it stays the index of its rows where keys are moved.
-    pub(crate) fn law(&self)
-        ensures moved { (before after : ℕ → List ℕ) → ((n : ℕ) → Has self.now n → after n ≡ before n)
-            → IsKeyed before self.now → IsKeyed after self.now }
-        ensures once { (n : ℕ) → times n (rows_in self.now) ≤ 1 }
-        ensures low { (n : ℕ) → Has self.now n → n < self.now.room }
-    {
-        self.table.law();
-        self.strays.law();
-    }
 }
 
 // Marks for so many numbers, none of which a row has.
@@ -171,7 +160,6 @@ fn take_stray<K: Keys>(strays: &mut KeyIndex, keys: &K, key: &[u8], row: u32) ->
     if strays.len() == 0 {
         return false;
     }
-    strays.law();
     let Ok(found) = strays.search(keys, key) else {
         return false;
     };

@@ -46,7 +46,6 @@ pub(crate) fn forget(index: &mut PutIndex, ring: &Ring, region: &Region, key: &[
     ensures spot { IsSpotFor key.now result }
     ensures index { IsIndexBut key.now ring.now (live_at region.now) index.new }
 {
-    index.law();
     let found = match search(index, ring, region, key) {
         Ok(found) => found,
         Err(spot) => return spot,
@@ -62,7 +61,6 @@ pub(crate) fn forget_oldest(index: &mut PutIndex, ring: &Ring, region: &Region)
     requires index { IsIndexOf ring.now (live_at region.now) index.old }
     ensures { IsIndexBehind ring.now (live_at region.now) index.new }
 {
-    index.law();
     let slot = ring.slot(0);
     let key = key_in(content_of(region, ring.places(), slot));
     index.remove_row(&keys(ring, region), key, slot);
@@ -76,7 +74,6 @@ pub(crate) fn enter(index: &mut PutIndex, ring: &Ring, region: &Region, spot: Sp
     requires index { IsIndexBefore ring.now (live_at region.now) index.old }
     ensures { IsIndexOf ring.now (live_at region.now) index.new }
 {
-    index.law();
     let slot = ring.slot(ring.len() - 1);
     index.insert(&keys(ring, region), spot, slot);
 }

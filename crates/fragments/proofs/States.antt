@@ -37,6 +37,7 @@ active_guarded r g guards = elim (cases_eq 0 g) [
 pub consistent_guarded : (t : TableState) (r s : RegionState) (lengths : List ℕ) (segments bytes g guards : ℕ) → IsConsistent t r lengths segments bytes → s ≡ with_guards r g guards
     → IsConsistent t s lengths segments bytes
 consistent_guarded t r s lengths segments bytes g guards i is = subst (λ (x : RegionState). IsConsistent t x lengths segments bytes) (sym is) (record {
+  entries = i.entries;
   one = length-set r.groups g _ ∙ i.one;
   few = i.few;
   chains = i.chains;
@@ -92,6 +93,7 @@ consistent_set t u r s lengths now segments bytes after n o i entries entries_no
     let sum_is = live_set (values_in t r) n o small in let were = i.sizes in (
       read,
       record {
+        entries = entries_now;
         one = keeps.groups ∙ i.one;
         few = subst (λ k. k ≤ 2048) (sym keeps.most) i.few;
         chains = chains;
@@ -200,6 +202,7 @@ consistent_more t r s lengths segments bytes i entries keeps groups most held fr
     let values = values_kept t r s lengths segments bytes i entries keeps in
     let were = i.held in let within = i.within in
     record {
+      entries = entries;
       one = groups ∙ i.one;
       few = subst (λ k. k ≤ 2048) (sym most) i.few;
       chains = chains_kept t (live_at r) (live_at s) same i.chains;
@@ -257,6 +260,7 @@ module _ (t : TableState) (r : RegionState) (lengths : List ℕ) (segments : ℕ
 
   pub empty_consistent : IsConsistent t r lengths segments 0
   empty_consistent = record {
+    entries = entries;
     one = one;
     few = small;
     chains = empty_chains;

@@ -2,14 +2,11 @@
 use Rattle.std.specs.Prelude.{◌≡◌, ℕ, ◌+◌, ◌-◌, ◌^◌, ◌<◌, ◌≤◌, List, [], ◌++◌, length, take, drop, replicate, Some}
 use Rattle.byteorder.specs.Endian.{little_number, little_bytes}
 use Rattle.layout.specs.Sizes.{descriptor}
+pub use Rattle.layout.specs.Kinds.{fragment_kind}
 use Rattle.regions.specs.Contents.{Item}
 use Rattle.regions.specs.declared.place.Place.{Place}
 use Rattle.regions.specs.Places.{leads_to}
 use Rattle.fragments.specs.Sizes.{header, places_size, fragment_bytes, object_size}
-
--- the kind of an object that holds a fragment
-abbrev pub fragment_kind : ℕ
-fragment_kind = 2
 
 -- Behind the two links: the name and the length in four bytes each, the bytes, and zero bytes up to the size. The lowest byte
 -- of a number stands first.

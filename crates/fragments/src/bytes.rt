@@ -18,9 +18,6 @@ pub const FRAGMENT_BYTES: usize = 12_264;
 /// The most fragments of a value.
 pub const MOST_FRAGMENTS: usize = 86;
 
-/// The kind of an object that holds a fragment.
-pub(crate) const FRAGMENT: u8 = 2;
-
 /// The link to no fragment.
 pub(crate) const NO_LINK: u64 = 18_446_744_073_709_551_615;
 

@@ -11,16 +11,15 @@ ghost use Rattle.regions.specs.Places as place_links;
 ghost use Rattle.fragments.specs.Fragment as fragments;
 ghost use Rattle.fragments.specs.inside.Linking as linking;
 
-use crate::bytes::{
-    FRAGMENT, back_in, name_in, next_in, object_size, set_back, set_next, write_fragment,
-};
+use crate::bytes::{back_in, name_in, next_in, object_size, set_back, set_next, write_fragment};
+use layout::ObjectKind;
 use regions::{Place, Region, led_to, link_to};
 
 // The group of all fragments.
 pub(crate) const GROUP: u32 = 0;
 
 // The number of a place's segment has 32 bits.
-pub(crate) fn segment_fits(place: Place)
+fn segment_fits(place: Place)
     ensures { place.segment < 2 ^ 32 }
 {}
 
@@ -40,10 +39,11 @@ pub(crate) fn next_of(region: &Region, at: Place) -> Option<Place>
     led_to(next_in(region.bytes(at)))
 }
 
-// The name of the fragment at a place.
+// The name of the fragment at a place, whose numbers are small.
 pub(crate) fn name_of(region: &Region, at: Place) -> u32
     requires { linking.HoldsAFragment (live_at region.now at) }
     ensures name { IfSome (live_at region.now at) (λ item. result ≡ fragments.name_in item.content) }
+    ensures segment { at.segment < 2 ^ 32 }
     ensures inside { at.at < sizes.segment }
 {
     name_in(region.bytes(at))
@@ -112,7 +112,7 @@ pub(crate) fn place_fragment(
 ) -> Place
     requires one { group_count region.old ≡ 1 }
     requires short { length bytes.now ≤ fragment_bytes }
-    requires room { object_size (length bytes.now) ≤ left region.old 0 }
+    requires left { object_size (length bytes.now) ≤ left region.old 0 }
 
     // The fragment, where nothing lived, and that it is the only change.
     ensures absent { live_at region.old result ≡ None }
@@ -124,9 +124,10 @@ pub(crate) fn place_fragment(
     ensures live_total { live_total region.new ≡ live_total region.old + object_size (length bytes.now) }
     ensures shape { shape region.new ≡ shape region.old }
 {
-    let Ok(place) = region.place(GROUP, FRAGMENT, object_size(bytes.len())) else {
+    let Ok(place) = region.place(GROUP, ObjectKind::Fragment as u8, object_size(bytes.len())) else {
         unreachable!()
     };
+    // Of a place that was taken out of a result it is not known otherwise.
     segment_fits(place);
     write_fragment(region.bytes_mut(place), link_to(next), name, bytes);
     place

@@ -3,7 +3,7 @@ ghost use Rattle.std.specs.Prelude.{◌≡◌, ◌↔◌, ◌+◌, ◌-◌, ◌<
 ghost use Rattle.std.specs.List.{concat};
 ghost use Rattle.layout.specs.Sizes as sizes;
 ghost use Rattle.regions.specs.Segments.{segment_at, with_segment, with_guards, fresh, all_emptied, idle};
-ghost use Rattle.regions.specs.Shapes.{shape, group_count, active_of, guards_of, pieces, held_count, free_count, IsGreatestHeld, IsLeastUnused};
+ghost use Rattle.regions.specs.Shapes.{shape, group_count, active_of, guards_of, most_guards, pieces, held_count, free_count, IsGreatestHeld, IsLeastUnused};
 ghost use Rattle.regions.specs.Counts.{live_total};
 ghost use Rattle.regions.specs.Contents.{Keeps};
 ghost use Rattle.regions.specs.declared.place.Place.{Place};
@@ -25,15 +25,18 @@ use regions::Region;
 use segmented_store::{Segmented, room};
 use std::alloc::{AllocError, Global};
 use std::marker::Model;
+use thiserror::Error;
 use writing::{drop_value, set_value};
 
 /// Why a value is not set. Nothing changed.
-#[derive(Clone, Copy, Debug, PartialEq, Eq)]
+#[derive(Clone, Copy, Debug, PartialEq, Eq, Error)]
 pub enum SetRefusal {
     /// It has more than [`crate::GREATEST_VALUE`] bytes.
+    #[error("the value is too long")]
     TooLong,
     /// The bytes of all live objects and those of its own are more than the segments surely hold. The value that the name has
     /// counts as well, since the new one is written before that is dropped.
+    #[error("the segments have no room")]
     NoRoom,
 }
 
@@ -67,7 +70,7 @@ impl Fragments {
     /// `AllocError` where memory is not found. No other call takes memory.
     pub fn new(alloc: Global, names: u32, segments: u32) -> Result<Fragments, AllocError>
         requires names { names < 2 ^ 32 - 1 }
-        requires segments { segments ≤ 2048 }
+        requires segments { segments ≤ sizes.most_segments }
         ensures names { IfOk result (λ f. length f.firsts ≡ names) }
         ensures values { IfOk result (λ f. values_of f ≡ replicate names None) }
         ensures region { IfOk result (λ f. f.region ≡ record {
@@ -91,10 +94,11 @@ impl Fragments {
         ensures stands { (t : TableState) × StandsFor self.now t }
         ensures values { (n : ℕ) → values.IsShort (values.value_of (values_of self.now) n) }
         ensures live { values.live (values_of self.now) ≡ live_total self.now.region }
-        ensures room { live_total self.now.region ≤ bound.room (held_count self.now.region) }
+        ensures within { live_total self.now.region ≤ bound.room (held_count self.now.region) }
         ensures one { group_count self.now.region ≡ 1 }
     {
-        self.tables.facts();
+        // What always holds of the fields is known where one of them is used.
+        let _ = &self.tables;
     }
 
     /// The piece becomes a free segment, with the least number that no segment has. Where no segment is active it becomes the
@@ -117,7 +121,6 @@ impl Fragments {
         ensures same { IsSome (active_of self.old.region 0) → active_of self.new.region 0 ≡ active_of self.old.region 0 }
         ensures guards { guards_of self.new.region 0 ≡ guards_of self.old.region 0 }
     {
-        self.tables.facts();
         let active = self.region.active(GROUP);
         self.region.add_segment(piece);
         self.segments += 1;
@@ -147,7 +150,6 @@ impl Fragments {
         ensures beside { IfOk result (λ _. IsSetBeside self.old self.new bytes.now) }
         ensures segments { HoldsSegments self.old.region self.new.region }
     {
-        self.tables.facts();
         if is_too_long(bytes.len()) {
             return Err(SetRefusal::TooLong);
         }
@@ -157,7 +159,6 @@ impl Fragments {
         }
         let dropped = self.size_of(name);
         set_value(&mut self.region, &mut self.tables, name, bytes);
-        self.tables.facts();
         self.lengths[name as usize] = bytes.len() as u32;
         self.live = self.live + size - dropped;
         Ok(())
@@ -168,7 +169,6 @@ impl Fragments {
         ensures { MatchOption result (values.value_of (values_of self.now) name ≡ None)
             (λ pieces. values.value_of (values_of self.now) name ≡ Some (concat pieces)) }
     {
-        self.tables.facts();
         if name >= self.tables.names() {
             return None;
         }
@@ -182,7 +182,6 @@ impl Fragments {
             (λ len. IfSome (values.value_of (values_of self.now) name) (λ value. len ≡ length value)
             × IsSome (values.value_of (values_of self.now) name)) }
     {
-        self.tables.facts();
         if name >= self.tables.names() {
             return None;
         }
@@ -198,7 +197,6 @@ impl Fragments {
         ensures stay { Stay self.old.region self.new.region }
         ensures shape { shape self.new.region ≡ shape self.old.region }
     {
-        self.tables.facts();
         if name >= self.tables.names() {
             return false;
         }
@@ -207,7 +205,6 @@ impl Fragments {
         };
         let dropped = self.size_of(name);
         drop_value(&mut self.region, &mut self.tables, name);
-        self.tables.facts();
         self.live -= dropped;
         true
     }
@@ -224,7 +221,6 @@ impl Fragments {
         requires { name < length self.now.firsts }
         ensures size { result ≡ values.size_if (values.value_of (values_of self.now) name) }
     {
-        self.tables.facts();
         let Some(_place) = self.tables.first(name) else {
             return 0;
         };
@@ -241,7 +237,7 @@ impl Fragments {
 
     /// One guard more. While one stands, no fragment is moved. Guards nest.
     pub fn guard(&mut self)
-        requires { guards_of self.old.region 0 < 1000000 }
+        requires { guards_of self.old.region 0 < most_guards }
         ensures guards { self.new ≡ record self.old { region = with_guards self.old.region 0 (guards_of self.old.region 0 + 1) } }
         ensures values { values_of self.new ≡ values_of self.old }
     {
@@ -275,7 +271,6 @@ impl Fragments {
         ensures held { IsSome result → held_count self.new.region + 1 ≡ held_count self.old.region }
         ensures free { free_count self.new.region ≡ held_count self.new.region }
     {
-        self.tables.facts();
         let given = self.region.give_up();
         self.tables.clear();
         self.live = 0;

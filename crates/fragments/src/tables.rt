@@ -12,7 +12,7 @@ ghost use Rattle.fragments.specs.inside.Linking as linking;
 
 use crate::chains::Chains;
 use crate::links::{
-    back_of, kill_fragment, lead_around, lead_back, name_of, next_of, place_fragment, segment_fits,
+    back_of, kill_fragment, lead_around, lead_back, name_of, next_of, place_fragment,
 };
 use regions::{Movers, Place, Region};
 use std::alloc::{AllocError, Global};
@@ -58,13 +58,6 @@ impl Tables {
         })
     }
 
-    // What holds of the tables at each time.
-    pub(crate) fn facts(&self)
-        ensures { AreEntries self.now }
-    {
-        let _ = &self.names;
-    }
-
     // How many names there are.
     pub(crate) fn names(&self) -> u32
         ensures { result ≡ self.now.names }
@@ -72,17 +65,19 @@ impl Tables {
         self.names
     }
 
-    // Where the first fragment of an entry stands.
+    // Where the first fragment of an entry stands. Each entry has one and a chain.
     pub(crate) fn first(&self, entry: u32) -> Option<Place>
         requires { entry ≤ self.now.names }
-        ensures { result ≡ chains.first_at self.now.firsts entry }
+        ensures place { result ≡ chains.first_at self.now.firsts entry }
+        ensures entries { AreEntries self.now }
     {
         self.firsts[entry as usize]
     }
 
     // The value that is written next is of the name.
     pub(crate) fn begin(&mut self, name: u32)
-        ensures { self.new ≡ record self.old { grows = name } }
+        ensures state { self.new ≡ record self.old { grows = name } }
+        ensures entries { AreEntries self.old }
     {
         self.grows = name;
     }
@@ -92,7 +87,7 @@ impl Tables {
         requires chains { chains.AreChains self.old (live_at region.old) }
         requires one { group_count region.old ≡ 1 }
         requires short { length bytes.now ≤ fragment_bytes }
-        requires room { object_size (length bytes.now) ≤ left region.old 0 }
+        requires left { object_size (length bytes.now) ≤ left region.old 0 }
         requires few { length (chains.chain_at self.old.chains self.old.names) < most_fragments }
         requires name { self.old.grows < self.old.names }
 
@@ -152,7 +147,6 @@ impl Tables {
         ensures stay { Stay region.old region.new }
         ensures shape { shape region.new ≡ shape region.old }
     {
-        let _ = &self.names;
         let next = next_of(region, place);
         lead_back(region, next, None);
         kill_fragment(region, place);
@@ -162,10 +156,11 @@ impl Tables {
     // The first fragment of an entry is gone, and the next one is the first.
     fn take_front(&mut self, entry: u32, next: Option<Place>)
         requires { entry ≤ self.old.names }
-        ensures { self.new ≡ record self.old {
+        ensures state { self.new ≡ record self.old {
           firsts = slice_set self.old.firsts entry next;
           chains = slice_set self.old.chains entry (drop 1 (chains.chain_at self.old.chains entry));
         } }
+        ensures entries { AreEntries self.old }
     {
         self.firsts[entry as usize] = next;
         self.chains = self.chains.without_front(&entry);
@@ -182,18 +177,20 @@ impl Tables {
             → ((e : ℕ) → e ≢ name → e ≢ self.old.names → settled e ≡ all e) → chains.HoldParts self.new live settled }
         ensures names { self.new.names ≡ self.old.names }
         ensures empty { chains.chain_at self.new.chains self.old.names ≡ [] }
+        ensures entries { AreEntries self.new }
     {
-        let _ = &self.names;
         self.hand_over(name);
     }
 
     // The entry behind those of the names has no fragment, and the name has its chain.
     fn hand_over(&mut self, name: u32)
         requires { name < self.old.names }
-        ensures { self.new ≡ record self.old {
+        ensures state { self.new ≡ record self.old {
           firsts = slice_set (slice_set self.old.firsts name (chains.first_at self.old.firsts self.old.names)) self.old.names None;
           chains = slice_set (slice_set self.old.chains name (chains.chain_at self.old.chains self.old.names)) self.old.names [];
         } }
+        ensures were { AreEntries self.old }
+        ensures entries { AreEntries self.new }
     {
         let entry = self.names;
         self.firsts[name as usize] = self.firsts[entry as usize];
@@ -288,8 +285,8 @@ impl Movers for Tables {
     ghost rest = { chains.shape_of };
 
     fn moved(&mut self, store: &mut Region, _kind: u8, from: Place, to: Place) {
+        // What always holds of the fields is known where one of them is used.
         let _ = &self.names;
-        segment_fits(to);
         let name = name_of(store, to);
         let back = back_of(store, to);
         let next = next_of(store, to);

@@ -5,7 +5,7 @@ use Rattle.std.proofs.Math.Seq.{take-set-lt}
 use Rattle.std.proofs.lemmas.List.{drop-set-add, drop-set-lt, take-set-le, set-append_left, set-append_right, map-set, get_or-drop, get_or-take, get_or-append_right, get_or_read}
 use Rattle.std.proofs.lemmas.Bool.Decides.{nat_tests}
 use Rattle.common_lemmas.proofs.Orders.{lt_or_ge}
-use Rattle.lazy_table.specs.Table.{Table, with_entry}
+use Rattle.index_lists.specs.Table.{Table, with_entry}
 use Rattle.index_lists.specs.inside.Links.{OneWay, number_of, number, numbered, with_link}
 
 -- ---- numbers of places

@@ -1,3 +1,4 @@
+pub mod Written
 pub mod Paths
 pub mod Linked
 pub mod Neighbours

@@ -3,7 +3,7 @@ ghost use Rattle.std.specs.Prelude.{◌≡◌, ◌⊎◌, ◌+◌, ◌<◌, ◌�
 ghost use Rattle.std.specs.List.{range_with_len};
 ghost use Rattle.index_lists.specs.inside.Links.{number_of, number, with_link, reaching, leads_to};
 
-use lazy_table::LazyTable;
+use crate::table::LazyTable;
 use std::alloc::{AllocError, Global};
 use std::marker::Model;
 

@@ -50,12 +50,11 @@ fn scan<K: Sink>(
     requires of_trace { Contains trace.now.commands command.now }
     requires some { 1 ≤ command.now.count }
     requires most { command.now.count ≤ most_keys }
-    requires room { key_room * most_keys ≤ length keys.old }
-    ensures room { length keys.new ≡ length keys.old }
+    requires memory { key_room * most_keys ≤ length keys.old }
+    ensures memory { length keys.new ≡ length keys.old }
     ensures written { Writes result out.old out.new
         (text.answer_line command.now.number (text.Keys (text.scanned_keys (operation trace.now.bytes command.now) (index_in tree.now)))) }
 {
-    tree.facts();
     let scanned = tree.range(trace.key(command), command.count, keys);
     write_scan(out, command.number, &keys[..scanned.bytes as usize])
 }
@@ -71,14 +70,14 @@ fn do_command<K: Sink>(
     requires of_trace { Contains trace.now.commands command.now }
     requires well_formed { IsWellFormed (operation trace.now.bytes command.now) }
     requires serving { IsServing tree.old }
-    requires room { key_room * most_keys ≤ length keys.old }
+    requires memory { key_room * most_keys ≤ length keys.old }
     ensures index { index_in tree.new ≡ (text.done command.now.kind (most (held_count tree.old.region))
         (operation trace.now.bytes command.now) (index_in tree.old)).0 }
     ensures written { Writes result out.old out.new
         (text.answer_line command.now.number (text.done command.now.kind (most (held_count tree.old.region))
         (operation trace.now.bytes command.now) (index_in tree.old)).1) }
     ensures segments { HoldsSegments tree.old.region tree.new.region }
-    ensures room { length keys.new ≡ length keys.old }
+    ensures memory { length keys.new ≡ length keys.old }
 {
     match command.kind {
         Kind::Put => put(tree, trace, command, out),
@@ -96,7 +95,7 @@ pub(crate) fn do_commands<K: Sink>(
     out: &mut Writer<'_, K>,
 ) -> Result<(), Failed>
     requires serving { IsServing tree.old }
-    requires room { key_room * most_keys ≤ length keys.old }
+    requires memory { key_room * most_keys ≤ length keys.old }
     ensures written { Writes result out.old out.new
         (text.text_from (most (held_count tree.old.region)) (index_in tree.old) (trace_in trace.now).operations) }
     ensures index { OnOk result (index_in tree.new ≡ text.index_after (most (held_count tree.old.region)) (index_in tree.old)

@@ -1,7 +1,7 @@
 //! What is written of a trace.
 ghost use Rattle.std.specs.Prelude.{◌≡◌, ◌*◌, ◌≤◌, [], length, IfOk, OnOk, OnErr};
 ghost use Rattle.std.specs.Io.KnownBytes.{Appends};
-ghost use Rattle.outside.specs.Moves.{AppendsFront};
+ghost use Rattle.outside.specs.Moves.{AppendsFront, Sends};
 ghost use Rattle.layout.specs.Counts.{Rose};
 ghost use Rattle.layout.specs.Sizes.{ArePages, key_room, most_keys};
 ghost use Rattle.trace_text.specs.Parsed.{trace_in};
@@ -66,15 +66,9 @@ pub fn write_index<K: Sink>(
 ) -> Result<(), Failed>
     requires empty { IsEmpty store.old }
 
-    // The whole text, or a front of it.
-    ensures written { OnOk result (Appends (K.written sink.old) (K.written sink.new)
-        (index_text (trace_in trace.now) store.old.pages)) }
-    ensures front { OnErr result (AppendsFront (K.written sink.old) (K.written sink.new)
-        (index_text (trace_in trace.now) store.old.pages)) }
-
-    // It fails only where the sink does.
-    ensures failed { OnErr result (Rose (K.faults sink.old) (K.faults sink.new)) }
-    ensures never_falls { K.faults sink.old ≤ K.faults sink.new }
+    // The whole text, or a front of it, and then the sink failed.
+    ensures sent { Sends K.written K.faults sink.old sink.new result
+        (index_text (trace_in trace.now) store.old.pages) }
 
     // The index is what the commands make of none, and the memory is as it was.
     ensures index { OnOk result (index_in store.new.index ≡ index_left (trace_in trace.now) store.old.pages) }
@@ -100,7 +94,7 @@ fn write_on<K: Sink>(
     out: &mut Writer<'_, K>,
 ) -> Result<(), Failed>
     requires empty { index_in ranged.old.store ≡ [] }
-    requires room { key_room * most_keys ≤ length keys.old }
+    requires memory { key_room * most_keys ≤ length keys.old }
     ensures written { Writes result out.old out.new (index_text (trace_in trace.now) ranged.old.pages) }
     ensures index { OnOk result (index_in ranged.new.store ≡ index_left (trace_in trace.now) ranged.old.pages) }
     ensures empty { OnOk result (out.new.block ≡ []) }
@@ -118,7 +112,7 @@ fn write_text<K: Sink>(
     out: &mut Writer<'_, K>,
 ) -> Result<(), Failed>
     requires serving { IsServing tree.old }
-    requires room { key_room * most_keys ≤ length keys.old }
+    requires memory { key_room * most_keys ≤ length keys.old }
     ensures written { Writes result out.old out.new
         (text_from (most (held_count tree.old.region)) (index_in tree.old) (trace_in trace.now).operations) }
     ensures index { OnOk result (index_in tree.new ≡ index_after (most (held_count tree.old.region)) (index_in tree.old)

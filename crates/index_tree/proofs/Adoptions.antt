@@ -1,7 +1,7 @@
 -- The children of a node get it as their parent, one after another.
-use Rattle.std.proofs.Common.{◌≡◌, ℕ, zero, suc, ◌+◌, ◌<◌, ◌≤◌, inl, inr, List, [], ◌∷◌, All, length, take, map, get_or, Option, Some, None, option_map, refl, sym, ap, subst, ◌∙◌, arith}
+use Rattle.std.proofs.Common.{◌≡◌, ℕ, zero, suc, ◌+◌, ◌<◌, ◌≤◌, inl, inr, List, [], ◌∷◌, length, take, map, get_or, Option, Some, None, option_map, refl, sym, ap, subst, ◌∙◌, arith}
 use Rattle.std.specs.Prelude.{IfSome}
-use Rattle.std.proofs.lemmas.List.{length-map, length-take-le, get_or-take, take_all, take_more}
+use Rattle.std.proofs.lemmas.List.{length-map, length-take-le, get_or-take, take_more}
 use Rattle.std.proofs.lemmas.List.Elements.{All-get_or}
 use Rattle.regions.specs.Segments.{RegionState}
 use Rattle.regions.specs.Contents.{live_at}
@@ -15,13 +15,10 @@ use Rattle.index_tree.specs.Store.{ChangesNode, HoldsNode, nodes_of}
 use Rattle.index_tree.proofs.InsertRows.{all_by_times, times_append, times_here, times_of_all, times_past}
 use Rattle.index_tree.proofs.InnerWrites.{fits_there}
 use Rattle.place_lemmas.proofs.Places.{place_cases}
-use Rattle.index_tree.proofs.Touches.{held_same, held_still, live_same, node_past, node_there, same_still, same_then}
+use Rattle.index_tree.proofs.Touches.{held_same, held_still, live_same, node_past, node_there, same_then}
 use Rattle.index_tree.proofs.Writes.{eases}
 
-pub adopts_none : (ps : List Place) (link : ℕ) (r : RegionState) → All (HoldsNode (live_at r)) ps → Adopts [] ps link r r
-adopts_none ps link r all = record { adopted = λ q some. absurd (omega arith); others = λ q none. refl; holds = all; same = same_still r }
-
-parent_twice : (o : Option TreeNode) (link : ℕ) → option_map (with_parent link) (option_map (with_parent link) o) ≡ option_map (with_parent link) o
+pub parent_twice : (o : Option TreeNode) (link : ℕ) → option_map (with_parent link) (option_map (with_parent link) o) ≡ option_map (with_parent link) o
 parent_twice None link = refl
 parent_twice (Some node) link = refl
 
@@ -49,7 +46,7 @@ adopts_one ps j link r s t d x within here a c = subst (λ (ds : List Place). Ad
     at_x zero is = c.here ∙ ap (λ (o : Option TreeNode). option_map (with_parent link) o) (live_same r s x (a.others x is))
     at_x (suc n) is = c.here ∙ (ap (λ (o : Option TreeNode). option_map (with_parent link) o) (a.adopted x (omega arith)) ∙ parent_twice (nodes_of (live_at r) x) link)
 
-got_place : (xs : List ℕ) (j : ℕ) (d : Place) → j < length xs → get_or (map place_of_link xs) j d ≡ place_of_link (get_or xs j no_place)
+pub got_place : (xs : List ℕ) (j : ℕ) (d : Place) → j < length xs → get_or (map place_of_link xs) j d ≡ place_of_link (get_or xs j no_place)
 got_place [] j d within = absurd (omega arith)
 got_place (x ∷ xs) zero d within = refl
 got_place (x ∷ xs) (suc j) d within = got_place xs j d (omega arith)
@@ -96,13 +93,3 @@ module _ (r s : RegionState) (at : Place) (n j link : ℕ) (holds : HoldsNode (l
   pub adopts_more : (t : RegionState) (p : Place) → get_or (child_places n (nodes_of (live_at r) at)) j at ≡ p → ChangesNode p (with_parent link) s t
       → Adopts (take (j + 1) (child_places n (nodes_of (live_at r) at))) (child_places n (nodes_of (live_at r) at)) link r t
   adopts_more t p is c = adopts_one (child_places n (nodes_of (live_at r) at)) j link r s t at p (let l = length-places in omega arith) is a c
-
-pub adopts_all : (ps : List Place) (n link : ℕ) (r s : RegionState) → length ps ≡ n → Adopts (take n ps) ps link r s → Adopts ps ps link r s
-adopts_all ps n link r s is a = subst (λ (ds : List Place). Adopts ds ps link r s) (take_all n ps (omega arith)) a
-
-pub length-child_places : (r : RegionState) (at : Place) (n : ℕ) → HoldsNode (live_at r) at → n ≤ 17 → length (child_places n (nodes_of (live_at r) at)) ≡ n
-length-child_places r at n holds few =
-    let node = node_there r at holds in
-    let fits = fits_there r at node.0 holds node.1 in
-    let seventeen = fits.children in
-    ap (λ (o : Option TreeNode). length (child_places n o)) node.1 ∙ (length-map (take n node.0.children) place_of_link ∙ length-take-le n node.0.children (omega arith))

@@ -1,45 +1,19 @@
 -- What the leaves below a place hold lies between its bounds.
-use Rattle.std.proofs.Common.{◌≡◌, ℕ, zero, suc, ◌<◌, ◌≤◌, Bool, true, false, true≢false, cond, List, [], ◌∷◌, All, length, take, get_or, Option, Some, None, refl, sym, ap, subst, ◌∙◌, arith, Ordering, Less, Equal, Greater, is_lt, nat_lt}
-use Rattle.std.specs.Ordering.{ordering_reverse}
+use Rattle.std.proofs.Common.{◌≡◌, ℕ, zero, suc, ◌<◌, ◌≤◌, Bool, true, false, cond, List, All, length, take, get_or, Option, Some, None, refl, sym, ap, subst, ◌∙◌, arith, nat_lt}
 use Rattle.std.specs.List.{flat_map}
-use Rattle.std.proofs.lemmas.Cmp.{nat_list_cmp_total}
-use Rattle.std.proofs.lemmas.Map.Lookups.{exact_bytes}
 use Rattle.std.proofs.lemmas.List.{length-take-le, get_or-take}
-use Rattle.std.proofs.lemmas.List.Elements.{All-nil, All-append, All-head, All-tail, All-get_or, All-weaker, All-from_get_or}
+use Rattle.std.proofs.lemmas.List.Elements.{All-get_or, All-weaker, All-from_get_or}
 use borrow.Author.Tests.{ltb-true}
 use Rattle.regions.specs.declared.place.Place.{Place}
 use Rattle.tree_nodes.specs.Nodes.{Entry, TreeNode, entry_at, no_entry, no_place}
-use Rattle.tree_nodes.specs.Order.{IsBelow, key_cmp}
+use Rattle.tree_nodes.specs.Order.{IsBelow}
 use Rattle.regions.specs.Places.{led_to, link_to}
 use Rattle.index_tree.specs.Links.{Nodes}
 use Rattle.index_tree.specs.Trees.{IsBetween, IsFrom, IsSubtree, IsUpTo, children_of, entries_of, held_below, left_of, right_of}
 use Rattle.place_lemmas.proofs.Places.{leads_on}
 use Rattle.index_tree.proofs.Moved.{room_of}
-
-less_less : (a b c : List ℕ) → IsBelow a b → IsBelow b c → IsBelow a c
-unfolding key_cmp
-less_less a b c e f = nat_list_cmp_total.trans a b c e f
-
-pub greater_less : (a b : List ℕ) → key_cmp a b ≡ Greater → IsBelow b a
-unfolding key_cmp
-greater_less a b e = nat_list_cmp_total.antisymm b a ∙ ap ordering_reverse e
-
-pub tied : (a b : List ℕ) → key_cmp a b ≡ Equal → a ≡ b
-unfolding key_cmp
-tied a b e = exact_bytes a b e
-
-least_least : (a b c : List ℕ) → is_lt (key_cmp a b) ≡ false → is_lt (key_cmp b c) ≡ false → is_lt (key_cmp a c) ≡ false
-least_least a b c e f = go (key_cmp a b) refl
-  where
-    above : (o : Ordering) → key_cmp a c ≡ o → IsBelow b a → is_lt (key_cmp a c) ≡ false
-    above Less s t = absurd (true≢false (sym (ap is_lt (less_less b a c t s)) ∙ f))
-    above Equal s t = ap is_lt s
-    above Greater s t = ap is_lt s
-
-    go : (o : Ordering) → key_cmp a b ≡ o → is_lt (key_cmp a c) ≡ false
-    go Less s = absurd (true≢false (sym (ap is_lt s) ∙ e))
-    go Equal s = subst (λ (k : List ℕ). is_lt (key_cmp k c) ≡ false) (sym (tied a b s)) f
-    go Greater s = above (key_cmp a c) refl (greater_less a b s)
+use Rattle.index_tree.proofs.KeyOrder.{least_least, less_less}
+use Rattle.index_tree.proofs.SearchLists.{all_gathered}
 
 from_left : (node : TreeNode) (low : Option (List ℕ)) (i : ℕ) (e : Entry) → All (IsFrom low) node.entries → i ≤ length node.entries → IsFrom (left_of node low i) e → IsFrom low e
 from_left node low zero e all within h = h
@@ -57,10 +31,6 @@ up_right node high i e all h = go (nat_lt i (length node.entries)) refl
     go : (b : Bool) → nat_lt i (length node.entries) ≡ b → IsUpTo high e
     go true is = over high all (ltb-true i (length node.entries) is) (subst (λ (o : Option (List ℕ)). IsUpTo o e) (ap (λ (b : Bool). cond b (Some (entry_at node i).key) high) is) h)
     go false is = subst (λ (o : Option (List ℕ)). IsUpTo o e) (ap (λ (b : Bool). cond b (Some (entry_at node i).key) high) is) h
-
-all_flat_map : (P : Entry → Type 0) (f : ℕ → List Entry) (xs : List ℕ) → All (λ x. All P (f x)) xs → All P (flat_map f xs)
-all_flat_map P f [] all = All-nil P
-all_flat_map P f (x ∷ xs) all = All-append P (f x) (flat_map f xs) (All-head (λ y. All P (f y)) x xs all) (all_flat_map P f xs (All-tail (λ y. All P (f y)) x xs all))
 
 both : (low high : Option (List ℕ)) (es : List Entry) → All (IsFrom low) es → All (IsUpTo high) es → All (IsBetween low high) es
 both low high es from up_to = λ k d within. (from k d within, up_to k d within)
@@ -88,4 +58,4 @@ held_between nodes (suc level) parent low high p (node, is, here, of, inner, chi
     (λ e h. (from_left node low i e of.from within h.0, up_right node high i e of.up_to h.1)) (held_below nodes level (Some q))
     (held_between nodes level (Some p) (left_of node low i) (right_of node high i) q below))) in
     subst (λ (o : Option TreeNode). All (IsBetween low high) (flat_map gather (children_of o))) (sym is)
-    (all_flat_map (IsBetween low high) gather (take k node.children) (All-from_get_or (λ l. All (IsBetween low high) (gather l)) (take k node.children) no_place each))
+    (all_gathered (IsBetween low high) gather (take k node.children) (All-from_get_or (λ l. All (IsBetween low high) (gather l)) (take k node.children) no_place each))

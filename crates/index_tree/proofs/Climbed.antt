@@ -26,9 +26,6 @@ split_last f (y ∷ xs) (suc i) x e long =
     let w = split_last f xs i x e (omega (arith, long)) in
     (f y ++ w.0, ap (λ ps. f y ++ ps) w.1 ∙ sym (append_assoc (f y) w.0 (f x)))
 
-pub last_here : (nodes : Nodes) (level : ℕ) (p : Place) → level ≡ 0 → IsLast nodes level p p
-last_here nodes level p none = ([], subst (λ l. leaves_below nodes l (Some p) ≡ p ∷ []) (sym none) refl)
-
 -- the last child of an inner node, and that the last leaf below it is that of the node
 pub record LastChild (nodes : Nodes) (level : ℕ) (p : Place) : Type 0 where
   pub node : TreeNode
@@ -113,9 +110,6 @@ last_read nodes level p d count link o counted read is =
     is ∙ (ap (λ l. led_to l) (child ∙ ap (λ n. child_at d.node n) many) ∙ d.leads)
 
 -- ---- the leaf in front
-
-regroup_first : (a b c : List Place) (leaf : Place) → ((leaf ∷ a) ++ b) ++ c ≡ leaf ∷ (a ++ (b ++ c))
-regroup_first a b c leaf = ap (λ ps. leaf ∷ ps) (append_assoc a b c)
 
 regroup_next : (a b front rest behind after : List Place) (r leaf : Place)
     → a ++ ((b ++ ((front ++ r ∷ []) ++ ((leaf ∷ rest) ++ behind))) ++ after) ≡ (a ++ (b ++ front)) ++ (r ∷ leaf ∷ ((rest ++ behind) ++ after))

@@ -2,14 +2,14 @@
 use Rattle.std.proofs.Common.{◌≡◌, ◌≢◌, ℕ, zero, suc, ◌^◌, ◌<◌, ◌≤◌, List, [], ◌∷◌, ◌++◌, All, length, Option, Some, None, option_map, refl, sym, ap, subst, ◌∙◌, arith}
 use Rattle.std.specs.List.{flat_map}
 use Rattle.std.proofs.lemmas.List.{take_at, drop_at}
-use Rattle.std.proofs.lemmas.List.Elements.{All-nil, All-cons, All-head, All-tail, All-take, All-drop, All-weaker}
+use Rattle.std.proofs.lemmas.List.Elements.{All-nil, All-cons, All-head, All-tail, All-take, All-drop}
 use Rattle.regions.specs.declared.place.Place.{Place}
-use Rattle.tree_nodes.specs.Nodes.{Entry, TreeNode, CanStand}
+use Rattle.tree_nodes.specs.Nodes.{TreeNode, CanStand}
 use Rattle.regions.specs.Places.{led_to, link_to}
 use Rattle.index_tree.specs.Links.{Nodes, with_parent}
 use Rattle.index_tree.specs.Limits.{fewest_entries}
-use Rattle.index_tree.specs.Trees.{IsFrom, IsNodeOf, IsSubtree, IsUpTo, children_of, entries_of, held_below, if_level, leaves_below, nodes_below, row_below}
-use Rattle.index_tree.specs.Inserts.{Branch, Row, of_row}
+use Rattle.index_tree.specs.Trees.{IsNodeOf, IsSubtree, children_of, entries_of, held_below, if_level, leaves_below, nodes_below, row_below}
+use Rattle.index_tree.specs.Inserts.{Branch, of_row}
 use Rattle.place_lemmas.proofs.Places.{HasRoomIf}
 use Rattle.index_tree.proofs.FrameRows.{Opened, close_node, gathered, open_node, row_map, row_same}
 
@@ -219,45 +219,3 @@ module _ (nodes new : Nodes) where
   adopted_held (suc level) parent low high p link sub now all =
       gathered_same (held_below nodes level) (held_below new level) level parent low high p (open_node nodes level parent low high p sub)
       (same_children p link now) all (λ l u q s a. frame_held level (Some p) l u q s a)
-
--- ---- between wider bounds
-
-module _ (nodes : Nodes) where
-  wider_of : (level : ℕ) (parent : Option Place) (low high lower higher : Option (List ℕ)) (node : TreeNode)
-      → ((e : Entry) → IsFrom low e → IsFrom lower e) → ((e : Entry) → IsUpTo high e → IsUpTo higher e) → IsNodeOf level parent low high node → IsNodeOf level parent lower higher node
-  wider_of level parent low high lower higher node down up of = record {
-    level_is = of.level_is;
-    parent_is = of.parent_is;
-    stands = of.stands;
-    rising = of.rising;
-    from = All-weaker (IsFrom low) (IsFrom lower) down node.entries of.from;
-    up_to = All-weaker (IsUpTo high) (IsUpTo higher) up node.entries of.up_to;
-    many = of.many;
-  }
-
-  wider_row : (level : ℕ) (parent : Option Place)
-      → ((low high lower higher : Option (List ℕ)) (q : Place) → ((e : Entry) → IsFrom low e → IsFrom lower e) → ((e : Entry) → IsUpTo high e → IsUpTo higher e)
-      → IsSubtree nodes level parent low high q → IsSubtree nodes level parent lower higher q)
-      → (low high lower higher : Option (List ℕ)) (first : Place) (bs : List Branch) → ((e : Entry) → IsFrom low e → IsFrom lower e) → ((e : Entry) → IsUpTo high e → IsUpTo higher e)
-      → Row nodes level parent low first bs high → Row nodes level parent lower first bs higher
-  wider_row level parent each low high lower higher first [] down up row = each low high lower higher first down up row
-  wider_row level parent each low high lower higher first (b ∷ bs) down up row =
-      (each low (Some b.entry.key) lower (Some b.entry.key) first down (λ e h. h) row.0, wider_row level parent each (Some b.entry.key) high (Some b.entry.key) higher b.place bs (λ e h. h) up row.1)
-
-  pub wider_subtree : (level : ℕ) (parent : Option Place) (low high lower higher : Option (List ℕ)) (p : Place)
-      → ((e : Entry) → IsFrom low e → IsFrom lower e) → ((e : Entry) → IsUpTo high e → IsUpTo higher e) → IsSubtree nodes level parent low high p → IsSubtree nodes level parent lower higher p
-  wider_subtree zero parent low high lower higher p down up (node, is, here, of, none) = (node, is, here, wider_of zero parent low high lower higher node down up of, none)
-  wider_subtree (suc level) parent low high lower higher p down up sub =
-      let o = open_node nodes level parent low high p sub in
-      close_node nodes level parent lower higher p (record {
-        node = o.node;
-        is = o.is;
-        room = o.room;
-        of = wider_of (suc level) parent low high lower higher o.node down up o.of;
-        inner = o.inner;
-        first = o.first;
-        branches = o.branches;
-        entries = o.entries;
-        links = o.links;
-        row = wider_row level (Some p) (λ l h l2 h2 q d u s. wider_subtree level (Some p) l h l2 h2 q d u s) low high lower higher o.first o.branches down up o.row;
-      })

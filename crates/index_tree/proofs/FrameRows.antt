@@ -30,27 +30,27 @@ right_in [] high i = high
 right_in (e ∷ es) high zero = Some e.key
 right_in (e ∷ es) high (suc i) = right_in es high i
 
-left_behind : (low : Option (List ℕ)) (es : List Entry) (i : ℕ) → i < length es → left_in low es (suc i) ≡ Some (get_or es i no_entry).key
+pub left_behind : (low : Option (List ℕ)) (es : List Entry) (i : ℕ) → i < length es → left_in low es (suc i) ≡ Some (get_or es i no_entry).key
 left_behind low [] i within = absurd (omega arith)
 left_behind low (e ∷ es) zero within = refl
 left_behind low (e ∷ es) (suc i) within = left_behind (Some e.key) es i (omega arith)
 
-left_same : (node : TreeNode) (low : Option (List ℕ)) (i : ℕ) → i ≤ length node.entries → left_of node low i ≡ left_in low node.entries i
-left_same node low zero within = refl
-left_same node low (suc i) within = sym (left_behind low node.entries i (omega arith))
+pub left_of_in : (node : TreeNode) (low : Option (List ℕ)) (i : ℕ) → i ≤ length node.entries → left_of node low i ≡ left_in low node.entries i
+left_of_in node low zero within = refl
+left_of_in node low (suc i) within = sym (left_behind low node.entries i (omega arith))
 
-right_within : (es : List Entry) (high : Option (List ℕ)) (i : ℕ) → i < length es → right_in es high i ≡ Some (get_or es i no_entry).key
+pub right_within : (es : List Entry) (high : Option (List ℕ)) (i : ℕ) → i < length es → right_in es high i ≡ Some (get_or es i no_entry).key
 right_within [] high i within = absurd (omega arith)
 right_within (e ∷ es) high zero within = refl
 right_within (e ∷ es) high (suc i) within = right_within es high i (omega arith)
 
-right_past : (es : List Entry) (high : Option (List ℕ)) (i : ℕ) → length es ≤ i → right_in es high i ≡ high
+pub right_past : (es : List Entry) (high : Option (List ℕ)) (i : ℕ) → length es ≤ i → right_in es high i ≡ high
 right_past [] high i past = refl
 right_past (e ∷ es) high zero past = absurd (omega arith)
 right_past (e ∷ es) high (suc i) past = right_past es high i (omega arith)
 
-right_same : (node : TreeNode) (high : Option (List ℕ)) (i : ℕ) → right_of node high i ≡ right_in node.entries high i
-right_same node high i = elim (cases_lt i (length node.entries)) [
+pub right_of_in : (node : TreeNode) (high : Option (List ℕ)) (i : ℕ) → right_of node high i ≡ right_in node.entries high i
+right_of_in node high i = elim (cases_lt i (length node.entries)) [
   | inl within ↦ ap (λ b. cond b (Some (get_or node.entries i no_entry).key) high) (lt-ltb i (length node.entries) within) ∙ sym (right_within node.entries high i within)
   | inr past ↦ ap (λ b. cond b (Some (get_or node.entries i no_entry).key) high) (le-ltb i (length node.entries) past) ∙ sym (right_past node.entries high i past)
 ]
@@ -102,8 +102,8 @@ module _ (nodes : Nodes) (level : ℕ) (parent : Option Place) (low high : Optio
       (λ i within. (
         (children i within).0,
         (children i within).1,
-        subst (λ (o : Option (List ℕ)). IsSubtree nodes level (Some p) (left_in low node.entries i) o (children i within).0) (right_same node high i)
-            (subst (λ (o : Option (List ℕ)). IsSubtree nodes level (Some p) o (right_of node high i) (children i within).0) (left_same node low i within) (children i within).2),
+        subst (λ (o : Option (List ℕ)). IsSubtree nodes level (Some p) (left_in low node.entries i) o (children i within).0) (right_of_in node high i)
+            (subst (λ (o : Option (List ℕ)). IsSubtree nodes level (Some p) o (right_of node high i) (children i within).0) (left_of_in node low i within) (children i within).2),
       )) in
       record {
         node = node;
@@ -130,8 +130,8 @@ module _ (nodes : Nodes) (level : ℕ) (parent : Option Place) (low high : Optio
         let child = row_at nodes level (Some p) o.first o.branches low high o.row i (omega arith) in (
           child.0,
           sym (get_or-take (suc (length o.node.entries)) o.node.children i no_place (omega arith)) ∙ (ap (λ (ls : List ℕ). get_or ls i no_place) o.links ∙ child.1),
-          subst (λ (r : Option (List ℕ)). IsSubtree nodes level (Some p) (left_of o.node low i) r child.0) (sym (right_same o.node high i))
-              (subst (λ (l : Option (List ℕ)). IsSubtree nodes level (Some p) l (right_in o.node.entries high i) child.0) (sym (left_same o.node low i within))
+          subst (λ (r : Option (List ℕ)). IsSubtree nodes level (Some p) (left_of o.node low i) r child.0) (sym (right_of_in o.node high i))
+              (subst (λ (l : Option (List ℕ)). IsSubtree nodes level (Some p) l (right_in o.node.entries high i) child.0) (sym (left_of_in o.node low i within))
               (subst (λ (es : List Entry). IsSubtree nodes level (Some p) (left_in low es i) (right_in es high i) child.0) (sym o.entries) child.2)),
         )),
   )

@@ -10,7 +10,8 @@ use Rattle.index_tree.specs.inside.Climbs.{HoldNodes}
 use Rattle.index_tree.specs.inside.Rosters.{IsRosterOf, RosterState, settled}
 use Rattle.index_tree.proofs.Grown.{regrown}
 use Rattle.index_tree.proofs.InsertRows.{times_of_all}
-use Rattle.index_tree.proofs.Unmoved.{some_of, still_kinds, still_listed}
+use Rattle.index_tree.proofs.Unmoved.{still_kinds, still_listed}
+use Rattle.index_tree.proofs.References.{some_of}
 
 module _ (ps : List Place) (old new : RegionState) (touched : Touched ps old new) where
   still_hold : HoldNodes (live_at old) → HoldNodes (live_at new)

@@ -1,5 +1,5 @@
 -- A key put in below an inner node of the segments.
-use Rattle.std.proofs.Common.{◌≡◌, ◌≢◌, ℕ, suc, ◌+◌, ◌-◌, ◌<◌, ◌≤◌, ◌^◌, List, [], ◌∷◌, ◌++◌, All, length, take, drop, map, get_or, Option, Some, option_map, sym, ap, subst, ◌∙◌, arith}
+use Rattle.std.proofs.Common.{◌≡◌, ◌≢◌, ℕ, suc, ◌+◌, ◌-◌, ◌<◌, ◌≤◌, ◌^◌, false, List, [], ◌∷◌, ◌++◌, All, length, take, drop, map, get_or, Option, Some, option_map, sym, ap, subst, ◌∙◌, arith, is_lt}
 use Rattle.std.specs.Prelude.{IfSome}
 use Rattle.std.specs.List.{insert}
 use Rattle.std.proofs.lemmas.List.{drop_more, get_or-take, length-map, take_all}
@@ -8,12 +8,13 @@ use Rattle.regions.specs.Segments.{RegionState}
 use Rattle.regions.specs.Contents.{live_at}
 use Rattle.regions.specs.declared.place.Place.{Place}
 use Rattle.tree_nodes.specs.Nodes.{Entry, TreeNode, child_at, no_place}
+use Rattle.tree_nodes.specs.Order.{key_cmp}
 use Rattle.index_tree.specs.Inserts.{Branch, Grows, IsRoom, IsSeparator, Row, Spread, Touched, entry_of, of_row, times}
 use Rattle.regions.specs.Places.{HasRoom, link_to, place_of_link}
 use Rattle.index_tree.specs.Splits.{AdoptsBeside, CutsInner, branch_of, lower_half, upper_half, upper_places, widened}
-use Rattle.index_tree.specs.Spots.{IsChildSpot}
 use Rattle.index_tree.specs.Store.{HoldsNode, nodes_of}
 use Rattle.index_tree.specs.Trees.{IsFrom, IsSubtree, IsUpTo, nodes_below}
+use Rattle.index_tree.specs.Ways.{AllAbove, LeadsTo}
 use Rattle.index_tree.specs.Writes.{WritesNode}
 use Rattle.index_tree.specs.declared.split.Split.{Split}
 use Rattle.index_tree.proofs.Frame.{below_children, small_link}
@@ -31,18 +32,18 @@ use Rattle.index_tree.proofs.InsertWay.{drop_times, got_link, rooms_back, roots_
 
 module _ (r : RegionState) (level : ℕ) (p : Place) (key : List ℕ) (number : ℕ) (parent : Option Place) (low high : Option (List ℕ))
     (sub : IsSubtree (nodes_of (live_at r)) (suc level) parent low high p) (from : IsFrom low (keyed key number)) (up : IsUpTo high (keyed key number))
-    (i : ℕ) (spot : IfSome (nodes_of (live_at r) p) (λ node. IsChildSpot key i node.entries)) where
+    (i : ℕ) (spot : IfSome (nodes_of (live_at r) p) (λ node. LeadsTo node key i)) where
   abbrev o : Opened (nodes_of (live_at r)) level parent low high p
   o = open_node (nodes_of (live_at r)) level parent low high p sub
 
   as_many : length o.node.entries ≡ length o.branches
   as_many = ap (λ (es : List Entry). length es) o.entries ∙ length-map o.branches entry_of
 
-  spot_here : IsChildSpot key i (map entry_of o.branches)
-  spot_here = subst (λ (es : List Entry). IsChildSpot key i es) o.entries (value_of (λ (n : TreeNode). IsChildSpot key i n.entries) (nodes_of (live_at r) p) o.node o.is spot)
+  spot_here : LeadsTo o.node key i
+  spot_here = value_of (λ (n : TreeNode). LeadsTo n key i) (nodes_of (live_at r) p) o.node o.is spot
 
   pub within : i ≤ length o.branches
-  within = let w = spot_here.within in let l = length-map o.branches entry_of in omega arith
+  within = let w = spot_here.within in let l = as_many in omega (arith, w, l)
 
   pub few : length o.branches ≤ 16
   few = let f = o.of.stands.few in let l = as_many in omega arith
@@ -51,10 +52,12 @@ module _ (r : RegionState) (level : ℕ) (p : Place) (key : List ℕ) (number : 
   child = child_in o.first o.branches i
 
   pub least : IsFrom (left_in low (map entry_of o.branches) i) (keyed key number)
-  least = spot_left key number (map entry_of o.branches) i low from spot_here.front
+  least =
+      spot_left key number (map entry_of o.branches) i low from
+      (subst (λ (es : List Entry). All (λ e. is_lt (key_cmp key e.key) ≡ false) (take i es)) o.entries spot_here.upto)
 
   pub below : IsUpTo (right_in (map entry_of o.branches) high i) (keyed key number)
-  below = spot_right key number (map entry_of o.branches) i high up spot_here.behind
+  below = spot_right key number (map entry_of o.branches) i high up (subst (λ (es : List Entry). AllAbove key (drop i es)) o.entries spot_here.above)
 
   pub child_sub : IsSubtree (nodes_of (live_at r)) level (Some p) (left_in low (map entry_of o.branches) i) (right_in (map entry_of o.branches) high i) child
   child_sub = row_child (nodes_of (live_at r)) level (Some p) low high o.first o.branches i o.row within

@@ -149,9 +149,6 @@ module _ (nodes mid : Nodes) (level : ℕ) (parent : Option Place) (low high : O
     s : Spread nodes mid level (Some p) low high o.first o.branches (us ++ m ∷ vs) key number used
     s = subst (λ (t : List Branch). Spread nodes mid level (Some p) low high o.first o.branches t key number used) parts (grown_row (b ∷ []) g)
 
-    lefts : List Place
-    lefts = of_row (nodes_below mid level) o.first us
-
     separators : All IsSeparator (us ++ m ∷ vs)
     separators = subst (λ (t : List Branch). All IsSeparator t) parts
         (All-append IsSeparator (take i o.branches) (b ∷ drop i o.branches) (All-take IsSeparator i o.branches (separators_of nodes level parent low high p o))

@@ -1,12 +1,12 @@
 -- A key put into a leaf, and a leaf split.
-use Rattle.std.proofs.Common.{◌≡◌, ◌≢◌, ℕ, zero, suc, ◌<◌, ◌≤◌, ◌^◌, false, option_map, refl, sym, ap, subst, ◌∙◌, arith, length-append, Ordering, Less, Equal, Greater, is_lt, get_or, set, ◌+◌}
+use Rattle.std.proofs.Common.{◌≡◌, ◌≢◌, ℕ, zero, suc, ◌<◌, ◌≤◌, ◌^◌, option_map, refl, sym, ap, subst, ◌∙◌, arith, length-append, get_or, set, ◌+◌}
 use Rattle.std.specs.Prelude.{List, [], ◌∷◌, ◌++◌, All, length, take, drop, Option, Some}
 use Rattle.std.specs.List.{insert}
 use Rattle.std.proofs.lemmas.List.{append-nil, drop_more, length-drop, length-set, length-take-le, set_split, take-append-drop}
 use Rattle.std.proofs.lemmas.List.Elements.{All-append, All-cons, All-drop, All-get_or, All-head, All-nil, All-set, All-take, All-weaker}
 use Rattle.regions.specs.declared.place.Place.{Place}
 use Rattle.tree_nodes.specs.Nodes.{CanStand, Entry, IsEntry, TreeNode, no_entry}
-use Rattle.tree_nodes.specs.Order.{AreRising, IsBelow, key_cmp}
+use Rattle.tree_nodes.specs.Order.{AreRising, IsBelow}
 use Rattle.index_tree.specs.Indexes.{with_number}
 use Rattle.regions.specs.Places.{HasRoom, link_to}
 use Rattle.index_tree.specs.Links.{Nodes}
@@ -14,25 +14,30 @@ use Rattle.index_tree.specs.Limits.{fewest_entries}
 use Rattle.index_tree.specs.Trees.{IsFrom, IsSubtree, IsUpTo, entries_of, next_in}
 use Rattle.index_tree.specs.Writes.{with_entry, with_number_at}
 use Rattle.index_tree.specs.Inserts.{Grows, IsSeparator, times}
+use Rattle.index_tree.specs.Ways.{AllAbove, AllBelow}
 use Rattle.index_tree.proofs.Frame.{all_back, all_front, small_link}
 use Rattle.index_tree.proofs.FrameRows.{branch}
-use Rattle.index_tree.proofs.InsertOrder.{AllAbove, AllBelow, not_below, rising_across, rising_back, rising_between, rising_front, with_number_between, with_number_here}
+use Rattle.index_tree.proofs.InsertOrder.{rising_across, rising_back, rising_between, rising_front, with_number_between, with_number_here}
 use Rattle.index_tree.proofs.InsertRows.{keyed, times_here, times_past}
+use Rattle.index_tree.proofs.KeyOrder.{not_below, not_itself}
 
 -- a node with other entries, and a next leaf
 abbrev pub refilled : List Entry → ℕ → TreeNode → TreeNode
 refilled es next node = record node { entries = es; next_leaf = next }
 
+pub stands_with : (node : TreeNode) (es : List Entry) (next : ℕ) → next < 2 ^ 64 → length es ≤ 16 → All IsEntry es → CanStand node → CanStand (refilled es next node)
+stands_with node es next fits few all stands = record {
+  parent = stands.parent;
+  level = stands.level;
+  next_leaf = fits;
+  few = few;
+  entries = all;
+  children = stands.children;
+  places = stands.places;
+}
+
 pub far_by_times : (r p : Place) (ps : List Place) → times r (p ∷ ps) ≡ 0 → r ≢ p
 far_by_times r p ps none e = let some : 1 ≤ times r (p ∷ ps) = subst (λ (q : Place). 1 ≤ times r (q ∷ ps)) e (times_here r ps) in absurd (omega arith)
-
-not_self : (key : List ℕ) → is_lt (key_cmp key key) ≡ false
-not_self key = go (key_cmp key key) refl
-  where
-    go : (o : Ordering) → key_cmp key key ≡ o → is_lt (key_cmp key key) ≡ false
-    go Less s = not_below key key s
-    go Equal s = ap is_lt s
-    go Greater s = ap is_lt s
 
 module _ (nodes new : Nodes) (parent : Option Place) (low high : Option (List ℕ)) (p : Place) (key : List ℕ) (number : ℕ) (i : ℕ)
     (some_key : 1 ≤ length key) (short_key : length key ≤ 256) (small : number < 2 ^ 32) (least : IsFrom low (keyed key number)) (up : IsUpTo high (keyed key number)) where
@@ -58,17 +63,6 @@ module _ (nodes new : Nodes) (parent : Option Place) (low high : Option (List �
       append-nil (inserted es)
       ∙ (sym (with_number_between key number (take i es) (drop i es) all_below all_above)
       ∙ (ap (λ (t : List Entry). with_number key number t) (take-append-drop i es) ∙ ap (λ (t : List Entry). with_number key number t) (sym (append-nil es))))
-
-  stands_with : (node : TreeNode) (es : List Entry) (next : ℕ) → next < 2 ^ 64 → length es ≤ 16 → All IsEntry es → CanStand node → CanStand (refilled es next node)
-  stands_with node es next fits few all stands = record {
-    parent = stands.parent;
-    level = stands.level;
-    next_leaf = fits;
-    few = few;
-    entries = all;
-    children = stands.children;
-    places = stands.places;
-  }
 
   length_inserted : (es : List Entry) → i ≤ length es → length (inserted es) ≡ suc (length es)
   length_inserted es within =
@@ -162,7 +156,7 @@ module _ (nodes new : Nodes) (parent : Option Place) (low high : Option (List �
                 parent_is = of.parent_is;
                 stands = stands_with node (d ∷ ys) node.next_leaf of.stands.next_leaf few_y (all_back IsEntry xs (d ∷ ys) entries) of.stands;
                 rising = behind;
-                from = All-cons (IsFrom (Some d.key)) d ys (not_self d.key) (All-weaker (λ y. IsBelow d.key y.key) (IsFrom (Some d.key)) (λ y h. not_below d.key y.key h) ys behind.0);
+                from = All-cons (IsFrom (Some d.key)) d ys (not_itself d.key) (All-weaker (λ y. IsBelow d.key y.key) (IsFrom (Some d.key)) (λ y h. not_below d.key y.key h) ys behind.0);
                 up_to = all_back (IsUpTo high) xs (d ∷ ys) up_to;
                 many = λ some. more_y;
               },

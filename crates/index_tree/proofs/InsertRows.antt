@@ -14,11 +14,13 @@ use Rattle.index_tree.specs.Links.{Nodes}
 use Rattle.index_tree.specs.Limits.{fewest_entries}
 use Rattle.index_tree.specs.Trees.{IsBetween, IsFrom, IsNodeOf, IsSubtree, IsUpTo, held_below, leaves_below, next_in, nodes_below}
 use Rattle.index_tree.specs.Inserts.{AreChained, Branch, Row, Spread, entry_of, first_link, of_row, times}
+use Rattle.index_tree.specs.Ways.{AllAbove, AllBelow}
 use Rattle.place_lemmas.proofs.Places.{place_tells, some_none}
 use Rattle.index_tree.proofs.Bounds.{held_between}
 use Rattle.index_tree.proofs.FrameRows.{gathered, left_in, open_node, right_in, row_map, row_same}
 use Rattle.index_tree.proofs.Frame.{AgreeBelow, Agrees, all_back, all_front, all_parts, below_children, frame_held, frame_leaves, frame_nodes, frame_subtree}
-use Rattle.index_tree.proofs.InsertOrder.{AllAbove, AllBelow, from_less, least_least, less_from, less_less, not_below, with_number_behind, with_number_front}
+use Rattle.index_tree.proofs.InsertOrder.{with_number_behind, with_number_front}
+use Rattle.index_tree.proofs.KeyOrder.{from_less, least_least, less_from, less_less, not_below}
 
 -- ---- how often a place is in a list
 
@@ -156,7 +158,7 @@ above_trans : (low : Option (List ℕ)) (e f : Entry) → IsFrom low e → IsBel
 above_trans None e f from below = tt
 above_trans (Some key) e f from below = from_less key e.key f.key from below
 
-up_trans : (high : Option (List ℕ)) (e f : Entry) → IsBelow e.key f.key → IsUpTo high f → IsUpTo high e
+pub up_trans : (high : Option (List ℕ)) (e f : Entry) → IsBelow e.key f.key → IsUpTo high f → IsUpTo high e
 up_trans None e f below up = tt
 up_trans (Some key) e f below up = less_less e.key f.key key below up
 

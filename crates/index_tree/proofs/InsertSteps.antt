@@ -10,9 +10,9 @@ use Rattle.tree_nodes.specs.Order.{AreRising}
 use Rattle.index_tree.specs.Inserts.{Branch, Grows, IsRoom, Touched, times}
 use Rattle.regions.specs.Places.{place_of_link, link_to}
 use Rattle.index_tree.specs.Splits.{AdoptsBeside, CutsInner, branch_of, upper_places, widened}
-use Rattle.index_tree.specs.Spots.{IsChildSpot}
 use Rattle.index_tree.specs.Store.{HoldsNode, nodes_of}
 use Rattle.index_tree.specs.Trees.{IsFrom, IsSubtree, IsUpTo, nodes_below}
+use Rattle.index_tree.specs.Ways.{LeadsTo}
 use Rattle.index_tree.specs.Writes.{WritesNode}
 use Rattle.index_tree.specs.declared.split.Split.{Split}
 use Rattle.index_tree.proofs.Frame.{below_children}
@@ -30,7 +30,7 @@ module _ (r : RegionState) (lev level : ℕ) (deep : lev ≡ suc level) (p : Pla
   pub rising : IfSome (nodes_of (live_at r) p) (λ node. AreRising node.entries)
   rising = if_value (λ (n : TreeNode). AreRising n.entries) (nodes_of (live_at r) p) room.subtree.0 room.subtree.1 room.subtree.3.rising
 
-  module _ (i : ℕ) (spot : IfSome (nodes_of (live_at r) p) (λ node. IsChildSpot key i node.entries)) where
+  module _ (i : ℕ) (spot : IfSome (nodes_of (live_at r) p) (λ node. LeadsTo node key i)) where
     pub few_children : i < 17
     few_children =
         let w = below.within r level p key number room.parent room.low room.high room.subtree room.from room.up_to i spot in

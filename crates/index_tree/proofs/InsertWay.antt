@@ -10,7 +10,7 @@ use Rattle.index_tree.specs.Links.{Nodes}
 use Rattle.index_tree.specs.Trees.{IsFrom, IsSubtree, IsUpTo, nodes_below}
 use Rattle.index_tree.proofs.FrameRows.{left_in, links_of, right_in, row_room}
 use Rattle.index_tree.proofs.InsertNode.{roots}
-use Rattle.index_tree.proofs.InsertRows.{child_in, keyed, times_append, times_own}
+use Rattle.index_tree.proofs.InsertRows.{child_in, keyed, times_append}
 use Rattle.place_lemmas.proofs.Places.{led_back}
 
 -- ---- the child of a key
@@ -78,9 +78,3 @@ pub drop_times : (x : Place) (ps : List Place) (n : ℕ) → times x (drop n ps)
 drop_times x ps zero = omega arith
 drop_times x [] (suc n) = omega arith
 drop_times x (p ∷ ps) (suc n) = let rest = drop_times x ps n in omega arith
-
--- one spare place is not among those behind it
-pub drop_once : (ps : List Place) (n : ℕ) (d : Place) → n < length ps → times (get_or ps n d) ps ≤ 1 → times (get_or ps n d) (drop (suc n) ps) ≡ 0
-drop_once [] n d within once = absurd (omega arith)
-drop_once (p ∷ ps) zero d within once = let here = times_own p ps in omega arith
-drop_once (p ∷ ps) (suc n) d within once = drop_once ps n d (omega arith) (let more : times (get_or ps n d) ps ≤ times (get_or ps n d) (p ∷ ps) = omega arith in omega arith)

@@ -1,6 +1,6 @@
 -- A key put into a leaf of the segments.
-use Rattle.std.proofs.Common.{◌≡◌, ◌≢◌, ℕ, zero, suc, ◌+◌, ◌-◌, ◌<◌, ◌≤◌, ◌^◌, Bool, true, false, true≢false, List, [], ◌∷◌, ◌++◌, All, length, take, drop, get_or, Option, Some, None, sym, ap, subst, ◌∙◌, arith}
-use Rattle.std.specs.Prelude.{IfSome}
+use Rattle.std.proofs.Common.{◌≡◌, ◌≢◌, ℕ, zero, suc, ◌+◌, ◌-◌, ◌<◌, ◌≤◌, ◌^◌, Bool, true, false, true≢false, List, [], ◌∷◌, ◌++◌, All, length, take, drop, get_or, Option, Some, None, sym, ap, subst, ◌∙◌, arith, is_lt}
+use Rattle.std.specs.Prelude.{◌↔◌, IfSome, IsTrue}
 use Rattle.std.specs.List.{insert}
 use Rattle.std.proofs.lemmas.List.{drop_all, drop_more}
 use Rattle.std.proofs.lemmas.List.Elements.{All-cons, All-get_or, All-head}
@@ -8,22 +8,30 @@ use Rattle.regions.specs.Segments.{RegionState}
 use Rattle.regions.specs.Contents.{live_at}
 use Rattle.regions.specs.declared.place.Place.{Place}
 use Rattle.tree_nodes.specs.Nodes.{TreeNode, entry_at}
-use Rattle.tree_nodes.specs.Order.{AreRising, count_below}
+use Rattle.tree_nodes.specs.Order.{AreRising, count_below, key_cmp}
 use Rattle.index_tree.specs.Inserts.{Branch, Grows, IsRoom, Touched, times}
 use Rattle.regions.specs.Places.{HasRoom, link_to}
 use Rattle.index_tree.specs.Links.{Nodes}
 use Rattle.index_tree.specs.Splits.{CutsLeaf, branch_of}
 use Rattle.index_tree.specs.Store.{HoldsNode, nodes_of}
 use Rattle.index_tree.specs.Trees.{IsFrom, IsSubtree, IsUpTo}
+use Rattle.index_tree.specs.Ways.{AllAbove, AllBelow}
 use Rattle.index_tree.specs.Writes.{WritesNode, with_entry, with_number_at}
 use Rattle.index_tree.specs.declared.split.Split.{Split}
 use Rattle.index_tree.proofs.FrameRows.{branch}
 use Rattle.index_tree.proofs.InsertLeaf.{leaf_grown, leaf_replaced, leaf_split, refilled}
-use Rattle.index_tree.proofs.InsertOrder.{AllAbove, AllBelow}
 use Rattle.index_tree.proofs.InsertRows.{keyed, times_here, times_own, times_past}
 use Rattle.place_lemmas.proofs.Places.{some_same}
-use Rattle.index_tree.proofs.Spots.{Counts, Has, IsCut, above_free, above_here, cut_below}
+use Rattle.index_tree.proofs.SearchNode.{SplitsAt, behind_rise, leads_to, splits}
 use Rattle.index_tree.proofs.Touches.{live_same, node_past, touched_among, touched_by, value_of}
+use Rattle.index_tree.proofs.KeyOrder.{not_itself}
+
+-- so many entries have keys below the key; and what is told of the entry behind them
+abbrev pub Counts : List ℕ → ℕ → TreeNode → Type 0
+Counts key i node = i ≡ count_below node.entries key
+
+abbrev pub Has : List ℕ → ℕ → Bool → TreeNode → Type 0
+Has key i b node = IsTrue b ↔ ((i < length node.entries) × ((entry_at node i).key ≡ key))
 
 -- no entry at the index has the key
 abbrev pub Free : List ℕ → ℕ → TreeNode → Type 0
@@ -31,11 +39,7 @@ Free key i node = i < length node.entries → (entry_at node i).key ≢ key
 
 pub free_other : (o : Option TreeNode) (key : List ℕ) (i : ℕ) (b : Bool) → IfSome o (Has key i b) → b ≡ false → IfSome o (Free key i)
 free_other None key i b has is = tt
-free_other (Some node) key i b has is = λ within e. true≢false (sym (has.1 e) ∙ is)
-
-pub free_past : (o : Option TreeNode) (key : List ℕ) (i n : ℕ) → IfSome o (λ node. n ≡ length node.entries) → n ≤ i → IfSome o (Free key i)
-free_past None key i n many past = tt
-free_past (Some node) key i n many past = λ within e. absurd (omega arith)
+free_other (Some node) key i b has is = λ within e. true≢false (sym (has.1 (within, e)) ∙ is)
 
 pub times_get : (ps : List Place) (j : ℕ) (d : Place) → j < length ps → 1 ≤ times (get_or ps j d) ps
 times_get [] j d within = absurd (omega arith)
@@ -61,8 +65,9 @@ module _ (r : RegionState) (p : Place) (spares : List Place) (key : List ℕ) (n
   spot_free : (i : ℕ) → IfSome (nodes_of (live_at r) p) (Counts key i) → IfSome (nodes_of (live_at r) p) (Free key i) → (node : TreeNode) → nodes_of (live_at r) p ≡ Some node → Spot i node
   spot_free i counted free node is =
       let counts : i ≡ count_below node.entries key = value_of (Counts key i) (nodes_of (live_at r) p) node is counted in
-      let cut : IsCut key i node.entries = subst (λ n. IsCut key n node.entries) (sym counts) (cut_below key node.entries (rising_of node is)) in
-      (cut.within, cut.front, above_free key node.entries i (rising_of node is) cut.behind (value_of (Free key i) (nodes_of (live_at r) p) node is free))
+      let cut : SplitsAt node.entries key i = subst (λ n. SplitsAt node.entries key n) (sym counts) (splits key node.entries (rising_of node is)) in
+      let other : Free key i node = value_of (Free key i) (nodes_of (live_at r) p) node is free in
+      (cut.within, cut.below, (leads_to node key i (rising_of node is) counts (λ found. other found.0 found.1)).above)
 
   abbrev pub GrowsInto : RegionState → List Branch → List Place → Type 0
   GrowsInto s cs used = (parent : Option Place) (low high : Option (List ℕ)) → IsSubtree (nodes_of (live_at r)) 0 parent low high p → IsFrom low (keyed key number) → IsUpTo high (keyed key number)
@@ -72,17 +77,17 @@ module _ (r : RegionState) (p : Place) (spares : List Place) (key : List ℕ) (n
   none_used = drop_all (length spares) spares (omega arith)
 
   module _ (s : RegionState) (i : ℕ) (some_key : 1 ≤ length key) (short_key : length key ≤ 256) (small : number < 2 ^ 32) (counted : IfSome (nodes_of (live_at r) p) (Counts key i)) where
-    pub set_grows : (n : ℕ) (b : Bool) → IfSome (nodes_of (live_at r) p) (λ node. n ≡ length node.entries) → IfSome (nodes_of (live_at r) p) (Has key i b) → i < n → b ≡ true
-        → WritesNode p (with_number_at i number) r s → GrowsInto s [] (drop (length spares) spares)
-    set_grows n b many has within is w parent low high sub least up =
+    pub set_grows : (b : Bool) → IfSome (nodes_of (live_at r) p) (Has key i b) → b ≡ true → WritesNode p (with_number_at i number) r s → GrowsInto s [] (drop (length spares) spares)
+    set_grows b has is w parent low high sub least up =
         subst (λ (used : List Place). Grows (nodes_of (live_at r)) (nodes_of (live_at s)) 0 parent low high p [] key number used) (sym none_used)
         (leaf_replaced (nodes_of (live_at r)) (nodes_of (live_at s)) parent low high p key number i some_key short_key small least up sub
         (λ node at.
         (let counts : i ≡ count_below node.entries key = value_of (Counts key i) (nodes_of (live_at r) p) node at counted in
-        let short : i < length node.entries = (let l : n ≡ length node.entries = value_of (λ (m : TreeNode). n ≡ length m.entries) (nodes_of (live_at r) p) node at many in omega arith) in
-        let cut : IsCut key i node.entries = subst (λ k. IsCut key k node.entries) (sym counts) (cut_below key node.entries (rising_of node at)) in
-        let same : (entry_at node i).key ≡ key = (value_of (Has key i b) (nodes_of (live_at r) p) node at has).0 is in
-        (short, same, cut.front, above_here key node.entries i (rising_of node at) short same)))
+        let found : (i < length node.entries) × ((entry_at node i).key ≡ key) = (value_of (Has key i b) (nodes_of (live_at r) p) node at has).0 is in
+        let cut : SplitsAt node.entries key i = subst (λ k. SplitsAt node.entries key k) (sym counts) (splits key node.entries (rising_of node at)) in
+        let not_less : is_lt (key_cmp (entry_at node i).key key) ≡ false = ap (λ (k : List ℕ). is_lt (key_cmp k key)) found.1 ∙ not_itself key in
+        let next : i + 1 ≡ suc i = omega arith in
+        (found.0, found.1, cut.below, subst (λ k. AllAbove key (drop k node.entries)) next (behind_rise node.entries key i (rising_of node at) found.0 not_less))))
         w.here (λ q far. node_past p (with_number_at i number) r s q w far))
 
     pub set_touched : WritesNode p (with_number_at i number) r s → Touched (p ∷ spares) r s

@@ -22,8 +22,9 @@ use Rattle.index_tree.specs.Store.{HoldsNode, nodes_of}
 use Rattle.index_tree.specs.Trees.{IsSpare, nodes_below, places_of}
 use Rattle.index_tree.specs.inside.Consistent.{IsConsistent}
 use Rattle.index_tree.specs.inside.Rosters.{IsRosterOf, RosterState, settled}
+use Rattle.index_tree.specs.Ways.{AllAbove}
 use Rattle.index_tree.proofs.GrownRoster.{grown_roster}
-use Rattle.index_tree.proofs.InsertOrder.{AllAbove, greater_less, less_less, tied, with_number_between, with_number_front, with_number_here}
+use Rattle.index_tree.proofs.InsertOrder.{with_number_between, with_number_front, with_number_here}
 use Rattle.index_tree.proofs.InsertRows.{all_by_times, times_append}
 use Rattle.index_tree.proofs.Neighbors.{node_here}
 use Rattle.index_tree.proofs.Once.{once_of_apart, stands_at}
@@ -31,6 +32,7 @@ use Rattle.index_tree.proofs.SearchLists.{number_amid}
 use Rattle.index_tree.proofs.SearchNode.{is_live}
 use Rattle.index_tree.proofs.SearchWay.{held_rises}
 use Rattle.index_tree.proofs.Settled.{consistent_settled}
+use Rattle.index_tree.proofs.KeyOrder.{greater_less, less_less, tied}
 
 -- ---- what the insertion asks
 

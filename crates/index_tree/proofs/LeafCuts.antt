@@ -16,7 +16,7 @@ use Rattle.index_tree.specs.Store.{ChangesNode, HoldsNode, nodes_of}
 use Rattle.index_tree.specs.Trees.{entries_of}
 use Rattle.index_tree.specs.Writes.{WritesNode, with_entry, without_entries}
 use Rattle.index_tree.specs.declared.split.Split.{Split}
-use Rattle.index_tree.proofs.Touches.{both_held, either_behind, either_here, held_still, node_past, node_there, touched_by, touched_then, value_of}
+use Rattle.index_tree.proofs.Touches.{both_held, either_behind, either_here, node_past, node_there, touched_by, touched_then, value_of}
 use Rattle.index_tree.proofs.Writes.{eases}
 
 module _ (r s : RegionState) (p q : Place) (i : ℕ) (e : Entry) (holds_p : HoldsNode (live_at r) p) (holds_q : HoldsNode (live_at r) q) (apart : p ≢ q)
@@ -84,9 +84,6 @@ module _ (r a b c d : RegionState) (p q : Place) (node : TreeNode) (holds_p : Ho
   apart_too : q ≢ p
   apart_too x = apart (sym x)
 
-  pub holds_a : HoldsNode (live_at a) p
-  holds_a = held_still q (λ _. node) r a p copied holds_p
-
   copied_q : nodes_of (live_at a) q ≡ Some node
   copied_q = copied.here ∙ ap (λ (o : Option TreeNode). option_map (λ (_ : TreeNode). node) o) (node_there r q holds_q).1
 
@@ -122,12 +119,6 @@ module _ (r a b c d : RegionState) (p q : Place) (node : TreeNode) (holds_p : Ho
 
   pub upper_eight : length (drop 8 node.entries) ≡ 8
   upper_eight = length-drop 8 node.entries ∙ omega arith
-
-  pub holds_d_p : HoldsNode (live_at d) p
-  holds_d_p = lower.holds
-
-  pub holds_d_q : HoldsNode (live_at d) q
-  holds_d_q = held_still p (without_entries 8 8) c d q lower upper.holds
 
   ps : List Place
   ps = p ∷ q ∷ []

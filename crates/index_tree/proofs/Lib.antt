@@ -23,7 +23,7 @@ pub mod InsertWay
 pub mod InsertedLeaf
 pub mod InsertedTree
 pub mod LeafCuts
-pub mod LeafMends
+pub mod KeyOrder
 pub mod Lengths
 pub mod Lists
 pub mod Lives
@@ -71,11 +71,9 @@ pub mod SearchWay
 pub mod Settled
 pub mod Slots
 pub mod SplitInner
-pub mod Spots
 pub mod States
 pub mod Stays
 pub mod Touches
-pub mod TreeForms
 pub mod Unmoved
 pub mod Whole
 pub mod Within

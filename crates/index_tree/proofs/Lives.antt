@@ -26,7 +26,7 @@ rewritten_same (Some s) b bytes ws e same long is =
     with_content item content = record item { content = content }
 
 -- what is live where a content was written over
-live_now : (a : Option Standing) (item : Item) (ws : List ℕ) → item_if_live a ≡ Some item → item_if_live (option_map (with_bytes ws) a) ≡ Some (record item { content = ws })
+pub live_now : (a : Option Standing) (item : Item) (ws : List ℕ) → item_if_live a ≡ Some item → item_if_live (option_map (with_bytes ws) a) ≡ Some (record item { content = ws })
 live_now None item ws e = some_none e refl
 live_now (Some s) item ws e = go s.live refl
   where
@@ -37,7 +37,7 @@ live_now (Some s) item ws e = go s.live refl
     go false is = some_none e (ap (λ l. if_live l s.item) is)
 
 -- the content that stands is the live one's
-content_live : (a : Option Standing) (item : Item) (bytes : List ℕ) → item_if_live a ≡ Some item → option_map (λ (s : Standing). s.item.content) a ≡ Some bytes → item.content ≡ bytes
+pub content_live : (a : Option Standing) (item : Item) (bytes : List ℕ) → item_if_live a ≡ Some item → option_map (λ (s : Standing). s.item.content) a ≡ Some bytes → item.content ≡ bytes
 content_live None item bytes e is = some_none e refl
 content_live (Some s) item bytes e is = go s.live refl
   where

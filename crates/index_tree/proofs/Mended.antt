@@ -15,6 +15,8 @@ use Rattle.index_tree.specs.Trees.{entries_of, next_in}
 use Rattle.index_tree.specs.inside.Climbs.{HoldNodes, child_in, parent_in}
 use Rattle.index_tree.specs.inside.Mends.{AreItsChildren, ChangesIf, IsItsFront, IsItsParent, Mends, mended_children, mended_next, mended_parent}
 use Rattle.place_lemmas.proofs.Places.{option_tells, place_cases, some_is, some_none}
+use Rattle.index_tree.proofs.Adoptions.{parent_twice}
+use Rattle.index_tree.proofs.SearchNode.{is_live}
 
 -- ---- regions
 
@@ -23,14 +25,6 @@ same_again r s t a b = record { objects = λ p. b.objects p ∙ a.objects p; use
 
 pub same_self : (r : RegionState) → SameBut bare r r
 same_self r = record { objects = λ p. refl; used = refl; live = refl; shape = refl }
-
--- where a node is one lives
-pub lives : (live : Live) (p : Place) (node : TreeNode) → nodes_of live p ≡ Some node → IsSome (live p)
-lives live p node is = go (live p) refl
-  where
-    go : (o : Option Item) → live p ≡ o → IsSome (live p)
-    go None e = some_none is (ap (λ (o : Option Item). option_map (λ (item : Item). node_in item.content) o) e)
-    go (Some item) e = subst (λ (o : Option Item). IsSome o) (sym e) refl
 
 pub node_there : (live : Live) (p : Place) → HoldsNode live p → (node : TreeNode) × (nodes_of live p ≡ Some node)
 node_there live p (item, is, holds) = (node_in item.content, ap (λ (o : Option Item). option_map (λ (x : Item). node_in x.content) o) is)
@@ -119,7 +113,7 @@ children_miss from to (Some node) far = ap (λ (ls : List ℕ). Some (record nod
 
 pub front_holds : (live : Live) (p : Place) (front : Option Place) → HoldNodes live → IsItsFront (nodes_of live) p front → IfSome front (λ q. HoldsNode live q)
 front_holds live p None holds is = tt
-front_holds live p (Some q) holds is = (let there = some_node (nodes_of live q) (is.stands q refl) in holds q (lives live q there.0 there.1))
+front_holds live p (Some q) holds is = (let there = some_node (nodes_of live q) (is.stands q refl) in holds q (is_live live q there.0 there.1))
 
 pub front_mended : (from to : Place) (front : Option Place) (old new : RegionState) → IsItsFront (nodes_of (live_at old)) from front
     → ChangesIf front (with_next (link_to (Some to))) old new → Mends (mended_next from to) old new
@@ -162,14 +156,6 @@ child_same : (o : Option TreeNode) (link i : ℕ) → child_in (option_map (with
 child_same None link i = refl
 child_same (Some node) link i = refl
 
-entries_same : (o : Option TreeNode) (link : ℕ) → entries_of (option_map (with_parent link) o) ≡ entries_of o
-entries_same None link = refl
-entries_same (Some node) link = refl
-
-twice : (o : Option TreeNode) (link : ℕ) → option_map (with_parent link) (option_map (with_parent link) o) ≡ option_map (with_parent link) o
-twice None link = refl
-twice (Some node) link = refl
-
 -- the children of the node are the same meanwhile
 pub children_still : (from to : Place) (old now : RegionState) (count i : ℕ) → AreLedUp from to old now count → child_in (nodes_of (live_at now) from) i ≡ child_in (nodes_of (live_at old) from) i
 children_still from to old now count i led = elim (led.either from) [
@@ -199,7 +185,7 @@ led_more from to old now new i child are led is c = record {
     written : (p : Place) → child ≡ Some p → nodes_of (live_at new) p ≡ option_map (with_parent (link_to (Some to))) (nodes_of (live_at old) p)
     written p e = elim (led.either p) [
       | inl h ↦ c.here p e ∙ ap (λ (o : Option TreeNode). option_map (with_parent (link_to (Some to))) o) h
-      | inr h ↦ c.here p e ∙ (ap (λ (o : Option TreeNode). option_map (with_parent (link_to (Some to))) o) h.0 ∙ twice (nodes_of (live_at old) p) (link_to (Some to)))
+      | inr h ↦ c.here p e ∙ (ap (λ (o : Option TreeNode). option_map (with_parent (link_to (Some to))) o) h.0 ∙ parent_twice (nodes_of (live_at old) p) (link_to (Some to)))
     ]
 
     earlier : (j : ℕ) (q : Place) → j < i + 1 → led_to (child_in (nodes_of (live_at old) from) j) ≡ Some q → child ≢ Some q → j < i
@@ -229,7 +215,7 @@ pub child_holds : (from to : Place) (old now : RegionState) (count i : ℕ) (chi
 child_holds from to old now count i None holds are led is = tt
 child_holds from to old now count i (Some q) holds are led is =
     let there = still_there from to old now count q led (are.stands i q (sym is)) in
-    led.holds holds q (lives (live_at now) q there.0 there.1)
+    led.holds holds q (is_live (live_at now) q there.0 there.1)
 
 -- all of them
 pub children_mended : (from to : Place) (old new : RegionState) (count : ℕ) → AreItsChildren (nodes_of (live_at old)) from → length (entries_of (nodes_of (live_at old) from)) < count

@@ -12,7 +12,7 @@ use Rattle.index_tree.specs.Indexes.{Index}
 use Rattle.regions.specs.Places.{HasRoom, led_to, link_to}
 use Rattle.index_tree.specs.Links.{Nodes, bare, references}
 use Rattle.index_tree.specs.Moves.{mended, moved, moved_tree}
-use Rattle.index_tree.specs.Sizes.{node_kind}
+use Rattle.layout.specs.Kinds.{node_kind}
 use Rattle.index_tree.specs.Store.{nodes_of}
 use Rattle.index_tree.specs.Trees.{IsTree, TreeState, entries_of, index_of, next_at, next_in, nodes_below, places_of}
 use Rattle.index_tree.specs.inside.Climbs.{HoldNodes, IsBefore, IsTreeIn, child_in, parent_in}
@@ -20,7 +20,6 @@ use Rattle.index_tree.specs.inside.Mends.{AreItsChildren, IsItsFront, IsItsParen
 use Rattle.index_tree.specs.inside.Rosters.{AreListed, IsRosterOf, RosterState, Shape, moved_roster, place_of, shape_of}
 use Rattle.place_lemmas.proofs.Places.{leads_on, less_here, less_past, option_cases, place_cases, place_tells, renamed_here, renamed_past, some_none, some_same}
 use Rattle.index_tree.proofs.Lists.{Among, among_either}
-use Rattle.index_tree.proofs.Mended.{lives}
 use Rattle.index_tree.proofs.Moved.{index_moved, node_moved}
 use Rattle.index_tree.proofs.Positions.{no_link}
 use Rattle.index_tree.proofs.Whole.{Stands, all_stand, came_from, got_all, got_from, got_mapped, renamed_apart, tree_moved}
@@ -28,6 +27,7 @@ use Rattle.index_tree.proofs.Within.{places_within, tree_within}
 use Rattle.index_tree.proofs.Neighbors.{below_at, child_back, child_known, child_once, child_only, no_own_child, no_own_next, no_own_parent, parent_only, place_room, spare_at}
 use Rattle.index_tree.proofs.Climbed.{above_it}
 use Rattle.index_tree.proofs.References.{is_there, refs, refs_of, refs_renamed, same_live, some_of, there_too}
+use Rattle.index_tree.proofs.SearchNode.{is_live}
 
 -- ---- the list of all places
 
@@ -59,7 +59,7 @@ roster_stands r live is = record {
   placed = λ n i e. placed n i (place_of r n) refl e;
   known = λ n p e.
       (let there = some_of (nodes_of live p) (is.listed.stands n p e) in
-      let item = some_of (live p) (lives live p there.0 there.1) in
+      let item = some_of (live p) (is_live live p there.0 there.1) in
       subst (λ (o : Option Place). IsSome (found bare live o)) (sym e) (is_there (option_map bare (live p)) (bare item.0) (ap (λ (o : Option Item). option_map bare o) item.1)));
   apart = is.listed.apart;
   every = λ p i e.

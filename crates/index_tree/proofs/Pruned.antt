@@ -24,7 +24,6 @@ use Rattle.index_tree.proofs.Frame.{Agrees, adopted_held, adopted_leaves, adopte
 use Rattle.index_tree.proofs.FrameRows.{close_node, links_of}
 use Rattle.index_tree.proofs.InsertNode.{chained_same, next_adopted}
 use Rattle.index_tree.proofs.InsertRows.{all_by_times, leaves_among, times_append, times_here, times_of_all}
-use Rattle.index_tree.proofs.Mended.{lives}
 use Rattle.index_tree.proofs.Moved.{room_of}
 use Rattle.place_lemmas.proofs.Places.{leads_on, led_back, place_cases, some_is, some_none}
 use Rattle.index_tree.proofs.RemoveInner.{child_many}
@@ -32,6 +31,7 @@ use Rattle.index_tree.proofs.RemoveRows.{tight_of}
 use Rattle.index_tree.proofs.Rows.{left_between}
 use Rattle.index_tree.proofs.Touches.{held_same, node_past, node_there}
 use Rattle.index_tree.proofs.Writes.{eases}
+use Rattle.index_tree.proofs.SearchNode.{is_live}
 
 none_long : (es : List Entry) → length es ≡ 0 → es ≡ []
 none_long [] is = refl
@@ -278,12 +278,12 @@ module _ (nodes mid new : Nodes) (level : ℕ) (root child : Place) (key : List 
 
 tree_held : (r : RegionState) (level : ℕ) (parent : Option Place) (low high : Option (List ℕ)) (p : Place) → HoldNodes (live_at r) → IsSubtree (nodes_of (live_at r)) level parent low high p
     → HoldsNode (live_at r) p
-tree_held r zero parent low high p hold sub = hold p (lives (live_at r) p sub.0 sub.1)
-tree_held r (suc level) parent low high p hold sub = hold p (lives (live_at r) p sub.0 sub.1)
+tree_held r zero parent low high p hold sub = hold p (is_live (live_at r) p sub.0 sub.1)
+tree_held r (suc level) parent low high p hold sub = hold p (is_live (live_at r) p sub.0 sub.1)
 
 pub trunk_held : (r : RegionState) (level : ℕ) (root : Place) → HoldNodes (live_at r) → IsTrunk (nodes_of (live_at r)) level None None None root → HoldsNode (live_at r) root
-trunk_held r zero root hold t = hold root (lives (live_at r) root t.0 t.1)
-trunk_held r (suc level) root hold t = hold root (lives (live_at r) root t.node t.is)
+trunk_held r zero root hold t = hold root (is_live (live_at r) root t.0 t.1)
+trunk_held r (suc level) root hold t = hold root (is_live (live_at r) root t.node t.is)
 
 pub empty_by : (o : Option TreeNode) (n : ℕ) → IfSome o (λ node. n ≡ length node.entries) → n ≡ 0 → length (entries_of o) ≡ 0
 empty_by None n is none = refl

@@ -18,7 +18,7 @@ use Rattle.index_tree.proofs.Frame.{Agrees}
 use Rattle.index_tree.proofs.FrameRows.{Opened, gathered, left_in, links_of, right_in}
 use Rattle.index_tree.proofs.InsertRows.{IsAbove, RowKeys, above_from, all_by_times, child_in, keyed, left_from, row_from, row_joined, row_keys, times_append}
 use Rattle.index_tree.proofs.SearchLists.{without_behind, without_front}
-use Rattle.index_tree.proofs.SearchDown.{less_least}
+use Rattle.index_tree.proofs.KeyOrder.{less_from}
 use Rattle.index_tree.proofs.Rows.{kids_row, left_between}
 use Rattle.index_tree.proofs.RemoveRows.{alters_behind, alters_front, same_row}
 use Rattle.index_tree.proofs.RemoveInner.{HasLinks, reordered, trunk_gathered}
@@ -41,7 +41,7 @@ module _ (nodes new : Nodes) (level : ℕ) (p : Place) (key : List ℕ) (freed :
       let held : List Entry = of_row (held_below nodes level) b.place ys in (
         row_joined new level (Some p) low high first cs b ys became.0 same.row,
         alters_behind (without key) nodes new level (Some p) freed (Some b.entry.key) high first bs cs b ys same
-            (λ t. without_front key t held (All-weaker (IsFrom (Some b.entry.key)) (λ e. IsBelow key e.key) (λ e from. less_least key b.entry.key e.key under from) held (row_from nodes p level b.place ys (Some b.entry.key) high row)))
+            (λ t. without_front key t held (All-weaker (IsFrom (Some b.entry.key)) (λ e. IsBelow key e.key) (λ e from. less_from key b.entry.key e.key under from) held (row_from nodes p level b.place ys (Some b.entry.key) high row)))
             became.1,
       )
 
@@ -52,7 +52,7 @@ module _ (nodes new : Nodes) (level : ℕ) (p : Place) (key : List ℕ) (freed :
       let same = same_row nodes new level (Some p) first [] low (Some b.entry.key) sub agree in
       let held : List Entry = held_below nodes level (Some first) in
       let under : All (λ e. IsBelow e.key key) held =
-      All-weaker (IsBetween low (Some b.entry.key)) (λ e. IsBelow e.key key) (λ e h. less_least e.key b.entry.key key h.1 from) held (held_between nodes level (Some p) low (Some b.entry.key) first sub) in (
+      All-weaker (IsBetween low (Some b.entry.key)) (λ e. IsBelow e.key key) (λ e h. less_from e.key b.entry.key key h.1 from) held (held_between nodes level (Some p) low (Some b.entry.key) first sub) in (
         (same.row, became.0),
         alters_front (without key) nodes new level (Some p) freed low (Some b.entry.key) first [] b bs cs same
             (λ t. without_behind key (held ++ []) t (subst (λ (es : List Entry). All (λ e. IsBelow e.key key) es) (sym (append-nil held)) under))
@@ -93,10 +93,6 @@ module _ (nodes new : Nodes) (level : ℕ) (p : Place) (key : List ℕ) (freed :
           let a = times_append r (nodes_below nodes level (Some top)) (of_row (nodes_below nodes level) d.place ds) in
           let b = child_among d.place ds j (omega arith) r in
           omega arith
-
-  -- two children side by side
-  abbrev pub at_branch : List Branch → ℕ → List Branch
-  at_branch bs j = take 1 (drop j bs)
 
   agree_past : (ps part : List Place) → ((r : Place) → r ≢ p → times r part ≡ 0 → new r ≡ nodes r) → ((r : Place) → 1 ≤ times r ps → r ≢ p) → ((r : Place) → times r part + times r ps ≤ 1)
       → All (Agrees nodes new) ps

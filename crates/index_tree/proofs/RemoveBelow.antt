@@ -7,7 +7,7 @@ use Rattle.regions.specs.declared.place.Place.{Place}
 use Rattle.tree_nodes.specs.Nodes.{Entry, TreeNode, child_at, entry_at, no_place}
 use Rattle.tree_nodes.specs.Order.{count_below, key_cmp}
 use Rattle.index_tree.specs.Indexes.{number_of}
-use Rattle.regions.specs.Places.{HasRoom, led_to, link_to, place_of_link}
+use Rattle.regions.specs.Places.{led_to, place_of_link}
 use Rattle.index_tree.specs.Links.{Nodes}
 use Rattle.index_tree.specs.Limits.{fewest_entries}
 use Rattle.index_tree.specs.Trees.{IsFrom, IsSubtree, IsUpTo, entries_of, held_below, left_of, nodes_below, right_of}
@@ -15,17 +15,21 @@ use Rattle.index_tree.specs.Ways.{AllAbove, AllBelow, LeadsTo}
 use Rattle.index_tree.specs.Writes.{without_entries}
 use Rattle.index_tree.specs.Inserts.{Branch, entry_of, of_row, times}
 use Rattle.index_tree.specs.Removes.{CanLose, IsShort, Loses}
-use Rattle.place_lemmas.proofs.Places.{led_back, some_none, some_same}
+use Rattle.place_lemmas.proofs.Places.{some_none, some_same}
 use Rattle.index_tree.proofs.Moved.{room_of}
-use Rattle.index_tree.proofs.FrameRows.{Opened, gathered, left_in, links_of, open_node, right_in}
+use Rattle.index_tree.proofs.FrameRows.{Opened, gathered, left_in, left_of_in, links_of, open_node, right_in, right_of_in}
 use Rattle.index_tree.proofs.InsertRows.{child_in, keyed, times_append}
-use Rattle.index_tree.proofs.SearchNode.{SplitsAt, behind_rise, not_itself, of_some_value, splits}
+use Rattle.index_tree.proofs.SearchNode.{SplitsAt, behind_rise, splits}
+use Rattle.index_tree.proofs.SearchDown.{led_place}
 use Rattle.index_tree.proofs.RemovePair.{from_at, up_at}
 use Rattle.index_tree.proofs.RemoveKept.{found_at, kept_loses, number_child}
 use Rattle.index_tree.proofs.RemoveLeaf.{leaf_loses}
 use Rattle.index_tree.proofs.RemoveShort.{branches_size, child_led, child_link, child_room}
-use Rattle.index_tree.proofs.RemoveSteps.{child_tree, left_of_in, right_of_in}
+use Rattle.index_tree.proofs.RemoveSteps.{child_tree}
 use Rattle.index_tree.proofs.RemoveInner.{HasLinks}
+use Rattle.index_tree.proofs.KeyOrder.{not_itself}
+use Rattle.index_tree.proofs.Positions.{same_link}
+use Rattle.index_tree.proofs.Touches.{value_of}
 
 child_among : (nodes : Nodes) (level : ℕ) (top : Place) (ds : List Branch) (j : ℕ) → j ≤ length ds → (r : Place) → times r (nodes_below nodes level (Some (child_in top ds j))) ≤ times r (of_row (nodes_below nodes level) top ds)
 child_among nodes level top ds zero within r = let a = times_append r (nodes_below nodes level (Some top)) (flat_map (λ (d : Branch). nodes_below nodes level (Some d.place)) ds) in omega arith
@@ -45,9 +49,6 @@ opened_has nodes level parent low high p o =
       others = subst (λ k. All (λ link. link ≡ no_place) (drop (suc k) o.node.children)) size o.inner.others;
     }
 
-same_link : (a b : Place) → HasRoom a → HasRoom b → link_to (Some a) ≡ link_to (Some b) → a ≡ b
-same_link a b room_a room_b e = sym (led_back a room_a) ∙ (ap (λ l. place_of_link l) e ∙ led_back b room_b)
-
 module _ (nodes : Nodes) (k : ℕ) (parent : Option Place) (low high : Option (List ℕ)) (p : Place) (key : List ℕ) (i : ℕ) (tree : IsSubtree nodes (suc k) parent low high p)
     (from : IsFrom low (keyed key 0)) (up : IsUpTo high (keyed key 0)) (once : (r : Place) → times r (nodes_below nodes (suc k) (Some p)) ≤ 1)
     (leads : IfSome (nodes p) (λ node. LeadsTo node key i)) where
@@ -55,7 +56,7 @@ module _ (nodes : Nodes) (k : ℕ) (parent : Option Place) (low high : Option (L
   node_open = open_node nodes k parent low high p tree
 
   leads_open : LeadsTo node_open.node key i
-  leads_open = of_some_value (λ node. LeadsTo node key i) (nodes p) node_open.node node_open.is leads
+  leads_open = value_of (λ node. LeadsTo node key i) (nodes p) node_open.node node_open.is leads
 
   inside : i ≤ length node_open.branches
   inside = let a = leads_open.within in let b = branches_size nodes k parent low high p node_open in omega (arith, a, b)
@@ -64,7 +65,7 @@ module _ (nodes : Nodes) (k : ℕ) (parent : Option Place) (low high : Option (L
   the_child = child_in node_open.first node_open.branches i
 
   pub led_child : (link : ℕ) → IfSome (nodes p) (λ node. link ≡ child_at node i) → led_to link ≡ Some the_child
-  led_child link read = child_led nodes k parent low high p node_open i link inside (of_some_value (λ node. link ≡ child_at node i) (nodes p) node_open.node node_open.is read)
+  led_child link read = child_led nodes k parent low high p node_open i link inside (value_of (λ node. link ≡ child_at node i) (nodes p) node_open.node node_open.is read)
 
   pub child_sub : IsSubtree nodes k (Some p) (left_in low (map entry_of node_open.branches) i) (right_in (map entry_of node_open.branches) high i) the_child
   child_sub = child_tree nodes k p i node_open.first node_open.branches low high node_open.row inside
@@ -91,7 +92,7 @@ module _ (nodes : Nodes) (k : ℕ) (parent : Option Place) (low high : Option (L
       ∙ ap (λ (q : Place). number_of key (held_below nodes k (Some q))) same
     where
       leads_tree : LeadsTo tree.0 key i
-      leads_tree = of_some_value (λ node. LeadsTo node key i) (nodes p) tree.0 tree.1 leads
+      leads_tree = value_of (λ node. LeadsTo node key i) (nodes p) tree.0 tree.1 leads
 
       same : (tree.5 i leads_tree.within).0 ≡ the_child
       same =
@@ -151,7 +152,7 @@ pub leaf_found : (nodes : Nodes) (level : ℕ) (parent : Option Place) (low high
     → IsSome (number_of key (entries_of (nodes p))) → IfSome (nodes p) (λ node. n ≡ count_below node.entries key) → FoundIn nodes p key n
 leaf_found nodes (suc level) parent low high p key n e tree there counted = absurd (omega arith)
 leaf_found nodes zero parent low high p key n e (node, is, here, of, none) there counted =
-    let count : n ≡ count_below node.entries key = of_some_value (λ node. n ≡ count_below node.entries key) (nodes p) node is counted in
+    let count : n ≡ count_below node.entries key = value_of (λ node. n ≡ count_below node.entries key) (nodes p) node is counted in
     let found = found_at node key n of.rising count (subst (λ (o : Option TreeNode). IsSome (number_of key (entries_of o))) is there) in
     let cut : SplitsAt node.entries key n = subst (λ k. SplitsAt node.entries key k) (sym count) (splits key node.entries of.rising) in
     record {
@@ -217,7 +218,7 @@ led_step nodes (suc k) parent low high p key i some tree from up once leads link
 
 pub step_of : (nodes : Nodes) (level : ℕ) (parent : Option Place) (low high : Option (List ℕ)) (p : Place) (key : List ℕ) (i : ℕ) → 0 < level → IsSubtree nodes level parent low high p
     → IsFrom low (keyed key 0) → IsUpTo high (keyed key 0) → ((r : Place) → times r (nodes_below nodes level (Some p)) ≤ 1) → IfSome (nodes p) (λ node. LeadsTo node key i)
-    → (link : ℕ) → IfSome (nodes p) (λ node. link ≡ child_at node i) → (res : Option Place) (child : Place) → res ≡ led_to link → res ≡ Some child → Step nodes (level - 1) level parent low high p key i child
-step_of nodes level parent low high p key i some tree from up once leads link read res child led is =
+    → (link : ℕ) → IfSome (nodes p) (λ node. link ≡ child_at node i) → (child : Place) → child ≡ place_of_link link → Step nodes (level - 1) level parent low high p key i child
+step_of nodes level parent low high p key i some tree from up once leads link read child is =
     let s = led_step nodes level parent low high p key i some tree from up once leads link read in
-    subst (λ (q : Place). Step nodes (level - 1) level parent low high p key i q) (some_same s.1 (sym led ∙ is)) s.2
+    subst (λ (q : Place). Step nodes (level - 1) level parent low high p key i q) (sym (led_place link child s.0 is s.1)) s.2

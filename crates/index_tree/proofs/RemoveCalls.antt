@@ -8,18 +8,19 @@ use Rattle.regions.specs.Stores.{SameBut, without_references}
 use Rattle.index_tree.specs.Writes.{blank}
 use Rattle.regions.specs.declared.place.Place.{Place}
 use Rattle.tree_nodes.specs.Nodes.{TreeNode, child_at}
-use Rattle.regions.specs.Places.{led_to}
+use Rattle.regions.specs.Places.{led_to, place_of_link}
 use Rattle.index_tree.specs.Links.{Nodes}
 use Rattle.index_tree.specs.Store.{HoldsNode, nodes_of}
-use Rattle.index_tree.specs.Mended.{Adopts, AreUneven, HasKids, IsMendedAt, OnlyThree}
+use Rattle.index_tree.specs.Mended.{AdoptsAll, AreUneven, HasKids, IsMendedAt, OnlyThree}
 use Rattle.index_tree.specs.Removes.{IsShort, Loses}
-use Rattle.place_lemmas.proofs.Places.{place_cases, some_is, some_none, some_same}
+use Rattle.place_lemmas.proofs.Places.{place_cases, some_is, some_none}
 use Rattle.index_tree.proofs.InsertRows.{child_in}
-use Rattle.index_tree.proofs.SearchNode.{in_some, of_some_value}
+use Rattle.index_tree.proofs.SearchDown.{led_place}
 use Rattle.index_tree.proofs.RemoveFinal.{even_mended, left_kids, one_mended, right_kids}
 use Rattle.index_tree.proofs.RemoveLeaves.{freed_by, leaves_mended}
 use Rattle.index_tree.proofs.RemoveShort.{child_led, j_within, leads_in, loses_in, near_in, opened, pair_here, seven_in}
 use Rattle.index_tree.proofs.RemoveSteps.{far_apart, far_left, far_right, parent_now, uneven}
+use Rattle.index_tree.proofs.Touches.{if_value, value_of}
 
 -- the children beside the key, of which one is short
 module _ {nodes : Nodes} (r1 : RegionState) {level : ℕ} {parent : Option Place} {low high : Option (List ℕ)} {p : Place} {i : ℕ} {key : List ℕ} {freed : List Place}
@@ -36,12 +37,12 @@ module _ {nodes : Nodes} (r1 : RegionState) {level : ℕ} {parent : Option Place
   pub left_led : (link : ℕ) → IfSome (nodes_of (live_at r1) p) (λ node. link ≡ child_at node (i - 1)) → led_to link ≡ Some left_of_pair
   left_led link read =
       child_led nodes level parent low high p (opened sh) (i - 1) link (let a = j_within sh in omega (arith, a))
-      (of_some_value (λ node. link ≡ child_at node (i - 1)) (nodes_of (live_at r1) p) (opened sh).node parent_there read)
+      (value_of (λ node. link ≡ child_at node (i - 1)) (nodes_of (live_at r1) p) (opened sh).node parent_there read)
 
   pub right_led : (link : ℕ) → IfSome (nodes_of (live_at r1) p) (λ node. link ≡ child_at node (i - 1 + 1)) → led_to link ≡ Some right_of_pair
   right_led link read =
       child_led nodes level parent low high p (opened sh) (suc (i - 1)) link (let a = j_within sh in omega (arith, a))
-      (of_some_value (λ node. link ≡ child_at node (i - 1 + 1)) (nodes_of (live_at r1) p) (opened sh).node parent_there read ∙ ap (λ n. child_at (opened sh).node n) {x = i - 1 + 1} {y = suc (i - 1)} (omega arith))
+      (value_of (λ node. link ≡ child_at node (i - 1 + 1)) (nodes_of (live_at r1) p) (opened sh).node parent_there read ∙ ap (λ n. child_at (opened sh).node n) {x = i - 1 + 1} {y = suc (i - 1)} (omega arith))
       ∙ ap (λ (q : Place). Some q) (pair_here sh).right_is
 
   pub are_uneven : AreUneven (nodes_of (live_at r1)) (i - 1) p left_of_pair right_of_pair
@@ -57,11 +58,11 @@ module _ {nodes : Nodes} (r1 : RegionState) {level : ℕ} {parent : Option Place
   pair_far = far_apart nodes (nodes_of (live_at r1)) level parent low high p key i (i - 1) freed (opened sh) (leads_in sh) sh.from sh.up sh.once (j_within sh) (near_in sh) (pair_here sh) (loses_in sh) (seven_in sh)
 
   -- what the code found
-  pub is_left : (j link : ℕ) (res : Option Place) (q : Place) → j ≡ i - 1 → res ≡ led_to link → res ≡ Some q → IfSome (nodes_of (live_at r1) p) (λ node. link ≡ child_at node j) → q ≡ left_of_pair
-  is_left j link res q j_is led is read = some_same (sym led ∙ is) (left_led link (subst (λ n. IfSome (nodes_of (live_at r1) p) (λ node. link ≡ child_at node n)) j_is read))
+  pub is_left : (j link : ℕ) (q : Place) → j ≡ i - 1 → q ≡ place_of_link link → IfSome (nodes_of (live_at r1) p) (λ node. link ≡ child_at node j) → q ≡ left_of_pair
+  is_left j link q j_is is read = led_place link q left_of_pair is (left_led link (subst (λ n. IfSome (nodes_of (live_at r1) p) (λ node. link ≡ child_at node n)) j_is read))
 
-  pub is_right : (j link : ℕ) (res : Option Place) (q : Place) → j ≡ i - 1 → res ≡ led_to link → res ≡ Some q → IfSome (nodes_of (live_at r1) p) (λ node. link ≡ child_at node (j + 1)) → q ≡ right_of_pair
-  is_right j link res q j_is led is read = some_same (sym led ∙ is) (right_led link (subst (λ n. IfSome (nodes_of (live_at r1) p) (λ node. link ≡ child_at node (n + 1))) j_is read))
+  pub is_right : (j link : ℕ) (q : Place) → j ≡ i - 1 → q ≡ place_of_link link → IfSome (nodes_of (live_at r1) p) (λ node. link ≡ child_at node (j + 1)) → q ≡ right_of_pair
+  is_right j link q j_is is read = led_place link q right_of_pair is (right_led link (subst (λ n. IfSome (nodes_of (live_at r1) p) (λ node. link ≡ child_at node (n + 1))) j_is read))
 
   pub mended_there : (above joined : Bool) (j : ℕ) (left right : Place) (new : Nodes) → j ≡ i - 1 → left ≡ left_of_pair → right ≡ right_of_pair → IsMendedAt above joined j p left right (nodes_of (live_at r1)) new
       → IsMendedAt above joined (i - 1) p left_of_pair right_of_pair (nodes_of (live_at r1)) new
@@ -75,13 +76,13 @@ module _ {nodes : Nodes} (r1 : RegionState) {level : ℕ} {parent : Option Place
       subst (λ (x : Place). OnlyThree p left_of_pair x r1 r2) r (subst (λ (x : Place). OnlyThree p x right r1 r2) l t)
 
 -- an adoption, and what it asks, at a place of another name
-pub adopts_there : (r2 r3 : RegionState) (q q2 : Place) (node : TreeNode) → q ≡ q2 → nodes_of (live_at r2) q2 ≡ Some node → IfSome (nodes_of (live_at r2) q) (λ n. Adopts q n r2 r3) → Adopts q2 node r2 r3
+pub adopts_there : (r2 r3 : RegionState) (q q2 : Place) (node : TreeNode) → q ≡ q2 → nodes_of (live_at r2) q2 ≡ Some node → IfSome (nodes_of (live_at r2) q) (λ n. AdoptsAll q n r2 r3) → AdoptsAll q2 node r2 r3
 adopts_there r2 r3 q q2 node same is h =
-    of_some_value (λ n. Adopts q2 n r2 r3) (nodes_of (live_at r2) q2) node is (subst (λ (x : Place). IfSome (nodes_of (live_at r2) x) (λ n. Adopts x n r2 r3)) same h)
+    value_of (λ n. AdoptsAll q2 n r2 r3) (nodes_of (live_at r2) q2) node is (subst (λ (x : Place). IfSome (nodes_of (live_at r2) x) (λ n. AdoptsAll x n r2 r3)) same h)
 
 pub kids_there : (r2 : RegionState) (q q2 : Place) (node : TreeNode) → q ≡ q2 → nodes_of (live_at r2) q2 ≡ Some node → HasKids (live_at r2) q2 node → IfSome (nodes_of (live_at r2) q) (λ n. HasKids (live_at r2) q n)
 kids_there r2 q q2 node same is h =
-    subst (λ (x : Place). IfSome (nodes_of (live_at r2) x) (λ n. HasKids (live_at r2) x n)) (sym same) (in_some (λ n. HasKids (live_at r2) q2 n) (nodes_of (live_at r2) q2) node is h)
+    subst (λ (x : Place). IfSome (nodes_of (live_at r2) x) (λ n. HasKids (live_at r2) x n)) (sym same) (if_value (λ n. HasKids (live_at r2) q2 n) (nodes_of (live_at r2) q2) node is h)
 
 -- what is live was live before
 pub still_some : (a b : RegionState) → SameBut blank a b → (q : Place) → IsSome (live_at b q) → IsSome (live_at a q)
@@ -100,7 +101,7 @@ still_some a b same q some = go (standing_at a q) (standing_at b q) (same.object
         live_some false i k h = h
 
 -- an adoption leaves nodes
-pub adopted_hold : (r2 r3 : RegionState) (at : Place) (node : TreeNode) → Adopts at node r2 r3 → ((q : Place) → IsSome (live_at r2 q) → HoldsNode (live_at r2) q)
+pub adopted_hold : (r2 r3 : RegionState) (at : Place) (node : TreeNode) → AdoptsAll at node r2 r3 → ((q : Place) → IsSome (live_at r2 q) → HoldsNode (live_at r2) q)
     → (q : Place) → IsSome (live_at r3 q) → HoldsNode (live_at r3) q
 adopted_hold r2 r3 at node adopts holds q some = adopts.holds q (holds q (still_some r2 r3 adopts.same q some))
 
@@ -150,13 +151,13 @@ module _ {nodes : Nodes} (r1 : RegionState) {level : ℕ} {parent : Option Place
       go zero s a n t = absurd (omega arith)
       go (suc k) s a n t = left_kids nodes r1 k parent low high p key i (i - 1) freed (opened s) (leads_in s) s.from s.up s.once (j_within s) (near_in s) (pair_here s) (loses_in s) (seven_in s) holds r2 joined n t
 
-  module _ (r3 : RegionState) (adopts : Adopts (left_of_pair r1 sh) m.new_left r2 r3) where
+  module _ (r3 : RegionState) (adopts : AdoptsAll (left_of_pair r1 sh) m.new_left r2 r3) where
     pub call_one : joined ≡ true → Loses nodes (nodes_of (live_at r3)) (suc level) parent low high p key (freed_by joined (right_of_pair r1 sh) ++ freed)
     call_one = go level sh above m three adopts
       where
         go : (k : ℕ) (s : IsShort nodes (nodes_of (live_at r1)) k parent low high p i key freed) → 0 < k
             → (n : IsMendedAt true joined (i - 1) p (left_of_pair r1 s) (right_of_pair r1 s) (nodes_of (live_at r1)) (nodes_of (live_at r2))) → OnlyThree p (left_of_pair r1 s) (right_of_pair r1 s) r1 r2
-            → Adopts (left_of_pair r1 s) n.new_left r2 r3 → joined ≡ true → Loses nodes (nodes_of (live_at r3)) (suc k) parent low high p key (freed_by joined (right_of_pair r1 s) ++ freed)
+            → AdoptsAll (left_of_pair r1 s) n.new_left r2 r3 → joined ≡ true → Loses nodes (nodes_of (live_at r3)) (suc k) parent low high p key (freed_by joined (right_of_pair r1 s) ++ freed)
         go zero s a n t d gone = absurd (omega arith)
         go (suc k) s a n t d gone =
             one_mended nodes r1 k parent low high p key i (i - 1) freed (opened s) (leads_in s) s.from s.up s.once (j_within s) (near_in s) (pair_here s) (loses_in s) (seven_in s) holds r2 joined n t r3 d gone
@@ -166,18 +167,18 @@ module _ {nodes : Nodes} (r1 : RegionState) {level : ℕ} {parent : Option Place
       where
         go : (k : ℕ) (s : IsShort nodes (nodes_of (live_at r1)) k parent low high p i key freed) → 0 < k
             → (n : IsMendedAt true joined (i - 1) p (left_of_pair r1 s) (right_of_pair r1 s) (nodes_of (live_at r1)) (nodes_of (live_at r2))) → OnlyThree p (left_of_pair r1 s) (right_of_pair r1 s) r1 r2
-            → Adopts (left_of_pair r1 s) n.new_left r2 r3 → joined ≡ false → HasKids (live_at r3) (right_of_pair r1 s) n.new_right
+            → AdoptsAll (left_of_pair r1 s) n.new_left r2 r3 → joined ≡ false → HasKids (live_at r3) (right_of_pair r1 s) n.new_right
         go zero s a n t d still = absurd (omega arith)
         go (suc k) s a n t d still =
             right_kids nodes r1 k parent low high p key i (i - 1) freed (opened s) (leads_in s) s.from s.up s.once (j_within s) (near_in s) (pair_here s) (loses_in s) (seven_in s) holds r2 joined n t r3 d still
 
-    pub call_even : (r4 : RegionState) → Adopts (right_of_pair r1 sh) m.new_right r3 r4 → joined ≡ false
+    pub call_even : (r4 : RegionState) → AdoptsAll (right_of_pair r1 sh) m.new_right r3 r4 → joined ≡ false
         → Loses nodes (nodes_of (live_at r4)) (suc level) parent low high p key (freed_by joined (right_of_pair r1 sh) ++ freed)
     call_even r4 = go level sh above m three adopts
       where
         go : (k : ℕ) (s : IsShort nodes (nodes_of (live_at r1)) k parent low high p i key freed) → 0 < k
             → (n : IsMendedAt true joined (i - 1) p (left_of_pair r1 s) (right_of_pair r1 s) (nodes_of (live_at r1)) (nodes_of (live_at r2))) → OnlyThree p (left_of_pair r1 s) (right_of_pair r1 s) r1 r2
-            → Adopts (left_of_pair r1 s) n.new_left r2 r3 → Adopts (right_of_pair r1 s) n.new_right r3 r4 → joined ≡ false
+            → AdoptsAll (left_of_pair r1 s) n.new_left r2 r3 → AdoptsAll (right_of_pair r1 s) n.new_right r3 r4 → joined ≡ false
             → Loses nodes (nodes_of (live_at r4)) (suc k) parent low high p key (freed_by joined (right_of_pair r1 s) ++ freed)
         go zero s a n t d e still = absurd (omega arith)
         go (suc k) s a n t d e still =

@@ -7,17 +7,19 @@ use Rattle.regions.specs.Segments.{RegionState}
 use Rattle.regions.specs.Contents.{live_at}
 use Rattle.regions.specs.declared.place.Place.{Place}
 use Rattle.tree_nodes.specs.Nodes.{TreeNode, no_place}
-use Rattle.regions.specs.Places.{HasRoom, link_to, place_of_link}
+use Rattle.regions.specs.Places.{HasRoom, link_to}
 use Rattle.index_tree.specs.Links.{Nodes, with_parent}
 use Rattle.index_tree.specs.Trees.{nodes_below}
 use Rattle.index_tree.specs.Inserts.{Branch, of_row, place_in, times}
-use Rattle.index_tree.specs.Mended.{Adopts}
+use Rattle.index_tree.specs.Mended.{AdoptsAll}
 use Rattle.index_tree.specs.Store.{nodes_of}
-use Rattle.place_lemmas.proofs.Places.{led_back, place_tells}
+use Rattle.place_lemmas.proofs.Places.{place_tells}
 use Rattle.index_tree.proofs.Frame.{Agrees, below_children, nodes_from}
 use Rattle.index_tree.proofs.FrameRows.{links_of}
-use Rattle.index_tree.proofs.InsertRows.{all_by_times, times_append, times_here}
+use Rattle.index_tree.proofs.InsertRows.{all_by_times, times_append}
 use Rattle.index_tree.proofs.RemoveInner.{HasLinks, IsCarried}
+use Rattle.index_tree.proofs.InsertedLeaf.{times_get}
+use Rattle.index_tree.proofs.Positions.{same_link}
 
 -- the places of a row
 abbrev pub kids_of : Place → List Branch → List Place
@@ -72,20 +74,12 @@ module _ (mid : Nodes) (level : ℕ) where
 
 -- ---- the children of a node, by their numbers
 
-same_link : (p q : Place) → HasRoom p → HasRoom q → link_to (Some p) ≡ link_to (Some q) → p ≡ q
-same_link p q room_p room_q e = sym (led_back p room_p) ∙ (ap (λ l. place_of_link l) e ∙ led_back q room_q)
-
 at_kid : (first : Place) (bs : List Branch) (i : ℕ) → i ≤ length bs → get_or (links_of first bs) i no_place ≡ link_to (Some (get_or (kids_of first bs) i first))
 at_kid first bs zero within = refl
 at_kid first [] (suc i) within = absurd (omega arith)
 at_kid first (b ∷ bs) (suc i) within =
     get_or-map (λ (c : Branch). link_to (Some c.place)) (b ∷ bs) i b no_place (omega arith)
     ∙ sym (ap (λ (p : Place). link_to (Some p)) (get_or-map place_in (b ∷ bs) i b first (omega arith)))
-
-pub times_at : (ps : List Place) (i : ℕ) (d : Place) → i < length ps → 1 ≤ times (get_or ps i d) ps
-times_at [] i d within = absurd (omega arith)
-times_at (p ∷ ps) zero d within = times_here p ps
-times_at (p ∷ ps) (suc i) d within = let behind = times_at ps i d (omega arith) in omega (arith, behind)
 
 some_index : (ps : List Place) (q d : Place) → 1 ≤ times q ps → (i : ℕ) × (i < length ps) × (get_or ps i d ≡ q)
 some_index [] q d some = absurd (omega arith)
@@ -117,11 +111,11 @@ module _ {links : List ℕ} {first : Place} {bs : List Branch} (has : HasLinks l
       let size = size_kids in
       let short : i < length (kids_of first bs) = omega (arith, size, within) in
       let same : get_or (kids_of first bs) i first ≡ q = same_link (get_or (kids_of first bs) i first) q (All-get_or HasRoom (kids_of first bs) i first short rooms) room (sym (child_kid i within) ∙ is) in
-      subst (λ (p : Place). 1 ≤ times p (kids_of first bs)) same (times_at (kids_of first bs) i first short)
+      subst (λ (p : Place). 1 ≤ times p (kids_of first bs)) same (times_get (kids_of first bs) i first short)
 
 -- what an adoption does, by the places of the row
 module _ (at : Place) (node : TreeNode) (old new : RegionState) (first : Place) (bs : List Branch) (has : HasLinks node.children first bs) (size : length node.entries ≡ length bs)
-    (rooms : All HasRoom (kids_of first bs)) (adopts : Adopts at node old new) where
+    (rooms : All HasRoom (kids_of first bs)) (adopts : AdoptsAll at node old new) where
   pub adopted_kid : (q : Place) → 1 ≤ times q (kids_of first bs) → nodes_of (live_at new) q ≡ option_map (with_parent (link_to (Some at))) (nodes_of (live_at old) q)
   adopted_kid q some =
       let k = some_link has rooms q some in

@@ -15,7 +15,7 @@ use Rattle.index_tree.specs.Trees.{IsFrom, IsSubtree, IsUpTo, children_of, entri
 use Rattle.index_tree.specs.Ways.{LeadsTo}
 use Rattle.index_tree.specs.Inserts.{Branch, entry_of, of_row, place_in, times}
 use Rattle.index_tree.specs.Pairs.{AreMendedAbove}
-use Rattle.index_tree.specs.Mended.{Adopts, HasKids, IsMendedAt, OnlyThree}
+use Rattle.index_tree.specs.Mended.{AdoptsAll, HasKids, IsMendedAt, OnlyThree}
 use Rattle.index_tree.specs.Removes.{IsInnerTrunk, Loses}
 use Rattle.place_lemmas.proofs.Places.{some_same}
 use Rattle.index_tree.proofs.Moved.{room_of}
@@ -25,14 +25,15 @@ use Rattle.index_tree.proofs.InsertRows.{child_in, keyed, of_row_append, times_a
 use Rattle.index_tree.proofs.SearchNode.{is_live}
 use Rattle.index_tree.proofs.SearchWay.{node_of_tree}
 use Rattle.index_tree.proofs.RemoveInner.{AnyRow, HasLinks, IsCarried, any_joined, any_of, trunk_gathered}
-use Rattle.index_tree.proofs.RemoveCarried.{adopted_kid, carried_side, child_kid, kid_in_row, kids_of, not_adopted, size_kids, times_at}
+use Rattle.index_tree.proofs.RemoveCarried.{adopted_kid, carried_side, child_kid, kid_in_row, kids_of, not_adopted, size_kids}
 use Rattle.index_tree.proofs.RemovePair.{PairIn}
 use Rattle.index_tree.proofs.RemoveMend.{Outcome}
 use Rattle.index_tree.proofs.RemoveMendAbove.{EvenShape, OneShape, even_outcome, one_outcome, shape}
 use Rattle.index_tree.proofs.RemoveMended.{mended_loses, pair_lost, row_once}
 use Rattle.index_tree.proofs.RemoveSteps.{Two, entry_here, parent_now, two}
-use Rattle.index_tree.proofs.RemoveWrites.{holds_still}
-use Rattle.index_tree.proofs.RemoveLeaves.{freed_by, freed_is, seen}
+use Rattle.index_tree.proofs.RemoveLeaves.{freed_by, freed_is}
+use Rattle.index_tree.proofs.Touches.{held_same, live_same}
+use Rattle.index_tree.proofs.InsertedLeaf.{times_get}
 
 -- ---- two inner nodes
 
@@ -68,11 +69,11 @@ kids_hold r1 r2 at left right p node first bs is room size few has good far whic
       let inside : i ≤ length bs = omega (arith, size, within) in
       let short : i < length (kids_of first bs) = omega (arith, long, inside) in
       let g = All-get_or (IsGood r1) (kids_of first bs) i first short good in
-      let away = far q (times_at (kids_of first bs) i first short) in (
+      let away = far q (times_get (kids_of first bs) i first short) in (
         q,
         child_kid has rooms i inside,
         g.0,
-        holds_still (live_at r1) (live_at r2) q (three.others q away.0 away.1 away.2) g.1,
+        held_same r1 r2 q (three.others q away.0 away.1 away.2) g.1,
         λ e. elim which [ inl l ↦ away.1 (e ∙ l) | inr r ↦ away.2 (e ∙ r) ],
       ));
 }
@@ -137,22 +138,15 @@ module _ (nodes : Nodes) (r1 : RegionState) (level : ℕ) (parent : Option Place
       let one_node = times_append t (nodes_below mid (suc level) (Some right)) [] in
       omega (arith, b, c, d, gl, gr, whole, split, two_nodes, one_node)
 
-  kid_far : (q : Place) → 1 ≤ times q (kids_of l.first joint) → (q ≢ p) × (q ≢ left) × (q ≢ right)
-  kid_far q some =
-      let a = joint_apart q in
-      let b = kid_in_row mid level q l.first joint in
-      let three : times q (p ∷ left ∷ right ∷ []) ≡ 0 = omega (arith, a, b, some) in (
-        λ e. (let c = times_here p (left ∷ right ∷ []) in let d : times q (p ∷ left ∷ right ∷ []) ≡ times p (p ∷ left ∷ right ∷ []) = ap (λ (x : Place). times x (p ∷ left ∷ right ∷ [])) e in omega (arith, three, c, d)),
-        λ e. (let c = times_here left (right ∷ []) in let d : times q (left ∷ right ∷ []) ≡ times left (left ∷ right ∷ []) = ap (λ (x : Place). times x (left ∷ right ∷ [])) e in omega (arith, three, c, d)),
-        λ e. (let c = times_here right [] in let d : times q (right ∷ []) ≡ times right (right ∷ []) = ap (λ (x : Place). times x (right ∷ [])) e in omega (arith, three, c, d)),
-      )
-
   not_three : (t : Place) → times t (p ∷ left ∷ right ∷ []) ≡ 0 → (t ≢ p) × (t ≢ left) × (t ≢ right)
   not_three t three = (
     λ e. (let c = times_here p (left ∷ right ∷ []) in let d : times t (p ∷ left ∷ right ∷ []) ≡ times p (p ∷ left ∷ right ∷ []) = ap (λ (x : Place). times x (p ∷ left ∷ right ∷ [])) e in omega (arith, three, c, d)),
     λ e. (let c = times_here left (right ∷ []) in let d : times t (left ∷ right ∷ []) ≡ times left (left ∷ right ∷ []) = ap (λ (x : Place). times x (left ∷ right ∷ [])) e in omega (arith, three, c, d)),
     λ e. (let c = times_here right [] in let d : times t (right ∷ []) ≡ times right (right ∷ []) = ap (λ (x : Place). times x (right ∷ [])) e in omega (arith, three, c, d)),
   )
+
+  kid_far : (q : Place) → 1 ≤ times q (kids_of l.first joint) → (q ≢ p) × (q ≢ left) × (q ≢ right)
+  kid_far q some = let a = joint_apart q in let b = kid_in_row mid level q l.first joint in not_three q (omega (arith, a, b, some))
 
   -- what is not among these
   outside_pair : (t : Place) → t ≢ p → times t (of_row (nodes_below mid (suc level)) left (pr.b ∷ [])) ≡ 0 → (times t (p ∷ left ∷ right ∷ []) ≡ 0) × (times t (of_row (nodes_below mid level) l.first joint) ≡ 0)
@@ -287,9 +281,9 @@ module _ (nodes : Nodes) (r1 : RegionState) (level : ℕ) (parent : Option Place
     p_there = times_here p (left ∷ right ∷ [])
 
     untouched : (t : Place) → times t (p ∷ left ∷ right ∷ []) ≡ 0 → nodes_of (live_at r2) t ≡ nodes_of (live_at r1) t
-    untouched t none = let away = not_three t none in seen r1 r2 t (three.others t away.0 away.1 away.2)
+    untouched t none = let away = not_three t none in live_same r1 r2 t (three.others t away.0 away.1 away.2)
 
-    module _ (r3 : RegionState) (adopts : Adopts left m.new_left r2 r3) where
+    module _ (r3 : RegionState) (adopts : AdoptsAll left m.new_left r2 r3) where
       -- all are the left one's
       pub one_mended : joined ≡ true → Loses nodes (nodes_of (live_at r3)) (suc (suc level)) parent low high p key (freed_by joined right ++ freed)
       one_mended gone = elim the_shape [
@@ -298,7 +292,7 @@ module _ (nodes : Nodes) (r1 : RegionState) (level : ℕ) (parent : Option Place
             (let new = nodes_of (live_at r3) in
             let rooms = only_rooms (kids_of l.first joint) joint_good in
             let past : (t : Place) → times t (kids_of l.first joint) ≡ 0 → new t ≡ nodes_of (live_at r2) t =
-            λ t none. seen r2 r3 t (not_adopted left m.new_left r2 r3 l.first joint (one_has e) (one_size e) rooms adopts t none) in
+            λ t none. live_same r2 r3 t (not_adopted left m.new_left r2 r3 l.first joint (one_has e) (one_size e) rooms adopts t none) in
             let carried : All (IsCarried mid new level left) (kids_of l.first joint) =
             carried_side mid level new left l.first joint (p ∷ left ∷ right ∷ []) joint_apart
             (λ q some none. adopted_kid left m.new_left r2 r3 l.first joint (one_has e) (one_size e) rooms adopts q some ∙ ap (λ (x : Option TreeNode). option_map (with_parent (link_to (Some left))) x) (untouched q none))
@@ -327,7 +321,7 @@ module _ (nodes : Nodes) (r1 : RegionState) (level : ℕ) (parent : Option Place
             not_adopted left m.new_left r2 r3 l.first e.xs (left_has e) (left_size e) (only_rooms (kids_of l.first e.xs) (left_good e)) adopts right
             (let a = three_times right right_there in let b = kids_times e right in omega (arith, a, b)) in
             record {
-              is = seen r2 r3 right same ∙ before.is;
+              is = live_same r2 r3 right same ∙ before.is;
               room = before.room;
               few = before.few;
               kids = λ n inside. (let k = before.kids n inside in (k.0, k.1, k.2, adopts.holds k.0 k.3, k.4));
@@ -335,7 +329,7 @@ module _ (nodes : Nodes) (r1 : RegionState) (level : ℕ) (parent : Option Place
         | inr e ↦ absurd (true≢false (sym e.gone ∙ still))
       ]
 
-      module _ (r4 : RegionState) (then : Adopts right m.new_right r3 r4) where
+      module _ (r4 : RegionState) (then : AdoptsAll right m.new_right r3 r4) where
         pub even_mended : joined ≡ false → Loses nodes (nodes_of (live_at r4)) (suc (suc level)) parent low high p key (freed_by joined right ++ freed)
         even_mended still = elim the_shape [
           | inr e ↦ absurd (true≢false (sym e.gone ∙ still))
@@ -347,9 +341,9 @@ module _ (nodes : Nodes) (r1 : RegionState) (level : ℕ) (parent : Option Place
               let row_x : List Place = of_row (nodes_below mid level) l.first e.xs in
               let row_y : List Place = of_row (nodes_below mid level) e.m.place e.ys in
               let past_left : (t : Place) → times t kx ≡ 0 → nodes_of (live_at r3) t ≡ nodes_of (live_at r2) t =
-              λ t none. seen r2 r3 t (not_adopted left m.new_left r2 r3 l.first e.xs (left_has e) (left_size e) (only_rooms kx (left_good e)) adopts t none) in
+              λ t none. live_same r2 r3 t (not_adopted left m.new_left r2 r3 l.first e.xs (left_has e) (left_size e) (only_rooms kx (left_good e)) adopts t none) in
               let past_right : (t : Place) → times t ky ≡ 0 → new t ≡ nodes_of (live_at r3) t =
-              λ t none. seen r3 r4 t (not_adopted right m.new_right r3 r4 e.m.place e.ys (right_has e) (right_size e) (only_rooms ky (right_good e)) then t none) in
+              λ t none. live_same r3 r4 t (not_adopted right m.new_right r3 r4 e.m.place e.ys (right_has e) (right_size e) (only_rooms ky (right_good e)) then t none) in
               let f_left : Option TreeNode → Option TreeNode = option_map (with_parent (link_to (Some left))) in
               let f_right : Option TreeNode → Option TreeNode = option_map (with_parent (link_to (Some right))) in
               let carried_left : All (IsCarried mid new level left) kx =

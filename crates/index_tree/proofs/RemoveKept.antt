@@ -16,7 +16,6 @@ use Rattle.index_tree.specs.Trees.{IsFrom, IsNodeOf, IsUpTo, children_of, entrie
 use Rattle.index_tree.specs.Ways.{LeadsTo}
 use Rattle.index_tree.specs.Inserts.{Branch, entry_of, of_row, times}
 use Rattle.index_tree.specs.Removes.{Loses}
-use Rattle.index_tree.proofs.Bounds.{greater_less, tied}
 use Rattle.index_tree.proofs.Frame.{all_back, all_front}
 use Rattle.index_tree.proofs.FrameRows.{Opened, gathered, left_in, right_in}
 use Rattle.index_tree.proofs.InsertRows.{child_in, keyed, times_append, times_here}
@@ -27,6 +26,7 @@ use Rattle.index_tree.proofs.RemoveRows.{tree_of}
 use Rattle.index_tree.proofs.RemoveInner.{HasLinks, reordered}
 use Rattle.index_tree.proofs.RemoveAbove.{Became, above_loses, child_became}
 use Rattle.index_tree.proofs.RemovePair.{from_at, up_at}
+use Rattle.index_tree.proofs.KeyOrder.{greater_less, tied}
 
 -- ---- where the key is
 

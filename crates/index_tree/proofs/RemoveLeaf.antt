@@ -1,12 +1,12 @@
 -- A key taken from a leaf, and two leaves made even, or made one.
 use mathlib.Core.List.{nil-sublist}
 use mathlib.Core.List.Sublist
-use Rattle.std.proofs.Common.{◌≡◌, ◌≢◌, ℕ, zero, suc, ◌+◌, ◌<◌, ◌≤◌, ◌^◌, List, [], ◌∷◌, ◌++◌, All, length, take, drop, get_or, Option, Some, None, refl, sym, ap, subst, ◌∙◌, append-nil, arith, length-append, is_lt, Bool, cond}
+use Rattle.std.proofs.Common.{◌≡◌, ◌≢◌, ℕ, zero, suc, ◌+◌, ◌<◌, ◌≤◌, List, [], ◌∷◌, ◌++◌, All, length, take, drop, get_or, Option, Some, None, refl, sym, ap, subst, ◌∙◌, append-nil, arith, length-append, is_lt, Bool, cond}
 use Rattle.std.specs.Prelude.{option_map}
 use Rattle.std.proofs.lemmas.List.{length-take-le, length-drop}
 use Rattle.std.proofs.lemmas.List.Elements.{All-nil, All-cons, All-append, All-drop, All-get_or, All-head, All-take, All-weaker}
 use Rattle.regions.specs.declared.place.Place.{Place}
-use Rattle.tree_nodes.specs.Nodes.{Entry, TreeNode, CanStand, IsEntry, entry_at, no_entry, no_place, started}
+use Rattle.tree_nodes.specs.Nodes.{Entry, TreeNode, IsEntry, entry_at, no_entry, no_place, started}
 use Rattle.tree_nodes.specs.Order.{AreRising, IsBelow, key_cmp}
 use Rattle.index_tree.specs.Indexes.{Index, above, below, without}
 use Rattle.regions.specs.Places.{HasRoom}
@@ -15,23 +15,21 @@ use Rattle.index_tree.specs.Trees.{IsFrom, IsSubtree, IsUpTo, entries_of, if_lev
 use Rattle.index_tree.specs.Writes.{without_entries}
 use Rattle.index_tree.specs.Inserts.{Row, times}
 use Rattle.index_tree.specs.Removes.{Alters, IsLooseNode, Loses}
+use Rattle.index_tree.specs.Ways.{AllAbove, AllBelow}
 use Rattle.index_tree.proofs.Frame.{all_back, all_front}
 use Rattle.index_tree.proofs.FrameRows.{branch}
-use Rattle.index_tree.proofs.InsertOrder.{AllAbove, AllBelow, from_less, less_from, less_less, not_below, rising_across, rising_back, rising_front, rising_joined}
-use Rattle.index_tree.proofs.InsertRows.{keyed, times_here}
-use Rattle.index_tree.proofs.SearchLists.{above_amid, below_amid}
+use Rattle.index_tree.proofs.InsertOrder.{rising_across, rising_back, rising_front}
+use Rattle.index_tree.proofs.InsertRows.{keyed, times_here, up_trans}
+use Rattle.index_tree.proofs.InsertLeaf.{refilled, stands_with}
+use Rattle.index_tree.proofs.SearchLists.{above_amid, below_amid, rising_append}
 use Rattle.index_tree.proofs.SearchDown.{split_at}
-use Rattle.index_tree.proofs.SearchNode.{not_itself}
+use Rattle.index_tree.proofs.KeyOrder.{from_less, less_from, not_below, not_itself}
 
 -- ---- the order of keys
 
 pub from_after : (low : Option (List ℕ)) (e f : Entry) → IsFrom low e → IsBelow e.key f.key → IsFrom low f
 from_after None e f from below = tt
 from_after (Some key) e f from below = not_below key f.key (from_less key e.key f.key from below)
-
-pub up_before : (high : Option (List ℕ)) (e f : Entry) → IsBelow e.key f.key → IsUpTo high f → IsUpTo high e
-up_before None e f below up = tt
-up_before (Some key) e f below up = less_less e.key f.key key below up
 
 -- the entries without the one that has the key
 pub without_here : (key : List ℕ) (xs ys : List Entry) (e : Entry) → e.key ≡ key → AllBelow key xs → AllAbove key ys → without key (xs ++ (e ∷ ys)) ≡ xs ++ ys
@@ -44,21 +42,6 @@ without_here key xs ys e is under over =
 
 -- ---- a key taken from a leaf
 
--- a node with other entries, and a next leaf
-abbrev pub filled : List Entry → ℕ → TreeNode → TreeNode
-filled es next node = record node { entries = es; next_leaf = next }
-
-pub stands_filled : (node : TreeNode) (es : List Entry) (next : ℕ) → next < 2 ^ 64 → length es ≤ 16 → All IsEntry es → CanStand node → CanStand (filled es next node)
-stands_filled node es next fits few all stands = record {
-  parent = stands.parent;
-  level = stands.level;
-  next_leaf = fits;
-  few = few;
-  entries = all;
-  children = stands.children;
-  places = stands.places;
-}
-
 all_removed : (P : Entry → Type 0) (es : List Entry) (i : ℕ) → All P es → All P (take i es ++ drop (i + 1) es)
 all_removed P es i all = All-append P (take i es) (drop (i + 1) es) (All-take P i es all) (All-drop P (i + 1) es all)
 
@@ -67,7 +50,7 @@ pub rising_removed : (es : List Entry) (i : ℕ) → i < length es → AreRising
 rising_removed es i within rise =
     let e : Entry = get_or es i no_entry in
     let whole : AreRising (take i es ++ (e ∷ drop (i + 1) es)) = subst AreRising (split_at es i no_entry within) rise in
-    rising_joined (take i es) (drop (i + 1) es) (rising_front (take i es) (e ∷ drop (i + 1) es) whole) (rising_back (take i es) (e ∷ drop (i + 1) es) whole).1
+    rising_append (take i es) (drop (i + 1) es) (rising_front (take i es) (e ∷ drop (i + 1) es) whole) (rising_back (take i es) (e ∷ drop (i + 1) es) whole).1
     (All-weaker (λ x. AllAbove x.key (e ∷ drop (i + 1) es)) (λ x. AllAbove x.key (drop (i + 1) es)) (λ x h k d short. h (suc k) d (omega arith)) (take i es) (rising_across (take i es) (e ∷ drop (i + 1) es) whole))
 
 module _ (nodes new : Nodes) (parent : Option Place) (low high : Option (List ℕ)) (p : Place) (key : List ℕ) (i : ℕ) where
@@ -92,7 +75,7 @@ module _ (nodes new : Nodes) (parent : Option Place) (low high : Option (List �
           record {
             level_is = of.level_is;
             parent_is = of.parent_is;
-            stands = stands_filled node rest node.next_leaf of.stands.next_leaf (let few = of.stands.few in omega (arith, few, fewer)) (all_removed IsEntry es i of.stands.entries) of.stands;
+            stands = stands_with node rest node.next_leaf of.stands.next_leaf (let few = of.stands.few in omega (arith, few, fewer)) (all_removed IsEntry es i of.stands.entries) of.stands;
             rising = rising_removed es i k.0 of.rising;
             from = all_removed (IsFrom low) es i of.from;
             up_to = all_removed (IsUpTo high) es i of.up_to;
@@ -130,15 +113,9 @@ module _ (nodes new : Nodes) (parent : Option Place) (low high : Option (List �
   across : (x y : Entry) → IsUpTo (Some s) x → IsFrom (Some s) y → IsBelow x.key y.key
   across x y up from = less_from x.key s y.key up from
 
-  first_left : Entry
-  first_left = get_or l.entries 0 no_entry
-
-  first_right : Entry
-  first_right = get_or r.entries 0 no_entry
-
   both_rise : AreRising (l.entries ++ r.entries)
   both_rise =
-      rising_joined l.entries r.entries of_left.rising of_right.rising
+      rising_append l.entries r.entries of_left.rising of_right.rising
       (All-weaker (IsUpTo (Some s)) (λ x. AllAbove x.key r.entries) (λ x up. All-weaker (IsFrom (Some s)) (λ y. IsBelow x.key y.key) (λ y from. across x y up from) r.entries of_right.from) l.entries of_left.up_to)
 
   both_from : All (IsFrom low) (l.entries ++ r.entries)
@@ -154,7 +131,7 @@ module _ (nodes new : Nodes) (parent : Option Place) (low high : Option (List �
       let e : Entry = get_or r.entries 0 no_entry in
       All-append (IsUpTo high) l.entries r.entries
       (All-weaker (IsUpTo (Some s)) (IsUpTo high)
-      (λ x up. up_before high x e (across x e up (All-get_or (IsFrom (Some s)) r.entries 0 no_entry some_right of_right.from)) (All-get_or (IsUpTo high) r.entries 0 no_entry some_right of_right.up_to))
+      (λ x up. up_trans high x e (across x e up (All-get_or (IsFrom (Some s)) r.entries 0 no_entry some_right of_right.from)) (All-get_or (IsUpTo high) r.entries 0 no_entry some_right of_right.up_to))
       l.entries of_left.up_to)
       of_right.up_to
 
@@ -165,7 +142,7 @@ module _ (nodes new : Nodes) (parent : Option Place) (low high : Option (List �
   module _ (room_p : HasRoom p) (room_q : HasRoom q) (none_p : All (λ link. link ≡ no_place) l.children) (none_q : All (λ link. link ≡ no_place) r.children)
       (xs : List Entry) (d : Entry) (ys : List Entry) (whole : l.entries ++ r.entries ≡ xs ++ (d ∷ ys))
       (more_x : 8 ≤ length xs) (few_x : length xs ≤ 16) (more_y : 8 ≤ length (d ∷ ys)) (few_y : length (d ∷ ys) ≤ 16)
-      (now_p : new p ≡ Some (filled xs l.next_leaf l)) (now_q : new q ≡ Some (filled (d ∷ ys) r.next_leaf r)) where
+      (now_p : new p ≡ Some (refilled xs l.next_leaf l)) (now_q : new q ≡ Some (refilled (d ∷ ys) r.next_leaf r)) where
     pub leaves_even_row : Row new zero parent low p (branch (keyed d.key 0) q ∷ []) high
     leaves_even_row =
         let rising : AreRising (xs ++ (d ∷ ys)) = subst AreRising whole both_rise in
@@ -174,13 +151,13 @@ module _ (nodes new : Nodes) (parent : Option Place) (low high : Option (List �
         let up_to : All (IsUpTo high) (xs ++ (d ∷ ys)) = subst (All (IsUpTo high)) whole both_up in
         let behind : AreRising (d ∷ ys) = rising_back xs (d ∷ ys) rising in (
           (
-            filled xs l.next_leaf l,
+            refilled xs l.next_leaf l,
             now_p,
             room_p,
             record {
               level_is = of_left.level_is;
               parent_is = of_left.parent_is;
-              stands = stands_filled l xs l.next_leaf of_left.stands.next_leaf few_x (all_front IsEntry xs (d ∷ ys) entries) of_left.stands;
+              stands = stands_with l xs l.next_leaf of_left.stands.next_leaf few_x (all_front IsEntry xs (d ∷ ys) entries) of_left.stands;
               rising = rising_front xs (d ∷ ys) rising;
               from = all_front (IsFrom low) xs (d ∷ ys) from;
               up_to = All-weaker (λ x. AllAbove x.key (d ∷ ys)) (IsUpTo (Some d.key)) (λ x h. All-head (λ y. IsBelow x.key y.key) d ys h) xs (rising_across xs (d ∷ ys) rising);
@@ -189,13 +166,13 @@ module _ (nodes new : Nodes) (parent : Option Place) (low high : Option (List �
             none_p,
           ),
           (
-            filled (d ∷ ys) r.next_leaf r,
+            refilled (d ∷ ys) r.next_leaf r,
             now_q,
             room_q,
             record {
               level_is = of_right.level_is;
               parent_is = of_right.parent_is;
-              stands = stands_filled r (d ∷ ys) r.next_leaf of_right.stands.next_leaf few_y (all_back IsEntry xs (d ∷ ys) entries) of_right.stands;
+              stands = stands_with r (d ∷ ys) r.next_leaf of_right.stands.next_leaf few_y (all_back IsEntry xs (d ∷ ys) entries) of_right.stands;
               rising = behind;
               from = All-cons (IsFrom (Some d.key)) d ys (not_itself d.key) (All-weaker (λ y. IsBelow d.key y.key) (IsFrom (Some d.key)) (λ y h. not_below d.key y.key h) ys behind.0);
               up_to = all_back (IsUpTo high) xs (d ∷ ys) up_to;
@@ -222,16 +199,16 @@ module _ (nodes new : Nodes) (parent : Option Place) (low high : Option (List �
 
   -- made one
   module _ (room_p : HasRoom p) (none_p : All (λ link. link ≡ no_place) l.children) (more : 8 ≤ length (l.entries ++ r.entries)) (few : length (l.entries ++ r.entries) ≤ 16)
-      (now_p : new p ≡ Some (filled (l.entries ++ r.entries) r.next_leaf l)) where
+      (now_p : new p ≡ Some (refilled (l.entries ++ r.entries) r.next_leaf l)) where
     pub leaves_one_row : Row new zero parent low p [] high
     leaves_one_row = (
-      filled (l.entries ++ r.entries) r.next_leaf l,
+      refilled (l.entries ++ r.entries) r.next_leaf l,
       now_p,
       room_p,
       record {
         level_is = of_left.level_is;
         parent_is = of_left.parent_is;
-        stands = stands_filled l (l.entries ++ r.entries) r.next_leaf of_right.stands.next_leaf few both_entries of_left.stands;
+        stands = stands_with l (l.entries ++ r.entries) r.next_leaf of_right.stands.next_leaf few both_entries of_left.stands;
         rising = both_rise;
         from = both_from;
         up_to = both_up;

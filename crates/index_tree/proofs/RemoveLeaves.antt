@@ -1,9 +1,9 @@
 -- Two leaves below a node, mended.
-use Rattle.std.proofs.Common.{◌≡◌, ℕ, zero, suc, ◌<◌, ◌≤◌, ◌⊎◌, inl, inr, Bool, false, cond, List, [], ◌∷◌, ◌++◌, length, map, Option, Some, option_map, sym, ap, subst, ◌∙◌, arith}
+use Rattle.std.proofs.Common.{◌≡◌, ℕ, zero, suc, ◌<◌, ◌≤◌, ◌⊎◌, inl, inr, Bool, false, cond, List, [], ◌∷◌, ◌++◌, length, map, Option, Some, sym, ap, subst, ◌∙◌, arith}
 use Rattle.regions.specs.Segments.{RegionState}
-use Rattle.regions.specs.Contents.{Item, live_at}
+use Rattle.regions.specs.Contents.{live_at}
 use Rattle.regions.specs.declared.place.Place.{Place}
-use Rattle.tree_nodes.specs.Nodes.{Entry, TreeNode, node_in}
+use Rattle.tree_nodes.specs.Nodes.{Entry, TreeNode}
 use Rattle.index_tree.specs.Links.{Nodes}
 use Rattle.index_tree.specs.Store.{nodes_of}
 use Rattle.index_tree.specs.Trees.{IsFrom, IsUpTo, entries_of, nodes_below}
@@ -18,9 +18,7 @@ use Rattle.index_tree.proofs.RemovePair.{PairIn}
 use Rattle.index_tree.proofs.RemoveMend.{Outcome, leaf_outcome}
 use Rattle.index_tree.proofs.RemoveMended.{mended_loses}
 use Rattle.index_tree.proofs.RemoveSteps.{parent_now, times_root, two}
-
-pub seen : (a b : RegionState) (r : Place) → live_at b r ≡ live_at a r → nodes_of (live_at b) r ≡ nodes_of (live_at a) r
-seen a b r e = ap (λ (o : Option Item). option_map (λ (i : Item). node_in i.content) o) e
+use Rattle.index_tree.proofs.Touches.{live_same}
 
 -- the node that is free once two were joined
 abbrev pub freed_by : Bool → Place → List Place
@@ -62,7 +60,7 @@ module _ (nodes : Nodes) (r1 : RegionState) (parent : Option Place) (low high : 
       subst (λ (ps : List Place). Loses nodes new (suc zero) parent low high p key (ps ++ freed)) (freed_is mid new zero p lo hi left right pr.b.entry joined j o.node m.new_parent m.new_right out)
       (mended_loses nodes mid new zero parent low high p key i j freed o leads from up once within near pr lost.alters lost.others lost.idle joined m.new_parent m.new_right out m.parent_is m.right_is
       (λ r far none.
-      seen r1 r2 r (three.others r far
+      live_same r1 r2 r (three.others r far
       (λ e. (let c = times_append r (nodes_below mid zero (Some left)) (of_row (nodes_below mid zero) right []) in let d = times_root mid zero left in
       let f : times r (nodes_below mid zero (Some left)) ≡ times left (nodes_below mid zero (Some left)) = ap (λ (x : Place). times x (nodes_below mid zero (Some left))) e in omega (arith, none, c, d, f)))
       (λ e. (let c = times_append r (nodes_below mid zero (Some left)) (of_row (nodes_below mid zero) right []) in let d = times_root mid zero right in

@@ -11,6 +11,7 @@ use Rattle.index_tree.specs.Inserts.{Branch}
 use Rattle.index_tree.proofs.Frame.{all_front}
 use Rattle.index_tree.proofs.FrameRows.{branch, links_of}
 use Rattle.index_tree.proofs.RemoveInner.{HasLinks}
+use Rattle.index_tree.proofs.InsertNode.{length-links}
 
 abbrev IsNone : ℕ → Type 0
 IsNone link = link ≡ no_place
@@ -24,17 +25,14 @@ none_small links all = All-weaker IsNone IsSmall (λ l e. omega (arith, e)) link
 abbrev link_in : Branch → ℕ
 link_in b = link_to (Some b.place)
 
-pub length-links_of : (first : Place) (bs : List Branch) → length (links_of first bs) ≡ suc (length bs)
-length-links_of first bs = ap (λ n. suc n) (length-map bs link_in)
-
 -- ---- such children, and none behind them
 
 pub from_parts : (links rest : List ℕ) (first : Place) (bs : List Branch) → links ≡ links_of first bs ++ rest → length links ≡ 17 → All IsSmall (links_of first bs) → All IsNone rest → HasLinks links first bs
 from_parts links rest first bs are size small none = record {
   size = size;
   small = subst (λ (t : List ℕ). All IsSmall t) (sym are) (All-append IsSmall (links_of first bs) rest small (none_small rest none));
-  front = ap (λ (t : List ℕ). take (suc (length bs)) t) are ∙ take_at (links_of first bs) rest (suc (length bs)) (length-links_of first bs);
-  others = subst (λ (t : List ℕ). All IsNone t) (sym (ap (λ (t : List ℕ). drop (suc (length bs)) t) are ∙ drop_at (links_of first bs) rest (suc (length bs)) (length-links_of first bs))) none;
+  front = ap (λ (t : List ℕ). take (suc (length bs)) t) are ∙ take_at (links_of first bs) rest (suc (length bs)) (length-links first bs);
+  others = subst (λ (t : List ℕ). All IsNone t) (sym (ap (λ (t : List ℕ). drop (suc (length bs)) t) are ∙ drop_at (links_of first bs) rest (suc (length bs)) (length-links first bs))) none;
 }
 
 module _ {links : List ℕ} {first : Place} {bs : List Branch} (has : HasLinks links first bs) where
@@ -51,7 +49,7 @@ module _ {links : List ℕ} {first : Place} {bs : List Branch} (has : HasLinks l
   few =
       let a = ap (λ (t : List ℕ). length t) parts in
       let b = length-append (links_of first bs) (drop (suc (length bs)) links) in
-      let c = length-links_of first bs in
+      let c = length-links first bs in
       let d = has.size in
       omega (arith, a, b, c, d)
 
@@ -73,7 +71,7 @@ module _ {links : List ℕ} {first : Place} {bs : List Branch} (has : HasLinks l
   pub links_gone : (j : ℕ) → j < length bs → HasLinks (remove links (suc j) ++ no_place ∷ []) first (remove bs j)
   links_gone j within =
       let rest : List ℕ = drop (suc (length bs)) links in
-      let long = length-links_of first bs in
+      let long = length-links first bs in
       let gone : remove (links_of first bs) (suc j) ≡ links_of first (remove bs j) =
       ap (λ (t : List ℕ). link_to (Some first) ∷ (t ++ drop (suc j) (map link_in bs))) (take-map link_in j bs)
       ∙ (ap (λ (t : List ℕ). link_to (Some first) ∷ (map link_in (take j bs) ++ t)) (drop-map link_in (suc j) bs)
@@ -85,7 +83,7 @@ module _ {links : List ℕ} {first : Place} {bs : List Branch} (has : HasLinks l
       let fewer = length-remove bs j within in
       let a = length-append (links_of first (remove bs j)) (rest ++ no_place ∷ []) in
       let b = length-append rest (no_place ∷ []) in
-      let c = length-links_of first (remove bs j) in
+      let c = length-links first (remove bs j) in
       let d = length-rest in
       from_parts (remove links (suc j) ++ no_place ∷ []) (rest ++ no_place ∷ []) first (remove bs j) are
       (ap (λ (t : List ℕ). length t) are ∙ omega (arith, fewer, a, b, c, d))
@@ -98,7 +96,7 @@ module _ {links : List ℕ} {first : Place} {bs : List Branch} (has : HasLinks l
   pub links_first_more : (q : Place) (e : Entry) → link_to (Some q) < 2 ^ 64 → length bs < 16 → HasLinks (take 17 (insert links 0 (link_to (Some q)))) q (branch e first ∷ bs)
   links_first_more q e small less =
       let rest : List ℕ = drop (suc (length bs)) links in
-      let long = length-links_of first bs in
+      let long = length-links first bs in
       let d = length-rest in
       let cut : take 16 links ≡ links_of first bs ++ take (15 - length bs) rest =
       ap (λ (t : List ℕ). take 16 t) parts
@@ -106,7 +104,7 @@ module _ {links : List ℕ} {first : Place} {bs : List Branch} (has : HasLinks l
       ∙ past (links_of first bs) rest (suc (length bs)) (15 - length bs) long) in
       let are : take 17 (insert links 0 (link_to (Some q))) ≡ links_of q (branch e first ∷ bs) ++ take (15 - length bs) rest = ap (λ (t : List ℕ). link_to (Some q) ∷ t) cut in
       let a = length-append (links_of q (branch e first ∷ bs)) (take (15 - length bs) rest) in
-      let b = length-links_of q (branch e first ∷ bs) in
+      let b = length-links q (branch e first ∷ bs) in
       let c = length-take-le (15 - length bs) rest (omega (arith, d, less)) in
       from_parts (take 17 (insert links 0 (link_to (Some q)))) (take (15 - length bs) rest) q (branch e first ∷ bs) are
       (ap (λ (t : List ℕ). length t) are ∙ omega (arith, a, b, c, d, less))
@@ -123,7 +121,7 @@ module _ {links : List ℕ} {first : Place} {bs : List Branch} (has : HasLinks l
   links_last_more q e small less =
       let a : List ℕ = links_of first bs in
       let rest : List ℕ = drop (suc (length bs)) links in
-      let long = length-links_of first bs in
+      let long = length-links first bs in
       let d = length-rest in
       let joined : links_of first (bs ++ branch e q ∷ []) ≡ a ++ link_to (Some q) ∷ [] = ap (λ (t : List ℕ). link_to (Some first) ∷ t) (map-append link_in bs (branch e q ∷ [])) in
       let behind : slice_set rest (length bs + 1 - suc (length bs)) (link_to (Some q)) ≡ link_to (Some q) ∷ drop 1 rest =
@@ -134,7 +132,7 @@ module _ {links : List ℕ} {first : Place} {bs : List Branch} (has : HasLinks l
       ∙ (ap (λ (t : List ℕ). a ++ t) behind
       ∙ (sym (append_assoc a (link_to (Some q) ∷ []) (drop 1 rest)) ∙ ap (λ (t : List ℕ). t ++ drop 1 rest) (sym joined)))) in
       let x = length-append (links_of first (bs ++ branch e q ∷ [])) (drop 1 rest) in
-      let y = length-links_of first (bs ++ branch e q ∷ []) in
+      let y = length-links first (bs ++ branch e q ∷ []) in
       let z = length-append bs (branch e q ∷ []) in
       let w = length-drop 1 rest in
       from_parts (slice_set links (length bs + 1) (link_to (Some q))) (drop 1 rest) first (bs ++ branch e q ∷ []) are
@@ -156,7 +154,7 @@ links_first_gone links first b bs has =
     let a = length-append (links_of b.place bs) (rest ++ no_place ∷ []) in
     let c = length-append rest (no_place ∷ []) in
     let d = length-rest has in
-    let e = length-links_of b.place bs in
+    let e = length-links b.place bs in
     from_parts (remove links 0 ++ no_place ∷ []) (rest ++ no_place ∷ []) b.place bs are
     (ap (λ (t : List ℕ). length t) are ∙ omega (arith, a, c, d, e))
     (All-tail IsSmall (link_to (Some first)) (links_of b.place bs) (small_front has))
@@ -177,7 +175,7 @@ links_joined links more first second bs cs s has has_more less =
     ap (λ (t : List ℕ). t ++ drop (k + m) links) (ap (λ (t : List ℕ). t ++ take m more) one ∙ (ap (λ (t : List ℕ). links_of first bs ++ t) two ∙ sym joined)) in
     let behind : drop (k + m) links ≡ drop m rest = ap (λ n. drop n links) {x = k + m} {y = suc (length bs) + m} (omega arith) ∙ sym (drop-drop m (suc (length bs)) links) in
     let x = length-append (links_of first (bs ++ branch s second ∷ cs)) (drop (k + m) links) in
-    let y = length-links_of first (bs ++ branch s second ∷ cs) in
+    let y = length-links first (bs ++ branch s second ∷ cs) in
     let z = length-append bs (branch s second ∷ cs) in
     let w = length-drop (k + m) links in
     let v = has.size in

@@ -15,10 +15,11 @@ use Rattle.place_lemmas.proofs.Places.{some_same}
 use Rattle.index_tree.proofs.Frame.{all_back}
 use Rattle.index_tree.proofs.FrameRows.{branch}
 use Rattle.index_tree.proofs.InsertRows.{keyed}
+use Rattle.index_tree.proofs.InsertLeaf.{refilled}
 use Rattle.index_tree.proofs.SearchDown.{split_at}
 use Rattle.index_tree.proofs.RemoveInner.{HasLinks, reordered}
 use Rattle.index_tree.proofs.RemoveLinks.{links_gone, links_renamed}
-use Rattle.index_tree.proofs.RemoveLeaf.{filled, leaves_even, leaves_even_row, leaves_one, leaves_one_row, same_index}
+use Rattle.index_tree.proofs.RemoveLeaf.{leaves_even, leaves_even_row, leaves_one, leaves_one_row, same_index}
 
 -- what became of the two, and what of the parent
 pub record MendedPair (mid new : Nodes) (level : ℕ) (at : Place) (low high : Option (List ℕ)) (left right : Place) (s : Entry) (cs : List Branch) (freed : List Place) : Type 0 where
@@ -59,10 +60,10 @@ module _ (mid new : Nodes) (at : Place) (low high : Option (List ℕ)) (left rig
     where
       even : IsLooseNode zero (Some at) low (Some s.key) l → IsLooseNode zero (Some at) (Some s.key) high r → All (λ link. link ≡ no_place) l.children → All (λ link. link ≡ no_place) r.children
           → (xs : List Entry) (d : Entry) (ys : List Entry) → joined ≡ false → l.entries ++ r.entries ≡ xs ++ (d ∷ ys) → 8 ≤ length xs → length xs ≤ 16 → 8 ≤ length (d ∷ ys) → length (d ∷ ys) ≤ 16
-          → l2 ≡ filled xs l.next_leaf l → r2 ≡ filled (d ∷ ys) r.next_leaf r → p2 ≡ separated j d.key p → Outcome mid new zero at low high left right s joined j p p2 r2
+          → l2 ≡ refilled xs l.next_leaf l → r2 ≡ refilled (d ∷ ys) r.next_leaf r → p2 ≡ separated j d.key p → Outcome mid new zero at low high left right s joined j p p2 r2
       even of_l of_r none_l none_r xs d ys apart_still whole more_x few_x more_y few_y is_l is_r is_p =
-          let now_l : new left ≡ Some (filled xs l.next_leaf l) = now_left ∙ ap (λ (t : TreeNode). Some t) is_l in
-          let now_r : new right ≡ Some (filled (d ∷ ys) r.next_leaf r) = now_right ∙ ap (λ (t : TreeNode). Some t) is_r in
+          let now_l : new left ≡ Some (refilled xs l.next_leaf l) = now_left ∙ ap (λ (t : TreeNode). Some t) is_l in
+          let now_r : new right ≡ Some (refilled (d ∷ ys) r.next_leaf r) = now_right ∙ ap (λ (t : TreeNode). Some t) is_r in
           let fits : IsEntry d = All-head IsEntry d ys (all_back IsEntry xs (d ∷ ys) (subst (λ (t : List Entry). All IsEntry t) whole
           (All-append IsEntry l.entries r.entries of_l.stands.entries of_r.stands.entries))) in
           let b : Branch = branch (keyed d.key 0) right in
@@ -100,7 +101,7 @@ module _ (mid new : Nodes) (at : Place) (low high : Option (List ℕ)) (left rig
       gone of_l of_r none_l yes_joined g =
           let few_l = g.few_left in let few_r = g.few_right in
           let size = length-append l.entries r.entries in
-          let now_l : new left ≡ Some (filled (l.entries ++ r.entries) r.next_leaf l) = now_left ∙ ap (λ (t : TreeNode). Some t) g.left_is in
+          let now_l : new left ≡ Some (refilled (l.entries ++ r.entries) r.next_leaf l) = now_left ∙ ap (λ (t : TreeNode). Some t) g.left_is in
           record {
             cs = [];
             freed = right ∷ [];

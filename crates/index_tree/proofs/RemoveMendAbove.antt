@@ -13,8 +13,9 @@ use Rattle.index_tree.specs.Removes.{IsInnerTrunk}
 use Rattle.index_tree.specs.Pairs.{AreMendedAbove, GaveLeftAbove, GaveRightAbove, JoinedAbove, last_of, separated, separator, gives, gives_child}
 use Rattle.index_tree.proofs.FrameRows.{branch, links_of}
 use Rattle.index_tree.proofs.RemoveInner.{HasLinks, IsCarried, inner_even, inner_even_row, inner_one, inner_one_row, reordered}
-use Rattle.index_tree.proofs.RemoveLinks.{length-links_of, links_first_gone, links_first_more, links_gone, links_joined, links_last_more}
+use Rattle.index_tree.proofs.RemoveLinks.{links_first_gone, links_first_more, links_gone, links_joined, links_last_more}
 use Rattle.index_tree.proofs.RemoveMend.{Outcome, last_split}
+use Rattle.index_tree.proofs.InsertNode.{length-links}
 
 map_removed : (bs : List Branch) (k : ℕ) → remove (map entry_of bs) k ≡ map entry_of (remove bs k)
 map_removed bs k =
@@ -45,7 +46,7 @@ child_in_links links first xs m n has is =
     let size = length-append xs (m ∷ []) in
     sym (get_or-take (suc (length bs)) links n no_place (omega (arith, size, is)))
     ∙ (ap (λ (t : List ℕ). get_or t n no_place) (has.front ∙ ap (λ (t : List ℕ). link_to (Some first) ∷ t) (map-append (λ (b : Branch). link_to (Some b.place)) xs (m ∷ [])))
-    ∙ get_or_at (links_of first xs) (link_to (Some m.place)) [] no_place n (length-links_of first xs ∙ sym is))
+    ∙ get_or_at (links_of first xs) (link_to (Some m.place)) [] no_place n (length-links first xs ∙ sym is))
 
 module _ (mid : Nodes) (level : ℕ) (at : Place) (low high : Option (List ℕ)) (left right : Place) (s : Entry) (joined : Bool) (j : ℕ) (p p2 l2 r2 : TreeNode)
     (l : IsInnerTrunk mid level (Some at) low (Some s.key) left) (r : IsInnerTrunk mid level (Some at) (Some s.key) high right)

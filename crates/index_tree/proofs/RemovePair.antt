@@ -15,28 +15,13 @@ use Rattle.index_tree.specs.Inserts.{Branch, Row, entry_of, of_row, times}
 use Rattle.index_tree.specs.Removes.{Alters}
 use Rattle.index_tree.proofs.Bounds.{held_between}
 use Rattle.index_tree.proofs.Frame.{Agrees}
-use Rattle.index_tree.proofs.FrameRows.{branch, left_in, right_in}
+use Rattle.index_tree.proofs.FrameRows.{branch, left_behind, left_in, right_in, right_past, right_within}
 use Rattle.index_tree.proofs.InsertRows.{all_by_times, child_in, keyed, times_append}
 use Rattle.index_tree.proofs.SearchLists.{without_behind, without_front}
-use Rattle.index_tree.proofs.SearchDown.{less_least}
+use Rattle.index_tree.proofs.KeyOrder.{less_from}
 use Rattle.index_tree.proofs.RemoveRows.{SameRow, alters_behind, alters_front, same_row}
 
 -- ---- the keys beside a child
-
-pub left_at : (low : Option (List ℕ)) (es : List Entry) (i : ℕ) → i < length es → left_in low es (suc i) ≡ Some (get_or es i no_entry).key
-left_at low [] i within = absurd (omega arith)
-left_at low (e ∷ es) zero within = refl
-left_at low (e ∷ es) (suc i) within = left_at (Some e.key) es i (omega arith)
-
-pub right_at : (es : List Entry) (high : Option (List ℕ)) (i : ℕ) → i < length es → right_in es high i ≡ Some (get_or es i no_entry).key
-right_at [] high i within = absurd (omega arith)
-right_at (e ∷ es) high zero within = refl
-right_at (e ∷ es) high (suc i) within = right_at es high i (omega arith)
-
-pub right_end : (es : List Entry) (high : Option (List ℕ)) (i : ℕ) → length es ≤ i → right_in es high i ≡ high
-right_end [] high i past = refl
-right_end (e ∷ es) high zero past = absurd (omega arith)
-right_end (e ∷ es) high (suc i) past = right_end es high i (omega arith)
 
 module _ (node : TreeNode) (key : List ℕ) (i : ℕ) (leads : LeadsTo node key i) where
   -- the key is at or above the keys in front of the child, and below those behind it
@@ -45,7 +30,7 @@ module _ (node : TreeNode) (key : List ℕ) (i : ℕ) (leads : LeadsTo node key 
   from_at low (suc k) few from =
       let w = leads.within in
       let size = length-take-le i node.entries w in
-      subst (λ (o : Option (List ℕ)). IsFrom o (keyed key 0)) (sym (left_at low node.entries k (omega (arith, w))))
+      subst (λ (o : Option (List ℕ)). IsFrom o (keyed key 0)) (sym (left_behind low node.entries k (omega (arith, w))))
       (subst (λ (e : Entry). is_lt (key_cmp key e.key) ≡ false) (get_or-take i node.entries k no_entry (omega arith))
       (All-get_or (λ e. is_lt (key_cmp key e.key) ≡ false) (take i node.entries) k no_entry (omega (arith, size)) leads.upto))
 
@@ -53,10 +38,10 @@ module _ (node : TreeNode) (key : List ℕ) (i : ℕ) (leads : LeadsTo node key 
   up_at high k more up = elim (cases_lt k (length node.entries)) [
     | inl within ↦
         (let size = length-drop i node.entries in
-        subst (λ (o : Option (List ℕ)). IsUpTo o (keyed key 0)) (sym (right_at node.entries high k within))
+        subst (λ (o : Option (List ℕ)). IsUpTo o (keyed key 0)) (sym (right_within node.entries high k within))
         (subst (λ (e : Entry). IsBelow key e.key) (get_or-drop i node.entries (k - i) no_entry ∙ ap (λ n. get_or node.entries n no_entry) {x = i + (k - i)} {y = k} (omega arith))
         (All-get_or (λ e. IsBelow key e.key) (drop i node.entries) (k - i) no_entry (omega (arith, size, within)) leads.above)))
-    | inr past ↦ subst (λ (o : Option (List ℕ)). IsUpTo o (keyed key 0)) (sym (right_end node.entries high k past)) up
+    | inr past ↦ subst (λ (o : Option (List ℕ)). IsUpTo o (keyed key 0)) (sym (right_past node.entries high k past)) up
   ]
 
 -- ---- two children side by side in a row
@@ -128,7 +113,7 @@ module _ (nodes mid : Nodes) (level : ℕ) (p : Place) (low high : Option (List 
   left_lost same up a =
       let held : List Entry = held_below nodes level (Some right) in
       let over : All (λ e. IsBelow key e.key) held =
-      All-weaker (IsBetween (Some s.key) high) (λ e. IsBelow key e.key) (λ e h. less_least key s.key e.key up h.0) held (held_between nodes level (Some p) (Some s.key) high right right_tree) in
+      All-weaker (IsBetween (Some s.key) high) (λ e. IsBelow key e.key) (λ e h. less_from key s.key e.key up h.0) held (held_between nodes level (Some p) (Some s.key) high right right_tree) in
       alters_behind (without key) nodes mid level (Some p) freed (Some s.key) high left [] [] (branch s right) [] same
       (λ t. without_front key t (held ++ []) (subst (λ (es : List Entry). All (λ e. IsBelow key e.key) es) (sym (append-nil held)) over)) a
 
@@ -143,6 +128,6 @@ module _ (nodes mid : Nodes) (level : ℕ) (p : Place) (low high : Option (List 
   right_lost same from a =
       let held : List Entry = held_below nodes level (Some left) in
       let under : All (λ e. IsBelow e.key key) held =
-      All-weaker (IsBetween low (Some s.key)) (λ e. IsBelow e.key key) (λ e h. less_least e.key s.key key h.1 from) held (held_between nodes level (Some p) low (Some s.key) left left_tree) in
+      All-weaker (IsBetween low (Some s.key)) (λ e. IsBelow e.key key) (λ e h. less_from e.key s.key key h.1 from) held (held_between nodes level (Some p) low (Some s.key) left left_tree) in
       alters_front (without key) nodes mid level (Some p) freed low (Some s.key) left [] (branch s right) [] [] same
       (λ t. without_behind key (held ++ []) t (subst (λ (es : List Entry). All (λ e. IsBelow e.key key) es) (sym (append-nil held)) under)) a

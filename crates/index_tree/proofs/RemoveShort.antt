@@ -1,5 +1,5 @@
 -- A node whose child lost a key and has an entry too few, opened.
-use Rattle.std.proofs.Common.{◌≡◌, ℕ, zero, suc, ◌-◌, ◌<◌, ◌≤◌, ◌⊎◌, inl, inr, List, [], ◌∷◌, length, map, get_or, Option, Some, refl, sym, ap, subst, ◌∙◌, arith}
+use Rattle.std.proofs.Common.{◌≡◌, ℕ, zero, suc, ◌-◌, ◌<◌, ◌≤◌, ◌⊎◌, inl, inr, List, length, map, get_or, Option, Some, refl, sym, ap, subst, ◌∙◌, arith}
 use Rattle.std.proofs.lemmas.List.{get_or-take, length-map}
 use Rattle.regions.specs.declared.place.Place.{Place}
 use Rattle.tree_nodes.specs.Nodes.{Entry, TreeNode, child_at, no_place}
@@ -7,19 +7,15 @@ use Rattle.regions.specs.Places.{HasRoom, led_to, link_to, place_of_link}
 use Rattle.index_tree.specs.Links.{Nodes}
 use Rattle.index_tree.specs.Trees.{entries_of, left_of, right_of}
 use Rattle.index_tree.specs.Ways.{LeadsTo}
-use Rattle.index_tree.specs.Inserts.{Branch, entry_of}
+use Rattle.index_tree.specs.Inserts.{entry_of}
 use Rattle.index_tree.specs.Removes.{IsShort, Loses}
 use Rattle.place_lemmas.proofs.Places.{led_back, leads_on, some_same}
 use Rattle.index_tree.proofs.Moved.{room_of}
-use Rattle.index_tree.proofs.FrameRows.{Opened, left_in, links_of, open_node, right_in}
+use Rattle.index_tree.proofs.FrameRows.{Opened, left_in, left_of_in, open_node, right_in, right_of_in}
 use Rattle.index_tree.proofs.InsertRows.{child_in}
 use Rattle.index_tree.proofs.RemovePair.{PairIn, pair_in}
-use Rattle.index_tree.proofs.RemoveSteps.{child_tree, left_of_in, right_of_in}
-
-in_links : (first : Place) (bs : List Branch) (i : ℕ) → i ≤ length bs → get_or (links_of first bs) i no_place ≡ link_to (Some (child_in first bs i))
-in_links first bs zero within = refl
-in_links first [] (suc i) within = absurd (omega arith)
-in_links first (b ∷ bs) (suc i) within = in_links b.place bs i (omega arith)
+use Rattle.index_tree.proofs.RemoveSteps.{child_tree}
+use Rattle.index_tree.proofs.InsertWay.{got_link}
 
 module _ (nodes : Nodes) (level : ℕ) (parent : Option Place) (low high : Option (List ℕ)) (p : Place) (o : Opened nodes level parent low high p) where
   pub branches_size : length o.node.entries ≡ length o.branches
@@ -29,7 +25,7 @@ module _ (nodes : Nodes) (level : ℕ) (parent : Option Place) (low high : Optio
   child_link i within =
       let size = branches_size in
       sym (get_or-take (suc (length o.node.entries)) o.node.children i no_place (omega (arith, size, within)))
-      ∙ (ap (λ (t : List ℕ). get_or t i no_place) o.links ∙ in_links o.first o.branches i within)
+      ∙ (ap (λ (t : List ℕ). get_or t i no_place) o.links ∙ got_link o.first o.branches i within)
 
   pub child_room : (i : ℕ) → i ≤ length o.branches → HasRoom (child_in o.first o.branches i)
   child_room i within =

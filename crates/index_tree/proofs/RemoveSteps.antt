@@ -1,13 +1,12 @@
 -- The steps by which an inner node is mended whose child lost a key.
-use Rattle.std.proofs.Common.{◌≡◌, ◌≢◌, ℕ, zero, suc, ◌+◌, ◌<◌, ◌≤◌, ◌⊎◌, inl, inr, cond, List, [], ◌∷◌, length, map, get_or, Option, Some, refl, sym, ap, subst, ◌∙◌, arith}
+use Rattle.std.proofs.Common.{◌≡◌, ◌≢◌, ℕ, zero, suc, ◌+◌, ◌<◌, ◌≤◌, ◌⊎◌, inl, inr, List, [], ◌∷◌, length, map, get_or, Option, Some, sym, ap, subst, ◌∙◌, arith}
 use Rattle.std.specs.List.{flat_map}
-use Rattle.std.proofs.lemmas.Bool.{cases_lt, lt-ltb, le-ltb}
 use Rattle.std.proofs.lemmas.List.{length-map}
 use Rattle.regions.specs.declared.place.Place.{Place}
 use Rattle.tree_nodes.specs.Nodes.{Entry, TreeNode, entry_at, no_entry}
 use Rattle.regions.specs.Places.{led_to}
 use Rattle.index_tree.specs.Links.{Nodes}
-use Rattle.index_tree.specs.Trees.{IsFrom, IsSubtree, IsUpTo, children_of, entries_of, left_of, nodes_below, right_of}
+use Rattle.index_tree.specs.Trees.{IsFrom, IsSubtree, IsUpTo, children_of, entries_of, nodes_below}
 use Rattle.index_tree.specs.Ways.{LeadsTo}
 use Rattle.index_tree.specs.Inserts.{Branch, Row, entry_of, of_row, times}
 use Rattle.index_tree.specs.Mended.{AreUneven}
@@ -16,19 +15,8 @@ use Rattle.index_tree.proofs.FrameRows.{Opened, left_in, right_in}
 use Rattle.index_tree.proofs.InsertRows.{child_in, keyed, times_here}
 use Rattle.index_tree.proofs.RemoveRows.{trunk_of}
 use Rattle.index_tree.proofs.RemoveInner.{child_many}
-use Rattle.index_tree.proofs.RemovePair.{PairIn, left_at, left_same, right_at, right_end, right_same}
+use Rattle.index_tree.proofs.RemovePair.{PairIn, left_same, right_same}
 use Rattle.index_tree.proofs.RemoveMended.{child_times, far_above, pair_apart, pair_times, row_once}
-
--- the keys beside a child, both ways of writing them
-pub left_of_in : (node : TreeNode) (low : Option (List ℕ)) (i : ℕ) → i ≤ length node.entries → left_of node low i ≡ left_in low node.entries i
-left_of_in node low zero within = refl
-left_of_in node low (suc i) within = sym (left_at low node.entries i (omega arith))
-
-pub right_of_in : (node : TreeNode) (high : Option (List ℕ)) (i : ℕ) → right_of node high i ≡ right_in node.entries high i
-right_of_in node high i = elim (cases_lt i (length node.entries)) [
-  | inl within ↦ ap (λ b. cond b (Some (get_or node.entries i no_entry).key) high) (lt-ltb i (length node.entries) within) ∙ sym (right_at node.entries high i within)
-  | inr past ↦ ap (λ b. cond b (Some (get_or node.entries i no_entry).key) high) (le-ltb i (length node.entries) past) ∙ sym (right_end node.entries high i past)
-]
 
 -- the tree of a child in a row
 pub child_tree : (nodes : Nodes) (level : ℕ) (p : Place) (i : ℕ) (first : Place) (bs : List Branch) (low high : Option (List ℕ)) → Row nodes level (Some p) low first bs high → i ≤ length bs

@@ -22,14 +22,15 @@ use Rattle.index_tree.specs.Trees.{held_below, nodes_below, places_of}
 use Rattle.index_tree.specs.Writes.{blank}
 use Rattle.index_tree.specs.inside.Consistent.{IsConsistent}
 use Rattle.index_tree.specs.inside.Rosters.{IsRosterOf, IsSameTree, RosterState, released}
+use Rattle.index_tree.specs.Ways.{AllAbove}
 use Rattle.index_tree.proofs.Counted.{some_below}
-use Rattle.index_tree.proofs.InsertOrder.{AllAbove, greater_less, less_less}
 use Rattle.index_tree.proofs.InsertRows.{times_append}
 use Rattle.index_tree.proofs.InsertedTree.{equal_here, length_with, one_if}
 use Rattle.index_tree.proofs.Once.{once_of_apart}
 use Rattle.index_tree.proofs.SearchLists.{without_behind, without_front}
 use Rattle.index_tree.proofs.SearchWay.{held_rises}
 use Rattle.index_tree.proofs.Settled.{consistent_settled}
+use Rattle.index_tree.proofs.KeyOrder.{greater_less, less_less}
 
 -- ---- what the removal asks
 

@@ -1,5 +1,5 @@
 -- What is held below a node, child by child.
-use Rattle.std.proofs.Common.{◌≡◌, ℕ, zero, suc, ◌+◌, ◌-◌, ◌<◌, ◌≤◌, inl, inr, false, true≢false, cond, get_or, refl, sym, ap, subst, ◌∙◌, arith, append-nil, is_lt, Ordering, Less, Equal, Greater}
+use Rattle.std.proofs.Common.{◌≡◌, ℕ, zero, suc, ◌+◌, ◌-◌, ◌<◌, ◌≤◌, inl, inr, false, cond, get_or, refl, sym, ap, subst, ◌∙◌, arith, append-nil, is_lt}
 use Rattle.std.specs.Prelude.{List, [], ◌∷◌, ◌++◌, All, length, take, drop, Option, Some, None}
 use Rattle.std.specs.List.{flat_map}
 use Rattle.std.proofs.lemmas.Grind.{flat_map-append}
@@ -10,15 +10,22 @@ use Rattle.std.proofs.lemmas.List.Elements.{All-get_or, All-weaker, All-from_get
 use Rattle.regions.specs.declared.place.Place.{Place}
 use Rattle.tree_nodes.specs.Nodes.{Entry, TreeNode, child_at, entry_at, no_entry, no_place}
 use Rattle.tree_nodes.specs.Order.{IsBelow, key_cmp}
-use Rattle.regions.specs.Places.{led_to, link_to}
+use Rattle.regions.specs.Places.{led_to, link_to, no_link, place_of_link}
 use Rattle.index_tree.specs.Links.{Nodes}
 use Rattle.index_tree.specs.Trees.{IsBetween, IsNodeOf, IsSubtree, IsUpTo, children_of, entries_of, held_below, leaves_below, left_of, right_of}
 use Rattle.index_tree.specs.Ways.{AllAbove, AllBelow, LeadsTo, held_in}
-use Rattle.place_lemmas.proofs.Places.{leads_on}
+use Rattle.place_lemmas.proofs.Places.{leads_on, some_is, some_none}
 use Rattle.index_tree.proofs.Moved.{room_of}
 use Rattle.index_tree.proofs.Bounds.{held_between}
-use Rattle.index_tree.proofs.Bounds.{greater_less, tied}
-use Rattle.index_tree.proofs.SearchLists.{IsBefore, all_gathered, less_less, rising_at}
+use Rattle.index_tree.proofs.SearchLists.{IsBefore, all_gathered, rising_at}
+use Rattle.index_tree.proofs.KeyOrder.{less_from, less_less}
+
+-- where the number of a place leads
+pub led_place : (link : ℕ) (p q : Place) → p ≡ place_of_link link → led_to link ≡ Some q → p ≡ q
+led_place link p q is led = elim (eqb_tells link no_link) [
+  | inl e ↦ some_none led (ap (λ b. cond b None (Some (place_of_link link))) e.0)
+  | inr far ↦ is ∙ some_is (sym (ap (λ b. cond b None (Some (place_of_link link))) far.0) ∙ led)
+]
 
 -- a list at one of its elements
 pub split_at : {A : Type 0} (xs : List A) (i : ℕ) (d : A) → i < length xs → xs ≡ take i xs ++ (get_or xs i d ∷ drop (i + 1) xs)
@@ -31,15 +38,6 @@ gathered_twice f g (x ∷ xs) = flat_map-append f (g x) (flat_map g xs) ∙ ap (
 pub gathered_same : {A : Type 0} (f g : ℕ → List A) (xs : List ℕ) → ((x : ℕ) → f x ≡ g x) → flat_map f xs ≡ flat_map g xs
 gathered_same f g [] same = refl
 gathered_same f g (x ∷ xs) same = ap (λ t. t ++ flat_map f xs) (same x) ∙ ap (λ t. g x ++ t) (gathered_same f g xs same)
-
--- what is not below a key that another is below has the other below it
-pub less_least : (a b c : List ℕ) → IsBelow a b → is_lt (key_cmp c b) ≡ false → IsBelow a c
-less_least a b c less least = go (key_cmp c b) refl
-  where
-    go : (o : Ordering) → key_cmp c b ≡ o → IsBelow a c
-    go Less is = absurd (true≢false (sym (ap is_lt is) ∙ least))
-    go Equal is = subst (λ (k : List ℕ). IsBelow a k) (sym (tied c b is)) less
-    go Greater is = less_less a b c less (greater_less c b is)
 
 module _ (nodes : Nodes) where
   -- the leaves hold what is held below a place
@@ -153,7 +151,7 @@ module _ (nodes : Nodes) where
         (λ e under.
         let under_left : IsBelow e.key (entry_at node j).key = up_to e under in
         All-weaker (λ g. is_lt (key_cmp g.key (entry_at node j).key) ≡ false) (λ g. IsBelow e.key g.key)
-        (λ g over. less_least e.key (entry_at node j).key g.key under_left over)
+        (λ g over. less_from e.key (entry_at node j).key g.key under_left over)
         (held_below nodes level (Some (child_place (suc j) there))) (child_over j there))
         (held_below nodes level (Some (child_place i here))) (child_under i here (omega arith))
       where
@@ -178,7 +176,7 @@ module _ (nodes : Nodes) where
           (let size = length-take-le i node.entries leads.within in omega (arith, size, less)) leads.upto) in
           subst (λ es. AllBelow key es) (sym (same (Some (child_place j inside))))
           (All-weaker (λ e. IsBelow e.key (entry_at node j).key) (λ e. IsBelow e.key key)
-          (λ e under. less_least e.key (entry_at node j).key key under upto)
+          (λ e under. less_from e.key (entry_at node j).key key under upto)
           (held_below nodes level (Some (child_place j inside))) (child_under j inside (let w = leads.within in omega (arith, less, w)))))
 
       pub behind_above : (g : Option Place → List Entry) → ((o : Option Place) → g o ≡ held_below nodes level o) → AllAbove key (flat_map (λ link. g (led_to link)) (drop (i + 1) links))
@@ -194,5 +192,5 @@ module _ (nodes : Nodes) where
               (All-get_or (λ e. IsBelow key e.key) (drop i node.entries) (j - i) no_entry (omega (arith, size)) leads.above) in
               subst (λ es. AllAbove key es) (sym (same (Some (child_place (suc j) inside))))
               (All-weaker (λ e. is_lt (key_cmp e.key (entry_at node j).key) ≡ false) (λ e. IsBelow key e.key)
-              (λ e above. less_least key (entry_at node j).key e.key over above)
+              (λ e above. less_from key (entry_at node j).key e.key over above)
               (held_below nodes level (Some (child_place (suc j) inside))) (child_over j inside))

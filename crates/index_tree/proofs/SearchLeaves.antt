@@ -12,6 +12,7 @@ use Rattle.index_tree.specs.Trees.{IsSubtree, children_of, leaves_below, left_of
 use Rattle.index_tree.specs.Ways.{IsOnWay}
 use Rattle.place_lemmas.proofs.Places.{some_none}
 use Rattle.index_tree.proofs.SearchDown.{child_place, of_all}
+use Rattle.index_tree.proofs.Frame.{all_back}
 
 -- a node stands at a place, and its keys rise
 pub record IsLeaf (nodes : Nodes) (p : Place) : Type 0 where
@@ -24,10 +25,6 @@ pub record IsLeaf (nodes : Nodes) (p : Place) : Type 0 where
 -- it has as many keys as a node that is not the root
 abbrev pub IsFull : Nodes → Place → Type 0
 IsFull nodes p = IfSome (nodes p) (λ node. 8 ≤ length node.entries)
-
-of_parts : {A : Type 0} (P : A → Type 0) (xs ys : List A) → All P (xs ++ ys) → All P ys
-of_parts P [] ys all = all
-of_parts P (x ∷ xs) ys all = of_parts P xs ys (All-tail P x (xs ++ ys) all)
 
 module _ (nodes : Nodes) where
   pub leaves_below_are : (level : ℕ) (parent : Option Place) (low high : Option (List ℕ)) (p : Place) → IsSubtree nodes level parent low high p → All (IsLeaf nodes) (leaves_below nodes level (Some p))
@@ -64,7 +61,7 @@ module _ (nodes : Nodes) where
   behind_full (suc level) p (node, is, here, of, inner, children) front behind q are =
       let g : Option Place → List Place = λ o. leaves_below nodes level o in
       All-tail (IsFull nodes) q behind
-      (of_parts (IsFull nodes) front (q ∷ behind)
+      (all_back (IsFull nodes) front (q ∷ behind)
       (subst (λ (ps : List Place). All (IsFull nodes) ps) (sym (ap (λ (o : Option TreeNode). flat_map (λ link. g (led_to link)) (children_of o)) is) ∙ are)
       (of_all nodes level None None None p node of children (IsFull nodes) g
       (λ i within. leaves_full level (Some p) (left_of node None i) (right_of node None i) (child_place nodes level None None None p node of children i within) (children i within).2
@@ -74,7 +71,7 @@ module _ (nodes : Nodes) where
   pub way_leaves : (level : ℕ) (p : Place) (key : List ℕ) (q : Place) → IsSubtree nodes level None None None p → (way : IsOnWay nodes (leaves_below nodes level (Some p)) key zero q)
       → All (IsLeaf nodes) (q ∷ way.behind)
   way_leaves level p key q tree way =
-      of_parts (IsLeaf nodes) way.front (q ∷ way.behind)
+      all_back (IsLeaf nodes) way.front (q ∷ way.behind)
       (subst (λ (ps : List Place). All (IsLeaf nodes) ps) way.leaves_are (leaves_below_are level None None None p tree))
 
   pub way_leaf : (level : ℕ) (p : Place) (key : List ℕ) (q : Place) → IsSubtree nodes level None None None p → IsOnWay nodes (leaves_below nodes level (Some p)) key zero q → IsLeaf nodes q

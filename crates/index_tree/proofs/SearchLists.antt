@@ -3,26 +3,18 @@ use Rattle.std.proofs.Common.{◌≡◌, ℕ, zero, suc, ◌<◌, Bool, true, fa
 use Rattle.std.specs.Prelude.{filter, find}
 use Rattle.std.specs.Option.{option_or}
 use Rattle.std.specs.List.{flat_map}
-use Rattle.std.specs.Ordering.{is_lt, is_le, is_eq, ordering_reverse}
-use Rattle.std.proofs.lemmas.Cmp.{nat_list_cmp_total}
+use Rattle.std.specs.Ordering.{is_lt, is_le, is_eq}
 use Rattle.std.proofs.lemmas.List.Folds.{find-append}
 use Rattle.std.proofs.lemmas.List.Elements.{All-nil, All-append, All-head, All-tail, All-get_or, All-weaker, All-from_get_or, filter-append}
 use Rattle.tree_nodes.specs.Nodes.{Entry, no_entry}
 use Rattle.tree_nodes.specs.Order.{AreRising, IsBelow, key_cmp}
 use Rattle.index_tree.specs.Indexes.{above, below, from, number_of, without}
 use Rattle.index_tree.specs.Ways.{AllAbove, AllBelow}
-
-pub less_less : (a b c : List ℕ) → IsBelow a b → IsBelow b c → IsBelow a c
-unfolding key_cmp
-less_less a b c e f = nat_list_cmp_total.trans a b c e f
-
-pub reversed : (a b : List ℕ) → IsBelow a b → key_cmp b a ≡ Greater
-unfolding key_cmp
-reversed a b e = nat_list_cmp_total.antisymm b a ∙ ap ordering_reverse e
+use Rattle.index_tree.proofs.KeyOrder.{less_greater}
 
 -- ---- a test that no element passes, or each
 
-none_kept : {A : Type 0} (test : A → Bool) (xs : List A) → All (λ x. test x ≡ false) xs → filter test xs ≡ []
+pub none_kept : {A : Type 0} (test : A → Bool) (xs : List A) → All (λ x. test x ≡ false) xs → filter test xs ≡ []
 none_kept test [] all = refl
 none_kept {A} test (x ∷ xs) all =
     ap (λ (b : Bool). cond {A = List A} b (x ∷ filter test xs) (filter test xs)) (All-head (λ y. test y ≡ false) x xs all)
@@ -51,10 +43,10 @@ module _ (key : List ℕ) where
   below_tests test xs all = All-weaker (λ e. IsBelow e.key key) (λ e. test (key_cmp e.key key) ≡ test Less) (λ e h. ap test h) xs all
 
   below_turned : (test : Ordering → Bool) (xs : List Entry) → AllBelow key xs → All (λ e. test (key_cmp key e.key) ≡ test Greater) xs
-  below_turned test xs all = All-weaker (λ e. IsBelow e.key key) (λ e. test (key_cmp key e.key) ≡ test Greater) (λ e h. ap test (reversed e.key key h)) xs all
+  below_turned test xs all = All-weaker (λ e. IsBelow e.key key) (λ e. test (key_cmp key e.key) ≡ test Greater) (λ e h. ap test (less_greater e.key key h)) xs all
 
   above_tests : (test : Ordering → Bool) (xs : List Entry) → AllAbove key xs → All (λ e. test (key_cmp e.key key) ≡ test Greater) xs
-  above_tests test xs all = All-weaker (λ e. IsBelow key e.key) (λ e. test (key_cmp e.key key) ≡ test Greater) (λ e h. ap test (reversed key e.key h)) xs all
+  above_tests test xs all = All-weaker (λ e. IsBelow key e.key) (λ e. test (key_cmp e.key key) ≡ test Greater) (λ e h. ap test (less_greater key e.key h)) xs all
 
   above_turned : (test : Ordering → Bool) (xs : List Entry) → AllAbove key xs → All (λ e. test (key_cmp key e.key) ≡ test Less) xs
   above_turned test xs all = All-weaker (λ e. IsBelow key e.key) (λ e. test (key_cmp key e.key) ≡ test Less) (λ e h. ap test h) xs all

@@ -15,15 +15,10 @@ use Rattle.index_tree.specs.Store.{HoldsNode, nodes_of}
 use Rattle.index_tree.specs.Trees.{entries_of}
 use Rattle.index_tree.specs.Ways.{AllAbove, AllBelow, LeadsTo}
 use Rattle.place_lemmas.proofs.Places.{some_none}
-use Rattle.index_tree.proofs.Bounds.{greater_less, tied}
-use Rattle.index_tree.proofs.SearchLists.{less_less, number_amid, reversed, rising_at}
+use Rattle.index_tree.proofs.SearchLists.{number_amid, rising_at}
 use Rattle.index_tree.proofs.SearchDown.{split_at}
-
-pub in_some : {A : Type 0} (P : A → Type 0) (o : Option A) (a : A) → o ≡ Some a → P a → IfSome o P
-in_some P o a is h = subst (λ x. IfSome x P) (sym is) h
-
-pub of_some_value : {A : Type 0} (P : A → Type 0) (o : Option A) (a : A) → o ≡ Some a → IfSome o P → P a
-of_some_value P o a is h = subst (λ x. IfSome x P) is h
+use Rattle.index_tree.proofs.KeyOrder.{greater_less, less_greater, less_less, not_itself, tied}
+use Rattle.index_tree.proofs.Touches.{value_of}
 
 abbrev NotBelow : List ℕ → Entry → Type 0
 NotBelow key e = is_lt (key_cmp e.key key) ≡ false
@@ -96,15 +91,7 @@ behind_rise es key n rise within least =
         go Greater is = less_less key a b (greater_less a key is) above
 
 upto_all : (key : List ℕ) (es : List Entry) → AllBelow key es → All (λ e. is_lt (key_cmp key e.key) ≡ false) es
-upto_all key es all = All-weaker (λ e. IsBelow e.key key) (λ e. is_lt (key_cmp key e.key) ≡ false) (λ e h. ap is_lt (reversed e.key key h)) es all
-
-pub not_itself : (k : List ℕ) → is_lt (key_cmp k k) ≡ false
-not_itself k = go (key_cmp k k) refl
-  where
-    go : (o : Ordering) → key_cmp k k ≡ o → is_lt (key_cmp k k) ≡ false
-    go Less is = (let clash : Less ≡ Greater = sym is ∙ reversed k k is in cc)
-    go Equal is = ap is_lt is
-    go Greater is = ap is_lt is
+upto_all key es all = All-weaker (λ e. IsBelow e.key key) (λ e. is_lt (key_cmp key e.key) ≡ false) (λ e h. ap is_lt (less_greater e.key key h)) es all
 
 -- the way where a key of the node is that key
 pub leads_past : (node : TreeNode) (key : List ℕ) (n m : ℕ) → AreRising node.entries → n ≡ count_below node.entries key → n < length node.entries → (entry_at node n).key ≡ key → m ≡ n + 1
@@ -184,7 +171,7 @@ number_here node key n rise counted within same =
     equals k = go (key_cmp k k) refl
       where
         go : (o : Ordering) → key_cmp k k ≡ o → is_eq (key_cmp k k) ≡ true
-        go Less is = (let clash : Less ≡ Greater = sym is ∙ reversed k k is in cc)
+        go Less is = (let clash : Less ≡ Greater = sym is ∙ less_greater k k is in cc)
         go Equal is = ap is_eq is
         go Greater is = (let clash : Greater ≡ Less = sym is ∙ greater_less k k is in cc)
 
@@ -218,9 +205,9 @@ module _ (o : Option TreeNode) (key : List ℕ) (n : ℕ) (has : Bool) (rise : I
 
   pub number_here_if : (node : TreeNode) (number : ℕ) → o ≡ Some node → has ≡ true → IfSome o (λ node. number ≡ (entry_at node n).number) → Some number ≡ number_of key (entries_of o)
   number_here_if node number is there read =
-      let t = of_some_value (λ node. (has ≡ true) ↔ ((n < length node.entries) × ((entry_at node n).key ≡ key))) o node is told in
-      ap (λ k. Some k) (of_some_value (λ node. number ≡ (entry_at node n).number) o node is read)
-      ∙ (number_here node key n (of_some_value (λ node. AreRising node.entries) o node is rise) (of_some_value (λ node. n ≡ count_below node.entries key) o node is counted) (t.0 there).0 (t.0 there).1
+      let t = value_of (λ node. (has ≡ true) ↔ ((n < length node.entries) × ((entry_at node n).key ≡ key))) o node is told in
+      ap (λ k. Some k) (value_of (λ node. number ≡ (entry_at node n).number) o node is read)
+      ∙ (number_here node key n (value_of (λ node. AreRising node.entries) o node is rise) (value_of (λ node. n ≡ count_below node.entries key) o node is counted) (t.0 there).0 (t.0 there).1
       ∙ sym (ap (λ (x : Option TreeNode). number_of key (entries_of x)) is))
 
   pub no_number_if : has ≡ false → None ≡ number_of key (entries_of o)

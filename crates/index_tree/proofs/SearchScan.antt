@@ -19,16 +19,13 @@ use Rattle.index_tree.specs.Scans.{IsWritten, written}
 use Rattle.index_tree.specs.Trees.{AreLinked, IsSubtree, entries_of, held_below, leaves_below, next_at, next_in}
 use Rattle.index_tree.specs.Ways.{IsOnWay, held_in}
 use Rattle.place_lemmas.proofs.Places.{leads_on, some_none, some_same}
-use Rattle.index_tree.proofs.Bounds.{greater_less}
 use Rattle.index_tree.proofs.SearchLists.{all_kept, from_amid}
 use Rattle.index_tree.proofs.SearchNode.{SplitsAt, splits}
 use Rattle.index_tree.proofs.SearchWay.{from_there}
 use Rattle.index_tree.proofs.SearchLeaves.{IsFull, IsLeaf, behind_full, way_leaf, way_leaves}
+use Rattle.index_tree.proofs.KeyOrder.{greater_less}
 
 -- ---- what is written in two parts
-
-written_nil : (old : List ℕ) → IsWritten [] 0 0 old old
-written_nil old = record { keys_are = refl; bytes_are = refl; room = omega arith; front = refl }
 
 front_is : {es : List Entry} {keys bytes : ℕ} {old new : List ℕ} → IsWritten es keys bytes old new → take bytes new ≡ flat_map written es
 front_is {es} {keys} {bytes} {old} {new} w =
@@ -93,14 +90,6 @@ module _ (node : TreeNode) (stands : CanStand node) (first : ℕ) where
       subst (λ (xs : List Entry). IsWritten xs (keys + 1) (bytes + more) old (put_mid bytes (length mid - bytes) mid put))
       (ap (λ (e : Entry). take keys es ++ e ∷ []) (sym same) ∙ sym (take_more es keys no_entry (omega (arith, size, within, is))))
       (joined w (one_written (entry_at node i) more (take (length mid - bytes) (drop bytes mid)) put (short_key i within) more_is are))
-
-  -- all that are left are written
-  pub entries_end : (most keys bytes : ℕ) (old new : List ℕ) → keys ≤ most → length node.entries ≤ first + keys → IsWritten (take keys (drop first node.entries)) keys bytes old new
-      → IsWritten (take most (drop first node.entries)) keys bytes old new
-  entries_end most keys bytes old new few end w =
-      let es : List Entry = drop first node.entries in
-      let size = length-drop first node.entries in
-      subst (λ (xs : List Entry). IsWritten xs keys bytes old new) (take_all keys es (omega (arith, size, end)) ∙ sym (take_all most es (omega (arith, size, end, few)))) w
 
 -- ---- what a leaf has from a key on
 

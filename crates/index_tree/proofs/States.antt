@@ -79,9 +79,6 @@ consistent_more t r s keys segments i keeps groups held below numbers free total
 
 -- ---- what holds at each time
 
-pub index_is : (t : RosterState) (r : RegionState) (keys segments : ℕ) → IsConsistent t r keys segments → index_of (nodes_of (live_at r)) t.tree ≡ t.known.index
-index_is t r keys segments i = i.roster.index
-
 pub low_enough : (t : RosterState) (r : RegionState) (keys segments : ℕ) → IsConsistent t r keys segments → levels t.tree ≤ most_levels
 low_enough t r keys segments i =
     few_levels (nodes_of (live_at r)) t.tree (held_count r) i.roster.tree (subst (λ (x : Index). length x ≤ most (held_count r)) (sym i.roster.index) i.room) i.few

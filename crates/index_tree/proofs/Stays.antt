@@ -13,10 +13,10 @@ use Rattle.index_tree.specs.Trees.{row_below}
 use Rattle.index_tree.specs.Writes.{blank}
 use Rattle.index_tree.specs.inside.Rosters.{IsRosterOf, IsSameTree, Remain, RosterState, released}
 use Rattle.index_tree.proofs.RemoveCalls.{still_some}
-use Rattle.index_tree.proofs.RemoveLeaves.{seen}
 use Rattle.index_tree.proofs.Rows.{left_between}
 use Rattle.index_tree.proofs.SearchNode.{is_live}
 use Rattle.index_tree.proofs.Within.{row_within}
+use Rattle.index_tree.proofs.Touches.{live_same}
 
 pub same_stays : (old new : IndexState) → new ≡ old → Stay old new
 same_stays old new same = subst (λ (s : IndexState). Stay old s) (sym same) (record { live = λ p some. some; order = λ level. Sublist.refl (places_at old level) })
@@ -25,7 +25,7 @@ module _ (old mid new : RegionState) (r s : RosterState) (root : Place) (is_root
     (pruned : Prunes (nodes_of (live_at old)) (nodes_of (live_at mid)) r.tree.level root lower top key freed) (same : SameBut blank old mid)
     (trimmed : IsSameTree (released (nodes_of (live_at mid)) top lower freed r) s) (roster : IsRosterOf s (live_at new)) (remain : Remain (live_at mid) (live_at new)) where
   within : (p : Place) (node : TreeNode) → nodes_of (live_at new) p ≡ Some node → nodes_of (live_at mid) p ≡ Some node
-  within p node is = sym (seen mid new p (remain p (is_live (live_at new) p node is))) ∙ is
+  within p node is = sym (live_same mid new p (remain p (is_live (live_at new) p node is))) ∙ is
 
   row_now : (k : ℕ) → row_below (nodes_of (live_at new)) k s.tree.level s.tree.root ≡ row_below (nodes_of (live_at mid)) k lower top
   row_now k =

@@ -1,16 +1,16 @@
 -- Writes to some nodes, one after another.
-use Rattle.std.proofs.Common.{◌≡◌, ◌≢◌, ℕ, zero, suc, ◌≤◌, inl, inr, List, [], ◌∷◌, All, Option, Some, option_map, refl, sym, ap, subst, ◌∙◌, arith, Bool, true, false, None}
+use Rattle.std.proofs.Common.{◌≡◌, ◌≢◌, ℕ, zero, suc, ◌≤◌, inl, inr, List, [], ◌∷◌, All, Option, Some, option_map, refl, sym, ap, subst, ◌∙◌, arith}
 use Rattle.std.specs.Prelude.{IfSome}
 use Rattle.std.proofs.lemmas.List.Elements.{All-nil, All-cons}
 use Rattle.regions.specs.Segments.{RegionState}
-use Rattle.regions.specs.Contents.{Item, live_at, Standing, if_live, item_if_live, standing_at}
-use Rattle.regions.specs.Stores.{SameBut, without_references}
+use Rattle.regions.specs.Contents.{Item, live_at}
+use Rattle.regions.specs.Stores.{SameBut}
 use Rattle.regions.specs.declared.place.Place.{Place}
 use Rattle.tree_nodes.specs.Nodes.{TreeNode, node_in}
 use Rattle.index_tree.specs.Inserts.{Touched, times}
 use Rattle.index_tree.specs.Store.{HoldsNode, nodes_of}
 use Rattle.index_tree.specs.Writes.{WritesNode, blank}
-use Rattle.place_lemmas.proofs.Places.{place_cases, some_is, some_none}
+use Rattle.place_lemmas.proofs.Places.{place_cases}
 use Rattle.index_tree.proofs.InsertRows.{all_by_times, times_here, times_of_all}
 
 -- a node stands where one is held
@@ -47,12 +47,6 @@ same_then r s t a b = record {
   shape = b.shape ∙ a.shape;
 }
 
-pub same_still : (r : RegionState) → SameBut blank r r
-same_still r = record { objects = λ p. refl; used = refl; live = refl; shape = refl }
-
-pub touched_still : (ps : List Place) (r : RegionState) → All (HoldsNode (live_at r)) ps → Touched ps r r
-touched_still ps r all = record { holds = all; others = λ p none. refl; same = same_still r }
-
 pub touched_then : (ps : List Place) (r s t : RegionState) → Touched ps r s → Touched ps s t → Touched ps r t
 touched_then ps r s t a b = record {
   holds = b.holds;
@@ -88,19 +82,3 @@ either_behind p q = let a = times_here q [] in omega arith
 
 pub both_held : (r : RegionState) (p q : Place) → HoldsNode (live_at r) p → HoldsNode (live_at r) q → All (HoldsNode (live_at r)) (p ∷ q ∷ [])
 both_held r p q a b = All-cons (HoldsNode (live_at r)) p (q ∷ []) a (All-cons (HoldsNode (live_at r)) q [] b (All-nil (HoldsNode (live_at r))))
-
--- what is live is live still, of the same group and kind
-pub blank_live : (r s : RegionState) (p : Place) → SameBut blank r s → option_map blank (live_at s p) ≡ option_map blank (live_at r p)
-blank_live r s p same = go (standing_at s p) (standing_at r p) (same.objects p)
-  where
-    if_blank : (l k : Bool) (a b : Item) → l ≡ k → blank a ≡ blank b → option_map blank (if_live l a) ≡ option_map blank (if_live k b)
-    if_blank true k a b e f = ap (λ (i : Item). Some i) f ∙ ap (λ (x : Bool). option_map blank (if_live x b)) e
-    if_blank false k a b e f = ap (λ (x : Bool). option_map blank (if_live x b)) e
-
-    go : (x y : Option Standing) → option_map (without_references blank) x ≡ option_map (without_references blank) y → option_map blank (item_if_live x) ≡ option_map blank (item_if_live y)
-    go None None e = refl
-    go None (Some b) e = some_none {a = without_references blank b} refl (sym e)
-    go (Some a) None e = some_none {a = without_references blank a} refl e
-    go (Some a) (Some b) e =
-        let same_both = some_is e in
-        if_blank a.live b.live a.item b.item (ap (λ (t : Bool × (Item × ℕ)). t.0) same_both) (ap (λ (t : Bool × (Item × ℕ)). t.1.0) same_both)

@@ -1,16 +1,17 @@
 -- The same objects live, and nothing but their contents changed.
-use Rattle.std.proofs.Common.{◌≡◌, ℕ, Bool, true, false, true≢false, List, Option, Some, None, refl, sym, ap, subst, ◌∙◌}
+use Rattle.std.proofs.Common.{◌≡◌, ℕ, Bool, true, false, List, Option, Some, None, refl, sym, ap, ◌∙◌}
 use Rattle.std.specs.Prelude.{IsSome, option_map}
 use Rattle.regions.specs.Segments.{RegionState}
 use Rattle.regions.specs.Contents.{Item, Standing, if_live, item_if_live, live_at, standing_at}
 use Rattle.regions.specs.Stores.{Live, SameBut, without_references}
 use Rattle.regions.specs.declared.place.Place.{Place}
 use Rattle.tree_nodes.specs.Nodes.{TreeNode, node_in}
-use Rattle.index_tree.specs.Sizes.{node_kind}
+use Rattle.layout.specs.Kinds.{node_kind}
 use Rattle.index_tree.specs.Store.{nodes_of}
 use Rattle.index_tree.specs.Writes.{blank}
 use Rattle.index_tree.specs.inside.Rosters.{AreListed}
 use Rattle.place_lemmas.proofs.Places.{some_is, some_none}
+use Rattle.index_tree.proofs.References.{is_there, some_of}
 
 blank_if : (l : Bool) (i : Item) → option_map blank (if_live l i) ≡ if_live l (blank i)
 blank_if true i = refl
@@ -34,13 +35,6 @@ was_there None n item e is = some_none (ap (option_map blank) is) e
 was_there (Some was) n item e is =
     let same : blank item ≡ blank was = some_is (sym (ap (option_map blank) is) ∙ e) in
     (was, refl, ap (λ (i : Item). i.group) same, ap (λ (i : Item). i.kind) same)
-
-pub some_of : {A : Type 0} (o : Option A) → IsSome o → (a : A) × (o ≡ Some a)
-some_of None h = absurd (true≢false (sym h))
-some_of (Some a) h = (a, refl)
-
-is_there : {A : Type 0} (o : Option A) (a : A) → o ≡ Some a → IsSome o
-is_there o a e = subst (λ x. IsSome x) (sym e) refl
 
 node_at : (live : Live) (p : Place) (item : Item) → live p ≡ Some item → nodes_of live p ≡ Some (node_in item.content)
 node_at live p item e = ap (λ (o : Option Item). option_map (λ (i : Item). node_in i.content) o) e

@@ -12,6 +12,7 @@ use Rattle.index_tree.specs.Links.{bare}
 use Rattle.index_tree.specs.Store.{ChangesNode, HoldsNode, nodes_of}
 use Rattle.index_tree.specs.Writes.{WritesNode, blank}
 use Rattle.place_lemmas.proofs.Places.{place_cases, some_is, some_none}
+use Rattle.index_tree.proofs.Lives.{content_live, live_now}
 
 abbrev content_of : Standing → List ℕ
 content_of s = s.item.content
@@ -24,24 +25,6 @@ blank_same (Some s) b bytes ws e long is =
     let content : s.item.content ≡ bytes = some_is e in
     ap (option_map (without_references blank)) is
     ∙ ap (λ (n : ℕ). Some (s.live, (blank s.item, n + 8))) (long ∙ sym (ap (λ (c : List ℕ). length c) content))
-
-live_now : (a : Option Standing) (item : Item) (ws : List ℕ) → item_if_live a ≡ Some item → item_if_live (option_map (with_bytes ws) a) ≡ Some (record item { content = ws })
-live_now None item ws e = some_none e refl
-live_now (Some s) item ws e = go s.live refl
-  where
-    go : (l : Bool) → s.live ≡ l → if_live s.live (record s.item { content = ws }) ≡ Some (record item { content = ws })
-    go true is =
-        ap (λ l. if_live l (record s.item { content = ws })) is
-        ∙ ap (λ (i : Item). Some (record i { content = ws })) (some_is (sym (ap (λ l. if_live l s.item) is) ∙ e))
-    go false is = some_none e (ap (λ l. if_live l s.item) is)
-
-content_live : (a : Option Standing) (item : Item) (bytes : List ℕ) → item_if_live a ≡ Some item → option_map content_of a ≡ Some bytes → item.content ≡ bytes
-content_live None item bytes e is = some_none e refl
-content_live (Some s) item bytes e is = go s.live refl
-  where
-    go : (l : Bool) → s.live ≡ l → item.content ≡ bytes
-    go true l = ap (λ (i : Item). i.content) (sym (some_is (sym (ap (λ b. if_live b s.item) l) ∙ e))) ∙ some_is is
-    go false l = some_none e (ap (λ b. if_live b s.item) l)
 
 -- the content that stands
 live_content : (a : Option Standing) (item : Item) → item_if_live a ≡ Some item → option_map content_of a ≡ Some item.content

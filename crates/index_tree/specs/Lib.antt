@@ -9,7 +9,6 @@ pub mod Ways
 pub mod Scans
 pub mod Writes
 pub mod Inserts
-pub mod Spots
 pub mod Splits
 pub mod inside
 pub mod Removes

@@ -1,5 +1,6 @@
 -- The limits of a tree.
 use Rattle.std.specs.Prelude.{ℕ}
+pub use Rattle.layout.specs.Sizes.{most_segments}
 
 -- the fewest entries of a node that is not the root
 abbrev pub fewest_entries : ℕ
@@ -12,7 +13,3 @@ most_spares = 8
 -- the most levels of a tree
 abbrev pub most_levels : ℕ
 most_levels = 6
-
--- the most segments
-abbrev pub most_segments : ℕ
-most_segments = 2048

@@ -56,7 +56,7 @@ pub record HasKids (live : Live) (at : Place) (node : TreeNode) : Type 0 where
   pub kids : (i : ℕ) → i ≤ length node.entries → (q : Place) × (child_at node i ≡ link_to (Some q)) × HasRoom q × HoldsNode live q × (q ≢ at)
 
 -- Each child of the node at a place has it as parent now, and every other object is as it was.
-pub record Adopts (at : Place) (node : TreeNode) (old new : RegionState) : Type 0 where
+pub record AdoptsAll (at : Place) (node : TreeNode) (old new : RegionState) : Type 0 where
   pub adopted : (i : ℕ) (q : Place) → i ≤ length node.entries → HasRoom q → child_at node i ≡ link_to (Some q)
       → nodes_of (live_at new) q ≡ option_map (with_parent (link_to (Some at))) (nodes_of (live_at old) q)
   pub others : (r : Place) → ((i : ℕ) (q : Place) → i ≤ length node.entries → HasRoom q → child_at node i ≡ link_to (Some q) → r ≢ q)

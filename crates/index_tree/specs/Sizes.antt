@@ -4,10 +4,7 @@ use Rattle.layout.specs.Sizes.{descriptor}
 use Rattle.segmented_store.specs.Room.{room}
 use Rattle.tree_nodes.specs.Order.{node_size}
 
--- the kind of an object that holds a node, and its bytes, its descriptor included
-abbrev pub node_kind : ℕ
-node_kind = 3
-
+-- the bytes of an object that holds a node, its descriptor included
 abbrev pub node_object : ℕ
 node_object = node_size + descriptor
 

@@ -8,12 +8,12 @@ ghost use Rattle.index_tree.specs.Inserts.{InsertsBelow, IsRoom, Touched};
 ghost use Rattle.index_tree.specs.Splits.{branches_of};
 
 use crate::fields::{child_of, count_at};
-use crate::finding::{child_for, has_key};
-use crate::search::below_at;
+use crate::search::{below_at, has_at, way_at};
 use crate::split::Inserted;
 use crate::splitting::{split_inner, split_leaf, widen};
 use crate::writing::{add_at, set_number_at};
 use regions::{Place, Region, place_of};
+use tree_nodes::MOST_ENTRIES;
 
 /// Puts a key with its number into a leaf, or sets the number of the key where it is there.
 pub(crate) fn insert_into_leaf(
@@ -32,15 +32,14 @@ pub(crate) fn insert_into_leaf(
     ensures touched { Touched (nodes_below (nodes_of (live_at region.old)) 0 (Some at) ++ spares.now) region.old region.new }
 {
     let i = below_at(region, at, key);
-    let count = count_at(region, at);
-    if i < count && has_key(region, at, i, key) {
+    if has_at(region, at, i, key) {
         set_number_at(region, at, i, number);
         return Inserted {
             left: spares.len(),
             split: None,
         };
     }
-    if count < 16 {
+    if count_at(region, at) < MOST_ENTRIES {
         add_at(region, at, i, key, number);
         return Inserted {
             left: spares.len(),
@@ -76,14 +75,14 @@ pub(crate) fn insert_below(
     if level == 0 {
         return insert_into_leaf(region, spares, at, key, number);
     }
-    let i = child_for(region, at, key);
+    let i = way_at(region, at, key);
     let child = place_of(child_of(region, at, i));
     let below = insert_below(region, spares, child, level - 1, key, number);
     let left = below.left;
     let Some(split) = below.split else {
         return Inserted { left, split: None };
     };
-    if count_at(region, at) < 16 {
+    if count_at(region, at) < MOST_ENTRIES {
         widen(region, at, i, &split);
         return Inserted { left, split: None };
     }

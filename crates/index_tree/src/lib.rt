@@ -6,10 +6,11 @@
 //! the insertion and the removal of a key make of them `specs/Inserts.antt` and `specs/Removes.antt`.
 #![tactic(auto)]
 
+mod adopting;
 mod climbing;
+mod copying;
 mod fields;
 mod filling;
-mod finding;
 mod inserting;
 mod law;
 mod leaves;
@@ -33,5 +34,5 @@ pub use law::{
     a_move_keeps_the_index, a_subtree_holds_what_lies_between, a_tree_is_as_worked,
     an_index_is_as_worked, sizes_are_as_worked,
 };
-pub use scanning::TreeScanned;
+pub use row_bytes::Scanned;
 pub use tree::{Full, IndexTree};

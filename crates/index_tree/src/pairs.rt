@@ -1,79 +1,15 @@
-//! Two inner nodes side by side, of which one has an entry too few, and their parent: their contents.
+//! Two nodes side by side, of which one has an entry too few, and their parent: their contents mended.
 ghost use Rattle.std.specs.Prelude.{◌≡◌, ℕ, ◌+◌, ◌<◌, ◌≤◌, ◌⊎◌, length};
 ghost use Rattle.tree_nodes.specs.Nodes as nodes;
 ghost use Rattle.tree_nodes.specs.Nodes.{IsNode, child_at, entry_at, node_in};
 ghost use Rattle.index_tree.specs.Pairs as pairs;
 
-use tree_nodes::{add, add_child, child, count, cut, cut_child, key, number, set_child};
+use crate::copying::{copy_children, copy_entries, copy_key, drop_branch, restart, separate};
+use crate::leaves::mend_leaves;
+use tree_nodes::{HALF, add_child, child, count, cut, cut_child, set_child};
 
-// Adds an entry of one node to another.
-fn copy_entry(from: &[u8], k: u16, to: &mut [u8], i: u16)
-    requires from { IsNode from.now }
-    requires k { k < length (node_in from.now).entries }
-    requires to { IsNode to.old }
-    requires room { length (node_in to.old).entries < nodes.most_entries }
-    requires i { i ≤ length (node_in to.old).entries }
-    ensures node { node_in to.new ≡ pairs.gains i (entry_at (node_in from.now) k) (node_in to.old) }
-    ensures holds { IsNode to.new }
-{
-    add(to, i, key(from, k), number(from, k));
-}
-
-// Adds the key of an entry of one node to another, with no number.
-fn copy_key(from: &[u8], k: u16, to: &mut [u8], i: u16)
-    requires from { IsNode from.now }
-    requires k { k < length (node_in from.now).entries }
-    requires to { IsNode to.old }
-    requires room { length (node_in to.old).entries < nodes.most_entries }
-    requires i { i ≤ length (node_in to.old).entries }
-    ensures node { node_in to.new ≡ pairs.gains i (pairs.separator (entry_at (node_in from.now) k).key) (node_in to.old) }
-    ensures holds { IsNode to.new }
-{
-    add(to, i, key(from, k), 0);
-}
-
-// Makes the key of an entry of one node that between two children of another.
-fn separate(from: &[u8], k: u16, parent: &mut [u8], j: u16)
-    requires from { IsNode from.now }
-    requires k { k < length (node_in from.now).entries }
-    requires parent { IsNode parent.old }
-    requires j { j < length (node_in parent.old).entries }
-    ensures node { node_in parent.new ≡ pairs.separated j (entry_at (node_in from.now) k).key (node_in parent.old) }
-    ensures holds { IsNode parent.new }
-{
-    cut(parent, j);
-    copy_key(from, k, parent, j);
-}
-
-// Adds all entries of one node behind those of another.
-fn copy_entries(from: &[u8], to: &mut [u8])
-    requires from { IsNode from.now }
-    requires to { IsNode to.old }
-    requires room { length (node_in to.old).entries + length (node_in from.now).entries ≤ nodes.most_entries }
-    ensures node { node_in to.new ≡ pairs.takes (node_in from.now).entries (node_in to.old) }
-    ensures holds { IsNode to.new }
-{
-    let end = count(to);
-    for k in 0..count(from) {
-        copy_entry(from, k, to, end + k);
-    }
-}
-
-// Writes the first `n` children of one node over those of another from one on.
-fn copy_children(from: &[u8], n: u16, to: &mut [u8], at: u16)
-    requires from { IsNode from.now }
-    requires to { IsNode to.old }
-    requires room { at + n ≤ nodes.children_count }
-    ensures node { node_in to.new ≡ pairs.with_children at (node_in from.now).children n (node_in to.old) }
-    ensures holds { IsNode to.new }
-{
-    for k in 0..n {
-        set_child(to, at + k, child(from, k));
-    }
-}
-
-/// The last child of the left inner node becomes the first of the right one. The keys beside it turn.
-pub(crate) fn give_right_above(parent: &mut [u8], j: u16, left: &mut [u8], right: &mut [u8])
+// The last child of the left inner node becomes the first of the right one. The keys beside it turn.
+fn give_right_above(parent: &mut [u8], j: u16, left: &mut [u8], right: &mut [u8])
     requires parent { IsNode parent.old }
     requires j { j < length (node_in parent.old).entries }
     requires left { IsNode left.old }
@@ -99,8 +35,8 @@ pub(crate) fn give_right_above(parent: &mut [u8], j: u16, left: &mut [u8], right
     cut_child(left, end);
 }
 
-/// The first child of the right inner node becomes the last of the left one. The keys beside it turn.
-pub(crate) fn give_left_above(parent: &mut [u8], j: u16, left: &mut [u8], right: &mut [u8])
+// The first child of the right inner node becomes the last of the left one. The keys beside it turn.
+fn give_left_above(parent: &mut [u8], j: u16, left: &mut [u8], right: &mut [u8])
     requires parent { IsNode parent.old }
     requires j { j < length (node_in parent.old).entries }
     requires left { IsNode left.old }
@@ -124,8 +60,8 @@ pub(crate) fn give_left_above(parent: &mut [u8], j: u16, left: &mut [u8], right:
     cut_child(right, 0);
 }
 
-/// The key between two inner nodes and all that the right one has come behind what the left one has, which takes its place.
-pub(crate) fn join_above(parent: &mut [u8], j: u16, left: &mut [u8], right: &[u8])
+// The key between two inner nodes and all that the right one has come behind what the left one has, which takes its place.
+fn join_above(parent: &mut [u8], j: u16, left: &mut [u8], right: &[u8])
     requires parent { IsNode parent.old }
     requires j { j < length (node_in parent.old).entries }
     requires left { IsNode left.old }
@@ -144,12 +80,11 @@ pub(crate) fn join_above(parent: &mut [u8], j: u16, left: &mut [u8], right: &[u8
     copy_key(parent, j, left, end);
     copy_entries(right, left);
     copy_children(right, count(right) + 1, left, end + 1);
-    cut(parent, j);
-    cut_child(parent, j + 1);
+    drop_branch(parent, j);
 }
 
-/// Mends two inner nodes side by side of which one has an entry too few, and answers whether the right one is free now.
-pub(crate) fn mend_above(parent: &mut [u8], j: u16, left: &mut [u8], right: &mut [u8]) -> bool
+// Mends two inner nodes, and answers whether the right one is free now.
+fn mend_above(parent: &mut [u8], j: u16, left: &mut [u8], right: &mut [u8]) -> bool
     requires parent { IsNode parent.old }
     requires j { j < length (node_in parent.old).entries }
     requires left { IsNode left.old }
@@ -163,11 +98,11 @@ pub(crate) fn mend_above(parent: &mut [u8], j: u16, left: &mut [u8], right: &mut
     ensures holds_left { IsNode left.new }
     ensures holds_right { IsNode right.new }
 {
-    if count(left) > 8 {
+    if count(left) > HALF {
         give_right_above(parent, j, left, right);
         return false;
     }
-    if count(right) > 8 {
+    if count(right) > HALF {
         give_left_above(parent, j, left, right);
         return false;
     }
@@ -176,12 +111,29 @@ pub(crate) fn mend_above(parent: &mut [u8], j: u16, left: &mut [u8], right: &mut
     true
 }
 
-// Makes a node a free one.
-fn restart(node: &mut [u8])
-    requires { IsNode node.old }
-    ensures node { node_in node.new ≡ nodes.started 0 }
-    ensures holds { IsNode node.new }
+/// Mends two nodes side by side of which one has an entry too few, inner ones or leaves, and answers whether the right one is free now.
+pub(crate) fn mend_contents(
+    above: bool,
+    parent: &mut [u8],
+    j: u16,
+    left: &mut [u8],
+    right: &mut [u8],
+) -> bool
+    requires parent { IsNode parent.old }
+    requires j { j < length (node_in parent.old).entries }
+    requires left { IsNode left.old }
+    requires right { IsNode right.old }
+    requires few { (length (node_in left.old).entries ≡ 7) ⊎ (length (node_in right.old).entries ≡ 7) }
+    requires some_left { 7 ≤ length (node_in left.old).entries }
+    requires some_right { 7 ≤ length (node_in right.old).entries }
+    ensures mended { pairs.AreMendedIf above result j (node_in parent.old) (node_in left.old) (node_in right.old)
+        (node_in parent.new) (node_in left.new) (node_in right.new) }
+    ensures holds_parent { IsNode parent.new }
+    ensures holds_left { IsNode left.new }
+    ensures holds_right { IsNode right.new }
 {
-    tree_nodes::a_node_is_read_as_it_is_written();
-    tree_nodes::start(node, 0);
+    if above {
+        return mend_above(parent, j, left, right);
+    }
+    mend_leaves(parent, j, left, right)
 }

@@ -9,13 +9,12 @@ ghost use Rattle.index_tree.specs.Sizes.{most, node_object};
 ghost use Rattle.index_tree.specs.Store.{HoldsNode};
 ghost use Rattle.index_tree.specs.inside.Rosters.{IsPlaced};
 
+use layout::ObjectKind;
 use regions::{Place, Region};
 use segmented_store::room;
 
-// The group of all nodes, the kind of an object that holds one, and its bytes.
+// The group of all nodes, and the bytes of an object that holds one.
 pub(crate) const GROUP: u32 = 0;
-
-const NODE: u8 = 3;
 
 pub(crate) const NODE_OBJECT: u32 = 4392;
 
@@ -34,7 +33,7 @@ pub(crate) fn place_node(region: &mut Region) -> Place
     ensures live_total { live_total region.new ≡ live_total region.old + node_object }
     ensures shape { shape region.new ≡ shape region.old }
 {
-    let Ok(place) = region.place(GROUP, NODE, NODE_OBJECT) else {
+    let Ok(place) = region.place(GROUP, ObjectKind::Node as u8, NODE_OBJECT) else {
         unreachable!()
     };
     segment_fits(place);

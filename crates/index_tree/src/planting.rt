@@ -8,10 +8,10 @@ ghost use Rattle.index_tree.specs.Splits.{AdoptsBeside, branch_of, top_node};
 ghost use Rattle.index_tree.specs.Store.{HoldsNode, nodes_of};
 ghost use Rattle.index_tree.specs.Trees.{IsSubtree, nodes_below};
 
+use crate::adopting::adopt;
 use crate::fields::set_child_of;
 use crate::inserting::insert_below;
 use crate::split::{Planted, Split};
-use crate::splitting::adopt;
 use crate::writing::{add_at, start_at};
 use regions::{Place, Region, link_to};
 

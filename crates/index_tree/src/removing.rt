@@ -1,6 +1,6 @@
 //! A key taken away below a place, and nodes mended that have an entry too few then.
 ghost use Rattle.std.specs.Prelude.{◌≡◌, ◌≢◌, ◌+◌, ℕ, suc, ◌<◌, ◌≤◌, List, [], ◌∷◌, ◌++◌, length};
-ghost use Rattle.std.specs.Prelude.{Option, IfSome, IsNone, IsSome, Some, true, cond};
+ghost use Rattle.std.specs.Prelude.{Option, IfSome, IsNone, IsSome, Some, cond};
 ghost use Rattle.std.specs.Option.{option_to_list};
 ghost use Rattle.regions.specs.Contents.{live_at};
 ghost use Rattle.regions.specs.Stores.{SameBut};
@@ -12,19 +12,32 @@ ghost use Rattle.index_tree.specs.Links.{Nodes};
 ghost use Rattle.index_tree.specs.Removes.{CanLose, IsShort, Loses};
 ghost use Rattle.index_tree.specs.Trees.{IsFrom, IsSubtree, IsUpTo, entries_of, held_below};
 ghost use Rattle.index_tree.specs.Store.{HoldsNode, nodes_of};
-ghost use Rattle.index_tree.specs.Mended.{Adopts, AreUneven, HasKids, IsMendedAt, OnlyThree};
+ghost use Rattle.index_tree.specs.Mended.{AreUneven, IsMendedAt, OnlyThree};
 ghost use Rattle.index_tree.specs.Writes.{WritesNode, blank, without_entries};
 
-use crate::fields::{child_of, count_at, set_parent_at};
-use crate::leaves::mend_leaves;
-use crate::pairs::mend_above;
+use crate::adopting::adopt_all;
+use crate::fields::{child_of, count_at};
+use crate::pairs::mend_contents;
 use crate::search::{below_at, has_at, number_at, way_at};
 use crate::spares::Spares;
 use crate::writing::cut_run_at;
-use regions::{Place, Region, led_to, link_to};
+use regions::{Place, Region, place_of};
+use tree_nodes::HALF;
 
 /// The bytes of a node's content.
 const NODE: usize = 4384;
+
+// The content of a node, copied.
+fn copied(content: &[u8]) -> [u8; NODE]
+    requires { IsNode content.now }
+    ensures { result ≡ content.now }
+{
+    tree_nodes::a_node_is_read_as_it_is_written();
+    let Ok(copy) = <[u8; NODE]>::try_from(content) else {
+        unreachable!()
+    };
+    copy
+}
 
 // The content of the node at a place.
 fn content_at(region: &Region, at: Place) -> [u8; NODE]
@@ -32,10 +45,7 @@ fn content_at(region: &Region, at: Place) -> [u8; NODE]
     ensures holds { IsNode result }
     ensures node { nodes_of (live_at region.now) at ≡ Some (node_in result) }
 {
-    tree_nodes::a_node_is_read_as_it_is_written();
-    let mut content = [0u8; NODE];
-    content.copy_from_slice(region.bytes(at));
-    content
+    copied(region.bytes(at))
 }
 
 // Writes a content over that of the node at a place.
@@ -46,34 +56,6 @@ fn write_at(region: &mut Region, at: Place, content: &[u8])
 {
     tree_nodes::a_node_is_read_as_it_is_written();
     region.bytes_mut(at).copy_from_slice(content);
-}
-
-// Mends two inner nodes side by side of which one has an entry too few, and answers whether the right one is free now. The children
-// that they got have the old parent still.
-fn mend_inner(region: &mut Region, at: Place, j: u16, left: Place, right: Place) -> bool
-    requires at { HoldsNode (live_at region.old) at }
-    requires left { HoldsNode (live_at region.old) left }
-    requires right { HoldsNode (live_at region.old) right }
-    requires far_left { left ≢ at }
-    requires far_right { right ≢ at }
-    requires apart { right ≢ left }
-    requires uneven { AreUneven (nodes_of (live_at region.old)) j at left right }
-    ensures mended { IsMendedAt true result j at left right (nodes_of (live_at region.old)) (nodes_of (live_at region.new)) }
-    ensures three { OnlyThree at left right region.old region.new }
-{
-    let mut parent_content = content_at(region, at);
-    let mut left_content = content_at(region, left);
-    let mut right_content = content_at(region, right);
-    let joined = mend_above(
-        &mut parent_content,
-        j,
-        &mut left_content,
-        &mut right_content,
-    );
-    write_at(region, at, &parent_content);
-    write_at(region, left, &left_content);
-    write_at(region, right, &right_content);
-    joined
 }
 
 // Mends two nodes side by side of which one has an entry too few, and answers whether the right one is free now. The children that
@@ -89,25 +71,20 @@ fn mend_pair(region: &mut Region, above: bool, at: Place, j: u16, left: Place, r
     ensures mended { IsMendedAt above result j at left right (nodes_of (live_at region.old)) (nodes_of (live_at region.new)) }
     ensures three { OnlyThree at left right region.old region.new }
 {
-    if above {
-        return mend_inner(region, at, j, left, right);
-    }
-    mend_leaves(region, at, j, left, right)
-}
-
-// Makes the node at a place the parent of each of its children.
-fn adopt(region: &mut Region, at: Place)
-    requires node { HoldsNode (live_at region.old) at }
-    requires kids { IfSome (nodes_of (live_at region.old) at) (λ node. HasKids (live_at region.old) at node) }
-    ensures { IfSome (nodes_of (live_at region.old) at) (λ node. Adopts at node region.old region.new) }
-{
-    let link = link_to(Some(at));
-    for i in 0..count_at(region, at) + 1 {
-        let Some(child) = led_to(child_of(region, at, i)) else {
-            unreachable!()
-        };
-        set_parent_at(region, child, link);
-    }
+    let mut parent_content = content_at(region, at);
+    let mut left_content = content_at(region, left);
+    let mut right_content = content_at(region, right);
+    let joined = mend_contents(
+        above,
+        &mut parent_content,
+        j,
+        &mut left_content,
+        &mut right_content,
+    );
+    write_at(region, at, &parent_content);
+    write_at(region, left, &left_content);
+    write_at(region, right, &right_content);
+    joined
 }
 
 // Mends a child of the inner node at a place that has an entry too few, with the one beside it. Gives the place of a node that is
@@ -124,21 +101,17 @@ fn mend_child(region: &mut Region, at: Place, level: u16, i: u16) -> Option<Plac
     ensures same { SameBut blank region.old region.new }
 {
     let j = i.saturating_sub(1);
-    let Some(left) = led_to(child_of(region, at, j)) else {
-        unreachable!()
-    };
-    let Some(right) = led_to(child_of(region, at, j + 1)) else {
-        unreachable!()
-    };
+    let left = place_of(child_of(region, at, j));
+    let right = place_of(child_of(region, at, j + 1));
     let joined = mend_pair(region, level > 0, at, j, left, right);
     if level == 0 {
         return freed_if(joined, right);
     }
-    adopt(region, left);
+    adopt_all(region, left);
     if joined {
         return Some(right);
     }
-    adopt(region, right);
+    adopt_all(region, right);
     None
 }
 
@@ -195,11 +168,9 @@ pub(crate) fn remove_below(
         return remove_in(region, at, key);
     }
     let i = way_at(region, at, key);
-    let Some(child) = led_to(child_of(region, at, i)) else {
-        unreachable!()
-    };
+    let child = place_of(child_of(region, at, i));
     let number = remove_below(region, child, level - 1, key, freed)?;
-    if count_at(region, child) >= 8 {
+    if count_at(region, child) >= HALF {
         return Some(number);
     }
     if let Some(free) = mend_child(region, at, level - 1, i) {

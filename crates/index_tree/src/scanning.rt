@@ -1,6 +1,5 @@
 //! The keys of a tree from one on, along its leaves.
-ghost use Rattle.std.specs.Prelude.{◌≡◌, ◌+◌, ◌*◌, ◌<◌, ◌≤◌, ◌++◌, ℕ, length, take, drop, IfSome, IsSome, None, Some};
-ghost use Rattle.byteorder.specs.Endian.{little_bytes};
+ghost use Rattle.std.specs.Prelude.{◌≡◌, ◌*◌, ◌<◌, ◌≤◌, ℕ, length, take, drop, IfSome, IsSome, None, Some};
 ghost use Rattle.layout.specs.Sizes as sizes;
 ghost use Rattle.regions.specs.Contents.{live_at};
 ghost use Rattle.regions.specs.declared.place.Place.{Place};
@@ -12,17 +11,8 @@ ghost use Rattle.index_tree.specs.Trees.{AreLinked, IsSubtree, held_below, leave
 
 use crate::fields::{count_at, next_at};
 use crate::search::{below_at, key_at, leaf_of};
-use byteorder::{ByteOrder, LittleEndian};
 use regions::{Place, Region, led_to};
-
-/// What a scan wrote.
-#[derive(Clone, Copy, Debug, PartialEq, Eq)]
-pub struct TreeScanned {
-    /// How many keys.
-    pub keys: u32,
-    /// How many bytes, each key behind its length in two of them.
-    pub bytes: u32,
-}
+use row_bytes::{Scanned, write_key};
 
 /// Writes the first `count` keys at or above `lo` of a tree of a level, each behind its length in two bytes.
 pub(crate) fn range(
@@ -32,7 +22,7 @@ pub(crate) fn range(
     lo: &[u8],
     count: u32,
     into: &mut [u8],
-) -> TreeScanned
+) -> Scanned
     requires tree { (p : Place) → root ≡ Some p → IsSubtree (nodes_of (live_at region.now)) level None None None p }
     requires linked { AreLinked (nodes_of (live_at region.now)) (leaves_below (nodes_of (live_at region.now)) level root) }
     requires nodes { (p : Place) → IsSome (live_at region.now p) → HoldsNode (live_at region.now) p }
@@ -44,7 +34,7 @@ pub(crate) fn range(
     ensures behind { drop result.bytes into.new ≡ drop result.bytes into.old }
 {
     let Some(root) = root else {
-        return TreeScanned { keys: 0, bytes: 0 };
+        return Scanned { keys: 0, bytes: 0 };
     };
     range_in(region, root, level, lo, count, into)
 }
@@ -57,7 +47,7 @@ fn range_in(
     lo: &[u8],
     count: u32,
     into: &mut [u8],
-) -> TreeScanned
+) -> Scanned
     requires tree { IsSubtree (nodes_of (live_at region.now)) level None None None root }
     requires linked { AreLinked (nodes_of (live_at region.now)) (leaves_below (nodes_of (live_at region.now)) level (Some root)) }
     requires nodes { (p : Place) → IsSome (live_at region.now p) → HoldsNode (live_at region.now) p }
@@ -83,7 +73,7 @@ fn range_in(
 }
 
 /// Writes the keys of the entries of a leaf from one on, at most `most`, to the front of `into`.
-fn write_entries(region: &Region, leaf: Place, from: u16, most: u32, into: &mut [u8]) -> TreeScanned
+fn write_entries(region: &Region, leaf: Place, from: u16, most: u32, into: &mut [u8]) -> Scanned
     requires node { HoldsNode (live_at region.now) leaf }
     requires from { IfSome (nodes_of (live_at region.now) leaf) (λ node. from ≤ length node.entries) }
     requires most { most ≤ sizes.most_keys }
@@ -91,7 +81,7 @@ fn write_entries(region: &Region, leaf: Place, from: u16, most: u32, into: &mut 
     ensures { IfSome (nodes_of (live_at region.now) leaf)
         (λ node. IsWritten (take most (drop from node.entries)) result.keys result.bytes into.old into.new) }
 {
-    let mut scanned = TreeScanned { keys: 0, bytes: 0 };
+    let mut scanned = Scanned { keys: 0, bytes: 0 };
     for i in from..count_at(region, leaf) {
         if scanned.keys == most {
             return scanned;
@@ -100,17 +90,4 @@ fn write_entries(region: &Region, leaf: Place, from: u16, most: u32, into: &mut 
         scanned.keys += 1;
     }
     scanned
-}
-
-/// Writes a key behind its length to the front of `into`, and answers how many bytes these are.
-fn write_key(into: &mut [u8], key: &[u8]) -> u32
-    requires key { length key.now ≤ sizes.greatest_key }
-    requires room { 2 + length key.now ≤ length into.old }
-    ensures bytes { result ≡ 2 + length key.now }
-    ensures written { into.new ≡ (little_bytes 2 (length key.now) ++ key.now) ++ drop result into.old }
-{
-    let (len, behind) = into.split_at_mut(2);
-    LittleEndian::write_u16(len, key.len() as u16);
-    behind[..key.len()].copy_from_slice(key);
-    2 + key.len() as u32
 }

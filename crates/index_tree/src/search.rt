@@ -10,7 +10,7 @@ ghost use Rattle.index_tree.specs.Trees.{IsSubtree, entries_of, held_below, leav
 ghost use Rattle.index_tree.specs.Ways.{IsOnWay, LeadsTo};
 
 use crate::fields::{child_of, count_at};
-use regions::{Place, Region, led_to};
+use regions::{Place, Region, place_of};
 
 /// How many keys of the node at a place are below a key: the first eight bytes of each are read, and at most five keys whole.
 pub(crate) fn below_at(region: &Region, at: Place, key: &[u8]) -> u16
@@ -85,9 +85,7 @@ pub(crate) fn leaf_of(region: &Region, root: Place, level: u16, key: &[u8]) -> P
     let mut at = root;
     let mut left = level;
     while left > 0 {
-        let Some(child) = led_to(child_of(region, at, way_at(region, at, key))) else {
-            unreachable!()
-        };
+        let child = place_of(child_of(region, at, way_at(region, at, key)));
         at = child;
         left -= 1;
     }

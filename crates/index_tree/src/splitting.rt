@@ -2,18 +2,29 @@
 ghost use Rattle.std.specs.Prelude.{◌≡◌, ◌≢◌, ℕ, ◌≤◌, ◌<◌, All, IfSome, Some, length, take, [], ◌∷◌};
 ghost use Rattle.layout.specs.Sizes.{greatest_key};
 ghost use Rattle.regions.specs.Contents.{live_at};
-ghost use Rattle.tree_nodes.specs.Nodes.{children_count, entry_at, most_entries};
+ghost use Rattle.tree_nodes.specs.Nodes.{entry_at, most_entries};
 ghost use Rattle.index_tree.specs.Store.{HoldsNode, nodes_of};
 ghost use Rattle.index_tree.specs.Inserts.{Touched, times};
-ghost use Rattle.index_tree.specs.Splits.{AddsToHalf, Adopts, AdoptsBeside, CutsInner, CutsLeaf, Halves};
-ghost use Rattle.index_tree.specs.Splits.{back_of, branch_of, child_places, front_of, upper_places, widened};
+ghost use Rattle.index_tree.specs.Splits.{AddsToHalf, AdoptsBeside, CutsInner, CutsLeaf, Halves};
+ghost use Rattle.index_tree.specs.Splits.{back_of, branch_of, front_of, upper_places, widened};
 ghost use Rattle.index_tree.specs.Writes.{WritesNode};
 ghost use Rattle.regions.specs.Places as place_links;
 
-use crate::fields::{child_of, set_child_of, set_next_at, set_parent_at};
+use crate::adopting::adopt;
+use crate::fields::{set_child_of, set_next_at};
 use crate::split::Split;
 use crate::writing::{add_at, add_child_at, copy_node, cut_children_at, cut_run_at};
-use regions::{Place, Region, link_to, place_of};
+use regions::{Place, Region, link_to};
+use tree_nodes::{HALF, MOST_ENTRIES};
+
+/// The last entry of the lower half of a full node.
+const LAST_LOWER: u16 = HALF - 1;
+
+/// The second entry of the upper half.
+const SECOND_UPPER: u16 = HALF + 1;
+
+/// How many children a half has.
+const HALF_CHILDREN: u16 = HALF + 1;
 
 /// The key of an entry of the node at a place, as that which separates a new node.
 pub(crate) fn split_before(region: &Region, at: Place, i: u16, place: Place) -> Split
@@ -62,8 +73,8 @@ pub(crate) fn split_leaf(
 {
     copy_node(region, at, new);
     set_next_at(region, at, link_to(Some(new)));
-    cut_run_at(region, new, 0, 8);
-    cut_run_at(region, at, 8, 8);
+    cut_run_at(region, new, 0, HALF);
+    cut_run_at(region, at, HALF, HALF);
     add_to_half(region, at, new, i, key, number);
     split_before(region, new, 0, new)
 }
@@ -82,10 +93,10 @@ fn add_to_half(region: &mut Region, at: Place, new: Place, i: u16, key: &[u8], n
         (nodes_of (live_at region.new)) }
     ensures touched { Touched (at ∷ new ∷ []) region.old region.new }
 {
-    if i <= 8 {
+    if i <= HALF {
         add_at(region, at, i, key, number);
     } else {
-        add_at(region, new, i - 8, key, number);
+        add_at(region, new, i - HALF, key, number);
     }
 }
 
@@ -112,10 +123,10 @@ pub(crate) fn cut_inner(region: &mut Region, at: Place, new: Place, i: u16, spli
         (λ node. CutsInner i (branch_of split.now) at new node result (nodes_of (live_at region.new))) }
     ensures touched { Touched (at ∷ new ∷ []) region.old region.new }
 {
-    if i < 8 {
+    if i < HALF {
         return cut_low(region, at, new, i, split);
     }
-    if i > 8 {
+    if i > HALF {
         return cut_high(region, at, new, i, split);
     }
     cut_between(region, at, new, split)
@@ -144,7 +155,7 @@ pub(crate) fn split_inner(
         (λ node. AdoptsBeside (upper_places i (branch_of split.now) node) at new (place_links.link_to (Some new)) region.old region.new) }
 {
     let middle = cut_inner(region, at, new, i, split);
-    adopt(region, new, 9);
+    adopt(region, new, HALF_CHILDREN);
     middle
 }
 
@@ -159,8 +170,8 @@ fn cut_low(region: &mut Region, at: Place, new: Place, i: u16, split: &Split) ->
         (λ node. CutsInner i (branch_of split.now) at new node result (nodes_of (live_at region.new))) }
     ensures touched { Touched (at ∷ new ∷ []) region.old region.new }
 {
-    let middle = split_before(region, at, 7, new);
-    halve(region, at, new, 8, 7);
+    let middle = split_before(region, at, LAST_LOWER, new);
+    halve(region, at, new, HALF, LAST_LOWER);
     widen(region, at, i, split);
     middle
 }
@@ -176,9 +187,9 @@ fn cut_high(region: &mut Region, at: Place, new: Place, i: u16, split: &Split) -
         (λ node. CutsInner i (branch_of split.now) at new node result (nodes_of (live_at region.new))) }
     ensures touched { Touched (at ∷ new ∷ []) region.old region.new }
 {
-    let middle = split_before(region, at, 8, new);
-    halve(region, at, new, 9, 8);
-    widen(region, new, i - 9, split);
+    let middle = split_before(region, at, HALF, new);
+    halve(region, at, new, SECOND_UPPER, HALF);
+    widen(region, new, i - SECOND_UPPER, split);
     middle
 }
 
@@ -192,7 +203,7 @@ fn cut_between(region: &mut Region, at: Place, new: Place, split: &Split) -> Spl
         (λ node. CutsInner 8 (branch_of split.now) at new node result (nodes_of (live_at region.new))) }
     ensures touched { Touched (at ∷ new ∷ []) region.old region.new }
 {
-    halve(region, at, new, 8, 8);
+    halve(region, at, new, HALF, HALF);
     set_child_of(region, new, 0, link_to(Some(split.place)));
     moved_up(split, new)
 }
@@ -232,8 +243,8 @@ fn keep_front(region: &mut Region, at: Place, n: u16)
     requires n { n ≤ most_entries }
     ensures { WritesNode at (front_of n) region.old region.new }
 {
-    cut_run_at(region, at, n, 16 - n);
-    cut_children_at(region, at, n + 1, 16 - n);
+    cut_run_at(region, at, n, MOST_ENTRIES - n);
+    cut_children_at(region, at, n + 1, MOST_ENTRIES - n);
 }
 
 // The entries behind n, and the children from n on.
@@ -245,20 +256,4 @@ fn keep_back(region: &mut Region, at: Place, n: u16)
 {
     cut_run_at(region, at, 0, n);
     cut_children_at(region, at, 0, n);
-}
-
-/// Makes the node at a place the parent of its first n children.
-pub(crate) fn adopt(region: &mut Region, at: Place, n: u16)
-    requires node { HoldsNode (live_at region.old) at }
-    requires n { n ≤ children_count }
-    requires children { All (HoldsNode (live_at region.old)) (child_places n (nodes_of (live_at region.old) at)) }
-    requires apart { times at (child_places n (nodes_of (live_at region.old) at)) ≡ 0 }
-    ensures { Adopts (child_places n (nodes_of (live_at region.old) at)) (child_places n (nodes_of (live_at region.old) at))
-        (place_links.link_to (Some at)) region.old region.new }
-{
-    let link = link_to(Some(at));
-    for j in 0..n {
-        let child = place_of(child_of(region, at, j));
-        set_parent_at(region, child, link);
-    }
 }

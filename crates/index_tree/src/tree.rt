@@ -2,11 +2,12 @@
 ghost use Rattle.std.specs.Prelude.{◌≡◌, ◌↔◌, ℕ, ◌+◌, ◌-◌, ◌*◌, ◌<◌, ◌≤◌, All, [], length, take, drop, replicate, true, false, Some, None, IfErr, IfOk, IfSome, IsErr, IsNone, IsSome};
 ghost use Rattle.layout.specs.Sizes as sizes;
 ghost use Rattle.regions.specs.Segments.{segment_at, with_segment, with_guards, fresh, all_emptied, idle};
-ghost use Rattle.regions.specs.Shapes.{shape, group_count, active_of, guards_of, pieces, held_count, free_count, IsGreatestHeld, IsLeastUnused};
+ghost use Rattle.regions.specs.Shapes.{shape, group_count, active_of, guards_of, most_guards, pieces, held_count, free_count, IsGreatestHeld, IsLeastUnused};
 ghost use Rattle.regions.specs.Contents.{Item, Keeps, live_at};
 ghost use Rattle.regions.specs.declared.place.Place.{Place};
 ghost use Rattle.tree_nodes.specs.Nodes.{IsEntry};
-ghost use Rattle.index_tree.specs.Sizes.{most, node_kind};
+ghost use Rattle.layout.specs.Kinds.{node_kind};
+ghost use Rattle.index_tree.specs.Sizes.{most};
 ghost use Rattle.index_tree.specs.Limits.{most_levels, most_spares};
 ghost use Rattle.index_tree.specs.Indexes as indexes;
 ghost use Rattle.segmented_store.specs.Segments.{HoldsSegments};
@@ -17,10 +18,11 @@ use crate::filling::fill_spares;
 use crate::placing::{GROUP, most_keys};
 use crate::pruning::remove_at_root;
 use crate::roots::Roots;
-use crate::scanning::{TreeScanned, range};
+use crate::scanning::range;
 use crate::search::get;
 use raw_range::Piece;
 use regions::Region;
+use row_bytes::Scanned;
 use segmented_store::Segmented;
 use std::alloc::{AllocError, Global};
 use std::marker::Model;
@@ -56,7 +58,7 @@ impl IndexTree {
     /// # Errors
     /// `AllocError` where memory is not found. No other call takes memory.
     pub fn new(alloc: Global, segments: u32) -> Result<IndexTree, AllocError>
-        requires { segments ≤ 2048 }
+        requires { segments ≤ sizes.most_segments }
         ensures index { IfOk result (λ t. index_in t ≡ []) }
         ensures held { IfOk result (λ t. held_count t.region ≡ 0) }
         ensures region { IfOk result (λ t. t.region ≡ record {
@@ -212,8 +214,8 @@ impl IndexTree {
         Some(number)
     }
 
-    /// Writes the first `count` keys at or above one, each behind its length in two bytes.
-    pub fn range(&self, lo: &[u8], count: u32, into: &mut [u8]) -> TreeScanned
+    /// Writes the first `count` keys at or above one, each behind its length in two bytes. Every key of the index has 1 to 256.
+    pub fn range(&self, lo: &[u8], count: u32, into: &mut [u8]) -> Scanned
         requires some { 1 ≤ count }
         requires most { count ≤ sizes.most_keys }
         requires room { sizes.key_room * count ≤ length into.old }
@@ -221,6 +223,7 @@ impl IndexTree {
         ensures bytes { take result.bytes into.new ≡ scans.scanned lo.now count (index_in self.now) }
         ensures within { result.bytes ≤ length into.old }
         ensures behind { drop result.bytes into.new ≡ drop result.bytes into.old }
+        ensures entries { All IsEntry (index_in self.now) }
     {
         range(
             &self.region,
@@ -250,7 +253,7 @@ impl IndexTree {
 
     /// One guard more. While one stands, no node is moved. Guards nest.
     pub fn guard(&mut self)
-        requires { guards_of self.old.region 0 < 1000000 }
+        requires { guards_of self.old.region 0 < most_guards }
         ensures guards { self.new ≡ record self.old { region = with_guards self.old.region 0 (guards_of self.old.region 0 + 1) } }
         ensures index { index_in self.new ≡ index_in self.old }
     {

@@ -7,8 +7,6 @@ pub mod Leads
 pub mod Shares
 pub mod Bounds
 pub mod Told
-pub mod Moved
-pub mod Unique
 pub mod Found
 pub mod Places
 pub mod Edits

@@ -1,3 +1,4 @@
+pub mod Sizes
 pub mod Blocks
 pub mod Stock
 pub mod Dense

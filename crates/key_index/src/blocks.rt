@@ -2,6 +2,7 @@
 ghost use Rattle.std.specs.Prelude.{◌≡◌, ℕ, ◌+◌, ◌<◌, ◌≤◌, ◌++◌, ◌∷◌, [], length, take, drop, slice_index_or, slice_set};
 ghost use Rattle.std.specs.Prelude.{vec_len, vec_capacity, All, IfOk};
 ghost use Rattle.key_index.specs.Lead.{rows_of, IsLed};
+ghost use Rattle.key_index.specs.inside.Sizes.{block_room, half_block};
 ghost use Rattle.key_index.specs.inside.Blocks.{entries_of, entries_at, front, lens_of};
 ghost use Rattle.key_index.specs.inside.Stock.{AreStocked, standing};
 ghost use Rattle.std.specs.List.{insert, remove};
@@ -119,7 +120,7 @@ impl Blocks {
     pub(crate) fn entries(&self, at: usize) -> &[Entry]
         requires { at < length self.now.contents }
         ensures is { result.now ≡ entries_at self.now.contents at }
-        ensures few { length result.now ≤ 256 }
+        ensures few { length result.now ≤ block_room }
     {
         let slot = self.order[at];
         &self.store[slot.at as usize][..slot.len as usize]
@@ -187,7 +188,7 @@ impl Blocks {
     pub(crate) fn put(&mut self, place: Place, entry: Entry)
         requires block { place.block < length self.old.contents }
         requires at { place.at ≤ length (entries_at self.old.contents place.block) }
-        requires room { length (entries_at self.old.contents place.block) < 256 }
+        requires room { length (entries_at self.old.contents place.block) < block_room }
         ensures contents { self.new.contents
             ≡ slice_set self.old.contents place.block (insert (entries_at self.old.contents place.block) place.at entry) }
         ensures most { self.new.most ≡ self.old.most }
@@ -230,8 +231,8 @@ impl Blocks {
         requires target { target < length self.old.contents }
         requires source { source < length self.old.contents }
         requires from { from ≤ length (entries_at self.old.contents source) }
-        requires few { length (entries_at self.old.contents source) ≤ from + 128 }
-        requires room { length (entries_at self.old.contents target) + length (entries_at self.old.contents source) ≤ from + 256 }
+        requires few { length (entries_at self.old.contents source) ≤ from + half_block }
+        requires room { length (entries_at self.old.contents target) + length (entries_at self.old.contents source) ≤ from + block_room }
         ensures contents { self.new.contents ≡ slice_set self.old.contents target
             (entries_at self.old.contents target ++ drop from (entries_at self.old.contents source)) }
         ensures most { self.new.most ≡ self.old.most }

@@ -1,6 +1,7 @@
 //! Entries that are put in, taken out and written over others in the room of one block.
 ghost use Rattle.std.specs.Prelude.{◌≡◌, ◌+◌, ◌-◌, ◌<◌, ◌≤◌, ◌++◌, length, take, drop};
 ghost use Rattle.std.specs.List.{insert, remove};
+ghost use Rattle.key_index.specs.inside.Sizes.{half_block};
 
 use crate::blocks::HALF;
 use crate::entries::{Entry, NONE};
@@ -29,7 +30,7 @@ pub(crate) fn close_up(entries: &mut [Entry], len: usize, at: usize)
 /// Some entries, from a place on, and behind them entries of no row.
 pub(crate) fn copied(entries: &[Entry], from: usize, count: usize) -> [Entry; HALF]
     requires from { from + count ≤ length entries.now }
-    requires few { count ≤ 128 }
+    requires few { count ≤ half_block }
     ensures { take count result ≡ take count (drop from entries.now) }
 {
     let mut part = [NONE; HALF];

@@ -60,8 +60,7 @@ pub(crate) fn guess_in(entries: &[Entry], lead: u64) -> usize {
         return len / 2;
     }
     let step = (len + 7) / 8;
-    let far = step * passed_of_seven(entries, 0, step, lead);
-    let far = if far < len - 32 { far } else { len - 32 };
+    let far = (step * passed_of_seven(entries, 0, step, lead)).min(len - 32);
     let near = far + 4 * passed_of_seven(entries, far, 4, lead);
     near + passed(entries, near, lead)
         + passed(entries, near + 1, lead)

@@ -1,6 +1,6 @@
 //! The index.
-ghost use Rattle.std.specs.Prelude.{◌≡◌, ◌≢◌, ◌⊎◌, ℕ, ◌+◌, ◌<◌, ◌≤◌, ◌++◌, ◌∷◌, [], List, length, take, drop, All, Contains, IfOk, MatchOption, MatchResult};
-ghost use Rattle.key_index.specs.Order.{AreRising, Each, PutsIn, TakesOut, rows_from};
+ghost use Rattle.std.specs.Prelude.{◌≡◌, ◌≢◌, ℕ, ◌+◌, ◌<◌, ◌≤◌, ◌++◌, ◌∷◌, [], List, length, take, drop, All, Contains, IfOk, MatchOption, MatchResult};
+ghost use Rattle.key_index.specs.Order.{Each, PutsIn, TakesOut, rows_from};
 ghost use Rattle.key_index.specs.Index.{IsIndexOf, IsOrdered, IsPlaceFor, IsRowAt};
 
 use crate::blocks::{Blocks, HALF};
@@ -17,7 +17,7 @@ use std::marker::Model;
 /// Rows in the order of their keys.
 ///
 /// An index knows the numbers of its rows and some bytes of their keys. It is the index of given keys where
-/// `IsIndexOf` holds; it stays so as long as its rows keep their keys, wherever these are moved (see [`KeyIndex::law`]).
+/// `IsIndexOf` holds; it stays so as long as its rows keep their keys, wherever these are moved (a lemma of `key_lemmas`).
 #[derive(Drop)]
 pub struct KeyIndex {
     room: u32,
@@ -155,12 +155,10 @@ impl KeyIndex {
         self.insert_at(keys, place, row);
     }
 
-    /// Takes a row out at its place. The index is one of any keys that the other rows still have: it needs the row's no
-    /// longer.
+    /// Takes a row out at its place. No key is read: the others stand in the order of whatever keys all stood in.
     pub fn remove_at(&mut self, found: RowAt)
         requires { IsRowAt self.old found.place found.row }
-        ensures ordered { (before after : ℕ → List ℕ) → IsOrdered before self.old
-            → All (λ row. after row ≡ before row) self.new.rows → IsOrdered after self.new }
+        ensures ordered { (key_of : ℕ → List ℕ) → IsOrdered key_of self.old → IsOrdered key_of self.new }
         ensures room { self.new.room ≡ self.old.room }
         ensures rows { TakesOut found.row self.old.rows self.new.rows }
     {
@@ -202,27 +200,4 @@ impl KeyIndex {
         let place = seek(keys, &self.blocks, key, self.hints.guess(key));
         Rows::new(&self.blocks, place)
     }
-
-    /// What holds of each index, whoever keeps the keys of its rows: nothing but these keys matters, so an index stays
-    /// one, and a place in it stays, where keys are moved. After a row is put in or taken out the others are there as
-    /// before; one key is of one row; and the rows of an index are any list of them whose keys rise.
-    pub fn law(&self)
-        ensures moved { (before after : ℕ → List ℕ) → All (λ row. after row ≡ before row) self.now.rows
-            → IsOrdered before self.now → IsOrdered after self.now }
-        ensures place { (before after : ℕ → List ℕ) (key : List ℕ) (place : Place)
-            → All (λ row. after row ≡ before row) self.now.rows
-            → IsPlaceFor before key self.now place → IsPlaceFor after key self.now place }
-        ensures put_in { (key_of : ℕ → List ℕ) (row other : ℕ) (before : List ℕ) → PutsIn key_of row before self.now.rows
-            → (Contains self.now.rows other → (other ≡ row) ⊎ Contains before other)
-            × Contains self.now.rows row × (Contains before other → Contains self.now.rows other) }
-        ensures taken_out { (key_of : ℕ → List ℕ) (row other : ℕ) (before : List ℕ) → TakesOut row before self.now.rows
-            → AreRising key_of before
-            → (Contains before other → (other ≡ row) ⊎ Contains self.now.rows other)
-            × (Contains self.now.rows other → Contains before other × (other ≢ row)) }
-        ensures one { (key_of : ℕ → List ℕ) (row other : ℕ) → IsOrdered key_of self.now
-            → Contains self.now.rows row → Contains self.now.rows other → key_of row ≡ key_of other → row ≡ other }
-        ensures order { (key_of : ℕ → List ℕ) (others : List ℕ) → AreRising key_of others → IsOrdered key_of self.now
-            → ((row : ℕ) → Contains self.now.rows row → Contains others row)
-            → ((row : ℕ) → Contains others row → Contains self.now.rows row) → self.now.rows ≡ others }
-    {}
 }

@@ -26,3 +26,4 @@ pub use index::KeyIndex;
 pub use keys::Keys;
 pub use place::{Place, RowAt};
 pub use rows::Rows;
+pub use shared::lead_of;

@@ -3,7 +3,7 @@
 /// A place before a row, or behind the last one.
 ///
 /// It is good until the index changes.
-#[derive(Clone, Copy)]
+#[derive(Clone, Copy, Debug)]
 pub struct Place {
     pub(crate) block: usize,
     pub(crate) at: usize,
@@ -12,7 +12,7 @@ pub struct Place {
 }
 
 /// A row, and where it stands.
-#[derive(Clone, Copy)]
+#[derive(Clone, Copy, Debug)]
 pub struct RowAt {
     pub row: u32,
     pub place: Place,

@@ -1,5 +1,6 @@
 //! Blocks that are cut in two where they are full, and joined where they have few entries.
 ghost use Rattle.std.specs.Prelude.{◌≡◌, ◌+◌, ◌<◌, ◌≤◌, ◌++◌, ◌∷◌, [], length, take, drop, slice_get, slice_set, All, IfNone, IfSome};
+ghost use Rattle.key_index.specs.inside.Sizes.{block_room, half_block};
 ghost use Rattle.key_index.specs.inside.Dense.{AreDense, HasLost};
 ghost use Rattle.key_index.specs.inside.Kept.{AreInUse};
 ghost use Rattle.key_index.specs.inside.Blocks.{entries_of, entries_at, front, lens_of, IsBlock, IsFit};
@@ -28,7 +29,7 @@ pub(crate) fn put(blocks: &mut Blocks, place: Place, entry: Entry)
     // There is space for an entry more.
     requires block { place.block < length blocks.old.contents }
     requires at { place.at ≤ length (entries_at blocks.old.contents place.block) }
-    requires room { length (entries_at blocks.old.contents place.block) < 256 }
+    requires room { length (entries_at blocks.old.contents place.block) < block_room }
     requires are_blocks { All IsBlock blocks.old.contents }
     // One entry more, at the place.
     ensures entries { entries_of blocks.new.contents ≡ entries_of (take place.block blocks.old.contents)
@@ -47,20 +48,20 @@ pub(crate) fn put(blocks: &mut Blocks, place: Place, entry: Entry)
 fn cut(blocks: &mut Blocks, at: usize) -> usize
     // A block to cut, and room for another.
     requires block { at < length blocks.old.contents }
-    requires full { length (entries_at blocks.old.contents at) ≡ 256 }
+    requires full { length (entries_at blocks.old.contents at) ≡ block_room }
     requires room { length blocks.old.contents < blocks.old.most }
     requires are_blocks { All IsBlock blocks.old.contents }
     // Its halves stand side by side.
     ensures behind { result ≡ at + 1 }
     ensures before { entries_of (take at blocks.new.contents) ≡ entries_of (take at blocks.old.contents) }
     ensures upto { entries_of (take (at + 1) blocks.new.contents) ≡ entries_of (take at blocks.old.contents)
-        ++ take 128 (entries_at blocks.old.contents at) }
-    ensures low { entries_at blocks.new.contents at ≡ take 128 (entries_at blocks.old.contents at) }
-    ensures high { entries_at blocks.new.contents (at + 1) ≡ drop 128 (entries_at blocks.old.contents at) }
+        ++ take half_block (entries_at blocks.old.contents at) }
+    ensures low { entries_at blocks.new.contents at ≡ take half_block (entries_at blocks.old.contents at) }
+    ensures high { entries_at blocks.new.contents (at + 1) ≡ drop half_block (entries_at blocks.old.contents at) }
     // Together the blocks hold the same.
     ensures entries { entries_of blocks.new.contents ≡ entries_of blocks.old.contents }
     ensures lens { lens_of blocks.new.contents ≡ take at (lens_of blocks.old.contents)
-        ++ 128 ∷ 128 ∷ drop (at + 1) (lens_of blocks.old.contents) }
+        ++ half_block ∷ half_block ∷ drop (at + 1) (lens_of blocks.old.contents) }
     // One more is in use.
     ensures are_blocks { All IsBlock blocks.new.contents }
     ensures more { length blocks.new.contents ≡ length blocks.old.contents + 1 }
@@ -76,19 +77,19 @@ fn cut(blocks: &mut Blocks, at: usize) -> usize
 fn split(blocks: &mut Blocks, place: Place) -> Place
     // A block to cut, and room for another.
     requires block { place.block < length blocks.old.contents }
-    requires at { place.at ≤ 256 }
-    requires full { length (entries_at blocks.old.contents place.block) ≡ 256 }
+    requires at { place.at ≤ block_room }
+    requires full { length (entries_at blocks.old.contents place.block) ≡ block_room }
     requires room { length blocks.old.contents < blocks.old.most }
     requires are_blocks { All IsBlock blocks.old.contents }
     // Where the place is then.
     ensures block { result.block < length blocks.new.contents }
-    ensures at { result.at ≤ 128 }
-    ensures half { length (entries_at blocks.new.contents result.block) ≡ 128 }
+    ensures at { result.at ≤ half_block }
+    ensures half { length (entries_at blocks.new.contents result.block) ≡ half_block }
     ensures front { front blocks.new.contents result.block result.at ≡ front blocks.old.contents place.block place.at }
     // Together the blocks hold the same.
     ensures entries { entries_of blocks.new.contents ≡ entries_of blocks.old.contents }
     ensures lens { lens_of blocks.new.contents ≡ take place.block (lens_of blocks.old.contents)
-        ++ 128 ∷ 128 ∷ drop (place.block + 1) (lens_of blocks.old.contents) }
+        ++ half_block ∷ half_block ∷ drop (place.block + 1) (lens_of blocks.old.contents) }
     // One more is in use.
     ensures are_blocks { All IsBlock blocks.new.contents }
     ensures most { blocks.new.most ≡ blocks.old.most }
@@ -115,7 +116,7 @@ pub(crate) fn make_room(blocks: &mut Blocks, place: Place) -> Place
     // Where the place is then.
     ensures block { result.block < length blocks.new.contents }
     ensures at { result.at ≤ length (entries_at blocks.new.contents result.block) }
-    ensures room { length (entries_at blocks.new.contents result.block) < 256 }
+    ensures room { length (entries_at blocks.new.contents result.block) < block_room }
     ensures front { front blocks.new.contents result.block result.at ≡ front blocks.old.contents place.block place.at }
     // Together the blocks hold the same.
     ensures entries { entries_of blocks.new.contents ≡ entries_of blocks.old.contents }
@@ -177,7 +178,7 @@ fn merge(blocks: &mut Blocks, at: usize, behind: usize)
     // Two neighbours with few entries.
     requires next { behind ≡ at + 1 }
     requires block { at + 1 < length blocks.old.contents }
-    requires few { length (entries_at blocks.old.contents at) + length (entries_at blocks.old.contents (at + 1)) ≤ 128 }
+    requires few { length (entries_at blocks.old.contents at) + length (entries_at blocks.old.contents (at + 1)) ≤ half_block }
     requires fit { All IsFit blocks.old.contents }
     // Together the blocks hold the same.
     ensures entries { entries_of blocks.new.contents ≡ entries_of blocks.old.contents }
@@ -196,9 +197,9 @@ fn merge(blocks: &mut Blocks, at: usize, behind: usize)
 fn to_join(blocks: &Blocks, at: usize) -> Option<usize>
     requires block { at < length blocks.now.contents }
     ensures joins { IfSome result (λ behind. (behind ≡ at + 1) × (at + 1 < length blocks.now.contents) ×
-        (length (entries_at blocks.now.contents at) + length (entries_at blocks.now.contents (at + 1)) ≤ 128)) }
+        (length (entries_at blocks.now.contents at) + length (entries_at blocks.now.contents (at + 1)) ≤ half_block)) }
     ensures not { IfNone result (at + 1 < length blocks.now.contents
-        → 128 < length (entries_at blocks.now.contents at) + length (entries_at blocks.now.contents (at + 1))) }
+        → half_block < length (entries_at blocks.now.contents at) + length (entries_at blocks.now.contents (at + 1))) }
 {
     if blocks.len() - at < 2 {
         return None;

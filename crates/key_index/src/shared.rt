@@ -61,7 +61,7 @@ pub(crate) fn compare_from(a: &[u8], b: &[u8], from: usize) -> Compared
 
 /// The first eight bytes of a key as a number, the first byte highest. Where the key is shorter, zeros stand for the
 /// bytes that it lacks.
-fn lead_of(key: &[u8]) -> u64
+pub fn lead_of(key: &[u8]) -> u64
     ensures lead { result ≡ first_bytes 8 key.now }
     ensures bytes { AreBytes key.now }
 {

@@ -3,3 +3,6 @@ mod Probes
 mod Copied
 mod Gaps
 mod Told
+mod Listed
+mod Both
+mod Moved

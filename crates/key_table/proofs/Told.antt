@@ -5,7 +5,7 @@ use Rattle.std.proofs.lemmas.Bool.{cases_eq}
 use Rattle.std.proofs.lemmas.Bool.Decides.{nat_tests}
 use Rattle.std.proofs.lemmas.List.Elements.{All-nil, All-cons, All-head, All-tail, All-contains, All-contains_itself}
 use Rattle.common_lemmas.specs.Lists.{times}
-use Rattle.common_lemmas.proofs.Counts.{times_here, times_there, times_cons_le}
+use Rattle.common_lemmas.proofs.Counts.{all_numbered, times_there}
 use Rattle.key_table.specs.declared.entries.RowAt.{RowAt}
 use Rattle.key_table.specs.Hash.{tag_of}
 use Rattle.key_table.specs.Table.{rows_of}
@@ -40,11 +40,6 @@ held_all P (slot ∷ slots) all (suc k) is =
       | inr n ↦ held_all P slots (All-tail P slot (held slots) (subst (All P) (held_some slot slots n) all)) k is
     ]
 
--- what holds of the rows' numbers
-pub all_rows : (P : ℕ → Type 0) (kept : List RowAt) → All P (rows_of kept) → All (λ (s : RowAt). P s.row) kept
-all_rows P [] all = All-nil (λ (s : RowAt). P s.row)
-all_rows P (slot ∷ kept) all = All-cons (λ (s : RowAt). P s.row) slot kept (All-head P slot.row (rows_of kept) all) (all_rows P kept (All-tail P slot.row (rows_of kept) all))
-
 pub contains_held : (slots : List RowAt) (k : ℕ) → IsHeld slots k → Contains (held slots) (slot_at slots k)
 contains_held slots = held_all (Contains (held slots)) slots (All-contains_itself (held slots))
 
@@ -59,10 +54,7 @@ tagged_more key_of slot slots here is (suc k) h = is k h
 
 -- what holds of the rows, by how often each is there
 pub all_listed : (P : ℕ → Type 0) (kept : List RowAt) → ((n : ℕ) → 1 ≤ times n (rows_of kept) → P n) → All (λ (s : RowAt). P s.row) kept
-all_listed P [] is = All-nil (λ (s : RowAt). P s.row)
-all_listed P (slot ∷ kept) is =
-    All-cons (λ (s : RowAt). P s.row) slot kept (is slot.row (let h = times_here slot.row (rows_of kept) in omega (arith, h)))
-    (all_listed P kept (λ n h. is n (let more = times_cons_le n slot.row (rows_of kept) in omega (arith, more, h))))
+all_listed P kept is = all_numbered (λ (s : RowAt). s.row) P kept is
 
 pub listed_all : (P : ℕ → Type 0) (kept : List RowAt) → All (λ (s : RowAt). P s.row) kept → (n : ℕ) → 1 ≤ times n (rows_of kept) → P n
 listed_all P [] all n h = absurd (omega arith)

@@ -13,6 +13,10 @@ pub record Table : Type 0 where
 abbrev pub rows_of : List RowAt → List ℕ
 rows_of kept = map (λ found. found.row) kept
 
+-- the row of a slot that holds none
+abbrev pub vacant_row : ℕ
+vacant_row = 4294967295
+
 -- one has each row as often as the other
 abbrev pub AreSame : List ℕ → List ℕ → Type 0
 AreSame xs ys = (n : ℕ) → times n xs ≡ times n ys

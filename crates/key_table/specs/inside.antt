@@ -1,2 +1,6 @@
+-- What only the private parts cite.
 pub mod Slots
 pub mod Kept
+pub mod Places
+pub mod Mixed
+pub mod Waiting

@@ -3,22 +3,24 @@ ghost use Rattle.std.specs.Prelude.{◌≡◌};
 ghost use Rattle.key_table.specs.Table.{IsSpotFor};
 
 use crate::hash::tag_of;
+use thiserror::Error;
 
 /// A row of a table, and the tag of its key.
-#[derive(Clone, Copy)]
+#[derive(Clone, Copy, Debug)]
 pub struct RowAt {
     pub row: u32,
     pub(crate) tag: u32,
 }
 
 /// Where a table would have the row of a key: the key's tag.
-#[derive(Clone, Copy)]
+#[derive(Clone, Copy, Debug)]
 pub struct Spot {
     pub(crate) tag: u32,
 }
 
 /// A row is not put in, since it would make 64 slots in a row that hold rows.
-#[derive(Clone, Copy)]
+#[derive(Clone, Copy, Debug, Error)]
+#[error("too many slots in a row would hold rows")]
 pub struct Full;
 
 impl Spot {

@@ -9,15 +9,27 @@
 //!
 //! The table begins small, and has twice as many slots once half of them are in use; the memory for all of them is reserved
 //! at once. Where a row would find no slot among twice as many, the table has no more slots from then on.
+//!
+//! A [`LazyIndex`] is such a table for exact look-up and an ordered index for look-ups in order. The order of keys is kept in
+//! blocks, which learn of a row only once order is asked for: until then it is late, and goes again without a word to the
+//! blocks. A row that the table does not take goes to the blocks at once and is found there; as long as there are such rows,
+//! a search that finds nothing in the table asks the blocks.
 #![tactic(auto)]
 
 mod entries;
 mod hash;
+mod index;
+mod late;
 mod seeking;
+mod settling;
 mod slots;
+mod standing;
 mod table;
+mod waiting;
 mod widening;
 
 pub use entries::{Full, RowAt, Spot};
-pub use key_index::Keys;
+pub use index::LazyIndex;
+pub use key_index::{Keys, Rows};
+pub use standing::Standing;
 pub use table::KeyTable;

@@ -1,6 +1,6 @@
 //! The slots of a table.
 ghost use Rattle.std.specs.Prelude.{◌≡◌, ◌≢◌, ℕ, ◌+◌, ◌<◌, ◌≤◌, ◌∷◌, [], true, false, length, replicate, MatchOption, vec_capacity};
-ghost use Rattle.key_table.specs.Table.{rows_of, reach, AreSame};
+ghost use Rattle.key_table.specs.Table.{rows_of, reach, vacant_row, AreSame};
 ghost use Rattle.key_table.specs.inside.Slots.{nothing, home_of, held, slot_at, IsHeld, AreProbed, Within, IsFirstVacant, IsRunStart, IsGapIn, IsLoose, IsTight, CanMove, NoneMoves, HasTag, IsRowAt, HasNot};
 
 use crate::entries::RowAt;
@@ -9,7 +9,7 @@ use crate::entries::RowAt;
 pub(crate) const REACH: usize = 64;
 
 /// The row of a slot that holds none.
-pub(crate) const VACANT: u32 = 4294967295;
+pub(crate) const VACANT: u32 = 4_294_967_295;
 
 /// A slot that holds no row.
 const NOTHING: RowAt = RowAt {
@@ -96,7 +96,7 @@ fn is_loose(slots: &Vec<RowAt>, home: usize, at: usize) -> bool
 pub(crate) fn put(slots: &mut Vec<RowAt>, mask: u32, entry: RowAt) -> bool
     // Slots that a search can rely on.
     requires probed { AreProbed mask slots.old.items }
-    requires row { entry.row < 4294967295 }
+    requires row { entry.row < vacant_row }
 
     // What the slots hold then.
     ensures probed { AreProbed mask slots.new.items }

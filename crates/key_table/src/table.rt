@@ -1,7 +1,7 @@
 //! The table.
 ghost use Rattle.std.specs.Prelude.{◌≡◌, ◌≢◌, ℕ, ◌+◌, ◌<◌, ◌≤◌, ◌∷◌, [], List, length, All, Contains, IfOk, IfErr, MatchResult, true, false, vec_capacity};
 ghost use Rattle.common_lemmas.specs.Lists.{times};
-ghost use Rattle.key_table.specs.Table.{rows_of, AreSame, Has, IsCrowdedAt, IsSpotFor, IsTagged, IsTagOf, IsTableOf};
+ghost use Rattle.key_table.specs.Table.{rows_of, vacant_row, AreSame, Has, IsCrowdedAt, IsSpotFor, IsTagged, IsTagOf, IsTableOf};
 
 use crate::entries::{Full, RowAt, Spot};
 use crate::seeking::seek;
@@ -14,7 +14,7 @@ use std::marker::Model;
 /// Rows that are found by their keys.
 ///
 /// A table knows the numbers of its rows and tags of their keys. It is the table of given keys where `IsTableOf` holds; it
-/// stays so as long as its rows keep their keys, wherever these are moved (see [`KeyTable::law`]).
+/// stays so as long as its rows keep their keys, wherever these are moved (see [`KeyTable::len`]).
 #[derive(Drop)]
 pub struct KeyTable {
     room: u32,
@@ -62,10 +62,12 @@ impl KeyTable {
         })
     }
 
-    /// How many rows there are.
+    /// How many rows there are. Whoever keeps their keys, where these are moved it stays the table of its rows.
     pub fn len(&self) -> u32
         ensures count { result ≡ length self.now.kept }
         ensures within { result ≤ self.now.room }
+        ensures moved { (before after : ℕ → List ℕ) → ((n : ℕ) → Has self.now n → after n ≡ before n)
+            → IsTagged before self.now → IsTagged after self.now }
     {
         self.count
     }
@@ -99,7 +101,7 @@ impl KeyTable {
     /// # Errors
     /// The row would make 64 slots in a row that hold rows. The rows are as before.
     pub fn insert(&mut self, spot: Spot, row: u32) -> Result<(), Full>
-        requires number { row < 4294967295 }
+        requires number { row < vacant_row }
         requires room { length self.old.kept < self.old.room }
         ensures room { self.new.room ≡ self.old.room }
         ensures rows { MatchResult result
@@ -152,10 +154,4 @@ impl KeyTable {
         clear(&mut self.slots, LEAST as usize + 1 + REACH);
         self.count = 0;
     }
-
-    /// What holds of each table, whoever keeps the keys of its rows: it stays the table of its rows where keys are moved.
-    pub fn law(&self)
-        ensures moved { (before after : ℕ → List ℕ) → ((n : ℕ) → Has self.now n → after n ≡ before n)
-            → IsTagged before self.now → IsTagged after self.now }
-    {}
 }

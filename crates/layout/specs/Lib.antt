@@ -1,3 +1,4 @@
 pub mod Counts
 pub mod Extents
+pub mod Kinds
 pub mod Sizes

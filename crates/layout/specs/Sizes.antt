@@ -25,6 +25,10 @@ fewest_pages = 1280
 abbrev pub most_pages : ℕ
 most_pages = 65536
 
+-- the most segments of a shard
+abbrev pub most_segments : ℕ
+most_segments = 2048
+
 -- a multiple of the pages of a segment, within these bounds
 abbrev pub ArePages : ℕ → Type 0
 ArePages pages = (fewest_pages ≤ pages) × (pages ≤ most_pages) × (pages % segment_pages ≡ 0)

@@ -1,4 +1,4 @@
-//! The sizes of a shard's memory and of what stands in it, each once, and extents of memory.
+//! The sizes of a shard's memory and of what stands in it, each once, the kinds of its objects, and extents of memory.
 //!
 //! Pages and orders are Seastar's; segments, density and the greatest object follow ScyllaDB's logalloc; the numbers
 //! themselves are this project's. Each constant has a word of its own in `specs/Sizes.antt`, which contracts cite.
@@ -6,6 +6,10 @@
 
 ghost use Rattle.std.specs.Prelude.{◌≡◌, ℕ, ◌+◌, ◌*◌, ◌^◌, ◌<◌};
 ghost use Rattle.layout.specs.Sizes as sizes;
+
+mod object_kind;
+
+pub use object_kind::ObjectKind;
 
 /// The bytes of a page.
 pub const PAGE: u32 = 4096;
@@ -27,6 +31,9 @@ pub const FEWEST_PAGES: u32 = 1280;
 
 /// The most pages of a shard.
 pub const MOST_PAGES: u32 = 65_536;
+
+/// The most segments of a shard.
+pub const MOST_SEGMENTS: u32 = MOST_PAGES / SEGMENT_PAGES;
 
 /// The bytes of a descriptor, which stands in front of each object of a segment.
 pub const DESCRIPTOR: u32 = 8;
@@ -88,6 +95,7 @@ pub const MOST_TRACE_BYTES: u32 = 67_108_864;
 /// The sizes hang together: what one of them says of another.
 pub fn sizes_hang_together()
     ensures segment { sizes.segment ≡ sizes.page * sizes.segment_pages }
+    ensures most { sizes.most_segments * sizes.segment_pages ≡ sizes.most_pages }
     ensures order { sizes.segment_pages ≡ 2 ^ sizes.segment_order }
     ensures dense { sizes.dense + sizes.greatest_object ≡ sizes.segment }
     ensures scan { sizes.scan_room ≡ sizes.message_header + sizes.most_keys * sizes.key_room }

@@ -9,8 +9,6 @@ mod foreign_list_tests;
 #[cfg(test)]
 mod index_lists_tests;
 #[cfg(test)]
-mod lazy_table_tests;
-#[cfg(test)]
 mod number_set_tests;
 #[cfg(test)]
 mod shard_memory_tests;

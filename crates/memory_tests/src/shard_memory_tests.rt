@@ -253,7 +253,6 @@ fn fill_and_empty(memory: &mut ShardMemory<'_>, most: u32) -> (u32, u32)
     let Ok(block) = memory.give_here(16_384) else {
         return (0, memory.pages_out());
     };
-    memory.facts();
     let (behind, out) = fill_and_empty(memory, most - 1);
     memory.back_here(block);
     (behind.wrapping_add(1), out)

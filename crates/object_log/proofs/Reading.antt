@@ -6,7 +6,7 @@ use Rattle.std.proofs.lemmas.List.Elements.{All-cons}
 use Rattle.std.proofs.lemmas.Bool.{lt-ltb, le-ltb}
 use Rattle.std.proofs.lemmas.List.{get_or-drop}
 use Rattle.byteorder.specs.Endian.{little_number}
-use Rattle.object_log.specs.Objects.{Object, object_at, objects_from, objects, IsObject, AreObjects, IsSize, StandsAt, offsets}
+use Rattle.object_log.specs.Objects.{Object, object_at, described, descriptor_at, state_of, state_byte, objects_from, objects, IsObject, AreObjects, IsSize, StandsAt, offsets}
 
 -- objects end where they end, and each has its descriptor before that
 pub objects-below : (bytes : List ℕ) (at used : ℕ) (os : List Object) → AreObjects bytes at used os → at ≤ used
@@ -115,6 +115,25 @@ objects-described bytes a used at (o ∷ os) h =
     let P : Object → Type 0 = λ p. p.at ≡ at → p ≡ object_at bytes at in
     let here : o.at ≡ a = ap (λ x. x.at) h.0 in
     All-cons P o os (λ e. subst (λ k. o ≡ object_at bytes k) (sym here ∙ e) h.0) (objects-described bytes (a + o.size) used at os h.2)
+
+-- the state of an object is read as its byte says
+state-back : (byte : ℕ) → (byte ≡ 1) ⊎ (byte ≡ 2) → state_byte (state_of byte) ≡ byte
+state-back byte (inl one) = subst (λ n. state_byte (state_of n) ≡ n) (sym one) refl
+state-back byte (inr two) = subst (λ n. state_byte (state_of n) ≡ n) (sym two) refl
+
+-- an object is the one that its descriptor is read as
+pub objects-told : (bytes : List ℕ) (a used at : ℕ) (os : List Object) → AreObjects bytes a used os → All (λ o. o.at ≡ at → o ≡ described at (descriptor_at bytes at)) os
+objects-told bytes a used at [] h = λ k d w. absurd (omega (arith, w))
+objects-told bytes a used at (o ∷ os) h =
+    let P : Object → Type 0 = λ p. p.at ≡ at → p ≡ described at (descriptor_at bytes at) in
+    let here : o.at ≡ a = ap (λ x. x.at) h.0 in
+    let told : o.at ≡ at → o ≡ described at (descriptor_at bytes at) =
+    λ e. (
+    let it : o ≡ object_at bytes at = subst (λ k. o ≡ object_at bytes k) (sym here ∙ e) h.0 in
+    let known : (slice_index bytes at ≡ 1) ⊎ (slice_index bytes at ≡ 2) = subst (λ n. (n ≡ 1) ⊎ (n ≡ 2)) (ap (λ p. p.state) it) h.1.0 in
+    it ∙ ap (λ s. object at s (slice_index bytes (at + 1)) (little_number 4 (drop (at + 4) bytes))) (sym (state-back (slice_index bytes at) known)))
+    in
+    All-cons P o os told (objects-told bytes (a + o.size) used at os h.2)
 
 -- the bytes ys are those of xs but in the content of an object
 pub content-kept : (a used at size : ℕ) (xs ys : List ℕ) (os : List Object) → AreObjects xs a used os → Any (λ o. (o.at ≡ at) × (o.size ≡ size)) os

@@ -1,11 +1,13 @@
 -- The objects of a segment, as they are read from its bytes. A segment has 131,072 bytes. Its objects stand from
 -- offset 0 to `used` without gaps, each behind a descriptor of 8 bytes.
-use Rattle.std.specs.Prelude.{◌≡◌, ℕ, zero, suc, ◌+◌, ◌-◌, ◌%◌, ◌≤◌, ◌⊎◌, ◌==◌, nat_lt, if◌then◌else◌, List, [], ◌∷◌, ◌++◌, length, take, drop, replicate, map, slice_index, Any}
+use Rattle.std.specs.Prelude.{◌≡◌, ℕ, zero, suc, ◌+◌, ◌-◌, ◌%◌, ◌≤◌, ◌⊎◌, ◌==◌, nat_lt, Bool, true, false, cond, if◌then◌else◌, List, [], ◌∷◌, ◌++◌, length, take, drop, replicate, map, slice_index, Any}
 use Rattle.byteorder.specs.Endian.{little_number}
 use Rattle.layout.specs.Sizes.{segment, descriptor, least_object, greatest_object}
 use Rattle.object_log.specs.declared.descriptor.Descriptor.{Descriptor}
+use Rattle.object_log.specs.declared.descriptor.State.{State}
+use Rattle.object_log.specs.declared.descriptor.State.TheVariants.{End, Live, Dead}
 
--- an object: the offset of its descriptor, and what that says. A state is 1 for live and 2 for dead,
+-- an object: the offset of its descriptor, and what the bytes of that say. A state is 1 for live and 2 for dead,
 -- and the size is that of the whole object, its descriptor included
 pub record Object : Type 0 where
   pub at : ℕ
@@ -13,17 +15,32 @@ pub record Object : Type 0 where
   pub kind : ℕ
   pub size : ℕ
 
+-- the state that a byte stands for, and the byte of each state
+abbrev pub state_of : ℕ → State
+state_of byte = cond (byte == 1) Live (cond (byte == 2) Dead End)
+
+abbrev pub state_byte : State → ℕ
+state_byte End = 0
+state_byte Live = 1
+state_byte Dead = 2
+
+abbrev pub is_live : State → Bool
+is_live End = false
+is_live Live = true
+is_live Dead = false
+
 -- the descriptor at the offset: byte 0 is the state, byte 1 the kind, and bytes 4 to 7 are the size, the
 -- lowest byte first
 abbrev pub descriptor_at : List ℕ → ℕ → Descriptor
-descriptor_at bytes at = record { state = slice_index bytes at; kind = slice_index bytes (at + 1); size = little_number 4 (drop (at + 4) bytes) }
+descriptor_at bytes at = record { state = state_of (slice_index bytes at); kind = slice_index bytes (at + 1); size = little_number 4 (drop (at + 4) bytes) }
 
 -- the object that a descriptor describes
 abbrev pub described : ℕ → Descriptor → Object
-described at d = record { at = at; state = d.state; kind = d.kind; size = d.size }
+described at d = record { at = at; state = state_byte d.state; kind = d.kind; size = d.size }
 
+-- the object whose descriptor stands at the offset
 abbrev pub object_at : List ℕ → ℕ → Object
-object_at bytes at = described at (descriptor_at bytes at)
+object_at bytes at = record { at = at; state = slice_index bytes at; kind = slice_index bytes (at + 1); size = little_number 4 (drop (at + 4) bytes) }
 
 -- at most n objects: the one at the offset `at`, then the one behind it, and so on up to `used`
 abbrev pub objects_from : ℕ → List ℕ → ℕ → ℕ → List Object

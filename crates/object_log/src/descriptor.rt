@@ -1,20 +1,43 @@
 //! The descriptor of an object.
 ghost use Rattle.std.specs.Prelude.{◌≡◌, ℕ, ◌+◌, ◌≤◌, ◌⊎◌, List, length, All};
 ghost use Rattle.layout.specs.Sizes as sizes;
-ghost use Rattle.object_log.specs.Objects.{descriptor_at, described, objects, with_content, IsSize, IsSegment, StandsAt};
+ghost use Rattle.object_log.specs.Objects.{descriptor_at, described, objects, state_of, is_live, with_content, IsSize, IsSegment, StandsAt};
 
 use byteorder::{ByteOrder, LittleEndian};
 use layout::DESCRIPTOR;
 
+// The states of objects as bytes. That of the end is 0.
+pub(crate) const LIVE: u8 = 1;
+
+pub(crate) const DEAD: u8 = 2;
+
+/// What stands at a descriptor.
+#[derive(Clone, Copy, Debug, PartialEq, Eq)]
+pub enum State {
+    /// Nothing: the objects end there.
+    End,
+    Live,
+    /// An object that was killed.
+    Dead,
+}
+
 /// The 8 bytes in front of an object's content.
 #[derive(Clone, Copy, Debug)]
 pub struct Descriptor {
-    /// 0 is the end, 1 a live object, 2 a dead one.
-    pub state: u8,
+    pub state: State,
     /// At least 1; what it means is the caller's.
     pub kind: u8,
     /// In bytes, of the whole object with its descriptor.
     pub size: u32,
+}
+
+impl Descriptor {
+    /// Whether it is that of a live object.
+    pub fn is_live(self) -> bool
+        ensures { result ≡ is_live self.state }
+    {
+        matches!(self.state, State::Live)
+    }
 }
 
 /// The descriptor at the offset, where an object or the end stands.
@@ -26,7 +49,7 @@ pub fn read_descriptor(segment: &[u8], at: u32) -> Descriptor
         → All (λ o. o.at ≡ at → o ≡ described at result) (objects segment.now used) }
     ensures fits { (used : ℕ) → IsSegment segment.now used → StandsAt at (objects segment.now used)
         → IsSize result.size × (at + result.size ≤ used) }
-    ensures end { IsSegment segment.now at → result.state ≡ 0 }
+    ensures end { IsSegment segment.now at → result.state ≡ State.End }
 {
     descriptor_in(segment, at as usize)
 }
@@ -62,8 +85,20 @@ pub(crate) fn descriptor_in(segment: &[u8], at: usize) -> Descriptor
     ensures { result ≡ descriptor_at segment.now at }
 {
     Descriptor {
-        state: segment[at],
+        state: state_of(segment[at]),
         kind: segment[at + 1],
         size: LittleEndian::read_u32(&segment[at + 4..]),
     }
+}
+
+fn state_of(byte: u8) -> State
+    ensures { result ≡ state_of byte }
+{
+    if byte == LIVE {
+        return State::Live;
+    }
+    if byte == DEAD {
+        return State::Dead;
+    }
+    State::End
 }

@@ -10,6 +10,6 @@ mod descriptor;
 mod log;
 mod walking;
 
-pub use descriptor::{Descriptor, content_extent, read_descriptor};
+pub use descriptor::{Descriptor, State, content_extent, read_descriptor};
 pub use log::{append, kill};
 pub use walking::Walk;

@@ -4,12 +4,9 @@ ghost use Rattle.object_log.specs.inside.Made.{object_bytes};
 ghost use Rattle.layout.specs.Sizes as sizes;
 ghost use Rattle.object_log.specs.Objects.{objects, live, killed, content_at, IsSize, IsSegment, IsEnd, LivesAt};
 
+use crate::descriptor::{DEAD, LIVE};
 use byteorder::{ByteOrder, LittleEndian};
 use layout::{DESCRIPTOR, SEGMENT};
-
-const LIVE: u8 = 1;
-
-const DEAD: u8 = 2;
 
 /// Puts a live object of `size` bytes behind the others, which end at the byte `used`, and answers where the objects
 /// end now. Its content is zero. An end descriptor follows where it has room. With a `used` of 0 the bytes before do

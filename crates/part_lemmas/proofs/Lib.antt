@@ -1,4 +1,5 @@
 pub mod Cursors
 pub mod OwnParts
 pub mod Packets
+pub mod Recording
 pub mod Together

@@ -2,7 +2,7 @@
 use Rattle.std.specs.Prelude.{◌≡◌, ℕ, ◌==◌, ◌+◌, ◌<◌, ◌&&◌, ◌%◌, Bool, true, List, length, drop, slice_index_or, if◌then◌else◌, Option, Some, None}
 use Rattle.std.specs.List.{slice_get}
 use Rattle.rows.specs.Operation.{Operation, is_scan}
-use Rattle.trace_text.specs.Parsed.{Parsed, trace_in}
+use Rattle.trace_text.specs.Parsed.{IsConsistent, Parsed, trace_in}
 use Rattle.trace_text.specs.Parts.{has_part, origin}
 use Rattle.trace_text.specs.Trace.{trace_with}
 use Rattle.cache_model.specs.OwnParts.{issued_parts, parts_before}
@@ -43,8 +43,10 @@ shards_before s (Some operation) = if is_scan operation.kind then s else 0
 abbrev pub part_at : Parsed → ℕ → ℕ → ℕ → ℕ → ℕ
 part_at trace n o s at = parts_before (trace_in trace) n o at + shards_before s (slice_get (trace_in trace).operations at)
 
--- The place is one of the origin, behind so many parts that it issues, and at it is an operation of these, or the end.
+-- The place is one of the origin in a trace that was read, behind so many parts that it issues, and at it is an operation of these, or
+-- the end.
 pub record StandsAt (trace : Parsed) (n o s at before : ℕ) : Type 0 where
+  pub read : IsConsistent trace
   pub shards : n ≡ trace.shards
   pub shard : s < n
   pub origin : at % n ≡ o

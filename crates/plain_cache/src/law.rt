@@ -11,8 +11,6 @@ ghost use Rattle.rows.specs.Row.{floor, tight_floor};
 ghost use Rattle.cache_model.specs.Legal.{command_of, done, is_done, reply_at, IsLegal};
 ghost use Rattle.plain_cache.specs.Kept.{commands_done, reply_of_get, value_behind, StaysWithin};
 
-use cache_model::a_journal_goes_on;
-
 /// While the live bytes of a cache stay within the floor, no row is evicted, and a get gives the value of the last put of its
 /// key: `Missing` only where the key was erased since, or was never put.
 pub fn a_get_finds_what_was_put_last()
@@ -24,9 +22,7 @@ pub fn a_get_finds_what_was_put_last()
         → list_any (is_done i) before ≡ false → command_of trace i ≡ Some operation → operation.kind ≡ Kinds.Get
         → reply_at trace pages (before ++ Done i ∷ later) i
         ≡ Some (reply_of_get (value_behind operation.key (commands_done trace before) None)) }
-{
-    a_journal_goes_on();
-}
+{}
 
 /// However many tickets are out, what the live bytes exceed at an eviction is at least the floor.
 pub fn a_tight_floor_is_at_least_the_floor()

@@ -10,9 +10,7 @@ ghost use Rattle.cache_model.specs.Legal.{can_evict};
 ghost use Rattle.layout.specs.Sizes.{ArePages, greatest_key, greatest_value, row_overhead};
 ghost use Rattle.rows.specs.Spelled.{key_field, spelled, with_body};
 
-use cache_model::{
-    ReplyKind, is_at_most, other_rows_are_distinct, scanned_keys_are_in_order, sort_keys,
-};
+use cache_model::{ReplyKind, is_at_most, sort_keys};
 use layout::{DENSE, GREATEST_KEY, GREATEST_OBJECT, GREATEST_VALUE, SEGMENT_PAGES, TICKETS};
 use run_log::append_keys;
 use std::alloc::{AllocError, Global};
@@ -83,7 +81,6 @@ fn seek(rows: &[OwnedRow], key: &[u8]) -> Option<usize>
     ensures has { is_some result ≡ has key.now (map row_in rows.now) }
     ensures position { IfSome result (λ at. IsPositionOf key.now rows.now at) }
 {
-    other_rows_are_distinct();
     position_of(rows, key)
 }
 
@@ -112,7 +109,6 @@ fn drop_row(rows: &mut Vec<OwnedRow>, key: &[u8]) -> bool
     ensures fewer { vec_len rows.new ≤ vec_len rows.old }
     ensures capacity { vec_capacity rows.new ≡ vec_capacity rows.old }
 {
-    other_rows_are_distinct();
     let Some(at) = seek(rows.as_slice(), key) else {
         return false;
     };
@@ -127,7 +123,6 @@ fn drop_last(rows: &mut Vec<OwnedRow>)
     ensures small { All IsSmall rows.old.items → All IsSmall rows.new.items }
     ensures fewer { vec_len rows.new ≤ vec_len rows.old }
 {
-    other_rows_are_distinct();
     rows.pop();
 }
 
@@ -141,7 +136,6 @@ fn bring_to_front(rows: &mut Vec<OwnedRow>, at: usize, key: &[u8])
     ensures small { All IsSmall rows.old.items → All IsSmall rows.new.items }
     ensures fewer { vec_len rows.new ≤ vec_len rows.old }
 {
-    other_rows_are_distinct();
     rows.slice_mut(..at + 1).rotate_right(1);
 }
 
@@ -176,7 +170,6 @@ fn scanned<'a>(
     let mut keys = keys_from(alloc, rows, key)?;
     sort_keys(&mut keys);
     keys.truncate(count as usize);
-    scanned_keys_are_in_order();
     Ok(keys)
 }
 
@@ -238,7 +231,7 @@ impl Plain {
     ) -> Result<bool, AllocError>
         requires key { length key.now ≤ greatest_key }
         requires value { length value.now ≤ greatest_value }
-        requires room { length self.old.rows < 4294967295 }
+        requires few { length self.old.rows < 4294967295 }
         ensures replaced { IfOk result (λ replaced. replaced ≡ has key.now self.old.rows) }
         ensures put { OnOk result (self.new ≡ record self.old { rows = (put key.now value.now number self.old.rows).0 }) }
         ensures kept { OnErr result (self.new ≡ self.old) }
@@ -308,7 +301,7 @@ impl Plain {
         body: &mut Vec<u8>,
     ) -> Result<ReplyKind, AllocError>
         requires of_trace { Contains trace.now.commands command.now }
-        requires room { length self.old.rows < 4294967295 }
+        requires few { length self.old.rows < 4294967295 }
         ensures applied { OnOk result (self.new ≡ record self.old {
           rows =
               (apply (operation trace.now.bytes command.now) self.old.rows).0;

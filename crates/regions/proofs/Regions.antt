@@ -10,14 +10,14 @@ use Rattle.layout.specs.Sizes.{segment, dense, greatest_object}
 use Rattle.std.proofs.Math.ListN.{get_or-map}
 use Rattle.object_log.specs.Objects.{objects}
 use Rattle.regions.specs.Segments.{SegmentState, GroupState, RegionState, segment_at, with_segment, emptied, all_emptied}
-use Rattle.regions.specs.Shapes.{Slot, Identity, pieces_in, slot_of, slots_of, slot_at, group_in, active_in, is_held, is_free, is_begun, is_number, is_closed_in}
+use Rattle.regions.specs.Shapes.{Slot, Identity, pieces_in, slot_of, slots_of, slot_at, group_in, active_in, is_held, is_free, is_begun, is_number, is_closed, is_closed_in}
 use Rattle.regions.specs.Counts.{used_in, live_in, used_in_each, live_in_each, live_bytes, plus, left_of}
 use Rattle.regions.specs.Contents.{Standing, size_of, if_live, item_if_live, standing_in, standing_at, standing_among, ChangesIn, ChangesAt, Keeps}
 use Rattle.regions.specs.inside.Consistent.{IsConsistent, GroupFields, states, fields_at, unused, begun, lost, not_closed, is_sparse}
 use Rattle.regions.specs.declared.place.Place.{Place}
 use Rattle.regions.proofs.Tables as tables
 use Rattle.regions.proofs.Updates.{within, slot-is, used-is, live-is, slots-same, used-same, live-same, used-plus, live-plus, live-there, live-others}
-use Rattle.regions.proofs.Groups.{counted-as, active-at, none-there, closed-in-from, held-within, begun-held, free-unbegun}
+use Rattle.regions.proofs.Groups.{counted-as, active-at, none-there, closed-parts, closed-in-from, held-within, begun-held, free-unbegun}
 use Rattle.regions.proofs.Consistency.{of-within, placed, killed, frees, reslotted}
 use Rattle.regions.proofs.Activated.{activates}
 
@@ -28,6 +28,14 @@ pub as-read : (most : ℕ) (groups : List GroupFields) (held free : List Bool) (
     → IsConsistent most groups held free t v k → IsConsistent most groups held free s u l
 as-read most groups held free s t u v l k e f g c =
     subst (λ x. IsConsistent most groups held free x u l) (sym e) (subst (λ x. IsConsistent most groups held free t x l) (sym f) (subst (λ x. IsConsistent most groups held free t v x) (sym g) c))
+
+-- a closed segment is closed in one of the groups
+pub closed-in-one : (most : ℕ) (groups : List GroupFields) (held free : List Bool) (segs : List (Option SegmentState)) → Fields most groups held free segs → (n : ℕ) → is_closed (states groups) (slots_of segs) n ≡ true
+    → (g : ℕ) × (g < length (states groups)) × (is_closed_in (states groups) (slots_of segs) g n ≡ true)
+closed-in-one most groups held free segs v n shut =
+    let p = closed-parts (states groups) (slots_of segs) n shut in
+    let w = of-within most groups held free (slots_of segs) (used_in_each segs) (live_in_each segs) v p.0 n p.1 in let l = length-map groups (λ (f : GroupFields). f.state) in
+    (p.0, omega (arith, w, l), closed-in-from (states groups) (slots_of segs) p.0 n p.1 p.2)
 
 -- what is found through a reference to a group
 pub group-there : (groups : List GroupFields) (g : ℕ) (now : GroupFields) → g < length groups → now ≡ get_or groups g now → fields_at groups g ≡ now

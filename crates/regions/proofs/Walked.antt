@@ -1,11 +1,12 @@
 -- From one object of a segment to the next one.
-use Rattle.std.proofs.Common.{◌≡◌, ◌≢◌, ℕ, ◌+◌, ◌<◌, ◌≤◌, ◌⊎◌, inl, inr, cond, List, [], ◌∷◌, refl, sym, ap, ◌∙◌, subst, arith, eq-eqb}
+use Rattle.std.proofs.Common.{◌≡◌, ℕ, ◌+◌, ◌<◌, ◌≤◌, ◌⊎◌, inl, inr, true, false, cond, List, [], ◌∷◌, refl, sym, ap, ◌∙◌, subst, arith, eq-eqb}
 use Rattle.std.specs.Prelude.{◌==◌, Option, None, Some, IsSome, option_map}
-use Rattle.std.proofs.lemmas.Bool.{cases_eq, ne_eqb}
+use Rattle.std.proofs.lemmas.Bool.{cases_eq, eqb-true, ne_eqb}
 use Rattle.std.proofs.Math.Nat.{eq-or-lt_of_le}
 use Rattle.std.proofs.lemmas.Bool.Decides.{leb_tells}
-use Rattle.object_log.specs.Objects.{Object, objects, descriptor_at, AreObjects, IsObject, IsSegment}
+use Rattle.object_log.specs.Objects.{Object, objects, descriptor_at, is_live, state_of, AreObjects, IsObject, IsSegment}
 use Rattle.object_log.specs.declared.descriptor.Descriptor.{Descriptor}
+use Rattle.object_log.specs.declared.descriptor.State.TheVariants.{End, Live, Dead}
 use Rattle.raw_range.specs.Memory.{Lent}
 use Rattle.regions.specs.Segments.{SegmentState}
 use Rattle.regions.specs.Counts.{live_bytes}
@@ -71,11 +72,19 @@ none-counted g bytes a used (o ∷ os) h dead =
           (λ b low high. sym (ap (λ t. item_if_live (option_map (standing g bytes) (cond t (Some o) (object_with b os)))) (ne_eqb o.at b (λ g. omega (arith, g, here, some, low)))) ∙ dead b (omega (arith, low)) high))
     ]
 
+-- the byte of a live object's state is 1
+live-byte : (byte : ℕ) → is_live (state_of byte) ≡ (byte == 1)
+live-byte byte =
+    elim (byte == 1) as (λ b. is_live (cond b Live (cond (byte == 2) Dead End)) ≡ b) [
+      | true ↦ refl
+      | false ↦ elim (byte == 2) as (λ b. is_live (cond b Dead End) ≡ false) [ true ↦ refl | false ↦ refl ]
+    ]
+
 module _ (g : Option ℕ) (bytes : List ℕ) (used at : ℕ) (t : IsThere bytes used at) (d : Descriptor) (is : d ≡ descriptor_at bytes at) where
   open t use {segment, it, is-it, found as f}
 
-  pub state-is : it.state ≡ d.state
-  state-is = ap (λ o. o.state) f.is ∙ sym (ap (λ e. e.state) is)
+  alive-is : is_live d.state ≡ (it.state == 1)
+  alive-is = ap (λ (e : Descriptor). is_live e.state) is ∙ ap (λ b. is_live (state_of b)) (sym (ap (λ o. o.state) f.is)) ∙ live-byte it.state
 
   pub kind-is : it.kind ≡ d.kind
   kind-is = ap (λ o. o.kind) f.is ∙ sym (ap (λ e. e.kind) is)
@@ -89,16 +98,16 @@ module _ (g : Option ℕ) (bytes : List ℕ) (used at : ℕ) (t : IsThere bytes 
   pub step : (16 ≤ d.size) × (at + d.size ≤ used) × (used ≤ 131072)
   step = (omega (arith, f.least, size-is), omega (arith, f.high, size-is), segment.inside)
 
-  pub live-there : d.state ≡ 1 → IsLiveAt (item_if_live (standing_among g bytes at (objects bytes used))) d.kind d.size
+  pub live-there : is_live d.state ≡ true → IsLiveAt (item_if_live (standing_among g bytes at (objects bytes used))) d.kind d.size
   live-there one = record {
     item = (standing g bytes it).item;
-    is = ap (λ o. item_if_live (option_map (standing g bytes) o)) is-it ∙ ap (λ b. if_live b (standing g bytes it).item) (eq-eqb it.state 1 (state-is ∙ one));
+    is = ap (λ o. item_if_live (option_map (standing g bytes) o)) is-it ∙ ap (λ b. if_live b (standing g bytes it).item) (sym alive-is ∙ one);
     kind_is = kind-is;
     size_is = sym (content-size bytes used at t) ∙ size-is;
   }
 
-  pub counted : d.state ≡ 1 → d.size ≤ live_bytes (objects bytes used)
-  counted one = let k = live-counted at (objects bytes used) it is-it (state-is ∙ one) in omega (arith, k, size-is)
+  pub counted : is_live d.state ≡ true → d.size ≤ live_bytes (objects bytes used)
+  counted one = let k = live-counted at (objects bytes used) it is-it (eqb-true it.state 1 (sym alive-is ∙ one)) in omega (arith, k, size-is)
 
   after : ((at + it.size ≡ used) ⊎ IsSome (object_with (at + it.size) (objects bytes used))) × ((b : ℕ) → at < b → b < at + it.size → object_with b (objects bytes used) ≡ None)
   after = after-found bytes 0 used at (objects bytes used) it segment.objects is-it
@@ -114,14 +123,14 @@ module _ (g : Option ℕ) (bytes : List ℕ) (used at : ℕ) (t : IsThere bytes 
   none-between b low high = ap (option_map (standing g bytes)) (after.1 b low (omega (arith, high, size-is)))
 
   -- a dead object is passed over
-  pub passed : (from : ℕ) → d.state ≢ 1 → ((b : ℕ) → from ≤ b → b < at → item_if_live (standing_among g bytes b (objects bytes used)) ≡ None)
+  pub passed : (from : ℕ) → is_live d.state ≡ false → ((b : ℕ) → from ≤ b → b < at → item_if_live (standing_among g bytes b (objects bytes used)) ≡ None)
       → (b : ℕ) → from ≤ b → b < at + d.size → item_if_live (standing_among g bytes b (objects bytes used)) ≡ None
   passed from dead before b low high =
       elim (leb_tells at b) [
         | inl up ↦ elim (eq-or-lt_of_le up.1) [
           | inl e ↦
               subst (λ k. item_if_live (standing_among g bytes k (objects bytes used)) ≡ None) e
-              (ap (λ o. item_if_live (option_map (standing g bytes) o)) is-it ∙ ap (λ b. if_live b (standing g bytes it).item) (ne_eqb it.state 1 (λ one. dead (sym state-is ∙ one))))
+              (ap (λ o. item_if_live (option_map (standing g bytes) o)) is-it ∙ ap (λ b. if_live b (standing g bytes it).item) (sym alive-is ∙ dead))
           | inr over ↦ ap item_if_live (none-between b over high)
         ]
         | inr under ↦ before b low under.1

@@ -51,6 +51,10 @@ active_of r g = active_in (shape r).groups g
 abbrev pub guards_of : RegionState → ℕ → ℕ
 guards_of r g = (group_at (shape r).groups g).guards
 
+-- fewer guards than these stand on a group at once
+abbrev pub most_guards : ℕ
+most_guards = 1000000
+
 -- no group has a guard
 abbrev pub IsUnguarded : RegionState → Type 0
 IsUnguarded r = (g : ℕ) → guards_of r g ≡ 0

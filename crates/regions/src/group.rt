@@ -2,7 +2,7 @@
 ghost use Rattle.std.specs.Prelude.{◌≡◌, ℕ, ◌+◌, ◌-◌, ◌<◌, ◌≤◌, true, false, cond, length, slice_index, slice_set, replicate, map, IfOk, IfSome};
 ghost use Rattle.std.specs.List.{count_by};
 ghost use Rattle.layout.specs.Sizes as sizes;
-ghost use Rattle.regions.specs.Shapes.{is_number};
+ghost use Rattle.regions.specs.Shapes.{is_number, most_guards};
 ghost use Rattle.regions.specs.inside.Consistent.{GroupFields, not_closed, with_closed, is_sparse, unused, begun, lost, cleared};
 
 use crate::live_table::{LiveTable, NOT_CLOSED};
@@ -36,7 +36,7 @@ impl Model for Group {
 impl Group {
     // No segment is of the group.
     pub(crate) fn new(alloc: Global, most: u32) -> Result<Group, AllocError>
-        requires { most ≤ 2048 }
+        requires { most ≤ sizes.most_segments }
         ensures { IfOk result (λ g. g ≡ unused most) }
     {
         Ok(Group {
@@ -66,7 +66,7 @@ impl Group {
     }
 
     pub(crate) fn guard(&mut self)
-        requires { self.old.state.guards < 1000000 }
+        requires { self.old.state.guards < most_guards }
         ensures { self.new ≡ record self.old { state = record self.old.state { guards = self.old.state.guards + 1 } } }
     {
         self.guards += 1;
@@ -152,7 +152,7 @@ impl Group {
 
 // So many groups without segments.
 pub(crate) fn new_groups(alloc: Global, most: u32, count: u32) -> Result<Vec<Group>, AllocError>
-    requires { most ≤ 2048 }
+    requires { most ≤ sizes.most_segments }
     ensures { IfOk result (λ groups. groups.items ≡ replicate count (unused most)) }
 {
     let mut groups = Vec::with_capacity(alloc, count as usize)?;

@@ -16,5 +16,5 @@ mod slots;
 
 pub use link::{led_to, link_to, place_of};
 pub use movers::Movers;
-pub use place::{NeedSegment, Place};
+pub use place::{LiveObject, NeedSegment, Place};
 pub use region::Region;

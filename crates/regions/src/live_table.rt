@@ -1,6 +1,7 @@
 //! How many live bytes each closed segment of a group has.
 ghost use Rattle.std.specs.Prelude.{◌≡◌, ◌<◌, ◌≤◌, length, replicate, slice_set, IfOk};
 ghost use Rattle.std.specs.List.{count_by};
+ghost use Rattle.layout.specs.Sizes as sizes;
 ghost use Rattle.regions.specs.inside.Consistent.{not_closed, is_sparse};
 
 use layout::DENSE;
@@ -20,19 +21,20 @@ pub(crate) struct LiveTable {
 impl Model for LiveTable {
     ghost use Rattle.std.specs.Prelude.{◌≡◌, ◌≤◌, ℕ, List, length};
     ghost use Rattle.std.specs.List.{count_by};
+    ghost use Rattle.layout.specs.Sizes as sizes;
     ghost use Rattle.regions.specs.inside.Consistent.{is_sparse};
 
     ghost Value = { List ℕ };
 
     ghost view = { λ t. t.bytes.items };
 
-    ghost invariant = { λ t. (length t.bytes.items ≤ 2048) × (t.sparse ≡ count_by is_sparse t.bytes.items) };
+    ghost invariant = { λ t. (length t.bytes.items ≤ sizes.most_segments) × (t.sparse ≡ count_by is_sparse t.bytes.items) };
 }
 
 impl LiveTable {
     // No segment is closed.
     pub(crate) fn new(alloc: Global, most: u32) -> Result<LiveTable, AllocError>
-        requires { most ≤ 2048 }
+        requires { most ≤ sizes.most_segments }
         ensures { IfOk result (λ t. t ≡ replicate most not_closed) }
     {
         let mut bytes = Vec::with_capacity(alloc, most as usize)?;

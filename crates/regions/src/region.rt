@@ -1,11 +1,11 @@
 //! The segments of one shard, their groups, and the objects in them.
-ghost use Rattle.std.specs.Prelude.{◌≡◌, ◌↔◌, ◌⊎◌, ℕ, ◌+◌, ◌-◌, ◌<◌, ◌≤◌, List, length, Some, None, option_map, replicate, IfOk, IfErr, IfSome, IsSome, IsNone, IsErr};
+ghost use Rattle.std.specs.Prelude.{◌≡◌, ◌↔◌, ◌⊎◌, ℕ, ◌+◌, ◌-◌, ◌^◌, ◌<◌, ◌≤◌, List, length, Some, None, option_map, replicate, IfOk, IfErr, IfSome, IsSome, IsNone, IsErr};
 ghost use Rattle.std.specs.Borrow.{sem};
 ghost use Rattle.layout.specs.Sizes as sizes;
 ghost use Rattle.number_set.specs.Numbers.{size, IsLeast, IsGreatest, IsLeastAbsent};
 ghost use Rattle.object_log.specs.Objects.{IsSize};
 ghost use Rattle.regions.specs.Segments.{segment_at, with_segment, with_guards, fresh, idle, all_emptied};
-ghost use Rattle.regions.specs.Shapes.{shape, group_of, active_of, guards_of, pieces, held_count, free_count, activated, HasGroup, IsUnguarded, IsClosedIn, IsLeastFree, IsGreatestFree, IsGreatestHeld, IsLeastUnused};
+ghost use Rattle.regions.specs.Shapes.{shape, group_of, active_of, guards_of, most_guards, pieces, held_count, free_count, activated, HasGroup, IsUnguarded, IsClosedIn, IsLeastFree, IsGreatestFree, IsGreatestHeld, IsLeastUnused};
 ghost use Rattle.regions.specs.Counts.{used_counts, live_counts, used_at, used_total, live_total, plus, left};
 ghost use Rattle.regions.specs.Contents.{standing_at, live_at, size_of, zeros, dead, with_bytes, rewritten, ChangesAt, Keeps};
 ghost use Rattle.regions.specs.Lends.{LendsContent, with_content};
@@ -58,7 +58,7 @@ impl Region {
     /// # Errors
     /// `AllocError` where memory is not found.
     pub fn new(alloc: Global, most: u32, groups: u32) -> Result<Region, AllocError>
-        requires most { most ≤ 2048 }
+        requires most { most ≤ sizes.most_segments }
         requires groups { (1 ≤ groups) × (groups ≤ 8) }
         ensures { IfOk result (λ r. r ≡ record { most = most; groups = replicate groups idle; segments = replicate most None }) }
     {
@@ -169,6 +169,7 @@ impl Region {
         // Where the object stands, and that it is the only change.
         ensures segment { IfOk result (λ place. active_of self.old group ≡ Some place.segment) }
         ensures group { IfOk result (λ place. group_of self.old place.segment ≡ Some group) }
+        ensures number { IfOk result (λ place. place.segment < 2 ^ 32) }
         ensures offset { IfOk result (λ place. place.at ≡ used_at self.old place.segment) }
         ensures unused { IfOk result (λ place. standing_at self.old place ≡ None) }
         ensures added { IfOk result (λ place. ChangesAt place (Some (zeros (Some group) kind size)) self.old self.new) }
@@ -279,7 +280,7 @@ impl Region {
     /// Guards nest.
     pub fn guard(&mut self, group: u32)
         requires group { HasGroup self.old group }
-        requires few { guards_of self.old group < 1000000 }
+        requires few { guards_of self.old group < most_guards }
         ensures guards { self.new ≡ with_guards self.old group (guards_of self.old group + 1) }
         ensures live_total { live_total self.new ≡ live_total self.old }
     {

@@ -9,6 +9,7 @@ ghost use Rattle.regions.specs.Shapes.{slot_of};
 ghost use Rattle.regions.specs.Counts.{live_in};
 ghost use Rattle.regions.specs.Contents.{standing_in, item_if_live, size_of, zeros, dead, rewritten, with_bytes, starts_in, none_lives_in, ChangesIn, IsLiveAt};
 
+use crate::place::LiveObject;
 use layout::DESCRIPTOR;
 use object_log::{append, content_extent, kill, read_descriptor};
 use raw_range::Piece;
@@ -194,35 +195,39 @@ impl Segment {
         overwrite(self.content_mut(to), source.content(from));
     }
 
-    // The first live object from the offset on: its own offset, its kind and its size.
-    pub(crate) fn next_live(&self, from: u32) -> Option<(u32, u8, u32)>
+    // The first live object from the offset on.
+    pub(crate) fn next_live(&self, from: u32) -> Option<LiveObject>
         requires begun { IsSome self.now.group }
         requires start { (from ≡ 0) ⊎ starts_in (Some self.now) from }
 
         // Nothing lives before the object that is found, or up to the end where none is.
         ensures none { IsNone result → none_lives_in (Some self.now) from self.now.used }
-        ensures skipped { IfSome result (λ f. (from ≤ f.0) × none_lives_in (Some self.now) from f.0) }
+        ensures skipped { IfSome result (λ f. (from ≤ f.at) × none_lives_in (Some self.now) from f.at) }
 
         // The object.
-        ensures found { IfSome result (λ f. IsLiveAt (item_if_live (standing_in (Some self.now) f.0)) f.1 f.2) }
-        ensures size { IfSome result (λ f. (1 ≤ f.1) × IsSize f.2) }
-        ensures within { IfSome result (λ f. f.0 + f.2 ≤ self.now.used) }
-        ensures inside { IfSome result (λ f. f.0 + f.2 ≤ sizes.segment) }
+        ensures found { IfSome result (λ f. IsLiveAt (item_if_live (standing_in (Some self.now) f.at)) f.kind f.size) }
+        ensures size { IfSome result (λ f. (1 ≤ f.kind) × IsSize f.size) }
+        ensures within { IfSome result (λ f. f.at + f.size ≤ self.now.used) }
+        ensures inside { IfSome result (λ f. f.at + f.size ≤ sizes.segment) }
 
         // Where the search goes on: nothing stands between.
-        ensures next { IfSome result (λ f. starts_in (Some self.now) (f.0 + f.2)) }
-        ensures between { IfSome result (λ f. (a : ℕ) → f.0 < a → a < f.0 + f.2 → standing_in (Some self.now) a ≡ None) }
+        ensures next { IfSome result (λ f. starts_in (Some self.now) (f.at + f.size)) }
+        ensures between { IfSome result (λ f. (a : ℕ) → f.at < a → a < f.at + f.size → standing_in (Some self.now) a ≡ None) }
 
         // What the search says of the live bytes.
-        ensures counted { IfSome result (λ f. f.2 ≤ live_in (Some self.now)) }
+        ensures counted { IfSome result (λ f. f.size ≤ live_in (Some self.now)) }
         ensures dead { IsNone result → none_lives_in (Some self.now) 0 from → live_in (Some self.now) ≡ 0 }
     {
         let bytes = self.piece.bytes();
         let mut at = from;
         while at < self.used {
             let found = read_descriptor(bytes, at);
-            if found.state == 1 {
-                return Some((at, found.kind, found.size));
+            if found.is_live() {
+                return Some(LiveObject {
+                    at,
+                    kind: found.kind,
+                    size: found.size,
+                });
             }
             at += found.size;
         }

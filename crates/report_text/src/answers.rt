@@ -15,7 +15,6 @@ ghost use Rattle.report_text.specs.inside.Spells.{HasLegalKeys};
 
 use crate::found::joined_keys;
 use crate::lines::put_reply_line;
-use cache_model::one_shard_answers_alone;
 use outside::{Failed, Sink};
 use run_log::ReplyLog;
 use text_out::Writer;
@@ -71,7 +70,7 @@ fn put_scan<K: Sink>(
     first: u32,
 ) -> Result<(), Failed>
     requires few { command.now.count ≤ most_keys }
-    requires room { first + shards < 2 ^ 32 }
+    requires small { first + shards < 2 ^ 32 }
     requires replied { (lists : List (List (List ℕ))) × HasFound log.now.replies first shards lists }
     ensures { (lists : List (List (List ℕ))) → HasFound log.now.replies first shards lists →
         Writes result writer.old writer.new (line
@@ -100,14 +99,13 @@ pub(crate) fn put_answer<K: Sink>(
 ) -> Result<(), Failed>
     requires some { 1 ≤ shards }
     requires few { command.now.count ≤ most_keys }
-    requires room { first + shards < 2 ^ 32 }
+    requires small { first + shards < 2 ^ 32 }
     requires read { (bytes : List ℕ) × (longest : ℕ) × (answer : ℕ × Reply)
         × IsRead longest shards (operation bytes command.now) log.now.replies first answer }
     ensures { (bytes : List ℕ) (longest : ℕ) (answer : ℕ × Reply)
         → IsRead longest shards (operation bytes command.now) log.now.replies first answer →
         Writes result writer.old writer.new (line (answer_text answer)) }
 {
-    one_shard_answers_alone();
     if is_joined(command.kind, shards) {
         put_scan(writer, command, shards, log, first)
     } else {

@@ -9,7 +9,6 @@ ghost use Rattle.rows.specs.Spelled.{spelled};
 ghost use Rattle.report_text.specs.inside.Found.{AreFoundAt, HasFound};
 
 use crate::merging::{Found, first_of_both};
-use cache_model::sorted_keys_are_in_order;
 use run_log::{ReplyLog, next_key};
 
 /// The keys of a body.
@@ -51,12 +50,11 @@ fn shard_keys(log: &ReplyLog, part: u32) -> Found<'_>
 /// from a part on.
 pub(crate) fn joined_keys(log: &ReplyLog, first: u32, shards: u32, count: u32) -> Found<'_>
     requires few { count ≤ most_keys }
-    requires room { first + shards < 2 ^ 32 }
+    requires small { first + shards < 2 ^ 32 }
     requires replied { (lists : List (List (List ℕ))) × HasFound log.now.replies first shards lists }
     ensures { (lists : List (List (List ℕ))) → HasFound log.now.replies first shards lists
         → map (λ key. key.now) result.items ≡ join count lists }
 {
-    sorted_keys_are_in_order();
     let mut found = Found::new();
     for part in first..first + shards {
         let keys = shard_keys(log, part);

@@ -11,7 +11,6 @@ ghost use Rattle.cache_model.specs.ReadOff.{IsRead};
 ghost use Rattle.report_text.specs.Views.{replies_in};
 ghost use Rattle.report_text.specs.inside.Places.{ArePlaces};
 
-use cache_model::{answers_are_read_by_command, parts_go_up_by_command};
 use run_log::ReplyLog;
 use trace_text::{Command, MOST_SHARDS, Trace, origin_of};
 
@@ -21,7 +20,7 @@ pub(crate) type Places = [u32; MOST_SHARDS as usize];
 /// The number of the first part of a command in its origin's log. The next command of that origin comes behind its parts.
 fn take_place(places: &mut Places, origin: u32, parts: u32) -> u32
     requires origin { origin < most_shards }
-    requires room { slice_index places.old origin + parts < 2 ^ 32 }
+    requires small { slice_index places.old origin + parts < 2 ^ 32 }
     ensures first { result ≡ slice_index places.old origin }
     ensures next { places.new ≡ slice_set places.old origin (result + parts) }
 {
@@ -48,10 +47,8 @@ pub(crate) fn next_replies<'l>(
         → IsRead (longest_value (trace_in trace.now)) trace.now.shards (operation trace.now.bytes
         (slice_index_or trace.now.commands index d))
         result.0.now.replies result.1 (slice_index_or answers index e) }
-    ensures room { result.1 + trace.now.shards < 2 ^ 32 }
+    ensures small { result.1 + trace.now.shards < 2 ^ 32 }
 {
-    parts_go_up_by_command();
-    answers_are_read_by_command();
     let command = &trace.commands()[index];
     let shards = logs.len() as u32;
     let origin = origin_of(command.number, shards);

@@ -1,9 +1,7 @@
 //! The report.
-ghost use Rattle.std.specs.Prelude.{◌≡◌, ℕ, ◌≤◌, [], List, length, flat_map, OnOk, OnErr};
+ghost use Rattle.std.specs.Prelude.{◌≡◌, ℕ, [], List, length, flat_map, OnOk};
 ghost use Rattle.std.specs.List.{enumerate_from};
-ghost use Rattle.std.specs.Io.KnownBytes.{Appends};
-ghost use Rattle.outside.specs.Moves.{AppendsFront};
-ghost use Rattle.layout.specs.Counts.{Rose};
+ghost use Rattle.outside.specs.Moves.{Sends};
 ghost use Rattle.rows.specs.Apply.{Reply};
 ghost use Rattle.cache_model.specs.Logged.{AreLogged};
 ghost use Rattle.cache_model.specs.Report.{line, answer_text, journal_text, report_of};
@@ -16,7 +14,6 @@ use crate::ShardLine;
 use crate::answered_run::Answered;
 use crate::lines::{finish, put_journal};
 use crate::stretch::{all_commands, put_stretch};
-use cache_model::answers_are_read_by_command;
 use outside::{Failed, Sink};
 use run_log::{Journal, ReplyLog};
 use text_out::Writer;
@@ -52,16 +49,10 @@ pub fn write_report<K: Sink>(
     requires one_line_each { length lines.now ≡ shards }
     requires answered { (answers : List (ℕ × Reply)) × AreLogged (trace_in trace.now) shards (replies_in logs.now) answers }
 
-    // The whole report, or a front of it.
-    ensures written { OnOk result ((answers : List (ℕ × Reply)) → AreLogged (trace_in trace.now) shards (replies_in logs.now) answers
-        → Appends (K.written sink.old) (K.written sink.new) (report_of answers (journals_in journals.now) (occupancies_in lines.now))) }
-    ensures front { OnErr result ((answers : List (ℕ × Reply)) → AreLogged (trace_in trace.now) shards (replies_in logs.now) answers
-        → AppendsFront (K.written sink.old) (K.written sink.new)
-        (report_of answers (journals_in journals.now) (occupancies_in lines.now))) }
-
-    // It fails only where the sink does.
-    ensures failed { OnErr result (Rose (K.faults sink.old) (K.faults sink.new)) }
-    ensures never_falls { K.faults sink.old ≤ K.faults sink.new }
+    // The whole report, or a front of it, and then the sink failed.
+    ensures { (answers : List (ℕ × Reply)) → AreLogged (trace_in trace.now) shards (replies_in logs.now) answers
+        → Sends K.written K.faults sink.old sink.new result
+        (report_of answers (journals_in journals.now) (occupancies_in lines.now)) }
 {
     let run = Answered {
         trace,
@@ -101,7 +92,6 @@ pub(crate) fn put_answers<K: Sink>(
         Writes result writer.old writer.new (flat_map
         (λ answer. line (answer_text answer)) answers) }
 {
-    answers_are_read_by_command();
     put_stretch(writer, run, &all_commands(run.trace))
 }
 

@@ -1,8 +1,6 @@
 //! The report, pieces of it made side by side on threads.
-ghost use Rattle.std.specs.Prelude.{◌≡◌, ◌<◌, ◌≤◌, ℕ, [], List, length, flat_map, OnOk, OnErr};
-ghost use Rattle.std.specs.Io.KnownBytes.{Appends};
-ghost use Rattle.outside.specs.Moves.{AppendsFront};
-ghost use Rattle.layout.specs.Counts.{Rose};
+ghost use Rattle.std.specs.Prelude.{◌≡◌, ◌<◌, ℕ, [], List, length, flat_map, OnOk};
+ghost use Rattle.outside.specs.Moves.{Sends};
 ghost use Rattle.trace_text.specs.Parsed.{trace_in};
 ghost use Rattle.rows.specs.Apply.{Reply};
 ghost use Rattle.cache_model.specs.Logged.{AreLogged};
@@ -18,7 +16,6 @@ use crate::lines::finish;
 use crate::pieces::{Piece, begin_round, make_pieces, put_pieces};
 use crate::report::put_answers;
 use crate::reserved::Texts;
-use cache_model::answers_are_read_by_command;
 use outside::{Failed, Sink};
 use run_log::{Journal, ReplyLog};
 use std::thread::Threads;
@@ -55,18 +52,10 @@ pub fn write_report_on<R: Threads + Sync, K: Sink>(
     requires answered { (answers : List (ℕ × Reply))
         × AreLogged (trace_in trace.now) trace.now.shards (replies_in logs.now) answers }
 
-    // The whole report, or a front of it.
-    ensures written { OnOk result ((answers : List (ℕ × Reply))
-        → AreLogged (trace_in trace.now) trace.now.shards (replies_in logs.now) answers
-        → Appends (K.written sink.old) (K.written sink.new) (report_of answers (journals_in journals.now) (occupancies_in lines.now))) }
-    ensures front { OnErr result ((answers : List (ℕ × Reply))
-        → AreLogged (trace_in trace.now) trace.now.shards (replies_in logs.now) answers
-        → AppendsFront (K.written sink.old) (K.written sink.new)
-        (report_of answers (journals_in journals.now) (occupancies_in lines.now))) }
-
-    // It fails only where the sink does.
-    ensures failed { OnErr result (Rose (K.faults sink.old) (K.faults sink.new)) }
-    ensures never_falls { K.faults sink.old ≤ K.faults sink.new }
+    // The whole report, or a front of it, and then the sink failed.
+    ensures { (answers : List (ℕ × Reply)) → AreLogged (trace_in trace.now) trace.now.shards (replies_in logs.now) answers
+        → Sends K.written K.faults sink.old sink.new result
+        (report_of answers (journals_in journals.now) (occupancies_in lines.now)) }
 {
     let shards = trace.shards();
     let run = Answered {
@@ -136,7 +125,6 @@ fn put_rounds<R: Threads + Sync, K: Sink>(
         Writes result writer.old writer.new (flat_map
         (λ answer. line (answer_text answer)) answers) }
 {
-    answers_are_read_by_command();
     let (trace, logs) = (run.trace, run.logs);
     let commands = trace.commands().len();
     let mut places = [0; MOST_SHARDS as usize];

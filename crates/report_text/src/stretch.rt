@@ -8,7 +8,6 @@ ghost use Rattle.report_text.specs.inside.Stretches.{IsStretch, answer_lines};
 use crate::answered_run::Answered;
 use crate::answers::put_answer;
 use crate::place::{Places, next_replies};
-use cache_model::answers_are_read_by_command;
 use outside::{Failed, Sink};
 use text_out::Writer;
 use trace_text::{MOST_SHARDS, Trace};
@@ -55,7 +54,6 @@ pub(crate) fn put_stretch<K: Sink>(
         Writes result writer.old writer.new
         (answer_lines answers stretch.now.from stretch.now.to) }
 {
-    answers_are_read_by_command();
     let (trace, logs) = (run.trace, run.logs);
     let commands = trace.commands();
     let mut places = stretch.places;

@@ -1,8 +1,6 @@
 //! The summary.
-ghost use Rattle.std.specs.Prelude.{◌≡◌, ◌^◌, ◌<◌, ◌≤◌, ℕ, [], List, ◌++◌, length, count_by, codes, decimal, OnOk, OnErr};
-ghost use Rattle.std.specs.Io.KnownBytes.{Appends};
-ghost use Rattle.outside.specs.Moves.{AppendsFront};
-ghost use Rattle.layout.specs.Counts.{Rose};
+ghost use Rattle.std.specs.Prelude.{◌≡◌, ◌^◌, ◌<◌, ℕ, [], List, ◌++◌, length, count_by, codes, decimal, OnOk};
+ghost use Rattle.outside.specs.Moves.{Sends};
 ghost use Rattle.trace_text.specs.Parsed.{trace_in};
 ghost use Rattle.rows.specs.Apply.{Reply};
 ghost use Rattle.cache_model.specs.Logged.{AreLogged};
@@ -17,7 +15,7 @@ use crate::ShardLine;
 use crate::answered_run::Answered;
 use crate::lines::{finish, put_field_line};
 use crate::tally::{Tally, tally_of};
-use cache_model::{Entry, answers_are_read_by_command};
+use cache_model::Entry;
 use outside::{Failed, Sink};
 use run_log::{Journal, ReplyLog};
 use text_out::Writer;
@@ -51,16 +49,10 @@ pub fn write_summary<K: Sink>(
     requires one_line_each { length lines.now ≡ shards }
     requires answered { (answers : List (ℕ × Reply)) × AreLogged (trace_in trace.now) shards (replies_in logs.now) answers }
 
-    // The whole summary, or a front of it.
-    ensures written { OnOk result ((answers : List (ℕ × Reply)) → AreLogged (trace_in trace.now) shards (replies_in logs.now) answers
-        → Appends (K.written sink.old) (K.written sink.new) (summary_of answers (journals_in journals.now) (occupancies_in lines.now))) }
-    ensures front { OnErr result ((answers : List (ℕ × Reply)) → AreLogged (trace_in trace.now) shards (replies_in logs.now) answers
-        → AppendsFront (K.written sink.old) (K.written sink.new)
-        (summary_of answers (journals_in journals.now) (occupancies_in lines.now))) }
-
-    // It fails only where the sink does.
-    ensures failed { OnErr result (Rose (K.faults sink.old) (K.faults sink.new)) }
-    ensures never_falls { K.faults sink.old ≤ K.faults sink.new }
+    // The whole summary, or a front of it, and then the sink failed.
+    ensures { (answers : List (ℕ × Reply)) → AreLogged (trace_in trace.now) shards (replies_in logs.now) answers
+        → Sends K.written K.faults sink.old sink.new result
+        (summary_of answers (journals_in journals.now) (occupancies_in lines.now)) }
 {
     let run = Answered {
         trace,
@@ -98,7 +90,6 @@ fn put_counts<K: Sink>(writer: &mut Writer<'_, K>, run: &Answered<'_>) -> Result
         Writes result writer.old writer.new (line
         (codes "commands " ++ decimal (length answers)) ++ line (tally_text (tally answers))) }
 {
-    answers_are_read_by_command();
     let commands = run.trace.commands().len() as u64;
     put_field_line(writer, &[(b"commands ", commands)])?;
     let tally = tally_of(run);

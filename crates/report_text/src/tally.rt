@@ -10,7 +10,7 @@ ghost use Rattle.report_text.specs.inside.Tallies.{tally_in, total, with_answer}
 
 use crate::answered_run::Answered;
 use crate::place::next_replies;
-use cache_model::{ReplyKind, answers_are_read_by_command};
+use cache_model::ReplyKind;
 use run_log::ReplyLog;
 use trace_text::MOST_SHARDS;
 
@@ -73,7 +73,6 @@ pub(crate) fn tally_of(run: &Answered<'_>) -> Tally
     ensures { (answers : List (ℕ × Reply)) → Have run.now.trace.now run.now.shards run.now.logs.now answers
         → tally_in result ≡ tally answers }
 {
-    answers_are_read_by_command();
     let (trace, logs) = (run.trace, run.logs);
     let mut places = [0; MOST_SHARDS as usize];
     let mut tally = Tally::none();

@@ -1,16 +1,21 @@
 //! A row in the content of a segment's object: a header of 32 bytes, the key, the value, and zero bytes up to the size.
-//! The header ends with two links to other rows, of a doubly linked list; which rows these are is not said here.
+//! The header ends with two links to other rows, of a doubly linked list; which rows these are is not said here. Beside it,
+//! how keys stand one behind another in the reply to a scan.
 //!
 //! The layout is this project's. What the bytes mean is `specs/Rows.antt`, in both directions: the bytes of a row, and
 //! the row that bytes are read as.
 #![tactic(auto)]
 
+mod keys;
 mod law;
 mod links;
+mod new_row;
 mod reading;
 mod writing;
 
+pub use keys::{Scanned, write_key};
 pub use law::a_row_is_read_as_it_is_written;
 pub use links::{Links, NO_LINK, newer_in, older_in, set_newer, set_older};
+pub use new_row::NewRow;
 pub use reading::{key_in, number_in, put_in, value_in};
 pub use writing::{row_size, write_row};

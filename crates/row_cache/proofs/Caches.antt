@@ -16,8 +16,8 @@ use Rattle.row_bytes.specs.Rows.{row_in}
 use Rattle.row_cache.specs.Links.{follow}
 use Rattle.row_cache.specs.Rows.{AreRelinked, content_at, row_at, row_there, rows_at, Stay}
 use Rattle.row_cache.specs.inside.Tables.{TableState, AreTablesOf, IsListed, IsRowOf, Drops, HoldsARow, PlacesRow, SwapsRow, AddsRow, ReplacesRow, next_number, placed}
-use Rattle.row_cache.specs.declared.cache.storing.NewRow.{NewRow}
-use Rattle.row_cache.specs.inside.NewRows.{IsStored}
+use Rattle.row_bytes.specs.declared.new_row.NewRow.{NewRow}
+use Rattle.row_bytes.specs.NewRows.{CanStand}
 use Rattle.row_cache.specs.inside.Chained.{IsLinked, place_in}
 use Rattle.row_cache.specs.inside.Consistent.{IsConsistent, IsCounted, rows_in, rows_with}
 use Rattle.row_cache.proofs.Joined.{followed}
@@ -66,7 +66,7 @@ bytes_small t r bytes c =
     omega (arith, most, count, few, small, counted, sizes)
 
 -- the bytes of a row more are counted
-pub counts_more : (t : TableState) (r : RegionState) (bytes more : ℕ) (row : NewRow) → IsCounted t r bytes → IsStored row → more ≡ size row.key.now row.value.now → bytes + more < 2 ^ 64
+pub counts_more : (t : TableState) (r : RegionState) (bytes more : ℕ) (row : NewRow) → IsCounted t r bytes → CanStand row → more ≡ size row.key.now row.value.now → bytes + more < 2 ^ 64
 counts_more t r bytes more row c is e =
     let small = bytes_small t r bytes c in let key = is.short_key in let value = is.short_value in
     omega (arith, small, key, value, e)
@@ -207,6 +207,10 @@ rows_read t r bytes c =
     ∙ same_reads (row_there l) (place_in t.places) (row_at l t.places) t.recency (λ n listed.
     (let h = c.counted.tables.rows n listed in
     ap (row_there l) (place_is t.places n h.place h.placed) ∙ sym (ap (λ o. row_in (content_at l o)) h.placed)))
+
+-- the live bytes of the segments are those of the rows
+pub live_read : (t : TableState) (r : RegionState) (bytes : ℕ) → IsConsistent t r bytes → live (map (row_there (live_at r)) (follow (length t.places) (live_at r) t.ends.front)) ≡ live_total r
+live_read t r bytes c = ap live (rows_read t r bytes c) ∙ c.counted.sizes
 
 -- the same where no object changes
 pub kept_reads : (r s : RegionState) (k : ℕ) (front : Option Place) → Keeps r s

@@ -1,12 +1,13 @@
 -- What a key's row is among all rows, and where it stands.
-use Rattle.std.proofs.Common.{◌≡◌, ℕ, zero, suc, ◌-◌, ◌≤◌, inl, inr, take, replicate, get_or, arith, Bool, true, false, List, [], ◌∷◌, length, map, Option, Some, None, refl, sym, ap, subst, ◌∙◌}
-use Rattle.std.proofs.lemmas.List.{take-map, length-map}
+use Rattle.std.proofs.Common.{◌≡◌, ℕ, zero, suc, ◌-◌, ◌≤◌, inl, inr, take, drop, replicate, get_or, arith, Bool, true, false, List, [], ◌∷◌, length, map, Option, Some, None, refl, sym, ap, subst, ◌∙◌}
+use Rattle.std.proofs.lemmas.List.{take-map, length-map, drop-drop}
 use Rattle.std.proofs.lemmas.List.Sums.{sum_by-cons}
 use Rattle.std.proofs.lemmas.Bool.Decides.{eqb_tells}
 use Rattle.std.specs.List.{last_or, sum}
 use Rattle.std.specs.Prelude.{slice_get, IsSome, option_map}
 use Rattle.rows.specs.Row.{Row, live, size, is_of_put}
-use Rattle.row_bytes.specs.Rows.{HoldsRow, IsRow, row_in, without_links}
+use Rattle.row_bytes.specs.Rows.{IsRow, header, key_in, key_length_in, put_in, row_bytes, row_in, value_length_in, without_links}
+use Rattle.row_bytes.specs.declared.links.Links.{Links}
 use Rattle.common_lemmas.specs.Lists.{times, delete}
 use Rattle.regions.specs.Segments.{RegionState, SegmentState, idle}
 use Rattle.regions.specs.Counts.{live_total, live_in}
@@ -15,7 +16,7 @@ use Rattle.regions.specs.Stores.{Live, store_of, found}
 use Rattle.regions.specs.declared.place.Place.{Place}
 use Rattle.row_cache.specs.Links.{bare}
 use Rattle.row_cache.specs.Rows.{AreRelinked, row_at, rows_at, StandsAt}
-use Rattle.row_cache.specs.inside.Tables.{TableState, AreTablesOf, IsListed, HasRow, IsLast, place_of}
+use Rattle.row_cache.specs.inside.Tables.{TableState, AreTablesOf, IsListed, IsRowOf, HasRow, IsLast, place_of}
 use Rattle.row_cache.specs.inside.Consistent.{IsCounted, rows_in, rows_with}
 use Rattle.row_cache.proofs.Listed.{map_same, live_without, last_row, delete_last}
 use Rattle.row_cache.proofs.Numbers.{once}
@@ -57,6 +58,28 @@ row_stands r places n h p there =
 
 -- ---- rows that were moved
 
+-- a row is read without its links
+abbrev with_value : List ℕ → List ℕ → Row
+with_value content value = record { key = key_in content; value = value; number = put_in content }
+
+abbrev behind_key : List ℕ → List ℕ
+behind_key content = take (value_length_in content) (drop (key_length_in content) (drop header content))
+
+read_behind : (content : List ℕ) → row_in content ≡ with_value content (behind_key content)
+read_behind content = ap (λ bytes. with_value content (take (value_length_in content) bytes)) (sym (drop-drop (key_length_in content) header content))
+
+links_behind : (number : ℕ) (links : Links) (row : Row) → with_value (without_links (row_bytes number links row)) (behind_key (without_links (row_bytes number links row)))
+    ≡ with_value (row_bytes number links row) (behind_key (row_bytes number links row))
+links_behind number links row = refl
+
+links_unread : (number : ℕ) (links : Links) (row : Row) → row_in (without_links (row_bytes number links row)) ≡ row_in (row_bytes number links row)
+links_unread number links row =
+    let bytes = row_bytes number links row in read_behind (without_links bytes) ∙ (links_behind number links row ∙ sym (read_behind bytes))
+
+bare_read : (item : Item) (n : ℕ) (row : Row) → IsRowOf item n row → row_in (without_links item.content) ≡ row
+bare_read item n row is =
+    let h = is.holds in ap (λ bytes. row_in (without_links bytes)) h.bytes ∙ (links_unread n h.links row ∙ (sym (ap row_in h.bytes) ∙ is.read))
+
 stored_item : (t : TableState) (l : Live) (are : AreTablesOf t l) (n : ℕ) (listed : IsListed t n) → store_of bare (place_of t) l n ≡ Some (bare (are.rows n listed).item)
 stored_item t l are n listed =
     let h = are.rows n listed in
@@ -64,15 +87,14 @@ stored_item t l are n listed =
 
 pub rows_moved : (t u : TableState) (l m : Live) → AreTablesOf t l → AreTablesOf u m → u.recency ≡ t.recency
     → ((n : ℕ) → store_of bare (place_of u) m n ≡ store_of bare (place_of t) l n)
-    → ((content : List ℕ) (number : ℕ) (row : Row) → HoldsRow content number row → row_in (without_links content) ≡ row)
     → rows_at m u.places u.recency ≡ rows_at l t.places t.recency
-rows_moved t u l m are now recency same read =
+rows_moved t u l m are now recency same =
     ap (λ ns. rows_at m u.places ns) recency
     ∙ map_same (row_at m u.places) (row_at l t.places) t.recency (λ n listed.
     (let k : IsListed u n = subst (λ ns. 1 ≤ times n ns) (sym recency) listed in
     let a = are.rows n listed in let b = now.rows n k in
     let items : bare b.item ≡ bare a.item = some_same (stored_item u m now n k) (same n ∙ stored_item t l are n listed) in
-    row_is m u.places n b ∙ (sym (read b.item.content n b.row b.is_row.holds) ∙ (ap (λ (i : Item). row_in i.content) items ∙ (read a.item.content n a.row a.is_row.holds ∙ sym (row_is l t.places n a))))))
+    row_is m u.places n b ∙ (sym (bare_read b.item n b.row b.is_row) ∙ (ap (λ (i : Item). row_in i.content) items ∙ (bare_read a.item n a.row a.is_row ∙ sym (row_is l t.places n a))))))
 
 pub consistent_moved : (t u : TableState) (r s : RegionState) (bytes : ℕ) → IsCounted t r bytes → AreTablesOf u (live_at s) → rows_in u s ≡ rows_in t r → live_total s ≡ live_total r → IsCounted u s bytes
 consistent_moved t u r s bytes c tables rows total = record { tables = tables; counted = c.counted ∙ sym total; sizes = ap live rows ∙ (c.sizes ∙ sym total) }

@@ -10,7 +10,7 @@ use Rattle.std.proofs.lemmas.List.Elements.{All-from_recursion}
 use Rattle.common_lemmas.specs.Lists.{times, delete}
 use Rattle.common_lemmas.proofs.Counts.{times_here, times_there, times-delete_same, times-delete_other, length-delete, same-permutation}
 use Rattle.key_table.specs.Table.{AreSame}
-use Rattle.lazy_index.specs.Lazy.{Lazy, rows_in}
+use Rattle.key_table.specs.Lazy.{Lazy, StaysKeyed, rows_in}
 use Rattle.regions.specs.declared.place.Place.{Place}
 use Rattle.row_cache.specs.inside.Tables.{TableState, AreNumbers, IsListed, next_number, number_or, placed}
 use Rattle.row_cache.proofs.Listed.{times_append, last_listed, delete_last, listed_here, listed_later}
@@ -42,6 +42,7 @@ numbers_kept t u a room index freed places recency len =
       room = ap (λ i. i.room) index ∙ (a.room ∙ sym room);
       indexed = λ m. rows m ∙ (a.indexed m ∙ sym (recency m));
       index_count = ap (λ (i : Lazy). length (rows_in i)) index ∙ (a.index_count ∙ sym len);
+      moves = subst StaysKeyed (sym index) a.moves;
     }
 
 -- an index that has one row fewer
@@ -49,8 +50,9 @@ one_fewer : (n : ℕ) (more less : Lazy) → AreSame (rows_in more) (n ∷ rows_
 one_fewer n more less same = sym (length_permutation (rows_in more) (n ∷ rows_in less) (same-permutation (rows_in more) (n ∷ rows_in less) (λ m. sym (same m))))
 
 -- the index has the same rows, some of which waited
-pub numbers_settled : (t u : TableState) → AreNumbers t → u.room ≡ t.room → u.recency ≡ t.recency → u.places ≡ t.places → u.freed ≡ t.freed → u.index.room ≡ t.index.room → AreSame (rows_in t.index) (rows_in u.index) → AreNumbers u
-numbers_settled t u a room recency places freed index_room same =
+pub numbers_settled : (t u : TableState) → AreNumbers t → u.room ≡ t.room → u.recency ≡ t.recency → u.places ≡ t.places → u.freed ≡ t.freed → u.index.room ≡ t.index.room → AreSame (rows_in t.index) (rows_in u.index)
+    → StaysKeyed u.index → AreNumbers u
+numbers_settled t u a room recency places freed index_room same moves =
     let kept = numbers_kept t (record u { index = t.index }) a room refl freed (ap (λ ps. length ps) places) (λ m. ap (times m) recency) (ap (λ ns. length ns) recency) in
     let sizes = length_permutation (rows_in t.index) (rows_in u.index) (same-permutation (rows_in t.index) (rows_in u.index) (λ m. sym (same m))) in
     record {
@@ -62,12 +64,13 @@ numbers_settled t u a room recency places freed index_room same =
       room = index_room ∙ kept.room;
       indexed = λ m. sym (same m) ∙ kept.indexed m;
       index_count = sizes ∙ kept.index_count;
+      moves = moves;
     }
 
 -- a number is given back
 pub numbers_dropped : (t u : TableState) (n : ℕ) → AreNumbers t → IsListed t n → u.room ≡ t.room → u.recency ≡ delete n t.recency → u.places ≡ t.places
-    → u.freed ≡ t.freed ++ n ∷ [] → u.index.room ≡ t.index.room → AreSame (rows_in t.index) (n ∷ rows_in u.index) → AreNumbers u
-numbers_dropped t u n a listed room recency places freed index_room out =
+    → u.freed ≡ t.freed ++ n ∷ [] → u.index.room ≡ t.index.room → AreSame (rows_in t.index) (n ∷ rows_in u.index) → StaysKeyed u.index → AreNumbers u
+numbers_dropped t u n a listed room recency places freed index_room out moves =
     let before : (m : ℕ) → times m (n ∷ u.recency) ≡ times m t.recency = λ m. ap (λ ns. times m (n ∷ ns)) recency ∙ times_front m n t.recency listed in
     let rows = λ (m : ℕ). sym (out m) in
     let behind : (m : ℕ) → times m u.freed ≡ times m t.freed + times m (n ∷ []) = λ m. ap (λ ns. times m ns) freed ∙ times_append m t.freed (n ∷ []) in
@@ -97,6 +100,7 @@ numbers_dropped t u n a listed room recency places freed index_room out =
             | inr far ↦ (let x = times_there m n u.recency far in let z = times_there m n (rows_in u.index) far in omega (arith, r, b, i, x, z))
           ]);
       index_count = omega (arith, index_rows, row_count, indexes);
+      moves = moves;
     }
 
 pub once : (t : TableState) → AreNumbers t → (m : ℕ) → times m t.recency ≤ 1
@@ -209,8 +213,8 @@ given_number t p a room =
 -- a number is given
 pub numbers_added : (t u : TableState) (p : Place) → AreNumbers t → length t.recency < t.room → u.room ≡ t.room
     → u.recency ≡ next_number t ∷ t.recency → u.places ≡ placed (next_number t) p t.places → u.freed ≡ take (length t.freed - 1) t.freed
-    → u.index.room ≡ t.index.room → AreSame (next_number t ∷ rows_in t.index) (rows_in u.index) → AreNumbers u
-numbers_added t u p a room same_room recency places freed index_room put =
+    → u.index.room ≡ t.index.room → AreSame (next_number t ∷ rows_in t.index) (rows_in u.index) → StaysKeyed u.index → AreNumbers u
+numbers_added t u p a room same_room recency places freed index_room put moves =
     let n = next_number t in
     let given : Given t n u.places u.freed = subst (λ ps. Given t n ps u.freed) (sym places) (subst (λ ns. Given t n (placed n p t.places) ns) (sym freed) (given_number t p a room)) in
     let small = a.small in let indexes = a.index_count in
@@ -242,6 +246,7 @@ numbers_added t u p a room same_room recency places freed index_room put =
             | inr far ↦ (let x = times_there m n t.recency far in let z = times_there m n (rows_in t.index) far in let i = a.indexed m in let r = rows m in omega (arith, x, z, i, r))
           ]);
       index_count = omega (arith, index_rows, indexes, row_count);
+      moves = moves;
     }
 
 -- ---- what the calls ask of the next number

@@ -14,7 +14,7 @@ use Rattle.common_lemmas.specs.Lists.{times}
 use Rattle.common_lemmas.proofs.Counts.{same-filter, same-permutation}
 use Rattle.key_index.specs.Order.{key_cmp, AreRising, rows_from}
 use Rattle.key_table.specs.Table.{AreSame}
-use Rattle.lazy_index.specs.Lazy.{Lazy, rows_in}
+use Rattle.key_table.specs.Lazy.{Lazy, rows_in}
 use Rattle.regions.specs.Stores.{Live}
 use Rattle.row_cache.specs.Rows.{key_at, row_at, rows_at}
 use Rattle.row_cache.specs.inside.Tables.{TableState, AreTablesOf, HasRow}

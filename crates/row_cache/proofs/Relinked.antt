@@ -4,7 +4,7 @@ use Rattle.std.specs.Prelude.{slice_get, option_map}
 use Rattle.std.specs.List.{sum}
 use Rattle.rows.specs.Row.{Row}
 use Rattle.row_bytes.specs.Rows.{HoldsRow, row_bytes, row_in, number_in, without_links}
-use Rattle.lazy_index.specs.Lazy.{IsKeyed}
+use Rattle.key_table.specs.Lazy.{IsKeyed}
 use Rattle.regions.specs.Segments.{RegionState}
 use Rattle.regions.specs.Shapes.{Shape, active_in, active_of, shape}
 use Rattle.regions.specs.Counts.{left, left_of, live_total, live_counts, used_counts}

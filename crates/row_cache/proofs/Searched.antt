@@ -4,7 +4,7 @@ use Rattle.std.specs.Prelude.{MatchResult}
 use Rattle.key_table.specs.Table.{IsSpotFor}
 use Rattle.key_table.specs.declared.entries.RowAt.{RowAt}
 use Rattle.key_table.specs.declared.entries.Spot.{Spot}
-use Rattle.lazy_index.specs.Lazy.{Lazy, Has, IsThere}
+use Rattle.key_table.specs.Lazy.{Lazy, Has, IsThere}
 use Rattle.regions.specs.Stores.{Live}
 use Rattle.row_cache.specs.Rows.{row_at, key_at}
 use Rattle.row_cache.specs.inside.Tables.{TableState, AreTablesOf, IsListed}

@@ -14,7 +14,7 @@ use Rattle.common_lemmas.specs.Lists.{times, delete}
 use Rattle.common_lemmas.proofs.Counts.{times-delete_other}
 use Rattle.key_table.specs.Table.{IsSpotFor}
 use Rattle.key_table.specs.declared.entries.Spot.{Spot}
-use Rattle.lazy_index.specs.Lazy.{Has, IsKeyed, IsLazyOf}
+use Rattle.key_table.specs.Lazy.{Has, IsKeyed, IsLazyOf}
 use Rattle.std.specs.Prelude.{option_map}
 use Rattle.regions.specs.Segments.{RegionState}
 use Rattle.regions.specs.Contents.{Item, Standing, standing_at, live_at, item_if_live, if_live}
@@ -143,8 +143,7 @@ still_listed t n m a listed l =
 
 pub tables_dropped : (t u : TableState) (live after : Live) (n : ℕ) (p : Place) → AreTablesOf t live → AreNumbers u → IsListed t n → slice_get t.places n ≡ Some p → Drops p live after
     → u.recency ≡ delete n t.recency → u.places ≡ t.places
-    → ((a b : ℕ → List ℕ) → IsKeyed a t.index → ((m : ℕ) → Has u.index m → b m ≡ a m) → IsKeyed b u.index)
-    → AreTablesOf u after
+    → ((a : ℕ → List ℕ) → IsKeyed a t.index → IsKeyed a u.index) → AreTablesOf u after
 tables_dropped t u live after n p are numbers listed here drops recency places kept =
     let a = are.numbers in
     let was : (m : ℕ) → IsListed u m → IsListed t m × (m ≢ n) = λ m l. still_listed t n m a listed (subst (λ ns. 1 ≤ times m ns) recency l) in
@@ -163,7 +162,7 @@ tables_dropped t u live after n p are numbers listed here drops recency places k
           let far : m ≢ n = λ s. elsewhere (some_same old.2 (ap (λ x. slice_get t.places x) s ∙ here)) in
           (m, subst (λ ns. 1 ≤ times m ns) (sym recency) (let o = times-delete_other m n t.recency far in let l = old.1 in omega (arith, o, l)), ap (λ (ps : List Place). slice_get ps m) places ∙ old.2));
       apart = λ x y lx ly e. are.apart x y (was x lx).0 (was y ly).0 (sym (same x lx) ∙ (e ∙ same y ly));
-      index = kept (key_at live t.places) (key_at after u.places) are.index (λ m h. same m (has_listed u m numbers h));
+      index = numbers.moves (key_at live t.places) (key_at after u.places) (λ m h. same m (has_listed u m numbers h)) (kept (key_at live t.places) are.index);
     }
 
 -- ---- a row stands elsewhere, as another of the same key
@@ -212,9 +211,8 @@ replaced_found t n to row old new r listed q i e =
 
 pub tables_replaced : (t u : TableState) (n : ℕ) (to : Place) (row : Row) (old new : Live) → ReplacesRow t n to row old new → IsListed t n → AreNumbers u
     → ((m : ℕ) → times m u.recency ≡ times m t.recency) → u.places ≡ slice_set t.places n to → u.index ≡ t.index
-    → ((a b : ℕ → List ℕ) → ((m : ℕ) → Has t.index m → b m ≡ a m) → IsKeyed a t.index → IsKeyed b t.index)
     → AreTablesOf u new
-tables_replaced t u n to row old new r listed numbers recency places index moved =
+tables_replaced t u n to row old new r listed numbers recency places index =
     let are = r.tables in
     let was : (m : ℕ) → IsListed u m → IsListed t m = λ m l. (let e = recency m in omega (arith, e, l)) in
     let here = replaced_rows t n to row old new r listed in
@@ -235,7 +233,7 @@ tables_replaced t u n to row old new r listed numbers recency places index moved
           (let found = replaced_found t n to row old new r listed q i e in
           (found.0, (let k = recency found.0 in let l = found.1 in omega (arith, k, l)), ap (λ (ps : List Place). slice_get ps found.0) places ∙ found.2));
       apart = λ x y lx ly e. are.apart x y (was x lx) (was y ly) (sym (same x (was x lx)) ∙ (e ∙ same y (was y ly)));
-      index = subst (IsKeyed (key_at new u.places)) (sym index) (moved (key_at old t.places) (key_at new u.places) (λ m h. same m (has_listed t m are.numbers h)) are.index);
+      index = subst (IsKeyed (key_at new u.places)) (sym index) (are.numbers.moves (key_at old t.places) (key_at new u.places) (λ m h. same m (has_listed t m are.numbers h)) are.index);
     }
 
 -- ---- a new row
@@ -279,11 +277,10 @@ added_others t there place row old new r m l =
 
 -- the index of the rows that there were is one of the new places too
 pub added_index : (t : TableState) (there : Spot) (place : Place) (row : Row) (old new : Live) (r : AddsRow t there place row old new)
-    → ((a b : ℕ → List ℕ) → ((m : ℕ) → Has t.index m → b m ≡ a m) → IsKeyed a t.index → IsKeyed b t.index)
     → IsKeyed (key_at new (placed (next_number t) place t.places)) t.index
-added_index t there place row old new r moved =
+added_index t there place row old new r =
     let others = added_others t there place row old new r in
-    moved (key_at old t.places) (key_at new (placed (next_number t) place t.places)) (λ m h. ap (λ (x : Row). x.key) (others m (has_listed t m r.tables.numbers h)).1) r.tables.index
+    r.tables.numbers.moves (key_at old t.places) (key_at new (placed (next_number t) place t.places)) (λ m h. ap (λ (x : Row). x.key) (others m (has_listed t m r.tables.numbers h)).1) r.tables.index
 
 pub added_spot : (t : TableState) (there : Spot) (place : Place) (row : Row) (old new : Live) (r : AddsRow t there place row old new)
     → IsSpotFor (key_at new (placed (next_number t) place t.places) (next_number t)) there
@@ -291,16 +288,15 @@ added_spot t there place row old new r = subst (λ key. IsSpotFor key there) (sy
 
 -- and each of its rows has a key of its own there
 pub added_lazy : (t : TableState) (there : Spot) (place : Place) (row : Row) (old new : Live) (r : AddsRow t there place row old new)
-    → ((a b : ℕ → List ℕ) → ((m : ℕ) → Has t.index m → b m ≡ a m) → IsKeyed a t.index → IsKeyed b t.index)
     → IsLazyOf (HasRow new (placed (next_number t) place t.places)) (key_at new (placed (next_number t) place t.places)) t.index
-added_lazy t there place row old new r moved =
+added_lazy t there place row old new r =
     let others = added_others t there place row old new r in
     let listed : (m : ℕ) → Has t.index m → IsListed t m = λ m h. has_listed t m r.tables.numbers h in
     let key_old : (m : ℕ) → IsListed t m → key_at new (placed (next_number t) place t.places) m ≡ key_at old t.places m = λ m l. ap (λ (x : Row). x.key) (others m l).1 in
     record {
       readable = λ m h. (others m (listed m h)).0;
       apart = λ m n h k e. r.tables.apart m n (listed m h) (listed n k) (sym (key_old m (listed m h)) ∙ (e ∙ key_old n (listed n k)));
-      keyed = added_index t there place row old new r moved;
+      keyed = added_index t there place row old new r;
     }
 
 -- none has the new row's key

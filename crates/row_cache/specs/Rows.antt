@@ -1,6 +1,7 @@
 -- The rows that a row cache means, read off the bytes of its segments.
 use Rattle.std.specs.Prelude.{◌≡◌, ◌⊎◌, ℕ, List, [], length, Option, None, Some, IsSome, slice_get, map, option_map, Contains}
 use Rattle.std.specs.List.{last_or}
+pub use Rattle.layout.specs.Kinds.{row_kind}
 use Rattle.rows.specs.Row.{Row}
 use Rattle.rows.specs.Apply.{Reply, Stored, Replaced}
 use Rattle.row_cache.specs.declared.put.Put.{Put}
@@ -55,10 +56,6 @@ pub record IsLinkedThrough (c : CacheState) : Type 0 where
   pub front : c.front ≡ first_or None (places_of c)
   pub last : c.last ≡ last_or None (places_of c)
   pub links : AreLinked (live_at c.region) None (places_of c) None
-
--- the kind of an object that holds a row
-abbrev pub row_kind : ℕ
-row_kind = 1
 
 -- the table of places has the row of a number: it is live at the number's place, as an object of the kind of rows
 pub record HasRowAt (c : CacheState) (n : ℕ) (p : Place) : Type 0 where

@@ -4,4 +4,3 @@ pub mod Chained
 pub mod Moved
 pub mod Sought
 pub mod Consistent
-pub mod NewRows

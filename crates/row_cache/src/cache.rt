@@ -19,9 +19,10 @@ mod storing;
 use crate::put::Put;
 use crate::tables::Tables;
 use regions::{NeedSegment, Region};
+use row_bytes::NewRow;
 use std::alloc::{AllocError, Global};
 use std::marker::Model;
-use storing::{NewRow, drop_row, put_row};
+use storing::{drop_row, put_row};
 
 /// The rows of one shard's cache, and the segments in which they stand.
 #[derive(Drop)]
@@ -56,7 +57,7 @@ impl RowCache {
     /// `AllocError` where memory is not found. No other call takes memory.
     pub fn new(alloc: Global, rows: u32, segments: u32) -> Result<RowCache, AllocError>
         requires rows { rows < 2 ^ 32 - 1 }
-        requires segments { segments ≤ 2048 }
+        requires segments { segments ≤ sizes.most_segments }
         ensures room { IfOk result (λ c. c.room ≡ rows) }
         ensures empty { IfOk result (λ c. rows_of c ≡ []) }
         ensures region { IfOk result (λ c. c.region ≡ record {
@@ -92,11 +93,7 @@ impl RowCache {
         ensures left { IfOk result (λ _. left self.new.region 0 + size key.now value.now ≡ left self.old.region 0) }
         ensures stay { Stay self.old.region self.new.region }
     {
-        let row = NewRow {
-            key,
-            value,
-            put: number,
-        };
+        let row = NewRow { key, value, number };
         put_row(&mut self.region, &mut self.tables, &mut self.live, row)
     }
 
@@ -123,6 +120,7 @@ impl RowCache {
         ensures unchanged { IsNone result → self.new ≡ self.old }
         ensures last { IfSome result (λ put. is_of_put put (last_or None (rows_of self.old)) ≡ true) }
         ensures rows { IsSome result → rows_of self.new ≡ take (length (rows_of self.old) - 1) (rows_of self.old) }
+        ensures few { IsSome result → length (rows_of self.new) < self.new.room }
         ensures room { self.new.room ≡ self.old.room }
         ensures shape { shape self.new.region ≡ shape self.old.region }
         ensures left { left self.new.region 0 ≡ left self.old.region 0 }

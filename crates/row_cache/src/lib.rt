@@ -13,10 +13,9 @@ mod links;
 mod order;
 mod put;
 mod row_keys;
-mod scanned;
 mod tables;
 
 pub use cache::RowCache;
 pub use compaction::Compacted;
 pub use put::Put;
-pub use scanned::Scanned;
+pub use row_bytes::Scanned;

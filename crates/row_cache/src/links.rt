@@ -1,5 +1,5 @@
 //! The links of rows, in the bytes of the segments.
-ghost use Rattle.std.specs.Prelude.{◌≡◌, ◌≢◌, ◌<◌, ◌^◌, ℕ, Some, None};
+ghost use Rattle.std.specs.Prelude.{◌≡◌, ◌≢◌, ℕ, Some, None};
 ghost use Rattle.regions.specs.Contents.{Item, live_at};
 ghost use Rattle.regions.specs.Places as place_links;
 ghost use Rattle.row_cache.specs.Links as links;
@@ -15,11 +15,6 @@ pub(crate) struct Neighbours {
     pub(crate) newer: Option<Place>,
     pub(crate) older: Option<Place>,
 }
-
-// The number of a place's segment has 32 bits.
-pub(crate) fn segment_fits(place: Place)
-    ensures { place.segment < 2 ^ 32 }
-{}
 
 // The rows to which the links of the row at a place lead.
 pub(crate) fn neighbours_of(region: &Region, at: Place) -> Neighbours

@@ -5,7 +5,7 @@ ghost use Rattle.regions.specs.Contents.{live_at};
 ghost use Rattle.row_cache.specs.Rows.{row_at};
 ghost use Rattle.row_cache.specs.inside.Tables.{HasRow};
 
-use lazy_index::Keys;
+use key_table::Keys;
 use regions::{Place, Region};
 use row_bytes::key_in;
 

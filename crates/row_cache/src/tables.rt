@@ -7,7 +7,7 @@ ghost use Rattle.rows.specs.Apply.{in_order, is_at_most};
 ghost use Rattle.rows.specs.Spelled.{IsKey};
 ghost use Rattle.common_lemmas.specs.Lists.{delete, times};
 ghost use Rattle.key_table.specs.Table.{AreSame};
-ghost use Rattle.lazy_index.specs.Lazy.{Has, IsKeyed, IsStanding, IsThere, rows_in};
+ghost use Rattle.key_table.specs.Lazy.{Has, IsKeyed, IsStanding, IsThere, rows_in};
 ghost use Rattle.regions.specs.Contents.{Item, live_at};
 ghost use Rattle.regions.specs.Stores.{Live};
 ghost use Rattle.row_bytes.specs.Rows.{number_in};
@@ -19,13 +19,11 @@ ghost use Rattle.row_cache.specs.inside.Chained as chained;
 ghost use Rattle.row_cache.specs.inside.Tables as tables;
 
 use crate::ends::Ends;
-use crate::links::segment_fits;
 use crate::order::Order;
 use crate::row_keys::{RowKeys, content_of};
-use lazy_index::{LazyIndex, RowAt, Rows, Spot, Standing};
+use key_table::{LazyIndex, RowAt, Rows, Spot, Standing};
 use regions::{Movers, Place, Region};
 use row_bytes::{key_in, number_in, put_in};
-use rows::sorted_keys_are_in_order;
 use std::alloc::{AllocError, Global};
 use std::marker::Model;
 
@@ -201,7 +199,6 @@ impl Tables {
         ensures tables { (row : Row) (old new : Live) → tables.ReplacesRow self.old number place row old new
             → tables.AreTablesOf self.new new }
     {
-        self.index.law();
         self.places[number as usize] = place;
     }
 
@@ -231,7 +228,6 @@ impl Tables {
         ensures places { self.new.places ≡ tables.placed (tables.next_number self.old) place self.old.places }
         ensures tables { tables.AreTablesOf self.new (live_at region.now) }
     {
-        self.index.law();
         let number = give_number(&mut self.places, &mut self.freed, place);
         let keys = RowKeys {
             region,
@@ -254,7 +250,6 @@ impl Tables {
             → tables.AreTablesOf self.new new }
     {
         self.index.remove(standing);
-        self.index.law();
         self.order = self.order.without(&standing.found.row);
         self.freed.push(standing.found.row).unwrap();
     }
@@ -285,7 +280,6 @@ impl Tables {
             ≡ in_order (filter (is_at_most key.now)
             (map (λ row. row.key) (rows_at (live_at region.now) self.now.places self.now.recency))) }
     {
-        sorted_keys_are_in_order();
         self.index.rows_from(&self.keys(region), key)
     }
 
@@ -361,6 +355,7 @@ fn number_at(region: &Region, place: Place) -> u32
     requires { tables.HoldsARow (live_at region.now place) }
     ensures number { IfSome (live_at region.now place) (λ item. result ≡ number_in item.content) }
     ensures inside { place.at < sizes.segment }
+    ensures fits { place.segment < 2 ^ 32 }
 {
     number_in(region.bytes(place))
 }
@@ -385,7 +380,6 @@ impl Movers for Tables {
     ghost rest = { λ t. record t { places = []; ends = record { front = None; last = None } } };
 
     fn moved(&mut self, store: &mut Region, _kind: u8, from: Place, to: Place) {
-        segment_fits(to);
         let number = number_at(store, to);
         self.put_at(number, to);
         self.ends.relocate(store, from, to);

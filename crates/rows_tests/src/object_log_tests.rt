@@ -3,7 +3,7 @@ ghost use Rattle.std.specs.Prelude.{◌≡◌, ℕ, ◌+◌, ◌≤◌, length};
 ghost use Rattle.layout.specs.Sizes as sizes;
 ghost use Rattle.object_log.specs.Objects.{objects, IsSize, IsSegment, LivesAt};
 
-use object_log::{Descriptor, Walk, append, kill, read_descriptor};
+use object_log::{Descriptor, State, Walk, append, kill, read_descriptor};
 use std::test::Fail;
 
 fn has(segment: &[u8], from: usize, bytes: &[u8]) -> bool {
@@ -31,7 +31,7 @@ fn the_first_object_is_laid_byte_for_byte(rt: HostRuntime) -> Result<(), Fail> {
     ];
     kill(segment, 0);
     let killed = has(segment, 0, &[2, 1, 0, 0, 48, 0, 0, 0, 0]);
-    assert_eq!(rt; (first.state, first.kind, first.size), (1, 1, 48));
+    assert_eq!(rt; (first.state, first.kind, first.size), (State::Live, 1, 48));
     assert_eq!(rt; (laid, killed), ([true; 3], true));
     Ok(())
 }

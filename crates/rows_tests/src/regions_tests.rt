@@ -5,10 +5,23 @@ mod calls;
 mod steps;
 
 use crate::pieces::add_segments;
-use regions::Region;
+use regions::{LiveObject, Region};
 use std::alloc::{AllocError, Global};
 use std::test::Fail;
 use steps::{NOT_CLOSED, Step, first_wrong};
+
+// An object of 48 bytes in front of a segment, and one of 16 behind it.
+const IN_FRONT: LiveObject = LiveObject {
+    at: 0,
+    kind: 1,
+    size: 48,
+};
+
+const BEHIND: LiveObject = LiveObject {
+    at: 48,
+    kind: 2,
+    size: 16,
+};
 
 // The pieces of the segments have the owners 0, 1, 2.
 fn three_segments(alloc: Global, groups: u32) -> Result<Region, AllocError>
@@ -63,7 +76,7 @@ fn a_content_is_written_through_and_its_neighbours_stand(rt: HostRuntime) -> Res
         Step::Counts(0, None),
         Step::GoOn(1),
         Step::Counts(0, Some((123_024, 64))),
-        Step::TwoLive(0, 123_024, Some((0, 1, 48)), Some((48, 2, 16))),
+        Step::TwoLive(0, 123_024, Some(IN_FRONT), Some(BEHIND)),
         Step::ClosedLive(&[64, NOT_CLOSED, NOT_CLOSED]),
         Step::Sparse(1),
         Step::Has(0, 0, &[1, 1, 0, 0, 48, 0, 0, 0]),
@@ -90,7 +103,7 @@ fn a_closed_segment_is_freed_once_none_of_its_objects_lives(rt: HostRuntime) -> 
         Step::Counts(0, Some((123_008, 48))),
         Step::Has(0, 0, &[1, 1, 0, 0, 48, 0, 0, 0]),
         Step::Has(0, 8, &[0; 40]),
-        Step::TwoLive(0, 123_008, Some((0, 1, 48)), None),
+        Step::TwoLive(0, 123_008, Some(IN_FRONT), None),
         Step::Counts(1, Some((122_960, 0))),
         Step::TwoLive(1, 122_960, None, None),
         Step::Has(1, 0, &[2, 1, 0, 0, 0x08, 0x30, 0, 0]),

@@ -1,3 +1,2 @@
 pub mod KeyBodies
-pub mod Recording
 pub mod ReplyLists

@@ -4,14 +4,12 @@
 
 mod bodies;
 mod journal;
-mod journal_law;
 mod journal_told;
 mod keys;
 mod reply_log;
 mod shard_line;
 
 pub use journal::Journal;
-pub use journal_law::a_journal_records_what_it_is_told;
 pub use keys::{append_keys, next_key};
 pub use reply_log::ReplyLog;
 pub use shard_line::ShardLine;

@@ -4,7 +4,7 @@ use Rattle.layout.specs.Sizes.{segment_pages, ArePages}
 use Rattle.raw_range.specs.Memory.{Memory}
 use Rattle.regions.specs.Segments.{RegionState}
 use Rattle.regions.specs.Shapes.{guards_of}
-use Rattle.mode_lemmas.specs.Ranges.{HoldsFirst}
+use Rattle.place_lemmas.specs.Ranges.{HoldsFirst}
 
 -- the store, and the pages of the range
 pub record InRange (S : Type 0) : Type 0 where

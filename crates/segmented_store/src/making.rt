@@ -24,7 +24,7 @@ pub fn make_room<M: Movers>(region: &mut Region, movers: &mut M, size: u32)
     requires size { IsSize size }
     requires held { 3 ≤ held_count region.old }
     requires free { 1 ≤ free_count region.old }
-    requires room { live_total region.old + size ≤ room (held_count region.old) }
+    requires within { live_total region.old + size ≤ room (held_count region.old) }
 
     // There is room, and nothing changes where there was.
     ensures left { size ≤ left region.new 0 }
@@ -53,7 +53,7 @@ fn free_second<M: Movers>(region: &mut Region, movers: &mut M) -> bool
     requires fits { M.fits movers.old (live_at region.old) }
     requires held { 3 ≤ held_count region.old }
     requires free { 1 ≤ free_count region.old }
-    requires room { live_total region.old ≤ room (held_count region.old) }
+    requires within { live_total region.old ≤ room (held_count region.old) }
 
     // What each answer means.
     ensures freed { result ≡ true → 2 ≤ free_count region.new }
@@ -67,6 +67,7 @@ fn free_second<M: Movers>(region: &mut Region, movers: &mut M) -> bool
     ensures rest { M.rest movers.new ≡ M.rest movers.old }
     ensures holds { HoldsTheSame region.old region.new }
 {
+    // Of a region in which nothing is left to compact: what is live, were the active segment full.
     a_compacted_region_is_full();
     pass(region, movers) == Compacted::Freed
 }

@@ -4,7 +4,7 @@ ghost use Rattle.layout.specs.Sizes.{segment_pages, ArePages};
 ghost use Rattle.layout.specs.Sizes as sizes;
 ghost use Rattle.regions.specs.Segments.{idle};
 ghost use Rattle.regions.specs.Shapes.{shape, guards_of, held_count};
-ghost use Rattle.mode_lemmas.specs.Ranges.{HoldsFirst};
+ghost use Rattle.place_lemmas.specs.Ranges.{HoldsFirst};
 
 use crate::segmented::Segmented;
 use layout::{SEGMENT, SEGMENT_PAGES};
@@ -64,6 +64,7 @@ impl<S: Segmented> Ranged<S> {
         ensures held { held_count (S.region self.now.store) ≡ self.now.pages / segment_pages }
         ensures unguarded { guards_of (S.region self.now.store) 0 ≡ 0 }
     {
+        // What always holds of the fields is known where one of them is used.
         let _ = &self.pages;
     }
 
@@ -88,7 +89,7 @@ impl<S: Segmented> Ranged<S> {
 fn add_segments<S: Segmented>(store: &mut S, range: &mut Range, segments: u32)
     requires none { HoldsFirst range.old (S.region store.old) 0 }
     requires most { (shape (S.region store.old)).most ≡ segments }
-    requires few { segments ≤ 2048 }
+    requires few { segments ≤ sizes.most_segments }
     requires inside { segments * sizes.segment ≤ sizes.page * range.old.pages }
     requires long { length range.old.bytes ≡ sizes.page * range.old.pages }
     ensures added { HoldsFirst range.new (S.region store.new) segments }

@@ -41,6 +41,7 @@ pub(crate) fn finish_numbered<R: Wait, N: Driven>(rt: &R, nodes: &mut [N], numbe
     ensures lasting { AtEach (λ _ a b. N.lasting b ≡ N.lasting a) nodes.old nodes.new }
     ensures turns { FollowsWords N.turns number nodes.old nodes.new }
 {
+    // So before the first turn no count stands above what it can count to.
     turns_are_counts(nodes);
     let mut words = words_of(number);
     'turns: for _ in rt.forever() {

@@ -90,6 +90,7 @@ pub(crate) fn turns_are_counts<N: Driven>(nodes: &[N])
     ensures { All (λ node. N.turns node ≤ greatest_count) nodes.now }
 {
     for node in nodes {
+        // The count is a u64.
         node.turns_made();
     }
 }

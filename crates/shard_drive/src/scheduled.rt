@@ -28,6 +28,7 @@ pub(crate) fn follow<N: Driven>(nodes: &mut [N], schedule: &[u32])
     ensures lasting { AtEach (λ _ a b. N.lasting b ≡ N.lasting a) nodes.old nodes.new }
     ensures turns { Follows N.turns schedule.now nodes.old nodes.new }
 {
+    // So the count of one that gets no turn is what none more than it comes to.
     turns_are_counts(nodes);
     for k in schedule {
         turn_of(nodes, *k as usize);

@@ -7,7 +7,7 @@ use Rattle.common_lemmas.proofs.Orders.{lt_or_ge}
 use Rattle.common_lemmas.specs.Lists.{times, delete}
 use Rattle.common_lemmas.proofs.Counts.{times_here, times_cons_le, times-delete_other, length-delete}
 use Rattle.layout.specs.Extents.{Extent, extent}
-use Rattle.span_lists.specs.Layout.{Layout, HasNone, IsBlocked}
+use Rattle.span_lists.specs.Layout.{Layout, IsBlocked}
 use Rattle.common_lemmas.proofs.Powers.{aligned_step, coarser, nested, start_is}
 use Rattle.std.proofs.lemmas.Nat.{pow_pos}
 use Rattle.small_pools.specs.Classes.{IsClass, capacity_of, order_of, size_of}
@@ -96,7 +96,17 @@ pieces_enough n allocated spans pools h blocked used =
     let both = both_kinds allocated in
     omega (arith, all, len, both)
 
--- where no span of a small order is free, and each pool span has an allocated object
-pub crowded : (n order : ℕ) (allocated : List Extent) (spans : Layout) (pools : Objects) → IsConsistent n allocated spans pools → order ≤ 4 → HasNone spans order → ((o : ℕ) → o ≤ 16 → HasNone spans o → IsBlocked spans o)
+-- a longer run is blocked where a shorter one is
+blocked_above : (spans : Layout) (j k : ℕ) → j ≤ k → IsBlocked spans j → IsBlocked spans k
+blocked_above spans j k less blocked start aligned within =
+    let pos = pow_pos k in
+    let shorter = coarser start j k less aligned in
+    let inside = nested start start j k less shorter aligned (omega (arith, pos)) in
+    let b = blocked start shorter (omega (arith, inside, within)) in
+    let low = b.3 in let high = b.4 in
+    (b.0, b.1, b.2, low, omega (arith, high, inside), b.5, b.6, b.7)
+
+-- where runs of a small order are blocked, and each pool span has an allocated object
+pub crowded : (n order : ℕ) (allocated : List Extent) (spans : Layout) (pools : Objects) → IsConsistent n allocated spans pools → order ≤ 4 → IsBlocked spans order
     → AreUsed pools → n / 32 ≤ length (segments_of allocated) + length (blocks_of allocated)
-crowded n order allocated spans pools h small none blocked used = pieces_enough n allocated spans pools h (blocked 5 (omega arith) (λ k low high. none k (omega arith) high)) used
+crowded n order allocated spans pools h small blocked used = pieces_enough n allocated spans pools h (blocked_above spans order 5 (omega (arith, small)) blocked) used

@@ -1,7 +1,7 @@
 //! Blocks and segments of one shard, and the blocks that it lends.
 ghost use Rattle.std.specs.Prelude.{◌≡◌, ℕ, ◌+◌, ◌*◌, ◌/◌, ◌%◌, ◌^◌, ◌<◌, ◌≤◌, ◌↔◌, [], ◌∷◌, suc, cond, false, length, replicate, IfOk, IfErr, IfSome, IfNone, IsNone, IsTrue, All, Some, slice_set};
 ghost use Rattle.std.specs.FinMap as map;
-ghost use Rattle.layout.specs.Extents.{Blocks};
+ghost use Rattle.layout.specs.Extents.{AreDisjoint, Blocks};
 ghost use Rattle.layout.specs.Sizes.{page, segment, segment_pages, tickets, greatest_block, ArePages};
 ghost use Rattle.raw_range.specs.Memory.{Lent, extent_of, remove_extent};
 ghost use Rattle.foreign_list.specs.OwnerSeats.{IsSeatOf, IsAtRest};
@@ -114,6 +114,7 @@ impl<'f> ShardMemory<'f> {
         ensures segments { IfOk result (λ memory. memory.segments ≡ []) }
         ensures pages_out { IfOk result (λ memory. memory.pages_out ≡ 0) }
         ensures lent { IfOk result (λ memory. memory.lent ≡ seat.lent) }
+        ensures tickets { IfOk result (λ memory. length memory.lent ≡ tickets) }
         ensures counts { IfOk result (λ memory. (memory.lends ≡ 0) × (memory.backs ≡ 0) ×
             (memory.take_wholes ≡ seat.take_wholes)) }
         ensures room { IfOk result (λ memory. HasAllRoom memory.room) }
@@ -133,41 +134,11 @@ impl<'f> ShardMemory<'f> {
         }
     }
 
-    /// What holds of the memory at each time.
-    ///
-    /// Where `trim` would give nothing back, each block, lent or not, keeps at most a pool's longest span out beside the segments'
-    /// own pages, and want of room for a segment says that segments and blocks are together as many as the pages make segments.
-    pub fn facts(&self)
-        // No two pieces meet, all are this shard's.
-        ensures owner { self.now.owner ≡ self.now.list.owner }
-        ensures apart { AreApart self.now }
-        ensures range { AreOfRange self.now }
-        ensures kinds { (piece : Lent) → IsSegmentOf self.now piece → ¬ IsBlockOf self.now piece }
-        ensures objects { Blocks (page * self.now.pages) (map.get self.now.objects) }
-        ensures of_blocks { HaveObjects self.now }
-        // How many there are, and how counted.
-        ensures segments { segment_pages * length self.now.segments ≤ self.now.pages }
-        ensures few { length self.now.blocks ≤ most_blocks }
-        ensures tickets { length self.now.lent ≡ tickets }
-        ensures lends { self.now.lends ≡ raised self.now.backs (tickets_out self.now.lent) }
-        ensures backs { self.now.backs < 2 ^ 64 }
-        ensures pages_out { (segment_pages * length self.now.segments ≤ self.now.pages_out) × (self.now.pages_out ≤ self.now.pages) }
-        ensures trimmed { IsTrimmed self.now.room
-            → self.now.pages_out ≤ segment_pages * length self.now.segments + longest_span *
-            (length self.now.blocks + tickets_out self.now.lent) }
-        ensures crowded { IsTrimmed self.now.room → LacksSegment self.now.room → IsCrowded self.now }
-        // What can still be given, and what of it is counted.
-        ensures room { IsRoomOf self.now.pages self.now.room }
-        ensures shown { (self.now.objects ≡ self.now.room.pools.allocated) ×
-            (self.now.pages_out ≡ allocated_pages self.now.room.spans) }
-    {
-        self.own.facts();
-    }
-
     /// Takes back each lent block that was released, by one look at the list, which is left alone where none is out. Their tickets
     /// are idle, and their bytes free. Answers how many came.
     pub fn take_back(&mut self) -> u32
-        ensures { ComeBack self.old self.new result }
+        ensures come { ComeBack self.old self.new result }
+        ensures tickets { length self.new.lent ≡ tickets }
     {
         if self.out == 0 {
             return 0;
@@ -178,9 +149,10 @@ impl<'f> ShardMemory<'f> {
         count
     }
 
-    /// Whether a ticket of the share is idle.
+    /// Whether a ticket of the share is idle, and how many tickets there are.
     pub fn is_idle(&self, share: Share) -> bool
-        ensures { IsTrue result ↔ HasIdle self.now.lent share }
+        ensures idle { IsTrue result ↔ HasIdle self.now.lent share }
+        ensures tickets { length self.now.lent ≡ tickets }
     {
         first_idle(&self.seat, share).is_some()
     }
@@ -244,6 +216,8 @@ impl<'f> ShardMemory<'f> {
         ensures whole { IfSome result (λ piece. (length piece.bytes ≡ segment) × (piece.at % segment ≡ 0)) }
         ensures segments { IfSome result (λ piece. self.new.segments ≡ extent_of piece ∷ self.old.segments) }
         ensures one_more { IfSome result (λ _. length self.new.segments ≡ length self.old.segments + 1) }
+        ensures disjoint { IfSome result (λ _. AreDisjoint (page * self.new.pages) self.new.segments) }
+        ensures few { IfSome result (λ _. segment_pages * length self.new.segments ≤ self.new.pages) }
         ensures pages_out { IfSome result (λ _. self.new.pages_out ≡ self.old.pages_out + segment_pages) }
         ensures taken { IfSome result (λ piece. TakesSegment self.old.room self.new.room (piece.at / page)) }
         ensures same { self.new ≡ record self.old { segments = self.new.segments; pages_out = self.new.pages_out; room = self.new.room } }
@@ -264,10 +238,35 @@ impl<'f> ShardMemory<'f> {
         self.own.put_segment(piece);
     }
 
-    /// The number of pages that are in no free span.
+    /// The number of pages that are in no free span. With it, what holds of the memory at each time.
+    ///
+    /// Where `trim` would give nothing back, each block, lent or not, keeps at most a pool's longest span out beside the segments'
+    /// own pages, and want of room for a segment says that segments and blocks are together as many as the pages make segments.
     pub fn pages_out(&self) -> u32
         ensures value { result ≡ self.now.pages_out }
         ensures most { result ≤ self.now.pages }
+        // No two pieces meet, all are this shard's.
+        ensures owner { self.now.owner ≡ self.now.list.owner }
+        ensures apart { AreApart self.now }
+        ensures range { AreOfRange self.now }
+        ensures kinds { (piece : Lent) → IsSegmentOf self.now piece → ¬ IsBlockOf self.now piece }
+        ensures objects { Blocks (page * self.now.pages) (map.get self.now.objects) }
+        ensures of_blocks { HaveObjects self.now }
+        // How many there are, and how counted.
+        ensures segments { segment_pages * length self.now.segments ≤ self.now.pages }
+        ensures few { length self.now.blocks ≤ most_blocks }
+        ensures tickets { length self.now.lent ≡ tickets }
+        ensures lends { self.now.lends ≡ raised self.now.backs (tickets_out self.now.lent) }
+        ensures backs { self.now.backs < 2 ^ 64 }
+        ensures pages_out { (segment_pages * length self.now.segments ≤ self.now.pages_out) × (self.now.pages_out ≤ self.now.pages) }
+        ensures trimmed { IsTrimmed self.now.room
+            → self.now.pages_out ≤ segment_pages * length self.now.segments + longest_span *
+            (length self.now.blocks + tickets_out self.now.lent) }
+        ensures crowded { IsTrimmed self.now.room → LacksSegment self.now.room → IsCrowded self.now }
+        // What can still be given, and what of it is counted.
+        ensures room { IsRoomOf self.now.pages self.now.room }
+        ensures shown { (self.now.objects ≡ self.now.room.pools.allocated) ×
+            (self.now.pages_out ≡ allocated_pages self.now.room.spans) }
     {
         self.own.pages_out()
     }

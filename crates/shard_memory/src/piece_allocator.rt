@@ -112,39 +112,6 @@ impl PieceAllocator {
         })
     }
 
-    // What holds at each time.
-    pub(crate) fn facts(&self)
-        // No two pieces meet, all within the pages.
-        ensures blocks { AreDisjoint (page * self.now.pages) self.now.blocks }
-        ensures segments { AreDisjoint (page * self.now.pages) self.now.segments }
-        ensures apart { (block segment : Extent) → Contains self.now.blocks block → Contains self.now.segments segment
-            → Disjoint block segment }
-        ensures kinds { (piece : Lent) → IsOneOf self.now.home self.now.segments piece
-            → ¬ IsOneOf self.now.home self.now.blocks piece }
-
-        // Each block has its object.
-        ensures objects { Blocks (page * self.now.pages) (map.get self.now.objects) }
-        ensures of_blocks { (block : Extent) → Contains self.now.blocks block
-            → (class : ℕ) × IsLeastClass block.len class × (map.get self.now.objects block.start ≡ Some (size_of class)) }
-        ensures of_objects { (at size : ℕ) → map.get self.now.objects at ≡ Some size
-            → (len : ℕ) × Contains self.now.blocks (extent at len) }
-
-        // How many pages they take.
-        ensures least { segment_pages * length self.now.segments ≤ self.now.pages }
-        ensures pages_out { (segment_pages * length self.now.segments ≤ self.now.pages_out) × (self.now.pages_out ≤ self.now.pages) }
-        ensures trimmed { IsTrimmed self.now.room
-            → self.now.pages_out ≤ segment_pages * length self.now.segments + longest_span * length self.now.blocks }
-        ensures crowded { IsTrimmed self.now.room → LacksSegment self.now.room
-            → FillPages self.now.pages (length self.now.segments) (length self.now.blocks) }
-
-        // Spans and pools, and what is counted of them.
-        ensures room { IsRoomOf self.now.pages self.now.room }
-        ensures shown { (self.now.objects ≡ self.now.room.pools.allocated) ×
-            (self.now.pages_out ≡ allocated_pages self.now.room.spans) }
-    {
-        self.spans.facts();
-    }
-
     // Gives a block of so many bytes, whatever they are.
     pub(crate) fn give_block(&mut self, size: u32) -> Result<Piece, GiveRefusal>
         // There may be one more.
@@ -177,7 +144,6 @@ impl PieceAllocator {
     {
         let class = class_for(size)?;
         let Some(place) = self.pools.take(&mut self.spans, class) else {
-            self.spans.facts();
             return Err(GiveRefusal::NoSpan);
         };
         Ok(self.range.take(place, size))
@@ -235,6 +201,8 @@ impl PieceAllocator {
         // What is out then.
         ensures segments { IfSome result (λ piece. self.new.segments ≡ extent_of piece ∷ self.old.segments) }
         ensures one_more { IfSome result (λ _. length self.new.segments ≡ length self.old.segments + 1) }
+        ensures disjoint { IfSome result (λ _. AreDisjoint (page * self.new.pages) self.new.segments) }
+        ensures few { IfSome result (λ _. segment_pages * length self.new.segments ≤ self.new.pages) }
         ensures blocks { (self.new.blocks ≡ self.old.blocks) × (self.new.objects ≡ self.old.objects) }
         ensures pages_out { IfSome result (λ _. self.new.pages_out ≡ self.old.pages_out + segment_pages) }
         ensures taken { IfSome result (λ piece. TakesSegment self.old.room self.new.room (piece.at / page)) }
@@ -268,9 +236,38 @@ impl PieceAllocator {
         self.range.put(piece);
     }
 
+    // How many pages are in no free span. With it, what holds at each time.
     pub(crate) fn pages_out(&self) -> u32
         ensures value { result ≡ self.now.pages_out }
         ensures most { result ≤ self.now.pages }
+
+        // No two pieces meet, all within the pages.
+        ensures blocks { AreDisjoint (page * self.now.pages) self.now.blocks }
+        ensures segments { AreDisjoint (page * self.now.pages) self.now.segments }
+        ensures apart { (block segment : Extent) → Contains self.now.blocks block → Contains self.now.segments segment
+            → Disjoint block segment }
+        ensures kinds { (piece : Lent) → IsOneOf self.now.home self.now.segments piece
+            → ¬ IsOneOf self.now.home self.now.blocks piece }
+
+        // Each block has its object.
+        ensures objects { Blocks (page * self.now.pages) (map.get self.now.objects) }
+        ensures of_blocks { (block : Extent) → Contains self.now.blocks block
+            → (class : ℕ) × IsLeastClass block.len class × (map.get self.now.objects block.start ≡ Some (size_of class)) }
+        ensures of_objects { (at size : ℕ) → map.get self.now.objects at ≡ Some size
+            → (len : ℕ) × Contains self.now.blocks (extent at len) }
+
+        // How many pages they take.
+        ensures least { segment_pages * length self.now.segments ≤ self.now.pages }
+        ensures pages_out { (segment_pages * length self.now.segments ≤ self.now.pages_out) × (self.now.pages_out ≤ self.now.pages) }
+        ensures trimmed { IsTrimmed self.now.room
+            → self.now.pages_out ≤ segment_pages * length self.now.segments + longest_span * length self.now.blocks }
+        ensures crowded { IsTrimmed self.now.room → LacksSegment self.now.room
+            → FillPages self.now.pages (length self.now.segments) (length self.now.blocks) }
+
+        // Spans and pools, and what is counted of them.
+        ensures room { IsRoomOf self.now.pages self.now.room }
+        ensures shown { (self.now.objects ≡ self.now.room.pools.allocated) ×
+            (self.now.pages_out ≡ allocated_pages self.now.room.spans) }
     {
         self.pages - self.spans.free_pages()
     }

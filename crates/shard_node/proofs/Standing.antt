@@ -3,6 +3,7 @@ pub mod Peerwise
 pub mod Stands
 pub mod Strays
 pub mod Plans
+pub mod Counted
 pub mod Consistent
 pub mod Byes
 pub mod Ends

@@ -11,8 +11,8 @@ ghost use Rattle.shard_store.specs.Stores.{IsUnguarded};
 ghost use Rattle.shard_store.specs.Works.{pressure};
 ghost use Rattle.shard_node.specs.inside.Did.{DoesAbove};
 
-use cache_model::{Entry, evictions_are_counted};
-use run_log::{Journal, a_journal_records_what_it_is_told};
+use cache_model::Entry;
+use run_log::Journal;
 use shard_store::{Put, ShardStore};
 
 /// Writes down that a command is done.
@@ -44,8 +44,6 @@ pub(crate) fn put_row(
         store.old store.new journal.old journal.new }
     ensures came { TakesBack store.old store.new }
 {
-    evictions_are_counted();
-    a_journal_records_what_it_is_told();
     let did = store.put(key, value, number, journal);
     note_done(journal, number);
     did

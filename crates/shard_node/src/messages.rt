@@ -18,13 +18,13 @@ ghost use Rattle.shard_node.specs.inside.Did.{body_size, DoesAbove, EvictsForBlo
 ghost use Rattle.shard_node.specs.inside.Bare.{IsBare};
 
 use crate::doing::{note_done, put_row};
-use cache_model::{ReplyKind, evictions_are_counted};
+use cache_model::ReplyKind;
 use foreign_list::ForeignBlock;
 use layout::MESSAGE_HEADER;
-use run_log::{Journal, a_journal_records_what_it_is_told};
+use run_log::Journal;
 use shard_memory::Share;
 use shard_rings::{Operation, request_size, write_reply_header, write_request};
-use shard_store::{Put, ShardStore, lent_blocks_stay_lent};
+use shard_store::{Put, ShardStore};
 
 /// Lends a block with the request of an operation, of the command of this number. Rows that go for it are written down.
 pub(crate) fn request<'f>(
@@ -46,8 +46,6 @@ pub(crate) fn request<'f>(
     // Rows that went are written down.
     ensures evicted { EvictsForBlock store.old store.new journal.old journal.new }
 {
-    a_journal_records_what_it_is_told();
-    lent_blocks_stay_lent();
     let size = request_size(operation);
     let mut block = store.lend(size, Share::Request, journal);
     write_request(number, operation, block.bytes_mut());
@@ -72,6 +70,7 @@ pub(crate) fn reply<'f>(
     requires unguarded { IsUnguarded store.old }
 
     // Nothing it writes lacks room.
+    requires within { length store.old.rows ≤ store.old.room }
     requires room { kind_of operation.now ≡ kinds.Put → HasPlace (key_of operation.now) store.old }
     requires spare { length store.old.rows + 1 ≤ journal.old.spare }
 
@@ -104,6 +103,7 @@ fn reply_put<'f>(
     requires askable { IsAskable (put_of number key.now value.now) }
     requires idle { HasIdle store.old.lent Shares.Reply }
     requires unguarded { IsUnguarded store.old }
+    requires within { length store.old.rows ≤ store.old.room }
     requires room { HasPlace key.now store.old }
     requires spare { length store.old.rows + 1 ≤ journal.old.spare }
     ensures replied { (answer : Replied) × HoldsReply result.piece.bytes number answer
@@ -112,10 +112,6 @@ fn reply_put<'f>(
     ensures lends { LendsBlock Shares.Reply store.old store.new result }
     ensures size { length result.piece.bytes ≡ sizes.message_header }
 {
-    evictions_are_counted();
-    a_journal_records_what_it_is_told();
-    lent_blocks_stay_lent();
-    store.facts();
     let mut block = store.lend(MESSAGE_HEADER, Share::Reply, journal);
     let did = put_row(store, number, key, value, journal);
     write_stored(did, number, block.bytes_mut());
@@ -138,9 +134,6 @@ fn reply_get<'f>(
     ensures lends { LendsBlock Shares.Reply store.old store.new result }
     ensures size { length result.piece.bytes ≡ sizes.message_header + value_length (row_of key.now store.old.rows) }
 {
-    evictions_are_counted();
-    a_journal_records_what_it_is_told();
-    lent_blocks_stay_lent();
     let (mut block, found) = store.lend_value(key, MESSAGE_HEADER, Share::Reply, journal);
     note_done(journal, number);
     write_found(found, number, block.bytes_mut());
@@ -163,11 +156,7 @@ fn reply_erase<'f>(
     ensures lends { LendsBlock Shares.Reply store.old store.new result }
     ensures size { length result.piece.bytes ≡ sizes.message_header }
 {
-    evictions_are_counted();
-    a_journal_records_what_it_is_told();
-    lent_blocks_stay_lent();
     let mut block = store.lend(MESSAGE_HEADER, Share::Reply, journal);
-    store.facts();
     note_done(journal, number);
     let was_there = store.erase(key);
     write_erased(was_there, number, block.bytes_mut());
@@ -192,9 +181,6 @@ fn reply_scan<'f>(
     ensures lends { LendsBlock Shares.Reply store.old store.new result }
     ensures size { length result.piece.bytes ≡ sizes.message_header + sizes.key_room * count }
 {
-    evictions_are_counted();
-    a_journal_records_what_it_is_told();
-    lent_blocks_stay_lent();
     let (mut block, scanned) = store.lend_keys(from, count, MESSAGE_HEADER, Share::Reply, journal);
     note_done(journal, number);
     write_reply_header(

@@ -160,7 +160,7 @@ impl<'f, L: Link<'f> + Drop, G: Gate + Drop> Node<'f, L, G> {
         ensures owner { self.now.store.shard ≡ self.now.shard }
         ensures counted { self.now.store.backs < 2 ^ 64 }
     {
-        self.shard.store.facts();
+        let _ = &self.shard;
     }
 
     /// Ends a node that is done: its journal, its log and the line of its store go to the record of its run, which has those of all
@@ -188,6 +188,10 @@ impl<'f, L: Link<'f> + Drop, G: Gate + Drop> Node<'f, L, G> {
         ensures links { result.links.items ≡ map (λ peer. peer.link) self.entry.peers }
         ensures idle { tickets_out result.store.lent ≡ 0 }
         ensures unguarded { IsUnguarded result.store }
+
+        // What held of it at each time.
+        ensures peers { map (λ peer. peer.shard) self.entry.peers ≡ others self.entry.shards self.entry.shard }
+        ensures counted { self.entry.store.backs < 2 ^ 64 }
     {
         let Node {
             shard,
@@ -246,7 +250,7 @@ fn links_of<'f, L: Drop>(peers: Vec<Peer<'f, L>>, mut links: Vec<L>) -> Vec<L>
     ensures { result.items ≡ map (λ peer. peer.link) peers.entry.items }
 {
     for peer in peers {
-        links.push(peer.link).unwrap();
+        links.push_reserved(peer.link);
     }
     links
 }

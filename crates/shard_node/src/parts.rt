@@ -1,5 +1,5 @@
 //! The parts that a shard issues to itself: what its store answers goes into its log.
-ghost use Rattle.std.specs.Prelude.{◌≡◌, ◌⊎◌, ◌*◌, ◌+◌, ◌<◌, ◌≤◌, length, true, Some, None};
+ghost use Rattle.std.specs.Prelude.{◌≡◌, ◌⊎◌, ◌*◌, ◌+◌, ◌^◌, ◌<◌, ◌≤◌, length, true, Some, None};
 ghost use Rattle.std.specs.List.{slice_get};
 ghost use Rattle.layout.specs.Sizes.{key_room, most_keys};
 ghost use Rattle.rows.specs.declared.kind.Kind.TheVariants as kinds;
@@ -27,9 +27,10 @@ pub(crate) fn do_part(
     journal: &mut Journal,
     log: &mut ReplyLog,
 )
-    // What is asked, with no guard standing.
+    // What is asked, with no guard standing, and blocks that came home are counted.
     requires askable { IsAskable (numbered number operation.now) }
     requires unguarded { IsUnguarded store.old }
+    requires counted { store.old.backs < 2 ^ 64 }
 
     // Nothing it writes lacks room.
     requires tables { kind_of operation.now ≡ kinds.Put
@@ -86,12 +87,12 @@ fn do_get(
     log: &mut ReplyLog,
 )
     requires unguarded { IsUnguarded store.old }
+    requires counted { store.old.backs < 2 ^ 64 }
     requires spare { 1 ≤ journal.old.spare }
     requires unanswered { slice_get log.old.replies part ≡ Some None }
     requires fits { length (spelled (apply (get_of number key.now) store.old.rows).1).1 ≤ log.old.room }
     ensures { DoesPart part (get_of number key.now) store.old store.new journal.old journal.new log.old log.new }
 {
-    store.facts();
     note_done(journal, number);
     match store.get(key) {
         Some(value) => log.record(part, ReplyKind::Value, value),
@@ -109,11 +110,11 @@ fn do_erase(
     log: &mut ReplyLog,
 )
     requires unguarded { IsUnguarded store.old }
+    requires counted { store.old.backs < 2 ^ 64 }
     requires spare { 1 ≤ journal.old.spare }
     requires unanswered { slice_get log.old.replies part ≡ Some None }
     ensures { DoesPart part (erase_of number key.now) store.old store.new journal.old journal.new log.old log.new }
 {
-    store.facts();
     note_done(journal, number);
     let kind = if store.erase(key) {
         ReplyKind::Erased
@@ -134,9 +135,10 @@ fn do_scan(
     journal: &mut Journal,
     log: &mut ReplyLog,
 )
-    // A scan, with no guard standing.
+    // A scan, with no guard standing, and blocks that came home are counted.
     requires askable { IsAskable (scan_of number from.now count) }
     requires unguarded { IsUnguarded store.old }
+    requires counted { store.old.backs < 2 ^ 64 }
 
     // Nothing it writes lacks room.
     requires spare { 1 ≤ journal.old.spare }
@@ -147,7 +149,6 @@ fn do_scan(
     // What it does, answers and writes down.
     ensures { DoesPart part (scan_of number from.now count) store.old store.new journal.old journal.new log.old log.new }
 {
-    store.facts();
     note_done(journal, number);
     let scanned = store.scan(from, count, keys);
     log.record(part, ReplyKind::Keys, &keys[..scanned.bytes as usize]);

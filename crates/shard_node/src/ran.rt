@@ -99,8 +99,8 @@ impl Ran {
           lines = self.old.lines ++ line ∷ [];
         } }
     {
-        self.journals.push(journal).unwrap();
-        self.logs.push(log).unwrap();
-        self.lines.push(line).unwrap();
+        self.journals.push_reserved(journal);
+        self.logs.push_reserved(log);
+        self.lines.push_reserved(line);
     }
 }

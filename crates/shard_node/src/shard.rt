@@ -15,7 +15,6 @@ mod turning;
 
 use crate::gate::Gate;
 use crate::waiting::Waiting;
-use cache_model::issued_parts_are_counted;
 use foreign_list::Tally;
 use run_log::{Journal, ReplyLog};
 use shard_parts::{Own, Peer, Rest, release_all, say_byes, send_replies};
@@ -55,9 +54,7 @@ impl<'f, L: Link<'f> + Drop, G: Gate + Drop> Shard<'f, L, G> {
         requires { IsConsistent self.old }
         ensures { ComesHome L.traffic L.end self.old self.new }
     {
-        self.store.facts();
         self.store.take_back();
-        self.store.facts();
     }
 
     /// Tries each block that waits to be released once. True where one was.
@@ -100,7 +97,6 @@ impl<'f, L: Link<'f> + Drop, G: Gate + Drop> Shard<'f, L, G> {
             → HeldUp L.traffic (λ k. ByeWaits L.traffic G.holds
             (node_state self.old)) (node_state self.old) (node_state self.new) }
     {
-        issued_parts_are_counted();
         if self.request.is_none() && self.own.next().is_none() {
             say_byes(self.peers.as_mut_slice())
         } else {

@@ -22,6 +22,7 @@ pub fn expected_reply<'a>(
     ensures none { IfNone result ((reply : Replied) → HoldsReply bytes.now number reply
         → Fits longest (numbered number operation.now) reply → ⊥) }
 {
+    // So where another reply is read than is expected, none that is expected stands there.
     a_message_is_one_reply();
     let (found, reply) = read_reply(bytes)?;
     if found != number {

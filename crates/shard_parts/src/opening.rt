@@ -45,7 +45,6 @@ impl<'f, L: Drop> Room<'f, L> {
         ensures rows { IfOk result (λ room. room.rows ≡ here_puts (trace_in trace.now) trace.now.shards shard) }
         ensures peers { IfOk result (λ room. (room.peers.items ≡ []) × (trace.now.shards ≤ vec_capacity room.peers + 1)) }
     {
-        trace.commands();
         let shards = trace.shards();
         let needs = trace.needs(shard, shards);
         Ok(Room {
@@ -93,7 +92,7 @@ pub fn peers_over<'f, L: Drop>(
     let shards = trace.shards();
     for link in links {
         let number = number_at(shards, shard, peers.len());
-        peers.push(Peer::new(trace, shard, number, link)).unwrap();
+        peers.push_reserved(Peer::new(trace, shard, number, link));
     }
     peers
 }

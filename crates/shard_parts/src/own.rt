@@ -3,14 +3,14 @@ ghost use Rattle.std.specs.Prelude.{◌≡◌, ℕ, ◌+◌, ◌*◌, ◌<◌, �
 ghost use Rattle.std.specs.List.{slice_get};
 ghost use Rattle.rows.specs.Operation.{Operation};
 ghost use Rattle.trace_text.specs.Operation.{operation};
-ghost use Rattle.trace_text.specs.Parsed.{trace_in};
+ghost use Rattle.trace_text.specs.Parsed.{trace_in, IsConsistent};
 ghost use Rattle.trace_text.specs.Parts.{has_part, most_shards, origin};
 ghost use Rattle.trace_text.specs.Reading.{most_commands};
+ghost use Rattle.cache_model.specs.OwnParts.{parts_before};
 ghost use Rattle.shard_parts.specs.Own.{IsFirstPart, own_log};
 ghost use Rattle.part_lemmas.specs.Rest.{part_at, shards_before};
 
-use crate::place::shards_take_turns;
-use cache_model::{issued_parts_are_counted, parts_go_up_by_command};
+use crate::place::commands_in_turn;
 use std::marker::Model;
 use trace_text::{Command, Trace};
 
@@ -49,7 +49,6 @@ impl<'f> Own<'f> {
         ensures shard { result.shard ≡ shard }
         ensures begun { result.begun ≡ 0 }
     {
-        shards_take_turns(trace);
         let next = first_part(trace, shard as usize);
         Own {
             trace,
@@ -59,20 +58,14 @@ impl<'f> Own<'f> {
         }
     }
 
-    /// What holds of them at each time.
-    pub fn facts(&self)
-        ensures shard { self.now.shard < self.now.trace.shards }
-        ensures begun { self.now.begun ≤ length (own_log self.now) }
-        ensures few { self.now.begun ≤ most_commands * most_shards }
-    {
-        issued_parts_are_counted();
-        parts_go_up_by_command();
-        self.trace.commands();
-    }
-
     /// How many were begun.
     pub fn begun(&self) -> u32
-        ensures { result ≡ self.now.begun }
+        ensures value { result ≡ self.now.begun }
+
+        // No more than there are, of a shard of the trace.
+        ensures begun { self.now.begun ≤ length (own_log self.now) }
+        ensures few { self.now.begun ≤ most_commands * most_shards }
+        ensures shard { self.now.shard < self.now.trace.shards }
     {
         self.begun
     }
@@ -87,7 +80,6 @@ impl<'f> Own<'f> {
             (λ next. has_part self.now.trace.shards next.1 (operation self.now.trace.bytes next.0.now) ≡ true) }
         ensures below { IfSome result (λ next. next.1 < self.now.trace.shards) }
     {
-        issued_parts_are_counted();
         let commands = self.trace.commands();
         if self.next.at < commands.len() {
             Some((&commands[self.next.at], self.next.to))
@@ -108,7 +100,6 @@ impl<'f> Own<'f> {
         ensures { (part : ℕ × ℕ) → slice_get (own_log self.now) self.now.begun ≡ Some part
             → IsTrue result ↔ IsFirstPart (own_log self.now) self.now.begun part }
     {
-        issued_parts_are_counted();
         let commands = self.trace.commands();
         if self.next.at < commands.len() && self.trace.is_scan(self.next.at) {
             self.next.to == 0
@@ -124,8 +115,6 @@ impl<'f> Own<'f> {
         ensures shard { self.new.shard ≡ self.old.shard }
         ensures begun { self.new.begun ≡ self.old.begun + 1 }
     {
-        issued_parts_are_counted();
-        shards_take_turns(self.trace);
         self.next = part_after(self.trace, self.shard, self.next);
         self.begun += 1;
     }
@@ -138,8 +127,12 @@ fn first_part(trace: &Trace, at: usize) -> Part
     ensures does { (d : Operation) → at < length trace.now.commands
         → has_part trace.now.shards result.to (slice_index_or (trace_in trace.now).operations at d) ≡ true }
     ensures first { shards_before result.to (slice_get (trace_in trace.now).operations at) ≡ 0 }
+
+    // No part is issued before a shard's first command.
+    ensures read { IsConsistent trace.now }
+    ensures none_before { (o : ℕ) → o < trace.now.shards → parts_before (trace_in trace.now) trace.now.shards o o ≡ 0 }
 {
-    let commands = trace.commands();
+    let commands = commands_in_turn(trace);
     let to = if at < commands.len() && !trace.is_scan(at) {
         trace.owner(at)
     } else {
@@ -165,8 +158,6 @@ fn part_after(trace: &Trace, shard: u32, part: Part) -> Part
     ensures next { part_at trace.now trace.now.shards shard result.to result.at
         ≡ part_at trace.now trace.now.shards shard part.to part.at + 1 }
 {
-    shards_take_turns(trace);
-    trace.commands();
     let shards = trace.shards();
     if trace.is_scan(part.at) && part.to + 1 < shards {
         return Part {

@@ -95,13 +95,9 @@ impl<'f, L: Drop> Peer<'f, L> {
           found = found;
         }) }
     {
-        let expected = match self.answers.first() {
-            Some(command) => command.number,
-            None => 0,
-        };
         Tried::Other(StrayPacket {
             peer: self.shard,
-            expected,
+            expected: self.answers.number(),
             found,
         })
     }

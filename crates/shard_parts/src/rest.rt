@@ -11,8 +11,7 @@ ghost use Rattle.part_lemmas.specs.Due.{operations_for};
 ghost use Rattle.part_lemmas.specs.Due.{expected_number};
 ghost use Rattle.part_lemmas.specs.Rest.{all_of, is_for, left_from, log_of};
 
-use crate::place::{Place, past, shards_take_turns};
-use cache_model::{issued_parts_are_counted, parts_go_up_by_command};
+use crate::place::{Place, commands_in_turn, past};
 use std::marker::Model;
 use trace_text::{Command, Trace};
 
@@ -52,7 +51,8 @@ impl<'f> Rest<'f> {
         ensures shard { result.shard ≡ shard }
         ensures left { result.left ≡ operations_for (trace_in trace.now) trace.now.shards origin shard }
     {
-        shards_take_turns(trace);
+        // The commands are numbered, so that no part is issued before the first of a shard.
+        commands_in_turn(trace);
         let first = Place {
             at: origin as usize,
             before: 0,
@@ -79,9 +79,7 @@ impl<'f> Rest<'f> {
         ensures few { length self.now.left ≤ most_commands }
         ensures parts { self.now.part ≤ most_commands * most_shards }
     {
-        issued_parts_are_counted();
-        parts_go_up_by_command();
-        self.trace.commands();
+        let _ = &self.next;
     }
 
     /// The first of them; None where all were passed.
@@ -112,8 +110,7 @@ impl<'f> Rest<'f> {
     pub fn part(&self) -> u32
         ensures { result ≡ self.now.part }
     {
-        shards_take_turns(self.trace);
-        let commands = self.trace.commands();
+        let commands = commands_in_turn(self.trace);
         if self.next.at < commands.len() && self.trace.is_scan(self.next.at) {
             self.next.before + self.shard
         } else {
@@ -129,8 +126,8 @@ impl<'f> Rest<'f> {
         ensures left { self.new.left ≡ drop 1 self.old.left }
         ensures rises { self.old.left ≢ [] → self.old.part < self.new.part }
     {
-        self.facts();
         self.pass_on();
+        // So the part of the first one now stands behind one more.
         self.facts();
     }
 
@@ -139,9 +136,12 @@ impl<'f> Rest<'f> {
         ensures origin { self.new.origin ≡ self.old.origin }
         ensures shard { self.new.shard ≡ self.old.shard }
         ensures left { self.new.left ≡ drop 1 self.old.left }
+
+        // Where the part of the first of them stood.
+        ensures stood { count_by (λ part. part.1 == self.old.shard) (take self.old.part (log_of self.old)) + length self.old.left
+            ≡ length (all_of self.old) }
     {
-        shards_take_turns(self.trace);
-        let commands = self.trace.commands();
+        let commands = commands_in_turn(self.trace);
         if self.next.at < commands.len() {
             let from = past(self.trace, self.next);
             self.next = find(self.trace, self.origin, self.shard, from);
@@ -161,8 +161,7 @@ fn find(trace: &Trace, origin: u32, shard: u32, from: Place) -> Place
     ensures here { (d : Operation) → result.at < length trace.now.commands
         → is_for trace.now.shards origin shard (slice_index_or (trace_in trace.now).operations result.at d) ≡ true }
 {
-    shards_take_turns(trace);
-    let commands = trace.commands();
+    let commands = commands_in_turn(trace);
     let mut next = from;
     while next.at < commands.len() && !trace.has_part(next.at, shard) {
         next = past(trace, next);

@@ -7,7 +7,6 @@ ghost use Rattle.rows.specs.Row.{Row};
 ghost use Rattle.rows.specs.Askable.{IsAskable};
 ghost use Rattle.rows.specs.Operations.{numbered, of_fields};
 
-use crate::law::commands_can_be_asked;
 use rows::Operation;
 use trace_text::{Command, Kind, Trace};
 
@@ -19,9 +18,6 @@ pub fn operation_of<'a>(trace: &'a Trace, command: &Command) -> Operation<'a>
     ensures same { (cache : List Row) → apply (numbered command.now.number result) cache
         ≡ apply (operation trace.now.bytes command.now) cache }
 {
-    // Each command of a trace is well formed, and so it can be asked.
-    trace.commands();
-    commands_can_be_asked();
     with_fields(
         command.kind,
         trace.key(command),

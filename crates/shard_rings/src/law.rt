@@ -8,8 +8,6 @@ ghost use Rattle.rows.specs.Askable.{IsAskable};
 ghost use Rattle.shard_rings.specs.Reply.{HoldsReply, IsSendable, IsSendableRow};
 ghost use Rattle.shard_rings.specs.Request.{IsRequest};
 
-use cache_model::scanned_keys_are_in_order;
-
 /// Bytes hold at most one reply, to at most one command.
 pub fn a_message_is_one_reply()
     ensures number { (bytes : List ℕ) (i j : ℕ) (reply other : Reply) → HoldsReply bytes i reply → HoldsReply bytes j other
@@ -33,6 +31,4 @@ pub fn commands_can_be_asked()
 pub fn replies_can_be_sent()
     ensures { (operation : Operation) (cache : List Row) → IsAskable operation → All IsSendableRow cache
         → IsSendable (apply operation cache).1 }
-{
-    scanned_keys_are_in_order();
-}
+{}

@@ -54,11 +54,7 @@ something_at [] i h = absurd (omega arith)
 something_at (x ∷ xs) zero h = (x, refl)
 something_at (x ∷ xs) (suc i) h = something_at xs i (omega arith)
 
--- what a push that succeeds leaves
-pub pushed : {X U E : Type 0} (xs ys : List X) (x : X) (r : Result U E) (u : U) → ys ≡ (if is_ok r then xs ++ x ∷ [] else xs) → r ≡ Ok u → ys ≡ xs ++ x ∷ []
-pushed xs ys x r u h e = subst (λ s. ys ≡ (if is_ok s then xs ++ x ∷ [] else xs)) e h
-
--- and an insertion at the front
+-- what an insertion at the front leaves, where it succeeds
 pub inserted : {X U E : Type 0} (xs ys : List X) (x : X) (r : Result U E) (u : U) → ys ≡ (if is_ok r then insert xs 0 x else xs) → r ≡ Ok u → ys ≡ x ∷ xs
 inserted xs ys x r u h e = subst (λ s. ys ≡ (if is_ok s then insert xs 0 x else xs)) e h
 

@@ -10,8 +10,6 @@ ghost use Rattle.shard_run.specs.Running.{WereDriven};
 use crate::closing::close_links;
 use crate::finishing::finish_nodes;
 use crate::remains::Remains;
-use crate::trace_facts::facts_of;
-use cache_model::logs_hold_the_answers;
 use foreign_list::OwnerSeat;
 use shard_node::{Gate, Node, Ran, done_nodes_agree};
 use shard_rings::RingLink;
@@ -39,8 +37,8 @@ pub fn finish_run<'f, G: Gate + Drop>(
         → WereDriven G.holds (trace_in trace.now) trace.now.shards into.entry.ran.pages homes nodes.entry.items
         → AreAtRest trace.now.shards homes result.seats.items }
 {
-    facts_of(trace);
-    logs_hold_the_answers();
+    // What the nodes did is a finished run of this trace: by what holds of each trace, and by what nodes say that are done.
+    trace.shards();
     done_nodes_agree::<RingLink<'f>, G>();
     let Remains { ran, links, seats } = finish_nodes(nodes, into);
     close_links(links);

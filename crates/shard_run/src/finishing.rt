@@ -36,8 +36,7 @@ fn finish_one<'f, G: Gate + Drop>(node: Node<'f, RingLink<'f>, G>, into: &mut Re
     ensures leaves { Leaves node.entry into.old into.new }
     ensures room { HasFinished node.entry.trace node.entry.shards node.entry.pages (node.entry.shard + 1) into.new }
 {
-    node.facts();
     let Finished { store, links } = node.finish(&mut into.ran);
-    into.links.push(links).unwrap();
-    into.seats.push(store.finish()).unwrap();
+    into.links.push_reserved(links);
+    into.seats.push_reserved(store.finish());
 }

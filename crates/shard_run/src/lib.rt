@@ -16,7 +16,6 @@ mod finishing;
 mod lists;
 mod opening;
 mod remains;
-mod trace_facts;
 
 pub use closing::close_links;
 pub use ending::{Ended, finish_run};

@@ -19,8 +19,8 @@ pub fn open_lists(alloc: Global, shards: u32) -> Result<(Vec<Foreign>, Vec<Owner
             close_lists(homes, seats);
             return Err(AllocError);
         };
-        homes.push(home).unwrap();
-        seats.push(seat).unwrap();
+        homes.push_reserved(home);
+        seats.push_reserved(seat);
     }
     Ok((homes, seats))
 }

@@ -154,5 +154,5 @@ fn hand_back<'f>(refusal: NodeRefusal<RingLink<'f>>, seats: &mut Vec<OwnerSeat>)
     ensures seat { seats.new.items ≡ seats.old.items ++ refusal.entry.seat ∷ [] }
     ensures room { vec_capacity seats.old ≤ vec_capacity seats.new }
 {
-    seats.push(refusal.seat).unwrap();
+    seats.push_reserved(refusal.seat);
 }

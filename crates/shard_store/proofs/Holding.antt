@@ -1,15 +1,18 @@
 -- The region is made of the segments of the memory, also after one more was given.
-use Rattle.std.proofs.Common.{◌≡◌, ◌≢◌, ◌⊎◌, inl, inr, ℕ, zero, suc, ◌+◌, ◌-◌, ◌*◌, ◌/◌, ◌<◌, ◌≤◌, Bool, true, false, not, ◌==◌, cond, List, [], ◌∷◌, length, replicate, refl, sym, ap, ◌∙◌, subst, arith}
+use Rattle.std.proofs.Common.{◌≡◌, ◌≢◌, ◌⊎◌, inl, inr, ℕ, zero, suc, ◌+◌, ◌-◌, ◌*◌, ◌/◌, ◌^◌, ◌<◌, ◌≤◌, Bool, true, false, not, ◌==◌, cond, List, [], ◌∷◌, length, replicate, refl, sym, ap, ◌∙◌, subst, arith}
 use Rattle.std.specs.Prelude.{Option, None, Some, IsSome, slice_get, slice_set, slice_index_or, filter, Contains, option_map, map}
 use Rattle.std.specs.List.{count_by}
 use Rattle.std.proofs.lemmas.Bool.{ne_eqb}
 use Rattle.std.proofs.lemmas.List.{map-set}
 use Rattle.std.proofs.lemmas.List.Sums.{sum_by-cons}
 use Rattle.std.proofs.lemmas.List.Elements.{All-contains}
-use Rattle.layout.specs.Sizes.{page, segment, segment_pages, ArePages}
+use Rattle.layout.specs.Sizes.{page, segment, segment_pages, tickets, ArePages}
+use Rattle.layout.specs.Counts.{raised}
+use Rattle.foreign_list.specs.Lists.{OwnedList}
 use Rattle.layout.specs.Extents.{Extent, extent, Disjoint, IsWithin, AreDisjoint}
 use Rattle.raw_range.specs.Memory.{Lent, extent_of, remove_extent}
-use Rattle.shard_memory.specs.Shards.{MemoryState, AreApart, ComeBack}
+use Rattle.shard_memory.specs.Shards.{MemoryState, ComeBack}
+use Rattle.shard_memory.specs.Tickets.{Tickets, tickets_out}
 use Rattle.regions.specs.Segments.{GroupState, SegmentState, RegionState, group_at, segment_at, with_guards, with_segment, fresh}
 use Rattle.regions.specs.Shapes.{Identity, Shape, Slot, active_in, identity, slot_of, slots_of, shape, is_free, is_held, pieces, pieces_in, guards_of, held_count, free_count}
 use Rattle.regions.specs.Counts.{left_of}
@@ -19,7 +22,9 @@ use Rattle.regions.specs.Contents.{Item, Standing, standing_at}
 use Rattle.regions.specs.declared.place.Place.{Place}
 use Rattle.row_cache.specs.Rows.{IsSameRow, Stay, StandsAt}
 use Rattle.compaction.specs.Emptied.{HoldsTheSame}
-use Rattle.shard_store.specs.inside.Consistent.{IsOf, HoldsAll, IsMadeOf, IsConsistent}
+use Rattle.shard_store.specs.inside.Consistent.{IsOf, HoldsAll, IsCounted, IsMadeOf, IsConsistent}
+use Rattle.shard_store.specs.inside.Homecoming.{SameTickets}
+use Rattle.shard_store.proofs.Homecoming.{raised-both, raised-small, trimmed-same}
 
 got-set : {X : Type 0} (xs : List X) (n m : ℕ) (x y : X) → slice_get (slice_set xs n x) m ≡ Some y → ((m ≡ n) × (x ≡ y)) ⊎ ((m ≢ n) × (slice_get xs m ≡ Some y))
 got-set [] n m x y e = absurd (let clash : None ≡ Some y = e in cc)
@@ -38,20 +43,20 @@ further : (p q : Extent) (ps : List Extent) → Contains ps q → Contains (p �
 further p q ps h = (suc h.0, (let inside = h.1 in omega arith), h.2)
 
 -- a segment that was just given begins where no other one does
-module _ (old new : MemoryState) (given : Extent) (apart : AreApart new) (segments : new.segments ≡ given ∷ old.segments) where
+module _ (old new : MemoryState) (given : Extent) (apart : AreDisjoint (page * new.pages) new.segments) (segments : new.segments ≡ given ∷ old.segments) where
   pub still-contained : (p : Extent) → Contains old.segments p → Contains new.segments p
   still-contained p h = subst (λ xs. Contains xs p) (sym segments) (further given p old.segments h)
 
   begins-elsewhere : (p : Extent) → Contains old.segments p → p.start ≢ given.start
   begins-elsewhere p h same =
-      let all = subst (AreDisjoint (page * new.pages)) segments apart.segments in
+      let all = subst (AreDisjoint (page * new.pages)) segments apart in
       let within : IsWithin (page * new.pages) p = All-contains (IsWithin (page * new.pages)) (given ∷ old.segments) p all.0 (suc h.0, (let inside = h.1 in omega arith), h.2) in
       let here : IsWithin (page * new.pages) given = all.0 0 given (omega arith) in
       let two : Disjoint given p = subst (λ q. Disjoint given q) h.2 (all.1 0 (suc h.0) p (omega arith) (let inside = h.1 in omega arith)) in
       elim two [ inl before ↦ omega (arith, before, same, here.0) | inr behind ↦ omega (arith, behind, same, within.0) ]
 
 -- the region has it besides
-module _ (old new : MemoryState) (piece : Lent) (home : (piece.home ≡ old.home) × (new.home ≡ old.home)) (apart : AreApart new) (segments : new.segments ≡ extent_of piece ∷ old.segments)
+module _ (old new : MemoryState) (piece : Lent) (home : (piece.home ≡ old.home) × (new.home ≡ old.home)) (apart : AreDisjoint (page * new.pages) new.segments) (segments : new.segments ≡ extent_of piece ∷ old.segments)
     (r : RegionState) (n : ℕ) (h : HoldsAll old r) where
   abbrev next : RegionState
   next = with_segment r n (Some (fresh piece))
@@ -103,12 +108,40 @@ made-kept shard pages standing memory old new same held most guards h = record {
   most = most ∙ h.most;
   holds = holds-kept memory old new same held h.holds;
   guards = guards ∙ h.guards;
+  counted = h.counted;
+}
+
+-- the memory counts as before, or what it lends, or what came home
+pub counted-same : (old new : MemoryState) → SameTickets old new → IsCounted old → IsCounted new
+counted-same old new same h = record {
+  owner = same.owner ∙ h.owner ∙ sym (ap (λ (l : OwnedList). l.owner) same.list);
+  tickets = ap length same.lent ∙ h.tickets;
+  lends = same.lends ∙ h.lends ∙ ap (λ (n : ℕ). raised n (tickets_out old.lent)) (sym same.backs) ∙ ap (λ (l : Tickets). raised new.backs (tickets_out l)) (sym same.lent);
+  backs = subst (λ n. n < 2 ^ 64) (sym same.backs) h.backs;
+}
+
+pub counted-lent : (old new : MemoryState) → new.owner ≡ old.owner → new.list ≡ old.list → length new.lent ≡ length old.lent → new.lends ≡ raised old.lends 1 → tickets_out new.lent ≡ tickets_out old.lent + 1
+    → new.backs ≡ old.backs → IsCounted old → IsCounted new
+counted-lent old new owner list long lends out backs h = record {
+  owner = owner ∙ h.owner ∙ sym (ap (λ (l : OwnedList). l.owner) list);
+  tickets = long ∙ h.tickets;
+  lends = lends ∙ ap (λ n. raised n 1) h.lends ∙ raised-both old.backs (tickets_out old.lent) 1
+      ∙ ap (λ n. raised old.backs n) (let e : 1 + tickets_out old.lent ≡ tickets_out new.lent = omega (arith, out) in e) ∙ ap (λ (n : ℕ). raised n (tickets_out new.lent)) (sym backs);
+  backs = subst (λ n. n < 2 ^ 64) (sym backs) h.backs;
+}
+
+counted-came : (old new : MemoryState) (count : ℕ) → ComeBack old new count → length new.lent ≡ tickets → IsCounted old → IsCounted new
+counted-came old new count c long h = record {
+  owner = ap (λ (s : MemoryState). s.owner) c.same ∙ h.owner ∙ sym (ap (λ (s : MemoryState). s.list.owner) c.same);
+  tickets = long;
+  lends = ap (λ (s : MemoryState). s.lends) c.same ∙ h.lends ∙ ap (λ n. raised old.backs n) (sym c.out) ∙ sym (raised-both old.backs count (tickets_out new.lent)) ∙ ap (λ n. raised n (tickets_out new.lent)) (sym c.backs);
+  backs = subst (λ n. n < 2 ^ 64) (sym c.backs) (raised-small old.backs count);
 }
 
 -- the memory has the same pieces
 pub consistent-same : (shard pages standing : ℕ) (old new : MemoryState) (region : RegionState) → new.home ≡ old.home → new.owner ≡ old.owner → new.pages ≡ old.pages → new.blocks ≡ old.blocks → new.segments ≡ old.segments
-    → IsConsistent shard pages standing old region → IsConsistent shard pages standing new region
-consistent-same shard pages standing old new region home owner size blocks segments h =
+    → (IsCounted old → IsCounted new) → IsConsistent shard pages standing old region → IsConsistent shard pages standing new region
+consistent-same shard pages standing old new region home owner size blocks segments counted h =
     let m = h.made in
     record {
       made = record {
@@ -123,18 +156,22 @@ consistent-same shard pages standing old new region home owner size blocks segme
           count = m.holds.count ∙ ap length (sym segments);
         };
         guards = m.guards;
+        counted = counted m.counted;
       };
       active = h.active;
       free = h.free;
     }
 
-pub consistent-came : (shard pages standing : ℕ) (old new : MemoryState) (count : ℕ) (region : RegionState) → ComeBack old new count → IsConsistent shard pages standing old region → IsConsistent shard pages standing new region
-consistent-came shard pages standing old new count region c h =
-    consistent-same shard pages standing old new region (ap (λ (s : MemoryState). s.home) c.same) (ap (λ (s : MemoryState). s.owner) c.same) (ap (λ (s : MemoryState). s.pages) c.same) (ap (λ (s : MemoryState). s.blocks) c.same) (ap (λ (s : MemoryState). s.segments) c.same) h
+pub consistent-came : (shard pages standing : ℕ) (old new : MemoryState) (count : ℕ) (region : RegionState) → ComeBack old new count → length new.lent ≡ tickets
+    → IsConsistent shard pages standing old region → IsConsistent shard pages standing new region
+consistent-came shard pages standing old new count region c long h =
+    consistent-same shard pages standing old new region (ap (λ (s : MemoryState). s.home) c.same) (ap (λ (s : MemoryState). s.owner) c.same) (ap (λ (s : MemoryState). s.pages) c.same) (ap (λ (s : MemoryState). s.blocks) c.same) (ap (λ (s : MemoryState). s.segments) c.same)
+    (counted-came old new count c long) h
 
 pub consistent-trimmed : (shard pages standing : ℕ) (old new : MemoryState) (region : RegionState) → new ≡ record old { pages_out = new.pages_out; room = new.room } → IsConsistent shard pages standing old region → IsConsistent shard pages standing new region
 consistent-trimmed shard pages standing old new region same h =
-    consistent-same shard pages standing old new region (ap (λ (s : MemoryState). s.home) same) (ap (λ (s : MemoryState). s.owner) same) (ap (λ (s : MemoryState). s.pages) same) (ap (λ (s : MemoryState). s.blocks) same) (ap (λ (s : MemoryState). s.segments) same) h
+    consistent-same shard pages standing old new region (ap (λ (s : MemoryState). s.home) same) (ap (λ (s : MemoryState). s.owner) same) (ap (λ (s : MemoryState). s.pages) same) (ap (λ (s : MemoryState). s.blocks) same) (ap (λ (s : MemoryState). s.segments) same)
+    (counted-same old new (trimmed-same old new same)) h
 
 -- another region holds the same
 pub consistent-held : (shard pages standing : ℕ) (memory : MemoryState) (old new : RegionState) → HoldsTheSame old new → 1 ≤ free_count new → IsConsistent shard pages standing memory old → IsConsistent shard pages standing memory new
@@ -149,7 +186,7 @@ pub consistent-own : (shard pages standing : ℕ) (memory : MemoryState) (region
 consistent-own shard pages standing memory region h =
     let m = h.made in
     record {
-      made = record { owner = refl; size = refl; are_pages = subst ArePages (sym m.size) m.are_pages; blocks = m.blocks; most = m.most ∙ ap (λ k. k / segment_pages) (sym m.size); holds = m.holds; guards = refl };
+      made = record { owner = refl; size = refl; are_pages = subst ArePages (sym m.size) m.are_pages; blocks = m.blocks; most = m.most ∙ ap (λ k. k / segment_pages) (sym m.size); holds = m.holds; guards = refl; counted = m.counted };
       active = h.active;
       free = h.free;
     }

@@ -4,7 +4,7 @@ use Rattle.std.specs.Prelude.{Option, None, Some, slice_get, slice_set, is_some,
 use Rattle.std.proofs.lemmas.Bool.{cases_order}
 use Rattle.std.proofs.lemmas.List.Sums.{sum_by-cons}
 use Rattle.foreign_list.specs.declared.piece_id.PieceId.{PieceId}
-use Rattle.foreign_list.specs.Blocks.{Block, piece_id_of}
+use Rattle.foreign_list.specs.Blocks.{Block}
 use Rattle.shard_memory.specs.Shards.{MemoryState, ComeBack}
 use Rattle.layout.specs.Counts.{raised}
 use Rattle.shard_memory.specs.Tickets.{Tickets, HasIdle, BecomeIdle, tickets_out}
@@ -25,7 +25,7 @@ idle-both a b c first second t = elim (second t) [
 raised-none : (n : ℕ) → n < 2 ^ 64 → n ≡ raised n 0
 raised-none n small = grind (arith, small)
 
-raised-both : (n a b : ℕ) → raised (raised n a) b ≡ raised n (b + a)
+pub raised-both : (n a b : ℕ) → raised (raised n a) b ≡ raised n (b + a)
 raised-both n a b = grind arith
 
 -- some came home, and then others
@@ -116,6 +116,18 @@ trimmed-same old new same = record {
   looks = ap (λ (m : MemoryState). m.take_wholes) same;
 }
 
+-- nor does a segment that is given or comes back
+pub segments-same : (old new : MemoryState) → new ≡ record old { segments = new.segments; pages_out = new.pages_out; room = new.room } → SameTickets old new
+segments-same old new same = record {
+  owner = ap (λ (m : MemoryState). m.owner) same;
+  pages = ap (λ (m : MemoryState). m.pages) same;
+  list = ap (λ (m : MemoryState). m.list) same;
+  lent = ap (λ (m : MemoryState). m.lent) same;
+  lends = ap (λ (m : MemoryState). m.lends) same;
+  backs = ap (λ (m : MemoryState). m.backs) same;
+  looks = ap (λ (m : MemoryState). m.take_wholes) same;
+}
+
 -- the block is given once more had come home
 pub after-home : (share : Share) (size : ℕ) (a b c : MemoryState) (block : Block) → TakesHome a b → GivesAfter share size b c block → GivesAfter share size a c block
 after-home share size a b c block takes given = record { before = given.before; came = takes-both a b given.before takes given.came; gives = given.gives }
@@ -140,11 +152,15 @@ pub none-known : {A : Type 0} (P : Type 0) (o : Option A) → is_some o ≡ fals
 none-known P None e h = h
 none-known P (Some a) e h = absurd (let clash : true ≡ false = e in cc)
 
+pub none-two : {A : Type 0} (P Q R : Type 0) (o : Option A) → (P → Q → R) → IfNone o P → IfNone o Q → IfNone o R
+none-two P Q R None f p q = f p q
+none-two P Q R (Some a) f p q = p
+
 pub if-none : {A : Type 0} (P Q : Type 0) (o : Option A) → (P → Q) → IfNone o P → IfNone o Q
 if-none P Q None f h = f h
 if-none P Q (Some a) f h = h
 
-raised-small : (n by : ℕ) → raised n by < 2 ^ 64
+pub raised-small : (n by : ℕ) → raised n by < 2 ^ 64
 raised-small n by = grind arith
 
 pub takes-back : (a b : MemoryState) (old new : CacheState) → TakesHome a b → TakesBack (store_of a old) (store_of b new)
@@ -188,19 +204,3 @@ lends-written share old new block bytes same h = record {
 pub ok-map : {A E : Type 0} (P Q : A → Type 0) (r : Result A E) → ((a : A) → P a → Q a) → IfOk r P → IfOk r Q
 ok-map P Q (Ok a) f h = f a h
 ok-map P Q (Err e) f h = h
-
--- others came home behind the block
-pub lends-later : (share : Share) (old now new : StoreState) (block : Block) → LendsBlock share old now block → TakesBack now new → LendsBlock share old new block
-lends-later share old now new block h later = record {
-  before = h.before;
-  backs = h.backs;
-  came = h.came;
-  of_share = h.of_share;
-  idle = h.idle;
-  behind = home-both (slice_set h.before block.ticket (Some (piece_id_of block.piece))) now.lent new.lent h.backs now.backs new.backs h.behind later.home;
-  lends = later.lends ∙ h.lends;
-  looks = let f = h.looks in let s = later.looks in omega (arith, f, s);
-  list = h.list;
-  owner = h.owner;
-  fresh = h.fresh;
-}

@@ -7,11 +7,16 @@ use Rattle.shard_store.specs.Stores.{StoreState, IsSameStore}
 use Rattle.rows.specs.Told.{AreTold}
 use Rattle.shard_store.specs.Works.{DoesAbove}
 use Rattle.shard_store.specs.inside.Evicted.{HasEvicted, HasDone}
+use Rattle.row_lemmas.proofs.Laws.{evictions_are_counted-none}
 
 module _ {E : Type 0} (tells : E → ℕ → E → Type 0) where
   told-more : (tags : List ℕ) (tag : ℕ) (before now after : E) → AreTold tells before tags now → tells now tag after → AreTold tells before (tags ++ tag ∷ []) after
   told-more [] tag before now after same one = (after, subst (λ (x : E). tells x tag after) same one, refl)
   told-more (t ∷ tags) tag before now after h one = (h.0, h.1, told-more tags tag h.0 now after h.2 one)
+
+  -- before the first one
+  pub evicted-none : (bound : ℕ) (rows : List Row) (now : E) → HasEvicted tells bound rows rows now now
+  evicted-none bound rows now = record { tags = []; evicts = evictions_are_counted-none bound rows; told = refl }
 
   pub evicted-more : (bound tag : ℕ) (rows rest next : List Row) (before now after : E) (h : HasEvicted tells bound rows rest before now)
       → Evicts bound rows (h.tags ++ tag ∷ []) next → tells now tag after → HasEvicted tells bound rows next before after

@@ -13,7 +13,7 @@ ghost use Rattle.shard_store.specs.inside.Homecoming.{TakesHome};
 
 use crate::making_room::make_room;
 use row_cache::RowCache;
-use rows::{Evictions, evictions_are_counted};
+use rows::Evictions;
 use shard_memory::ShardMemory;
 
 // Makes room for an object of so many bytes in the active segment. Where there is none otherwise, the rows that were used
@@ -42,9 +42,6 @@ pub(crate) fn make_room_evicting<E: Evictions>(
     ensures taken { TakesHome memory.old memory.new }
     ensures tables { cache.new.room ≡ cache.old.room }
 {
-    cache.facts();
-    memory.facts();
-    evictions_are_counted();
     while !make_room(memory, cache, size) {
         evict(cache, evictions);
     }
@@ -59,6 +56,7 @@ pub(crate) fn evict<E: Evictions>(cache: &mut RowCache, evictions: &mut E)
     ensures spare { E.room evictions.old ≤ E.room evictions.new + 1 }
     ensures rows { rows_of cache.new ≡ take (length (rows_of cache.old) - 1) (rows_of cache.old) }
     ensures one_less { length (rows_of cache.new) + 1 ≡ length (rows_of cache.old) }
+    ensures few { length (rows_of cache.new) < cache.new.room }
     ensures consistent { (shard pages guards : ℕ) (memory : MemoryState) → IsConsistent shard pages guards memory cache.old.region
         → IsConsistent shard pages guards memory cache.new.region }
     ensures tables { cache.new.room ≡ cache.old.room }

@@ -1,14 +1,13 @@
 //! How a block is given that goes to another shard.
-ghost use Rattle.std.specs.Prelude.{◌≡◌, ◌≢◌, ◌⊎◌, ℕ, ◌+◌, ◌<◌, ◌≤◌, length, replicate, IfOk, IfErr, IfSome, IfNone};
-ghost use Rattle.layout.specs.Sizes.{greatest_block};
+ghost use Rattle.std.specs.Prelude.{◌≡◌, ◌≢◌, ◌⊎◌, ℕ, ◌+◌, ◌-◌, ◌*◌, ◌<◌, ◌≤◌, length, replicate, IfOk, IfErr, IfSome, IfNone};
+ghost use Rattle.layout.specs.Sizes.{dense, greatest_block};
 ghost use Rattle.rows.specs.Row.{live};
 ghost use Rattle.shard_memory.specs.Room.{LacksBlock, HasAllRoom, IsTrimmed};
 ghost use Rattle.shard_memory.specs.Shards.{MemoryState, IsCrowded};
 ghost use Rattle.shard_memory.specs.Tickets.{HasIdle, tickets_out};
 ghost use Rattle.shard_memory.specs.Refusals.{RefusesFor};
 ghost use Rattle.regions.specs.Segments.{RegionState};
-ghost use Rattle.regions.specs.Shapes.{free_count};
-ghost use Rattle.compaction.specs.Sparse.{IsCompacted};
+ghost use Rattle.regions.specs.Shapes.{free_count, held_count};
 ghost use Rattle.row_cache.specs.Rows.{rows_of, Stay};
 ghost use Rattle.shard_store.specs.Works.{floor_of};
 ghost use Rattle.shard_store.specs.Stores.{IsSameStore, RowsStay};
@@ -19,10 +18,9 @@ ghost use Rattle.shard_store.specs.inside.Homecoming.{TakesHome, TakesOnce, Give
 
 use crate::evicting::evict;
 use crate::segments::give_free_back;
-use compaction::a_compacted_region_is_full;
 use foreign_list::ForeignBlock;
 use row_cache::{Compacted, RowCache};
-use rows::{Evictions, evictions_are_counted};
+use rows::Evictions;
 use shard_memory::{GiveRefusal, ShardMemory, Share};
 
 // Gives a block of so many bytes, for which a ticket of the share is idle. Where there is no room for it otherwise, the rows that
@@ -54,7 +52,6 @@ pub(crate) fn find_block<'f, E: Evictions>(
     ensures consistent { IsConsistent memory.old.owner memory.old.pages 0 memory.new cache.new.region }
     ensures tables { cache.new.room ≡ cache.old.room }
 {
-    evictions_are_counted();
     let mut found = give_unevicted(memory, cache, size, share);
     while found.is_none() {
         evict(cache, evictions);
@@ -90,15 +87,9 @@ fn give_unevicted<'f>(
     ensures rows { rows_of cache.new ≡ rows_of cache.old }
     ensures tables { cache.new.room ≡ cache.old.room }
 {
-    memory.facts();
-    a_compacted_region_is_full();
     match give_uncompacted(memory, cache, size, share) {
         Some(block) => Some(block),
-        None => {
-            let found = give_compacted(memory, cache, size, share);
-            cache.facts();
-            found
-        }
+        None => give_compacted(memory, cache, size, share),
     }
 }
 
@@ -122,7 +113,7 @@ fn give_compacted<'f>(
 
     // Else nothing is left to compact.
     ensures unchanged { IfNone result (memory.new ≡ memory.old) }
-    ensures compacted { IfNone result (IsCompacted cache.new.region) }
+    ensures most { IfNone result ((held_count cache.new.region - 2) * (dense + 1) ≤ live (rows_of cache.new)) }
 
     // No row went, whatever moved.
     ensures consistent { IsConsistent memory.old.owner memory.old.pages 0 memory.new cache.new.region }
@@ -389,7 +380,6 @@ fn give_at_once<'f>(
     ensures consistent { (shard pages guards : ℕ) (region : RegionState) → IsConsistent shard pages guards memory.old region
         → IsConsistent shard pages guards memory.new region }
 {
-    memory.facts();
     let block = memory.give_uncleared(size, share)?;
     Ok(block)
 }

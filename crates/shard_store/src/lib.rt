@@ -13,7 +13,6 @@ mod evicted_tags;
 mod evicting;
 mod eviction_count;
 mod giving;
-mod law;
 mod looking_up;
 mod making_room;
 mod segments;
@@ -22,7 +21,6 @@ mod storing;
 
 pub use evicted_tags::EvictedTags;
 pub use eviction_count::EvictionCount;
-pub use law::lent_blocks_stay_lent;
 pub use regions::Place;
 pub use row_cache::{Put, Scanned};
 pub use rows::Evictions;

@@ -1,18 +1,16 @@
 //! How a put comes to room in the active segment.
-ghost use Rattle.std.specs.Prelude.{◌≡◌, ℕ, ◌<◌, ◌≤◌, true, false, IsSome};
-ghost use Rattle.layout.specs.Sizes.{greatest_object};
+ghost use Rattle.std.specs.Prelude.{◌≡◌, ℕ, ◌+◌, ◌-◌, ◌*◌, ◌<◌, ◌≤◌, true, false, IsSome};
+ghost use Rattle.layout.specs.Sizes.{dense, greatest_object};
 ghost use Rattle.rows.specs.Row.{live};
 ghost use Rattle.shard_memory.specs.Shards.{MemoryState, IsCrowded};
-ghost use Rattle.regions.specs.Shapes.{active_of, free_count};
+ghost use Rattle.regions.specs.Shapes.{active_of, free_count, held_count};
 ghost use Rattle.regions.specs.Counts.{left};
-ghost use Rattle.compaction.specs.Sparse.{IsCompacted};
 ghost use Rattle.row_cache.specs.Rows.{rows_of};
 ghost use Rattle.shard_store.specs.Works.{pressure};
 ghost use Rattle.shard_store.specs.inside.Consistent.{IsConsistent};
 ghost use Rattle.shard_store.specs.inside.Homecoming.{TakesHome};
 
 use crate::segments::add_segment;
-use compaction::a_compacted_region_is_full;
 use row_cache::{Compacted, RowCache};
 use shard_memory::ShardMemory;
 
@@ -33,13 +31,10 @@ pub(crate) fn make_room(memory: &mut ShardMemory<'_>, cache: &mut RowCache, size
     ensures rows { rows_of cache.new ≡ rows_of cache.old }
     ensures tables { cache.new.room ≡ cache.old.room }
 {
-    memory.facts();
     if size <= cache.left() {
         return true;
     }
     if !free_second(memory, cache) {
-        cache.facts();
-        a_compacted_region_is_full();
         return size <= cache.left();
     }
     begin_next(cache, size);
@@ -54,7 +49,8 @@ fn free_second(memory: &mut ShardMemory<'_>, cache: &mut RowCache) -> bool
     // What each answer means.
     ensures freed { result ≡ true → 2 ≤ free_count cache.new.region }
     ensures crowded { result ≡ false → IsCrowded memory.new }
-    ensures compacted { result ≡ false → IsCompacted cache.new.region }
+    ensures full { result ≡ false → left cache.new.region 0 < greatest_object
+        → (held_count cache.new.region - 1) * (dense + 1) ≤ live (rows_of cache.new) }
 
     // No row went, and nothing was lent.
     ensures consistent { IsConsistent memory.old.owner memory.old.pages 0 memory.new cache.new.region }
@@ -62,7 +58,6 @@ fn free_second(memory: &mut ShardMemory<'_>, cache: &mut RowCache) -> bool
     ensures rows { rows_of cache.new ≡ rows_of cache.old }
     ensures tables { cache.new.room ≡ cache.old.room }
 {
-    memory.facts();
     if cache.free_segments() >= 2 {
         return true;
     }

@@ -87,7 +87,6 @@ pub(crate) fn add_segment(memory: &mut ShardMemory<'_>, cache: &mut RowCache) ->
     let Some(piece) = memory.give_segment() else {
         return false;
     };
-    memory.facts();
     cache.add_segment(piece);
     true
 }

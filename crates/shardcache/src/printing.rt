@@ -1,10 +1,10 @@
 //! What is written of a run: its report or its summary; and of what is refused, a line that says why.
-ghost use Rattle.std.specs.Prelude.{◌≡◌, ◌≢◌, ◌⊎◌, ℕ, List, OnOk, OnErr, Some};
+ghost use Rattle.std.specs.Prelude.{◌≡◌, ◌≢◌, ◌⊎◌, ℕ, List, All, OnOk, OnErr, Some};
 ghost use Rattle.layout.specs.Counts.{Rose};
 ghost use Rattle.cache_model.specs.Report.{IsReportOf, report};
 ghost use Rattle.cache_model.specs.Summary.{IsSummaryOf, summary};
 ghost use Rattle.run_log.specs.Runs.{IsFinished, journals_in};
-ghost use Rattle.trace_text.specs.Parsed.{trace_in};
+ghost use Rattle.trace_text.specs.Parsed.{IsWellFormed, trace_in};
 ghost use Rattle.trace_text.specs.Reading.{AtLine, TooLong};
 ghost use Rattle.value_script.specs.Reading as script_refusal;
 ghost use Rattle.settings.specs.Settings.{view};
@@ -14,7 +14,6 @@ ghost use Rattle.shardcache.specs.inside.Ending.{EndsOutput, EndsWith};
 
 use crate::asked::Asked;
 use crate::status::Status;
-use cache_model::{a_report_has_its_lines, answers_are_read_by_command, replies_hold_what_was_put};
 use outside::{Failed, Sink, write_all};
 use report_text::{Texts, write_report_on, write_summary};
 use shard_node::Ran;
@@ -84,7 +83,7 @@ fn print_report<R: Threads + Sync, K: Sink>(
         (report (trace_in asked.now.trace.now) asked.now.trace.now.shards asked.now.settings.pages (journals_in ran.now.journals)) }
     ensures fault { result ≡ Status.WriteFault → Rose (K.faults sink.old) (K.faults sink.new) }
 {
-    match write_report_on(
+    let written = write_report_on(
         rt,
         texts,
         asked.settings.threads(),
@@ -93,10 +92,8 @@ fn print_report<R: Threads + Sync, K: Sink>(
         ran.logs(),
         ran.journals(),
         ran.lines(),
-    ) {
-        Ok(()) => Status::Done,
-        Err(_) => Status::WriteFault,
-    }
+    );
+    written_or_fault(written)
 }
 
 /// Writes the text of a summary.
@@ -106,17 +103,15 @@ fn print_summary<K: Sink>(sink: &mut K, asked: &Asked<'_>, ran: &Ran) -> Status
         (summary (trace_in asked.now.trace.now) asked.now.settings.shards asked.now.settings.pages (journals_in ran.now.journals)) }
     ensures fault { result ≡ Status.WriteFault → Rose (K.faults sink.old) (K.faults sink.new) }
 {
-    match write_summary(
+    let written = write_summary(
         sink,
         asked.trace,
         asked.settings.shards,
         ran.logs(),
         ran.journals(),
         ran.lines(),
-    ) {
-        Ok(()) => Status::Done,
-        Err(_) => Status::WriteFault,
-    }
+    );
+    written_or_fault(written)
 }
 
 /// Writes the report of what the shards did, made in these texts.
@@ -128,15 +123,12 @@ pub(crate) fn report_run<R: Threads + Sync, K: Sink>(
     ran: &Ran,
 ) -> Status
     requires run { IsFinished (trace_in asked.now.trace.now) asked.now.trace.now.shards asked.now.settings.pages ran.now }
+    requires well_formed { All IsWellFormed (trace_in asked.now.trace.now).operations }
     ensures written { (text : List ℕ)
         × Shown IsReportOf (view asked.now.settings) (trace_in asked.now.trace.now) (Some ran.now) text
         × EndsOutput result (K.written sink.old) (K.written sink.new) text }
     ensures fault { result ≡ Status.WriteFault → Rose (K.faults sink.old) (K.faults sink.new) }
 {
-    asked.trace.commands();
-    replies_hold_what_was_put();
-    a_report_has_its_lines();
-    answers_are_read_by_command();
     print_report(rt, texts, sink, asked, ran)
 }
 

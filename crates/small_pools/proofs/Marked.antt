@@ -46,8 +46,8 @@ more_used old new f c place size free e object =
 
 -- ---- marks
 
-pub marked_none : (s : Objects) (marks : List Bool) → s.held ≡ map.empty → length marks ≡ s.pages → AreMarked s marks
-marked_none s marks none long = record { pages = long; others = λ f c h _. absurd (some_or_none (sym (ap (λ m. map.get m f) none) ∙ h) (map.get-empty nat_cmp f)) }
+pub marked_none : (s : Objects) (marks : List Bool) → s.held ≡ map.empty → length marks ≡ s.pages → AreObjects s → AreMarked s marks
+marked_none s marks none long objects = record { pages = long; others = λ f c h _. absurd (some_or_none (sym (ap (λ m. map.get m f) none) ∙ h) (map.get-empty nat_cmp f)); objects = objects }
 
 pub none_marked : (marks : List Bool) → size marks ≡ 0 → (n : ℕ) → has marks n ≡ false
 none_marked [] e n = refl
@@ -59,16 +59,17 @@ pub all_used : (s : Objects) (marks : List Bool) → AreMarked s marks → size 
 all_used s marks h none = λ f c held. h.others f c held (none_marked marks none f)
 
 pub marked_more : (old new : Objects) (marks : List Bool) (place n : ℕ) → AreMarked old marks → new.pages ≡ old.pages → map.get old.allocated place ≡ None → new.allocated ≡ map.insert old.allocated place n
-    → ((f c : ℕ) → IsHeld new f c → IsHeld old f c ⊎ HasObject new f c) → AreMarked new marks
-marked_more old new marks place n h pages free e come = record {
+    → ((f c : ℕ) → IsHeld new f c → IsHeld old f c ⊎ HasObject new f c) → AreObjects new → AreMarked new marks
+marked_more old new marks place n h pages free e come objects = record {
   pages = h.pages ∙ sym pages;
   others = λ f c held off. elim (come f c held) [ inl was ↦ more_used old new f c place n free e (h.others f c was off) | inr object ↦ object ];
+  objects = objects;
 }
 
 -- a span was looked at, and its mark goes
 pub marked_less : (old new : Objects) (marks : List Bool) (first : ℕ) → AreMarked old marks → new.pages ≡ old.pages → new.allocated ≡ old.allocated → ((f c : ℕ) → IsHeld new f c → IsHeld old f c)
-    → ((c : ℕ) → IsHeld new first c → HasObject new first c) → AreMarked new (slice_set marks first false)
-marked_less old new marks first h pages same kept used = record {
+    → ((c : ℕ) → IsHeld new first c → HasObject new first c) → AreObjects new → AreMarked new (slice_set marks first false)
+marked_less old new marks first h pages same kept used objects = record {
   pages = length-set marks first false ∙ h.pages ∙ sym pages;
   others = λ f c held off. elim (cases_eq f first) [
     | inl here ↦ subst (λ g. HasObject new g c) (sym here) (used c (subst (λ g. IsHeld new g c) here held))
@@ -76,6 +77,7 @@ marked_less old new marks first h pages same kept used = record {
         let object = h.others f c (kept f c held) (sym (get_or-set_other marks first f false false far) ∙ off) in
         (object.0, object.1, ap (λ m. map.get m (slot_place f c object.0)) same ∙ object.2)
   ];
+  objects = objects;
 }
 
 pub fewer_marks : (marks : List Bool) (first : ℕ) → has marks first ≡ true → size (slice_set marks first false) < size marks

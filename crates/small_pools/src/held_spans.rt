@@ -25,7 +25,7 @@ ghost use Rattle.std.specs.Ordering.{nat_cmp};
 ghost use Rattle.std.specs.FinMap as map;
 ghost use Rattle.layout.specs.Sizes.{ArePages, most_pages};
 ghost use Rattle.index_lists.specs.Lists.{list_at};
-ghost use Rattle.span_lists.specs.Layout.{Divides, IsCoalesced, HasNone, IsAllocated};
+ghost use Rattle.span_lists.specs.Layout.{Divides, IsBlocked, IsCoalesced, HasNone, IsAllocated};
 ghost use Rattle.small_pools.specs.Classes.{size_of, order_of, capacity_of};
 ghost use Rattle.small_pools.specs.Objects.{
   Objects,
@@ -46,9 +46,8 @@ ghost use Rattle.small_pools.specs.Objects.{
 use crate::classes::{CLASSES, class_capacity, class_order, class_size};
 use crate::listing::{list_for, relist};
 use crate::masks::{all_free, least_free, occupied, released};
-use index_lists::IndexLists;
+use index_lists::{IndexLists, LazyTable};
 use layout::PAGE;
-use lazy_table::LazyTable;
 use span_lists::Spans;
 use std::alloc::{AllocError, Global};
 use std::marker::Model;
@@ -118,13 +117,6 @@ impl HeldSpans {
         })
     }
 
-    /// What holds of the pools at each time.
-    pub fn facts(&self)
-        ensures objects { AreObjects self.now }
-    {
-        let _ = &self.lists;
-    }
-
     /// Allocates an object of the class, and answers its first byte.
     ///
     /// It comes from a span that the pools hold, where one has a free object, and otherwise from a new span of the pages.
@@ -135,6 +127,7 @@ impl HeldSpans {
         // None exactly where neither the pools nor the pages have one, and then nothing changed.
         ensures none { IsNone result ↔ LacksObject self.old spans.old class }
         ensures unchanged { IfNone result ((self.new ≡ self.old) × (spans.new ≡ spans.old)) }
+        ensures blocked { IfNone result (IsBlocked spans.old (order_of class)) }
 
         // The object, and the span that it comes from.
         ensures was_free { IfSome result (λ place. map.get self.old.allocated place ≡ None) }
@@ -230,6 +223,7 @@ impl HeldSpans {
         // None exactly where neither the pools nor the pages have one, and then nothing changed.
         ensures none { IsNone result ↔ LacksObject self.old spans.old class }
         ensures unchanged { IfNone result ((self.new ≡ self.old) × (spans.new ≡ spans.old)) }
+        ensures blocked { IfNone result (IsBlocked spans.old (order_of class)) }
 
         // The span, and what was allocated.
         ensures found { IfSome result (λ first. IsHeld self.new first class) }

@@ -2,8 +2,8 @@
 ghost use Rattle.std.specs.Prelude.{◌≡◌, ◌≢◌, ◌<◌, ◌↔◌, IfOk, IfSome, IfNone, IsNone, IsSome, Some, None};
 ghost use Rattle.std.specs.FinMap as map;
 ghost use Rattle.layout.specs.Sizes.{ArePages};
-ghost use Rattle.span_lists.specs.Layout.{Divides, IsCoalesced};
-ghost use Rattle.small_pools.specs.Classes.{size_of};
+ghost use Rattle.span_lists.specs.Layout.{Divides, IsBlocked, IsCoalesced};
+ghost use Rattle.small_pools.specs.Classes.{size_of, order_of};
 ghost use Rattle.small_pools.specs.Objects.{AreObjects, AreHeldIn, AreUsed, HoldsFor, KeepsRoom, LacksObject, Trims};
 ghost use Rattle.small_pools.specs.inside.Marks.{AreMarked};
 
@@ -53,13 +53,6 @@ impl Pools {
         })
     }
 
-    /// What holds of the pools at each time.
-    pub fn facts(&self)
-        ensures objects { AreObjects self.now }
-    {
-        self.held.facts();
-    }
-
     /// Allocates an object of the class, and answers its first byte.
     ///
     /// It comes from a span that the pools hold, where one has a free object, and otherwise from a new span of the pages.
@@ -70,6 +63,7 @@ impl Pools {
         // None exactly where neither the pools nor the pages have one, and then nothing changed.
         ensures none { IsNone result ↔ LacksObject self.old spans.old class }
         ensures unchanged { IfNone result ((self.new ≡ self.old) × (spans.new ≡ spans.old)) }
+        ensures blocked { IfNone result (IsBlocked spans.old (order_of class)) }
 
         // The object, and the span that it comes from.
         ensures was_free { IfSome result (λ place. map.get self.old.allocated place ≡ None) }
@@ -143,7 +137,6 @@ fn trim_marked(held: &mut HeldSpans, marks: &mut NumberSet, spans: &mut Spans)
     ensures divided { Divides spans.new }
     ensures coalesced { IsCoalesced spans.new }
 {
-    held.facts();
     spans.facts();
     while let Some(first) = marks.least() {
         held.trim_span(spans, first);

@@ -9,7 +9,7 @@ use Rattle.common_lemmas.specs.Lists.{times, delete}
 use Rattle.common_lemmas.proofs.Counts.{times_here}
 use Rattle.span_lists.specs.Buddies.{buddy}
 use Rattle.span_lists.specs.Layout.{Layout, free_at, IsFree, IsAllocated, Divides, IsCoalesced, HasNone, TakesFrom, CoalescesInto, IsFirstOf, span_start}
-use Rattle.span_lists.specs.inside.Steps.{IsSplitTo, IsCoalescedTo}
+use Rattle.span_lists.specs.inside.Steps.{IsSplitTo, IsCoalescedTo, MayBegin}
 use Rattle.common_lemmas.proofs.Powers.{start_is, start_of_start}
 use Rattle.span_lists.proofs.Halves.{buddy_ends}
 use Rattle.common_lemmas.proofs.Maps.{maps_same, get_inserted, get_past_insert, get_removed, remove-insert, insert-remove}
@@ -101,33 +101,35 @@ took old mid new order first from found divided e h =
 
 -- ---- a return
 
-pub coalesced_none : (old : Layout) (first order : ℕ) → IsAllocated old first order → Divides old → IsCoalesced old → IsCoalescedTo old old first order first order
-coalesced_none old first order allocated divided coalesced =
-    let span = divided.spans first order (inr allocated) in
-    let o = span.0 in
+-- an allocated span begins where one of its order may; where nothing has changed yet, the span of before
+pub begun : (old now : Layout) (first order : ℕ) → IsAllocated old first order → (now ≡ old) ⊎ MayBegin first order → Divides now → MayBegin first order
+begun old now first order allocated (inl same) divided = (let span = (subst Divides same divided).spans first order (inr allocated) in (span.0, span.1))
+begun old now first order allocated (inr may) divided = may
+
+pub coalesced_none : (old : Layout) (first order : ℕ) → IsAllocated old first order → MayBegin first order → IsCoalescedTo old old first order first order
+coalesced_none old first order allocated may =
+    let o = may.0 in
     record {
       pages = refl;
       to_order = omega arith;
       to_within = omega arith;
-      start = sym (start_is first first order span.1 (omega arith) (let pos = pow_pos order in omega arith));
+      start = sym (start_is first first order may.1 (omega arith) (let pos = pow_pos order in omega arith));
       allocated = sym (insert-remove old.allocated first order allocated);
       none = get_removed old.allocated first first refl;
       were_free = λ k low high. absurd (omega arith);
       buddies = λ k low high. absurd (omega arith);
       lower = λ k h. refl;
       upper = λ k h. refl;
-      divided = divided;
-      coalesced = coalesced;
     }
 
 pub allocated_of_coalesced : (old now : Layout) (first order at to : ℕ) → IsCoalescedTo old now first order at to → IsAllocated now at to
 allocated_of_coalesced old now first order at to h = ap (λ m. map.get m at) h.allocated ∙ get_inserted (map.remove old.allocated first) at to at refl
 
-pub coalesced_more : (old now new : Layout) (first order at to whole : ℕ) → IsCoalescedTo old now first order at to → to < 16 → IsFree now (buddy at to) to → whole ≡ span_start at (to + 1)
+pub coalesced_more : (old now new : Layout) (first order at to whole : ℕ) → IsCoalescedTo old now first order at to → Divides now → to < 16 → IsFree now (buddy at to) to → whole ≡ span_start at (to + 1)
     → new ≡ record now { free = set now.free to (delete (buddy at to) (free_at now to)); allocated = map.insert (map.remove now.allocated at) whole (to + 1) } → map.get now.allocated (buddy at to) ≡ None
-    → Divides new → IsCoalesced new → IsCoalescedTo old new first order whole (to + 1)
-coalesced_more old now new first order at to whole h small held start e none_buddy divided coalesced =
-    let orders = h.divided.orders in
+    → IsCoalescedTo old new first order whole (to + 1)
+coalesced_more old now new first order at to whole h divided small held start e none_buddy =
+    let orders = divided.orders in
     let low = h.to_order in
     let base = map.remove old.allocated first in
     let free : (k : ℕ) → free_at new k ≡ get_or (set now.free to (delete (buddy at to) (free_at now to))) k [] = λ k. ap (λ (s : Layout). free_at s k) e in
@@ -135,7 +137,7 @@ coalesced_more old now new first order at to whole h small held start e none_bud
     let start_b : buddy at to ≡ buddy (span_start first to) to = ap (λ z. buddy z to) h.start in
     let held_old : IsFree old (buddy (span_start first to) to) to = subst (λ z. IsFree old z to) start_b (subst (λ l. 1 ≤ times (buddy at to) l) same held) in
     let base_none : (q : ℕ) → q ≢ at → map.get now.allocated q ≡ None → map.get base q ≡ None = (λ q n g. sym (ap (λ m. map.get m q) h.allocated ∙ get_past_insert base at to q n) ∙ g) in
-    let aligned = (h.divided.spans at to (inr (allocated_of_coalesced old now first order at to h))).1 in
+    let aligned = (divided.spans at to (inr (allocated_of_coalesced old now first order at to h))).1 in
     let ends = buddy_ends at to aligned in
     let least : whole ≡ min at (buddy at to) = start ∙ sym ends.2 in
     let which : (whole ≡ at) ⊎ (whole ≡ buddy at to) = elim ends.3 [ inl p ↦ inl (least ∙ p.0) | inr p ↦ inr (least ∙ p.0) ] in
@@ -162,14 +164,12 @@ coalesced_more old now new first order at to whole h small held start e none_bud
       ]);
       lower = λ k l. free k ∙ free_other now.free to k _ (λ z. absurd (omega arith)) ∙ h.lower k l;
       upper = λ k l. free k ∙ free_other now.free to k _ (λ z. absurd (omega arith)) ∙ h.upper k (omega arith);
-      divided = divided;
-      coalesced = coalesced;
     }
 
-pub gave : (old mid new : Layout) (first order at to : ℕ) → IsCoalescedTo old mid first order at to → new ≡ record mid { free = set mid.free to (at ∷ free_at mid to); allocated = map.remove mid.allocated at }
+pub gave : (old mid new : Layout) (first order at to : ℕ) → IsCoalescedTo old mid first order at to → Divides mid → new ≡ record mid { free = set mid.free to (at ∷ free_at mid to); allocated = map.remove mid.allocated at }
     → CoalescesInto old new first order × (new.allocated ≡ map.remove old.allocated first) × (new.pages ≡ old.pages)
-gave old mid new first order at to h e =
-    let orders = h.divided.orders in
+gave old mid new first order at to h divided e =
+    let orders = divided.orders in
     let within = h.to_within in
     let low = h.to_order in
     let free : (k : ℕ) → free_at new k ≡ get_or (set mid.free to (at ∷ free_at mid to)) k [] = λ k. ap (λ (s : Layout). free_at s k) e in (

@@ -25,8 +25,7 @@ ghost use Rattle.span_lists.specs.Layout.{
 ghost use Rattle.span_lists.specs.inside.Pages.{allocated_order_of, state_at, IsConsistent, IsBegun};
 ghost use Rattle.span_lists.specs.inside.Steps.{IsSplitTo, IsCoalescedTo};
 
-use index_lists::IndexLists;
-use lazy_table::LazyTable;
+use index_lists::{IndexLists, LazyTable};
 use std::alloc::{AllocError, Global};
 use std::marker::Model;
 
@@ -95,8 +94,6 @@ impl Spans {
     pub fn facts(&self)
         ensures divided { Divides self.now }
         ensures coalesced { IsCoalesced self.now }
-        ensures blocked { (order : ℕ) → order ≤ 16 → HasNone self.now order → IsBlocked self.now order }
-        ensures pages { free_pages self.now + allocated_pages self.now ≡ self.now.pages }
     {
         let _ = &self.states;
     }
@@ -136,7 +133,6 @@ impl Spans {
         ensures divided { Divides self.new }
         ensures coalesced { IsCoalesced self.new }
     {
-        self.facts();
         let (at, to) = self.coalesce(first, order);
         self.release(at, to);
     }
@@ -159,11 +155,13 @@ impl Spans {
         None
     }
 
-    /// The number of pages in free spans.
+    /// The number of pages in free spans. The others are in allocated ones, and where no span of an order or above is free, no
+    /// aligned run of its length is.
     pub fn free_pages(&self) -> u32
         ensures value { result ≡ free_pages self.now }
         ensures rest { result + allocated_pages self.now ≡ self.now.pages }
         ensures most { result ≤ self.now.pages }
+        ensures blocked { (order : ℕ) → order ≤ 16 → HasNone self.now order → IsBlocked self.now order }
     {
         self.free
     }
@@ -212,10 +210,9 @@ impl Spans {
         ensures divided { Divides self.new }
         ensures coalesced { IsCoalesced self.new }
     {
-        self.facts();
+        self.states.set(first, PageState::Allocated(order));
         let upper = first + span_pages(order);
         self.lists.push_front(order as u32, upper);
-        self.states.set(first, PageState::Allocated(order));
         self.states.set(upper, PageState::Free(order));
         self.free += span_pages(order);
     }
@@ -264,14 +261,15 @@ impl Spans {
 
     /// Whether a span has a free buddy to be coalesced with.
     fn can_coalesce(&self, first: u32, order: u8) -> bool
-        requires { order < 17 }
-        ensures { IsTrue result ↔ ((order < 16) × IsFree self.now (buddy first order) order) }
+        ensures can { IsTrue result ↔ ((order < 16) × IsFree self.now (buddy first order) order) }
+        ensures divided { Divides self.now }
     {
-        if order == GREATEST_ORDER {
+        let pages = self.pages;
+        if order >= GREATEST_ORDER {
             return false;
         }
         let other = buddy_of(first, order);
-        other < self.pages && self.states.get(other) == PageState::Free(order)
+        other < pages && self.states.get(other) == PageState::Free(order)
     }
 
     /// The span that a request for the order is cut from, and its order.
@@ -309,11 +307,10 @@ impl Spans {
 
     /// Coalesces an allocated span with its free buddies, as far as that goes, and answers the span that they make.
     fn coalesce(&mut self, first: u32, order: u8) -> (u32, u8)
-        requires allocated { IsAllocated self.old first order }
-        requires divided { Divides self.old }
-        requires coalesced { IsCoalesced self.old }
+        requires { IsAllocated self.old first order }
         ensures coalesces { IsCoalescedTo self.old self.new first order result.0 result.1 }
         ensures alone { result.1 < 16 → ¬ IsFree self.new (buddy result.0 result.1) result.1 }
+        ensures divided { Divides self.new }
     {
         let mut at = first;
         let mut to = order;

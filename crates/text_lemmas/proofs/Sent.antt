@@ -3,7 +3,7 @@ use Rattle.std.proofs.Common.{◌≡◌, ℕ, ◌≤◌, List, [], Option, Resul
 use Rattle.std.specs.Result.{OnOk, OnErr}
 use Rattle.std.specs.Borrow.{GName}
 use Rattle.std.specs.Io.KnownBytes.{Appends}
-use Rattle.outside.specs.Moves.{AppendsFront}
+use Rattle.outside.specs.Moves.{AppendsFront, Sends}
 use Rattle.layout.specs.Counts.{Rose}
 use Rattle.text_lemmas.specs.Writing.{Output, Writes}
 use Rattle.text_lemmas.proofs.Written.{written_all, written_front, written_failed}
@@ -43,3 +43,6 @@ module _ {K T E : Type 0} (bytes : K → Option (List ℕ)) (count : K → ℕ) 
 
   pub sent_later : count old ≤ count new
   sent_later = subst (λ m. count old ≤ m) (sym failures) all.never_falls
+
+  pub sent : Sends bytes count old new r text
+  sent = record { written = sent_all; front = sent_front; failed = sent_failed; never_falls = sent_later }

@@ -16,3 +16,5 @@ mod report_text_tests;
 mod run_log_tests;
 #[cfg(test)]
 mod trace_text_tests;
+#[cfg(test)]
+mod value_script_tests;

@@ -11,7 +11,7 @@ mod side_by_side;
 mod two_shards;
 mod written;
 
-use cache_model::{Entry, ReplyKind, is_at_most, one_shard_answers_alone};
+use cache_model::{Entry, ReplyKind, is_at_most};
 use outside::Failed;
 use report_text::ShardLine;
 use run_log::{Journal, ReplyLog};
@@ -108,7 +108,6 @@ fn log_of(
     ensures { IfOk result (λ log. (answers : List (ℕ × Reply)) × AreLogged (trace_in trace.now) 1 (log.replies ∷ []) answers) }
 {
     let commands = trace.commands();
-    one_shard_answers_alone();
     assert!(rt; commands.len() == replies.len());
     assert!(rt; replies.len() <= 20_000);
     let longest = trace.longest_value();

@@ -8,7 +8,7 @@ use Rattle.common_lemmas.proofs.Counts.{times_there, times_cons_le}
 use Rattle.key_table.specs.declared.entries.RowAt.{RowAt}
 use Rattle.key_table.specs.Hash.{tag_of}
 use Rattle.key_table.specs.Table.{Table, AreSame, IsTagged, IsTagOf}
-use Rattle.lazy_index.specs.Lazy.{Lazy, rows_in, Has, IsKeyed, IsLazyOf}
+use Rattle.key_table.specs.Lazy.{Lazy, rows_in, Has, IsKeyed, IsLazyOf}
 
 pub readable_more : (P : ℕ → Type 0) (row : ℕ) (before after : List ℕ) → AreSame (row ∷ before) after → P row → ((n : ℕ) → 1 ≤ times n before → P n) → (n : ℕ) → 1 ≤ times n after → P n
 readable_more P row before after same here is n h =

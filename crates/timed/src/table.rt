@@ -11,8 +11,7 @@ mod table_rounds;
 use crate::rounds;
 use arena::{Arena, fill_arena, fill_one_tag};
 use key_index::KeyIndex;
-use key_table::KeyTable;
-use lazy_index::LazyIndex;
+use key_table::{KeyTable, LazyIndex};
 use std::alloc::{AllocError, Global};
 
 /// How many rows were put in, found and taken out.

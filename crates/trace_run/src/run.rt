@@ -1,7 +1,7 @@
 //! A run of a trace on all shards.
-ghost use Rattle.std.specs.Prelude.{◌<◌, length, All, IfOk, IfErr};
+ghost use Rattle.std.specs.Prelude.{◌<◌, ◌≤◌, length, All, IfOk, IfErr};
 ghost use Rattle.layout.specs.Sizes.{ArePages};
-ghost use Rattle.trace_text.specs.Parsed.{trace_in};
+ghost use Rattle.trace_text.specs.Parsed.{IsWellFormed, trace_in};
 ghost use Rattle.run_log.specs.Runs.{IsFinished};
 ghost use Rattle.shard_rings.specs.Links.{end_of, traffic_of};
 ghost use Rattle.shard_node.specs.Standing.{InStanding};
@@ -63,12 +63,12 @@ where
     R: Threads + Wait + Sync,
     G: Gates,
     requires pages { ArePages pages }
+    requires some { 1 ≤ trace.now.shards }
     requires seats { AreAtRest trace.now.shards homes.now seats.items }
     ensures run { IfOk result (λ ended. IsFinished (trace_in trace.now) trace.now.shards pages ended.ran) }
     ensures seats { IfOk result (λ ended. AreAtRest trace.now.shards homes.now ended.seats.items) }
     ensures refused { IfErr result (λ back. AreAtRest trace.now.shards homes.now back.items) }
 {
-    trace.commands();
     let Ok(remains) = Remains::new(alloc, trace, pages) else {
         return Err(seats);
     };
@@ -93,7 +93,10 @@ where
     R: Threads + Wait + Sync,
     G: Gates,
     requires pages { ArePages pages }
-    ensures { IfOk result (λ ran. IsFinished (trace_in trace.now) trace.now.shards pages ran) }
+    ensures run { IfOk result (λ ran. IsFinished (trace_in trace.now) trace.now.shards pages ran) }
+
+    // What holds of each trace.
+    ensures well_formed { All IsWellFormed (trace_in trace.now).operations }
 {
     let shards = trace.shards();
     let (homes, seats) = open_lists(alloc, shards)?;

@@ -45,7 +45,7 @@ impl CommandList {
         self.commands.push(command)?;
         self.gets += usize::from(command.kind.is_get());
         self.scans += usize::from(command.kind.is_scan());
-        self.longest = max(self.longest, command.value.len);
+        self.longest = self.longest.max(command.value.len);
         Ok(())
     }
 
@@ -81,10 +81,4 @@ impl CommandList {
     {
         self.longest
     }
-}
-
-fn max(left: u32, right: u32) -> u32
-    ensures { result ≡ max left right }
-{
-    if left < right { right } else { left }
 }

@@ -5,9 +5,10 @@ ghost use Rattle.trace_text.specs.inside.Lines.{command_in};
 
 use crate::command::{Command, Span};
 use std::alloc::{AllocError, AllocFailed};
+use thiserror::Error;
 
 /// Where a line stands in a trace.
-#[derive(Clone, Copy)]
+#[derive(Clone, Copy, Debug)]
 pub struct Place {
     /// The number of the command that it may be.
     pub number: u32,
@@ -19,7 +20,7 @@ pub struct Place {
 }
 
 /// A line: cut, and then read or refused.
-#[derive(Clone, Copy)]
+#[derive(Clone, Copy, Debug)]
 pub enum Line {
     /// It stands there, and is not read.
     Cut(Place),
@@ -42,11 +43,13 @@ impl Line {
 }
 
 /// Why lines are not all read.
-#[derive(Drop)]
+#[derive(Debug, Drop, Error)]
 pub enum Unread {
     /// A line is no command, or a command too many.
+    #[error("a line is refused")]
     Refused,
     /// Memory ran out.
+    #[error("no memory is left")]
     Memory,
 }
 

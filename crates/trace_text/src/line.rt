@@ -16,7 +16,7 @@ use memchr::memchr;
 use rows::Kind;
 
 /// What a line asks, and where its key and its value stand in it.
-#[derive(Clone, Copy)]
+#[derive(Clone, Copy, Debug)]
 pub struct Found<'a> {
     pub kind: Kind,
     pub key: &'a [u8],

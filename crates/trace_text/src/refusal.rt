@@ -8,37 +8,28 @@ use thiserror::Error;
 
 /// Why a trace is refused, at the first line that is no command. The causes and their order are this project's own.
 #[derive(Clone, Copy, Debug, PartialEq, Eq, Drop, Error)]
+#[error("{}", self.name())]
 pub enum Cause {
     /// The word is none of `put`, `get`, `erase` and `scan`.
-    #[error("unknown word")]
     UnknownWord,
     /// No space follows where a field has to follow.
-    #[error("missing field")]
     MissingField,
     /// The key has no byte, or more than 256.
-    #[error("key length")]
     KeyLength,
     /// The key has a byte below 33, or 127.
-    #[error("key byte")]
     KeyByte,
     /// The value has more than 12,000 bytes.
-    #[error("value length")]
     ValueLength,
     /// The value has a byte below 32, or 127.
-    #[error("value byte")]
     ValueByte,
     /// The count of a scan is no spelling of 1 to 32.
-    #[error("count")]
     Count,
     /// A space follows the last field.
-    #[error("extra field")]
     ExtraField,
     /// 1,048,576 commands stand before this one.
-    #[error("too many commands")]
     TooManyCommands,
     /// The replies may have more than 536,870,912 bytes: the longest value for each get, and 8,272 bytes for
     /// each shard's part of a scan. It has line 0.
-    #[error("replies too large")]
     RepliesTooLarge,
 }
 
@@ -63,11 +54,13 @@ impl Cause {
 }
 
 /// Why a trace is not parsed.
-#[derive(Debug, Drop)]
+#[derive(Debug, Drop, Error)]
 pub enum ParseRefusal {
     /// The first line with a cause, counted from 1, and its cause.
+    #[error("refused line {line} {cause}")]
     Trace { line: u32, cause: Cause },
     /// Memory ran out.
+    #[error("no memory is left")]
     Memory,
 }
 

@@ -9,7 +9,7 @@ use rows::Kind;
 
 /// Where a command goes: to the owner of its key, or, where its kind is that of a scan, to each shard. It is written down
 /// once, so that whoever looks for the commands of a shard reads neither the commands nor their keys.
-#[derive(Clone, Copy)]
+#[derive(Clone, Copy, Debug)]
 pub struct Route {
     pub kind: Kind,
     pub owner: u8,

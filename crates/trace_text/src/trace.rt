@@ -3,7 +3,7 @@ ghost use Rattle.std.specs.Prelude.{◌≡◌, ◌<◌, ◌≤◌, length, map, 
 ghost use Rattle.layout.specs.Sizes.{greatest_key, greatest_value};
 ghost use Rattle.rows.specs.Operation.{Operation, is_scan};
 ghost use Rattle.trace_text.specs.Operation.{part};
-ghost use Rattle.trace_text.specs.Parsed.{trace_in, AreNumbered, IsWellFormed, LiesWithin};
+ghost use Rattle.trace_text.specs.Parsed.{trace_in, AreNumbered, IsConsistent, IsWellFormed, LiesWithin};
 ghost use Rattle.trace_text.specs.Parts.{has_part, most_shards, owner, replies_room};
 ghost use Rattle.trace_text.specs.Reading.{line_numbers, most_commands, most_replies, trace_of};
 ghost use Rattle.trace_text.specs.inside.Routes.{route};
@@ -47,6 +47,11 @@ impl Trace {
         ensures value { result ≡ self.now.shards }
         ensures some { 1 ≤ result }
         ensures few { result ≤ most_shards }
+
+        // What holds of each trace.
+        ensures consistent { IsConsistent self.now }
+        ensures well_formed { All IsWellFormed (trace_in self.now).operations }
+        ensures few_commands { length self.now.commands ≤ most_commands }
     {
         self.shards
     }
@@ -62,6 +67,7 @@ impl Trace {
         ensures lines { map (λ command. command.line) result.now ≡ line_numbers self.now.bytes }
         ensures well_formed { All IsWellFormed (trace_in self.now).operations }
         ensures lie { All (LiesWithin self.now.bytes) result.now }
+        ensures consistent { IsConsistent self.now }
         ensures few { length result.now ≤ most_commands }
 
         // The limits of a trace.
@@ -78,6 +84,7 @@ impl Trace {
         ensures value { result.now ≡ part self.now.bytes command.now.key }
         ensures some { 1 ≤ length result.now }
         ensures most { length result.now ≤ greatest_key }
+        ensures lies { LiesWithin self.now.bytes command.now }
     {
         let start = command.key.start as usize;
         &self.bytes[start..start + command.key.len as usize]

@@ -4,13 +4,13 @@ ghost use Rattle.tree_nodes.specs.Nodes.{IsNode, node_in, children_count, no_pla
 
 use crate::bytes::{close_up, place_bytes, put_at, take_at, write_place};
 use crate::links::NO_PLACE;
-use crate::reading::{CHILD, child_start};
+use crate::reading::{CHILD, MOST_ENTRIES, child_start};
 
 /// The number of the last child.
-const LAST: u16 = 16;
+const LAST: u16 = MOST_ENTRIES;
 
 /// How many children there are.
-const COUNT: u16 = 17;
+const COUNT: u16 = MOST_ENTRIES + 1;
 
 /// Writes the place of a child.
 pub fn set_child(node: &mut [u8], i: u16, place: u64)

@@ -19,5 +19,5 @@ pub use child_places::{add_child, cut_child, cut_children, set_child};
 pub use entries::{add, cut, cut_run, set_number};
 pub use law::a_node_is_read_as_it_is_written;
 pub use links::{NO_PLACE, set_next_leaf, set_parent, start};
-pub use reading::{child, count, key, level, next_leaf, number, parent};
+pub use reading::{HALF, MOST_ENTRIES, child, count, key, level, next_leaf, number, parent};
 pub use search::find;

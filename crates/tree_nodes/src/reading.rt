@@ -4,6 +4,12 @@ ghost use Rattle.tree_nodes.specs.Nodes.{IsNode, node_in, entry_at, child_at, ch
 
 use crate::bytes::{count_at, number_at, place_at};
 
+/// The most entries of a node.
+pub const MOST_ENTRIES: u16 = 16;
+
+/// Half as many: what each part of a node has that is cut in two.
+pub const HALF: u16 = 8;
+
 /// The bytes of the header.
 pub(crate) const HEADER: usize = 24;
 

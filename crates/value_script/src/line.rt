@@ -23,7 +23,7 @@ const GREATEST_AT: u32 = 1_048_576;
 const GREATEST_COUNT: u32 = 64;
 
 /// The word of a command.
-#[derive(Clone, Copy)]
+#[derive(Clone, Copy, Debug)]
 pub enum Word {
     Set,
     Read,
@@ -31,7 +31,7 @@ pub enum Word {
 }
 
 /// What a line asks. A value is an end of the line.
-#[derive(Clone, Copy)]
+#[derive(Clone, Copy, Debug)]
 pub enum Found<'a> {
     Set(u32, &'a [u8]),
     Read(u32, u32, u32),

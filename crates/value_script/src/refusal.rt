@@ -8,27 +8,21 @@ use thiserror::Error;
 
 /// Why a script is refused, at the first line that is no command.
 #[derive(Clone, Copy, Debug, PartialEq, Eq, Drop, Error)]
+#[error("{}", self.name())]
 pub enum Cause {
     /// 1,048,576 commands stand before this one.
-    #[error("too many commands")]
     TooManyCommands,
     /// The word is none of `set`, `read` and `drop`.
-    #[error("unknown word")]
     UnknownWord,
     /// No space follows where a field has to follow.
-    #[error("missing field")]
     MissingField,
     /// A field is no number, begins with a zero, or is too great.
-    #[error("number")]
     Number,
     /// A space follows the last field.
-    #[error("extra field")]
     ExtraField,
     /// The value has more than 1,048,576 bytes.
-    #[error("value length")]
     ValueLength,
     /// The value has a byte below 32, or 127.
-    #[error("value byte")]
     ValueByte,
 }
 
@@ -50,11 +44,13 @@ impl Cause {
 }
 
 /// Why a script is not parsed.
-#[derive(Debug, Drop)]
+#[derive(Debug, Drop, Error)]
 pub enum ScriptRefusal {
     /// The first line with a cause, counted from 1, and its cause.
+    #[error("refused line {line} {cause}")]
     Script { line: u32, cause: Cause },
     /// Memory ran out.
+    #[error("no memory is left")]
     Memory,
 }
 

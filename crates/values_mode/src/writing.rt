@@ -1,9 +1,9 @@
 //! The text of a script.
-ghost use Rattle.std.specs.Prelude.{◌≡◌, ◌≤◌, [], length, IfOk, OnOk, OnErr};
+ghost use Rattle.std.specs.Prelude.{◌≡◌, [], length, IfOk, OnOk, OnErr};
 ghost use Rattle.std.specs.Io.KnownBytes.{Appends};
 ghost use Rattle.layout.specs.Counts.{Rose};
 ghost use Rattle.layout.specs.Sizes.{ArePages};
-ghost use Rattle.outside.specs.Moves.{AppendsFront};
+ghost use Rattle.outside.specs.Moves.{AppendsFront, Sends};
 ghost use Rattle.regions.specs.Shapes.{held_count};
 ghost use Rattle.segmented_store.specs.Room.{room};
 ghost use Rattle.segmented_store.specs.Segments.{HoldsSegments};
@@ -69,15 +69,9 @@ pub fn write_values<K: Sink>(
 ) -> Result<(), Failed>
     requires empty { IsEmpty store.old }
 
-    // The whole text, or a front of it.
-    ensures written { OnOk result (Appends (K.written sink.old) (K.written sink.new)
-        (values_text (script_in script.now) store.old.pages)) }
-    ensures front { OnErr result (AppendsFront (K.written sink.old) (K.written sink.new)
-        (values_text (script_in script.now) store.old.pages)) }
-
-    // It fails only where the sink does.
-    ensures failed { OnErr result (Rose (K.faults sink.old) (K.faults sink.new)) }
-    ensures never_falls { K.faults sink.old ≤ K.faults sink.new }
+    // The whole text, or a front of it, and then the sink failed.
+    ensures sent { Sends K.written K.faults sink.old sink.new result
+        (values_text (script_in script.now) store.old.pages) }
 
     // The values are what the commands make of none, and the memory is as it was.
     ensures values { OnOk result (values_of store.new.values ≡ values_left (script_in script.now) store.old.pages) }

@@ -1,5 +1,6 @@
 -- What holds of the parts of a dirty region.
 use Rattle.std.specs.Prelude.{◌≡◌, ℕ, ◌≤◌, None}
+use Rattle.layout.specs.Sizes.{most_segments}
 use Rattle.rows.specs.Row.{live}
 use Rattle.regions.specs.Segments.{RegionState}
 use Rattle.regions.specs.Shapes.{shape, group_count, active_of, guards_of, held_count, free_count}
@@ -12,7 +13,7 @@ use Rattle.dirty_region.specs.inside.Indexed.{IsIndexOf}
 
 -- the region has at most 2,048 segments, one group and no guard, and where two segments are held one is free
 pub record HasSpare (r : RegionState) : Type 0 where
-  pub most : (shape r).most ≤ 2048
+  pub most : (shape r).most ≤ most_segments
   pub one : group_count r ≡ 1
   pub guards : guards_of r 0 ≡ 0
   pub begun : active_of r 0 ≡ None → held_count r ≤ free_count r

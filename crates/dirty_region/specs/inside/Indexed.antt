@@ -1,6 +1,7 @@
 -- Which puts of a ring the index of keys has: of each key the newest one.
 use Rattle.std.specs.Prelude.{◌≡◌, ◌≢◌, ◌↔◌, ℕ, ◌-◌, ◌<◌, ◌≤◌, List}
-use Rattle.dirty_region.specs.inside.PutRows.{PutRows, Has, IsKeyed}
+use Rattle.common_lemmas.specs.Lists.{times}
+use Rattle.dirty_region.specs.inside.PutRows.{PutRows, Has, IsKeyed, rows_in}
 use Rattle.regions.specs.Stores.{Live}
 use Rattle.dirty_region.specs.inside.Rings.{RingState, slot, key_at}
 
@@ -17,10 +18,11 @@ pub record HasThose (r : RingState) (from to : ℕ) (Holds : ℕ → Type 0) (in
   pub only : (n : ℕ) → Has index n → (k : ℕ) × (from ≤ k) × (k < to) × (n ≡ slot r k)
   pub those : (k : ℕ) → from ≤ k → k < to → Has index (slot r k) ↔ Holds k
 
--- the index is the one of these puts and their keys
+-- the index is the one of these puts and their keys, and has each row once
 pub record IsKeyedBy (r : RingState) (live : Live) (from to : ℕ) (Holds : ℕ → Type 0) (index : PutRows) : Type 0 where
   pub room : index.room ≡ r.room
   pub keyed : IsKeyed (key_at live r.places) index
+  pub once : (n : ℕ) → times n (rows_in index) ≤ 1
   pub has : HasThose r from to Holds index
 
 -- the index is the one of the ring: it has of each key the newest put

@@ -3,12 +3,12 @@ ghost use Rattle.std.specs.Prelude.{◌≡◌, ◌↔◌, ◌+◌, ◌%◌, ◌^
 ghost use Rattle.std.specs.Prelude.{IfOk, OnOk, OnErr, IsNone, IfSome, vec_capacity};
 ghost use Rattle.layout.specs.Counts.{Rose};
 ghost use Rattle.dirty_region.specs.Queues.{line, FlushesOldest, BreaksOff, GoesOn};
+ghost use Rattle.dirty_region.specs.State.{Keeps};
 ghost use Rattle.dirty_region.specs.inside.Rings.{IsRingOf, nth, puts_in};
 ghost use Rattle.dirty_region.specs.inside.Lines.{greatest_line};
 ghost use Rattle.dirty_region.specs.inside.Consistent.{IsStored};
 ghost use Rattle.regions.specs.Shapes.{shape};
 ghost use Rattle.regions.specs.Contents.{live_at};
-ghost use Rattle.segmented_store.specs.Segments.{HoldsSegments};
 ghost use Rattle.text_lemmas.specs.Writing.{Writes};
 
 use super::Dirty;
@@ -46,8 +46,7 @@ impl Dirty {
         ensures first { OnErr result (self.new.first ≡ self.old.first) }
 
         // The room and the segments are as they were.
-        ensures room { self.new.room ≡ self.old.room }
-        ensures segments { HoldsSegments self.old.region self.new.region }
+        ensures kept { Keeps self.old self.new }
     {
         if self.ring.len() == 0 {
             return Ok(None);
@@ -78,8 +77,7 @@ impl Dirty {
         ensures stays { OnErr result (self.new.queue ≡ self.old.queue) }
 
         // The room and the segments are as they were.
-        ensures room { self.new.room ≡ self.old.room }
-        ensures segments { HoldsSegments self.old.region self.new.region }
+        ensures kept { Keeps self.old self.new }
     {
         if self.ring.len() == 0 {
             return Ok(());
@@ -134,9 +132,9 @@ fn take_out(
 fn make_oldest_line(region: &Region, ring: &Ring, text: &mut Vec<u8>) -> u32
     requires some { 1 ≤ ring.now.count }
     requires ring { IsRingOf ring.now (live_at region.now) }
-    requires room { greatest_line ≤ vec_capacity text.old }
+    requires capacity { greatest_line ≤ vec_capacity text.old }
     ensures line { text.new.items ≡ line (nth ring.now (live_at region.now) 0) }
-    ensures room { greatest_line ≤ vec_capacity text.new }
+    ensures capacity { greatest_line ≤ vec_capacity text.new }
     ensures number { result ≡ (nth ring.now (live_at region.now) 0).number }
 {
     let content = content_of(region, ring.places(), ring.slot(0));

@@ -47,7 +47,6 @@ impl Dirty {
             &mut self.index,
             &mut self.live,
         );
-        self.index.law();
         self.out = 0;
         self.region.give_up()
     }

@@ -1,6 +1,7 @@
 //! How a put comes into the segments, and how the oldest one goes.
 ghost use Rattle.std.specs.Prelude.{◌≡◌, ℕ, ◌+◌, ◌-◌, ◌%◌, ◌^◌, ◌<◌, ◌≤◌, ◌++◌, ◌∷◌, [], length};
 ghost use Rattle.rows.specs.Row.{Row, size, live};
+ghost use Rattle.row_bytes.specs.NewRows.{row_of, CanStand};
 ghost use Rattle.key_table.specs.Table.{IsSpotFor};
 ghost use Rattle.object_log.specs.Objects.{IsSize};
 ghost use Rattle.regions.specs.Shapes.{shape, held_count, HasGroup};
@@ -11,14 +12,14 @@ ghost use Rattle.compaction.specs.Emptied.{HoldsTheSame};
 ghost use Rattle.dirty_region.specs.inside.Rings.{IsRingOf, nth, popped, puts_in};
 ghost use Rattle.dirty_region.specs.inside.Indexed.{IsIndexOf, IsIndexBut};
 ghost use Rattle.dirty_region.specs.inside.Consistent.{HasSpare, IsStored};
-ghost use Rattle.dirty_region.specs.inside.NewPuts.{row_of, CanStand};
 
-use crate::objects::{NewPut, kill_put, place_put};
+use crate::objects::{kill_put, place_put};
 use crate::put_index::PutIndex;
 use crate::ring::Ring;
 use crate::seeking::{enter, forget_oldest};
 use key_table::Spot;
 use regions::Region;
+use row_bytes::NewRow;
 use segmented_store::make_room;
 
 // Makes room for an object of the size. The puts are the same, wherever they stand.
@@ -29,7 +30,7 @@ pub(super) fn make_way(region: &mut Region, ring: &mut Ring, index: &PutIndex, s
     requires spare { HasSpare region.old }
     requires size { IsSize size }
     requires held { 3 ≤ held_count region.old }
-    requires room { live_total region.old + size ≤ bound.room (held_count region.old) }
+    requires within { live_total region.old + size ≤ bound.room (held_count region.old) }
 
     // There is room.
     ensures left { size ≤ left region.new 0 }
@@ -42,7 +43,6 @@ pub(super) fn make_way(region: &mut Region, ring: &mut Ring, index: &PutIndex, s
     ensures places { record ring.new { places = [] } ≡ record ring.old { places = [] } }
     ensures holds { HoldsTheSame region.old region.new }
 {
-    index.law();
     make_room(region, ring, size);
 }
 
@@ -52,7 +52,7 @@ pub(super) fn add_put(
     ring: &mut Ring,
     index: &mut PutIndex,
     spot: Spot,
-    put: NewPut<'_>,
+    put: NewRow<'_>,
 )
     requires group { HasGroup region.old 0 }
     requires ring { IsRingOf ring.old (live_at region.old) }
@@ -75,7 +75,6 @@ pub(super) fn add_put(
 {
     let place = place_put(region, ring.next_position(), put);
     ring.push(place);
-    index.law();
     enter(index, ring, region, spot);
 }
 
@@ -97,7 +96,6 @@ pub(super) fn drop_oldest(
     ensures shape { shape region.new ≡ shape region.old }
 {
     forget_oldest(index, ring, region);
-    index.law();
     let size = kill_put(region, ring.place(0));
     ring.pop();
     *live_bytes -= u64::from(size);

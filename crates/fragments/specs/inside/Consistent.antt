@@ -1,5 +1,6 @@
 -- What holds of the parts of a store.
 use Rattle.std.specs.Prelude.{◌≡◌, ◌⊎◌, ℕ, ◌+◌, ◌^◌, ◌-◌, ◌<◌, ◌≤◌, List, [], ◌∷◌, length, Some, IsSome, map, take, slice_index_or}
+use Rattle.layout.specs.Sizes.{most_segments}
 use Rattle.regions.specs.Segments.{RegionState}
 use Rattle.regions.specs.Shapes.{shape, active_of, group_count, held_count, free_count}
 use Rattle.regions.specs.Counts.{live_total}
@@ -29,10 +30,11 @@ size_of_parts (p ∷ ps) = object_size (length p) + size_of_parts ps
 abbrev pub HasFree : RegionState → Type 0
 HasFree r = (1 ≤ free_count r) ⊎ ((held_count r ≡ 0) ⊎ ((held_count r ≤ 1) × IsSome (active_of r 0)))
 
--- the region has one group, and its chains hold the values and nothing else
+-- each entry has a first fragment and a chain, the region has one group, and its chains hold the values and nothing else
 pub record IsConsistent (t : TableState) (r : RegionState) (lengths : List ℕ) (segments bytes : ℕ) : Type 0 where
+  pub entries : AreEntries t
   pub one : group_count r ≡ 1
-  pub few : (shape r).most ≤ 2048
+  pub few : (shape r).most ≤ most_segments
   pub chains : AreChains t (live_at r)
   pub parts : HoldParts t (live_at r) (all_parts (values_in t r) [])
   pub short : (n : ℕ) → IsShort (value_of (values_in t r) n)

@@ -8,7 +8,7 @@ use Rattle.fragments.specs.Sizes.{size}
 use Rattle.fragments.specs.Chains.{TableState, AreChains, HoldParts, Parts, parts}
 use Rattle.segmented_store.specs.Segments.{HoldsSegments}
 use Rattle.fragments.specs.Store.{IsRegion, Stay}
-use Rattle.fragments.specs.inside.Consistent.{size_of_parts}
+use Rattle.fragments.specs.inside.Consistent.{AreEntries, size_of_parts}
 
 -- The value that is being written has these bytes now. Those of the names are as they were, and the segments are those that
 -- were there.
@@ -28,6 +28,7 @@ pub record Replaces (t u : TableState) (r s : RegionState) (name : ℕ) : Type 0
   pub chains : AreChains u (live_at s)
   pub parts_are : (all replaced : Parts) → HoldParts t (live_at r) all → replaced name ≡ all t.names → replaced t.names ≡ []
       → ((e : ℕ) → e ≢ name → e ≢ t.names → replaced e ≡ all e) → HoldParts u (live_at s) replaced
+  pub entries : AreEntries u
   pub names : u.names ≡ t.names
   pub total : (all : Parts) → HoldParts t (live_at r) all → live_total s + size_of_parts (all name) ≡ live_total r
   pub shape_is : shape s ≡ shape r

@@ -8,7 +8,7 @@ ghost use Rattle.fragments.specs.Sizes.{fragment_bytes, greatest_value, most_fra
 ghost use Rattle.fragments.specs.Chains as chains;
 ghost use Rattle.segmented_store.specs.Segments.{HoldsSegments};
 ghost use Rattle.fragments.specs.Store.{Stay};
-ghost use Rattle.fragments.specs.inside.Consistent.{size_of_parts};
+ghost use Rattle.fragments.specs.inside.Consistent.{AreEntries, size_of_parts};
 ghost use Rattle.fragments.specs.inside.Setting.{Writes, Replaces, Sets};
 
 use crate::bytes::{FRAGMENT_BYTES, fragment_count, object_size};
@@ -24,7 +24,7 @@ fn add_part(region: &mut Region, tables: &mut Tables, part: &[u8])
     requires held { 3 ≤ held_count region.old }
     requires free { 1 ≤ free_count region.old }
     requires short { length part.now ≤ fragment_bytes }
-    requires room { live_total region.old + object_size (length part.now) ≤ room (held_count region.old) }
+    requires within { live_total region.old + object_size (length part.now) ≤ room (held_count region.old) }
     requires few { length (chains.chain_at tables.old.chains tables.old.names) < most_fragments }
     requires name { tables.old.grows < tables.old.names }
 
@@ -58,7 +58,7 @@ pub(super) fn set_value(region: &mut Region, tables: &mut Tables, name: u32, byt
     requires free { 1 ≤ free_count region.old }
     requires name { name < tables.old.names }
     requires short { length bytes.now ≤ greatest_value }
-    requires room { live_total region.old + size (length bytes.now) ≤ room (held_count region.old) }
+    requires within { live_total region.old + size (length bytes.now) ≤ room (held_count region.old) }
     ensures { Sets tables.old tables.new region.old region.new name bytes.now }
 {
     write_value(region, tables, name, bytes);
@@ -75,11 +75,10 @@ fn write_value(region: &mut Region, tables: &mut Tables, name: u32, bytes: &[u8]
     requires free { 1 ≤ free_count region.old }
     requires name { name < tables.old.names }
     requires short { length bytes.now ≤ greatest_value }
-    requires room { live_total region.old + size (length bytes.now) ≤ room (held_count region.old) }
+    requires within { live_total region.old + size (length bytes.now) ≤ room (held_count region.old) }
 
     ensures { Writes tables.old tables.new region.old region.new name bytes.now }
 {
-    tables.facts();
     tables.begin(name);
     let mut left = fragment_count(bytes.len()) - 1;
     add_part(region, tables, &bytes[left * FRAGMENT_BYTES..]);
@@ -87,6 +86,7 @@ fn write_value(region: &mut Region, tables: &mut Tables, name: u32, bytes: &[u8]
         left -= 1;
         add_part(region, tables, part_of(bytes, left));
     }
+    // What always holds of the segments: a caller learns it of them as they are now, before the old value is dropped.
     region.facts();
 }
 
@@ -120,6 +120,7 @@ pub(super) fn drop_value(region: &mut Region, tables: &mut Tables, name: u32)
     ensures chains { chains.AreChains tables.new (live_at region.new) }
     ensures parts { (all fewer : chains.Parts) → chains.HoldParts tables.old (live_at region.old) all → fewer name ≡ []
         → ((e : ℕ) → e ≢ name → fewer e ≡ all e) → chains.HoldParts tables.new (live_at region.new) fewer }
+    ensures entries { AreEntries tables.new }
     ensures names { tables.new.names ≡ tables.old.names }
     ensures grows { tables.new.grows ≡ tables.old.grows }
     ensures none { chains.chain_at tables.new.chains name ≡ [] }

@@ -7,7 +7,7 @@ use Rattle.tree_nodes.specs.Nodes.{TreeNode, IsNode, node_in, started}
 use Rattle.index_tree.specs.Indexes.{Index}
 use Rattle.index_tree.specs.Links.{Nodes}
 use Rattle.index_tree.specs.Moves.{moved_tree}
-use Rattle.index_tree.specs.Sizes.{node_kind}
+use Rattle.layout.specs.Kinds.{node_kind}
 use Rattle.index_tree.specs.Store.{nodes_of}
 use Rattle.index_tree.specs.Trees.{IsTree, TreeState, held_below, index_of}
 use Rattle.index_tree.specs.inside.Climbs.{HoldNodes}

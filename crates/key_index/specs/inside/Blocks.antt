@@ -5,6 +5,7 @@ use Rattle.key_index.specs.declared.entries.Entry.{Entry}
 use Rattle.key_index.specs.Lead.{rows_of, AreBytes, IsLed}
 use Rattle.key_index.specs.Order.{key_cmp, Each, AreAbove, AreBelow, AreRising}
 use Rattle.key_index.specs.Index.{joined, block_at}
+use Rattle.key_index.specs.inside.Sizes.{block_room}
 
 -- entries in the order of keys that can be read
 pub record AreEntriesOf (has_row : ℕ → Type 0) (key_of : ℕ → List ℕ) (entries : List Entry) : Type 0 where
@@ -39,9 +40,9 @@ pub record IsPlaceOf (key_of : ℕ → List ℕ) (key : List ℕ) (blocks : List
   pub at_least : AreAtLeast key_of key (drop at (rows_of (entries_at blocks block)))
   pub after : AreAbove key_of key (rows_of (entries_of (drop (block + 1) blocks)))
 
--- a block in use has an entry, and at most 256
+-- a block in use has an entry, and room for those that it has
 abbrev pub IsBlock : List Entry → Type 0
-IsBlock block = (0 < length block) × (length block ≤ 256)
+IsBlock block = (0 < length block) × (length block ≤ block_room)
 
 -- how many entries each block has
 abbrev pub lens_of : List (List Entry) → List ℕ
@@ -49,4 +50,4 @@ lens_of blocks = map (λ block. length block) blocks
 
 -- a block that may have lost its last entry
 abbrev pub IsFit : List Entry → Type 0
-IsFit block = length block ≤ 256
+IsFit block = length block ≤ block_room

@@ -2,6 +2,7 @@
 use Rattle.std.specs.Prelude.{◌≡◌, ℕ, ◌+◌, ◌<◌, ◌≤◌, ◌==◌, if◌then◌else◌, List, [], ◌∷◌, length, map, take, slice_index_or, All}
 use Rattle.key_index.specs.declared.entries.Entry.{Entry}
 use Rattle.key_index.specs.declared.blocks.Slot.{Slot}
+use Rattle.key_index.specs.inside.Sizes.{block_room}
 
 -- blocks in order, and how many there may be at most
 pub record Stock : Type 0 where
@@ -30,11 +31,11 @@ times p (q ∷ places) = same p q + times p places
 
 -- a block stands in a store
 abbrev pub Stands : List (List Entry) → Slot → Type 0
-Stands store slot = (slot.at < length store) × (slot.len ≤ 256)
+Stands store slot = (slot.at < length store) × (slot.len ≤ block_room)
 
 -- each place in a store has room for a block, and either one block stands there or it is free
 pub record AreStocked (store : List (List Entry)) (order : List Slot) (free : List ℕ) : Type 0 where
-  pub whole : All (λ block. length block ≡ 256) store
+  pub whole : All (λ block. length block ≡ block_room) store
   pub stand : All (Stands store) order
   pub inside : All (λ p. p < length store) free
   pub once : (p : ℕ) → uses p order + times p free ≤ 1

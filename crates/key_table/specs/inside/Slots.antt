@@ -1,32 +1,32 @@
 -- Slots, of which each holds a row or none.
 use Rattle.std.specs.Prelude.{◌≡◌, ◌≢◌, ℕ, ◌+◌, ◌-◌, ◌<◌, ◌≤◌, ◌==◌, Bool, not, List, length, filter, count_by, slice_index_or}
 use Rattle.key_table.specs.Hash.{tag_of}
-use Rattle.key_table.specs.Table.{is_near, reach}
+use Rattle.key_table.specs.Table.{is_near, reach, vacant_row}
 pub use Rattle.key_table.specs.Table.{home_of}
 use Rattle.key_table.specs.declared.entries.RowAt.{RowAt}
 
 abbrev pub nothing : RowAt
-nothing = record { row = 4294967295; tag = 0 }
+nothing = record { row = vacant_row; tag = 0 }
 
 abbrev pub slot_at : List RowAt → ℕ → RowAt
 slot_at slots k = slice_index_or slots k nothing
 
 abbrev pub holds : RowAt → Bool
-holds slot = not (slot.row == 4294967295)
+holds slot = not (slot.row == vacant_row)
 
 -- what the slots hold
 abbrev pub held : List RowAt → List RowAt
 held slots = filter holds slots
 
 abbrev pub IsHeld : List RowAt → ℕ → Type 0
-IsHeld slots k = (slot_at slots k).row ≢ 4294967295
+IsHeld slots k = (slot_at slots k).row ≢ vacant_row
 
 -- an empty slot, from one slot on and before another
 pub record IsGapIn (slots : List RowAt) (from to : ℕ) : Type 0 where
   pub at : ℕ
   pub behind : from ≤ at
   pub before : at < to
-  pub vacant : (slot_at slots at).row ≡ 4294967295
+  pub vacant : (slot_at slots at).row ≡ vacant_row
 
 -- of each so many slots in a row one is empty
 abbrev pub HaveGaps : List RowAt → Type 0
@@ -36,7 +36,7 @@ HaveGaps slots = (k : ℕ) → IsGapIn slots k (k + reach)
 pub record AreProbed (mask : ℕ) (slots : List RowAt) : Type 0 where
   pub some : mask + 1 + reach ≤ length slots
   pub gaps : HaveGaps slots
-  pub last : (slot_at slots (length slots - 1)).row ≡ 4294967295
+  pub last : (slot_at slots (length slots - 1)).row ≡ vacant_row
   pub behind : (j : ℕ) → IsHeld slots j → home_of mask (slot_at slots j).tag ≤ j
   pub between : (j k : ℕ) → IsHeld slots j → home_of mask (slot_at slots j).tag ≤ k → k < j → IsHeld slots k
 
@@ -48,13 +48,13 @@ Within xs ys = (k : ℕ) → IsHeld ys k → (j : ℕ) × (slot_at xs j ≡ slot
 pub record IsFirstVacant (slots : List RowAt) (start at : ℕ) : Type 0 where
   pub inside : at < length slots
   pub behind : start ≤ at
-  pub vacant : (slot_at slots at).row ≡ 4294967295
+  pub vacant : (slot_at slots at).row ≡ vacant_row
   pub between : (k : ℕ) → start ≤ k → k < at → IsHeld slots k
 
 -- the first of the slots before one that hold rows, with no empty slot between
 pub record IsRunStart (slots : List RowAt) (at low : ℕ) : Type 0 where
   pub before : low ≤ at
-  pub start : 0 < low → (slot_at slots (low - 1)).row ≡ 4294967295
+  pub start : 0 < low → (slot_at slots (low - 1)).row ≡ vacant_row
   pub between : (k : ℕ) → low ≤ k → k < at → IsHeld slots k
 
 -- so many slots in a row, a slot among them, would hold rows of theirs with one row more

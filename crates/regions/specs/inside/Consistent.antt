@@ -1,7 +1,7 @@
 -- What holds of the fields of a region.
 use Rattle.std.specs.Prelude.{◌≡◌, ℕ, ◌-◌, ◌<◌, ◌≤◌, Bool, true, false, cond, nat_le, List, length, replicate, Option, None, Some, IsSome, slice_index, slice_index_or, slice_set, map, refl}
 use Rattle.std.specs.Coded.{Coded, code_by, coded×, coded_ℕ, coded_list}
-use Rattle.layout.specs.Sizes.{dense}
+use Rattle.layout.specs.Sizes.{dense, most_segments}
 use Rattle.regions.specs.Segments.{GroupState, group_code, idle, ended}
 use Rattle.regions.specs.Shapes.{Slot, slot_at, group_in, active_in, is_held, is_free, is_begun, is_number, is_closed, is_closed_in}
 
@@ -58,7 +58,7 @@ states groups = map (λ (f : GroupFields). f.state) groups
 
 pub record IsConsistent (most : ℕ) (groups : List GroupFields) (now_held now_free : List Bool) (slots : List (Option Slot)) (used live : List ℕ) : Type 0 where
   pub long : length slots ≡ most
-  pub few : most ≤ 2048
+  pub few : most ≤ most_segments
   pub some_group : 1 ≤ length groups
   pub few_groups : length groups ≤ 8
   pub held : now_held ≡ map is_held slots

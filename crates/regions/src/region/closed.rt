@@ -11,6 +11,7 @@ ghost use Rattle.regions.specs.inside.Consistent.{not_closed};
 
 use super::Region;
 use crate::group::Group;
+use crate::place::LiveObject;
 use crate::slots::{clear, group_begun, group_in, segment_in};
 use number_set::NumberSet;
 
@@ -57,29 +58,29 @@ impl Region {
         segment_in(&self.slots[segment as usize]).used()
     }
 
-    /// The first live object of a closed segment from the offset on: its own offset, its kind, and its size in bytes. None
-    /// where no object is live from there on. The offset is 0, or an object begins or the last one ends there.
-    pub fn next_live(&self, segment: u32, from: u32) -> Option<(u32, u8, u32)>
+    /// The first live object of a closed segment from the offset on. None where no object is live from there on. The offset is
+    /// 0, or an object begins or the last one ends there.
+    pub fn next_live(&self, segment: u32, from: u32) -> Option<LiveObject>
         requires closed { IsClosed self.now segment }
         requires start { (from ≡ 0) ⊎ IsStart self.now segment from }
 
         // Nothing lives before the object that is found, or up to the end where none is.
         ensures none { IsNone result → NoneLives self.now segment from (used_at self.now segment) }
-        ensures skipped { IfSome result (λ f. (from ≤ f.0) × NoneLives self.now segment from f.0) }
+        ensures skipped { IfSome result (λ f. (from ≤ f.at) × NoneLives self.now segment from f.at) }
 
         // The object.
-        ensures found { IfSome result (λ f. IsLiveAt (live_at self.now (record { segment = segment; at = f.0 })) f.1 f.2) }
-        ensures size { IfSome result (λ f. (1 ≤ f.1) × IsSize f.2) }
-        ensures within { IfSome result (λ f. f.0 + f.2 ≤ used_at self.now segment) }
-        ensures inside { IfSome result (λ f. f.0 + f.2 ≤ sizes.segment) }
+        ensures found { IfSome result (λ f. IsLiveAt (live_at self.now (record { segment = segment; at = f.at })) f.kind f.size) }
+        ensures size { IfSome result (λ f. (1 ≤ f.kind) × IsSize f.size) }
+        ensures within { IfSome result (λ f. f.at + f.size ≤ used_at self.now segment) }
+        ensures inside { IfSome result (λ f. f.at + f.size ≤ sizes.segment) }
 
         // Where the search goes on: nothing stands between.
-        ensures next { IfSome result (λ f. IsStart self.now segment (f.0 + f.2)) }
-        ensures between { IfSome result (λ f. (a : ℕ) → f.0 < a → a < f.0 + f.2 → standing_at self.now
+        ensures next { IfSome result (λ f. IsStart self.now segment (f.at + f.size)) }
+        ensures between { IfSome result (λ f. (a : ℕ) → f.at < a → a < f.at + f.size → standing_at self.now
             (record { segment = segment; at = a }) ≡ None) }
 
         // What the search says of the live bytes.
-        ensures counted { IfSome result (λ f. f.2 ≤ live_bytes_at self.now segment) }
+        ensures counted { IfSome result (λ f. f.size ≤ live_bytes_at self.now segment) }
         ensures dead { IsNone result → NoneLives self.now segment 0 from → live_bytes_at self.now segment ≡ 0 }
     {
         segment_in(&self.slots[segment as usize]).next_live(from)

@@ -20,9 +20,10 @@ impl Region {
         self.most
     }
 
-    /// How many groups there are: the number given to `new`.
+    /// How many groups there are: the number given to `new`. Each closed segment is closed in one of them.
     pub fn groups(&self) -> u32
-        ensures { result ≡ group_count self.now }
+        ensures count { result ≡ group_count self.now }
+        ensures closed { (n : ℕ) → IsClosed self.now n → (g : ℕ) × HasGroup self.now g × IsClosedIn self.now g n }
     {
         self.groups.len() as u32
     }

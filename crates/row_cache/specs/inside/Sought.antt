@@ -5,7 +5,7 @@ use Rattle.common_lemmas.specs.Lists.{delete}
 use Rattle.key_table.specs.Table.{IsSpotFor}
 use Rattle.key_table.specs.declared.entries.RowAt.{RowAt}
 use Rattle.key_table.specs.declared.entries.Spot.{Spot}
-use Rattle.lazy_index.specs.Lazy.{IsThere}
+use Rattle.key_table.specs.Lazy.{IsThere}
 use Rattle.regions.specs.Stores.{Live}
 use Rattle.row_cache.specs.Rows.{row_at, key_at, rows_at}
 use Rattle.row_cache.specs.inside.Tables.{TableState, IsListed}

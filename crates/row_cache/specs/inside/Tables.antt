@@ -6,7 +6,7 @@ use Rattle.row_bytes.specs.Rows.{HoldsRow, row_in, number_in}
 use Rattle.common_lemmas.specs.Lists.{times}
 use Rattle.key_table.specs.Table.{IsSpotFor}
 use Rattle.key_table.specs.declared.entries.Spot.{Spot}
-use Rattle.lazy_index.specs.Lazy.{Lazy, IsKeyed, rows_in}
+use Rattle.key_table.specs.Lazy.{Lazy, IsKeyed, StaysKeyed, rows_in}
 use Rattle.regions.specs.Contents.{Item, size_of}
 use Rattle.regions.specs.Stores.{Live}
 use Rattle.regions.specs.declared.place.Place.{Place}
@@ -64,7 +64,8 @@ placed n p places = cond (nat_lt n (length places)) (slice_set places n p) (plac
 abbrev pub IsLast : ℕ → List ℕ → Type 0
 IsLast n ns = last_or None ns ≡ Some n
 
--- each number that was ever given is a row's or was given back, once; the index has the rows' numbers
+-- each number that was ever given is a row's or was given back, once; the index has the rows' numbers, and stays that of their
+-- keys wherever these are moved
 pub record AreNumbers (t : TableState) : Type 0 where
   pub small : t.room < 2 ^ 32
   pub few : length t.places ≤ t.room
@@ -74,6 +75,7 @@ pub record AreNumbers (t : TableState) : Type 0 where
   pub room : t.index.room ≡ t.room
   pub indexed : (n : ℕ) → times n (rows_in t.index) ≡ times n t.recency
   pub index_count : length (rows_in t.index) ≡ length t.recency
+  pub moves : StaysKeyed t.index
 
 -- the tables are those of these live objects: each row stands at its place, each live object is a row, no two rows have
 -- one key, and the index is one of their keys

@@ -10,23 +10,16 @@ ghost use Rattle.row_cache.specs.Rows.{rows_of, StandsAt, IsLinkedThrough, AreMe
 
 use super::RowCache;
 use regions::Place;
-use row_bytes::{a_row_is_read_as_it_is_written, value_in};
+use row_bytes::value_in;
 
 impl RowCache {
-    /// What holds of the cache at each time.
-    pub fn facts(&self)
-        ensures live { live (rows_of self.now) ≡ live_total self.now.region }
+    /// How many rows there are. Each is met once along the links, which lead through all of them both ways.
+    pub fn rows(&self) -> u32
+        ensures count { result ≡ length (rows_of self.now) }
         ensures room { length (rows_of self.now) ≤ self.now.room }
         ensures linked { IsLinkedThrough self.now }
         ensures met { AreMetOnce self.now }
         ensures groups { group_count self.now.region ≡ 1 }
-    {
-        let _ = &self.region;
-    }
-
-    /// How many rows there are.
-    pub fn rows(&self) -> u32
-        ensures { result ≡ length (rows_of self.now) }
     {
         self.tables.len()
     }
@@ -45,9 +38,8 @@ impl RowCache {
             (λ len. (row : Row) × (apply.row_of key.now (rows_of self.now) ≡ Some row) × (len ≡ length row.value)) }
         ensures short { IfSome result (λ len. len ≤ greatest_value) }
     {
-        a_row_is_read_as_it_is_written();
         let place = self.place_of(key)?;
-        Some(value_in(self.region.bytes(place)).len() as u32)
+        Some(self.value_at(place).len() as u32)
     }
 
     /// Where the row of a key stands. None where no row has the key.

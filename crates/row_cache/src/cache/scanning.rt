@@ -1,19 +1,17 @@
 //! The keys of a cache, in the order of their bytes.
-ghost use Rattle.std.specs.Prelude.{◌≡◌, ◌+◌, ◌*◌, ◌≤◌, ◌++◌, length, map, take, drop, All};
+ghost use Rattle.std.specs.Prelude.{◌≡◌, ◌*◌, ◌≤◌, length, map, take, drop, All};
 ghost use Rattle.layout.specs.Sizes as sizes;
 ghost use Rattle.rows.specs.Apply as apply;
 ghost use Rattle.rows.specs.KeyBody.{AreKeys};
-ghost use Rattle.rows.specs.Spelled.{key_field};
 ghost use Rattle.regions.specs.Contents.{live_at};
 ghost use Rattle.row_cache.specs.Rows.{key_at, rows_of};
 ghost use Rattle.row_cache.specs.inside.Tables.{HasRow};
 
 use super::RowCache;
-use crate::scanned::Scanned;
 use crate::tables::Tables;
-use byteorder::{ByteOrder, LittleEndian};
-use lazy_index::Rows;
+use key_table::Rows;
 use regions::Region;
+use row_bytes::{Scanned, write_key};
 
 impl RowCache {
     /// Writes the first `count` keys at or above `lo`, in the order of their bytes, to the front of `into`: each behind its
@@ -60,17 +58,4 @@ fn write_keys(
         scanned.keys += 1;
     }
     scanned
-}
-
-// Writes a key behind its length to the front of `into`, and answers how many bytes these are.
-fn write_key(into: &mut [u8], key: &[u8]) -> u32
-    requires key { length key.now ≤ sizes.greatest_key }
-    requires room { 2 + length key.now ≤ length into.old }
-    ensures bytes { result ≡ 2 + length key.now }
-    ensures written { into.new ≡ key_field key.now ++ drop result into.old }
-{
-    let (len, behind) = into.split_at_mut(2);
-    LittleEndian::write_u16(len, key.len() as u16);
-    behind[..key.len()].copy_from_slice(key);
-    2 + key.len() as u32
 }

@@ -1,8 +1,9 @@
 //! The segments of a cache: the region's calls, which leave its rows as they are.
-ghost use Rattle.std.specs.Prelude.{◌≡◌, ◌↔◌, ◌⊎◌, ◌+◌, ◌-◌, ◌<◌, ◌≤◌, ℕ, List, [], length, slice_get, slice_set, Some, None, IfSome, IsNone, IsSome};
+ghost use Rattle.std.specs.Prelude.{◌≡◌, ◌↔◌, ◌⊎◌, ◌+◌, ◌-◌, ◌*◌, ◌<◌, ◌≤◌, ℕ, List, [], length, slice_get, slice_set, Some, None, IfSome, IsNone, IsSome};
 ghost use Rattle.layout.specs.Sizes as sizes;
+ghost use Rattle.rows.specs.Row.{live};
 ghost use Rattle.regions.specs.Segments.{RegionState, segment_at, with_segment, with_guards, fresh, all_emptied};
-ghost use Rattle.regions.specs.Shapes.{identity, shape, active_of, guards_of, pieces, held_count, free_count, activated, IsLeastFree, IsGreatestFree, IsGreatestHeld, IsLeastUnused, IsUnguarded};
+ghost use Rattle.regions.specs.Shapes.{identity, shape, active_of, guards_of, most_guards, pieces, held_count, free_count, activated, IsLeastFree, IsGreatestFree, IsGreatestHeld, IsLeastUnused, IsUnguarded};
 ghost use Rattle.regions.specs.Counts.{left};
 ghost use Rattle.compaction.specs.Sparse.{IsCompacted};
 ghost use Rattle.compaction.specs.Emptied.{HoldsTheSame};
@@ -13,7 +14,6 @@ ghost use Rattle.row_cache.specs.Rows.{rows_of, Stay};
 use super::RowCache;
 use compaction::{Compacted, pass};
 use raw_range::Piece;
-use row_bytes::a_row_is_read_as_it_is_written;
 
 impl RowCache {
     /// The piece becomes a free segment, with the least number that no segment has.
@@ -64,7 +64,8 @@ impl RowCache {
         self.region.next_active(0);
     }
 
-    /// Empties segments one after the other until two are free, or nothing is left to compact, as [`compaction::pass`] does.
+    /// Empties segments one after the other until two are free, or nothing is left to compact, as [`compaction::pass`] does. Then
+    /// all segments are dense but two, and where the active one has too little room besides, all but one.
     pub fn compact(&mut self) -> Compacted
         requires { 1 ≤ free_count self.old.region }
 
@@ -73,6 +74,10 @@ impl RowCache {
         ensures unchanged { result ≡ Compacted.Guarded → self.new ≡ self.old }
         ensures freed { result ≡ Compacted.Freed → 2 ≤ free_count self.new.region }
         ensures none { result ≡ Compacted.NoneSparse → IsCompacted self.new.region }
+        ensures most { result ≡ Compacted.NoneSparse
+            → (held_count self.new.region - 2) * (sizes.dense + 1) ≤ live (rows_of self.new) }
+        ensures full { result ≡ Compacted.NoneSparse → left self.new.region 0 < sizes.greatest_object
+            → (held_count self.new.region - 1) * (sizes.dense + 1) ≤ live (rows_of self.new) }
         ensures enough { IsUnguarded self.old.region → 2 ≤ free_count self.old.region
             → (result ≡ Compacted.Freed) × (self.new ≡ self.old) }
 
@@ -85,13 +90,12 @@ impl RowCache {
         ensures room { self.new.room ≡ self.old.room }
         ensures holds { HoldsTheSame self.old.region self.new.region }
     {
-        a_row_is_read_as_it_is_written();
         pass(&mut self.region, &mut self.tables)
     }
 
     /// One guard more. While one stands, no row is moved and no byte of a row that went is used again. Guards nest.
     pub fn guard(&mut self)
-        requires { guards_of self.old.region 0 < 1000000 }
+        requires { guards_of self.old.region 0 < most_guards }
         ensures rows { rows_of self.new ≡ rows_of self.old }
         ensures room { self.new.room ≡ self.old.room }
         ensures guards { self.new.region ≡ with_guards self.old.region 0 (guards_of self.old.region 0 + 1) }

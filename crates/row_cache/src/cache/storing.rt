@@ -3,9 +3,10 @@ ghost use Rattle.std.specs.Prelude.{◌≡◌, ◌≢◌, ℕ, ◌+◌, ◌<◌,
 ghost use Rattle.layout.specs.Sizes as sizes;
 ghost use Rattle.rows.specs.Row.{Row, size};
 ghost use Rattle.rows.specs.Apply as apply;
+ghost use Rattle.row_bytes.specs.NewRows.{row_of, CanStand};
 ghost use Rattle.common_lemmas.specs.Lists.{delete};
 ghost use Rattle.key_table.specs.Table.{IsSpotFor};
-ghost use Rattle.lazy_index.specs.Lazy.{IsThere};
+ghost use Rattle.key_table.specs.Lazy.{IsThere};
 ghost use Rattle.regions.specs.Shapes.{shape, active_of};
 ghost use Rattle.regions.specs.Counts.{left, live_total};
 ghost use Rattle.regions.specs.Contents.{Item, live_at, size_of};
@@ -13,32 +14,19 @@ ghost use Rattle.regions.specs.Places.{HasRoom};
 ghost use Rattle.row_cache.specs.Rows.{key_at, reply_of, Stay};
 ghost use Rattle.row_cache.specs.inside.Tables.{Drops, HoldsARow, IsListed, PlacesRow, SwapsRow};
 ghost use Rattle.row_cache.specs.inside.Consistent.{HasOneGroup, IsConsistent, rows_in, rows_with};
-ghost use Rattle.row_cache.specs.inside.NewRows.{row_of, IsStored};
 
-use crate::links::segment_fits;
 use crate::put::Put;
 use crate::tables::Tables;
-use layout::DESCRIPTOR;
-use lazy_index::{RowAt, Spot};
+use key_table::{RowAt, Spot};
+use layout::{DESCRIPTOR, ObjectKind};
 use regions::{NeedSegment, Place, Region};
-use row_bytes::{Links, NO_LINK, row_size, write_row};
-
-// The kind of an object that holds a row.
-const ROW: u8 = 1;
+use row_bytes::{Links, NO_LINK, NewRow, row_size, write_row};
 
 // The links of a row that is not in the chain yet: both lead to no row.
 const UNLINKED: Links = Links {
     newer: NO_LINK,
     older: NO_LINK,
 };
-
-// A row as it comes: a key, its value and the number of the put.
-#[derive(Clone, Copy)]
-pub(super) struct NewRow<'a> {
-    pub(super) key: &'a [u8],
-    pub(super) value: &'a [u8],
-    pub(super) put: u32,
-}
 
 // Stores a row in front of the others, and instead of the one that has its key.
 pub(super) fn put_row(
@@ -48,7 +36,7 @@ pub(super) fn put_row(
     row: NewRow<'_>,
 ) -> Result<Put, NeedSegment>
     requires consistent { IsConsistent tables.old region.old live.old }
-    requires row { IsStored row }
+    requires row { CanStand row }
     requires active { IsSome (active_of region.old 0) }
     requires room { (apply.has row.key.now (rows_in tables.old region.old) ≡ true)
         ⊎ (length (rows_in tables.old region.old) < tables.old.room) }
@@ -56,8 +44,8 @@ pub(super) fn put_row(
     ensures unchanged { IfErr result (λ _. (region.new ≡ region.old) × (tables.new ≡ tables.old) × (live.new ≡ live.old)) }
     ensures consistent { IsConsistent tables.new region.new live.new }
     ensures rows { IfOk result (λ _. rows_in tables.new region.new ≡
-        (apply.put row.entry.key.now row.entry.value.now row.entry.put (rows_in tables.old region.old)).0) }
-    ensures reply { IfOk result (λ did. reply_of did ≡ (apply.put row.entry.key.now row.entry.value.now row.entry.put
+        (apply.put row.entry.key.now row.entry.value.now row.entry.number (rows_in tables.old region.old)).0) }
+    ensures reply { IfOk result (λ did. reply_of did ≡ (apply.put row.entry.key.now row.entry.value.now row.entry.number
         (rows_in tables.old region.old)).1) }
     ensures room { tables.new.room ≡ tables.old.room }
     ensures shape { shape region.new ≡ shape region.old }
@@ -85,7 +73,7 @@ fn store_row(
     row: NewRow<'_>,
 ) -> Result<(), NeedSegment>
     requires consistent { IsConsistent tables.old region.old live.old }
-    requires row { IsStored row }
+    requires row { CanStand row }
     requires active { IsSome (active_of region.old 0) }
     requires at { IsSpotFor row.key.now at }
     requires absent { (n : ℕ) → IsListed tables.old n → key_at (live_at region.old) tables.old.places n ≢ row.key.now }
@@ -114,7 +102,7 @@ fn replace_row(
     row: NewRow<'_>,
 ) -> Result<(), NeedSegment>
     requires consistent { IsConsistent tables.old region.old live.old }
-    requires row { IsStored row }
+    requires row { CanStand row }
     requires active { IsSome (active_of region.old 0) }
     requires listed { IsListed tables.old number }
     requires key { key_at (live_at region.old) tables.old.places number ≡ row.key.now }
@@ -169,7 +157,7 @@ fn swap_row(
     row: NewRow<'_>,
     old: Place,
 ) -> Result<(Place, u32), NeedSegment>
-    requires row { IsStored row }
+    requires row { CanStand row }
     requires one { HasOneGroup region.old }
     requires active { IsSome (active_of region.old 0) }
     requires old { HoldsARow (live_at region.old old) }
@@ -191,7 +179,7 @@ fn swap_row(
 
 // Places a row as a new object.
 fn place_row(region: &mut Region, number: u32, row: NewRow<'_>) -> Result<Place, NeedSegment>
-    requires row { IsStored row }
+    requires row { CanStand row }
     requires one { HasOneGroup region.old }
     requires active { IsSome (active_of region.old 0) }
     ensures full { IsErr result ↔ left region.old 0 < size row.entry.key.now row.entry.value.now }
@@ -204,12 +192,11 @@ fn place_row(region: &mut Region, number: u32, row: NewRow<'_>) -> Result<Place,
     ensures live { IfOk result (λ _. live_total region.new ≡ live_total region.old + size row.entry.key.now row.entry.value.now) }
     ensures stay { Stay region.old region.new }
 {
-    let place = region.place(0, ROW, row_size(row.key, row.value))?;
-    segment_fits(place);
+    let place = region.place(0, ObjectKind::Row as u8, row_size(row.key, row.value))?;
     write_row(
         region.bytes_mut(place),
         number,
-        row.put,
+        row.number,
         UNLINKED,
         row.key,
         row.value,

@@ -5,7 +5,7 @@ ghost use Rattle.regions.specs.Shapes.{guards_at, HasGroup, IsClosed, IsUnguarde
 ghost use Rattle.regions.specs.Contents.{standing_at, live_at, with_bytes, ChangesAt, IsLiveAt};
 
 use raw_range::Piece;
-use regions::{Place, Region};
+use regions::{LiveObject, Place, Region};
 
 // Whether the region has the group.
 fn has_group(region: &Region, group: u32) -> bool
@@ -117,7 +117,7 @@ pub(super) fn counts(region: &Region, segment: u32) -> Option<(u32, u32)> {
     Some((region.used(segment), region.live_in(segment)))
 }
 
-pub(super) type Live = Option<(u32, u8, u32)>;
+pub(super) type Live = Option<LiveObject>;
 
 // Where the objects of a closed segment end, its first live one, and the next one behind that.
 pub(super) fn two_live(region: &Region, segment: u32) -> Option<(u32, Live, Live)> {
@@ -125,14 +125,13 @@ pub(super) fn two_live(region: &Region, segment: u32) -> Option<(u32, Live, Live
         return None;
     }
     let used = region.used(segment);
-    let Some((at, kind, size)) = region.next_live(segment, 0) else {
+    let Some(first) = region.next_live(segment, 0) else {
         return Some((used, None, None));
     };
-    let first = Some((at, kind, size));
-    let Some(behind) = at.checked_add(size) else {
-        return Some((used, first, None));
+    let Some(behind) = first.at.checked_add(first.size) else {
+        return Some((used, Some(first), None));
     };
-    Some((used, first, region.next_live(segment, behind)))
+    Some((used, Some(first), region.next_live(segment, behind)))
 }
 
 pub(super) fn has(region: &Region, segment: u32, from: usize, bytes: &[u8]) -> bool {
@@ -205,7 +204,7 @@ pub(super) fn copy_first(region: &mut Region, segment: u32) -> Option<(u32, u32)
     if !region.is_closed(segment) || !has_group(region, 0) {
         return None;
     }
-    let (at, kind, size) = region.next_live(segment, 0)?;
+    let LiveObject { at, kind, size } = region.next_live(segment, 0)?;
     let copy = append_copy(region, Place { segment, at }, kind, size)?;
     Some((copy.segment, copy.at))
 }

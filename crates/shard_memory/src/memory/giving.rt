@@ -1,7 +1,8 @@
 //! The giving of blocks.
-ghost use Rattle.std.specs.Prelude.{◌≡◌, ◌+◌, ◌<◌, ◌≤◌, ◌∷◌, length, replicate, IfOk, IfErr, IfSome, IfNone, Some, slice_set};
+ghost use Rattle.std.specs.Prelude.{◌≡◌, ◌+◌, ◌*◌, ◌^◌, ◌<◌, ◌≤◌, ◌∷◌, length, replicate, IfOk, IfErr, IfSome, IfNone, Some, slice_set};
 ghost use Rattle.layout.specs.Counts.{raised};
-ghost use Rattle.layout.specs.Sizes.{greatest_block, tickets};
+ghost use Rattle.layout.specs.Extents.{AreDisjoint};
+ghost use Rattle.layout.specs.Sizes.{page, greatest_block, tickets};
 ghost use Rattle.raw_range.specs.Memory.{extent_of};
 ghost use Rattle.foreign_list.specs.Blocks.{piece_id_of, IsFresh};
 ghost use Rattle.shard_memory.specs.Room.{LacksBlock, IsTrimmed, TakesObject};
@@ -78,6 +79,7 @@ impl<'f> ShardMemory<'f> {
         ensures lent { IfOk result (λ block. self.new.lent ≡ slice_set self.old.lent block.ticket (Some (piece_id_of block.piece))) }
         ensures lends { IfOk result (λ _. self.new.lends ≡ raised self.old.lends 1) }
         ensures out { IfOk result (λ _. tickets_out self.new.lent ≡ tickets_out self.old.lent + 1) }
+        ensures small { IfOk result (λ _. self.new.backs < 2 ^ 64) }
         ensures least { IfOk result (λ block. SetsAside self.old.objects self.new.objects size block.piece.at) }
         ensures pages_out { IfOk result (λ _. TakesPages self.old.pages_out self.new.pages_out size) }
         ensures taken { IfOk result (λ block. TakesObject self.old.room self.new.room size block.piece.at) }
@@ -117,6 +119,7 @@ impl<'f> ShardMemory<'f> {
         ensures given { IfOk result (IsBlockOf self.new) }
         ensures zeros { IfOk result (λ piece. piece.bytes ≡ replicate size 0) }
         ensures blocks { IfOk result (λ piece. self.new.blocks ≡ extent_of piece ∷ self.old.blocks) }
+        ensures disjoint { IfOk result (λ _. AreDisjoint (page * self.new.pages) self.new.blocks) }
         ensures least { IfOk result (λ piece. SetsAside self.old.objects self.new.objects size piece.at) }
         ensures pages_out { IfOk result (λ _. TakesPages self.old.pages_out self.new.pages_out size) }
         ensures taken { IfOk result (λ piece. TakesObject self.old.room self.new.room size piece.at) }

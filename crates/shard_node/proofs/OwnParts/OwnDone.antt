@@ -4,7 +4,7 @@ use Rattle.std.specs.List.{All, Contains, count_by}
 use Rattle.std.specs.declared.alloc.Global.{Global}
 use Rattle.std.proofs.lemmas.List.{drop-drop, length-append, length-map, length-set}
 use Rattle.std.proofs.lemmas.List.Elements.{All-map}
-use Rattle.std.proofs.lemmas.Option.{same_Some}
+use Rattle.std.proofs.lemmas.Option.{same_Some, slice_get_within}
 use Rattle.layout.specs.Sizes.{tickets}
 use Rattle.rows.specs.Operation.{Operation, is_put}
 use Rattle.trace_text.specs.Parsed.{AreNumbered, IsWellFormed, trace_in}
@@ -18,7 +18,6 @@ use Rattle.rows.specs.Row.{Row}
 use Rattle.rows.specs.Spelled.{spelled}
 use Rattle.run_log.specs.JournalState.{JournalState}
 use Rattle.run_log.specs.Replies.{Replies}
-use Rattle.layout.specs.Counts.{raised}
 use Rattle.shard_memory.specs.Tickets.{tickets_out}
 use Rattle.shard_rings.specs.Lanes.{LinkEnd, Traffic}
 use Rattle.shard_store.specs.Stores.{StoreState}
@@ -31,7 +30,7 @@ use Rattle.shard_parts.specs.Own.{OwnState}
 use Rattle.shard_node.specs.inside.Parts.{DoesPart}
 use Rattle.shard_parts.specs.Peers.{peer_state}
 use Rattle.part_lemmas.specs.Rest.{RestState}
-use Rattle.shard_node.specs.inside.Shards.{node_state, issued_by, bodies_left, parts_left, puts_left, HasAsked, HasRoom, IsConsistent}
+use Rattle.shard_node.specs.inside.Shards.{node_state, issued_by, bodies_left, parts_left, puts_left, HasAsked, HasRoom, IsConsistent, IsCounted}
 use Rattle.shard_node.specs.inside.Steps.{IsStep}
 use Rattle.part_lemmas.specs.Work.{bodies, puts_among}
 use Rattle.part_lemmas.proofs.OwnParts.BegunParts.{begun-other, operation-of, place-more}
@@ -80,7 +79,7 @@ pub record DoesHere {L G : Type 0} (shard : Shard L G) (store : StoreState) (jou
   pub first : shard.here.left ≡ operation ∷ drop 1 shard.here.left
   pub few : tickets_out shard.store.lent ≤ tickets
   pub does : DoesPart shard.own.begun operation shard.store store shard.journal journal shard.log log
-  pub out : store.lends ≡ raised store.backs (tickets_out store.lent)
+  pub counted : IsCounted store
   pub buffer : vec_len keys ≡ vec_len shard.keys
   pub own_trace : own.trace ≡ shard.own.trace
   pub own_shard : own.shard ≡ shard.own.shard
@@ -212,11 +211,14 @@ module _ {L G : Type 0} (traffic : L → Traffic) (end : L → LinkEnd) (laws : 
 
   consistent : IsConsistent now
   consistent = record {
+    read = x.read;
+    formed = x.formed;
     parsed_for = x.parsed_for;
     within = x.within;
     of_shard = did.does.works.same.shard ∙ x.of_shard;
     pages = did.does.works.same.pages ∙ x.pages;
     unguarded = did.does.works.same.guards ∙ x.unguarded;
+    counted = did.counted;
     longest = x.longest;
     peers = x.peers;
     cursors = λ k d below. let c = x.cursors k d below in record {
@@ -235,6 +237,7 @@ module _ {L G : Type 0} (traffic : L → Traffic) (end : L → LinkEnd) (laws : 
       here_shard = did.here_shard ∙ x.own.here_shard;
       here = here_now;
     };
+    begun = let more = did.own_begun in let below = slice_get_within (issued_by shard) shard.own.begun (i, s) did.next in omega (arith, more, below);
     waits = x.waits;
     asked = λ k d below. asked_now (get_or shard.peers.items k d) (apart k d below) (x.asked k d below);
     room = room_now;
@@ -265,7 +268,7 @@ module _ {L G : Type 0} (traffic : L → Traffic) (end : L → LinkEnd) (laws : 
     next = next;
     there = there;
     does = did.does;
-    out = did.out;
+    out = did.counted.lends;
     one_more = did.own_begun;
   }
 

@@ -139,11 +139,14 @@ module _ {L G : Type 0} (shard : Shard L G) where
       let b = x.room.spare in
       let c = x.room.bodies in
       record {
+        read = x.read;
+        formed = x.formed;
         parsed_for = x.parsed_for;
         within = x.within;
         of_shard = x.of_shard;
         pages = x.pages;
         unguarded = x.unguarded;
+        counted = x.counted;
         longest = x.longest;
         peers = same_seen (λ (p : Peer L). p.shard) items vec.items many (λ j d below. each (λ a b. b.shard ≡ a.shard) j d (λ p. refl) m.number) ∙ x.peers;
         cursors = λ j d below.
@@ -166,6 +169,7 @@ module _ {L G : Type 0} (shard : Shard L G) where
           here_shard = x.own.here_shard;
           here = x.own.here;
         };
+        begun = x.begun;
         waits = x.waits;
         asked = λ j d below.
             let asked = x.asked j d (inside j below) in

@@ -3,7 +3,7 @@ use Rattle.std.proofs.Common.{◌≡◌, ◌≢◌, ◌==◌, ℕ, ◌+◌, ◌<
 use Rattle.std.specs.List.{Contains, count_by}
 use Rattle.std.proofs.lemmas.Bool.{cases_eq}
 use Rattle.std.proofs.lemmas.List.{length-map, length_push}
-use Rattle.std.proofs.lemmas.Option.{same_Some}
+use Rattle.std.proofs.lemmas.Option.{same_Some, slice_get_within}
 use Rattle.layout.specs.Sizes.{tickets}
 use Rattle.trace_text.specs.declared.command.Command.{Command}
 use Rattle.trace_text.specs.Operation.{operation}
@@ -24,7 +24,7 @@ use Rattle.shard_node.specs.Nodes.{others}
 use Rattle.shard_node.specs.Due.{operations_for}
 use Rattle.shard_node.specs.Standing.{waiting_request}
 use Rattle.shard_parts.specs.Own.{OwnState}
-use Rattle.shard_node.specs.inside.Shards.{node_state, issued_by, HasAsked, HasRoom, IsConsistent}
+use Rattle.shard_node.specs.inside.Shards.{node_state, issued_by, HasAsked, HasRoom, IsConsistent, IsCounted}
 use Rattle.shard_node.specs.inside.Steps.{IsStep}
 use Rattle.shard_node.proofs.Requests.BeginsRequest.{begins}
 use Rattle.part_lemmas.proofs.OwnParts.BegunParts.{begun-more, begun-other, next-command, place-other}
@@ -48,7 +48,7 @@ pub record MakesRequest {L G : Type 0} (shard : Shard L G) (store : StoreState) 
   pub asks : waiting.block.piece.bytes ≡ request (operation shard.trace.now.bytes command)
   pub evicts : EvictsForBlock shard.store store shard.journal journal
   pub lends : store.lends ≡ raised shard.store.lends 1
-  pub out : store.lends ≡ raised store.backs (tickets_out store.lent)
+  pub counted : IsCounted store
   pub own_trace : own.trace ≡ shard.own.trace
   pub own_shard : own.shard ≡ shard.own.shard
   pub own_begun : own.begun ≡ shard.own.begun + 1
@@ -111,11 +111,14 @@ module _ {L G : Type 0} (traffic : L → Traffic) (end : L → LinkEnd) (laws : 
 
   consistent : IsConsistent now
   consistent = record {
+    read = x.read;
+    formed = x.formed;
     parsed_for = x.parsed_for;
     within = x.within;
     of_shard = did.evicts.same.shard ∙ x.of_shard;
     pages = did.evicts.same.pages ∙ x.pages;
     unguarded = did.evicts.same.guards ∙ x.unguarded;
+    counted = did.counted;
     longest = x.longest;
     peers = x.peers;
     cursors = λ k d below. let c = x.cursors k d below in record {
@@ -134,6 +137,7 @@ module _ {L G : Type 0} (traffic : L → Traffic) (end : L → LinkEnd) (laws : 
       here_shard = x.own.here_shard;
       here = here_now;
     };
+    begun = let more = did.own_begun in let below = slice_get_within issued shard.own.begun (command.number, q) did.next in omega (arith, more, below);
     waits = λ w is. subst (λ (v : Waiting). Contains (others n s) v.peer) (same_Some waiting w is) (other-there n s q did.below did.other);
     asked = λ k d below. asked_now (get_or shard.peers.items k d) (x.asked k d below);
     room = room_now;
@@ -159,7 +163,7 @@ module _ {L G : Type 0} (traffic : L → Traffic) (end : L → LinkEnd) (laws : 
           asks = did.asks;
           evicts = did.evicts;
           lends = did.lends;
-          out = did.out;
+          out = did.counted.lends;
           one_more = did.own_begun;
         });
     same = record { shard = refl; shards = refl; pages = refl; trace = refl; home = did.evicts.same.list; ends = refl };

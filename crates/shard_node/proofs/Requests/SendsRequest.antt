@@ -219,11 +219,14 @@ module _ {L G : Type 0} (traffic : L → Traffic) (end : L → LinkEnd) (shard :
         let b = x.room.spare in
         let c = x.room.bodies in
         record {
+          read = x.read;
+          formed = x.formed;
           parsed_for = x.parsed_for;
           within = x.within;
           of_shard = x.of_shard;
           pages = x.pages;
           unguarded = x.unguarded;
+          counted = x.counted;
           longest = x.longest;
           peers = same_seen (λ (p : Peer L). p.shard) items vec.items many (λ j d less. each (λ a b. b.shard ≡ a.shard) j d (λ p. refl) refl) ∙ x.peers;
           cursors = λ j d less.
@@ -247,6 +250,7 @@ module _ {L G : Type 0} (traffic : L → Traffic) (end : L → LinkEnd) (shard :
             here_shard = x.own.here_shard;
             here = x.own.here;
           };
+          begun = x.begun;
           waits = λ other none. absurd (cc);
           asked = subst (All (HasAsked after)) (sym now)
               (all_but (HasAsked shard) (HasAsked after) items k new below x.asked

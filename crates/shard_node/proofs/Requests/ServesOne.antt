@@ -12,8 +12,6 @@ use Rattle.trace_text.specs.Parts.{longest_value}
 use Rattle.cache_model.specs.declared.entry.Entry.TheVariants.{Done, Evicted}
 use Rattle.foreign_list.specs.Blocks.{Block}
 use Rattle.run_log.specs.JournalState.{JournalState}
-use Rattle.layout.specs.Counts.{raised}
-use Rattle.shard_memory.specs.Tickets.{tickets_out}
 use Rattle.shard_rings.specs.Lanes.{LinkEnd, Traffic}
 use Rattle.shard_rings.specs.Request.{request}
 use Rattle.shard_rings.specs.declared.link.Lane.TheVariants as lanes
@@ -32,9 +30,11 @@ use Rattle.shard_parts.specs.Peers.{peer_state}
 use Rattle.shard_parts.specs.Receives.{TakesNone, next_ask}
 use Rattle.part_lemmas.specs.Rest.{RestState}
 use Rattle.shard_node.specs.inside.Serves.{EndsExpected, EndsRequest, HearsBye, IsDoneFor, IsNoRequest, MayAsk, Serves, TriesRequest, due_next}
-use Rattle.shard_node.specs.inside.Shards.{AreUnanswered, HasAsked, HasCursors, IsConsistent, bodies_left, node_state, parts_left, puts_left}
+use Rattle.shard_memory.specs.declared.share.Share.TheVariants as shares
+use Rattle.shard_node.specs.inside.Shards.{AreUnanswered, HasAsked, HasCursors, IsConsistent, IsCounted, bodies_left, node_state, parts_left, puts_left}
 use Rattle.shard_node.specs.inside.Steps.{IsStep}
 use Rattle.part_lemmas.specs.Work.{bodies, puts_among}
+use Rattle.shard_node.proofs.Standing.Counted.{lends_counted}
 use Rattle.shard_node.proofs.Standing.Consistent.{SameWork, ends-same, goes_on, maps-agree, none_alone, one_changed, peer_is_other, peers_differ, work_stays}
 use Rattle.shard_node.proofs.Requests.DoesNext.{DoesNext, IsApart, request_done, served}
 use Rattle.part_lemmas.proofs.OwnParts.Growth.{Laws, evictions}
@@ -197,13 +197,16 @@ module _ {L G : Type 0} (traffic : L → Traffic) (end : L → LinkEnd) (shard :
   module _ (laws : Laws) (tells : TellsNumbers) (keeps : KeepsRows) (counts : CountsRows) (are : AreNumbered shard.trace.now.commands)
       (formed : All IsWellFormed (trace_in shard.trace.now).operations) (many : length shard.store.lent ≡ tickets) (may : MayAsk old)
       (store : StoreState) (journal : JournalState) (tally : ℕ) (result : Tried) (serves : Serves traffic end old new shard.store store shard.journal journal shard.tally tally result)
-      (out : store.lends ≡ raised store.backs (tickets_out store.lent)) (operation : Operation) (first : next_ask old ≡ Some operation)
+      (operation : Operation) (first : next_ask old ≡ Some operation)
       (said_so : is_same (Some (request operation)) (said serves.packet) ≡ true) (done : IsDoneFor operation old new shard.store store shard.journal journal) where
     abbrev now : Shard L G
     now = moved store journal tally
 
     abbrev bound : ℕ
     bound = floor_of shard.store.pages shard.store.lent
+
+    counted : IsCounted store
+    counted = lends_counted shares.Reply shard.store store done.reply done.lends x.counted
 
     left : old.asks.left ≡ operation ∷ drop 1 old.asks.left
     left = begins old.asks.left operation first
@@ -282,7 +285,7 @@ module _ {L G : Type 0} (traffic : L → Traffic) (end : L → LinkEnd) (shard :
         let most = done.does.same.room in
         let before = x.room.rows in
         let spared = x.room.spare in
-        goes_on shard store journal (with_item shard.peers at new) tally done.does.same
+        goes_on shard store journal (with_item shard.peers at new) tally done.does.same counted
         (maps-agree (λ (peer : Peer L). peer.shard) peers (slice_set peers at new) (length-set peers at new)
         (one_changed (λ a b. b.shard ≡ a.shard) peers at new (λ p. refl) within (λ d. ap (λ (p : Peer L). p.shard) serves.same ∙ ap (λ (p : Peer L). p.shard) (sym (here d)))))
         (all_but (HasCursors shard) (HasCursors shard) peers at new within x.cursors cursors_now (λ j d below away c. c))
@@ -303,7 +306,7 @@ module _ {L G : Type 0} (traffic : L → Traffic) (end : L → LinkEnd) (shard :
       does = done.does;
       holds = done.holds;
       lends = done.lends.lends;
-      out = out;
+      out = counted.lends;
     }
 
     done_step : IsStep traffic end shard now
@@ -320,7 +323,7 @@ module _ {L G : Type 0} (traffic : L → Traffic) (end : L → LinkEnd) (shard :
   -- what was asked was tried once
   module _ (laws : Laws) (tells : TellsNumbers) (keeps : KeepsRows) (counts : CountsRows) (are : AreNumbered shard.trace.now.commands)
       (formed : All IsWellFormed (trace_in shard.trace.now).operations) (many : length shard.store.lent ≡ tickets) (may : MayAsk old)
-      (store : StoreState) (journal : JournalState) (tally : ℕ) (out : store.lends ≡ raised store.backs (tickets_out store.lent)) where
+      (store : StoreState) (journal : JournalState) (tally : ℕ) where
     -- store and journal are as they were
     as-they-were : store ≡ shard.store → journal ≡ shard.journal → IsStep traffic end shard (moved shard.store shard.journal tally) → IsStep traffic end shard (moved store journal tally)
     as-they-were same_store same_journal step =
@@ -337,7 +340,7 @@ module _ {L G : Type 0} (traffic : L → Traffic) (end : L → LinkEnd) (shard :
         go : (next : Option Operation) → next_ask old ≡ next → is_same (due_next old) (said serves.packet) ≡ true → EndsExpected next old new shard.store store shard.journal journal
             → IsStep traffic end shard (moved store journal tally)
         go (Some operation) first said_so done =
-            done_step laws tells keeps counts are formed many may store journal tally Expected serves out operation first
+            done_step laws tells keeps counts are formed many may store journal tally Expected serves operation first
             (ap (λ o. is_same (option_map request o) (said serves.packet)) (sym first) ∙ said_so) done
         go None last said_so hears =
             as-they-were hears.same_store hears.same_journal

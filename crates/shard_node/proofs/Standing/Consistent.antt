@@ -19,7 +19,7 @@ use Rattle.shard_parts.specs.Peers.{peer_state}
 use Rattle.shard_node.specs.Nodes.{others}
 use Rattle.part_lemmas.specs.Work.{bodies, puts_among}
 use Rattle.part_lemmas.proofs.Cursors.OtherPlaces.{other-below}
-use Rattle.shard_node.specs.inside.Shards.{AreUnanswered, HasAsked, HasCursors, IsConsistent, bodies_left, node_state, parts_left, puts_left}
+use Rattle.shard_node.specs.inside.Shards.{AreUnanswered, HasAsked, HasCursors, IsConsistent, IsCounted, bodies_left, node_state, parts_left, puts_left}
 use Rattle.part_lemmas.proofs.OwnParts.ShortRows.{AreShort}
 use Rattle.shard_node.proofs.Standing.Stands.{sums-agree}
 
@@ -156,18 +156,21 @@ module _ {L : Type 0} where
 module _ {L G : Type 0} where
   -- A shard stays consistent as what its peers still will ask and answer, its store and its journal change, where there is room.
   pub goes_on : (shard : Shard L G) (store : StoreState) (journal : JournalState) (peers : Vec (Peer L) Global) (tally : ℕ)
-      → IsSameStore shard.store store → map (λ peer. peer.shard) peers.items ≡ map (λ peer. peer.shard) shard.peers.items
+      → IsSameStore shard.store store → IsCounted store → map (λ peer. peer.shard) peers.items ≡ map (λ peer. peer.shard) shard.peers.items
       → All (HasCursors shard) peers.items → All (HasAsked shard) peers.items → All (λ peer. AreUnanswered shard peer.shard peer.answers.part) peers.items
       → AreShort shard.longest store.rows
       → (let now : Shard L G = record shard { store = store; journal = journal; peers = peers; tally = tally } in
       (length store.rows + puts_left now ≤ store.room) × (length store.rows + puts_left now + parts_left now ≤ journal.spare) × (bodies_left now ≤ shard.log.room))
       → IsConsistent shard → IsConsistent (record shard { store = store; journal = journal; peers = peers; tally = tally })
-  goes_on shard store journal peers tally same numbers cursors asked unanswered short room x = record {
+  goes_on shard store journal peers tally same counted numbers cursors asked unanswered short room x = record {
+    read = x.read;
+    formed = x.formed;
     parsed_for = x.parsed_for;
     within = x.within;
     of_shard = same.shard ∙ x.of_shard;
     pages = same.pages ∙ x.pages;
     unguarded = same.guards ∙ x.unguarded;
+    counted = counted;
     longest = x.longest;
     peers = numbers ∙ x.peers;
     cursors = λ k d below. let c = cursors k d below in record {
@@ -186,6 +189,7 @@ module _ {L G : Type 0} where
       here_shard = x.own.here_shard;
       here = x.own.here;
     };
+    begun = x.begun;
     waits = x.waits;
     asked = asked;
     room = record { rows = room.0; spare = room.1; bodies = room.2; keys = x.room.keys };
@@ -228,7 +232,7 @@ module _ {L G : Type 0} where
       let rows = x.room.rows in
       let spare = x.room.spare in
       let most = x.room.bodies in
-      goes_on shard shard.store shard.journal peers tally (record { shard = refl; pages = refl; room = refl; list = refl; guards = refl })
+      goes_on shard shard.store shard.journal peers tally (record { shard = refl; pages = refl; room = refl; list = refl; guards = refl }) x.counted
       (maps-agree (λ (peer : Peer L). peer.shard) old peers.items same (λ k d below. (each k d below).shard))
       (λ k d below. has-cursors shard (get_or old k d) (get_or peers.items k d) (each k d (inside k below)) (x.cursors k d (inside k below)))
       (λ k d below. has-asked shard (get_or old k d) (get_or peers.items k d) (each k d (inside k below)) (x.asked k d (inside k below)))

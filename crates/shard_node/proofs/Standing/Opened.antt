@@ -9,7 +9,7 @@ use Rattle.std.proofs.lemmas.Option.{slice_get-get_or, slice_get_within}
 use Rattle.std.specs.Prelude.{nat_le}
 use Rattle.layout.specs.Sizes.{greatest_key, key_room, most_keys}
 use Rattle.rows.specs.Operation.{Operation}
-use Rattle.trace_text.specs.Parsed.{IsWellFormed, trace_in}
+use Rattle.trace_text.specs.Parsed.{IsConsistent as IsReadTrace, IsWellFormed, trace_in}
 use Rattle.trace_text.specs.Parts.{longest_value, own_parts}
 use Rattle.trace_text.specs.PartCounts.{here_parts, here_puts, reply_bytes}
 use Rattle.rows.specs.declared.reply_kind.ReplyKind.{ReplyKind}
@@ -47,6 +47,7 @@ over-numbers number f g xs numbers same are = go xs same ∙ ap (sum_by g) are
 module _ {L G : Type 0} (traffic : L → Traffic) where
   -- a shard that is opened, with this trace and as many shards as it has
   pub record IsOpened (shard : Shard L G) : Type 0 where
+    pub read : IsReadTrace shard.trace.now
     pub parsed_for : shard.shards ≡ shard.trace.now.shards
     pub within : shard.shard < shard.shards
     pub of_shard : shard.store.shard ≡ shard.shard
@@ -136,11 +137,14 @@ module _ {L G : Type 0} (traffic : L → Traffic) where
 
     pub opens-consistent : IsConsistent shard
     opens-consistent = record {
+      read = x.read;
+      formed = formed;
       parsed_for = x.parsed_for;
       within = x.within;
       of_shard = x.of_shard;
       pages = x.pages;
       unguarded = x.unguarded;
+      counted = let lends = x.lends in let backs = x.backs in let idle = x.idle in record { lends = omega (arith, lends, backs, idle); backs = omega (arith, backs) };
       longest = x.longest;
       peers = x.numbers;
       cursors = λ k d below. let new = x.new k d below in record {
@@ -159,6 +163,7 @@ module _ {L G : Type 0} (traffic : L → Traffic) where
         here_shard = x.here_shard;
         here = x.here ∙ sym (ap (λ b. drop (count_by (λ part. part.1 == shard.shard) (take b (issued_by shard))) (operations_for (trace_in shard.trace.now) shard.shards shard.shard shard.shard)) x.begun);
       };
+      begun = let none = x.begun in omega (arith, none);
       waits = λ waiting is. let e : None ≡ Some waiting = sym x.request ∙ is in cc;
       asked = λ k d below.
           let new = x.new k d below in

@@ -65,11 +65,14 @@ module _ {L G : Type 0} where
       let b = x.room.spare in
       let c = x.room.bodies in
       record {
+        read = x.read;
+        formed = x.formed;
         parsed_for = x.parsed_for;
         within = x.within;
         of_shard = x.of_shard;
         pages = x.pages;
         unguarded = x.unguarded;
+        counted = x.counted;
         longest = x.longest;
         peers = same_seen (λ (p : Peer L). p.shard) items peers same (λ k d below. (each k d below).shard) ∙ x.peers;
         cursors = λ k d below. let c = x.cursors k d (inside k below) in let e = each k d (inside k below) in record {
@@ -88,6 +91,7 @@ module _ {L G : Type 0} where
           here_shard = x.own.here_shard;
           here = x.own.here;
         };
+        begun = x.begun;
         waits = x.waits;
         asked = λ k d below.
             let e = each k d (inside k below) in

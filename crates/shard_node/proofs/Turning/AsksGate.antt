@@ -1,5 +1,5 @@
 -- A gate was asked, and nothing else of the shard has changed.
-use Rattle.std.proofs.Common.{◌↔◌, arith, ◌≡◌, ℕ, ◌<◌, get_or, slice_get, Some, None, refl, sym, ap, subst, ◌∙◌}
+use Rattle.std.proofs.Common.{◌↔◌, arith, ◌≡◌, ℕ, ◌<◌, true, false, is_some, get_or, slice_get, Some, None, refl, sym, ap, subst, ◌∙◌}
 use Rattle.std.specs.List.{Contains}
 use Rattle.trace_text.specs.declared.command.Command.{Command}
 use Rattle.trace_text.specs.Parsed.{Parsed}
@@ -32,11 +32,14 @@ use Rattle.shard_node.proofs.Standing.Peerwise.{all_stand, each_stands, stays}
 module _ {L G : Type 0} where
   still_consistent : (shard : Shard L G) (gate : G) → IsConsistent shard → IsConsistent (record shard { gate = gate })
   still_consistent shard gate x = record {
+    read = x.read;
+    formed = x.formed;
     parsed_for = x.parsed_for;
     within = x.within;
     of_shard = x.of_shard;
     pages = x.pages;
     unguarded = x.unguarded;
+    counted = x.counted;
     longest = x.longest;
     peers = x.peers;
     cursors = λ k d below. let c = x.cursors k d below in record {
@@ -55,6 +58,7 @@ module _ {L G : Type 0} where
       here_shard = x.own.here_shard;
       here = x.own.here;
     };
+    begun = x.begun;
     waits = x.waits;
     asked = x.asked;
     room = record { rows = x.room.rows; spare = x.room.spare; bodies = x.room.bodies; keys = x.room.keys };
@@ -174,4 +178,23 @@ module _ {L G : Type 0} (traffic : L → Traffic) (holds : G → ℕ) (shard : S
             (tickets (standing stands) (ap (λ (s : StoreState). s.backs) (sym held.store) ∙ (back ∙ ap (λ (s : StoreState). s.backs) (sym store)))
             (subst (λ (s : StoreState). HasIdle s.lent ReplyShare) held.store has));
         store = λ same. absurd (none_some asked.request waiting (sym held.request ∙ (same ∙ idle)) waits);
+      }
+
+module _ {L G : Type 0} (traffic : L → Traffic) (holds : G → ℕ) where
+  -- a request waits, and met a full lane
+  pub waiting_back : (shard sent : Shard L G) → true ≡ is_some shard.request
+      → HeldUp traffic (λ k a b. (w : Waiting) → shard.request ≡ Some w → a.shard ≡ w.peer → Rose (traffic a.link).full.requests (traffic b.link).full.requests) (node_state shard) (node_state sent)
+      → HoldsBack traffic holds (node_state shard) (node_state sent)
+  waiting_back shard sent some held =
+      let waits : shard.request ≡ None → ⊥ = λ none. let clash : true ≡ false = some ∙ ap is_some none in cc in
+      record {
+        held = pairs_so _ _ _ _ (λ k a b h. h.0) held.peers;
+        request = λ w so. elim so [
+          | inl is ↦ pairs_so _ _ _ _ (λ k a b h. h.1 w is) held.peers
+          | inr is ↦ pairs_so _ _ _ _ (λ k a b h. h.1 w (sym held.request ∙ is)) held.peers
+        ];
+        own = λ none. absurd (waits (sym held.request ∙ none));
+        all = λ all. absurd (waits all.1);
+        idle = λ stands back has. subst (λ (s : StoreState). HasIdle s.lent ReplyShare) held.store has;
+        store = λ same. held.store;
       }

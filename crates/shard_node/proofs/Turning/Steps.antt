@@ -6,8 +6,7 @@ use Rattle.layout.specs.Sizes.{greatest_key}
 use Rattle.rows.specs.Holds.{RowsHold}
 use Rattle.regions.specs.Shapes.{guards_of}
 use Rattle.shard_store.specs.Stores.{StoreState}
-use Rattle.layout.specs.Counts.{raised}
-use Rattle.shard_memory.specs.Tickets.{tickets_out}
+use Rattle.shard_store.specs.Lending.{TakesBack}
 use Rattle.shard_rings.specs.Lanes.{LinkEnd, Traffic}
 use Rattle.shard_parts.specs.declared.peer.Peer.{Peer}
 use Rattle.shard_node.specs.declared.shard.Shard.{Shard}
@@ -18,6 +17,7 @@ use Rattle.shard_parts.specs.Peers.{Each, HoldsOther, SendsReply, held_by_all, p
 use Rattle.shard_node.specs.inside.Shards.{node_state, IsConsistent}
 use Rattle.shard_node.specs.inside.Steps.{IsStep}
 use Rattle.part_lemmas.specs.Releases.{Releases}
+use Rattle.shard_node.proofs.Standing.Counted.{home_counted}
 use Rattle.shard_node.proofs.Standing.Peerwise.{all_stand, each_stands}
 use Rattle.shard_node.proofs.Standing.Plans.{plans_same, same_seen, seen_each, sum_seen}
 use Rattle.shard_node.proofs.Replies.Sends.{SentReply, keeps_replies, replies_sent}
@@ -27,17 +27,20 @@ module _ {L G : Type 0} (traffic : L → Traffic) (end : L → LinkEnd) where
   -- blocks came home
   pub takes_back : (shard : Shard L G) (store : StoreState)
       → store ≡ record shard.store { lent = store.lent; backs = store.backs; looks = store.looks; free = store.free }
-      → store.lends ≡ raised store.backs (tickets_out store.lent)
-      → IsConsistent shard → IsStep traffic end shard (record shard { store = store })
-  takes_back shard store same lends x =
+      → TakesBack shard.store store → IsConsistent shard → IsStep traffic end shard (record shard { store = store })
+  takes_back shard store same came x =
+      let counted = home_counted shard.store store came x.counted in
       let rows : store.rows ≡ shard.store.rows = ap (λ (s : StoreState). s.rows) same in
       record {
         consistent = record {
+          read = x.read;
+          formed = x.formed;
           parsed_for = x.parsed_for;
           within = x.within;
           of_shard = ap (λ (s : StoreState). s.shard) same ∙ x.of_shard;
           pages = ap (λ (s : StoreState). s.pages) same ∙ x.pages;
           unguarded = ap (λ (s : StoreState). guards_of s.region 0) same ∙ x.unguarded;
+          counted = counted;
           longest = x.longest;
           peers = x.peers;
           cursors = λ k d below. let c = x.cursors k d below in record {
@@ -56,6 +59,7 @@ module _ {L G : Type 0} (traffic : L → Traffic) (end : L → LinkEnd) where
             here_shard = x.own.here_shard;
             here = x.own.here;
           };
+          begun = x.begun;
           waits = x.waits;
           asked = x.asked;
           room = let r = x.room in let count = ap length rows in let most = ap (λ (s : StoreState). s.room) same in let a = r.rows in let b = r.spare in record {
@@ -69,7 +73,7 @@ module _ {L G : Type 0} (traffic : L → Traffic) (end : L → LinkEnd) where
           own_unanswered = x.own_unanswered;
           unanswered = x.unanswered;
         };
-        standing = came_back traffic (node_state shard) store rows (ap (λ (s : StoreState). s.lends) same) lends;
+        standing = came_back traffic (node_state shard) store rows (ap (λ (s : StoreState). s.lends) same) counted.lends;
         same = record { shard = refl; shards = refl; pages = refl; trace = refl; home = ap (λ (s : StoreState). s.list) same; ends = refl };
         turns = refl;
       }
@@ -135,11 +139,14 @@ module _ {L G : Type 0} (traffic : L → Traffic) (end : L → LinkEnd) where
   -- a turn more is counted
   pub turn_counted : (shard : Shard L G) (turns : ℕ) → IsConsistent shard → IsConsistent (record shard { turns = turns })
   turn_counted shard turns x = record {
+    read = x.read;
+    formed = x.formed;
     parsed_for = x.parsed_for;
     within = x.within;
     of_shard = x.of_shard;
     pages = x.pages;
     unguarded = x.unguarded;
+    counted = x.counted;
     longest = x.longest;
     peers = x.peers;
     cursors = λ k d below. let c = x.cursors k d below in record {
@@ -158,6 +165,7 @@ module _ {L G : Type 0} (traffic : L → Traffic) (end : L → LinkEnd) where
       here_shard = x.own.here_shard;
       here = x.own.here;
     };
+    begun = x.begun;
     waits = x.waits;
     asked = x.asked;
     room = record { rows = x.room.rows; spare = x.room.spare; bodies = x.room.bodies; keys = x.room.keys };

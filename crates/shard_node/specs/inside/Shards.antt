@@ -1,12 +1,14 @@
 -- What a caller sees of a shard at work, and what holds of it between the steps of a turn, whatever its links say.
-use Rattle.std.specs.Prelude.{◌≡◌, ℕ, ◌+◌, ◌*◌, ◌==◌, ◌<◌, ◌≤◌, nat_le, List, length, map, sum_by, count_by, drop, take, vec_len, All, Contains, Some, None}
+use Rattle.std.specs.Prelude.{◌≡◌, ℕ, ◌+◌, ◌*◌, ◌^◌, ◌==◌, ◌<◌, ◌≤◌, nat_le, List, length, map, sum_by, count_by, drop, take, vec_len, All, Contains, Some, None}
 use Rattle.std.specs.List.{slice_get}
+use Rattle.layout.specs.Counts.{raised}
 use Rattle.layout.specs.Sizes.{greatest_key, key_room, most_keys}
-use Rattle.trace_text.specs.Parsed.{trace_in}
+use Rattle.trace_text.specs.Parsed.{IsConsistent as IsReadTrace, IsWellFormed, trace_in}
 use Rattle.trace_text.specs.Parts.{longest_value}
 use Rattle.rows.specs.Holds.{RowsHold}
 use Rattle.cache_model.specs.OwnParts.{issued_parts}
-use Rattle.shard_store.specs.Stores.{IsUnguarded}
+use Rattle.shard_memory.specs.Tickets.{tickets_out}
+use Rattle.shard_store.specs.Stores.{IsUnguarded, StoreState}
 use Rattle.shard_parts.specs.declared.peer.Peer.{Peer}
 use Rattle.shard_node.specs.declared.shard.Shard.{Shard}
 use Rattle.shard_node.specs.declared.waiting.Waiting.{Waiting}
@@ -15,6 +17,11 @@ use Rattle.shard_node.specs.Nodes.{NodeState, others}
 use Rattle.shard_node.specs.Standing.{begun_at, waiting_request}
 use Rattle.shard_parts.specs.Peers.{peer_state}
 use Rattle.part_lemmas.specs.Work.{bodies, puts_among}
+
+-- as many blocks were lent as came home and are out, while they can be counted
+pub record IsCounted (store : StoreState) : Type 0 where
+  pub lends : store.lends ≡ raised store.backs (tickets_out store.lent)
+  pub backs : store.backs < 2 ^ 64
 
 module _ {L G : Type 0} where
   abbrev pub node_state : Shard L G → NodeState L G
@@ -89,15 +96,19 @@ module _ {L G : Type 0} where
         ≡ drop (count_by (λ part. part.1 == shard.shard) (take shard.own.begun (issued_by shard))) (operations_for (trace_in shard.trace.now) shard.shards shard.shard shard.shard)
 
   pub record IsConsistent (shard : Shard L G) : Type 0 where
+    pub read : IsReadTrace shard.trace.now
+    pub formed : All IsWellFormed (trace_in shard.trace.now).operations
     pub parsed_for : shard.shards ≡ shard.trace.now.shards
     pub within : shard.shard < shard.shards
     pub of_shard : shard.store.shard ≡ shard.shard
     pub pages : shard.store.pages ≡ shard.pages
     pub unguarded : IsUnguarded shard.store
+    pub counted : IsCounted shard.store
     pub longest : shard.longest ≡ longest_value (trace_in shard.trace.now)
     pub peers : map (λ peer. peer.shard) shard.peers.items ≡ others shard.shards shard.shard
     pub cursors : All (HasCursors shard) shard.peers.items
     pub own : HasOwn shard
+    pub begun : shard.own.begun ≤ length (issued_by shard)
     pub waits : (waiting : Waiting) → shard.request ≡ Some waiting → Contains (others shard.shards shard.shard) waiting.peer
     pub asked : All (HasAsked shard) shard.peers.items
     pub room : HasRoom shard

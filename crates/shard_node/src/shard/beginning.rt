@@ -1,6 +1,7 @@
 //! The step that goes on with the shard's own parts.
-ghost use Rattle.std.specs.Prelude.{◌≡◌, ◌≢◌, ◌↔◌, ℕ, ◌<◌, true, false, Contains, Some, None, IsTrue};
+ghost use Rattle.std.specs.Prelude.{◌≡◌, ◌≢◌, ◌↔◌, ℕ, ◌<◌, true, false, length, Contains, Some, None, IsTrue};
 ghost use Rattle.std.specs.List.{slice_get};
+ghost use Rattle.layout.specs.Sizes.{tickets};
 ghost use Rattle.shard_node.specs.Nodes.{others};
 ghost use Rattle.shard_parts.specs.Own.{IsFirstPart, own_log};
 ghost use Rattle.shard_memory.specs.Tickets.{HasIdle};
@@ -19,10 +20,6 @@ use crate::gate::Gate;
 use crate::messages::request;
 use crate::parts::do_part;
 use crate::waiting::Waiting;
-use cache_model::{
-    a_journal_goes_on, evictions_are_counted, evictions_in_turn_are_legal,
-    issued_parts_are_counted, replies_hold_what_was_put,
-};
 use shard_memory::Share;
 use shard_parts::send;
 use shard_rings::{Lane, Link, operation_of};
@@ -63,9 +60,9 @@ impl<'f, L: Link<'f> + Drop, G: Gate + Drop> Shard<'f, L, G> {
         let Some(Waiting { peer, block }) = self.request.take() else {
             return false;
         };
-        self.own.facts();
         let at = self.place_of(peer);
         let asked = &mut self.peers[at];
+        // The peer owes no more than was asked of it, which are own parts.
         asked.answers.facts();
         match send(&mut asked.link, Lane::Requests, block) {
             Some(block) => {
@@ -100,6 +97,8 @@ impl<'f, L: Link<'f> + Drop, G: Gate + Drop> Shard<'f, L, G> {
         if !self.passes_gate(command.number) {
             return false;
         }
+        // So many tickets there are: no more of them are out.
+        self.store.facts();
         if doer == self.shard {
             self.do_here()
         } else {
@@ -132,6 +131,7 @@ impl<'f, L: Link<'f> + Drop, G: Gate + Drop> Shard<'f, L, G> {
     fn do_here(&mut self) -> bool
         requires consistent { IsConsistent self.old }
         requires next { (i : ℕ) × (slice_get (issued_by self.old) self.old.own.begun ≡ Some (i, self.old.shard)) }
+        requires many { length self.old.store.lent ≡ tickets }
         ensures step { IsStep L.traffic L.end self.old self.new }
         ensures received { (lane : AnyLane) → ReceivesNone L.traffic lane (node_state self.old) (node_state self.new) }
         ensures goes { Goes L.traffic (node_state self.old) (node_state self.new) }
@@ -139,13 +139,6 @@ impl<'f, L: Link<'f> + Drop, G: Gate + Drop> Shard<'f, L, G> {
         ensures moved { IsTrue result ↔ Rises L.traffic (node_state self.old) (node_state self.new) }
         ensures done { IsTrue result }
     {
-        a_journal_goes_on();
-        evictions_in_turn_are_legal();
-        evictions_are_counted();
-        replies_hold_what_was_put();
-        issued_parts_are_counted();
-        self.trace.commands();
-        self.store.facts();
         let Some(command) = self.here.first() else {
             return false;
         };
@@ -161,7 +154,6 @@ impl<'f, L: Link<'f> + Drop, G: Gate + Drop> Shard<'f, L, G> {
             journal,
             log,
         );
-        self.store.facts();
         self.here.pass();
         self.own.pass();
         true
@@ -177,6 +169,7 @@ impl<'f, L: Link<'f> + Drop, G: Gate + Drop> Shard<'f, L, G> {
         requires other { doer ≢ self.old.shard }
         requires below { doer < self.old.shards }
         requires ticket { HasIdle self.old.store.lent Shares.Request }
+        requires many { length self.old.store.lent ≡ tickets }
 
         // Nothing passes over a link.
         ensures step { IsStep L.traffic L.end self.old self.new }
@@ -194,18 +187,11 @@ impl<'f, L: Link<'f> + Drop, G: Gate + Drop> Shard<'f, L, G> {
             → self.new.store.backs ≡ self.old.store.backs
             → HasIdle self.new.store.lent Shares.Reply → HasIdle self.old.store.lent Shares.Reply }
     {
-        a_journal_goes_on();
-        evictions_in_turn_are_legal();
-        evictions_are_counted();
-        issued_parts_are_counted();
-        self.trace.commands();
-        self.store.facts();
-        self.own.facts();
+        // Entries are counted in 32 bits: so blocks that were lent are counted in 64.
         self.journal.entries();
         let operation = operation_of(self.trace, command);
         let (store, journal) = (&mut self.store, &mut self.journal);
         let block = request(store, command.number, &operation, journal);
-        self.store.facts();
         self.own.pass();
         self.request = Some(Waiting { peer: doer, block });
     }

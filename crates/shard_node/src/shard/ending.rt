@@ -7,7 +7,6 @@ ghost use Rattle.shard_node.specs.inside.Shards.{node_state, IsConsistent};
 
 use super::Shard;
 use crate::gate::Gate;
-use cache_model::{a_journal_goes_on, issued_parts_are_counted};
 use shard_parts::all_ended;
 use shard_rings::Link;
 
@@ -18,10 +17,6 @@ impl<'f, L: Link<'f> + Drop, G: Gate + Drop> Shard<'f, L, G> {
         ensures { InStanding L.traffic (node_state self.now)
             → (IsTrue result ↔ IsDone L.traffic G.holds (node_state self.now)) }
     {
-        a_journal_goes_on();
-        issued_parts_are_counted();
-        self.trace.commands();
-        self.own.facts();
         self.is_at_end()
     }
 }

@@ -11,7 +11,6 @@ ghost use Rattle.shard_node.specs.inside.Shards.{node_state, IsConsistent};
 use super::Shard;
 use crate::gate::Gate;
 use crate::refusal::NodeRefusal;
-use cache_model::issued_parts_are_counted;
 use foreign_list::{Foreign, OwnerSeat, Tally};
 use shard_parts::{Own, Rest, Room, peers_over};
 use shard_rings::Link;
@@ -62,8 +61,6 @@ impl<'f, L: Link<'f> + Drop, G: Gate + Drop> Shard<'f, L, G> {
         ensures gate { IfOk result (λ s. s.gate ≡ gate) }
         ensures turns { IfOk result (λ s. s.turns ≡ 0) }
     {
-        issued_parts_are_counted();
-        trace.commands();
         let shards = trace.shards();
         let Ok(room) = Room::new(alloc, shard, trace) else {
             return Err(NodeRefusal { seat, links });

@@ -80,6 +80,7 @@ impl<'f, L: Link<'f> + Drop, G: Gate + Drop> Shard<'f, L, G> {
         if !peer.owes_reply() {
             return Tried::Nothing;
         }
+        // The part of the reply that is due stands in the log of own parts, and was not answered.
         peer.answers.facts();
         peer.take_reply(trace, longest, &mut self.log, &mut self.tally)
     }

@@ -21,10 +21,6 @@ use super::Shard;
 use crate::gate::Gate;
 use crate::messages::reply;
 use crate::seen::Seen;
-use cache_model::{
-    a_journal_goes_on, evictions_are_counted, evictions_in_turn_are_legal,
-    replies_hold_what_was_put,
-};
 use foreign_list::{ForeignBlock, Tally};
 use run_log::Journal;
 use shard_memory::Share;
@@ -138,17 +134,9 @@ impl<'f, L: Link<'f> + Drop, G: Gate + Drop> Shard<'f, L, G> {
         if !self.store.is_idle(Share::Reply) || !self.peers[at].may_ask() {
             return Tried::Nothing;
         }
-        a_journal_goes_on();
-        evictions_in_turn_are_legal();
-        evictions_are_counted();
-        replies_hold_what_was_put();
-        self.trace.commands();
-        self.store.facts();
         let trace = self.trace;
         let (store, journal, tally) = (&mut self.store, &mut self.journal, &mut self.tally);
-        let tried = serve(&mut self.peers[at], trace, store, journal, tally);
-        self.store.facts();
-        tried
+        serve(&mut self.peers[at], trace, store, journal, tally)
     }
 
     /// Sends the reply that waits for a peer, if one does.
@@ -182,6 +170,7 @@ fn serve<'f, L: Link<'f> + Drop>(
     requires room { (d : Operation) → next_ask peer.old ≡ Some d → is_put d.kind ≡ true
         → length store.old.rows < store.old.room }
     requires spare { (d : Operation) → next_ask peer.old ≡ Some d → length store.old.rows + 1 ≤ journal.old.spare }
+    requires within { length store.old.rows ≤ store.old.room }
     ensures { TriesRequest
         L.traffic L.end peer.old peer.new store.old store.new journal.old journal.new tally.old tally.new result }
 {
@@ -223,6 +212,7 @@ fn answer<'f, L: Drop>(
     requires room { (d : Operation) → next_ask peer.old ≡ Some d → is_put d.kind ≡ true
         → length store.old.rows < store.old.room }
     requires spare { (d : Operation) → next_ask peer.old ≡ Some d → length store.old.rows + 1 ≤ journal.old.spare }
+    requires within { length store.old.rows ≤ store.old.room }
     ensures ends { EndsRequest (InBlock block.now) peer.old peer.new store.old store.new journal.old journal.new result }
     ensures same { peer.new ≡ record peer.old { reply = peer.new.reply; asks = peer.new.asks } }
 {

@@ -1,8 +1,10 @@
 -- How a shard's memory and its cache go together.
-use Rattle.std.specs.Prelude.{◌≡◌, ℕ, ◌/◌, ◌≤◌, [], length, Some, slice_get, IsSome, Contains}
-use Rattle.layout.specs.Sizes.{segment_pages, ArePages}
+use Rattle.std.specs.Prelude.{◌≡◌, ℕ, ◌/◌, ◌^◌, ◌<◌, ◌≤◌, [], length, Some, slice_get, IsSome, Contains}
+use Rattle.layout.specs.Sizes.{segment_pages, tickets, ArePages}
+use Rattle.layout.specs.Counts.{raised}
 use Rattle.layout.specs.Extents.{extent}
 use Rattle.shard_memory.specs.Shards.{MemoryState}
+use Rattle.shard_memory.specs.Tickets.{tickets_out}
 use Rattle.regions.specs.Segments.{RegionState}
 use Rattle.row_cache.specs.Rows.{CacheState, rows_of}
 use Rattle.shard_store.specs.Stores.{StoreState}
@@ -19,6 +21,13 @@ pub record HoldsAll (memory : MemoryState) (region : RegionState) : Type 0 where
   pub apart : (m n : ℕ) (a b : Identity) → slice_get (pieces region) m ≡ Some (Some a) → slice_get (pieces region) n ≡ Some (Some b) → a.at ≡ b.at → m ≡ n
   pub count : held_count region ≡ length memory.segments
 
+-- the memory has its owner's list and all its tickets, and counts what it lends
+pub record IsCounted (memory : MemoryState) : Type 0 where
+  pub owner : memory.owner ≡ memory.list.owner
+  pub tickets : length memory.lent ≡ tickets
+  pub lends : memory.lends ≡ raised memory.backs (tickets_out memory.lent)
+  pub backs : memory.backs < 2 ^ 64
+
 -- The region is made of the segments of the shard's memory, of which no block stays with the shard. So many guards stand.
 pub record IsMadeOf (shard pages standing : ℕ) (memory : MemoryState) (region : RegionState) : Type 0 where
   pub owner : memory.owner ≡ shard
@@ -28,6 +37,7 @@ pub record IsMadeOf (shard pages standing : ℕ) (memory : MemoryState) (region 
   pub most : (shape region).most ≡ pages / segment_pages
   pub holds : HoldsAll memory region
   pub guards : guards_of region 0 ≡ standing
+  pub counted : IsCounted memory
 
 -- besides, a segment is active, and one is free
 pub record IsConsistent (shard pages standing : ℕ) (memory : MemoryState) (region : RegionState) : Type 0 where

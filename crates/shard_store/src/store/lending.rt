@@ -4,7 +4,7 @@ ghost use Rattle.layout.specs.Sizes.{greatest_block, tickets};
 ghost use Rattle.rows.specs.Row.{Row};
 ghost use Rattle.rows.specs.Apply as apply;
 ghost use Rattle.regions.specs.Contents.{live_at};
-ghost use Rattle.regions.specs.Shapes.{guards_of};
+ghost use Rattle.regions.specs.Shapes.{guards_of, most_guards};
 ghost use Rattle.row_cache.specs.Rows.{StandsAt};
 ghost use Rattle.layout.specs.Counts.{raised};
 ghost use Rattle.shard_memory.specs.Tickets.{HasIdle, tickets_out};
@@ -28,8 +28,7 @@ impl<'f> ShardStore<'f> {
         ensures lends { self.now.lends ≡ raised self.now.backs (tickets_out self.now.lent) }
         ensures backs { self.now.backs < 2 ^ 64 }
     {
-        self.memory.facts();
-        self.cache.facts();
+        self.cache.rows();
     }
 
     /// Lends a block of so many bytes with an idle ticket of the share; what stands in it is not said. Where there is no room for it
@@ -60,7 +59,6 @@ impl<'f> ShardStore<'f> {
         ensures floor { floor_of self.old.pages self.old.lent ≤ pressure self.new.pages self.new.lent }
     {
         let (memory, cache) = (&mut self.memory, &mut self.cache);
-        memory.facts();
         find_block(memory, cache, size, share, evictions)
     }
 
@@ -144,9 +142,10 @@ impl<'f> ShardStore<'f> {
         self.memory.take_back()
     }
 
-    /// Whether a ticket of the share is idle.
+    /// Whether a ticket of the share is idle, and how many tickets there are.
     pub fn is_idle(&self, share: Share) -> bool
-        ensures { IsTrue result ↔ HasIdle self.now.lent share }
+        ensures idle { IsTrue result ↔ HasIdle self.now.lent share }
+        ensures tickets { length self.now.lent ≡ tickets }
     {
         self.memory.is_idle(share)
     }
@@ -174,7 +173,7 @@ impl<'f> ShardStore<'f> {
 
     /// One guard more. While one stands, what stands at a place stays there. Guards nest.
     pub fn guard(&mut self)
-        requires { guards_of self.old.region 0 < 1000000 }
+        requires { guards_of self.old.region 0 < most_guards }
         ensures guards { self.new ≡ with_guards self.old (guards_of self.old.region 0 + 1) }
         ensures count { guards_of self.new.region 0 ≡ guards_of self.old.region 0 + 1 }
     {

@@ -1,5 +1,5 @@
 -- What the spans have become part of the way through a request, and part of the way through giving a span back.
-use Rattle.std.specs.Prelude.{◌≡◌, ℕ, ◌+◌, ◌<◌, ◌≤◌, ◌^◌, ◌∷◌, None}
+use Rattle.std.specs.Prelude.{◌≡◌, ℕ, ◌+◌, ◌%◌, ◌<◌, ◌≤◌, ◌^◌, ◌∷◌, None}
 use Rattle.std.specs.FinMap as map
 use Rattle.common_lemmas.specs.Lists.{delete}
 use Rattle.span_lists.specs.Buddies.{buddy}
@@ -27,5 +27,7 @@ pub record IsCoalescedTo (old now : Layout) (first order at to : ℕ) : Type 0 w
   pub buddies : (k : ℕ) → order ≤ k → k < to → free_at now k ≡ delete (buddy (span_start first k) k) (free_at old k)
   pub lower : (k : ℕ) → k < order → free_at now k ≡ free_at old k
   pub upper : (k : ℕ) → to ≤ k → free_at now k ≡ free_at old k
-  pub divided : Divides now
-  pub coalesced : IsCoalesced now
+
+-- a span of the order may begin at the page
+abbrev pub MayBegin : ℕ → ℕ → Type 0
+MayBegin first order = (order ≤ 16) × (first % 2 ^ order ≡ 0)

@@ -7,12 +7,9 @@ use super::arena::Arena;
 use crate::rounds::{RowKeys, row_at};
 use index_tree::IndexTree;
 use key_index::Keys;
-use layout::{KEY_ROOM, MOST_KEYS, SEGMENT, SEGMENT_PAGES};
+use layout::{KEY_ROOM, MOST_KEYS, MOST_SEGMENTS, SEGMENT, SEGMENT_PAGES};
 use raw_range::{Piece, Range};
 use std::alloc::{AllocError, Global};
-
-/// The most segments: 387,254 keys have room.
-const SEGMENTS: u32 = 2048;
 
 /// The bytes for the keys of a range.
 const RANGE_ROOM: usize = (MOST_KEYS * KEY_ROOM) as usize;
@@ -34,10 +31,10 @@ pub struct Tree {
 }
 
 impl Tree {
-    /// A tree without keys, with all segments that are asked for.
+    /// A tree without keys, with the most segments: 387,254 keys have room.
     pub fn open(alloc: Global) -> Result<Tree, AllocError> {
-        let mut tree = IndexTree::new(alloc, SEGMENTS)?;
-        for number in 0..SEGMENTS {
+        let mut tree = IndexTree::new(alloc, MOST_SEGMENTS)?;
+        for number in 0..MOST_SEGMENTS {
             tree.add_segment(piece(alloc, number)?);
         }
         Ok(Tree { tree })

@@ -1,11 +1,11 @@
 //! The rounds that are timed, over the table and the order together.
 ghost use Rattle.std.specs.Prelude.{◌≡◌, ℕ, ◌<◌, ◌≤◌, length};
-ghost use Rattle.lazy_index.specs.Lazy.{IsLazyOf};
+ghost use Rattle.key_table.specs.Lazy.{IsLazyOf};
 ghost use Rattle.timed.specs.TableArena.{has_row, key_of};
 
 use super::arena::Arena;
 use crate::rounds::{RowKeys, row_at};
-use lazy_index::{Keys, LazyIndex};
+use key_table::{Keys, LazyIndex};
 
 /// Puts a row in at the spot that a search gives.
 fn insert_row(index: &mut LazyIndex, arena: &Arena, row: u32)

@@ -10,15 +10,15 @@ use Rattle.compaction.proofs.Moves.{same-none}
 use Rattle.compaction.proofs.Drains.{some-same, drained-on, took-on, room-for}
 use Rattle.compaction.proofs.draining.drain.Goals as goal
 
-pub loop-at-preserved : goal.loop-at-preserved
-loop-at-preserved g c =
-    let bare = g.M.Movers.bare in let group = c.args.group in let n = c.args.source in let at = c.in-Some.at in let size = c.in-Some.size in
-    let now = c.loop-at.region in let new = c.take_out.new.region in let i = c.loop-at.invariant in let e = c.take_out.ensures in let f = c.in-Some.ensures in
+pub loop-found-preserved : goal.loop-found-preserved
+loop-found-preserved g c =
+    let bare = g.M.Movers.bare in let group = c.args.group in let n = c.args.source in let at = c.in-Some.found.at in let size = c.in-Some.found.size in
+    let now = c.loop-found.region in let new = c.take_out.new.region in let i = c.loop-found.invariant in let e = c.take_out.ensures in let f = c.in-Some.ensures in
     let shut = closed-in now group n (i.drained.closed group n c.requires.closed) in let least = f.size.1.0 in
     let other : (a : ℕ) → a ≢ at → (let p : Place = record { segment = n; at = a } in let q : Place = record { segment = n; at = at } in p ≢ q) = λ a far h. far (ap (λ (x : Place). x.at) h) in
     let before : (a : ℕ) → a ≢ at → a < at + size → (let p : Place = record { segment = n; at = a } in live_at now p ≡ None) =
     λ a far high.
-    elim (leb_tells c.loop-at.from a) [
+    elim (leb_tells c.loop-found.from a) [
       | inl up ↦
           elim (leb_tells at a) [
             | inl above ↦ elim (eq-or-lt_of_le above.1) [ inl h ↦ absurd (far (sym h)) | inr over ↦ ap item_if_live (f.between a over high) ]
@@ -49,7 +49,7 @@ loop-at-preserved g c =
     }
 
 pub take_out-requires-clause-room : goal.take_out-requires-clause-room
-take_out-requires-clause-room g c = room-for c.args.group c.args.source c.args.region.now c.loop-at.region c.requires.room c.loop-at.invariant.took
+take_out-requires-clause-room g c = room-for c.args.group c.args.source c.args.region.now c.loop-found.region c.requires.room c.loop-found.invariant.took
 
 pub next_live-requires-clause-closed : goal.next_live-requires-clause-closed
-next_live-requires-clause-closed g c = closed-in c.loop-at.region c.args.group c.args.source (c.loop-at.invariant.drained.closed c.args.group c.args.source c.requires.closed)
+next_live-requires-clause-closed g c = closed-in c.loop-found.region c.args.group c.args.source (c.loop-found.invariant.drained.closed c.args.group c.args.source c.requires.closed)

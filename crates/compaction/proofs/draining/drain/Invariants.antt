@@ -7,8 +7,8 @@ use Rattle.compaction.specs.inside.Drained.{IsDrained, Took}
 use Rattle.compaction.proofs.draining.drain.Given as goal
 
 -- what stands before the offset is moved
-abbrev pub invariant-loop-at : goal.invariant-loop-at
-invariant-loop-at g l = record {
+abbrev pub invariant-loop-found : goal.invariant-loop-found
+invariant-loop-found g l = record {
   fits : g.M.Movers.fits l.movers (live_at l.region);
   store : (n : ℕ) → store_of g.M.Movers.bare (g.M.Movers.place_of l.movers) (live_at l.region) n ≡ store_of g.M.Movers.bare (g.M.Movers.place_of l.fn.movers) (live_at l.fn.region) n;
   rest : g.M.Movers.rest l.movers ≡ g.M.Movers.rest l.fn.movers;
@@ -19,5 +19,5 @@ invariant-loop-at g l = record {
   none : NoneLives l.region l.source 0 l.from;
 }
 
-abbrev pub decreases-loop-at : goal.decreases-loop-at
-decreases-loop-at g l = live_bytes_at l.region l.source
+abbrev pub decreases-loop-found : goal.decreases-loop-found
+decreases-loop-found g l = live_bytes_at l.region l.source

@@ -3,7 +3,7 @@ use Rattle.std.proofs.Common.{◌≡◌, ◌+◌, ◌≤◌, length, drop}
 use Rattle.trace_text.specs.Operation.{operations}
 use Rattle.dirty_mode.specs.DirtyText.{text_of, lines_from}
 use Rattle.text_lemmas.specs.Writing.{Goes}
-use Rattle.dirty_mode.specs.inside.Held.{Keeps}
+use Rattle.dirty_region.specs.State.{Keeps}
 use Rattle.dirty_mode.proofs.CommandLists.{puts_of}
 use Rattle.dirty_mode.proofs.commands.do_commands.Given as goal
 

@@ -3,7 +3,6 @@ use Rattle.rows.specs.Row.{live, size}
 use Rattle.regions.specs.Shapes.{held_count}
 use Rattle.segmented_store.specs.Room.{room}
 use Rattle.dirty_region.specs.Queues.{Queue}
-use Rattle.dirty_mode.specs.inside.Held.{Keeps}
 use Rattle.dirty_mode.proofs.CommandLists.{size_most, taken}
 use Rattle.dirty_mode.proofs.Flushing.{Keeps-trans, staying_few, staying_fits}
 use Rattle.dirty_mode.proofs.commands.put.Goals as goal
@@ -25,5 +24,4 @@ unreachable-requires g c =
 
 pub returns-clause-kept : goal.returns-clause-kept
 returns-clause-kept g c =
-    let second : Keeps c.flush_for.new.dirty c.put.new.self = record { room = c.put.ensures.room; segments = c.put.ensures.segments } in
-    Keeps-trans c.in_ok-flush_for.ensures.kept second
+    Keeps-trans c.in_ok-flush_for.ensures.kept c.put.ensures.kept

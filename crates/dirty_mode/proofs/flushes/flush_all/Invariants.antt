@@ -1,7 +1,7 @@
 -- The puts so far are flushed.
 use Rattle.std.proofs.Common.{◌≡◌, length}
 use Rattle.text_lemmas.specs.Writing.{Goes}
-use Rattle.dirty_mode.specs.inside.Held.{Keeps}
+use Rattle.dirty_region.specs.State.{Keeps}
 use Rattle.dirty_mode.proofs.Flushing.{put_text}
 use Rattle.dirty_mode.proofs.flushes.flush_all.Given as goal
 

@@ -2,7 +2,7 @@
 use Rattle.std.proofs.Common.{◌≡◌, length}
 use Rattle.dirty_mode.specs.DirtyText.{going, staying}
 use Rattle.text_lemmas.specs.Writing.{Goes}
-use Rattle.dirty_mode.specs.inside.Held.{Keeps}
+use Rattle.dirty_region.specs.State.{Keeps}
 use Rattle.dirty_mode.proofs.Flushing.{put_text}
 use Rattle.dirty_mode.proofs.flushes.flush_for.Given as goal
 

@@ -6,4 +6,4 @@ pub returns-clause-written : goal.returns-clause-written
 returns-clause-written g c = Writes-same (oldest_text c.args.dirty.now.queue c.requires.whole) c.flush_into.ensures.written
 
 pub returns-clause-kept : goal.returns-clause-kept
-returns-clause-kept g c = record { room = c.flush_into.ensures.room; segments = c.flush_into.ensures.segments }
+returns-clause-kept g c = c.flush_into.ensures.kept

@@ -2,12 +2,11 @@ use Rattle.std.proofs.Common.{◌≡◌, ◌≤◌, ap, subst, sym, rules, ◌�
 use Rattle.std.specs.Prelude.{Result, Ok, Err}
 use Rattle.std.specs.Result.{OnOk}
 use Rattle.trace_text.specs.Parsed.{trace_in}
-use Rattle.segmented_store.specs.Segments.{HoldsSegments}
-use Rattle.dirty_region.specs.State.{empty}
+use Rattle.dirty_region.specs.State.{empty, Keeps}
 use Rattle.dirty_mode.specs.DirtyText.{dirty_text, put_count}
 use Rattle.dirty_mode.specs.Stores.{IsEmpty, StoreState}
 use Rattle.text_lemmas.proofs.Written.{Writes-same}
-use Rattle.text_lemmas.proofs.Sent.{sent_all, sent_front, sent_failed, sent_later}
+use Rattle.text_lemmas.proofs.Sent.{sent}
 use Rattle.dirty_mode.proofs.text.write_dirty.Goals as goal
 
 empty_if : {T E : Type 0} (r : Result T E) (store : StoreState) → OnOk r (store.dirty.queue ≡ empty) → OnOk r (IsEmpty store)
@@ -20,28 +19,10 @@ write_on-written-requires-clause-empty g c = ap (λ (s : StoreState). s.dirty.qu
 pub write_on-written-requires-clause-room : goal.write_on-written-requires-clause-room
 write_on-written-requires-clause-room g c = subst (λ (s : StoreState). put_count (trace_in c.args.trace.now) ≤ s.dirty.room) (sym c.store.view_is) c.requires.room
 
-pub returns-clause-written : goal.returns-clause-written
-returns-clause-written g c =
+pub returns-clause-sent : goal.returns-clause-sent
+returns-clause-sent g c =
     let same = ap (λ (s : StoreState). dirty_text (trace_in c.args.trace.now) s.pages) c.store.view_is in
-    sent_all g.K.Sink.written g.K.Sink.faults _ _ c.into_sink.result.now _ _ _ c.write_on-written.result c.new-out.result c.write_on-written.new.out c.new-out.ensures c.into_sink.ensures (search rules)
-    c.write_on-written.ensures.empty (Writes-same same c.write_on-written.ensures.written)
-
-pub returns-clause-front : goal.returns-clause-front
-returns-clause-front g c =
-    let same = ap (λ (s : StoreState). dirty_text (trace_in c.args.trace.now) s.pages) c.store.view_is in
-    sent_front g.K.Sink.written g.K.Sink.faults _ _ c.into_sink.result.now _ _ _ c.write_on-written.result c.new-out.result c.write_on-written.new.out c.new-out.ensures c.into_sink.ensures (search rules)
-    c.write_on-written.ensures.empty (Writes-same same c.write_on-written.ensures.written)
-
-pub returns-clause-failed : goal.returns-clause-failed
-returns-clause-failed g c =
-    let same = ap (λ (s : StoreState). dirty_text (trace_in c.args.trace.now) s.pages) c.store.view_is in
-    sent_failed g.K.Sink.written g.K.Sink.faults _ _ c.into_sink.result.now _ _ _ c.write_on-written.result c.new-out.result c.write_on-written.new.out c.new-out.ensures c.into_sink.ensures (search rules)
-    c.write_on-written.ensures.empty (Writes-same same c.write_on-written.ensures.written)
-
-pub returns-clause-never_falls : goal.returns-clause-never_falls
-returns-clause-never_falls g c =
-    let same = ap (λ (s : StoreState). dirty_text (trace_in c.args.trace.now) s.pages) c.store.view_is in
-    sent_later g.K.Sink.written g.K.Sink.faults _ _ c.into_sink.result.now _ _ _ c.write_on-written.result c.new-out.result c.write_on-written.new.out c.new-out.ensures c.into_sink.ensures (search rules)
+    sent g.K.Sink.written g.K.Sink.faults _ _ c.into_sink.result.now _ _ _ c.write_on-written.result c.new-out.result c.write_on-written.new.out c.new-out.ensures c.into_sink.ensures (search rules)
     c.write_on-written.ensures.empty (Writes-same same c.write_on-written.ensures.written)
 
 pub returns-clause-empty : goal.returns-clause-empty
@@ -50,9 +31,5 @@ returns-clause-empty g c = empty_if c.write_on-written.result _ c.write_on-writt
 pub returns-clause-pages : goal.returns-clause-pages
 returns-clause-pages g c = c.write_on-written.ensures.pages ∙ ap (λ (s : StoreState). s.pages) c.store.view_is
 
-pub returns-clause-room : goal.returns-clause-room
-returns-clause-room g c = c.write_on-written.ensures.kept.room ∙ ap (λ (s : StoreState). s.dirty.room) c.store.view_is
-
-pub returns-clause-segments : goal.returns-clause-segments
-returns-clause-segments g c =
-    subst (λ (s : StoreState). HoldsSegments s.dirty.region c.write_on-written.new.ranged.store.region) c.store.view_is c.write_on-written.ensures.kept.segments
+pub returns-clause-kept : goal.returns-clause-kept
+returns-clause-kept g c = subst (λ (s : StoreState). Keeps s.dirty c.write_on-written.new.ranged.store) c.store.view_is c.write_on-written.ensures.kept

@@ -1,10 +1,9 @@
 use Rattle.std.proofs.Common.{◌≤◌, ap, subst, sym, ◌∙◌}
 use Rattle.trace_text.specs.Parsed.{trace_in}
-use Rattle.dirty_region.specs.State.{DirtyState}
+use Rattle.dirty_region.specs.State.{DirtyState, Keeps}
 use Rattle.segmented_store.specs.Ranged.{InRange}
 use Rattle.dirty_mode.specs.DirtyText.{dirty_text, put_count}
-use Rattle.dirty_mode.specs.inside.Held.{Keeps}
-use Rattle.mode_lemmas.proofs.Ranges.{first_kept}
+use Rattle.place_lemmas.proofs.Ranges.{first_kept}
 use Rattle.text_lemmas.proofs.Written.{Writes-same}
 use Rattle.dirty_mode.proofs.text.write_on.Goals as goal
 

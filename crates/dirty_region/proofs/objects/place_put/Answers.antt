@@ -1,6 +1,6 @@
 use Rattle.std.proofs.Common.{◌≡◌, length, refl, arith}
 use Rattle.regions.specs.Lends.{with_content}
-use Rattle.dirty_region.specs.inside.NewPuts.{row_of}
+use Rattle.row_bytes.specs.NewRows.{row_of}
 use Rattle.dirty_region.proofs.Placed.{object_added, zeros_long}
 use Rattle.dirty_region.proofs.objects.place_put.Goals as goal
 

@@ -13,7 +13,7 @@ insert-requires-clause-index c =
     c.keys.ensures.region c.keys.ensures.places (put_index_of c.args.ring.now (live_at c.args.region.now) (c.args.ring.now.count - 1) c.args.index.now c.requires.ring (omega arith) c.requires.index)
 
 pub insert-requires-clause-room : goal.insert-requires-clause-room
-insert-requires-clause-room c = entry_fits c.args.ring.now (live_at c.args.region.now) c.args.index.now c.requires.ring c.requires.some c.requires.index c.law.ensures.once
+insert-requires-clause-room c = entry_fits c.args.ring.now (live_at c.args.region.now) c.args.index.now c.requires.ring c.requires.some c.requires.index
 
 pub returns : goal.returns
 returns c =

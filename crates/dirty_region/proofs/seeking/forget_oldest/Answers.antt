@@ -25,5 +25,5 @@ remove_row-requires-clause-key c =
 pub returns : goal.returns
 returns c =
     let r = c.args.ring.now in let live = live_at c.args.region.now in let i = c.args.index.now in let new = c.remove_row.new.self in let e = c.remove_row.ensures in let at = c.slot-slot.ensures.slot in
-    oldest_out c.remove_row.result r live i new c.requires.ring c.requires.some c.requires.index c.law.ensures.once e.room (e.keyed (key_at live r.places) c.requires.index.keyed)
+    oldest_out c.remove_row.result r live i new c.requires.ring c.requires.some c.requires.index e.room (e.keyed (key_at live r.places) c.requires.index.keyed)
     (λ is. subst (λ n. AreSame (rows_in i) (n ∷ rows_in new)) at (e.rows is)) (λ is. subst (λ n. times n (rows_in i) ≡ 0) at (e.absent is)) e.unchanged

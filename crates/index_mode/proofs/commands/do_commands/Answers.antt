@@ -25,7 +25,7 @@ loop-command-preserved g c =
       behind = behind_next t.bytes k.result.now t.commands k.ensures.value l.command-index low (most first) (index_in l.tree) _ index ∙ l.invariant.behind;
       segments = segments_then l.invariant.segments e.segments;
       serving = served_still l.invariant.serving e.segments;
-      room = subst (λ n. key_room * most_keys ≤ n) (sym e.room) l.invariant.room;
+      memory = subst (λ n. key_room * most_keys ≤ n) (sym e.memory) l.invariant.memory;
     }
 
 pub returns-in_err-do_command-clause-written : goal.returns-in_err-do_command-clause-written

@@ -20,5 +20,5 @@ invariant-loop-command g l = record {
       ≡ index_after (most (held_count l.fn.tree.region)) (index_in l.fn.tree) (operations l.trace.bytes l.trace.commands);
   segments : HoldsSegments l.fn.tree.region l.tree.region;
   serving : IsServing l.tree;
-  room : key_room * most_keys ≤ length l.keys;
+  memory : key_room * most_keys ≤ length l.keys;
 }

@@ -9,9 +9,9 @@ use Rattle.index_mode.proofs.commands.scan.Goals as goal
 pub write_scan-requires-clause-keys : goal.write_scan-requires-clause-keys
 write_scan-requires-clause-keys g c =
     let o = operation c.args.trace.now.bytes c.args.command.now in let index = index_in c.args.tree.now in
-    (scanned_keys o index, keys_are o index _ c.facts.ensures.entries (c.range-scanned.ensures.bytes ∙ ap (λ k. scanned k c.args.command.now.count index) c.key.ensures.value))
+    (scanned_keys o index, keys_are o index _ c.range-scanned.ensures.entries (c.range-scanned.ensures.bytes ∙ ap (λ k. scanned k c.args.command.now.count index) c.key.ensures.value))
 
 pub returns-clause-written : goal.returns-clause-written
 returns-clause-written g c =
     let o = operation c.args.trace.now.bytes c.args.command.now in let index = index_in c.args.tree.now in
-    c.write_scan.ensures (scanned_keys o index) (keys_are o index _ c.facts.ensures.entries (c.range-scanned.ensures.bytes ∙ ap (λ k. scanned k c.args.command.now.count index) c.key.ensures.value))
+    c.write_scan.ensures (scanned_keys o index) (keys_are o index _ c.range-scanned.ensures.entries (c.range-scanned.ensures.bytes ∙ ap (λ k. scanned k c.args.command.now.count index) c.key.ensures.value))

@@ -9,7 +9,7 @@ use Rattle.index_tree.specs.Store.{index_in}
 use Rattle.index_mode.specs.IndexText.{index_left, index_text}
 use Rattle.index_mode.specs.Stores.{StoreState}
 use Rattle.text_lemmas.proofs.Written.{Writes-same}
-use Rattle.text_lemmas.proofs.Sent.{sent_all, sent_front, sent_failed, sent_later}
+use Rattle.text_lemmas.proofs.Sent.{sent}
 use Rattle.index_mode.proofs.text.write_index.Goals as goal
 
 pub write_on-written-requires-clause-empty : goal.write_on-written-requires-clause-empty
@@ -21,27 +21,11 @@ invariant_of-store g c =
     let is : (with_items s.keys keys).items ≡ keys = with_items_is s.keys keys (c.write_on-written.auto.keys ∙ c.as_mut_slice.ensures.len) in
     ap length is ∙ (c.write_on-written.auto.keys ∙ (ap length c.as_mut_slice.ensures.value ∙ c.store.invariant))
 
-pub returns-clause-written : goal.returns-clause-written
-returns-clause-written g c =
+pub returns-clause-sent : goal.returns-clause-sent
+returns-clause-sent g c =
     let same = ap (λ (t : StoreState). index_text (trace_in c.args.trace.now) t.pages) c.store.view_is in
-    sent_all g.K.Sink.written g.K.Sink.faults _ _ c.into_sink.result.now _ _ _ c.write_on-written.result c.new-out.result c.write_on-written.new.out c.new-out.ensures c.into_sink.ensures (search rules)
+    sent g.K.Sink.written g.K.Sink.faults _ _ c.into_sink.result.now _ _ _ c.write_on-written.result c.new-out.result c.write_on-written.new.out c.new-out.ensures c.into_sink.ensures (search rules)
     c.write_on-written.ensures.empty (Writes-same same c.write_on-written.ensures.written)
-
-pub returns-clause-front : goal.returns-clause-front
-returns-clause-front g c =
-    let same = ap (λ (t : StoreState). index_text (trace_in c.args.trace.now) t.pages) c.store.view_is in
-    sent_front g.K.Sink.written g.K.Sink.faults _ _ c.into_sink.result.now _ _ _ c.write_on-written.result c.new-out.result c.write_on-written.new.out c.new-out.ensures c.into_sink.ensures (search rules)
-    c.write_on-written.ensures.empty (Writes-same same c.write_on-written.ensures.written)
-
-pub returns-clause-failed : goal.returns-clause-failed
-returns-clause-failed g c =
-    sent_failed g.K.Sink.written g.K.Sink.faults _ _ c.into_sink.result.now _ _ _ c.write_on-written.result c.new-out.result c.write_on-written.new.out c.new-out.ensures c.into_sink.ensures (search rules)
-    c.write_on-written.ensures.empty c.write_on-written.ensures.written
-
-pub returns-clause-never_falls : goal.returns-clause-never_falls
-returns-clause-never_falls g c =
-    sent_later g.K.Sink.written g.K.Sink.faults _ _ c.into_sink.result.now _ _ _ c.write_on-written.result c.new-out.result c.write_on-written.new.out c.new-out.ensures c.into_sink.ensures (search rules)
-    c.write_on-written.ensures.empty c.write_on-written.ensures.written
 
 pub returns-clause-index : goal.returns-clause-index
 returns-clause-index g c =

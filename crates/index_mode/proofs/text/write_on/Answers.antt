@@ -8,7 +8,7 @@ use Rattle.index_tree.specs.Indexes.{Index}
 use Rattle.index_tree.specs.Sizes.{most}
 use Rattle.index_tree.specs.Store.{IndexState, index_in}
 use Rattle.index_mode.specs.IndexText.{index_after, index_left, index_text, text_from}
-use Rattle.mode_lemmas.proofs.Ranges.{first_kept}
+use Rattle.place_lemmas.proofs.Ranges.{first_kept}
 use Rattle.text_lemmas.proofs.Written.{Writes-same}
 use Rattle.index_mode.proofs.text.write_on.Goals as goal
 

@@ -1,9 +1,9 @@
-use Rattle.std.proofs.Common.{◌-◌, Some, None, sym, subst, ◌∙◌, arith}
+use Rattle.std.proofs.Common.{◌-◌, Some, None, sym, subst, arith}
 use Rattle.regions.specs.Contents.{live_at}
 use Rattle.regions.specs.declared.place.Place.{Place}
 use Rattle.index_tree.specs.Store.{nodes_of}
 use Rattle.index_tree.specs.Trees.{leaves_below}
-use Rattle.place_lemmas.proofs.Places.{some_none, some_same}
+use Rattle.index_tree.proofs.SearchDown.{led_place}
 use Rattle.index_tree.proofs.SearchNode.{is_live}
 use Rattle.index_tree.proofs.SearchWay.{IsTreeOnWay, leads_within, node_of_tree, starts, steps, tree_rises}
 use Rattle.index_tree.proofs.search.leaf_of.Goals as goal
@@ -36,16 +36,9 @@ child_of-requires-clause-i c =
     let within = leads_within (nodes_of (live_at c.args.region.now)) c.loop-left.left on.parent on.low on.high c.loop-left.at c.args.key.now c.way_at.result on.tree c.way_at.ensures in
     omega (arith, within)
 
-pub unreachable-requires : goal.unreachable-requires
-unreachable-requires c =
-    let nodes = nodes_of (live_at c.args.region.now) in
-    let on = steps nodes (leaves_below nodes c.args.level (Some c.args.root)) c.args.key.now c.loop-left.left c.loop-left.at c.way_at.result c.child_of.result c.loop-left-test.true c.loop-left.invariant c.way_at.ensures
-    c.child_of.ensures in
-    some_none on.1 (sym c.led_to.ensures ∙ c.in_default.is)
-
 pub loop-left-preserved : goal.loop-left-preserved
 loop-left-preserved c =
     let nodes = nodes_of (live_at c.args.region.now) in
     let leaves = leaves_below nodes c.args.level (Some c.args.root) in
     let on = steps nodes leaves c.args.key.now c.loop-left.left c.loop-left.at c.way_at.result c.child_of.result c.loop-left-test.true c.loop-left.invariant c.way_at.ensures c.child_of.ensures in
-    subst (λ (p : Place). IsTreeOnWay nodes leaves c.args.key.now (c.loop-left.left - 1) p) (some_same on.1 (sym c.led_to.ensures ∙ c.in-Some.is)) on.2
+    subst (λ (p : Place). IsTreeOnWay nodes leaves c.args.key.now (c.loop-left.left - 1) p) (sym (led_place c.child_of.result c.place_of-child.result on.0 c.place_of-child.ensures on.1)) on.2

@@ -17,5 +17,5 @@ returns-clause-blocks t c =
     let piece = extent_of c.in-Ok.block in
     let blocks = c.args.memory.now.blocks in
     let given = c.in-Ok.ensures.blocks in
-    let apart : AreDisjoint (page * c.give_here.new.self.pages) (piece ∷ blocks) = subst (AreDisjoint (page * c.give_here.new.self.pages)) given c.facts.ensures.apart.blocks in
+    let apart : AreDisjoint (page * c.give_here.new.self.pages) (piece ∷ blocks) = subst (AreDisjoint (page * c.give_here.new.self.pages)) given c.in-Ok.ensures.disjoint in
     c.back_here.ensures.blocks ∙ (ap (remove_extent piece) (c.fill_and_empty-behind.ensures.blocks ∙ given) ∙ first_removed _ piece blocks apart)

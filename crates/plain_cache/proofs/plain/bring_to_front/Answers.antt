@@ -1,6 +1,7 @@
 -- The rows up to the position are rotated by one.
 use Rattle.std.proofs.Common.{◌≡◌, arith, length}
 use Rattle.plain_cache.proofs.Rotation.{rotated, rotated_distinct, rotated_rows, written}
+use Rattle.row_lemmas.proofs.Laws.{other_rows_are_distinct-brought}
 use Rattle.plain_cache.proofs.plain.bring_to_front.Goals as goal
 
 pub returns : goal.returns
@@ -13,7 +14,7 @@ returns c =
     let now = written c.args.rows.now.len front rows in
     record {
       rows = rotated_rows c.args.key.now rows now is.0 is.1;
-      distinct_still = rotated_distinct c.other_rows_are_distinct.ensures.brought c.args.key.now rows now is.0 is.1 c.requires.distinct;
+      distinct_still = rotated_distinct other_rows_are_distinct-brought c.args.key.now rows now is.0 is.1 c.requires.distinct;
       small = is.1.small;
       fewer = omega arith;
     }

@@ -3,6 +3,7 @@ use Rattle.std.proofs.Common.{◌≡◌, ◌++◌, length, take, drop, map, sym,
 use Rattle.std.proofs.Math.Seq.{take-append_seam}
 use Rattle.rows.specs.Apply.{in_order}
 use Rattle.plain_cache.proofs.Scanned.{scanned_is, scanned_are_short}
+use Rattle.row_lemmas.proofs.Laws.{scanned_keys_are_in_order-among}
 use Rattle.plain_cache.proofs.plain.scanned.Goals as goal
 
 pub returns-clause-keys : goal.returns-clause-keys
@@ -17,5 +18,5 @@ returns-clause-keys c =
 
 pub returns-clause-short : goal.returns-clause-short
 returns-clause-short c small =
-    scanned_are_short c.args.key.now c.args.rows.now c.truncate.new.self.items c.args.count c.scanned_keys_are_in_order.ensures.among small
+    scanned_are_short c.args.key.now c.args.rows.now c.truncate.new.self.items c.args.count scanned_keys_are_in_order-among small
     (returns-clause-keys c)

@@ -1,5 +1,6 @@
 -- What the position of a row says.
 use Rattle.plain_cache.proofs.RowLists.{absent_where, has-position, is_position_where}
+use Rattle.row_lemmas.proofs.Laws.{other_rows_are_distinct-all}
 use Rattle.plain_cache.proofs.plain.seek.Goals as goal
 
 pub returns-clause-absent : goal.returns-clause-absent
@@ -9,4 +10,4 @@ pub returns-clause-has : goal.returns-clause-has
 returns-clause-has c = rw c.position_of.ensures (has-position c.args.key.now c.args.rows.now)
 
 pub returns-clause-position : goal.returns-clause-position
-returns-clause-position c = is_position_where c.other_rows_are_distinct.ensures.all c.args.key.now c.args.rows.now c.position_of.result c.position_of.ensures
+returns-clause-position c = is_position_where other_rows_are_distinct-all c.args.key.now c.args.rows.now c.position_of.result c.position_of.ensures

@@ -2,6 +2,7 @@ use Rattle.std.proofs.Common.{◌-◌, [], get_or, take, arith, ap, ◌∙◌}
 use Rattle.report_text.specs.inside.Merged.{merged}
 use Rattle.report_text.proofs.Gathered.{texts}
 use Rattle.report_text.proofs.Joined.{all_first, found_at, next_first}
+use Rattle.row_lemmas.proofs.Laws.{sorted_keys_are_in_order}
 use Rattle.report_text.proofs.found.joined_keys.Goals as goal
 
 pub shard_keys-keys-requires : goal.shard_keys-keys-requires
@@ -24,5 +25,5 @@ loop-part-preserved c = λ lists p.
 
 pub returns : goal.returns
 returns c = λ lists p.
-    all_first c.sorted_keys_are_in_order.ensures c.args.log.now.replies c.args.first c.args.shards c.loop-part.part c.args.count lists (texts c.loop-part.found.items) p
+    all_first sorted_keys_are_in_order c.args.log.now.replies c.args.first c.args.shards c.loop-part.part c.args.count lists (texts c.loop-part.found.items) p
     (omega (arith, c.loop-part-test.false)) (c.loop-part.invariant lists p)

@@ -6,6 +6,7 @@ use Rattle.trace_text.specs.Parsed.{trace_in}
 use Rattle.rows.specs.Operation.{is_scan}
 use Rattle.trace_text.specs.Parts.{origin}
 use Rattle.report_text.proofs.Places.{places_behind, read_there, room_for}
+use Rattle.cache_lemmas.proofs.Laws.{parts_go_up_by_command-most, parts_go_up_by_command-next, answers_are_read_by_command-read}
 use Rattle.report_text.proofs.place.next_replies.Goals as goal
 use Rattle.report_text.proofs.place.next_replies.Goals.{After-parts}
 
@@ -38,11 +39,11 @@ room-is c =
     let n = c.args.trace.now.shards in
     let o = c.origin_of-origin.result in
     let short : c.args.index < 1048576 = omega (arith, c.requires.index, c.commands.ensures.few, ap (λ (list : List Command). length list) c.commands.ensures.value) in
-    room_for c.parts_go_up_by_command.ensures.most (trace_in c.args.trace.now) n c.args.index o c.args.places.now c.commands.ensures.some_shards c.commands.ensures.most_shards short
+    room_for parts_go_up_by_command-most (trace_in c.args.trace.now) n c.args.index o c.args.places.now c.commands.ensures.some_shards c.commands.ensures.most_shards short
     (below (number_at c.args.trace.now.commands c.args.index - 1) n o c.commands.ensures.some_shards (origin-is c)) c.requires.places
 
-pub take_place-first-requires-clause-room : goal.take_place-first-requires-clause-room
-take_place-first-requires-clause-room c =
+pub take_place-first-requires-clause-small : goal.take_place-first-requires-clause-small
+take_place-first-requires-clause-small c =
     omega (arith, room-is c, few _ c.parts.result c.args.trace.now.shards (parts-are c) c.commands.ensures.some_shards)
 
 pub returns-clause-places_behind : goal.returns-clause-places_behind
@@ -52,7 +53,7 @@ returns-clause-places_behind c =
     let o = c.origin_of-origin.result in
     let o-below = below (number_at c.args.trace.now.commands c.args.index - 1) n o c.commands.ensures.some_shards (origin-is d) in
     let within : o < length c.args.places.now = omega (arith, o-below, c.commands.ensures.most_shards, c.told-places) in
-    places_behind c.parts_go_up_by_command.ensures.next c.args.trace.now n c.args.index o c.parts.result c.take_place-first.result none c.args.places.now
+    places_behind parts_go_up_by_command-next c.args.trace.now n c.args.index o c.parts.result c.take_place-first.result none c.args.places.now
     c.take_place-first.new.places c.requires.index within (origin-is d) (parts-are d) c.take_place-first.ensures.first c.take_place-first.ensures.next c.requires.places
 
 pub returns-clause-read : goal.returns-clause-read
@@ -64,10 +65,10 @@ returns-clause-read c = λ answers d e logged.
     let within : o < length c.args.logs.now = omega (arith, o-below, c.requires.one_log_each) in
     let is : o ≡ origin (get_or c.args.trace.now.commands c.args.index d).number n =
     origin-is k ∙ ap (λ (x : Command). origin x.number n) (get_or_default c.args.trace.now.commands c.args.index none d c.requires.index) in
-    read_there c.answers_are_read_by_command.ensures.read c.args.trace.now n c.args.index o c.take_place-first.result c.args.logs.now c.index-logs-origin.result
+    read_there answers_are_read_by_command-read c.args.trace.now n c.args.index o c.take_place-first.result c.args.logs.now c.index-logs-origin.result
     c.args.places.now answers d e logged c.commands.ensures.some_shards c.requires.index o-below within is c.index-logs-origin.is c.take_place-first.ensures.first c.requires.places
 
-pub returns-clause-room : goal.returns-clause-room
-returns-clause-room c =
-    let k = (goal.at-returns-clause-room c).After-parts in
+pub returns-clause-small : goal.returns-clause-small
+returns-clause-small c =
+    let k = (goal.at-returns-clause-small c).After-parts in
     rw (← c.take_place-first.ensures.first) at (room-is k)

@@ -7,6 +7,7 @@ use Rattle.report_text.proofs.Places.{answers_for}
 use Rattle.report_text.proofs.Rounds.{begins-past, begins-within, round_kept}
 use Rattle.report_text.proofs.Stretches.{lines-all, Lines-to, Lines-next, Lines-broken}
 use Rattle.report_text.proofs.LineTexts.{answer_line}
+use Rattle.cache_lemmas.proofs.Laws.{answers_are_read_by_command-count}
 use Rattle.report_text.proofs.side_by_side.put_rounds.Goals as goal
 
 pub loop-from-preserved : goal.loop-from-preserved
@@ -35,7 +36,7 @@ returns-in_err-put_pieces g c = λ answers logged.
     let from = c.loop-from.from in
     let made = c.make_pieces.new.pieces in
     let round = round_kept trace from c.begin_round-to.new.pieces made c.make_pieces.ensures.len c.make_pieces.ensures.stretches c.begin_round-to.ensures.round in
-    let each : length answers ≡ n = answers_for c.answers_are_read_by_command.ensures.count trace c.args.run.now.shards trace.commands c.args.run.now.logs.now answers refl logged in
+    let each : length answers ≡ n = answers_for answers_are_read_by_command-count trace c.args.run.now.shards trace.commands c.args.run.now.logs.now answers refl logged in
     Writes-exit _ c.from_residual.ensures.1
     (subst (Writes _ _ _) (lines-all answer_line answers 0 n refl (omega (arith, each)))
     (Lines-broken answer_line answers 0 from (begins n from (length made)) n (omega arith) (begins-past n from (length made) c.loop-from.invariant.within) (begins-within n from (length made))
@@ -45,7 +46,7 @@ pub returns : goal.returns
 returns g c = λ answers logged.
     let trace = c.args.run.now.trace.now in
     let each : length answers ≡ length trace.commands =
-    answers_for c.answers_are_read_by_command.ensures.count trace c.args.run.now.shards trace.commands c.args.run.now.logs.now answers refl logged in
+    answers_for answers_are_read_by_command-count trace c.args.run.now.shards trace.commands c.args.run.now.logs.now answers refl logged in
     let last = ap (λ (list : List Command). length list) c.commands-commands.ensures.value in
     subst (Writes _ _ _) (lines-all answer_line answers 0 c.loop-from.from refl (omega (arith, each, last, c.loop-from-test.false)))
     (c.loop-from.invariant.added answers logged)

@@ -9,6 +9,7 @@ use Rattle.text_lemmas.proofs.Written.{Writes-exit}
 use Rattle.report_text.proofs.Places.{answers_for, read_for}
 use Rattle.report_text.proofs.Stretches.{lines-one, Lines-next, Lines-broken}
 use Rattle.report_text.proofs.LineTexts.{answer_line}
+use Rattle.cache_lemmas.proofs.Laws.{answers_are_read_by_command-count}
 use Rattle.report_text.proofs.stretch.put_stretch.Goals as goal
 
 abbrev none : Command
@@ -37,7 +38,7 @@ loop-index-preserved g c = record {
       let r = c.next_replies-first in
       let i = c.loop-index.index in
       let each : length answers ≡ length c.args.run.now.trace.now.commands =
-      answers_for c.answers_are_read_by_command.ensures.count c.args.run.now.trace.now c.args.run.now.shards c.args.run.now.trace.now.commands c.args.run.now.logs.now answers refl logged in
+      answers_for answers_are_read_by_command-count c.args.run.now.trace.now c.args.run.now.shards c.args.run.now.trace.now.commands c.args.run.now.logs.now answers refl logged in
       let within : i < length answers = omega (arith, c.loop-index-test.true, c.requires.stretch.within, each) in
       let read = read_for c.args.run.now.trace.now c.args.run.now.shards i r.result.1 k.result.now c.args.run.now.logs.now r.result.0.now answers none (0, Stored) c.args.run.now.parsed_for k.ensures.value r.ensures.read logged in
       let next : i ≤ i + 1 = omega arith in
@@ -52,7 +53,7 @@ returns-in_err-put_answer g c = λ answers logged.
     let r = c.next_replies-first in
     let i = c.loop-index.index in
     let each : length answers ≡ length c.args.run.now.trace.now.commands =
-    answers_for c.answers_are_read_by_command.ensures.count c.args.run.now.trace.now c.args.run.now.shards c.args.run.now.trace.now.commands c.args.run.now.logs.now answers refl logged in
+    answers_for answers_are_read_by_command-count c.args.run.now.trace.now c.args.run.now.shards c.args.run.now.trace.now.commands c.args.run.now.logs.now answers refl logged in
     let within : i < length answers = omega (arith, c.loop-index-test.true, c.requires.stretch.within, each) in
     let read = read_for c.args.run.now.trace.now c.args.run.now.shards i r.result.1 k.result.now c.args.run.now.logs.now r.result.0.now answers none (0, Stored) c.args.run.now.parsed_for k.ensures.value r.ensures.read logged in
     let next : i ≤ i + 1 = omega arith in

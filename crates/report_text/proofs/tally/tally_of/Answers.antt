@@ -9,6 +9,7 @@ use Rattle.report_text.specs.inside.Tallies.{with_answer}
 use Rattle.report_text.proofs.Answered.{read_kind}
 use Rattle.report_text.proofs.Places.{answers_for, read_for}
 use Rattle.report_text.proofs.Tallied.{tally_all, tally_next}
+use Rattle.cache_lemmas.proofs.Laws.{answers_are_read_by_command-count}
 use Rattle.report_text.proofs.tally.tally_of.Goals as goal
 
 abbrev none : Command
@@ -37,7 +38,7 @@ loop-index-preserved c = record {
       let i = c.loop-index.index in
       let n = c.args.run.now.shards in
       let some : 1 ≤ n = omega (arith, k.ensures.some_shards, c.args.run.now.parsed_for) in
-      let each = c.answers_are_read_by_command.ensures.count in
+      let each = answers_are_read_by_command-count in
       let within : i < length answers =
       omega (arith, c.loop-index-test.true, answers_for each c.args.run.now.trace.now n k.result.now c.args.run.now.logs.now answers k.ensures.value logged) in
       let read = read_for c.args.run.now.trace.now n i r.result.1 k.result.now c.args.run.now.logs.now r.result.0.now answers none (0, Stored) c.args.run.now.parsed_for k.ensures.value r.ensures.read logged in
@@ -51,6 +52,6 @@ loop-index-preserved c = record {
 pub returns : goal.returns
 returns c = λ answers logged.
     let k = c.commands-index-end in
-    let each = c.answers_are_read_by_command.ensures.count in
+    let each = answers_are_read_by_command-count in
     let many = answers_for each c.args.run.now.trace.now c.args.run.now.shards k.result.now c.args.run.now.logs.now answers k.ensures.value logged in
     c.loop-index.invariant.counted answers logged ∙ tally_all answers c.loop-index.index (omega (arith, many, c.loop-index-test.false))

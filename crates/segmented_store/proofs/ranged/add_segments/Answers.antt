@@ -4,8 +4,8 @@ use Rattle.layout.specs.Extents.{extent, Disjoint}
 use Rattle.layout.specs.Sizes.{segment, page}
 use Rattle.raw_range.specs.Memory.{Memory}
 use Rattle.regions.specs.Shapes.{identity}
-use Rattle.mode_lemmas.specs.Ranges.{nth_piece}
-use Rattle.mode_lemmas.proofs.Ranges.{apart, length-extents, one_more, piece_is}
+use Rattle.place_lemmas.specs.Ranges.{nth_piece}
+use Rattle.place_lemmas.proofs.Ranges.{apart, length-extents, one_more, piece_is}
 use Rattle.segmented_store.proofs.ranged.add_segments.Goals as goal
 
 pub take-requires-clause-disjoint : goal.take-requires-clause-disjoint

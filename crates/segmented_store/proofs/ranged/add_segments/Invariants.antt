@@ -1,7 +1,7 @@
 -- The first segments are held.
 use Rattle.std.proofs.Common.{◌≡◌}
 use Rattle.regions.specs.Shapes.{shape, guards_of}
-use Rattle.mode_lemmas.specs.Ranges.{HoldsFirst}
+use Rattle.place_lemmas.specs.Ranges.{HoldsFirst}
 use Rattle.segmented_store.proofs.ranged.add_segments.Given as goal
 
 abbrev pub invariant-loop-segment : goal.invariant-loop-segment

@@ -5,15 +5,17 @@ use Rattle.row_cache.specs.Rows.{reply_of}
 use Rattle.rows.specs.Operations.{put_of}
 use Rattle.shard_store.specs.Works.{pressure}
 use Rattle.shard_node.proofs.Requests.Told.{noted, spare-left}
+use Rattle.part_lemmas.proofs.Recording.{told-recorded}
+use Rattle.row_lemmas.proofs.Laws.{evictions_are_counted-count}
 use Rattle.shard_node.proofs.doing.put_row.Goals as goal
 
 pub note_done-requires : goal.note_done-requires
 note_done-requires c =
     let h = c.put-did.ensures.stored in
-    let told = c.a_journal_records_what_it_is_told.ensures in
+    let told = told-recorded in
     let store = c.args.store.now in
     let left = spare-left c.args.journal.now c.put-did.new.evictions h.evicted h.rest store.rows (told c.args.journal.now c.put-did.new.evictions h.evicted h.told)
-    (c.evictions_are_counted.ensures.count (pressure store.pages store.lent) store.rows h.rest h.evicted h.evicts) c.requires.spare in
+    (evictions_are_counted-count (pressure store.pages store.lent) store.rows h.rest h.evicted h.evicts) c.requires.spare in
     omega (arith, left)
 
 pub returns-clause-does : goal.returns-clause-does
@@ -22,5 +24,5 @@ returns-clause-does c =
     let number = c.args.number in
     let key = c.args.key.now in
     let value = c.args.value.now in
-    noted c.a_journal_records_what_it_is_told.ensures (pressure store.pages store.lent) (put_of number key value) (apply.put key value number) (reply_of c.put-did.result) store c.put-did.new.self
+    noted told-recorded (pressure store.pages store.lent) (put_of number key value) (apply.put key value number) (reply_of c.put-did.result) store c.put-did.new.self
     c.args.journal.now c.put-did.new.evictions c.note_done.new.journal (λ rows. refl) c.put-did.ensures.stored c.note_done.ensures

@@ -9,13 +9,16 @@ use Rattle.shard_rings.specs.Reply.{HoldsReply}
 use Rattle.shard_store.specs.Lending.{found_in}
 use Rattle.shard_store.specs.Works.{floor_of}
 use Rattle.shard_node.proofs.Requests.Told.{noted, refill-whole, spare-left}
+use Rattle.part_lemmas.proofs.Recording.{told-recorded}
+use Rattle.row_lemmas.proofs.Laws.{evictions_are_counted-count}
+use Rattle.store_lemmas.proofs.Lent.{lends-written}
 use Rattle.shard_node.proofs.messages.reply_get.Goals as goal
 
 pub note_done-requires : goal.note_done-requires
 note_done-requires c =
     let h = c.lend_value-block.ensures.found in let store = c.args.store.now in
-    let left = spare-left c.args.journal.now c.lend_value-block.new.evictions h.evicted h.rest store.rows (c.a_journal_records_what_it_is_told.ensures c.args.journal.now c.lend_value-block.new.evictions h.evicted h.told)
-    (c.evictions_are_counted.ensures.count (floor_of store.pages store.lent) store.rows h.rest h.evicted h.evicts) c.requires.spare in
+    let left = spare-left c.args.journal.now c.lend_value-block.new.evictions h.evicted h.rest store.rows (told-recorded c.args.journal.now c.lend_value-block.new.evictions h.evicted h.told)
+    (evictions_are_counted-count (floor_of store.pages store.lent) store.rows h.rest h.evicted h.evicts) c.requires.spare in
     omega (arith, left)
 
 pub returns-clause-replied : goal.returns-clause-replied
@@ -26,7 +29,7 @@ returns-clause-replied c =
     let same = ap (λ bytes. found_in found (drop message_header bytes)) c.bytes_mut.ensures.value in (
       answer,
       subst (λ bytes. HoldsReply bytes number answer) (sym whole) (subst (HoldsReply c.write_found.new.into number) same c.write_found.ensures),
-      noted c.a_journal_records_what_it_is_told.ensures (floor_of store.pages store.lent) (get_of number key) (apply.get key) answer store c.lend_value-block.new.self
+      noted told-recorded (floor_of store.pages store.lent) (get_of number key) (apply.get key) answer store c.lend_value-block.new.self
           c.args.journal.now c.lend_value-block.new.evictions c.note_done.new.journal (λ rows. refl) c.lend_value-block.ensures.found c.note_done.ensures,
     )
 
@@ -34,7 +37,7 @@ pub returns-clause-lends : goal.returns-clause-lends
 returns-clause-lends c =
     let block = c.lend_value-block.result.0 in let bytes = refill (length block.piece.bytes) block.piece.bytes c.write_found.new.into in
     let same = c.write_found.auto.into ∙ ap length c.bytes_mut.ensures.value in let whole = refill-whole block.piece.bytes c.write_found.new.into same in
-    c.lent_blocks_stay_lent.ensures.written Shares.Reply c.args.store.now c.lend_value-block.new.self block bytes (ap length whole ∙ same) c.lend_value-block.ensures.lends
+    lends-written Shares.Reply c.args.store.now c.lend_value-block.new.self block bytes (ap length whole ∙ same) c.lend_value-block.ensures.lends
 
 pub returns-clause-size : goal.returns-clause-size
 returns-clause-size c =

@@ -8,20 +8,23 @@ use Rattle.rows.specs.Operations.{put_of}
 use Rattle.shard_rings.specs.Reply.{HoldsReply}
 use Rattle.shard_store.specs.Works.{floor_of, pressure}
 use Rattle.shard_node.proofs.Requests.Told.{done-behind, evicted, place-kept, refill-whole, spare-left}
+use Rattle.row_lemmas.proofs.Laws.{evictions_are_counted-count}
+use Rattle.part_lemmas.proofs.Recording.{told-recorded}
+use Rattle.store_lemmas.proofs.Lent.{lends-later, lends-written}
 use Rattle.shard_node.proofs.messages.reply_put.Goals as goal
 
 pub put_row-did-requires-clause-tables : goal.put_row-did-requires-clause-tables
 put_row-did-requires-clause-tables c =
     let store = c.args.store.now in let e = c.lend-block.ensures.evicted in let key = c.args.key.now in let mid = c.lend-block.new.self in
-    let count = c.evictions_are_counted.ensures.count (floor_of store.pages store.lent) store.rows mid.rows e.evicted e.evicts in
+    let count = evictions_are_counted-count (floor_of store.pages store.lent) store.rows mid.rows e.evicted e.evicts in
     subst (λ (most : ℕ). (has key mid.rows ≡ true) ⊎ (length mid.rows < most)) (sym e.same.room)
-    (place-kept (floor_of store.pages store.lent) store.room key store.rows mid.rows e.evicted e.evicts count c.facts.ensures.rows c.requires.room)
+    (place-kept (floor_of store.pages store.lent) store.room key store.rows mid.rows e.evicted e.evicts count c.requires.within c.requires.room)
 
 pub put_row-did-requires-clause-spare : goal.put_row-did-requires-clause-spare
 put_row-did-requires-clause-spare c =
     let store = c.args.store.now in let e = c.lend-block.ensures.evicted in
-    spare-left c.args.journal.now c.lend-block.new.evictions e.evicted c.lend-block.new.self.rows store.rows (c.a_journal_records_what_it_is_told.ensures c.args.journal.now c.lend-block.new.evictions e.evicted e.told)
-    (c.evictions_are_counted.ensures.count (floor_of store.pages store.lent) store.rows c.lend-block.new.self.rows e.evicted e.evicts) c.requires.spare
+    spare-left c.args.journal.now c.lend-block.new.evictions e.evicted c.lend-block.new.self.rows store.rows (told-recorded c.args.journal.now c.lend-block.new.evictions e.evicted e.told)
+    (evictions_are_counted-count (floor_of store.pages store.lent) store.rows c.lend-block.new.self.rows e.evicted e.evicts) c.requires.spare
 
 pub returns-clause-replied : goal.returns-clause-replied
 returns-clause-replied c =
@@ -30,15 +33,15 @@ returns-clause-replied c =
       answer,
       subst (λ bytes. HoldsReply bytes c.args.number answer) (sym whole) c.write_stored.ensures,
       done-behind (pressure mid.pages mid.lent) (put_of c.args.number c.args.key.now c.args.value.now) answer c.args.store.now mid c.put_row-did.new.store c.args.journal.now c.lend-block.new.evictions c.put_row-did.new.journal c.lend-block.ensures.floor
-          (evicted c.a_journal_records_what_it_is_told.ensures c.args.store.now mid c.args.journal.now c.lend-block.new.evictions c.lend-block.ensures.evicted) c.put_row-did.ensures.does,
+          (evicted told-recorded c.args.store.now mid c.args.journal.now c.lend-block.new.evictions c.lend-block.ensures.evicted) c.put_row-did.ensures.does,
     )
 
 pub returns-clause-lends : goal.returns-clause-lends
 returns-clause-lends c =
     let block = c.lend-block.result in let bytes = refill (length block.piece.bytes) block.piece.bytes c.write_stored.new.into in
     let same = c.write_stored.auto.into ∙ ap length c.bytes_mut.ensures.value in let whole = refill-whole block.piece.bytes c.write_stored.new.into same in
-    c.lent_blocks_stay_lent.ensures.written Shares.Reply c.args.store.now c.put_row-did.new.store block bytes (ap length whole ∙ same)
-    (c.lent_blocks_stay_lent.ensures.later Shares.Reply c.args.store.now c.lend-block.new.self c.put_row-did.new.store block c.lend-block.ensures.lends c.put_row-did.ensures.came)
+    lends-written Shares.Reply c.args.store.now c.put_row-did.new.store block bytes (ap length whole ∙ same)
+    (lends-later Shares.Reply c.args.store.now c.lend-block.new.self c.put_row-did.new.store block c.lend-block.ensures.lends c.put_row-did.ensures.came)
 
 pub returns-clause-size : goal.returns-clause-size
 returns-clause-size c =

@@ -9,13 +9,16 @@ use Rattle.rows.specs.Operations.{scan_of}
 use Rattle.shard_rings.specs.Reply.{HoldsReply}
 use Rattle.shard_store.specs.Works.{floor_of}
 use Rattle.shard_node.proofs.Requests.Told.{evicted, few-scanned, quiet-behind, refill-whole, same-store, spare-left}
+use Rattle.part_lemmas.proofs.Recording.{told-recorded}
+use Rattle.row_lemmas.proofs.Laws.{evictions_are_counted-count}
+use Rattle.store_lemmas.proofs.Lent.{lends-written}
 use Rattle.shard_node.proofs.messages.reply_scan.Goals as goal
 
 pub note_done-requires : goal.note_done-requires
 note_done-requires c =
     let e = c.lend_keys-block.ensures.evicted in let store = c.args.store.now in let mid = c.lend_keys-block.new.self in
-    let left = spare-left c.args.journal.now c.lend_keys-block.new.evictions e.evicted mid.rows store.rows (c.a_journal_records_what_it_is_told.ensures c.args.journal.now c.lend_keys-block.new.evictions e.evicted e.told)
-    (c.evictions_are_counted.ensures.count (floor_of store.pages store.lent) store.rows mid.rows e.evicted e.evicts) c.requires.spare in
+    let left = spare-left c.args.journal.now c.lend_keys-block.new.evictions e.evicted mid.rows store.rows (told-recorded c.args.journal.now c.lend_keys-block.new.evictions e.evicted e.told)
+    (evictions_are_counted-count (floor_of store.pages store.lent) store.rows mid.rows e.evicted e.evicts) c.requires.spare in
     omega (arith, left)
 
 pub returns-clause-replied : goal.returns-clause-replied
@@ -30,7 +33,7 @@ returns-clause-replied c =
       answer,
       subst (λ bytes. HoldsReply bytes number answer) (sym whole) holds,
       quiet-behind (scan_of number from count) answer mid.rows c.args.store.now mid mid c.args.journal.now c.lend_keys-block.new.evictions c.note_done.new.journal
-          (evicted c.a_journal_records_what_it_is_told.ensures c.args.store.now mid c.args.journal.now c.lend_keys-block.new.evictions e.evicted) c.note_done.ensures
+          (evicted told-recorded c.args.store.now mid c.args.journal.now c.lend_keys-block.new.evictions e.evicted) c.note_done.ensures
           refl refl (same-store mid),
     )
 
@@ -38,7 +41,7 @@ pub returns-clause-lends : goal.returns-clause-lends
 returns-clause-lends c =
     let block = c.lend_keys-block.result.0 in let bytes = refill (length block.piece.bytes) block.piece.bytes c.write_reply_header.new.into in
     let same = c.write_reply_header.auto.into ∙ ap length c.bytes_mut.ensures.value in let whole = refill-whole block.piece.bytes c.write_reply_header.new.into same in
-    c.lent_blocks_stay_lent.ensures.written Shares.Reply c.args.store.now c.lend_keys-block.new.self block bytes (ap length whole ∙ same) c.lend_keys-block.ensures.lends
+    lends-written Shares.Reply c.args.store.now c.lend_keys-block.new.self block bytes (ap length whole ∙ same) c.lend_keys-block.ensures.lends
 
 pub lend_keys-block-requires-clause-some : goal.lend_keys-block-requires-clause-some
 lend_keys-block-requires-clause-some c = c.requires.askable.fields.1

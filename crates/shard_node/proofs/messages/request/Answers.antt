@@ -3,6 +3,8 @@ use Rattle.std.proofs.Common.{length, refl, sym, ap, ◌∙◌}
 use Rattle.std.specs.List.{refill, length_refill}
 use Rattle.shard_memory.specs.declared.share.Share.{Share as Shares}
 use Rattle.shard_node.proofs.Requests.Told.{evicted}
+use Rattle.part_lemmas.proofs.Recording.{told-recorded}
+use Rattle.store_lemmas.proofs.Lent.{lends-written}
 use Rattle.shard_node.proofs.messages.request.Goals as goal
 
 pub request_size-size-requires-clause-key : goal.request_size-size-requires-clause-key
@@ -18,7 +20,7 @@ write_request-requires-clause-room c =
 pub returns-clause-lends : goal.returns-clause-lends
 returns-clause-lends c =
     let block = c.lend-block.result in let bytes = refill (length block.piece.bytes) block.piece.bytes c.write_request.new.into in
-    c.lent_blocks_stay_lent.ensures.written Shares.Request c.args.store.now c.lend-block.new.self block bytes (sym (length_refill (length block.piece.bytes) block.piece.bytes c.write_request.new.into refl)) c.lend-block.ensures.lends
+    lends-written Shares.Request c.args.store.now c.lend-block.new.self block bytes (sym (length_refill (length block.piece.bytes) block.piece.bytes c.write_request.new.into refl)) c.lend-block.ensures.lends
 
 pub returns-clause-evicted : goal.returns-clause-evicted
-returns-clause-evicted c = evicted c.a_journal_records_what_it_is_told.ensures c.args.store.now c.lend-block.new.self c.args.journal.now c.lend-block.new.evictions c.lend-block.ensures.evicted
+returns-clause-evicted c = evicted told-recorded c.args.store.now c.lend-block.new.self c.args.journal.now c.lend-block.new.evictions c.lend-block.ensures.evicted

@@ -11,7 +11,7 @@ returns c =
     let number = c.args.number in
     let key = c.args.key.now in
     let did = c.erase.ensures in
-    let came = none_came c.args.store.now _ c.facts.ensures.backs did.tickets.0 did.tickets.1 did.tickets.2 did.tickets.3 in
+    let came = none_came c.args.store.now _ c.requires.counted did.tickets.0 did.tickets.1 did.tickets.2 did.tickets.3 in
     elim c.if-erase.branch [
       | then-erase w ↦
           quiet_does _ (erase_of number key) _ _ _ _ _ _ _ _ (erased number key rows true (sym did.found ∙ w.if-erase.true)) c.note_done.ensures did.rows did.same came

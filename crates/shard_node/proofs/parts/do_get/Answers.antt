@@ -7,13 +7,13 @@ pub returns-in-Some : goal.returns-in-Some
 returns-in-Some c =
     let found = c.in-Some.ensures.value in
     let after = c.get.follows.holds-at-none in
-    let same = same_but_links c.args.store.now _ _ after.0 after.1.shape c.facts.ensures.backs in
+    let same = same_but_links c.args.store.now _ _ after.0 after.1.shape c.requires.counted in
     quiet_does _ (get_of c.args.number c.args.key.now) _ _ _ _ _ _ _ _ (got_some c.args.number c.args.key.now c.args.store.now.rows found.0 found.1) c.note_done.ensures same.0 same.1 same.2
     (rw found.2 at c.record.ensures.replies) (rw found.2 at c.record.ensures.room)
 
 pub returns-in-None : goal.returns-in-None
 returns-in-None c =
     let after = c.get.follows.holds-at-none in
-    let same = same_but_links c.args.store.now _ _ after.0 after.1.shape c.facts.ensures.backs in
+    let same = same_but_links c.args.store.now _ _ after.0 after.1.shape c.requires.counted in
     quiet_does _ (get_of c.args.number c.args.key.now) _ _ _ _ _ _ _ _ (got_none c.args.number c.args.key.now c.args.store.now.rows c.in-None.ensures.value) c.note_done.ensures same.0 same.1 same.2
     c.record-in-None.ensures.replies c.record-in-None.ensures.room

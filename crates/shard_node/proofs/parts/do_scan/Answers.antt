@@ -16,6 +16,6 @@ returns c =
     let rows = c.args.store.now.rows in
     let from = c.args.from.now in
     let did = c.scan-scanned.ensures in
-    let same = same_but_rows c.args.store.now _ rows did.unchanged c.facts.ensures.backs in
+    let same = same_but_rows c.args.store.now _ rows did.unchanged c.requires.counted in
     quiet_does _ (scan_of c.args.number from c.args.count) (Keys (scanned from c.args.count rows)) rows _ _ _ _ _ _ refl c.note_done.ensures same.0 same.1 same.2
     (rw did.keys.spelled at c.record.ensures.replies) (rw did.keys.spelled at c.record.ensures.room)

@@ -1,4 +1,4 @@
-use Rattle.std.proofs.Common.{◌≡◌, [], ◌∷◌, ◌++◌, length, map, take, rules, arith, ap, sym, subst, ◌∙◌, Some, slice_get}
+use Rattle.std.proofs.Common.{◌≡◌, ◌∷◌, ◌++◌, length, map, take, rules, arith, ap, sym, subst, ◌∙◌, Some, slice_get}
 use Rattle.std.specs.List.{All}
 use Rattle.std.specs.Vec.Iter.{into_iter_items}
 use Rattle.shard_parts.specs.Opening.{IsNewPeer}
@@ -15,13 +15,13 @@ loop-link-preserved g c =
     let rest = into_iter_items c.next.new.self in
     let x = c.loop-link.invariant in
     let steps = c.in-Some.ensures.steps in
-    let items : c.push.new.self.items ≡ old ++ peer ∷ [] = rw c.unwrap.ensures at c.push.ensures.items in
+    let items = c.push_reserved.ensures.items in
     let many : c.len.result ≡ length old = search rules in
     let next : slice_get numbers (length old) ≡ Some peer.shard =
     ap (slice_get numbers) (sym many) ∙ ap (λ n. slice_get (others n c.args.shard) c.len.result) (sym c.shards-shards.ensures.value) ∙ c.number_at-number.ensures.place ∙ ap Some (sym c.new.ensures.number) in
     let before = x.1 in
     let room = x.4 in
-    let grown = c.push.ensures.capacity in
+    let grown = c.push_reserved.ensures.capacity in
     let one = steps.1 in
     let shorter = ap length steps.0 in (
       subst (λ ps. map (λ p. p.link) ps ++ rest ≡ links) (sym items) (over-more (λ p. p.link) old peer (into_iter_items c.loop-link.link-iterator) rest links x.0 (steps.0 ∙ ap (λ l. l ∷ rest) (sym c.new.ensures.link))),

@@ -3,6 +3,8 @@ use Rattle.trace_text.specs.Parsed.{trace_in}
 use Rattle.part_lemmas.specs.Rest.{shards_before}
 use Rattle.shard_parts.proofs.OwnNext.{part-next}
 use Rattle.part_lemmas.proofs.Cursors.Places.{no_operation, round}
+use Rattle.part_lemmas.proofs.OwnParts.PartsBefore.{GoRound, next-of-it}
+use Rattle.cache_lemmas.proofs.Laws.{parts_go_up_by_command-next}
 use Rattle.shard_parts.proofs.own.part_after.Goals as goal
 use Rattle.shard_parts.proofs.own.part_after.Goals.{else-is_scan-via-then-is_scan+else-part-shards, else-is_scan-via-else-is_scan}
 
@@ -13,8 +15,10 @@ returns-clause-origin c = ap (λ at. at % c.args.trace.now.shards) (c.first_part
 pub returns-clause-next : goal.returns-clause-next
 returns-clause-next c =
     let scan = sym (c.is_scan.ensures no_operation) in
+    let read = c.shards-shards.ensures.consistent in
+    let turns : GoRound c.args.trace.now = λ o at d here within. next-of-it parts_go_up_by_command-next c.args.trace.now c.args.trace.now.shards o at d read.spelled.numbered read.some_shards here within in
     part-next c.args.trace.now c.args.trace.now.shards c.args.shard c.args.part.at c.args.part.to c.first_part.result.to c.first_part.result.at
-    c.shards_take_turns.ensures.next refl c.requires.origin c.requires.within c.requires.to
+    turns refl c.requires.origin c.requires.within c.requires.to
     (elim c.else-is_scan.branch [
       | else-is_scan-via-then-is_scan+else-part-shards w ↦ λ is. omega (arith, w.if-part-shards.false, c.shards-shards.ensures.value)
       | else-is_scan-via-else-is_scan w ↦ λ is. absurd (let clash : false ≡ true = sym w.if-is_scan.false ∙ sym scan ∙ is in cc)

@@ -1,19 +1,11 @@
 -- What a command asks has the command's fields.
-use Rattle.std.proofs.Common.{ap, subst}
-use Rattle.std.specs.Prelude.{All}
-use Rattle.std.proofs.lemmas.List.Elements.{All-contains}
+use Rattle.std.proofs.Common.{ap}
 use Rattle.rows.specs.Operation.{Operation}
 use Rattle.rows.specs.Apply.{apply}
-use Rattle.trace_text.specs.Parsed.{LiesWithin}
 use Rattle.shard_rings.proofs.asking.operation_of.Goals as goal
 
 pub with_fields-requires : goal.with_fields-requires
-with_fields-requires c =
-    let trace = c.args.trace.now in
-    let command = c.args.command.now in
-    let lies : LiesWithin trace.bytes command =
-    All-contains (LiesWithin trace.bytes) trace.commands command (subst (All (LiesWithin trace.bytes)) c.commands.ensures.value c.commands.ensures.lie) c.requires in
-    rw c.value.ensures.value lies.fields
+with_fields-requires c = rw c.value.ensures.value c.key.ensures.lies.fields
 
 pub returns-clause-asked : goal.returns-clause-asked
 returns-clause-asked c = rw (c.key.ensures.value, c.value.ensures.value) at (c.with_fields.ensures c.args.command.now.number)

@@ -9,6 +9,7 @@ use Rattle.shard_run.specs.Remaining.{AllCanFinish, IsRoomFor}
 use Rattle.shard_run.proofs.Driven.{as_many, can_finish, paired, seats_back, together}
 use Rattle.shard_run.proofs.Numbered.{commands_found, keys_of}
 use Rattle.shard_run.proofs.Runs.{is_finished}
+use Rattle.cache_lemmas.proofs.Laws.{logs_hold_the_answers}
 use Rattle.shard_run.proofs.ending.finish_run.Goals as goal
 
 pub finish_nodes-ran-requires-clause-nodes : goal.finish_nodes-ran-requires-clause-nodes
@@ -39,11 +40,11 @@ returns-clause-run g c =
     let left = c.finish_nodes-ran.ensures.left in
     let nodes = c.args.nodes.items in
     let met = together g.G.Gate.holds (trace_in trace) trace.shards pages homes nodes driven.1 c.finish_nodes-ran.result.links.items left.links c.finish_nodes-ran.ensures.facts c.close_links.ensures in
-    let agree = c.done_nodes_agree.ensures traffic_of g.G.Gate.holds trace trace.shards pages nodes c.facts_of.ensures.numbered c.facts_of.ensures.some_shards met in
+    let agree = c.done_nodes_agree.ensures traffic_of g.G.Gate.holds trace trace.shards pages nodes c.shards.ensures.consistent.spelled.numbered c.shards.ensures.consistent.some_shards met in
     let of_run = subst (λ t. IsOfRun t (length nodes) pages c.finish_nodes-ran.result.ran) c.requires.room.run.of_trace c.finish_nodes-ran.ensures.run in
-    let short = subst (λ k. k ≤ most_commands) (sym (length-map trace.commands (operation trace.bytes))) c.facts_of.ensures.few in
-    is_finished g.G.Gate.holds (trace_in trace) trace.shards pages homes nodes driven.1 c.finish_nodes-ran.result left of_run agree c.facts_of.ensures.most_shards short
-    c.logs_hold_the_answers.ensures (keys_of trace c.facts_of.ensures.well_formed) (commands_found trace c.facts_of.ensures.numbered)
+    let short = subst (λ k. k ≤ most_commands) (sym (length-map trace.commands (operation trace.bytes))) c.shards.ensures.few_commands in
+    is_finished g.G.Gate.holds (trace_in trace) trace.shards pages homes nodes driven.1 c.finish_nodes-ran.result left of_run agree c.shards.ensures.consistent.most_shards short
+    logs_hold_the_answers (keys_of trace c.shards.ensures.well_formed) (commands_found trace c.shards.ensures.consistent.spelled.numbered)
 
 pub returns-clause-seats : goal.returns-clause-seats
 returns-clause-seats g c homes driven =

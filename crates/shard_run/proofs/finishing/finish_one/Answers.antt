@@ -1,7 +1,9 @@
 use Rattle.std.proofs.Common.{subst}
 use Rattle.foreign_list.specs.OwnerSeats.{IsAtRest}
-use Rattle.shard_run.proofs.Getting.{pushed}
 use Rattle.shard_run.proofs.finishing.finish_one.Goals as goal
+
+pub returns-clause-facts : goal.returns-clause-facts
+returns-clause-facts g c = record { peers = c.finish-store.ensures.peers; counted = c.finish-store.ensures.counted }
 
 pub returns-clause-leaves : goal.returns-clause-leaves
 returns-clause-leaves g c = record {
@@ -9,9 +11,9 @@ returns-clause-leaves g c = record {
   logs = c.finish-store.ensures.logs;
   lines = c.finish-store.ensures.lines;
   row = c.finish-store.result.links;
-  links = pushed c.args.into.now.links.items c.push.new.self.items c.finish-store.result.links c.push.result c.unwrap.result c.push.ensures.items c.unwrap.ensures;
+  links = c.push_reserved.ensures.items;
   row_is = c.finish-store.ensures.links;
   seat = c.finish.result;
-  seats = pushed c.args.into.now.seats.items c.push-2.new.self.items c.finish.result c.push-2.result c.unwrap-2.result c.push-2.ensures.items c.unwrap-2.ensures;
+  seats = c.push_reserved-2.ensures.items;
   at_rest = subst (λ s. IsAtRest s.list c.finish.result) c.finish-store.ensures.store c.finish.ensures.seat;
 }

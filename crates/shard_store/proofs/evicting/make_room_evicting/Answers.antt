@@ -6,9 +6,10 @@ use Rattle.row_cache.specs.Rows.{rows_of}
 use Rattle.shard_store.specs.Works.{pressure}
 use Rattle.shard_store.specs.inside.Consistent.{IsConsistent}
 use Rattle.shard_store.specs.inside.Evicted.{HasEvicted}
-use Rattle.shard_store.proofs.Telling.{evicted-more}
-use Rattle.shard_store.proofs.Homecoming.{takes-both}
+use Rattle.shard_store.proofs.Telling.{evicted-more, evicted-none}
+use Rattle.shard_store.proofs.Homecoming.{takes-both, takes-none}
 use Rattle.shard_store.proofs.Pressure.{pressure-kept}
+use Rattle.row_lemmas.proofs.Laws.{evictions_are_counted-more}
 use Rattle.shard_store.proofs.evicting.make_room_evicting.Goals as goal
 
 pub make_room-requires-clause-consistent : goal.make_room-requires-clause-consistent
@@ -16,6 +17,16 @@ make_room-requires-clause-consistent g c =
     let i = c.loop-cache.invariant in
     subst (λ (k : ℕ). IsConsistent c.loop-cache.memory.owner k 0 c.loop-cache.memory c.loop-cache.cache.region) (sym i.taken.pages)
     (subst (λ (k : ℕ). IsConsistent k c.args.memory.now.pages 0 c.loop-cache.memory c.loop-cache.cache.region) (sym i.taken.owner) i.consistent)
+
+pub loop-cache-init : goal.loop-cache-init
+loop-cache-init g c = record {
+  consistent = c.requires.consistent;
+  taken = takes-none c.args.memory.now c.requires.consistent.made.counted.backs;
+  evicted = evicted-none g.E.Evictions.tells (pressure c.args.memory.now.pages c.args.memory.now.lent) (rows_of c.args.cache.now) c.args.evictions.now;
+  fewer = inl refl;
+  tables = refl;
+  told = c.requires.told;
+}
 
 pub loop-cache-preserved : goal.loop-cache-preserved
 loop-cache-preserved g c =
@@ -27,17 +38,14 @@ loop-cache-preserved g c =
     (subst (λ (k : ℕ). IsConsistent k c.loop-cache.memory.pages 0 c.make_room.new.memory c.make_room.new.cache.region) i.taken.owner room.consistent)
     in
     let above : bound < live rest = pressure-kept c.args.memory.now c.loop-cache.memory (live rest) i.taken (c.loop-cache-test.ensures.pressed refl) in
-    let evicts = c.evictions_are_counted.ensures.more bound one.0 rows rest h.tags h.evicts one.1 above in
-    let same = ap length room.rows in let one-less = e.one_less in let few = c.facts.ensures.room in let tables = e.tables ∙ room.tables ∙ i.tables in let less = e.spare in let enough = i.told in
+    let evicts = evictions_are_counted-more bound one.0 rows rest h.tags h.evicts one.1 above in
+    let same = ap length room.rows in let one-less = e.one_less in let less = e.spare in let enough = i.told in
     record {
       consistent = e.consistent c.args.memory.now.owner c.args.memory.now.pages 0 c.make_room.new.memory consistent;
       taken = takes-both c.args.memory.now c.loop-cache.memory c.make_room.new.memory i.taken room.taken;
       evicted = evicted-more g.E.Evictions.tells bound one.0 rows rest (rows_of c.evict.new.cache) c.args.evictions.now c.loop-cache.evictions c.evict.new.evictions h (subst (Evicts bound rows (h.tags ++ one.0 ∷ [])) (sym e.rows) evicts) one.2;
-      fewer = inr (elim i.fewer [
-        | inl all ↦ let whole = ap length all in omega (arith, one-less, same, whole, few, tables)
-        | inr less ↦ let before = i.tables in omega (arith, one-less, same, less, tables, before)
-      ]);
-      tables = tables;
+      fewer = inr e.few;
+      tables = e.tables ∙ room.tables ∙ i.tables;
       told = omega (arith, one-less, same, less, enough);
     }
 

@@ -7,9 +7,10 @@ use Rattle.shard_store.specs.Works.{floor_of}
 use Rattle.shard_store.specs.inside.Consistent.{IsConsistent}
 use Rattle.shard_store.specs.inside.Evicted.{HasEvicted}
 use Rattle.shard_store.specs.inside.Homecoming.{TakesHome, GivesAfter}
-use Rattle.shard_store.proofs.Telling.{evicted-more}
+use Rattle.shard_store.proofs.Telling.{evicted-more, evicted-none}
 use Rattle.shard_store.proofs.Homecoming.{after-home, some-map, if-none, none-known, takes-both}
 use Rattle.shard_store.proofs.Pressure.{floor-kept}
+use Rattle.row_lemmas.proofs.Laws.{evictions_are_counted-more}
 use Rattle.shard_store.proofs.giving.find_block.Goals as goal
 
 pub give_unevicted-found-requires-in-loop-share-clause-consistent : goal.give_unevicted-found-requires-in-loop-share-clause-consistent
@@ -17,6 +18,20 @@ give_unevicted-found-requires-in-loop-share-clause-consistent g c =
     let l = c.loop-share in let i = l.invariant in let m = i.consistent.made in let region = l.cache.region in
     c.evict.ensures.consistent l.memory.owner l.memory.pages 0 l.memory
     (subst (λ (k : ℕ). IsConsistent l.memory.owner k 0 l.memory region) (sym m.size) (subst (λ (k : ℕ). IsConsistent k c.args.memory.now.pages 0 l.memory region) (sym m.owner) i.consistent))
+
+pub loop-share-init : goal.loop-share-init
+loop-share-init g c =
+    let found = c.give_unevicted-found in let e = found.ensures in let old = c.args.memory.now in let rows = rows_of c.args.cache.now in
+    let bound = floor_of old.pages old.lent in let now = c.args.evictions.now in let same = ap length e.rows in let enough = c.requires.told in
+    record {
+      consistent = e.consistent;
+      given = e.given;
+      taken = e.taken;
+      pressed = e.pressed;
+      evicted = subst (λ (r : List Row). HasEvicted g.E.Evictions.tells bound rows r now now) (sym e.rows) (evicted-none g.E.Evictions.tells bound rows now);
+      tables = e.tables;
+      told = omega (arith, same, enough);
+    }
 
 pub loop-share-preserved : goal.loop-share-preserved
 loop-share-preserved g c =
@@ -26,7 +41,7 @@ loop-share-preserved g c =
     let takes : TakesHome old mid = none-known (TakesHome old mid) l.found none i.taken in
     let bound = floor_of old.pages old.lent in let rows = rows_of c.args.cache.now in let rest = rows_of l.cache in
     let above : bound < live rest = none-known (bound < live rest) l.found none i.pressed in
-    let evicts = c.evictions_are_counted.ensures.more bound one.0 rows rest i.evicted.tags i.evicted.evicts one.1 above in
+    let evicts = evictions_are_counted-more bound one.0 rows rest i.evicted.tags i.evicted.evicts one.1 above in
     let m = i.consistent.made in
     let after : HasEvicted g.E.Evictions.tells bound rows (rows_of c.evict.new.cache) c.args.evictions.now c.evict.new.evictions =
     evicted-more g.E.Evictions.tells bound one.0 rows rest (rows_of c.evict.new.cache) c.args.evictions.now l.evictions c.evict.new.evictions i.evicted (subst (Evicts bound rows (i.evicted.tags ++ one.0 ∷ [])) (sym e.rows) evicts) one.2

@@ -7,7 +7,7 @@ use Rattle.shard_store.proofs.Homecoming.{takes-none}
 use Rattle.shard_store.proofs.making_room.free_second.Goals as goal
 
 pub returns-then-free_segments-ge2-clause-taken : goal.returns-then-free_segments-ge2-clause-taken
-returns-then-free_segments-ge2-clause-taken c = takes-none c.args.memory.now c.facts.ensures.backs
+returns-then-free_segments-ge2-clause-taken c = takes-none c.args.memory.now c.requires.consistent.made.counted.backs
 
 pub returns-else-add_segment-clause-consistent : goal.returns-else-add_segment-clause-consistent
 returns-else-add_segment-clause-consistent c =
@@ -16,6 +16,6 @@ returns-else-add_segment-clause-consistent c =
     let same = c.if-add_segment.ensures.unchanged refl in
     let h =
     consistent-trimmed m.owner m.pages 0 home trimmed region c.trim.ensures.same
-    (consistent-came m.owner m.pages 0 m home c.take_back.result region c.take_back.ensures c.requires.consistent) in
+    (consistent-came m.owner m.pages 0 m home c.take_back.result region c.take_back.ensures.come c.take_back.ensures.tickets c.requires.consistent) in
     consistent-held m.owner m.pages 0 memory cache.region c.compact.new.self.region e.holds e.free
     (subst (λ (s : MemoryState). IsConsistent m.owner m.pages 0 s cache.region) (sym same.0) (subst (λ (k : CacheState). IsConsistent m.owner m.pages 0 trimmed k.region) (sym same.1) h))

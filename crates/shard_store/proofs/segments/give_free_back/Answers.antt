@@ -3,7 +3,8 @@ use Rattle.std.specs.Prelude.{IsSome, IsNone, Some}
 use Rattle.regions.specs.Segments.{RegionState}
 use Rattle.regions.specs.Shapes.{identity, pieces, shape, active_of, guards_of, free_count}
 use Rattle.shard_memory.specs.Shards.{MemoryState}
-use Rattle.shard_store.proofs.Holding.{piece-at, pieces-without, holds-less, at-least-two}
+use Rattle.shard_store.proofs.Holding.{counted-same, piece-at, pieces-without, holds-less, at-least-two}
+use Rattle.shard_store.proofs.Homecoming.{segments-same}
 use Rattle.shard_store.proofs.segments.give_free_back.Goals as goal
 
 pub segment_back-requires : goal.segment_back-requires
@@ -25,6 +26,7 @@ returns-clause-consistent c shard pages standing h =
         holds = holds-less c.args.memory.now c.segment_back.new.self (ap (λ (s : MemoryState). s.home) b.same) c.in-Some.piece b.segments b.one_less region next g.0
             (piece-at region g.0 c.in-Some.piece g.2) (ap (λ (r : RegionState). pieces r) g.3 ∙ pieces-without region g.0) (e.held refl) m.holds;
         guards = ap (λ (r : RegionState). guards_of r 0) g.3 ∙ m.guards;
+        counted = counted-same c.args.memory.now c.segment_back.new.self (segments-same c.args.memory.now c.segment_back.new.self b.same) m.counted;
       };
       active = subst (λ (r : RegionState). IsSome (active_of r 0)) (sym g.3) h.active;
       free = let less = e.free refl in let two = at-least-two (free_count region) (λ few. let clash : IsNone (Some c.in-Some.piece) = e.none.1 few in cc) in omega (arith, less, two);

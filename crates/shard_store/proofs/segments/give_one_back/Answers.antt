@@ -2,7 +2,8 @@ use Rattle.std.proofs.Common.{◌/◌, ap, sym, ◌∙◌, refl, subst}
 use Rattle.layout.specs.Sizes.{segment_pages, ArePages}
 use Rattle.regions.specs.Shapes.{identity}
 use Rattle.shard_memory.specs.Shards.{MemoryState}
-use Rattle.shard_store.proofs.Holding.{holds-less}
+use Rattle.shard_store.proofs.Holding.{counted-same, holds-less}
+use Rattle.shard_store.proofs.Homecoming.{segments-same}
 use Rattle.shard_store.proofs.segments.give_one_back.Goals as goal
 
 pub segment_back-requires : goal.segment_back-requires
@@ -21,4 +22,5 @@ returns-clause-made c _ =
       most = e.most ∙ m.most ∙ ap (λ k. k / segment_pages) (sym pages);
       holds = holds-less c.args.memory.now c.segment_back.new.self (ap (λ (s : MemoryState). s.home) b.same) c.in-Some.piece b.segments b.one_less c.args.cache.now.region c.give_up.new.self.region given.0 given.2 given.3 (e.held refl) m.holds;
       guards = e.guards;
+      counted = counted-same c.args.memory.now c.segment_back.new.self (segments-same c.args.memory.now c.segment_back.new.self b.same) m.counted;
     }

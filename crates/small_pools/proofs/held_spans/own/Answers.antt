@@ -1,7 +1,7 @@
 use Rattle.std.proofs.Common.{◌≡◌, ◌+◌, ◌<◌, ◌≤◌, ◌⊎◌, inl, inr, ℕ, List, length, get_or, set, get_or-set_same, get_or-set_other, ap, ◌∙◌, arith}
 use Rattle.std.proofs.Math.ListN.{length-set}
 use Rattle.std.proofs.lemmas.Bool.{cases_eq}
-use Rattle.lazy_table.specs.Table.{Table}
+use Rattle.index_lists.specs.Table.{Table}
 use Rattle.small_pools.proofs.held_spans.own.Goals as goal
 
 -- one more page has the first one

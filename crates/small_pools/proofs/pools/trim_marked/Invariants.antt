@@ -1,7 +1,7 @@
 use Rattle.std.proofs.Common.{◌≡◌}
 use Rattle.span_lists.specs.Layout.{Divides, IsCoalesced}
 use Rattle.number_set.specs.Numbers.{size}
-use Rattle.small_pools.specs.Objects.{AreObjects, AreHeldIn, Trims, AreUsed, KeepsRoom}
+use Rattle.small_pools.specs.Objects.{AreHeldIn, Trims, AreUsed, KeepsRoom}
 use Rattle.small_pools.specs.inside.Marks.{AreMarked}
 use Rattle.small_pools.proofs.pools.trim_marked.Given as goal
 
@@ -12,7 +12,6 @@ invariant-loop-first l = record {
   room : KeepsRoom l.fn.held l.held l.fn.spans l.spans;
   unchanged : AreUsed l.fn.held → (l.held ≡ l.fn.held) × (l.spans ≡ l.fn.spans);
   held : AreHeldIn l.held l.spans;
-  objects : AreObjects l.held;
   divided : Divides l.spans;
   coalesced : IsCoalesced l.spans;
 }

@@ -1,7 +1,7 @@
 use Rattle.std.proofs.Common.{◌≡◌, ◌+◌, ◌-◌, ◌%◌, ◌^◌, sym, subst, ap, arith}
 use Rattle.std.proofs.lemmas.Nat.{pow_pos}
 use Rattle.common_lemmas.proofs.Powers.{pow_twice, coarser, ends_aligned}
-use Rattle.lazy_table.specs.Table.{Table}
+use Rattle.index_lists.specs.Table.{Table}
 use Rattle.span_lists.specs.declared.spans.PageState.{PageState}
 use Rattle.span_lists.proofs.Fresh.{begun_more, begun_less, consistent_begun}
 use Rattle.span_lists.proofs.spans.cut.Goals as goal

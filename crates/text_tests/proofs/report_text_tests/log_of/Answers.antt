@@ -5,6 +5,7 @@ use Rattle.rows.specs.declared.kind.Kind.TheVariants.{Put}
 use Rattle.trace_text.specs.Operation.{operation}
 use Rattle.trace_text.specs.Parsed.{trace_in}
 use Rattle.trace_text.specs.Parts.{longest_value}
+use Rattle.cache_lemmas.proofs.Laws.{one_shard_answers_alone-part, one_shard_answers_alone-parts, one_shard_answers_alone-fitting}
 use Rattle.text_tests.proofs.Logs.{IsFilled, fits_at, logged_when_filled, one_more_filled}
 use Rattle.text_tests.proofs.report_text_tests.log_of.Goals as goal
 
@@ -40,6 +41,5 @@ returns g c =
     let part = c.loop-part.part in
     let many : part ≡ length k.result.now = omega arith in
     let over : length c.args.replies.now - part ≡ 0 = omega arith in
-    let law = c.one_shard_answers_alone.ensures in
-    logged_when_filled law.part law.parts law.fitting c.args.trace.now k.result.now c.loop-part.log.replies k.ensures.value k.ensures.numbered
+    logged_when_filled one_shard_answers_alone-part one_shard_answers_alone-parts one_shard_answers_alone-fitting c.args.trace.now k.result.now c.loop-part.log.replies k.ensures.value k.ensures.numbered
     (subst (λ n. IsFilled longest operations c.loop-part.log.replies n 0) many (subst (IsFilled longest operations c.loop-part.log.replies part) over c.loop-part.invariant.filled))

@@ -13,7 +13,7 @@ use Rattle.value_script.specs.Script.{script_in}
 use Rattle.text_lemmas.proofs.Written.{Writes-same}
 use Rattle.values_mode.specs.Left.{values_after, values_left}
 use Rattle.values_mode.specs.Text.{no_values, text_from, values_text}
-use Rattle.mode_lemmas.proofs.Ranges.{first_kept}
+use Rattle.place_lemmas.proofs.Ranges.{first_kept}
 use Rattle.values_mode.proofs.writing.write_on.Goals as goal
 
 text_is : (s : StoreState) (script : List Order) (pages : ℕ) → held_count s.region ≡ pages / segment_pages → values_of s ≡ no_values

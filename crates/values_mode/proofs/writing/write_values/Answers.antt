@@ -6,7 +6,7 @@ use Rattle.fragments.specs.Store.{values_of}
 use Rattle.fragments.specs.Values.{Values}
 use Rattle.value_script.specs.Script.{script_in}
 use Rattle.text_lemmas.proofs.Written.{Writes-same}
-use Rattle.text_lemmas.proofs.Sent.{sent_all, sent_front, sent_failed, sent_later}
+use Rattle.text_lemmas.proofs.Sent.{sent}
 use Rattle.values_mode.specs.State.{OpenStore}
 use Rattle.values_mode.specs.Text.{values_text}
 use Rattle.values_mode.specs.Left.{values_left}
@@ -18,27 +18,11 @@ write_on-written-requires-clause-none g c = ap (λ (s : OpenStore). values_of s.
 pub invariant_of-store : goal.invariant_of-store
 invariant_of-store g c = record { many = c.write_on-written.ensures.many }
 
-pub returns-clause-written : goal.returns-clause-written
-returns-clause-written g c =
+pub returns-clause-sent : goal.returns-clause-sent
+returns-clause-sent g c =
     let e = ap (λ (s : OpenStore). values_text (script_in c.args.script.now) s.pages) c.store.view_is in
-    sent_all g.K.Sink.written g.K.Sink.faults _ _ c.into_sink.result.now _ _ _ c.write_on-written.result c.new-out.result c.write_on-written.new.out c.new-out.ensures c.into_sink.ensures (search rules)
+    sent g.K.Sink.written g.K.Sink.faults _ _ c.into_sink.result.now _ _ _ c.write_on-written.result c.new-out.result c.write_on-written.new.out c.new-out.ensures c.into_sink.ensures (search rules)
     c.write_on-written.ensures.empty (Writes-same e c.write_on-written.ensures.written)
-
-pub returns-clause-front : goal.returns-clause-front
-returns-clause-front g c =
-    let e = ap (λ (s : OpenStore). values_text (script_in c.args.script.now) s.pages) c.store.view_is in
-    sent_front g.K.Sink.written g.K.Sink.faults _ _ c.into_sink.result.now _ _ _ c.write_on-written.result c.new-out.result c.write_on-written.new.out c.new-out.ensures c.into_sink.ensures (search rules)
-    c.write_on-written.ensures.empty (Writes-same e c.write_on-written.ensures.written)
-
-pub returns-clause-failed : goal.returns-clause-failed
-returns-clause-failed g c =
-    sent_failed g.K.Sink.written g.K.Sink.faults _ _ c.into_sink.result.now _ _ _ c.write_on-written.result c.new-out.result c.write_on-written.new.out c.new-out.ensures c.into_sink.ensures (search rules)
-    c.write_on-written.ensures.empty c.write_on-written.ensures.written
-
-pub returns-clause-never_falls : goal.returns-clause-never_falls
-returns-clause-never_falls g c =
-    sent_later g.K.Sink.written g.K.Sink.faults _ _ c.into_sink.result.now _ _ _ c.write_on-written.result c.new-out.result c.write_on-written.new.out c.new-out.ensures c.into_sink.ensures (search rules)
-    c.write_on-written.ensures.empty c.write_on-written.ensures.written
 
 pub returns-clause-values : goal.returns-clause-values
 returns-clause-values g c =

@@ -1,9 +1,11 @@
-use Rattle.std.proofs.Common.{◌≡◌, ◌<◌, ◌≤◌, length, sym, ap, subst, ◌∙◌, arith}
+use Rattle.std.proofs.Common.{◌≡◌, ◌<◌, ◌≤◌, length, refl, sym, ap, subst, ◌∙◌, arith}
 use Rattle.regions.specs.Contents.{live_at}
 use Rattle.text_lemmas.proofs.Written.{Writes-nothing, Writes-ok, Writes-same}
+use Rattle.segmented_store.specs.Segments.{HoldsSegments}
 use Rattle.dirty_region.specs.State.{DirtyState}
 use Rattle.dirty_region.specs.inside.Rings.{nth, puts_in}
 use Rattle.dirty_region.proofs.Flushed.{out_low, puts_first, puts_none, queue_left, queue_none, rest_line, text_none}
+use Rattle.dirty_region.proofs.Stored.{segments_same}
 use Rattle.dirty_region.proofs.dirty.Dirty.flush_into.Goals as goal
 
 pub rest_of-requires : goal.rest_of-requires
@@ -50,3 +52,20 @@ returns-clause-queue g c =
     let s = c.self.inside in let live = live_at s.region in
     queue_left c.args.self.now.queue (puts_in s.ring live) (puts_in c.take_out.new.ring (live_at c.take_out.new.region)) s.out c.take_out.new.out (nth s.ring live 0)
     (ap (λ (x : DirtyState). x.queue) c.self.view_is) c.take_out.ensures.puts c.take_out.ensures.begun
+
+pub returns-then-len-eq0-clause-kept : goal.returns-then-len-eq0-clause-kept
+returns-then-len-eq0-clause-kept g c = (let r = c.args.self.now.region in record { room = refl; segments = segments_same r r refl })
+
+pub returns-in-Err-clause-kept : goal.returns-in-Err-clause-kept
+returns-in-Err-clause-kept g c =
+    let r = c.self.inside.region in record {
+      room = ap (λ (x : DirtyState). x.room) c.self.view_is;
+      segments = subst (λ (x : DirtyState). HoldsSegments x.region r) c.self.view_is (segments_same r r refl);
+    }
+
+pub returns-clause-kept : goal.returns-clause-kept
+returns-clause-kept g c =
+    let r = c.self.inside.region in record {
+      room = c.take_out.ensures.room ∙ ap (λ (x : DirtyState). x.room) c.self.view_is;
+      segments = subst (λ (x : DirtyState). HoldsSegments x.region c.take_out.new.region) c.self.view_is (segments_same r c.take_out.new.region c.take_out.ensures.shape);
+    }

@@ -22,7 +22,7 @@ invariant_of-self g c =
     let text = c.as_slice.ensures.value ∙ c.make_oldest_line-number.ensures.line in
     let low = subst (λ t. c.write_rest.new.out < length t) text c.in-Err.ensures.unfinished in (
       record { stored = i.stored; out_is = out_kept c.write_rest.new.out (puts_in s.ring live) (nth s.ring live 0) _ (puts_first s.ring live some) low },
-      c.make_oldest_line-number.ensures.room,
+      c.make_oldest_line-number.ensures.capacity,
     )
 
 pub returns-in-Err-clause-stopped : goal.returns-in-Err-clause-stopped
@@ -66,11 +66,19 @@ returns-clause-rest g c =
 pub returns-clause-next : goal.returns-clause-next
 returns-clause-next g c = c.take_out.ensures.first ∙ ap (λ (x : DirtyState). (x.first + 1) % 2 ^ 32) c.self.view_is
 
-pub returns-in-Err-clause-segments : goal.returns-in-Err-clause-segments
-returns-in-Err-clause-segments g c =
-    let r = c.self.inside.region in subst (λ (x : DirtyState). HoldsSegments x.region r) c.self.view_is (segments_same r r refl)
+pub returns-then-len-eq0-clause-kept : goal.returns-then-len-eq0-clause-kept
+returns-then-len-eq0-clause-kept g c = (let r = c.args.self.now.region in record { room = refl; segments = segments_same r r refl })
 
-pub returns-clause-segments : goal.returns-clause-segments
-returns-clause-segments g c =
-    let r = c.self.inside.region in
-    subst (λ (x : DirtyState). HoldsSegments x.region c.take_out.new.region) c.self.view_is (segments_same r c.take_out.new.region c.take_out.ensures.shape)
+pub returns-in-Err-clause-kept : goal.returns-in-Err-clause-kept
+returns-in-Err-clause-kept g c =
+    let r = c.self.inside.region in record {
+      room = ap (λ (x : DirtyState). x.room) c.self.view_is;
+      segments = subst (λ (x : DirtyState). HoldsSegments x.region r) c.self.view_is (segments_same r r refl);
+    }
+
+pub returns-clause-kept : goal.returns-clause-kept
+returns-clause-kept g c =
+    let r = c.self.inside.region in record {
+      room = c.take_out.ensures.room ∙ ap (λ (x : DirtyState). x.room) c.self.view_is;
+      segments = subst (λ (x : DirtyState). HoldsSegments x.region c.take_out.new.region) c.self.view_is (segments_same r c.take_out.new.region c.take_out.ensures.shape);
+    }

@@ -4,7 +4,7 @@ use Rattle.segmented_store.specs.Room.{room}
 use Rattle.segmented_store.specs.Segments.{HoldsSegments}
 use Rattle.dirty_region.specs.State.{DirtyState}
 use Rattle.dirty_region.specs.inside.Rings.{RingState}
-use Rattle.dirty_region.proofs.Stored.{bytes_small, seen, segments_grown}
+use Rattle.dirty_region.proofs.Stored.{bytes_small, seen, segments_grown, segments_same}
 use Rattle.dirty_region.proofs.dirty.Dirty.put.Goals as goal
 
 pub returns-then-len-room-clause-too_many : goal.returns-then-len-room-clause-too_many
@@ -55,7 +55,15 @@ pub returns-clause-first : goal.returns-clause-first
 returns-clause-first c =
     c.add_put.ensures.first ∙ (ap (λ (x : RingState). x.first) c.make_way.ensures.places ∙ ap (λ (x : DirtyState). x.first) c.self.view_is)
 
-pub returns-clause-segments : goal.returns-clause-segments
-returns-clause-segments c =
-    subst (λ (x : DirtyState). HoldsSegments x.region c.add_put.new.region) c.self.view_is
-    (segments_grown c.self.inside.region c.make_way.new.region c.add_put.new.region c.make_way.ensures.holds c.add_put.ensures.shape)
+pub returns-clause-kept : goal.returns-clause-kept
+returns-clause-kept c = record {
+  room = c.add_put.ensures.room ∙ (ap (λ (x : RingState). x.room) c.make_way.ensures.places ∙ ap (λ (x : DirtyState). x.room) c.self.view_is);
+  segments = subst (λ (x : DirtyState). HoldsSegments x.region c.add_put.new.region) c.self.view_is
+      (segments_grown c.self.inside.region c.make_way.new.region c.add_put.new.region c.make_way.ensures.holds c.add_put.ensures.shape);
+}
+
+pub returns-then-len-room-clause-kept : goal.returns-then-len-room-clause-kept
+returns-then-len-room-clause-kept c = (let r = c.args.self.now.region in record { room = refl; segments = segments_same r r refl })
+
+pub returns-then-exceeds-clause-kept : goal.returns-then-exceeds-clause-kept
+returns-then-exceeds-clause-kept c = (let r = c.args.self.now.region in record { room = refl; segments = segments_same r r refl })

@@ -4,7 +4,7 @@ use Rattle.key_table.specs.Table.{IsSpotFor}
 use Rattle.regions.specs.Contents.{live_at}
 use Rattle.dirty_region.specs.inside.Rings.{RingState, IsRingOf, AddsPut, pushed, puts_in}
 use Rattle.dirty_region.specs.inside.Indexed.{IsIndexBefore, nth_key}
-use Rattle.dirty_region.specs.inside.NewPuts.{row_of}
+use Rattle.row_bytes.specs.NewRows.{row_of}
 use Rattle.dirty_region.proofs.Rings.{ring_pushed, puts_pushed}
 use Rattle.dirty_region.proofs.Indexes.{index_pushed}
 use Rattle.dirty_region.proofs.dirty.storing.add_put.Goals as goal
@@ -28,7 +28,7 @@ enter-requires-clause-index c =
     let r = c.args.ring.now in let p = c.place_put-place.result in let put = row_of c.args.put in let live = live_at c.args.region.now in let after = live_at c.place_put-place.new.region in
     let adds = subst (λ n. AddsPut p n put live after) c.next_position.ensures c.place_put-place.ensures.added in
     let is = ring_pushed r live after p put c.requires.ring c.requires.few adds in
-    subst (λ (x : RingState). IsIndexBefore x after c.args.index.now) (sym c.push.ensures) (index_pushed r live after p put put.key c.args.index.now c.law.ensures.moved is refl c.requires.index)
+    subst (λ (x : RingState). IsIndexBefore x after c.args.index.now) (sym c.push.ensures) (index_pushed r live after p put put.key c.args.index.now is refl c.requires.index)
 
 pub returns-clause-ring : goal.returns-clause-ring
 returns-clause-ring c =

@@ -11,7 +11,7 @@ returns-clause-stored c =
     let r = c.args.ring.now in let i = c.forget_oldest.new.index in let s = c.kill_put-size.new.region in let bytes = c.args.live_bytes.now in let h = c.requires.stored in let k = c.kill_put-size.ensures in
     subst (λ (x : RingState). IsStored x i s (bytes - c.from.result)) (sym c.pop.ensures)
     (stored_popped r i c.args.region.now s bytes (bytes - c.from.result) c.kill_put-size.result c.place.result h.ring_of c.requires.some h.sizes h.counted h.spare c.place.ensures k.dropped k.size k.live k.shape
-    (ap (λ n. bytes - n) c.from.ensures) c.law.ensures.moved c.forget_oldest.ensures)
+    (ap (λ n. bytes - n) c.from.ensures) c.forget_oldest.ensures)
 
 pub returns-clause-puts : goal.returns-clause-puts
 returns-clause-puts c =

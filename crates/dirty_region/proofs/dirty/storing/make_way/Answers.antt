@@ -5,7 +5,7 @@ use Rattle.dirty_region.proofs.dirty.storing.make_way.Goals as goal
 pub returns-clause-index : goal.returns-clause-index
 returns-clause-index c =
     let m = c.make_room.ensures in
-    index_moved c.args.ring.now c.make_room.new.movers (live_at c.args.region.now) (live_at c.make_room.new.region) c.args.index.now c.law.ensures.moved c.requires.ring m.fits m.rest m.store c.requires.index
+    index_moved c.args.ring.now c.make_room.new.movers (live_at c.args.region.now) (live_at c.make_room.new.region) c.args.index.now c.requires.ring m.fits m.rest m.store c.requires.index
 
 pub returns-clause-puts : goal.returns-clause-puts
 returns-clause-puts c =

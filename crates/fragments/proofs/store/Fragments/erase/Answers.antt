@@ -39,7 +39,7 @@ pub overflow_sub-self : goal.overflow_sub-self
 overflow_sub-self c =
     let f = c.self.inside in let i = c.self.invariant in
     let below : c.args.name < f.tables.names = (let test = c.if-name-names.false in let is = c.names.ensures in omega (arith, test, is)) in
-    let gone = size_gone f.tables f.region c.drop_value.new.region c.args.name c.facts.ensures below c.drop_value.ensures.live_total i.parts in
+    let gone = size_gone f.tables f.region c.drop_value.new.region c.args.name i.entries below c.drop_value.ensures.live_total i.parts in
     let counted = i.counted in let size = c.size_of-dropped.ensures.size ∙ ap (λ (s : StoreState). size_if (value_of (values_of s) c.args.name)) (sym c.self.view_is) in
     omega (arith, gone, counted, size)
 
@@ -47,14 +47,14 @@ pub invariant_of-self : goal.invariant_of-self
 invariant_of-self c =
     let f = c.self.inside in let e = c.drop_value.ensures in
     let below : c.args.name < f.tables.names = (let test = c.if-name-names.false in let is = c.names.ensures in omega (arith, test, is)) in
-    (erased f.tables c.drop_value.new.tables f.region c.drop_value.new.region f.lengths.items f.segments f.live c.size_of-dropped.result c.args.name c.self.invariant c.facts.ensures c.facts-2.ensures
+    (erased f.tables c.drop_value.new.tables f.region c.drop_value.new.region f.lengths.items f.segments f.live c.size_of-dropped.result c.args.name c.self.invariant c.self.invariant.entries e.entries
     e.names below e.chains e.parts e.live_total e.shape (c.size_of-dropped.ensures.size ∙ ap (λ (s : StoreState). size_if (value_of (values_of s) c.args.name)) (sym c.self.view_is))).1
 
 pub returns-clause-values : goal.returns-clause-values
 returns-clause-values c =
     let f = c.self.inside in let e = c.drop_value.ensures in
     let below : c.args.name < f.tables.names = (let test = c.if-name-names.false in let is = c.names.ensures in omega (arith, test, is)) in
-    (erased f.tables c.drop_value.new.tables f.region c.drop_value.new.region f.lengths.items f.segments f.live c.size_of-dropped.result c.args.name c.self.invariant c.facts.ensures c.facts-2.ensures
+    (erased f.tables c.drop_value.new.tables f.region c.drop_value.new.region f.lengths.items f.segments f.live c.size_of-dropped.result c.args.name c.self.invariant c.self.invariant.entries e.entries
     e.names below e.chains e.parts e.live_total e.shape (c.size_of-dropped.ensures.size ∙ ap (λ (s : StoreState). size_if (value_of (values_of s) c.args.name)) (sym c.self.view_is))).0
     ∙ ap (λ (s : StoreState). slice_set (values_of s) c.args.name None) c.self.view_is
 
@@ -62,6 +62,6 @@ pub returns-in_default-clause-values : goal.returns-in_default-clause-values
 returns-in_default-clause-values c =
     let f = c.self.inside in let n = c.args.name in
     let below : n < f.tables.names = (let test = c.if-name-names.false in let is = c.names.ensures in omega (arith, test, is)) in
-    let none = value_none f.tables f.region c.facts.ensures n below (sym c.first.ensures ∙ c.in_default.is) in
+    let none = value_none f.tables f.region c.self.invariant.entries n below (sym c.first.ensures.place ∙ c.in_default.is) in
     sym (ap (λ (s : StoreState). slice_set (values_of s) n None) (sym c.self.view_is)
     ∙ (ap (λ o. slice_set (values_in f.tables f.region) n o) (sym none) ∙ (set-get_or (values_in f.tables f.region) n None ∙ ap (λ (s : StoreState). values_of s) c.self.view_is)))

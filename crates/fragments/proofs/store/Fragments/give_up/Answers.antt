@@ -53,14 +53,14 @@ given_up t u r s lengths segments now o entries many one few were is objects non
 pub invariant_of-self : goal.invariant_of-self
 invariant_of-self c =
     let f = c.self.inside in let i = c.self.invariant in let g = c.give_up-given.ensures in
-    (given_up f.tables c.clear.new.self f.region c.give_up-given.new.self f.lengths.items f.segments c.saturating_sub-self-inside.result c.give_up-given.result c.facts.ensures i.many i.one i.few i.held
+    (given_up f.tables c.clear.new.self f.region c.give_up-given.new.self f.lengths.items f.segments c.saturating_sub-self-inside.result c.give_up-given.result i.entries i.many i.one i.few i.held
     c.clear.ensures g.objects g.emptied g.given g.none.0 g.held g.free g.live_total c.saturating_sub-self-inside.ensures).1
 
 pub returns-clause-values : goal.returns-clause-values
 returns-clause-values c =
-    let f = c.self.inside in let i = c.self.invariant in let g = c.give_up-given.ensures in let entries = c.facts.ensures in
+    let f = c.self.inside in let i = c.self.invariant in let g = c.give_up-given.ensures in let entries = i.entries in
     let most = entries.firsts in let cut = length-take f.tables.names f.tables.firsts in
     let names : f.tables.names ≡ length c.args.self.now.firsts = (let e : f.tables.names ≡ length (take f.tables.names f.tables.firsts) = omega (arith, most, cut) in e) ∙ ap (λ (s : StoreState). length s.firsts) c.self.view_is in
-    (given_up f.tables c.clear.new.self f.region c.give_up-given.new.self f.lengths.items f.segments c.saturating_sub-self-inside.result c.give_up-given.result c.facts.ensures i.many i.one i.few i.held
+    (given_up f.tables c.clear.new.self f.region c.give_up-given.new.self f.lengths.items f.segments c.saturating_sub-self-inside.result c.give_up-given.result i.entries i.many i.one i.few i.held
     c.clear.ensures g.objects g.emptied g.given g.none.0 g.held g.free g.live_total c.saturating_sub-self-inside.ensures).0
     ∙ ap (λ k. replicate k None) names

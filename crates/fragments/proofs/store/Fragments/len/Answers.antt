@@ -15,8 +15,8 @@ pub returns : goal.returns
 returns c =
     let f = c.self.inside in let t = f.tables in let r = f.region in let n = c.args.name in let i = c.self.invariant in
     let below : n < t.names = (let test = c.if-name-names.false in let is = c.names.ensures in omega (arith, test, is)) in
-    let some = sym c.first.ensures ∙ c.in_ok-first.was in
-    let value = value_some t r c.facts.ensures n c.in_ok-first.field-0 below some in
+    let some = sym c.first.ensures.place ∙ c.in_ok-first.was in
+    let value = value_some t r i.entries n c.in_ok-first.field-0 below some in
     let len = c.index.ensures ∙ get_or_default f.lengths.items n c.index.result.now 0 (let many = i.many in omega (arith, many, below)) in
     known (value_of (values_of c.args.self.now) n) (concat (pieces_from (live_at r) _)) c.index.result.now
     (sym (ap (λ (s : StoreState). value_of (values_of s) n) c.self.view_is) ∙ value) (len ∙ i.lens n (concat (pieces_from (live_at r) _)) value)

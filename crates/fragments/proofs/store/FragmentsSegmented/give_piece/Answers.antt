@@ -1,4 +1,4 @@
-use Rattle.mode_lemmas.proofs.Pieces.{guards_given, most_given, pieces_given}
+use Rattle.place_lemmas.proofs.Pieces.{guards_given, most_given, pieces_given}
 use Rattle.fragments.proofs.store.FragmentsSegmented.give_piece.Goals as goal
 
 pub returns : goal.returns

@@ -2,7 +2,7 @@ use Rattle.std.proofs.Common.{List, Option, ap, ◌∙◌}
 use Rattle.regions.specs.declared.place.Place.{Place}
 use Rattle.fragments.specs.Store.{values_of}
 use Rattle.fragments.specs.Values.{Values}
-use Rattle.mode_lemmas.proofs.Pieces.{added_piece}
+use Rattle.place_lemmas.proofs.Pieces.{added_piece}
 use Rattle.fragments.proofs.store.FragmentsSegmented.take_piece.Goals as goal
 
 pub returns-clause-adds : goal.returns-clause-adds

@@ -13,6 +13,7 @@ returns c =
           e.parts (live_at c.drop_value.new.region) (with_parts n [] all) replaced between
           (here ∙ (sym (parts_past n t.names [] all other) ∙ ap (with_parts n [] all) (sym same)))
           (ap replaced same ∙ none) (λ e far away. rest e far (λ x. away (x ∙ sym same)) ∙ sym (parts_past n e [] all far)));
+      entries = e.entries;
       names = e.names ∙ same;
       total = d.live_total;
       shape_is = d.shape;

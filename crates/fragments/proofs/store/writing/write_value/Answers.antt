@@ -9,7 +9,7 @@ use Rattle.fragments.proofs.store.writing.write_value.Goals as goal
 pub add_part-requires-clause-chains : goal.add_part-requires-clause-chains
 add_part-requires-clause-chains c =
     let t = c.args.tables.now in
-    subst (λ (x : TableState). AreChains x (live_at c.args.region.now)) (sym c.begin.ensures) (chains_begun t c.args.name (live_at c.args.region.now) c.requires.chains c.facts.ensures c.requires.none)
+    subst (λ (x : TableState). AreChains x (live_at c.args.region.now)) (sym c.begin.ensures.state) (chains_begun t c.args.name (live_at c.args.region.now) c.requires.chains c.begin.ensures.entries c.requires.none)
 
 pub loop-left-init : goal.loop-left-init
 loop-left-init c =
@@ -17,7 +17,7 @@ loop-left-init c =
     let left = c.fragment_count-left.result - 1 in let some = k.some in let count = k.count in
     writes_last t c.begin.new.self c.add_part.new.tables c.args.region.now c.add_part.new.region c.args.name c.args.bytes.now
     (take (length c.args.bytes.now - left * fragment_bytes) (drop (left * fragment_bytes) c.args.bytes.now)) left
-    c.requires.chains c.facts.ensures c.requires.none c.begin.ensures (omega (arith, some, count)) (take_rest c.args.bytes.now (left * fragment_bytes)) e.chains e.names e.grows e.longer e.parts e.live_total e.free e.segments
+    c.requires.chains c.begin.ensures.entries c.requires.none c.begin.ensures.state (omega (arith, some, count)) (take_rest c.args.bytes.now (left * fragment_bytes)) e.chains e.names e.grows e.longer e.parts e.live_total e.free e.segments
 
 pub part_of-requires : goal.part_of-requires
 part_of-requires c =
@@ -45,7 +45,7 @@ returns c =
       total = omega (arith, total, zero_is);
       free = w.free;
       segments = w.segments;
-      facts = (let f = c.facts-2.ensures in record {
+      facts = (let f = c.facts.ensures in record {
         store = f.store;
         groups = f.groups;
         grouped = f.grouped;

@@ -24,7 +24,7 @@ pub lead_back-requires : goal.lead_back-requires
 lead_back-requires c =
     let e = c.place_fragment-place.ensures in
     first_holds c.args.self.now (live_at c.args.region.now) (live_at c.place_fragment-place.new.region) c.self.inside.names c.place_fragment-place.result c.first-first.result
-    c.requires.chains c.first-first.ensures e.absent e.others
+    c.requires.chains c.first-first.ensures.place e.absent e.others
 
 pub returns-clause-chains : goal.returns-clause-chains
 returns-clause-chains c =
@@ -32,7 +32,7 @@ returns-clause-chains c =
     let names = ap (λ (x : chains.TableState). x.names) c.self.view_is in
     let grows = ap (λ (x : chains.TableState). x.grows) c.self.view_is in
     let entries : AreEntries t = subst (λ (x : chains.TableState). AreEntries x) c.self.view_is c.self.invariant in
-    let first = c.first-first.ensures ∙ ap (λ (k : ℕ). chains.first_at t.firsts k) names in
+    let first = c.first-first.ensures.place ∙ ap (λ (k : ℕ). chains.first_at t.firsts k) names in
     let more = entries.chains in let most = entries.firsts in
     let r = live_at c.args.region.now in let m = live_at c.place_fragment-place.new.region in let s = live_at c.lead_back.new.region in
     chains_grown t c.put_front.new.self r m s p c.args.bytes.now c.requires.chains (omega (arith, more)) (omega (arith, most))
@@ -47,7 +47,7 @@ returns-clause-parts c =
     let names = ap (λ (x : chains.TableState). x.names) c.self.view_is in
     let grows = ap (λ (x : chains.TableState). x.grows) c.self.view_is in
     let entries : AreEntries t = subst (λ (x : chains.TableState). AreEntries x) c.self.view_is c.self.invariant in
-    let first = c.first-first.ensures ∙ ap (λ (k : ℕ). chains.first_at t.firsts k) names in
+    let first = c.first-first.ensures.place ∙ ap (λ (k : ℕ). chains.first_at t.firsts k) names in
     let more = entries.chains in let most = entries.firsts in
     let r = live_at c.args.region.now in let m = live_at c.place_fragment-place.new.region in let s = live_at c.lead_back.new.region in
     parts_grown t c.put_front.new.self r m s p c.args.bytes.now c.requires.chains (omega (arith, more)) (omega (arith, most))

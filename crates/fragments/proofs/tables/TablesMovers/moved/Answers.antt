@@ -85,7 +85,7 @@ returns-clause-fits c =
     let before = mended.copy_back t r from to w.entry w.number c.requires.fits c.requires.apart w.copied w.at c.back_of-back.result c.back_of-back.ensures in
     let next = mended.copy_next t r from to w.entry w.number c.requires.fits c.requires.apart w.copied w.at c.next_of-next.result c.next_of-next.ensures in
     let name = mended.copy_name t r from to w.entry w.number c.requires.fits c.requires.apart w.copied w.at c.name_of-name.result c.name_of-name.ensures.name in
-    chains_moved t u r m s from to w.entry w.number c.requires.fits c.requires.apart w.copied w.at (c.segment_fits.ensures, c.name_of-name.ensures.inside)
+    chains_moved t u r m s from to w.entry w.number c.requires.fits c.requires.apart w.copied w.at (c.name_of-name.ensures.segment, c.name_of-name.ensures.inside)
     (subst (λ o. LeadsOn o (Some to) r m) before links.on) (subst (λ o. LeadsBack o (Some to) m s) next links.back_is)
     (same_live c.args.store.now c.lead_around.new.region c.lead_around.ensures.same) e.names e.grows e.chains
     (firsts_now t u r from to w.entry w.number c.requires.fits w.at entries c.back_of-back.result c.name_of-name.result before name e.first e.behind c.requires.apart w.copied))
@@ -99,7 +99,7 @@ returns-clause-names c = λ n.
     let before = mended.copy_back t r from to w.entry w.number c.requires.fits c.requires.apart w.copied w.at c.back_of-back.result c.back_of-back.ensures in
     let next = mended.copy_next t r from to w.entry w.number c.requires.fits c.requires.apart w.copied w.at c.next_of-next.result c.next_of-next.ensures in
     let name = mended.copy_name t r from to w.entry w.number c.requires.fits c.requires.apart w.copied w.at c.name_of-name.result c.name_of-name.ensures.name in
-    names_moved t u r m s from to w.entry w.number c.requires.fits c.requires.apart w.copied w.at (c.segment_fits.ensures, c.name_of-name.ensures.inside)
+    names_moved t u r m s from to w.entry w.number c.requires.fits c.requires.apart w.copied w.at (c.name_of-name.ensures.segment, c.name_of-name.ensures.inside)
     (subst (λ o. LeadsOn o (Some to) r m) before links.on) (subst (λ o. LeadsBack o (Some to) m s) next links.back_is)
     (same_live c.args.store.now c.lead_around.new.region c.lead_around.ensures.same) e.names e.grows e.chains
     (firsts_now t u r from to w.entry w.number c.requires.fits w.at entries c.back_of-back.result c.name_of-name.result before name e.first e.behind c.requires.apart w.copied) n)
@@ -113,7 +113,7 @@ returns-clause-references c = λ p.
     let before = mended.copy_back t r from to w.entry w.number c.requires.fits c.requires.apart w.copied w.at c.back_of-back.result c.back_of-back.ensures in
     let next = mended.copy_next t r from to w.entry w.number c.requires.fits c.requires.apart w.copied w.at c.next_of-next.result c.next_of-next.ensures in
     let name = mended.copy_name t r from to w.entry w.number c.requires.fits c.requires.apart w.copied w.at c.name_of-name.result c.name_of-name.ensures.name in
-    references_moved t u r m s from to w.entry w.number c.requires.fits c.requires.apart w.copied w.at (c.segment_fits.ensures, c.name_of-name.ensures.inside)
+    references_moved t u r m s from to w.entry w.number c.requires.fits c.requires.apart w.copied w.at (c.name_of-name.ensures.segment, c.name_of-name.ensures.inside)
     (subst (λ o. LeadsOn o (Some to) r m) before links.on) (subst (λ o. LeadsBack o (Some to) m s) next links.back_is)
     (same_live c.args.store.now c.lead_around.new.region c.lead_around.ensures.same) e.names e.grows e.chains
     (firsts_now t u r from to w.entry w.number c.requires.fits w.at entries c.back_of-back.result c.name_of-name.result before name e.first e.behind c.requires.apart w.copied) p)

@@ -1,5 +1,5 @@
 use Rattle.std.proofs.Common.{◌≡◌, suc, ◌+◌, ◌-◌, ℕ, length, set, replicate, ap, ◌∙◌, arith}
-use Rattle.lazy_table.specs.Table.{Table}
+use Rattle.index_lists.specs.Table.{Table}
 use Rattle.index_lists.specs.inside.Links.{numbered}
 use Rattle.index_lists.proofs.Begun.{begun, length-begun, one_more, all_begun}
 use Rattle.index_lists.proofs.links.Links.new.Goals as goal

@@ -7,16 +7,16 @@ use Rattle.index_tree.specs.Store.{nodes_of}
 use Rattle.index_tree.specs.Trees.{leaves_below, places_of}
 use Rattle.index_tree.specs.inside.Climbs.{HasSubtree, IsBefore, IsLast, child_in}
 use Rattle.index_tree.proofs.Climbed.{above_it, child_led, first_child, in_front, no_parent, parent_led, read_of, there_of}
-use Rattle.index_tree.proofs.Mended.{lives}
 use Rattle.place_lemmas.proofs.Places.{some_is, some_none}
 use Rattle.index_tree.proofs.Positions.{node_at}
 use Rattle.index_tree.proofs.roots.Roots.+leaf_before.Goals as goal
+use Rattle.index_tree.proofs.SearchNode.{is_live}
 
 pub parent_at-requires : goal.parent_at-requires
 parent_at-requires t c =
     let r = c.requires in let nodes = nodes_of (live_at c.args.region.now) in let s = c.args.self.now.tree in let at = c.args.at in let level = c.args.level in
     let n = node_at nodes level r.above at r.sub in
-    r.holds at (lives (live_at c.args.region.now) at n.node n.is)
+    r.holds at (is_live (live_at c.args.region.now) at n.node n.is)
 
 pub returns-in_err-parent : goal.returns-in_err-parent
 returns-in_err-parent t c =
@@ -32,7 +32,7 @@ child_index-i-requires-clause-node m c =
     let n = node_at nodes level r.above at r.sub in
     let parent = c.in_ok-parent.parent in
     let u = above_it nodes t r.tree at parent level r.above r.among r.sub (parent_led nodes at n.node c.parent_at.result c.led_to.result n.is c.parent_at.ensures.parent c.led_to.ensures ∙ c.in_ok-parent.was) in
-    r.holds parent (lives (live_at c.args.region.now) parent u.node u.is)
+    r.holds parent (is_live (live_at c.args.region.now) parent u.node u.is)
 
 pub child_index-i-requires-clause-there : goal.child_index-i-requires-clause-there
 child_index-i-requires-clause-there m c =
@@ -80,7 +80,7 @@ child_of-requires-clause-node m c =
     let n = node_at nodes level r.above at r.sub in
     let parent = c.in_ok-parent.parent in
     let u = above_it nodes t r.tree at parent level r.above r.among r.sub (parent_led nodes at n.node c.parent_at.result c.led_to.result n.is c.parent_at.ensures.parent c.led_to.ensures ∙ c.in_ok-parent.was) in
-    r.holds parent (lives (live_at c.args.region.now) parent u.node u.is)
+    r.holds parent (is_live (live_at c.args.region.now) parent u.node u.is)
 
 pub child_of-requires-clause-i : goal.child_of-requires-clause-i
 child_of-requires-clause-i m c =

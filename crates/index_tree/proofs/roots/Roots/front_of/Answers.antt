@@ -2,16 +2,16 @@ use Rattle.std.proofs.Common.{◌≡◌, [], refl, ◌∙◌, arith}
 use Rattle.regions.specs.Contents.{live_at}
 use Rattle.index_tree.specs.Store.{nodes_of}
 use Rattle.index_tree.proofs.Climbed.{before_top, low_stands, parent_led, read_of}
-use Rattle.index_tree.proofs.Mended.{lives}
 use Rattle.index_tree.proofs.Neighbors.{before_inner, node_here}
 use Rattle.place_lemmas.proofs.Places.{is_none_by, is_some_by}
 use Rattle.index_tree.proofs.roots.Roots.front_of.Goals as goal
+use Rattle.index_tree.proofs.SearchNode.{is_live}
 
 pub level_at-requires : goal.level_at-requires
 level_at-requires c =
     let live = live_at c.args.region.now in let nodes = nodes_of live in let t = c.args.self.now.tree in let at = c.args.at in let r = c.requires in
     let n = node_here nodes t r.tree at r.there in
-    r.nodes at (lives live at n.0 n.1)
+    r.nodes at (is_live live at n.0 n.1)
 
 pub returns-then-level_at-gt0 : goal.returns-then-level_at-gt0
 returns-then-level_at-gt0 c =
@@ -24,7 +24,7 @@ pub parent_at-requires : goal.parent_at-requires
 parent_at-requires c =
     let live = live_at c.args.region.now in let nodes = nodes_of live in let t = c.args.self.now.tree in let at = c.args.at in let r = c.requires in
     let n = node_here nodes t r.tree at r.there in
-    r.nodes at (lives live at n.0 n.1)
+    r.nodes at (is_live live at n.0 n.1)
 
 pub returns-then-is_none : goal.returns-then-is_none
 returns-then-is_none c =

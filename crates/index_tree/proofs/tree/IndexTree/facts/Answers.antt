@@ -4,7 +4,8 @@ use Rattle.regions.specs.Contents.{Item, live_at}
 use Rattle.regions.specs.declared.place.Place.{Place}
 use Rattle.tree_nodes.specs.Nodes.{IsEntry}
 use Rattle.index_tree.specs.Indexes.{Index, IsIndex}
-use Rattle.index_tree.specs.Sizes.{most, node_kind}
+use Rattle.layout.specs.Kinds.{node_kind}
+use Rattle.index_tree.specs.Sizes.{most}
 use Rattle.index_tree.specs.Limits.{most_levels, most_spares}
 use Rattle.index_tree.specs.Store.{AreNodes, IndexState, index_in, levels, nodes_of}
 use Rattle.index_tree.proofs.Entries.{entries_stand}

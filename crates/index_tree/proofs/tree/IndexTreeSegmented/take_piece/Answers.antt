@@ -1,4 +1,4 @@
-use Rattle.mode_lemmas.proofs.Pieces.{added_piece}
+use Rattle.place_lemmas.proofs.Pieces.{added_piece}
 use Rattle.index_tree.proofs.tree.IndexTreeSegmented.take_piece.Goals as goal
 
 pub returns-clause-adds : goal.returns-clause-adds

@@ -10,8 +10,7 @@ use Rattle.key_index.proofs.Leads.{each_from_all, all_from_each}
 use Rattle.key_index.proofs.Changed.{all_taken, rows_taken, cut_taken}
 use Rattle.key_index.proofs.Places.{entry_told}
 use Rattle.key_index.proofs.Taken.{rest, one_more}
-use Rattle.key_index.proofs.Told.{all_each, meant}
-use Rattle.key_index.proofs.Moved.{moved_order}
+use Rattle.key_index.proofs.Told.{meant}
 use Rattle.key_index.proofs.index.KeyIndex.remove_at.Goals as goal
 
 pub invariant_of-self : goal.invariant_of-self
@@ -28,7 +27,7 @@ invariant_of-self c =
     }
 
 pub returns-clause-ordered : goal.returns-clause-ordered
-returns-clause-ordered c = λ key_of after is same.
+returns-clause-ordered c = λ key_of is.
     let old = subst (IsOrdered key_of) (sym c.self.view_is) is in
     let entry = entry_told c.self.inside.room c.self.inside.blocks.contents c.args.self.now c.args.found.place c.args.found.row c.self.view_is c.requires in
     let blocks = c.self.inside.blocks.contents in
@@ -36,14 +35,15 @@ returns-clause-ordered c = λ key_of after is same.
     let at = c.args.found.place.at in
     let Q : Entry → Type 0 = λ e. AreBytes (key_of e.row) in
     let blocks_after = c.take_out-ended.new.blocks.contents in
-    moved_order key_of after (meant c.self.inside.room blocks_after) (all_each (λ row. after row ≡ key_of row) (rows_of (entries_of blocks_after)) same) (record {
+    let now : IsOrdered key_of (meant c.self.inside.room blocks_after) = record {
       beside = refl;
       rising = subst (AreRising key_of) (sym (ap rows_of c.take_out-ended.ensures.entries ∙ rows_taken blocks k at))
           (rising_remove key_of (front blocks k at) (rest blocks k at) entry.0.row (subst (AreRising key_of) (cut_taken blocks k at entry.0 entry.1) old.rising));
       bytes = each_from_all (λ row. AreBytes (key_of row)) _
           (subst (All Q) (sym c.take_out-ended.ensures.entries) (all_taken Q blocks k at (all_from_each (λ row. AreBytes (key_of row)) _ old.bytes)));
       kept = subst (All (IsLed key_of)) (sym c.take_out-ended.ensures.entries) (all_taken (IsLed key_of) blocks k at old.kept);
-    })
+    } in
+    now
 
 pub returns-clause-rows : goal.returns-clause-rows
 returns-clause-rows c =

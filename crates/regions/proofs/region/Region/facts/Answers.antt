@@ -10,9 +10,8 @@ use Rattle.regions.specs.Contents.{Item, standing, standing_in, standing_at, ite
 use Rattle.regions.specs.inside.Consistent.{GroupFields, states}
 use Rattle.regions.proofs.Stores.{stands-itself}
 use Rattle.regions.proofs.Updates.{used-is}
-use Rattle.regions.proofs.Groups.{closed-parts, closed-in-parts, closed-in-from}
-use Rattle.regions.proofs.Consistency.{of-within}
-use Rattle.regions.proofs.Regions.{Fields, group-is, group-known, nothing-stands, standing-held, live-stands}
+use Rattle.regions.proofs.Groups.{closed-in-parts}
+use Rattle.regions.proofs.Regions.{Fields, closed-in-one, group-is, group-known, nothing-stands, standing-held, live-stands}
 use Rattle.regions.proofs.region.Region.facts.Goals as goal
 
 -- an item that is live there is of the segment's group
@@ -85,14 +84,9 @@ returns-clause-stands c = λ p stands.
     )
 
 pub returns-clause-closed : goal.returns-clause-closed
-returns-clause-closed c = λ n shut.
-    let i = c.self.inside in let slots = i.slots.items in let v = c.self.invariant in
-    let p = closed-parts (states i.groups.items) (slots_of slots) n (subst (λ q. IsClosed q n) (sym c.self.view_is) shut) in
-    let w = of-within i.most i.groups.items i.held i.free (slots_of slots) _ _ v p.0 n p.1 in let l = length-map i.groups.items (λ (f : GroupFields). f.state) in (
-      p.0,
-      subst (λ q. HasGroup q p.0) c.self.view_is (omega (arith, w, l)),
-      subst (λ q. IsClosedIn q p.0 n) c.self.view_is (closed-in-from (states i.groups.items) (slots_of slots) p.0 n p.1 p.2),
-    )
+returns-clause-closed c =
+    let i = c.self.inside in
+    subst (λ (q : RegionState). (n : ℕ) → IsClosed q n → (g : ℕ) × HasGroup q g × IsClosedIn q g n) c.self.view_is (closed-in-one i.most i.groups.items i.held i.free i.slots.items c.self.invariant)
 
 pub returns-clause-of : goal.returns-clause-of
 returns-clause-of c = λ g n now. subst (λ q. group_of q n ≡ Some g) c.self.view_is ((c.self.invariant).active g n (subst (λ q. active_of q g ≡ Some n) (sym c.self.view_is) now))

@@ -8,6 +8,7 @@ use Rattle.regions.proofs.Tables as tables
 use Rattle.regions.proofs.Updates.{used-is, live-is}
 use Rattle.regions.proofs.Groups.{closed-parts, of-begun}
 use Rattle.regions.specs.Contents.{NoneLives, IsStart, starts_in, none_lives_in, IsLiveAt, live_at, item_if_live}
+use Rattle.regions.specs.declared.place.LiveObject.{LiveObject}
 use Rattle.regions.specs.declared.place.Place.{Place}
 use Rattle.regions.proofs.Regions.{begun-within}
 use Rattle.regions.proofs.region.Region.next_live.Goals as goal
@@ -24,35 +25,35 @@ the-segment c =
 pub returns-clause-skipped : goal.returns-clause-skipped
 returns-clause-skipped c =
     let slots = c.self.inside.slots.items in let n = c.args.segment in let is = the-segment c in
-    subst (λ q. IfSome c.next_live.result (λ f. (c.args.from ≤ f.0) × NoneLives q n c.args.from f.0)) c.self.view_is
-    (subst (λ s. IfSome c.next_live.result (λ f. (c.args.from ≤ f.0) × none_lives_in s c.args.from f.0)) (sym is) c.next_live.ensures.skipped)
+    subst (λ q. IfSome c.next_live.result (λ (f : LiveObject). (c.args.from ≤ f.at) × NoneLives q n c.args.from f.at)) c.self.view_is
+    (subst (λ s. IfSome c.next_live.result (λ (f : LiveObject). (c.args.from ≤ f.at) × none_lives_in s c.args.from f.at)) (sym is) c.next_live.ensures.skipped)
 
 pub returns-clause-within : goal.returns-clause-within
 returns-clause-within c =
     let slots = c.self.inside.slots.items in let n = c.args.segment in let is = the-segment c in
-    subst (λ q. IfSome c.next_live.result (λ f. f.0 + f.2 ≤ used_at q n)) c.self.view_is
-    (subst (λ u. IfSome c.next_live.result (λ f. f.0 + f.2 ≤ u)) (sym (used-is slots n))
-    (subst (λ s. IfSome c.next_live.result (λ f. f.0 + f.2 ≤ used_in s)) (sym is) c.next_live.ensures.within))
+    subst (λ q. IfSome c.next_live.result (λ (f : LiveObject). f.at + f.size ≤ used_at q n)) c.self.view_is
+    (subst (λ u. IfSome c.next_live.result (λ (f : LiveObject). f.at + f.size ≤ u)) (sym (used-is slots n))
+    (subst (λ s. IfSome c.next_live.result (λ (f : LiveObject). f.at + f.size ≤ used_in s)) (sym is) c.next_live.ensures.within))
 
 pub returns-clause-next : goal.returns-clause-next
 returns-clause-next c =
     let slots = c.self.inside.slots.items in let n = c.args.segment in let is = the-segment c in
-    subst (λ q. IfSome c.next_live.result (λ f. IsStart q n (f.0 + f.2))) c.self.view_is
-    (subst (λ u. IfSome c.next_live.result (λ f. IsSome (standing_in (get_or slots n None) (f.0 + f.2)) ⊎ (f.0 + f.2 ≡ u))) (sym (used-is slots n))
-    (subst (λ s. IfSome c.next_live.result (λ f. starts_in s (f.0 + f.2))) (sym is) c.next_live.ensures.next))
+    subst (λ q. IfSome c.next_live.result (λ (f : LiveObject). IsStart q n (f.at + f.size))) c.self.view_is
+    (subst (λ u. IfSome c.next_live.result (λ (f : LiveObject). IsSome (standing_in (get_or slots n None) (f.at + f.size)) ⊎ (f.at + f.size ≡ u))) (sym (used-is slots n))
+    (subst (λ s. IfSome c.next_live.result (λ (f : LiveObject). starts_in s (f.at + f.size))) (sym is) c.next_live.ensures.next))
 
 pub returns-clause-between : goal.returns-clause-between
 returns-clause-between c =
     let slots = c.self.inside.slots.items in let n = c.args.segment in let is = the-segment c in
-    subst (λ q. IfSome c.next_live.result (λ f. (a : ℕ) → f.0 < a → a < f.0 + f.2 → standing_at q (let p : Place = record { segment = n; at = a } in p) ≡ None)) c.self.view_is
-    (subst (λ s. IfSome c.next_live.result (λ f. (a : ℕ) → f.0 < a → a < f.0 + f.2 → standing_in s a ≡ None)) (sym is) c.next_live.ensures.between)
+    subst (λ q. IfSome c.next_live.result (λ (f : LiveObject). (a : ℕ) → f.at < a → a < f.at + f.size → standing_at q (let p : Place = record { segment = n; at = a } in p) ≡ None)) c.self.view_is
+    (subst (λ s. IfSome c.next_live.result (λ (f : LiveObject). (a : ℕ) → f.at < a → a < f.at + f.size → standing_in s a ≡ None)) (sym is) c.next_live.ensures.between)
 
 pub returns-clause-counted : goal.returns-clause-counted
 returns-clause-counted c =
     let slots = c.self.inside.slots.items in let n = c.args.segment in let is = the-segment c in
-    subst (λ q. IfSome c.next_live.result (λ f. f.2 ≤ live_bytes_at q n)) c.self.view_is
-    (subst (λ u. IfSome c.next_live.result (λ f. f.2 ≤ u)) (sym (live-is slots n))
-    (subst (λ s. IfSome c.next_live.result (λ f. f.2 ≤ live_in s)) (sym is) c.next_live.ensures.counted))
+    subst (λ q. IfSome c.next_live.result (λ (f : LiveObject). f.size ≤ live_bytes_at q n)) c.self.view_is
+    (subst (λ u. IfSome c.next_live.result (λ (f : LiveObject). f.size ≤ u)) (sym (live-is slots n))
+    (subst (λ s. IfSome c.next_live.result (λ (f : LiveObject). f.size ≤ live_in s)) (sym is) c.next_live.ensures.counted))
 
 pub returns-clause-dead : goal.returns-clause-dead
 returns-clause-dead c =
@@ -71,8 +72,8 @@ returns-clause-none c =
 pub returns-clause-found : goal.returns-clause-found
 returns-clause-found c =
     let n = c.args.segment in let is = the-segment c in
-    subst (λ q. IfSome c.next_live.result (λ f. IsLiveAt (live_at q (let p : Place = record { segment = n; at = f.0 } in p)) f.1 f.2)) c.self.view_is
-    (subst (λ s. IfSome c.next_live.result (λ f. IsLiveAt (item_if_live (standing_in s f.0)) f.1 f.2)) (sym is) c.next_live.ensures.found)
+    subst (λ q. IfSome c.next_live.result (λ (f : LiveObject). IsLiveAt (live_at q (let p : Place = record { segment = n; at = f.at } in p)) f.kind f.size)) c.self.view_is
+    (subst (λ s. IfSome c.next_live.result (λ (f : LiveObject). IsLiveAt (item_if_live (standing_in s f.at)) f.kind f.size)) (sym is) c.next_live.ensures.found)
 
 pub returns-clause-size : goal.returns-clause-size
 returns-clause-size c = c.next_live.ensures.size

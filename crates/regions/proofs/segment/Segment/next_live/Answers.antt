@@ -18,46 +18,46 @@ read_descriptor-found-requires c =
     (h.used, subst (λ b. IsSegment b h.used) (sym is) s, inl (subst (λ b. StandsAt at (objects b h.used)) (sym is) (found-any (λ (o : Object). o.at ≡ at) at (objects h.piece.bytes h.used) t.it t.is-it (t.found).place)))
 
 -- an object stands where a descriptor was read
-record Known (c : goal.Then-found-eq1) : Type 0 where
+record Known (c : goal.Then-is_live) : Type 0 where
   pub there : IsThere c.args.self.now.piece.bytes c.args.self.now.used c.loop-at.at
   pub is-read : c.read_descriptor-found.result ≡ descriptor_at c.args.self.now.piece.bytes c.loop-at.at
 
-known : (c : goal.Then-found-eq1) → Known c
+known : (c : goal.Then-is_live) → Known c
 known c =
     let i = c.self.inside in let h = c.args.self.now in let at = c.loop-at.at in
     let t = stands-there i.piece i.used i.group h at c.self.view_is c.self.invariant.2 c.requires.begun c.loop-at-test.true c.loop-at.invariant.1 in let d = c.read_descriptor-found.result in
     let d-is = c.read_descriptor-found.ensures.read ∙ ap (λ b. descriptor_at b at) (c.bytes-bytes.ensures ∙ ap (λ k. k.piece.bytes) c.self.view_is) in
     record { there = t; is-read = d-is }
 
-pub returns-then-found-eq1-clause-found : goal.returns-then-found-eq1-clause-found
-returns-then-found-eq1-clause-found c =
+pub returns-then-is_live-clause-found : goal.returns-then-is_live-clause-found
+returns-then-is_live-clause-found c =
     let h = c.args.self.now in let at = c.loop-at.at in let k = known c in
-    live-there h.group h.piece.bytes h.used at k.there c.read_descriptor-found.result k.is-read c.if-found-eq1.true
+    live-there h.group h.piece.bytes h.used at k.there c.read_descriptor-found.result k.is-read (sym c.is_live.ensures ∙ c.if-is_live.true)
 
-pub returns-then-found-eq1-clause-size : goal.returns-then-found-eq1-clause-size
-returns-then-found-eq1-clause-size c =
+pub returns-then-is_live-clause-size : goal.returns-then-is_live-clause-size
+returns-then-is_live-clause-size c =
     let h = c.args.self.now in let at = c.loop-at.at in let k = known c in
     let is : c.bytes-bytes.result.now ≡ h.piece.bytes = c.bytes-bytes.ensures ∙ ap (λ k. k.piece.bytes) c.self.view_is in
     let stands : StandsAt at (objects c.bytes-bytes.result.now h.used) = subst (λ b. StandsAt at (objects b h.used)) (sym is) (found-any (λ (o : Object). o.at ≡ at) at (objects h.piece.bytes h.used) k.there.it k.there.is-it (k.there.found).place) in
     (some-kind h.group h.piece.bytes h.used at k.there c.read_descriptor-found.result k.is-read, (c.read_descriptor-found.ensures.fits h.used (subst (λ b. IsSegment b h.used) (sym is) k.there.segment) stands).0)
 
-pub returns-then-found-eq1-clause-within : goal.returns-then-found-eq1-clause-within
-returns-then-found-eq1-clause-within c =
+pub returns-then-is_live-clause-within : goal.returns-then-is_live-clause-within
+returns-then-is_live-clause-within c =
     let h = c.args.self.now in let at = c.loop-at.at in let k = known c in
     (step h.group h.piece.bytes h.used at k.there c.read_descriptor-found.result k.is-read).1
 
-pub returns-then-found-eq1-clause-inside : goal.returns-then-found-eq1-clause-inside
-returns-then-found-eq1-clause-inside c =
+pub returns-then-is_live-clause-inside : goal.returns-then-is_live-clause-inside
+returns-then-is_live-clause-inside c =
     let h = c.args.self.now in let at = c.loop-at.at in let k = known c in
     let w = step h.group h.piece.bytes h.used at k.there c.read_descriptor-found.result k.is-read in omega (arith, w.1, w.2)
 
-pub returns-then-found-eq1-clause-next : goal.returns-then-found-eq1-clause-next
-returns-then-found-eq1-clause-next c =
+pub returns-then-is_live-clause-next : goal.returns-then-is_live-clause-next
+returns-then-is_live-clause-next c =
     let h = c.args.self.now in let at = c.loop-at.at in let k = known c in
     next-starts h.group h.piece.bytes h.used at k.there c.read_descriptor-found.result k.is-read
 
-pub returns-then-found-eq1-clause-between : goal.returns-then-found-eq1-clause-between
-returns-then-found-eq1-clause-between c =
+pub returns-then-is_live-clause-between : goal.returns-then-is_live-clause-between
+returns-then-is_live-clause-between c =
     let h = c.args.self.now in let at = c.loop-at.at in let k = known c in
     none-between h.group h.piece.bytes h.used at k.there c.read_descriptor-found.result k.is-read
 
@@ -81,12 +81,12 @@ loop-at-preserved c =
     let t = stands-there i.piece i.used i.group h at c.self.view_is c.self.invariant.2 c.requires.begun c.loop-at-test.true c.loop-at.invariant.1 in let d = c.read_descriptor-found.result in
     let d-is = c.read_descriptor-found.ensures.read ∙ ap (λ b. descriptor_at b at) (c.bytes-bytes.ensures ∙ ap (λ k. k.piece.bytes) c.self.view_is) in
     let w = step h.group h.piece.bytes h.used at t d d-is in let before = c.loop-at.invariant.0 in
-    (omega (arith, before), next-starts h.group h.piece.bytes h.used at t d d-is, passed h.group h.piece.bytes h.used at t d d-is c.args.from c.if-found-eq1.false c.loop-at.invariant.2)
+    (omega (arith, before), next-starts h.group h.piece.bytes h.used at t d d-is, passed h.group h.piece.bytes h.used at t d d-is c.args.from (sym c.is_live.ensures ∙ c.if-is_live.false) c.loop-at.invariant.2)
 
-pub returns-then-found-eq1-clause-counted : goal.returns-then-found-eq1-clause-counted
-returns-then-found-eq1-clause-counted c =
+pub returns-then-is_live-clause-counted : goal.returns-then-is_live-clause-counted
+returns-then-is_live-clause-counted c =
     let h = c.args.self.now in let at = c.loop-at.at in let k = known c in
-    counted h.group h.piece.bytes h.used at k.there c.read_descriptor-found.result k.is-read c.if-found-eq1.true
+    counted h.group h.piece.bytes h.used at k.there c.read_descriptor-found.result k.is-read (sym c.is_live.ensures ∙ c.if-is_live.true)
 
 pub returns-clause-dead : goal.returns-clause-dead
 returns-clause-dead c = λ _ before.

@@ -1,8 +1,10 @@
-use Rattle.std.proofs.Common.{◌≡◌, ◌-◌, length, take, List, Some, None, true, false, sym, ap, subst, ◌∙◌}
+use Rattle.std.proofs.Common.{◌≡◌, ℕ, ◌-◌, ◌≤◌, length, take, List, [], ◌∷◌, Some, None, true, false, refl, sym, ap, subst, ◌∙◌, arith}
 use Rattle.std.specs.List.{last_or}
+use Rattle.std.proofs.lemmas.List.{length-map, length-take}
 use Rattle.rows.specs.Row.{is_of_put, Row}
 use Rattle.common_lemmas.specs.Lists.{delete}
-use Rattle.row_cache.specs.Rows.{rows_of}
+use Rattle.regions.specs.Contents.{live_at}
+use Rattle.row_cache.specs.Rows.{row_at, rows_of}
 use Rattle.row_cache.specs.inside.Consistent.{rows_in, rows_with}
 use Rattle.row_cache.proofs.Caches.{no_numbers, rows_read}
 use Rattle.row_cache.specs.inside.Tables.{IsListed}
@@ -50,3 +52,17 @@ returns-clause-none c = (
       let last : last_or None t.recency ≡ Some c.in_ok-row.row = c.in_ok-row.ensures in
       absurd (let clash : None ≡ Some c.in_ok-row.row = sym (ap (λ ns. last_or None ns) empty) ∙ last in cc)),
 )
+
+some_last : (xs : List ℕ) (n : ℕ) → last_or None xs ≡ Some n → 1 ≤ length xs
+some_last [] n e = absurd (let clash : None ≡ Some n = e in cc)
+some_last (x ∷ xs) n e = omega arith
+
+pub returns-clause-few : goal.returns-clause-few
+returns-clause-few c = λ _.
+    let t = c.self.inside.tables in let r = c.self.inside.region in let a = c.self.invariant.counted.tables.numbers in
+    let was : rows_in t r ≡ rows_of c.args.self.now = sym (rows_read t r c.self.inside.live c.self.invariant) ∙ ap rows_of c.self.view_is in
+    let long : length (rows_of c.args.self.now) ≡ length t.recency = ap (λ (x : List Row). length x) (sym was) ∙ length-map t.recency (row_at (live_at r) t.places) in
+    let some = some_last t.recency c.in_ok-row.row c.in_ok-row.ensures in
+    let left = ap (λ (x : List Row). length x) (returns-clause-rows c refl) ∙ length-take (length (rows_of c.args.self.now) - 1) (rows_of c.args.self.now) in
+    let count = a.count in let few = a.few in let room = c.drop_row.ensures.room in
+    omega (arith, long, some, left, count, few, room)

@@ -6,7 +6,7 @@ use Rattle.layout.specs.Sizes.{segment}
 use Rattle.regions.specs.Counts.{left, left_of, used_counts}
 use Rattle.regions.specs.Lends.{with_content}
 use Rattle.regions.specs.Contents.{live_at}
-use Rattle.row_cache.specs.inside.NewRows.{row_of}
+use Rattle.row_bytes.specs.NewRows.{row_of}
 use Rattle.row_cache.proofs.Caches.{row_stays}
 use Rattle.row_cache.proofs.Placed.{object_added, object_stays, zeros_long, left_added, stays_same}
 use Rattle.row_cache.proofs.OneGroup.{has_group}
@@ -49,7 +49,7 @@ returns-clause-room c =
     let room : c.row_size.result ≤ left c.args.region.now 0 = elim (leb_tells c.row_size.result (left c.args.region.now 0)) [ inl h ↦ h.1 | inr h ↦ absurd (let clash : false ≡ true = e.full.1 h.1 in cc) ] in
     let is : left c.args.region.now 0 ≡ segment - slice_index used c.in_ok-place.place.segment = ap (left_of used) e.segment in
     let whole = c.row_size.ensures in let at = e.offset in
-    (c.segment_fits.ensures, omega (arith, room, is, whole, at))
+    (e.number, omega (arith, room, is, whole, at))
 
 pub place-requires-clause-group : goal.place-requires-clause-group
 place-requires-clause-group c = has_group c.args.region.now c.requires.one

@@ -9,7 +9,7 @@ use Rattle.regions.specs.declared.place.Place.{Place}
 use Rattle.row_cache.specs.Rows.{AreRelinked, key_at}
 use Rattle.row_cache.specs.inside.Chained.{IsLinkedBut, place_in}
 use Rattle.row_cache.specs.inside.Consistent.{IsConsistent, IsCounted, rows_with}
-use Rattle.row_cache.specs.inside.NewRows.{row_of}
+use Rattle.row_bytes.specs.NewRows.{row_of}
 use Rattle.row_cache.specs.inside.Tables.{AreTablesOf, HoldsARow, IsListed, ReplacesRow, TableState}
 use Rattle.row_cache.proofs.Caches.{counted_relinked, counts_more, of_some, relinked_rows, rows_relinked, rows_replaced, consistent_replaced}
 use Rattle.row_cache.proofs.Kept.{chain_on, lacks_dead, same_past_both}

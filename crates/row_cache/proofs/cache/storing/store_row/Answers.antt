@@ -2,7 +2,7 @@ use Rattle.std.proofs.Common.{◌+◌, map, subst, ◌∙◌, arith}
 use Rattle.rows.specs.Row.{Row}
 use Rattle.regions.specs.Contents.{live_at}
 use Rattle.row_cache.specs.inside.Tables.{AddsRow, IsRowOf}
-use Rattle.row_cache.specs.inside.NewRows.{row_of}
+use Rattle.row_bytes.specs.NewRows.{row_of}
 use Rattle.row_cache.specs.inside.Chained.{place_in}
 use Rattle.row_cache.proofs.Kept.{chain_on, lacks_dead, same_of_rows}
 use Rattle.row_cache.proofs.Relinked.{relinked_left, relinked_stay, relinked_total, stay_again}

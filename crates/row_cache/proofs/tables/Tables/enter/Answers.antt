@@ -1,6 +1,6 @@
 use Rattle.std.proofs.Common.{◌≢◌, ◌<◌, ◌∷◌, length, sym, ap, subst, ◌∙◌, arith}
 use Rattle.key_table.specs.Table.{AreSame, IsSpotFor}
-use Rattle.lazy_index.specs.Lazy.{rows_in, IsKeyed, IsLazyOf}
+use Rattle.key_table.specs.Lazy.{rows_in, IsKeyed, IsLazyOf}
 use Rattle.regions.specs.Contents.{live_at}
 use Rattle.row_cache.specs.Rows.{key_at}
 use Rattle.row_cache.specs.inside.Tables as tables
@@ -19,7 +19,7 @@ insert-requires-clause-lazy c =
     let a = c.requires.adds in
     let r : tables.AddsRow t c.args.at c.args.place a.row a.old live = subst (λ s. tables.AddsRow s c.args.at c.args.place a.row a.old live) (sym c.self.view_is) a.adds in
     let places = c.as_slice.ensures.value ∙ (g.ensures.places ∙ ap (λ n. tables.placed n c.args.place t.places) g.ensures.number) in
-    subst (λ ps. IsLazyOf (tables.HasRow live ps) (key_at live ps) t.index) (sym places) (added_lazy t c.args.at c.args.place a.row a.old live r c.law.ensures.moved)
+    subst (λ ps. IsLazyOf (tables.HasRow live ps) (key_at live ps) t.index) (sym places) (added_lazy t c.args.at c.args.place a.row a.old live r)
 
 pub insert-requires-clause-readable : goal.insert-requires-clause-readable
 insert-requires-clause-readable c =
@@ -79,7 +79,7 @@ invariant_of-self c =
     let places = i.1 in let frees = i.2 in let cap = g.ensures.capacity.0 in let cap_freed = g.ensures.capacity.1 in let same = c.insert.ensures.room in (
       numbers_added t u c.args.place i.0 (subst (λ (s : tables.TableState). length s.recency < s.room) (sym c.self.view_is) c.requires.room) same
           (c.with_front-self-inside.ensures ∙ ap (λ n. n ∷ t.recency) is) (g.ensures.places ∙ ap (λ n. tables.placed n c.args.place t.places) is) g.ensures.freed same
-          (subst (λ n. AreSame (n ∷ rows_in t.index) (rows_in c.insert.new.self)) is c.insert.ensures.rows),
+          (subst (λ n. AreSame (n ∷ rows_in t.index) (rows_in c.insert.new.self)) is c.insert.ensures.rows) c.insert.ensures.moved,
       omega (arith, places, cap, same),
       omega (arith, frees, cap_freed, same),
     )

@@ -13,4 +13,4 @@ returns-clause-tables c = λ row old new r.
     let u : tables.TableState = record v { places = slice_set v.places n c.args.place } in
     let numbers : tables.AreNumbers u = numbers_kept v u c.self.invariant.0 refl refl refl (length-set v.places n c.args.place) (λ k. refl) refl in
     tables_replaced v u n c.args.place row old new (subst (λ s. tables.ReplacesRow s n c.args.place row old new) (sym c.self.view_is) r)
-    (subst (λ s. tables.IsListed s n) (sym c.self.view_is) c.requires) numbers (λ m. refl) refl refl c.law.ensures.moved
+    (subst (λ s. tables.IsListed s n) (sym c.self.view_is) c.requires) numbers (λ m. refl) refl refl

@@ -14,7 +14,7 @@ invariant_of-self c =
     c.push.ensures.items ∙ ap (λ r. cond (is_ok r) (c.self.inside.freed.items ++ n ∷ []) c.self.inside.freed.items) c.unwrap.ensures in
     let u : tables.TableState = record t { room = c.remove.new.self.room; recency = c.without-self-inside.result.rows; freed = c.push.new.self.items; index = c.remove.new.self } in
     let places = i.1 in let frees = i.2 in let room = c.remove.ensures.room in let cap = c.push.ensures.capacity in (
-      numbers_dropped t u n i.0 listed room c.without-self-inside.ensures refl freed room c.remove.ensures.rows,
+      numbers_dropped t u n i.0 listed room c.without-self-inside.ensures refl freed room c.remove.ensures.rows c.remove.ensures.moved,
       omega (arith, places, room),
       omega (arith, frees, room, cap),
     )
@@ -26,4 +26,4 @@ returns-clause-tables c = λ place old new are here drops.
     let u : tables.TableState = record v { room = c.remove.new.self.room; recency = c.without-self-inside.result.rows; freed = c.push.new.self.items; index = c.remove.new.self } in
     tables_dropped v u old new n place (subst (λ s. tables.AreTablesOf s old) (sym c.self.view_is) are) (invariant_of-self c).0
     (subst (λ s. tables.IsListed s n) (sym c.self.view_is) c.requires.listed) (ap (λ (s : tables.TableState). slice_get s.places n) c.self.view_is ∙ here) drops c.without-self-inside.ensures refl
-    (λ a b keyed same. c.law.ensures.moved a b same (c.remove.ensures.keyed a keyed))
+    c.remove.ensures.keyed

@@ -1,5 +1,5 @@
 use Rattle.std.proofs.Common.{refl, sym, subst, arith}
-use Rattle.lazy_index.specs.Lazy.{IsKeyed}
+use Rattle.key_table.specs.Lazy.{IsKeyed}
 use Rattle.regions.specs.Contents.{live_at}
 use Rattle.row_cache.specs.Rows.{key_at}
 use Rattle.row_cache.specs.inside.Tables as tables
@@ -11,7 +11,7 @@ pub invariant_of-self : goal.invariant_of-self
 invariant_of-self c =
     let i = c.self.invariant in let t : tables.TableState = the_view c.self.inside in
     let u : tables.TableState = record t { room = c.settle.new.self.room; index = c.settle.new.self } in
-    (numbers_settled t u i.0 c.settle.ensures.room refl refl refl c.settle.ensures.room c.settle.ensures.rows, omega (arith, i.1, c.settle.ensures.room), omega (arith, i.2, c.settle.ensures.room))
+    (numbers_settled t u i.0 c.settle.ensures.room refl refl refl c.settle.ensures.room c.settle.ensures.rows c.settle.ensures.moved, omega (arith, i.1, c.settle.ensures.room), omega (arith, i.2, c.settle.ensures.room))
 
 pub returns-clause-tables : goal.returns-clause-tables
 returns-clause-tables c =

@@ -37,7 +37,7 @@ relocate-requires-clause-row c =
     record { item = h.0; is = h.3; number = m.n; row = m.row; is_row = m.is_row }
 
 pub relocate-requires-clause-room : goal.relocate-requires-clause-room
-relocate-requires-clause-room c = (c.segment_fits.ensures, c.number_at-number.ensures.inside)
+relocate-requires-clause-room c = (c.number_at-number.ensures.fits, c.number_at-number.ensures.inside)
 
 pub relocate-requires-clause-same : goal.relocate-requires-clause-same
 relocate-requires-clause-same c = (let h = c.requires.copied in h.3 ∙ sym h.2)

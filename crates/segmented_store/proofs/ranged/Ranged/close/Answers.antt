@@ -1,6 +1,6 @@
 use Rattle.std.proofs.Common.{ap, refl, ◌∙◌}
 use Rattle.regions.specs.Shapes.{Identity, held_count}
-use Rattle.mode_lemmas.proofs.Ranges.{last_piece, last_contained, one_less}
+use Rattle.place_lemmas.proofs.Ranges.{last_piece, last_contained, one_less}
 use Rattle.segmented_store.proofs.ranged.Ranged.close.Goals as goal
 
 pub put-requires-clause-home : goal.put-requires-clause-home

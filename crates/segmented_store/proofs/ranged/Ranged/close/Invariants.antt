@@ -1,7 +1,7 @@
 -- The first segments are held still.
 use Rattle.regions.specs.Shapes.{guards_of, held_count}
 use Rattle.std.proofs.Common.{◌≡◌}
-use Rattle.mode_lemmas.specs.Ranges.{HoldsFirst}
+use Rattle.place_lemmas.specs.Ranges.{HoldsFirst}
 use Rattle.segmented_store.proofs.ranged.Ranged.close.Given as goal
 
 abbrev pub invariant-loop-piece : goal.invariant-loop-piece

@@ -2,7 +2,7 @@ use Rattle.std.proofs.Common.{◌/◌, ap, ◌∙◌}
 use Rattle.layout.specs.Sizes.{segment_pages}
 use Rattle.regions.specs.Segments.{RegionState}
 use Rattle.regions.specs.Shapes.{guards_of, held_count}
-use Rattle.mode_lemmas.proofs.Ranges.{none_held}
+use Rattle.place_lemmas.proofs.Ranges.{none_held}
 use Rattle.segmented_store.proofs.Unheld.{none_counted}
 use Rattle.segmented_store.proofs.ranged.Ranged.open.Goals as goal
 

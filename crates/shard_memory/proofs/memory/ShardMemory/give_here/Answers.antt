@@ -7,7 +7,8 @@ use Rattle.raw_range.specs.Memory.{Lent, extent_of}
 use Rattle.shard_memory.specs.Room.{IsTrimmed, LacksBlock, TakesObject}
 use Rattle.shard_memory.specs.Shards.{MemoryState}
 use Rattle.shard_memory.specs.inside.Lending.{staying}
-use Rattle.shard_memory.proofs.Lists.{has_first}
+use Rattle.shard_memory.proofs.Lists.{has_first, disjoint_still}
+use Rattle.shard_memory.proofs.Lending as lending
 use Rattle.shard_memory.proofs.Lending.{one_staying, given_one, same_lent}
 use Rattle.shard_memory.proofs.memory.ShardMemory.give_here.Goals as goal
 use Rattle.shard_memory.proofs.memory.ShardMemory.give_here.Goals.{After-cleared}
@@ -61,3 +62,7 @@ returns-clause-taken c =
 
 pub returns-clause-trimmed : goal.returns-clause-trimmed
 returns-clause-trimmed c = subst (λ (s : MemoryState). IsTrimmed s.room → IsTrimmed c.give_block.new.self.room) c.self.view_is c.in_ok-piece.ensures.trimmed
+
+pub returns-clause-disjoint : goal.returns-clause-disjoint
+returns-clause-disjoint c =
+    disjoint_still (lending.stays c.self.inside.seat.lent) (page * c.give_block.new.self.pages) c.give_block.new.self.blocks c.in_ok-piece.ensures.disjoint

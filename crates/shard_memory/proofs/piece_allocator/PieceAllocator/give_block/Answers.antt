@@ -1,9 +1,8 @@
-use Rattle.std.proofs.Common.{◌≡◌, ℕ, ◌+◌, ◌*◌, ◌^◌, inl, inr, ◌<◌, ◌≤◌, ◌∷◌, length, refl, sym, ap, subst, ◌∙◌, arith}
+use Rattle.std.proofs.Common.{◌≡◌, ℕ, ◌+◌, ◌*◌, ◌^◌, inl, inr, ◌<◌, ◌∷◌, length, refl, sym, ap, subst, ◌∙◌, arith}
 use Rattle.std.specs.Prelude.{Contains}
 use Rattle.std.specs.FinMap as map
 use Rattle.small_pools.specs.Classes.{size_of, order_of}
 use Rattle.small_pools.specs.Objects.{LacksObject}
-use Rattle.span_lists.specs.Layout.{HasNone, IsBlocked}
 use Rattle.layout.specs.Sizes.{page}
 use Rattle.layout.specs.Extents.{Extent, extent, Disjoint, AreDisjoint}
 use Rattle.raw_range.specs.Memory.{Memory, Lent, extent_of}
@@ -99,11 +98,8 @@ pub returns-in_default-clause-crowded : goal.returns-in_default-clause-crowded
 unfolding IsTrimmed
 returns-in_default-clause-crowded c =
     λ _. subst (λ (s : Pieces). IsTrimmed s.room → FillPages s.pages (length s.segments) (length s.blocks)) c.self.view_is
-    (λ trimmed.
-    (let none = (c.in_default.ensures.none.0 refl).1 in
-    let same = c.in_default.ensures.unchanged.1 in
-    crowded c.self.inside.range.pages (order_of c.in_ok-class.class) c.self.inside.range.allocated c.self.inside.spans c.self.inside.pools c.self.invariant.1 c.in_ok-class.ensures.bounds.order_most none
-    (subst (λ s. (o : ℕ) → o ≤ 16 → HasNone s o → IsBlocked s o) same c.facts.ensures.blocked) trimmed))
+    (λ trimmed. crowded c.self.inside.range.pages (order_of c.in_ok-class.class) c.self.inside.range.allocated c.self.inside.spans c.self.inside.pools c.self.invariant.1
+    c.in_ok-class.ensures.bounds.order_most c.in_default.ensures.blocked trimmed)
 
 pub returns-clause-pages_out : goal.returns-clause-pages_out
 returns-clause-pages_out c =

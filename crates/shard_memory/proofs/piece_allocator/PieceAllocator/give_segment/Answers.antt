@@ -2,6 +2,7 @@ use Rattle.std.proofs.Common.{◌≡◌, ◌+◌, ◌*◌, ◌/◌, ◌%◌, ◌
 use Rattle.std.specs.Prelude.{Contains}
 use Rattle.std.specs.FinMap as map
 use Rattle.common_lemmas.proofs.Maps.{get_inserted}
+use Rattle.layout.specs.Sizes.{page}
 use Rattle.layout.specs.Extents.{Extent, extent, Disjoint, AreDisjoint}
 use Rattle.raw_range.specs.Memory.{Memory, extent_of}
 use Rattle.shard_memory.specs.Shards.{FillPages}
@@ -9,7 +10,7 @@ use Rattle.shard_memory.specs.Room.{Room, LacksSegment, IsTrimmed, TakesSegment}
 use Rattle.shard_memory.specs.inside.Pieces.{Pieces}
 use Rattle.shard_memory.specs.inside.Parts.{IsConsistent, is_segment, blocks_of, segments_of}
 use Rattle.shard_memory.proofs.Counts.{pieces_enough}
-use Rattle.shard_memory.proofs.Lists.{all_of, few_pieces, has_first, kept_by, segment_is, segment_added, segment_leaves_blocks, whole_start, page_of_start}
+use Rattle.shard_memory.proofs.Lists.{all_of, few_pieces, has_first, kept_by, segment_is, segment_added, segment_leaves_blocks, disjoint_still, few_segments, whole_start, page_of_start}
 use Rattle.shard_memory.proofs.PagesOut.{pages_more}
 use Rattle.shard_memory.proofs.Steps.{inside_pages, apart_from_span, gave_segment}
 use Rattle.shard_memory.proofs.piece_allocator.PieceAllocator.give_segment.Goals as goal
@@ -74,6 +75,16 @@ returns-clause-segments c =
 
 pub returns-clause-one_more : goal.returns-clause-one_more
 returns-clause-one_more c = ap length (returns-clause-segments c) ∙ omega arith
+
+pub returns-clause-disjoint : goal.returns-clause-disjoint
+returns-clause-disjoint c = disjoint_still is_segment (page * c.segment_at.new.range.pages) c.segment_at.new.range.allocated c.segment_at.ensures.blocks
+
+pub returns-clause-few : goal.returns-clause-few
+returns-clause-few c =
+    let range = c.segment_at.new.range in let whole = c.self.invariant.1.whole in
+    let same : range.pages ≡ c.self.inside.range.pages = ap (λ (m : Memory). m.pages) c.segment_at.ensures.allocated in
+    let few = few_segments (range.pages / 32) (4096 * range.pages) range.allocated c.segment_at.ensures.blocks (omega (arith, whole, same)) in
+    omega (arith, few, whole, same)
 
 pub returns-clause-blocks : goal.returns-clause-blocks
 returns-clause-blocks c = (

@@ -34,7 +34,10 @@ do_here-requires g c κs =
       (refl, tt),
       (
         now_consistent self now same x,
-        (number, now_next self now same x (number, c.in-Some.doer) c.in-Some.ensures.some ∙ ap (λ q. Some (number, q)) c.if-doer-self-2.true),
+        (
+          (number, now_next self now same x (number, c.in-Some.doer) c.in-Some.ensures.some ∙ ap (λ q. Some (number, q)) c.if-doer-self-2.true),
+          c.facts.ensures.tickets,
+        ),
       ),
     )
 
@@ -59,10 +62,13 @@ ask-requires g c κs =
                 c.if-doer-self-2.false,
                 (
                   now_below self now same x doer c.in-Some.ensures.below,
-                  elim c.else-doer-self.branch [
-                    | else-doer-self-via-then-doer-self+else-not-is_idle w ↦ subst (λ s. HasIdle s.store.lent Request) (sym same) (w.is_idle.ensures.0 w.if-not-is_idle.false)
-                    | else-doer-self-via-else-doer-self w ↦ absurd (c.if-doer-self-2.false (w.if-doer-self.false ∙ sym (ap (λ s. s.shard) same)))
-                  ],
+                  (
+                    elim c.else-doer-self.branch [
+                      | else-doer-self-via-then-doer-self+else-not-is_idle w ↦ subst (λ s. HasIdle s.store.lent Request) (sym same) (w.is_idle.ensures.idle.0 w.if-not-is_idle.false)
+                      | else-doer-self-via-else-doer-self w ↦ absurd (c.if-doer-self-2.false (w.if-doer-self.false ∙ sym (ap (λ s. s.shard) same)))
+                    ],
+                    c.facts.ensures.tickets,
+                  ),
                 ),
               ),
             ),

@@ -4,7 +4,7 @@ use Rattle.std.specs.Vec.{with_items}
 use Rattle.std.proofs.lemmas.List.Sums.{count_by-le-length}
 use Rattle.layout.specs.Sizes.{tickets}
 use Rattle.trace_text.specs.Operation.{operation}
-use Rattle.trace_text.specs.Parsed.{AreNumbered, Parsed}
+use Rattle.trace_text.specs.Parsed.{Parsed}
 use Rattle.rows.specs.Spelled.{spelled}
 use Rattle.shard_memory.specs.Tickets.{tickets_out}
 use Rattle.rows.specs.Operations.{numbered}
@@ -12,6 +12,7 @@ use Rattle.shard_node.specs.inside.Parts.{DoesPart}
 use Rattle.shard_node.proofs.Requests.Askable.{part_of_operation}
 use Rattle.shard_node.proofs.OwnParts.OwnDone.{own_done, own_fits}
 use Rattle.shard_node.proofs.OwnParts.OwnLog.{next-is-left, operation-there}
+use Rattle.shard_node.proofs.Standing.Counted.{home_counted}
 use Rattle.shard_node.proofs.Standing.PeerPairs.{pairs_same}
 use Rattle.std.proofs.lemmas.List.{length-append}
 use Rattle.cache_model.specs.Legal.{done}
@@ -25,6 +26,8 @@ use Rattle.part_lemmas.proofs.OwnParts.BegunParts.{operation-of}
 use Rattle.shard_node.specs.Due.{operations_for}
 use Rattle.shard_node.specs.inside.Shards.{issued_by}
 use Rattle.part_lemmas.proofs.OwnParts.LogPlaces.{place_at}
+use Rattle.cache_lemmas.proofs.Laws.{replies_hold_what_was_put-part, a_journal_goes_on-leads, a_journal_goes_on-replied, a_journal_goes_on-evicts, evictions_in_turn_are_legal-legal, evictions_in_turn_are_legal-above, a_journal_goes_on-kept, a_journal_goes_on-number, issued_parts_are_counted-peer}
+use Rattle.row_lemmas.proofs.Laws.{evictions_are_counted-count}
 use Rattle.shard_node.proofs.shard.Shard.do_here.Goals as goal
 use Rattle.shard_node.proofs.Replies.Logged.{get_first}
 
@@ -40,9 +43,12 @@ do_part-requires-clause-fits g c =
     let first : self.here.left ≡ operation trace.bytes command ∷ drop 1 self.here.left =
     subst (λ (t : Parsed). self.here.left ≡ operation t.bytes command ∷ drop 1 self.here.left) x.own.here_trace c.in-Some.ensures.some in
     let there : Contains trace.commands command = subst (λ (t : Parsed). Contains t.commands command) x.own.here_trace c.in-Some.ensures.of_trace in
-    let room = own_fits c.replies_hold_what_was_put.ensures.part self (operation trace.bytes command) x c.commands.ensures.well_formed (operation-there trace command there) first in
+    let room = own_fits replies_hold_what_was_put-part self (operation trace.bytes command) x x.formed (operation-there trace command there) first in
     let same = ap (λ part. length (spelled part.1).1) (c.operation_of-operation.ensures.same self.store.rows) in
     omega (arith, room, same)
+
+pub do_part-requires-clause-counted : goal.do_part-requires-clause-counted
+do_part-requires-clause-counted g c = c.requires.consistent.counted.backs
 
 pub pass-requires-2 : goal.pass-requires-2
 pass-requires-2 g c = next-is-left c.args.self.now (c.requires.next.0, c.args.self.now.shard) c.requires.consistent c.requires.next.1
@@ -58,10 +64,10 @@ returns g c =
     subst (λ (t : Parsed). self.here.left ≡ operation t.bytes command ∷ drop 1 self.here.left) x.own.here_trace c.in-Some.ensures.some in
     let there : Contains trace.commands command = subst (λ (t : Parsed). Contains t.commands command) x.own.here_trace c.in-Some.ensures.of_trace in
     let does : DoesPart self.own.begun op self.store c.do_part.new.store self.journal c.do_part.new.journal self.log c.do_part.new.log =
-    subst (λ part. DoesPart part op self.store c.do_part.new.store self.journal c.do_part.new.journal self.log c.do_part.new.log) c.begun-part.ensures
+    subst (λ part. DoesPart part op self.store c.do_part.new.store self.journal c.do_part.new.journal self.log c.do_part.new.log) c.begun-part.ensures.value
     (part_of_operation (numbered command.number c.operation_of-operation.result) op c.operation_of-operation.ensures.asked c.operation_of-operation.ensures.same c.begun-part.result self.store c.do_part.new.store self.journal c.do_part.new.journal self.log c.do_part.new.log c.do_part.ensures) in
     let out : tickets_out self.store.lent ≤ tickets =
-    (let all = count_by-le-length is_some self.store.lent in let many = c.facts.ensures.tickets in omega (arith, all, many)) in
+    (let all = count_by-le-length is_some self.store.lent in let many = c.requires.many in omega (arith, all, many)) in
     let traffic = g.L.Link.traffic in
     let works = c.do_part.ensures.works in
     let more : length (done c.do_part.new.journal.entries) ≡ length (done self.journal.entries) + 1 =
@@ -69,24 +75,24 @@ returns g c =
     record {
       step = own_done g.L.Link.traffic g.L.Link.end
           (record {
-            leads = c.a_journal_goes_on.ensures.leads;
-            replied = c.a_journal_goes_on.ensures.replied;
-            evicts = c.a_journal_goes_on.ensures.evicts;
-            legal = c.evictions_in_turn_are_legal.ensures.legal;
-            above = c.evictions_in_turn_are_legal.ensures.above;
+            leads = a_journal_goes_on-leads;
+            replied = a_journal_goes_on-replied;
+            evicts = a_journal_goes_on-evicts;
+            legal = evictions_in_turn_are_legal-legal;
+            above = evictions_in_turn_are_legal-above;
           })
-          c.a_journal_goes_on.ensures.kept c.a_journal_goes_on.ensures.number c.issued_parts_are_counted.ensures.peer
-          c.replies_hold_what_was_put.ensures.part c.evictions_are_counted.ensures.count
+          a_journal_goes_on-kept a_journal_goes_on-number issued_parts_are_counted-peer
+          replies_hold_what_was_put-part evictions_are_counted-count
           self c.do_part.new.store c.do_part.new.journal c.do_part.new.log (with_items self.keys c.do_part.new.keys) c.pass-2.new.self c.pass.new.self c.requires.next.0 op x
           (record {
-            are_formed = c.commands.ensures.well_formed;
-            are_numbered = subst (λ commands. AreNumbered commands) c.commands.ensures.value c.commands.ensures.numbered;
+            are_formed = x.formed;
+            are_numbered = x.read.spelled.numbered;
             of_trace = operation-there trace command there;
             next = c.requires.next.1;
             first = first;
             few = out;
             does = does;
-            out = c.facts-2.ensures.lends;
+            counted = home_counted self.store c.do_part.new.store c.do_part.ensures.came x.counted;
             buffer = refl;
             own_trace = c.pass-2.ensures.trace;
             own_shard = c.pass-2.ensures.shard;
@@ -100,7 +106,7 @@ returns g c =
       goes = record {
         peers = pairs_same _ _ (λ k a. goes_same traffic a);
         done = omega (arith, more);
-        backs = home_more self.store.lent c.do_part.new.store.lent self.store.backs c.do_part.new.store.backs c.facts.ensures.backs c.do_part.ensures.came.home;
+        backs = home_more self.store.lent c.do_part.new.store.lent self.store.backs c.do_part.new.store.backs x.counted.backs c.do_part.ensures.came.home;
         looks = c.do_part.ensures.came.looks;
         tally = no_more self.tally;
       };
@@ -113,7 +119,7 @@ pub returns-in_default-clause-done : goal.returns-in_default-clause-done
 returns-in_default-clause-done g c =
     let self = c.args.self.now in
     let x = c.requires.consistent in
-    let of = operation-of c.issued_parts_are_counted.ensures.peer (trace_in self.trace.now) self.shards self.shard self.shard self.own.begun c.requires.next.0 x.within c.requires.next.1 in
+    let of = operation-of issued_parts_are_counted-peer (trace_in self.trace.now) self.shards self.shard self.shard self.own.begun c.requires.next.0 x.within c.requires.next.1 in
     let none : slice_get self.here.left 0 ≡ None = ap (λ l. slice_get l 0) c.in_default.ensures.none in
     let some : slice_get self.here.left 0 ≡ Some of.0 = ap (λ l. slice_get l 0) x.own.here ∙ (get_first (operations_for (trace_in self.trace.now) self.shards self.shard self.shard) (place_at self.shard (issued_by self) self.own.begun) ∙ of.1) in
     absurd (no_operation of.0 (sym none ∙ some))

@@ -5,6 +5,7 @@ use Rattle.shard_node.proofs.Standing.Opened.{IsOpened, opens-consistent}
 use Rattle.part_lemmas.proofs.OwnParts.OpenedPeers.{all-of}
 use Rattle.shard_node.proofs.Standing.OpenedStands.{opens-standing}
 use Rattle.shard_node.proofs.shard.Shard.open.Given.{Over}
+use Rattle.cache_lemmas.proofs.Laws.{issued_parts_are_counted-count, issued_parts_are_counted-peer}
 use Rattle.shard_node.proofs.shard.Shard.open.Goals as goal
 
 -- the shard, of so many
@@ -33,6 +34,7 @@ made g c = made_of g c c.shards-shards.result
 
 opened_of : (g : Over) (c : goal.After-new-2 g) → IsOpened g.L.Link.traffic (made_of g c c.args.trace.now.shards)
 opened_of g c = record {
+  read = c.shards-shards.ensures.consistent;
   parsed_for = refl;
   within = c.requires.within;
   of_shard = c.in-Ok-open.ensures.numbers.0;
@@ -66,8 +68,8 @@ opened g c = subst (λ n. IsOpened g.L.Link.traffic (made_of g c n)) (sym c.shar
 
 pub returns-clause-consistent : goal.returns-clause-consistent
 returns-clause-consistent g c =
-    opens-consistent g.L.Link.traffic (made g c) (opened g c) c.issued_parts_are_counted.ensures.count c.issued_parts_are_counted.ensures.peer c.commands.ensures.well_formed
+    opens-consistent g.L.Link.traffic (made g c) (opened g c) issued_parts_are_counted-count issued_parts_are_counted-peer c.shards-shards.ensures.well_formed
 
 pub returns-clause-standing : goal.returns-clause-standing
 returns-clause-standing g c =
-    opens-standing g.L.Link.traffic (made g c) (opened g c) c.issued_parts_are_counted.ensures.count c.issued_parts_are_counted.ensures.peer c.commands.ensures.well_formed
+    opens-standing g.L.Link.traffic (made g c) (opened g c) issued_parts_are_counted-count issued_parts_are_counted-peer c.shards-shards.ensures.well_formed

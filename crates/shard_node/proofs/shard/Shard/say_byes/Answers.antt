@@ -11,6 +11,7 @@ use Rattle.shard_node.specs.inside.Moves.{packets_by_all}
 use Rattle.shard_node.proofs.Turning.PeerGoes.{bye_goes}
 use Rattle.shard_node.proofs.Turning.HeldUps.{bye_waits}
 use Rattle.shard_node.proofs.Turning.StepGoes.{all_none, all_so, no_more}
+use Rattle.cache_lemmas.proofs.Laws.{issued_parts_are_counted-peer}
 use Rattle.shard_node.proofs.shard.Shard.say_byes.Goals as goal
 
 pub returns-then-is_none-2 : goal.returns-then-is_none-2
@@ -24,7 +25,7 @@ returns-then-is_none-2 g c =
     let says : Each (SaysBye traffic g.L.Link.end) shard.peers.items (with_items shard.peers peers).items =
     subst (Each (SaysBye traffic g.L.Link.end) shard.peers.items) (sym is) (subst (λ ps. Each (SaysBye traffic g.L.Link.end) ps peers) old c.say_byes.ensures.each) in
     record {
-      step = says_byes g.L.Link.traffic g.L.Link.end c.issued_parts_are_counted.ensures.peer shard (with_items shard.peers peers)
+      step = says_byes g.L.Link.traffic g.L.Link.end issued_parts_are_counted-peer shard (with_items shard.peers peers)
           (ap length is ∙ (c.say_byes.auto.peers ∙ ap length old))
           (subst (Each (SaysBye g.L.Link.traffic g.L.Link.end) shard.peers.items) (sym is)
           (subst (λ ps. Each (SaysBye g.L.Link.traffic g.L.Link.end) ps peers) old c.say_byes.ensures.each))

@@ -6,6 +6,7 @@ use Rattle.shard_node.specs.Due.{operations_for}
 use Rattle.shard_parts.specs.Peers.{peer_state}
 use Rattle.shard_node.specs.inside.Shards.{HasCursors}
 use Rattle.shard_node.specs.inside.Steps.{IsStep}
+use Rattle.shard_node.proofs.OwnParts.OwnLog.{few-begun}
 use Rattle.shard_node.proofs.Standing.PeerPairs.{one_pair, one_pair_in}
 use Rattle.shard_node.proofs.Requests.SendsRequest.{at_place, few_owed, goes_elsewhere, request_sent, request_waits}
 use Rattle.shard_node.proofs.Replies.TakesReplies.{same_all}
@@ -28,9 +29,9 @@ overflow_add-asked g c =
     let same : waiting.peer ≡ old.shard = sym at.1 ∙ ap (λ p. p.shard) here in
     let cursors : HasCursors self old = subst (HasCursors self) here (x.cursors c.place_of-at.result old at.0) in
     let all = ap length (same_all self x old.answers cursors.answers_trace cursors.answers_origin ∙ ap (operations_for (trace_in self.trace.now) self.shards self.shard) cursors.answers_shard) in
-    let before = c.facts-2.ensures.before in
+    let before = c.facts.ensures.before in
     let owed = few_owed self x c.place_of-at.result old waiting at.0 here is same (omega (arith, all, before)) in
-    let few = c.facts.ensures.few in
+    let few = few-begun self x in
     omega (arith, owed, few)
 
 pub returns-in-Some-send : goal.returns-in-Some-send

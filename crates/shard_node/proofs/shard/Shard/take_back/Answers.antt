@@ -11,12 +11,12 @@ returns g c =
     let self = c.args.self.now in
     let store = c.take_back.new.self in
     record {
-      step = takes_back traffic g.L.Link.end self store c.take_back.ensures.same c.facts-2.ensures.lends c.requires;
+      step = takes_back traffic g.L.Link.end self store c.take_back.ensures.same c.take_back.ensures.taken c.requires;
       received = λ lane. pairs_same _ _ (λ k a. (refl, refl));
       goes = record {
         peers = pairs_same _ _ (λ k a. goes_same traffic a);
         done = omega arith;
-        backs = home_more self.store.lent store.lent self.store.backs store.backs c.facts.ensures.backs c.take_back.ensures.taken.home;
+        backs = home_more self.store.lent store.lent self.store.backs store.backs c.requires.counted.backs c.take_back.ensures.taken.home;
         looks = c.take_back.ensures.taken.looks;
         tally = no_more self.tally;
       };

@@ -29,6 +29,9 @@ returns-in_default-read_expected-clause-ends g c =
 pub reply-requires-clause-askable : goal.reply-requires-clause-askable
 reply-requires-clause-askable g c = subst IsAskable (sym c.in-Some-read_expected.ensures.same) c.operation_of-expected.ensures.askable
 
+pub reply-requires-clause-within : goal.reply-requires-clause-within
+reply-requires-clause-within g c = c.requires.within
+
 pub reply-requires-clause-room : goal.reply-requires-clause-room
 reply-requires-clause-room g c = λ put.
     let old = c.args.peer.now in

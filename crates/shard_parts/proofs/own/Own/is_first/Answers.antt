@@ -1,6 +1,7 @@
 use Rattle.std.proofs.Common.{refl, sym, ◌∙◌}
 use Rattle.shard_parts.proofs.OwnNext.{first-of-other, first-of-scan, none-behind}
 use Rattle.part_lemmas.proofs.Cursors.Places.{no_operation}
+use Rattle.cache_lemmas.proofs.Laws.{issued_parts_are_counted-count}
 use Rattle.shard_parts.proofs.own.Own.is_first.Goals as goal
 use Rattle.shard_parts.proofs.own.Own.is_first.Goals.{else-self-commands-via-then-self-commands+else-is_scan, else-self-commands-via-else-self-commands}
 
@@ -10,12 +11,12 @@ returns-then-is_scan c =
     let within = rw value at c.if-self-commands.true in
     let scan = sym (c.is_scan.ensures no_operation) ∙ c.if-is_scan.true in
     rw (← c.self.view_is)
-    (first-of-scan c.issued_parts_are_counted.ensures.count _ _ _ _ _ _ (rw value at c.commands-commands.ensures.numbered) c.self.invariant within scan)
+    (first-of-scan issued_parts_are_counted-count _ _ _ _ _ _ (rw value at c.commands-commands.ensures.numbered) c.self.invariant within scan)
 
 pub returns-else-self-commands : goal.returns-else-self-commands
 returns-else-self-commands c part next =
     let value = c.commands-commands.ensures.value in
-    let counted = c.issued_parts_are_counted.ensures.count in
+    let counted = issued_parts_are_counted-count in
     let there = rw (← c.self.view_is) at next in
     let stands = c.self.invariant in
     rw (← c.self.view_is)

@@ -4,6 +4,7 @@ use Rattle.rows.specs.Operation.{Operation}
 use Rattle.trace_text.specs.Parts.{has_part}
 use Rattle.shard_parts.proofs.OwnNext.{all-begun, next-in-log}
 use Rattle.part_lemmas.proofs.Cursors.Places.{no_command, no_operation, operation-at}
+use Rattle.cache_lemmas.proofs.Laws.{issued_parts_are_counted-count}
 use Rattle.shard_parts.proofs.own.Own.next.Goals as goal
 
 pub returns-then-self-commands-clause-some : goal.returns-then-self-commands-clause-some
@@ -12,7 +13,7 @@ returns-then-self-commands-clause-some c =
     let within = rw value at c.if-self-commands.true in
     let trace = c.self.inside.trace.now in
     rw (← c.self.view_is, value)
-    (next-in-log c.issued_parts_are_counted.ensures.count _ _ _ _ _ _ no_operation (rw value at c.commands-commands.ensures.numbered) c.self.invariant within
+    (next-in-log issued_parts_are_counted-count _ _ _ _ _ _ no_operation (rw value at c.commands-commands.ensures.numbered) c.self.invariant within
     ∙ ap (λ (x : Operation). Some (x.number, c.self.inside.next.to)) (operation-at trace.bytes trace.commands c.self.inside.next.at no_command no_operation within))
 
 pub returns-then-self-commands-clause-of_trace : goal.returns-then-self-commands-clause-of_trace
@@ -32,4 +33,4 @@ returns-then-self-commands-clause-has_part c =
 pub returns-else-self-commands-clause-none : goal.returns-else-self-commands-clause-none
 returns-else-self-commands-clause-none c =
     rw (← c.self.view_is)
-    (all-begun c.issued_parts_are_counted.ensures.count _ _ _ _ _ _ c.self.invariant (rw c.commands-commands.ensures.value at c.if-self-commands.false))
+    (all-begun issued_parts_are_counted-count _ _ _ _ _ _ c.self.invariant (rw c.commands-commands.ensures.value at c.if-self-commands.false))

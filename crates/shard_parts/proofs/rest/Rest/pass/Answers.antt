@@ -17,8 +17,8 @@ returns-clause-rises c some =
     ∙ (ap (λ o. operations_for (trace_in old.trace) old.trace.shards o new.shard) c.pass_on.ensures.origin ∙ ap (operations_for (trace_in old.trace) old.trace.shards old.origin) c.pass_on.ensures.shard) in
     let count : count_by (λ (part : ℕ × ℕ). part.1 == new.shard) (take new.part (log_of new)) ≡ count_by (λ (part : ℕ × ℕ). part.1 == old.shard) (take new.part (log_of old)) =
     ap (λ s. count_by (λ (part : ℕ × ℕ). part.1 == s) (take new.part (log_of new))) c.pass_on.ensures.shard ∙ ap (λ l. count_by (λ (part : ℕ × ℕ). part.1 == old.shard) (take new.part l)) log in
-    let before = c.facts.ensures.before in
-    let after = c.facts-2.ensures.before in
+    let before = c.pass_on.ensures.stood in
+    let after = c.facts.ensures.before in
     let fewer = ap length c.pass_on.ensures.left in
     let one = some_dropped old.left some in
     let so_many = ap length all in

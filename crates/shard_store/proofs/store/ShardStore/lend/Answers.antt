@@ -38,4 +38,4 @@ pub returns-clause-floor : goal.returns-clause-floor
 returns-clause-floor g c =
     let a = c.self.inside.memory in let b = c.find_block.new.memory in
     subst (λ (s : StoreState). floor_of s.pages s.lent ≤ pressure b.pages b.lent) c.self.view_is
-    (floor-below c.args.share c.args.size a b c.find_block.result c.find_block.ensures.given c.self.invariant.made.are_pages c.facts.ensures.tickets)
+    (floor-below c.args.share c.args.size a b c.find_block.result c.find_block.ensures.given c.self.invariant.made.are_pages c.self.invariant.made.counted.tickets)

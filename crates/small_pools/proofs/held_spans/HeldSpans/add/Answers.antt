@@ -1,7 +1,7 @@
 use Rattle.std.proofs.Common.{◌≡◌, ◌+◌, ◌^◌, ◌<◌, ◌≤◌, ◌⊎◌, inl, inr, ℕ, Option, Some, List, length, get_or, set, sym, subst, ap, ◌∙◌, arith}
 use Rattle.std.proofs.lemmas.Nat.{pow_pos}
 use Rattle.std.specs.FinMap as map
-use Rattle.lazy_table.specs.Table.{Table}
+use Rattle.index_lists.specs.Table.{Table}
 use Rattle.small_pools.specs.Classes.{order_of}
 use Rattle.small_pools.specs.Objects.{Objects, IsHeld}
 use Rattle.small_pools.proofs.Tables.{are_objects, IsOwned}

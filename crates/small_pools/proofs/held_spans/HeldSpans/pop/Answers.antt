@@ -6,7 +6,7 @@ use Rattle.common_lemmas.proofs.Maps.{get_inserted}
 use Rattle.small_pools.specs.Objects.{Objects, slot_place}
 use Rattle.small_pools.proofs.Tables.{are_objects}
 use Rattle.small_pools.proofs.Steps.{same_fields, held_at, first_below, written_still, has_free, stands_with_room, popped, place_fits}
-use Rattle.lazy_table.specs.Table.{Table}
+use Rattle.index_lists.specs.Table.{Table}
 use Rattle.small_pools.proofs.held_spans.HeldSpans.pop.Goals as goal
 
 pub get_written-before-requires : goal.get_written-before-requires

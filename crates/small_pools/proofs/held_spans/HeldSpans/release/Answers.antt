@@ -3,7 +3,7 @@ use Rattle.std.specs.FinMap as map
 use Rattle.small_pools.specs.Objects.{Objects, slot_place}
 use Rattle.small_pools.proofs.Tables.{are_objects}
 use Rattle.small_pools.proofs.Steps.{same_fields, held_at, first_below, written_still, stands_by_mask, pushed}
-use Rattle.lazy_table.specs.Table.{Table}
+use Rattle.index_lists.specs.Table.{Table}
 use Rattle.small_pools.proofs.held_spans.HeldSpans.release.Goals as goal
 
 pub get_written-before-requires : goal.get_written-before-requires

@@ -3,7 +3,7 @@ use Rattle.std.specs.FinMap as map
 use Rattle.small_pools.specs.Objects.{Objects}
 use Rattle.small_pools.proofs.Tables.{are_objects}
 use Rattle.small_pools.proofs.Steps.{same_fields, held_at, first_below, written_without, stands_by_mask, dropped}
-use Rattle.lazy_table.specs.Table.{Table}
+use Rattle.index_lists.specs.Table.{Table}
 use Rattle.small_pools.proofs.held_spans.HeldSpans.remove.Goals as goal
 
 pub get_written-mask-requires : goal.get_written-mask-requires

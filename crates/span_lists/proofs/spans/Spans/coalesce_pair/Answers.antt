@@ -1,6 +1,6 @@
 use Rattle.std.proofs.Common.{◌≡◌, ◌+◌, length, set, ap, ◌∙◌, arith}
 use Rattle.std.proofs.Math.ListN.{length-set}
-use Rattle.lazy_table.specs.Table.{Table}
+use Rattle.index_lists.specs.Table.{Table}
 use Rattle.span_lists.specs.declared.spans.PageState.{PageState}
 use Rattle.span_lists.specs.declared.spans.PageState.TheVariants.{Allocated}
 use Rattle.span_lists.proofs.Views.{layout_of, pair_coalesced, divides_of, coalesced_of}

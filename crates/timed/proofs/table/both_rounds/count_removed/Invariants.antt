@@ -1,4 +1,4 @@
-use Rattle.lazy_index.specs.Lazy.{IsLazyOf}
+use Rattle.key_table.specs.Lazy.{IsLazyOf}
 use Rattle.timed.specs.TableArena.{has_row, key_of}
 use Rattle.timed.proofs.table.both_rounds.count_removed.Given as goal
 

@@ -1,0 +1,14 @@
+pub mod Along
+pub mod Bodies
+pub mod Distinct
+pub mod Evictions
+pub mod Holds
+pub mod Journals
+pub mod Laws
+pub mod Logged
+pub mod OneShard
+pub mod OwnParts
+pub mod Printed
+pub mod ReadBack
+pub mod RowLaws
+pub mod TextLines

@@ -1,3 +1,0 @@
-pub mod Late
-pub mod Lazy
-pub mod inside

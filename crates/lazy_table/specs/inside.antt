@@ -1,2 +1,0 @@
--- Words that only the private functions cite.
-pub mod Entries

@@ -1,0 +1,12 @@
+//! A row as it comes.
+
+/// A row as it comes: a key, its value and the number of the put.
+#[derive(Clone, Copy)]
+pub struct NewRow<'a> {
+    /// The key.
+    pub key: &'a [u8],
+    /// The value.
+    pub value: &'a [u8],
+    /// The number of the put.
+    pub number: u32,
+}

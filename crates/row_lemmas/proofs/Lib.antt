@@ -1,0 +1,9 @@
+pub mod Distinct
+pub mod Fitting
+pub mod Holding
+pub mod InTurn
+pub mod KeyBodies
+pub mod KeyOrder
+pub mod Laws
+pub mod Looked
+pub mod Rising

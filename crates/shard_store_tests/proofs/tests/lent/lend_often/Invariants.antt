@@ -1,5 +1,0 @@
-use Rattle.shard_store.specs.Stores.{IsSameStore, RowsStay}
-use Rattle.shard_store_tests.proofs.tests.lent.lend_often.Given as goal
-
-abbrev pub invariant-loop : goal.invariant-loop
-invariant-loop l = RowsStay l.initial.store l.store × IsSameStore l.initial.store l.store
