@@ -6,17 +6,34 @@ shard in the order of their use.
 import bisect
 
 BASIS, PRIME, MODULUS = 0xCBF29CE484222325, 0x100000001B3, 2**64
-DENSE, SEGMENT_PAGES, TICKETS, OVERHEAD = 118_776, 32, 32, 40
+DENSE, SEGMENT_PAGES, TICKETS, OVERHEAD, TABLES = 118_776, 32, 32, 40, 8
+
+
+def is_in_tables(trace):
+    """Whether a trace's bytes are of version 2, as their first line says then: each command names a table."""
+    return trace.split(b"\n", 1)[0].removesuffix(b"\r") == b"version 2"
+
+
+def regions_of(trace):
+    """In how many regions the rows of a shard stand: one for each table in version 2, else one."""
+    return TABLES if is_in_tables(trace) else 1
 
 
 def commands_of(trace):
-    """The commands of a trace's bytes, each as a list of its fields: a kind, a key and what follows."""
-    lines = (line.removesuffix(b"\r") for line in trace.split(b"\n"))
-    return [line.split(b" ", 2) for line in lines if line and not line.startswith(b"#")]
+    """The commands of a trace's bytes, each as a list of its fields: a kind, a key and what follows.
+
+    A key is the number of a table and bytes. In version 1 all are of table 0.
+    """
+    lines = [line.removesuffix(b"\r") for line in trace.split(b"\n")]
+    if is_in_tables(trace):
+        fields = (line.split(b" ", 3) for line in lines[1:] if line and not line.startswith(b"#"))
+        return [[word, (int(table), key), *rest] for word, table, key, *rest in fields]
+    fields = (line.split(b" ", 2) for line in lines if line and not line.startswith(b"#"))
+    return [[word, (0, key), *rest] for word, key, *rest in fields]
 
 
 def owner_of(key, shards):
-    """The shard that keeps a key: its FNV-1a hash of 64 bits modulo their number."""
+    """The shard that keeps the rows of a key's bytes: their FNV-1a hash of 64 bits modulo the number of shards."""
     hashed = BASIS
     for byte in key:
         hashed = (hashed ^ byte) * PRIME % MODULUS
@@ -28,13 +45,16 @@ def size_of(key, value):
     return (OVERHEAD + len(key) + len(value) + 7) // 8 * 8
 
 
-def bound_of(shards, pages):
-    """Up to so many live bytes no row goes: where no block can be lent, those of all segments but one."""
-    return (pages // SEGMENT_PAGES - (1 if shards == 1 else TICKETS + 2)) * DENSE
+def bound_of(shards, pages, regions=1):
+    """Up to so many live bytes no row goes: where no block can be lent, those of all segments but one for each region."""
+    return (pages // SEGMENT_PAGES - (regions if shards == 1 else TICKETS + 1 + regions)) * DENSE
 
 
 class Cache:
-    """The rows of a shard by the order of use, the one used longest ago first (LRU), and their keys in order."""
+    """The rows of a shard by the order of use, the one used longest ago first (LRU), and their keys in order.
+
+    A key is a table's number and bytes, and one order of use holds for all tables.
+    """
 
     def __init__(self):
         self.rows, self.keys, self.live = {}, [], 0
@@ -62,16 +82,16 @@ class Cache:
         return self.take(key)[1]
 
     def scan(self, key, count):
-        """The first keys from this one on, at most so many."""
+        """The bytes of the first keys of its table from this one on, at most so many."""
         at = bisect.bisect_left(self.keys, key)
-        return self.keys[at:at + count]
+        return [text for table, text in self.keys[at:at + count] if table == key[0]]
 
     def do(self, number, command):
         """The reply to a put, a get or an erase."""
         word, key = command[:2]
         row = self.take(key)
         if word == b"put":
-            self.put(key, (command[2], number, size_of(key, command[2])))
+            self.put(key, (command[2], number, size_of(key[1], command[2])))
             if not row:
                 bisect.insort(self.keys, key)
             return b"replaced" if row else b"stored"

@@ -7,20 +7,20 @@ REPORT is what `run` or `sim` wrote of TRACE with these options; without them it
 here is the program's: the caches, the hash of a key and the sizes are those of `cache_model.py`. It goes along the
 journal of each shard with a cache and sees that each part of each command is done once, where its key belongs, the
 parts of one origin in order; that a row which goes is the one used longest ago, and goes while more bytes are live than
-a shard of so many pages may hold; that each reply is the cache's at that point, and a scan's the first keys of those
-found at all shards; and that the last lines say what the caches hold, and how many parts went to another shard or came
-from one. Every byte of the report is compared.
+a shard of so many pages may hold; that each reply is the cache's at that point, and a scan's the first keys of its
+table that were found at all shards; and that the last lines say what the caches hold, and how many parts went to
+another shard or came from one. Every byte of the report is compared. A trace may be of version 1 or 2.
 """
 import argparse
 import sys
 
-from cache_model import Cache, bound_of, commands_of, owner_of
+from cache_model import Cache, bound_of, commands_of, owner_of, regions_of
 
 
 def owners_of(commands, shards):
     """Of each command the shard that its key belongs to. None of a scan, which all do."""
-    known = {key: owner_of(key, shards) for key in {command[1] for command in commands}}
-    return [None if command[0] == b"scan" else known[command[1]] for command in commands]
+    known = {text: owner_of(text, shards) for text in {command[1][1] for command in commands}}
+    return [None if command[0] == b"scan" else known[command[1][1]] for command in commands]
 
 
 def number_in(word):
@@ -74,7 +74,7 @@ def lent_by(shard, shards, owners):
     return lent
 
 
-def check(commands, lines, shards, pages):
+def check(commands, lines, shards, pages, regions=1):
     """Checks the lines of a report, and answers at how many live bytes each row went."""
     if len(lines) != len(commands) + 2 * shards + 1 or lines[-1]:
         sys.exit("the report has more lines or fewer, or its last one does not end")
@@ -83,7 +83,7 @@ def check(commands, lines, shards, pages):
         words = lines[len(commands) + shard].split(b" ")
         if words[:2] != [b"journal", b"%d" % shard]:
             sys.exit(f"the line of the journal of shard {shard} begins otherwise")
-        cache, replies, evicted = replay(shard, shards, words[2:], commands, owners, bound_of(shards, pages))
+        cache, replies, evicted = replay(shard, shards, words[2:], commands, owners, bound_of(shards, pages, regions))
         gone += evicted
         for number, reply in replies.items():
             done[number - 1].append(reply)
@@ -108,8 +108,9 @@ def main():
     words.add_argument("--pages", type=int, default=8_192)
     given = words.parse_args()
     with open(given.trace, "rb") as trace, open(given.report, "rb") as report:
-        commands, lines = commands_of(trace.read()), report.read().split(b"\n")
-    gone = check(commands, lines, given.shards, given.pages)
+        text, lines = trace.read(), report.read().split(b"\n")
+    commands = commands_of(text)
+    gone = check(commands, lines, given.shards, given.pages, regions_of(text))
     print(f"{len(commands)} commands, {given.shards} shards, {len(gone)} evictions: as replayed")
 
 

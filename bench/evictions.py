@@ -12,7 +12,7 @@ import random
 import subprocess
 import sys
 
-from cache_model import OVERHEAD
+from cache_model import OVERHEAD, commands_of
 from check import check
 from timing import numbers, program
 
@@ -57,8 +57,8 @@ def check_presses(commands, journal):
 
 def main():
     number, count, pages, longest = numbers(__doc__, 1, 1_000_000, 1_280, 1_000)
-    commands = list(drawn_commands(number, count, pages, longest))
-    trace = b"".join(b" ".join(command) + b"\n" for command in commands)
+    trace = b"".join(b" ".join(command) + b"\n" for command in drawn_commands(number, count, pages, longest))
+    commands = commands_of(trace)
     ran = subprocess.run([program(), "run", "--pages", str(pages)], input=trace, stdout=subprocess.PIPE, check=True)
     lines = ran.stdout.split(b"\n")
     gone = check(commands, lines, 1, pages)

@@ -42,11 +42,16 @@ def run(words, source=os.devnull, sink=os.devnull):
     return Spent(usage.ru_utime + usage.ru_stime, clock, usage.ru_maxrss / 1024)
 
 
+def least(runs):
+    """The least times of some runs, and their greatest memory."""
+    processor, clock, memory = zip(*runs)
+    return Spent(min(processor), min(clock), max(memory))
+
+
 def in_turn(runs, *commands, source=os.devnull):
     """Runs commands in turn, so many times, without their output. Of each the least times and the greatest memory."""
     spent = zip(*[[run(words, source) for words in commands] for _ in range(runs)])
-    of_each = (zip(*own) for own in spent)
-    return [Spent(min(processor), min(clock), max(memory)) for processor, clock, memory in of_each]
+    return [least(own) for own in spent]
 
 
 def nanoseconds(runs, *commands, source=os.devnull):
@@ -84,13 +89,16 @@ def unproved():
     return f"{BENCH}/unproved/target/release/unproved"
 
 
-def trace_of(name):
-    """The file of a trace of traces.py, or of paths.py, made where it is missing. It has its name once it is whole."""
-    path = f"{OUT}/{name}.trace"
+def trace_of(name, tables=False):
+    """The file of a trace of traces.py, or of paths.py, made where it is missing. It has its name once it is whole.
+
+    One of traces.py may be made in version 2, with its keys in tables.
+    """
+    path = f"{OUT}/{name}.tables.trace" if tables else f"{OUT}/{name}.trace"
     if not os.path.exists(path):
         os.makedirs(OUT, exist_ok=True)
         # In a process of its own: what this one takes would be counted as each program's.
-        words = ["paths.py", "/usr", "/opt", "/var"] if name == "paths" else ["traces.py", name, f"{path}.new"]
+        words = ["paths.py", "/usr", "/opt", "/var"] if name == "paths" else ["traces.py", name, f"{path}.new", *["--tables"] * tables]
         with open(f"{path}.new", "wb") as file:
             subprocess.run([f"{BENCH}/{words[0]}", *words[1:]], stdout=file, check=True)
         os.replace(f"{path}.new", path)

@@ -1,7 +1,9 @@
 #!/usr/bin/env python3
 """Writes the traces that programs are compared on. The same arguments give the same bytes.
 
-    bench/traces.py KIND FILE [--number N] [--scale S]      S in (0, 1] cuts the numbers
+    bench/traces.py KIND FILE [--number N] [--scale S] [--tables]      S in (0, 1] cuts the numbers
+
+With --tables the same commands in version 2: the table of a key is its hash, by which it is dealt to shards, modulo 8.
 
     gen       what the program's mode `gen` makes: 100,000 commands, values of 100 to 2,000 bytes
     small     1,000,000 commands over 100,000 keys, values of 20 to 100 bytes: 50 % get, 40 % put, 9 % erase, 1 % scan
@@ -14,6 +16,8 @@
     values    a script of the mode `values`: 300 values of 1 KiB to 1 MiB, and 667 reads behind each
 """
 import argparse
+
+from cache_model import TABLES, owner_of
 
 MASK = (1 << 64) - 1
 ALPHABET = b"abcdefghijklmnopqrstuvwxyz" * 470
@@ -142,11 +146,27 @@ def values(number, scale):
 KINDS = {"gen": gen, "small": small, "manykeys": manykeys, "evict": evict, "churn": churn, "scans": scans, "puts": puts, "values": values}
 
 
-def write(kind, path, number=7, scale=1.0):
+def in_tables(lines):
+    """The same commands in version 2, each key in the table that its hash says."""
+    known = {}
+    yield b"version 2\n"
+    for line in lines:
+        word, fields = line.split(b" ", 1)
+        key = fields[:-1].split(b" ", 1)[0]
+        if key not in known:
+            known[key] = owner_of(key, TABLES)
+        yield b"%s %d %s" % (word, known[key], fields)
+
+
+def write(kind, path, number=7, scale=1.0, tables=False):
     """Writes the trace of this kind, if it is within a trace's limits."""
-    data = b"".join(KINDS[kind](number, scale))
-    lines = data.split(b"\n")[:-1]
-    greatest = max((len(line.split(b" ", 2)[2]) for line in lines if line.startswith(b"put ")), default=0)
+    if tables and kind == "values":
+        raise SystemExit("a script has no tables")
+    made = KINDS[kind](number, scale)
+    data = b"".join(in_tables(made) if tables else made)
+    lines = data.split(b"\n")[1 if tables else 0:-1]
+    behind = 3 if tables else 2
+    greatest = max((len(line.split(b" ", behind)[behind]) for line in lines if line.startswith(b"put ")), default=0)
     replies = sum(line.startswith(b"get ") for line in lines) * greatest + sum(line.startswith(b"scan ") for line in lines) * 8_272
     if len(data) > 67_108_864 or len(lines) > 1_048_576 or replies > 536_870_912:
         raise SystemExit(f"{kind}: too large")
@@ -160,8 +180,9 @@ def main():
     parser.add_argument("path")
     parser.add_argument("--number", type=int, default=7)
     parser.add_argument("--scale", type=float, default=1.0)
+    parser.add_argument("--tables", action="store_true")
     args = parser.parse_args()
-    write(args.kind, args.path, args.number, args.scale)
+    write(args.kind, args.path, args.number, args.scale, args.tables)
 
 
 if __name__ == "__main__":

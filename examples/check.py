@@ -17,6 +17,7 @@ WORDS = {
     "replaced": "run",
     "scan": "sim --shards 3 --number 7",
     "two_origins": "sim --shards 2 --number 7",
+    "tables": "run",
     "evicted": "run --pages 1280",
     "dirty": "dirty",
     "index": "index",

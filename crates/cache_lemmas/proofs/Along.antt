@@ -5,7 +5,7 @@ use Rattle.std.specs.Option.{option_map, option_and_then}
 use Rattle.std.specs.Prelude.{All}
 use Rattle.std.proofs.lemmas.List.Elements.{All-head, All-tail}
 use Rattle.rows.specs.Operation.{Operation}
-use Rattle.trace_text.specs.Trace.{Trace}
+use Rattle.trace_text.specs.Trace.{Trace, regions}
 use Rattle.cache_model.specs.declared.entry.Entry.{Entry}
 use Rattle.cache_model.specs.declared.entry.Entry.TheVariants.{Done, Evicted}
 use Rattle.rows.specs.Row.{Row}
@@ -15,7 +15,7 @@ use Rattle.cache_model.specs.Legal.{after, cache_after, cache_from, can_evict, c
 -- a fact about caches that each part of a command and each eviction keeps
 pub record IsKept (trace : Trace) (pages : ℕ) (Fact : List Row → Type 0) : Type 0 where
   pub parts : (i : ℕ) (operation : Operation) (cache : List Row) → command_of trace i ≡ Some operation → Fact cache → Fact (apply operation cache).0
-  pub evictions : (q : ℕ) (cache : List Row) → can_evict pages q cache ≡ true → Fact cache → Fact (take (length cache - 1) cache)
+  pub evictions : (q : ℕ) (cache : List Row) → can_evict pages (regions trace) q cache ≡ true → Fact cache → Fact (take (length cache - 1) cache)
 
 done-keeps : (Fact : List Row → Type 0) (o : Option Operation) (cache next : List Row)
     → ((operation : Operation) → o ≡ Some operation → Fact (apply operation cache).0)
@@ -33,7 +33,7 @@ after-keeps : (trace : Trace) (pages : ℕ) (Fact : List Row → Type 0) → IsK
 after-keeps trace pages Fact kept (Done i) cache next here e =
     done-keeps Fact (command_of trace i) cache next (λ operation is. kept.parts i operation cache is here) e
 after-keeps trace pages Fact kept (Evicted q) cache next here e =
-    evicted-keeps Fact (can_evict pages q cache) (take (length cache - 1) cache) next (λ can. kept.evictions q cache can here) e
+    evicted-keeps Fact (can_evict pages (regions trace) q cache) (take (length cache - 1) cache) next (λ can. kept.evictions q cache can here) e
 
 then-keeps : (trace : Trace) (pages : ℕ) (Fact : List Row → Type 0) (journal : List Entry) (o : Option (List Row)) (last : List Row)
     → ((next : List Row) → o ≡ Some next → Fact next)

@@ -6,7 +6,7 @@ use Rattle.std.proofs.lemmas.Bool.Decides.{nat_tests}
 use Rattle.layout.specs.Sizes.{dense}
 use Rattle.rows.specs.Evictions.{Evicts}
 use Rattle.rows.specs.Row.{is_of_put, Row, floor, live, tight_floor}
-use Rattle.trace_text.specs.Trace.{Trace}
+use Rattle.trace_text.specs.Trace.{Trace, regions}
 use Rattle.cache_model.specs.declared.entry.Entry.{Entry}
 use Rattle.cache_model.specs.declared.entry.Entry.TheVariants.{Evicted}
 use Rattle.cache_model.specs.Legal.{EvictsAbove, after, cache_after, cache_from, can_evict}
@@ -15,15 +15,15 @@ use Rattle.cache_lemmas.proofs.Journals.{evicts-more, leads}
 test-above : (floor_of bound bytes : ℕ) → floor_of ≤ bound → bound < bytes → nat_lt floor_of bytes ≡ true
 test-above floor_of bound bytes low above = grind (arith, nat_tests)
 
-can : (pages bound put : ℕ) (cache : List Row) → floor pages ≤ bound → is_of_put put (last_or None cache) ≡ true → bound < live cache
-    → can_evict pages put cache ≡ true
-can pages bound put cache low last above = rw (last, test-above (floor pages) bound (live cache) low above) refl
+can : (pages count bound put : ℕ) (cache : List Row) → floor pages count ≤ bound → is_of_put put (last_or None cache) ≡ true → bound < live cache
+    → can_evict pages count put cache ≡ true
+can pages count bound put cache low last above = rw (last, test-above (floor pages count) bound (live cache) low above) refl
 
-one-goes : (trace : Trace) (pages bound put : ℕ) (cache : List Row) → floor pages ≤ bound → is_of_put put (last_or None cache) ≡ true → bound < live cache
+one-goes : (trace : Trace) (pages bound put : ℕ) (cache : List Row) → floor pages (regions trace) ≤ bound → is_of_put put (last_or None cache) ≡ true → bound < live cache
     → after trace pages (Evicted put) cache ≡ Some (take (length cache - 1) cache)
-one-goes trace pages bound put cache low last above = rw (can pages bound put cache low last above) refl
+one-goes trace pages bound put cache low last above = rw (can pages (regions trace) bound put cache low last above) refl
 
-pub legal : (trace : Trace) (pages bound : ℕ) (cache rest : List Row) (puts : List ℕ) → Evicts bound cache puts rest → floor pages ≤ bound
+pub legal : (trace : Trace) (pages bound : ℕ) (cache rest : List Row) (puts : List ℕ) → Evicts bound cache puts rest → floor pages (regions trace) ≤ bound
     → cache_from trace pages cache (map Evicted puts) ≡ Some rest
 unfolding Evicts
 legal trace pages bound cache rest [] evicts low = ap Some (sym evicts)
@@ -32,7 +32,7 @@ legal trace pages bound cache rest (put ∷ puts) evicts low =
 
 pub above : (trace : Trace) (pages bound : ℕ) (journal : List Entry) (cache rest : List Row) (puts : List ℕ)
     → cache_after trace pages journal ≡ Some cache → EvictsAbove trace pages bound journal
-    → Evicts bound cache puts rest → floor pages ≤ bound → EvictsAbove trace pages bound (journal ++ map Evicted puts)
+    → Evicts bound cache puts rest → floor pages (regions trace) ≤ bound → EvictsAbove trace pages bound (journal ++ map Evicted puts)
 unfolding Evicts
 above trace pages bound journal cache rest [] e so_far evicts low = rw append-nil so_far
 above trace pages bound journal cache rest (put ∷ puts) e so_far evicts low =
@@ -44,5 +44,5 @@ above trace pages bound journal cache rest (put ∷ puts) e so_far evicts low =
     (above trace pages bound (journal ++ Evicted put ∷ []) (take (length cache - 1) cache) rest puts next here evicts.2 low)
 
 -- with no block lent the tight floor is not below the floor
-pub low : (pages : ℕ) → floor pages ≤ tight_floor pages 0 + dense
-low pages = omega arith
+pub low : (pages count : ℕ) → floor pages count ≤ tight_floor pages 0 count + dense
+low pages count = omega arith

@@ -10,15 +10,16 @@ use Rattle.rows.specs.Evictions.{Evicts}
 use Rattle.rows.specs.Fits.{Fits}
 use Rattle.rows.specs.Holds.{PutHolds, RowsHold, ReplyHolds}
 use Rattle.rows.specs.Spelled.{IsKey, spelled}
+use Rattle.rows.specs.Key.{Key}
 use Rattle.rows.specs.Operation.{Operation, is_scan}
 use Rattle.rows.specs.Row.{Row, floor, tight_floor}
 use Rattle.trace_text.specs.Parts.{longest_value, origin, own_parts, parts}
-use Rattle.trace_text.specs.Trace.{Trace}
+use Rattle.trace_text.specs.Trace.{Trace, regions}
 use Rattle.cache_model.specs.declared.entry.Entry.{Entry as JournalEntry}
 use Rattle.cache_model.specs.declared.entry.Entry.TheVariants.{Done, Evicted}
 use Rattle.cache_model.specs.Answer.{answer, answer_from}
 use Rattle.cache_model.specs.Bodies.{HasKeys, HasShortKeys}
-use Rattle.cache_model.specs.Holds.{PutsHold}
+use Rattle.cache_model.specs.Holds.{PutsHold, PutBytesHold, ReplyBytesHold}
 use Rattle.cache_model.specs.Legal.{EvictsAbove, cache_after, cache_from, command_of, done, is_done, reply_at}
 use Rattle.cache_model.specs.Logged.{AreLogged}
 use Rattle.cache_model.specs.ReadOff.{IsReadInLogs}
@@ -73,38 +74,41 @@ a_journal_goes_on-number i journal = number_is_done i journal
 -- Evictions in turn above a bound that is at least the floor are legal, and stand above the bound in the journal that
 -- they go on from.
 pub evictions_in_turn_are_legal-legal : (trace : Trace) (pages bound : ℕ) (cache rest : List Row) (puts : List ℕ)
-    → Evicts bound cache puts rest → floor pages ≤ bound → cache_from trace pages cache (map Evicted puts) ≡ Some rest
+    → Evicts bound cache puts rest → floor pages (regions trace) ≤ bound → cache_from trace pages cache (map Evicted puts) ≡ Some rest
 evictions_in_turn_are_legal-legal trace pages bound cache rest puts evicts at_least = legal trace pages bound cache rest puts evicts at_least
 
 pub evictions_in_turn_are_legal-above : (trace : Trace) (pages bound : ℕ) (journal : List JournalEntry) (cache rest : List Row) (puts : List ℕ)
     → cache_after trace pages journal ≡ Some cache → EvictsAbove trace pages bound journal
-    → Evicts bound cache puts rest → floor pages ≤ bound → EvictsAbove trace pages bound (journal ++ map Evicted puts)
+    → Evicts bound cache puts rest → floor pages (regions trace) ≤ bound → EvictsAbove trace pages bound (journal ++ map Evicted puts)
 evictions_in_turn_are_legal-above trace pages bound journal cache rest puts e so_far evicts at_least =
     above trace pages bound journal cache rest puts e so_far evicts at_least
 
-pub evictions_in_turn_are_legal-pressure : (pages : ℕ) → floor pages ≤ tight_floor pages 0 + dense
-evictions_in_turn_are_legal-pressure pages = low pages
+pub evictions_in_turn_are_legal-pressure : (pages count : ℕ) → floor pages count ≤ tight_floor pages 0 count + dense
+evictions_in_turn_are_legal-pressure pages count = low pages count
 
 -- What holds of the keys and the values of a trace's puts holds of each row of a cache to which a journal leads, and of
 -- the value or the keys in each reply and each answer.
-pub replies_hold_what_was_put-part : (on_key on_value : List ℕ → Bool) (operation : Operation) (cache : List Row)
+pub replies_hold_what_was_put-part : (on_key : Key → Bool) (on_value : List ℕ → Bool) (operation : Operation) (cache : List Row)
     → PutHolds on_key on_value operation → RowsHold on_key on_value cache
-    → RowsHold on_key on_value (apply operation cache).0 × ReplyHolds on_key on_value (apply operation cache).1
+    → RowsHold on_key on_value (apply operation cache).0 × ReplyHolds on_key on_value operation.key.table (apply operation cache).1
 replies_hold_what_was_put-part k v operation cache put holds = parts_hold_what_was_put k v operation cache put holds
 
-pub replies_hold_what_was_put-rows : (on_key on_value : List ℕ → Bool) (trace : Trace) (pages : ℕ) (journal : List JournalEntry) (cache : List Row)
+pub replies_hold_what_was_put-rows : (on_key : Key → Bool) (on_value : List ℕ → Bool) (trace : Trace) (pages : ℕ) (journal : List JournalEntry)
+    (cache : List Row)
     → PutsHold on_key on_value trace → cache_after trace pages journal ≡ Some cache → RowsHold on_key on_value cache
 replies_hold_what_was_put-rows k v trace pages journal cache puts leads = rows-hold parts_hold_what_was_put k v trace pages journal cache puts leads
 
-pub replies_hold_what_was_put-replies : (on_key on_value : List ℕ → Bool) (trace : Trace) (pages : ℕ) (journal : List JournalEntry) (i : ℕ)
-    (reply : Reply)
-    → PutsHold on_key on_value trace → reply_at trace pages journal i ≡ Some reply → ReplyHolds on_key on_value reply
-replies_hold_what_was_put-replies k v trace pages journal i reply puts e =
-    reply-holds parts_hold_what_was_put k v trace pages journal i reply puts e
-
-pub replies_hold_what_was_put-answers : (on_key on_value : List ℕ → Bool) (trace : Trace) (n pages : ℕ) (journals : List (List JournalEntry))
+pub replies_hold_what_was_put-replies : (on_key : Key → Bool) (on_value : List ℕ → Bool) (trace : Trace) (pages : ℕ) (journal : List JournalEntry) (i : ℕ)
     (operation : Operation) (reply : Reply)
-    → PutsHold on_key on_value trace → answer trace n pages journals operation ≡ Some reply → ReplyHolds on_key on_value reply
+    → PutsHold on_key on_value trace → command_of trace i ≡ Some operation → reply_at trace pages journal i ≡ Some reply
+    → ReplyHolds on_key on_value operation.key.table reply
+replies_hold_what_was_put-replies k v trace pages journal i operation reply puts is e =
+    reply-holds parts_hold_what_was_put k v trace pages journal i operation reply puts is e
+
+-- of the answers, where the test is one of the bytes of keys
+pub replies_hold_what_was_put-answers : (on_bytes on_value : List ℕ → Bool) (trace : Trace) (n pages : ℕ) (journals : List (List JournalEntry))
+    (operation : Operation) (reply : Reply)
+    → PutBytesHold on_bytes on_value trace → answer trace n pages journals operation ≡ Some reply → ReplyBytesHold on_bytes on_value reply
 replies_hold_what_was_put-answers k v trace n pages journals operation reply puts e =
     answer-holds parts_hold_what_was_put scanned_keys_are_in_order-among k v trace n pages journals operation reply puts e
 
@@ -191,7 +195,7 @@ answers_are_read_by_command-read trace n i logs answers d e f logged some below 
 -- The reply to a part fits its command: on a cache whose rows have different keys, as long as a trace's keys are, and no
 -- longer values than `longest`; and at its entry in a journal.
 pub replies_fit_their_commands-part : (longest : ℕ) (operation : Operation) (cache : List Row)
-    → HasDistinctKeys cache → All (λ row. IsKey row.key) cache → All (λ row. length row.value ≤ longest) cache
+    → HasDistinctKeys cache → All (λ row. IsKey row.key.bytes) cache → All (λ row. length row.value ≤ longest) cache
     → Fits longest operation (apply operation cache).1
 replies_fit_their_commands-part longest operation cache distinct keyed short =
     replies_fit_their_operations longest operation cache distinct keyed short

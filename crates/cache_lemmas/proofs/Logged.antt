@@ -17,7 +17,7 @@ use Rattle.trace_text.specs.Trace.{Trace}
 use Rattle.cache_model.specs.declared.entry.Entry.{Entry}
 use Rattle.cache_model.specs.Answer.{answer, answer_from, answer_kind}
 use Rattle.cache_model.specs.Bodies.{HasKeys}
-use Rattle.cache_model.specs.Holds.{PutsHold}
+use Rattle.cache_model.specs.Holds.{PutBytesHold}
 use Rattle.cache_model.specs.Legal.{command_of, reply_at}
 use Rattle.cache_model.specs.Logged.{AreLogged}
 use Rattle.cache_model.specs.Replied.{HoldTheReplies}
@@ -45,7 +45,7 @@ key-from key passes =
     let parts = and_parts (leb 1 (length key)) (leb (length key) 256) passes in
     record { some = leb-true 1 (length key) parts.0; short = leb-true (length key) 256 parts.1 }
 
-puts-keyed : (trace : Trace) → HasKeys trace → PutsHold is_key (is_within (longest_value trace)) trace
+puts-keyed : (trace : Trace) → HasKeys trace → PutBytesHold is_key (is_within (longest_value trace)) trace
 puts-keyed trace keyed i d below = λ put. (key-test _ (keyed i d below put), value_within trace i d below)
 
 pub reply-fits : FittingLaws → (trace : Trace) (pages : ℕ) (journal : List Entry) (operation : Operation) (reply : Reply) → HasKeys trace
@@ -55,7 +55,7 @@ reply-fits laws trace pages journal operation reply keyed is e =
     let longest = longest_value trace in
     let r = replied trace pages operation.number journal reply e in
     let same : r.operation ≡ operation = cc in
-    let rows = rows-hold laws.hold is_key (is_within longest) trace pages _ r.cache (puts-keyed trace keyed) r.leads in
+    let rows = rows-hold laws.hold (λ key. is_key key.bytes) (is_within longest) trace pages _ r.cache (puts-keyed trace keyed) r.leads in
     let fits = laws.fit longest r.operation r.cache (distinct-after laws.distinct laws.front trace pages _ r.cache r.leads)
     (λ i d below. key-from _ (rows i d below).0) (λ i d below. leb-true _ longest (rows i d below).1) in
     subst (λ (o : Operation). Fits longest o reply) same (subst (λ (answered : Reply). Fits longest r.operation answered) (sym r.is) fits)
@@ -109,7 +109,7 @@ part-fits laws trace pages journals operation (i, s) keyed is same some =
 -- ---- the answers
 
 kind-answered : (kind : Kind) (n : ℕ) (operation : Operation) (replies : List (Option Reply))
-    → (is_scan kind ≡ false → IsSome (unwrap_or (slice_get replies (owner operation.key n)) None)) → IsSome (answer_kind kind n operation replies)
+    → (is_scan kind ≡ false → IsSome (unwrap_or (slice_get replies (owner operation.key.bytes n)) None)) → IsSome (answer_kind kind n operation replies)
 kind-answered kinds.Scan n operation replies some = refl
 kind-answered kinds.Put n operation replies some = some refl
 kind-answered kinds.Get n operation replies some = some refl
@@ -124,8 +124,8 @@ is-answered : (trace : Trace) (n pages : ℕ) (journals : List (List Entry)) (op
 is-answered trace n pages journals operation parts =
     kind-answered operation.kind n operation (map (λ journal. reply_at trace pages journal operation.number) journals)
     (λ other.
-    let here = owner-part (is_scan operation.kind) n operation.number (owner operation.key n) (λ part. IsSome (part_reply trace pages journals part)) parts other in
-    subst IsSome (sym (one-of (λ journal. reply_at trace pages journal operation.number) journals (owner operation.key n))) here)
+    let here = owner-part (is_scan operation.kind) n operation.number (owner operation.key.bytes n) (λ part. IsSome (part_reply trace pages journals part)) parts other in
+    subst IsSome (sym (one-of (λ journal. reply_at trace pages journal operation.number) journals (owner operation.key.bytes n))) here)
 
 -- a list of answers, with none left out
 none-left : (ask : Operation → Option Reply) (operations : List Operation) → All (λ operation. IsSome (ask operation)) operations
@@ -148,7 +148,7 @@ are-logged laws trace n pages journals logs held = record {
   logged = held.logged;
   fit = λ i d below j e within.
       let operation = get_or trace.operations i d in
-      let number = of-command (is_scan operation.kind) n operation.number (owner operation.key n) j e within in
+      let number = of-command (is_scan operation.kind) n operation.number (owner operation.key.bytes n) j e within in
       part-fits laws trace pages journals operation (get_or (parts_of n operation) j e) held.keys (held.commands i d below) number (held.replied i d below j e within);
   answered =
       none-left (answer trace n pages journals) trace.operations (λ i d below. is-answered trace n pages journals _ (held.replied i d below))

@@ -4,7 +4,7 @@ use Rattle.std.proofs.lemmas.List.{take-take, take_all}
 use Rattle.std.specs.List.{flat_map}
 use Rattle.rows.specs.declared.kind.Kind.{Kind}
 use Rattle.rows.specs.declared.kind.Kind.TheVariants as kinds
-use Rattle.rows.specs.Apply.{Reply, Stored, Replaced, Value, Missing, Erased, Keys, apply, apply_kind, in_order, is_at_most}
+use Rattle.rows.specs.Apply.{Reply, Stored, Replaced, Value, Missing, Erased, Keys, apply, apply_kind, in_order, is_at_most, keys_in}
 use Rattle.rows.specs.Fits.{AreFound, FitsKind}
 use Rattle.rows.specs.Operation.{Operation, is_scan}
 use Rattle.rows.specs.Row.{Row}
@@ -25,11 +25,11 @@ joined_stays : FirstStay → (count : ℕ) (keys : List (List ℕ)) → join cou
 joined_stays stay count keys = rw (append-nil (take count (in_order keys)), stay count keys) (take-take count count (in_order keys) (omega arith))
 
 one_answer : FirstStay → (kind : Kind) (operation : Operation) (cache : List Row) → answer_kind kind 1 operation (Some (apply_kind kind operation cache).1 ∷ []) ≡ Some (apply_kind kind operation cache).1
-one_answer stay kinds.Put operation cache = rw (mod-one (hash operation.key)) refl
-one_answer stay kinds.Get operation cache = rw (mod-one (hash operation.key)) refl
-one_answer stay kinds.Erase operation cache = rw (mod-one (hash operation.key)) refl
+one_answer stay kinds.Put operation cache = rw (mod-one (hash operation.key.bytes)) refl
+one_answer stay kinds.Get operation cache = rw (mod-one (hash operation.key.bytes)) refl
+one_answer stay kinds.Erase operation cache = rw (mod-one (hash operation.key.bytes)) refl
 one_answer stay kinds.Scan operation cache =
-    ap (λ keys. Some (Keys keys)) (joined_stays stay operation.count (filter (is_at_most operation.key) (map (λ row. row.key) cache)))
+    ap (λ keys. Some (Keys keys)) (joined_stays stay operation.count (filter (is_at_most operation.key.bytes) (keys_in operation.key.table cache)))
 
 pub answer_is_reply : FirstStay → (trace : Trace) (pages : ℕ) (journal : List Entry) (operation : Operation) (reply : Reply)
     → command_of trace operation.number ≡ Some operation → reply_at trace pages journal operation.number ≡ Some reply
@@ -42,16 +42,16 @@ answer_is_reply stay trace pages journal operation reply is e =
 
 -- ---- a reply that fits
 
-fitting_answer-keys : RisingStay → (operation : Operation) (keys : List (List ℕ)) → AreFound operation.key operation.count keys → answer_kind kinds.Scan 1 operation (Some (Keys keys) ∷ []) ≡ Some (Keys keys)
+fitting_answer-keys : RisingStay → (operation : Operation) (keys : List (List ℕ)) → AreFound operation.key.bytes operation.count keys → answer_kind kinds.Scan 1 operation (Some (Keys keys) ∷ []) ≡ Some (Keys keys)
 fitting_answer-keys rising operation keys found =
     ap (λ (list : List (List ℕ)). Some (Keys (take operation.count (in_order list)))) (append-nil keys)
     ∙ ap (λ (list : List (List ℕ)). Some (Keys (take operation.count list))) (rising keys found.rising)
     ∙ ap (λ (list : List (List ℕ)). Some (Keys list)) (take_all operation.count keys found.few)
 
 pub fitting_answer : RisingStay → (kind : Kind) (longest : ℕ) (operation : Operation) (reply : Reply) → FitsKind kind longest operation.key operation.count reply → answer_kind kind 1 operation (Some reply ∷ []) ≡ Some reply
-fitting_answer rising kinds.Put longest operation reply fits = rw (mod-one (hash operation.key)) refl
-fitting_answer rising kinds.Get longest operation reply fits = rw (mod-one (hash operation.key)) refl
-fitting_answer rising kinds.Erase longest operation reply fits = rw (mod-one (hash operation.key)) refl
+fitting_answer rising kinds.Put longest operation reply fits = rw (mod-one (hash operation.key.bytes)) refl
+fitting_answer rising kinds.Get longest operation reply fits = rw (mod-one (hash operation.key.bytes)) refl
+fitting_answer rising kinds.Erase longest operation reply fits = rw (mod-one (hash operation.key.bytes)) refl
 fitting_answer rising kinds.Scan longest operation (Keys keys) fits = fitting_answer-keys rising operation keys fits
 fitting_answer rising kinds.Scan longest operation Stored fits = absurd fits
 fitting_answer rising kinds.Scan longest operation Replaced fits = absurd fits
@@ -66,7 +66,7 @@ one_part true i owner is = refl
 one_part false i owner is = rw is refl
 
 pub one_part_of : (operation : Operation) → parts_of 1 operation ≡ (operation.number, 0) ∷ []
-one_part_of operation = one_part (is_scan operation.kind) operation.number (owner operation.key 1) (mod-one (hash operation.key))
+one_part_of operation = one_part (is_scan operation.kind) operation.number (owner operation.key.bytes 1) (mod-one (hash operation.key.bytes))
 
 pub one_part_each : (operations : List Operation)
     → flat_map (parts_of 1) (filter (λ operation. eqb (origin operation.number 1) 0) operations) ≡ map (λ operation. (operation.number, 0)) operations

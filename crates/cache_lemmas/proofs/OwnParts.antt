@@ -22,7 +22,7 @@ length-more : (n : ℕ) (here : Bool) (operation : Operation) (others : List Ope
     → length (flat_map (parts_of n) (cond here (operation ∷ others) others)) ≡ cond here (cond (is_scan operation.kind) n 1) 0 + m
 length-more n true operation others m e =
     length-append (parts_of n operation) (flat_map (parts_of n) others)
-    ∙ ap (λ k. k + length (flat_map (parts_of n) others)) (length-of (is_scan operation.kind) n operation.number (owner operation.key n))
+    ∙ ap (λ k. k + length (flat_map (parts_of n) others)) (length-of (is_scan operation.kind) n operation.number (owner operation.key.bytes n))
     ∙ ap (λ k. cond (is_scan operation.kind) n 1 + k) e
 length-more n false operation others m e = e ∙ omega arith
 
@@ -95,7 +95,7 @@ at-peer n o q [] below = refl
 at-peer n o q (operation ∷ operations) below =
     one-more (eqb (origin operation.number n) o) (has_part n q operation) operation (cond (has_part n q operation) (operation.number ∷ []) []) n q
     (filter (λ x. eqb (origin x.number n) o) operations) (filter (λ x. eqb (origin x.number n) o && has_part n q x) operations)
-    refl (of-one (is_scan operation.kind) n q operation.number (owner operation.key n) below) (at-peer n o q operations below)
+    refl (of-one (is_scan operation.kind) n q operation.number (owner operation.key.bytes n) below) (at-peer n o q operations below)
 
 pub issued_parts-peer : (trace : Trace) (n o q : ℕ) → q < n → map (λ part. part.0) (filter (λ part. eqb part.1 q) (issued_parts trace n o)) ≡ parts trace n o q
 issued_parts-peer trace n o q below = at-peer n o q trace.operations below

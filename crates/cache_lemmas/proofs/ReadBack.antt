@@ -56,10 +56,11 @@ around : {X : Type 0} (xs : List X) (i : ℕ) (d : X) → i < length xs → take
 around xs i d below = ap (λ rest. take i xs ++ rest) (rw add-one (sym (drop-cons xs i d below))) ∙ take-append-drop i xs
 
 -- the parts of a shard's commands: of those before one that it issues, of this one, and of those behind it
-issued_around : (n o i : ℕ) (operations : List Operation) (d : Operation) → i < length operations → eqb (origin (get_or operations i d).number n) o ≡ true
-    → issued_parts (trace_with operations) n o
-    ≡ issued_parts (trace_with (take i operations)) n o ++ (parts_of n (get_or operations i d) ++ issued_parts (trace_with (drop (i + 1) operations)) n o)
-issued_around n o i operations d below here =
+issued_around : (version n o i : ℕ) (operations : List Operation) (d : Operation) → i < length operations → eqb (origin (get_or operations i d).number n) o ≡ true
+    → issued_parts (trace_with version operations) n o
+    ≡ issued_parts (trace_with version (take i operations)) n o
+    ++ (parts_of n (get_or operations i d) ++ issued_parts (trace_with version (drop (i + 1) operations)) n o)
+issued_around version n o i operations d below here =
     let is_own : Operation → Bool = λ x. eqb (origin x.number n) o in
     let one = get_or operations i d in
     let behind = drop (i + 1) operations in
@@ -149,17 +150,17 @@ scan_replies asked n i count replies answer are is =
     (many, answer-is ∙ ap (λ list. Keys (join count (map keys_in list))) by_shard ∙ ap (λ lists. Keys (join count lists)) (map-twice keys_in (λ reply. Some reply) replies))
 
 joined_by : (kind : Kind) (asked : ℕ × ℕ → Option Reply) (n : ℕ) (operation : Operation) (replies : List Reply) (answer : Reply) → 1 ≤ n
-    → map asked (cond (is_scan kind) (map (λ s. (operation.number, s)) (range_with_len 0 n)) ((operation.number, owner operation.key n) ∷ []))
+    → map asked (cond (is_scan kind) (map (λ s. (operation.number, s)) (range_with_len 0 n)) ((operation.number, owner operation.key.bytes n) ∷ []))
     ≡ map {B = Option Reply} Some replies
     → Some answer ≡ answer_kind kind n operation (map (λ s. asked (operation.number, s)) (range_with_len 0 n))
     → AreJoined (is_scan kind) n operation.count replies answer
 joined_by kinds.Scan asked n operation replies answer some are is = scan_replies asked n operation.number operation.count replies answer are is
 joined_by kinds.Put asked n operation replies answer some are is =
-    one_reply asked n operation.number (owner operation.key n) replies answer (owner-below _ n some) are is
+    one_reply asked n operation.number (owner operation.key.bytes n) replies answer (owner-below _ n some) are is
 joined_by kinds.Get asked n operation replies answer some are is =
-    one_reply asked n operation.number (owner operation.key n) replies answer (owner-below _ n some) are is
+    one_reply asked n operation.number (owner operation.key.bytes n) replies answer (owner-below _ n some) are is
 joined_by kinds.Erase asked n operation replies answer some are is =
-    one_reply asked n operation.number (owner operation.key n) replies answer (owner-below _ n some) are is
+    one_reply asked n operation.number (owner operation.key.bytes n) replies answer (owner-below _ n some) are is
 
 -- ---- the answers
 
@@ -174,8 +175,8 @@ is-read trace n i logs answers d e f p some below =
     let operation = get_or trace.operations i d in
     let o = origin operation.number n in
     let longest = longest_value trace in
-    let before = issued_parts (trace_with (take i trace.operations)) n o in
-    let behind = issued_parts (trace_with (drop (i + 1) trace.operations)) n o in
+    let before = issued_parts (trace_with trace.version (take i trace.operations)) n o in
+    let behind = issued_parts (trace_with trace.version (drop (i + 1) trace.operations)) n o in
     let own = parts_of n operation in
     let origin-below : o < n = owner-below (operation.number - 1) n some in
     let asked = these longest operation (map p.replies own) (All-map (HasFitting longest operation) p.replies own (p.fit i d below)) in
@@ -188,8 +189,8 @@ is-read trace n i logs answers d e f p some below =
     record {
       replies = asked.replies;
       logged = read_replies before own behind p.replies (get_or logs o e) (parts_before trace n o i) asked.replies
-          (p.logged o e origin-below ∙ ap (map (λ part. option_map spelled (p.replies part))) (issued_around n o i trace.operations d below (eq-eqb o o refl)))
-          (sym (issued_parts-count (trace_with (take i trace.operations)) n o)) asked.are;
+          (p.logged o e origin-below ∙ ap (map (λ part. option_map spelled (p.replies part))) (issued_around trace.version n o i trace.operations d below (eq-eqb o o refl)))
+          (sym (issued_parts-count (trace_with trace.version (take i trace.operations)) n o)) asked.are;
       fit = asked.fit;
       number = ap (λ (x : Both). x.0) at;
       joined = joined_by operation.kind p.replies n operation asked.replies (get_or answers i f).1 some asked.are (ap (λ (x : Both). x.1) at);

@@ -8,6 +8,7 @@ use Rattle.rows.specs.Apply.{apply, in_order, HasDistinctKeys}
 use Rattle.rows.specs.Fits.{Fits}
 use Rattle.rows.specs.Holds.{PutHolds, RowsHold, ReplyHolds}
 use Rattle.rows.specs.Spelled.{IsKey}
+use Rattle.rows.specs.Key.{Key}
 use Rattle.rows.specs.Operation.{Operation}
 use Rattle.rows.specs.Row.{Row}
 
@@ -20,11 +21,11 @@ FrontsAreDistinct = (count : ℕ) (cache : List Row) → HasDistinctKeys cache �
 
 -- what holds of puts and rows holds of parts
 abbrev pub PartsHold : Type 0
-PartsHold = (k v : List ℕ → Bool) (operation : Operation) (cache : List Row) → PutHolds k v operation → RowsHold k v cache
-    → RowsHold k v (apply operation cache).0 × ReplyHolds k v (apply operation cache).1
+PartsHold = (k : Key → Bool) (v : List ℕ → Bool) (operation : Operation) (cache : List Row) → PutHolds k v operation → RowsHold k v cache
+    → RowsHold k v (apply operation cache).0 × ReplyHolds k v operation.key.table (apply operation cache).1
 
 abbrev pub PartsFit : Type 0
-PartsFit = (longest : ℕ) (operation : Operation) (cache : List Row) → HasDistinctKeys cache → All (λ row. IsKey row.key) cache
+PartsFit = (longest : ℕ) (operation : Operation) (cache : List Row) → HasDistinctKeys cache → All (λ row. IsKey row.key.bytes) cache
     → All (λ row. length row.value ≤ longest) cache → Fits longest operation (apply operation cache).1
 
 -- what a reply in a journal needs to fit

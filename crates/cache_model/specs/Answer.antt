@@ -22,9 +22,9 @@ keys_in reply = []
 -- of another command there is the reply of the key's owner.
 abbrev pub answer_kind : Kind → ℕ → Operation → List (Option Reply) → Option Reply
 answer_kind kinds.Scan n operation replies = Some (Keys (join operation.count (map keys_in replies)))
-answer_kind kinds.Put n operation replies = unwrap_or (slice_get replies (owner operation.key n)) None
-answer_kind kinds.Get n operation replies = unwrap_or (slice_get replies (owner operation.key n)) None
-answer_kind kinds.Erase n operation replies = unwrap_or (slice_get replies (owner operation.key n)) None
+answer_kind kinds.Put n operation replies = unwrap_or (slice_get replies (owner operation.key.bytes n)) None
+answer_kind kinds.Get n operation replies = unwrap_or (slice_get replies (owner operation.key.bytes n)) None
+answer_kind kinds.Erase n operation replies = unwrap_or (slice_get replies (owner operation.key.bytes n)) None
 
 abbrev pub answer_from : ℕ → Operation → List (Option Reply) → Option Reply
 answer_from n operation replies = answer_kind operation.kind n operation replies

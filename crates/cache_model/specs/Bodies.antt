@@ -7,8 +7,8 @@ use Rattle.trace_text.specs.Trace.{Trace}
 
 -- no put has a longer key than a trace can have
 abbrev pub HasShortKeys : Trace → Type 0
-HasShortKeys trace = All (λ operation. is_put operation.kind ≡ true → length operation.key ≤ sizes.greatest_key) trace.operations
+HasShortKeys trace = All (λ operation. is_put operation.kind ≡ true → length operation.key.bytes ≤ sizes.greatest_key) trace.operations
 
 -- nor an empty one
 abbrev pub HasKeys : Trace → Type 0
-HasKeys trace = All (λ operation. is_put operation.kind ≡ true → IsKey operation.key) trace.operations
+HasKeys trace = All (λ operation. is_put operation.kind ≡ true → IsKey operation.key.bytes) trace.operations

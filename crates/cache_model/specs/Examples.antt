@@ -3,28 +3,35 @@ use Rattle.std.specs.Prelude.{◌≡◌, ℕ, true, false, List, [], ◌∷◌, 
 use Rattle.layout.specs.Sizes.{dense, tickets}
 use Rattle.rows.specs.declared.kind.Kind.{Kind}
 use Rattle.rows.specs.declared.kind.Kind.TheVariants.{Put, Get, Erase, Scan}
+use Rattle.rows.specs.Key.{in_table}
 use Rattle.rows.specs.Operation.{Operation}
 use Rattle.trace_text.specs.Trace.{Trace, trace_with}
 use Rattle.cache_model.specs.declared.entry.Entry.{Entry}
 use Rattle.cache_model.specs.declared.entry.Entry.TheVariants.{Done, Evicted}
 use Rattle.rows.specs.Row.{Row, floor, live, tight_floor}
 use Rattle.rows.specs.Evictions.{Evicts}
-use Rattle.rows.specs.Apply.{Stored, Missing, Keys}
+use Rattle.rows.specs.Apply.{Stored, Missing, Erased, Keys, apply}
 use Rattle.cache_model.specs.Legal.{IsLegal, IsComplete, can_evict, reply_at}
 use Rattle.cache_model.specs.OwnParts.{issued_parts}
 use Rattle.cache_model.specs.Report.{report}
 use Rattle.cache_model.specs.Summary.{summary}
 use Rattle.cache_model.specs.Answer.{answer}
 
+-- of a key in a table
+abbrev pub asks_in : ℕ → ℕ → Kind → List ℕ → List ℕ → ℕ → Operation
+asks_in table number kind key value count =
+    record { number = number; kind = kind; key = in_table table key; value = value; count = count }
+
+-- in version 1 all keys are of table 0
 abbrev pub asks : ℕ → Kind → List ℕ → List ℕ → ℕ → Operation
-asks number kind key value count = record { number = number; kind = kind; key = key; value = value; count = count }
+asks number kind key value count = asks_in 0 number kind key value count
 
 abbrev pub joined_scan : Operation
 joined_scan = asks 7 Scan (codes "a") [] 3
 
 -- shard 0 owns a and c, shard 1 owns b and z
 abbrev pub two_shards : Trace
-two_shards = trace_with (
+two_shards = trace_with 1 (
     asks 1 Put (codes "a") (codes "1") 0 ∷ asks 2 Get (codes "z") [] 0 ∷ asks 3 Put (codes "b") (codes "2") 0
     ∷ asks 4 Get (codes "z") [] 0 ∷ asks 5 Put (codes "c") (codes "3") 0 ∷ asks 6 Get (codes "z") [] 0 ∷ joined_scan ∷ [])
 
@@ -73,10 +80,10 @@ pub record TwoShardsAreRight : Type 0 where
 
 -- reports, byte for byte
 abbrev pub put_a : Trace
-put_a = trace_with (asks 1 Put (codes "a") (codes "1") 0 ∷ [])
+put_a = trace_with 1 (asks 1 Put (codes "a") (codes "1") 0 ∷ [])
 
 abbrev pub put_b : Trace
-put_b = trace_with (asks 1 Put (codes "b") (codes "1") 0 ∷ [])
+put_b = trace_with 1 (asks 1 Put (codes "b") (codes "1") 0 ∷ [])
 
 pub record ReportsAreRight : Type 0 where
   pub at_home : report put_a 2 8192 ((Done 1 ∷ []) ∷ [] ∷ [])
@@ -88,10 +95,10 @@ pub record ReportsAreRight : Type 0 where
 
 -- summaries, byte for byte: each answer is counted once, and so is each eviction
 abbrev pub puts : Trace
-puts = trace_with (asks 1 Put (codes "a") (codes "1") 0 ∷ asks 2 Put (codes "b") (codes "2") 0 ∷ [])
+puts = trace_with 1 (asks 1 Put (codes "a") (codes "1") 0 ∷ asks 2 Put (codes "b") (codes "2") 0 ∷ [])
 
 abbrev pub one_of_each : Trace
-one_of_each = trace_with (
+one_of_each = trace_with 1 (
     asks 1 Put (codes "a") (codes "1") 0 ∷ asks 2 Put (codes "a") (codes "2") 0 ∷ asks 3 Get (codes "a") [] 0
     ∷ asks 4 Erase (codes "a") [] 0 ∷ asks 5 Get (codes "a") [] 0 ∷ asks 6 Scan (codes "a") [] 1 ∷ [])
 
@@ -107,7 +114,7 @@ pub record SummariesAreRight : Type 0 where
 
 -- a row whose key is one letter
 abbrev pub wide_row : ℕ → ℕ → Row
-wide_row number bytes = record { key = number ∷ []; value = replicate bytes 120; number = number }
+wide_row number bytes = record { key = in_table 0 (number ∷ []); value = replicate bytes 120; number = number }
 
 -- ten rows, the last of so many bytes
 abbrev pub ten_rows : ℕ → List Row
@@ -116,14 +123,40 @@ ten_rows bytes =
     ∷ wide_row 8 12000 ∷ wide_row 9 12000 ∷ wide_row 10 bytes ∷ []
 
 pub record EvictionsAreRight : Type 0 where
-  pub floors : (floor 1088 ≡ 0) × (floor 1120 ≡ dense) × (floor 1280 ≡ 712656) × (floor 8192 ≡ 26368272)
-  pub tight : tight_floor 1280 tickets ≡ floor 1280
+  pub floors : (floor 1088 1 ≡ 0) × (floor 1120 1 ≡ dense) × (floor 1280 1 ≡ 712656) × (floor 8192 1 ≡ 26368272)
+  pub tight : tight_floor 1280 tickets 1 ≡ floor 1280 1
   pub oldest : IsLegal puts 1088 (Done 1 ∷ Done 2 ∷ Evicted 1 ∷ [])
   pub another : IsLegal puts 1088 (Done 1 ∷ Done 2 ∷ Evicted 2 ∷ []) → ⊥
   pub gone : IsLegal puts 1088 (Done 1 ∷ Evicted 1 ∷ Evicted 1 ∷ []) → ⊥
-  pub at_floor : (live (ten_rows 10303) ≡ dense) × (can_evict 1120 10 (ten_rows 10303) ≡ false)
+  pub at_floor : (live (ten_rows 10303) ≡ dense) × (can_evict 1120 1 10 (ten_rows 10303) ≡ false)
   -- one of them goes in turn, and with it gone no other may
   pub one_goes : Evicts dense (ten_rows 10304) (10 ∷ []) (take 9 (ten_rows 10304))
   pub no_more : Evicts dense (ten_rows 10304) (10 ∷ 9 ∷ []) (take 8 (ten_rows 10304)) → ⊥
   pub not_another : Evicts dense (ten_rows 10304) (9 ∷ []) (take 9 (ten_rows 10304)) → ⊥
-  pub above_floor : (live (ten_rows 10304) ≡ 118784) × (can_evict 1120 10 (ten_rows 10304) ≡ true)
+  pub above_floor : (live (ten_rows 10304) ≡ 118784) × (can_evict 1120 1 10 (ten_rows 10304) ≡ true)
+
+-- tables: two rows have the same bytes as their keys, and one recency holds for both
+
+abbrev pub two_tables : Trace
+two_tables = trace_with 2 (
+    asks_in 3 1 Put (codes "a") (codes "1") 0 ∷ asks_in 4 2 Put (codes "a") (codes "2") 0 ∷ asks_in 3 3 Get (codes "a") [] 0
+    ∷ asks_in 4 4 Scan (codes "a") [] 2 ∷ [])
+
+abbrev pub row_in : ℕ → ℕ → Row
+row_in table number = record { key = in_table table (codes "a"); value = codes "1"; number = number }
+
+pub record TablesAreRight : Type 0 where
+  pub text : report two_tables 1 1536 ((Done 1 ∷ Done 2 ∷ Done 3 ∷ Done 4 ∷ []) ∷ [])
+      ≡ codes "1 stored\n2 stored\n3 value 1\n4 keys a\njournal 0 1 2 3 4\nshard 0 rows 2 live 96 lent 0 back 0\n"
+  -- of another table nothing is found, taken away or looked up
+  pub not_found : (apply (asks_in 3 3 Get (codes "a") [] 0) (row_in 4 1 ∷ [])).1 ≡ Missing
+  pub other_stays : apply (asks_in 3 3 Erase (codes "a") [] 0) (row_in 4 2 ∷ row_in 3 1 ∷ []) ≡ (row_in 4 2 ∷ [], Erased)
+  pub no_further : (apply (asks_in 3 3 Scan (codes "a") [] 2) (row_in 4 2 ∷ row_in 3 1 ∷ [])).1 ≡ Keys (codes "a" ∷ [])
+  -- each region has an active segment: with 1,312 pages the floor of eight is 0, and of one it is not
+  pub floors : (floor 1312 8 ≡ 0) × (floor 1536 8 ≡ 831432) × (floor 8192 8 ≡ 25536840)
+  pub tight : tight_floor 1536 tickets 8 ≡ floor 1536 8
+  pub one_region : IsLegal puts 1312 (Done 1 ∷ Done 2 ∷ Evicted 1 ∷ []) → ⊥
+  -- the row used longest ago goes, whatever its table
+  pub oldest : IsLegal two_tables 1312 (Done 1 ∷ Done 2 ∷ Evicted 1 ∷ [])
+  pub another : IsLegal two_tables 1312 (Done 1 ∷ Done 2 ∷ Evicted 2 ∷ []) → ⊥
+  pub used_later : IsLegal two_tables 1312 (Done 1 ∷ Done 2 ∷ Done 3 ∷ Evicted 2 ∷ [])

@@ -4,7 +4,7 @@ use Rattle.std.specs.List.{list_any, before_first, last_or}
 use Rattle.std.specs.Option.{option_map, option_and_then}
 use Rattle.rows.specs.Operation.{Operation}
 use Rattle.trace_text.specs.Parts.{origin, parts}
-use Rattle.trace_text.specs.Trace.{Trace}
+use Rattle.trace_text.specs.Trace.{Trace, regions}
 use Rattle.cache_model.specs.declared.entry.Entry.{Entry}
 use Rattle.cache_model.specs.declared.entry.Entry.TheVariants.{Done, Evicted}
 use Rattle.rows.specs.Row.{Row, live, floor, is_of_put}
@@ -16,14 +16,14 @@ use Rattle.rows.specs.Apply.{Reply, apply}
 abbrev pub command_of : Trace → ℕ → Option Operation
 command_of trace i = find (λ operation. operation.number == i) trace.operations
 
--- put q may lose its row where that row is the last one, and more bytes are live than the floor
-abbrev pub can_evict : ℕ → ℕ → List Row → Bool
-can_evict pages q cache = is_of_put q (last_or None cache) && nat_lt (floor pages) (live cache)
+-- put q may lose its row where that row is the last one, whatever its table, and more bytes are live than the floor
+abbrev pub can_evict : ℕ → ℕ → ℕ → List Row → Bool
+can_evict pages regions q cache = is_of_put q (last_or None cache) && nat_lt (floor pages regions) (live cache)
 
 -- the cache behind an entry, where the entry is possible
 abbrev pub after : Trace → ℕ → Entry → List Row → Option (List Row)
 after trace pages (Done i) cache = option_map (λ operation. (apply operation cache).0) (command_of trace i)
-after trace pages (Evicted q) cache = if can_evict pages q cache then Some (take (length cache - 1) cache) else None
+after trace pages (Evicted q) cache = if can_evict pages (regions trace) q cache then Some (take (length cache - 1) cache) else None
 
 abbrev pub cache_from : Trace → ℕ → List Row → List Entry → Option (List Row)
 cache_from trace pages cache [] = Some cache

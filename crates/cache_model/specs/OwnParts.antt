@@ -17,7 +17,7 @@ use Rattle.rows.specs.Spelled.{spelled}
 -- command the one of the key's owner
 abbrev pub parts_of : ℕ → Operation → List (ℕ × ℕ)
 parts_of n operation =
-    if is_scan operation.kind then map (λ s. (operation.number, s)) (range_with_len 0 n) else (operation.number, owner operation.key n) ∷ []
+    if is_scan operation.kind then map (λ s. (operation.number, s)) (range_with_len 0 n) else (operation.number, owner operation.key.bytes n) ∷ []
 
 -- the parts that shard o issues, in order. Part k of its log, from 0, is the k-th.
 abbrev pub issued_parts : Trace → ℕ → ℕ → List (ℕ × ℕ)
@@ -26,7 +26,7 @@ issued_parts trace n o = flat_map (parts_of n) (filter (λ operation. origin ope
 -- how many parts shard o issues for the first i commands. In its log the parts of the next command that it issues stand
 -- behind so many.
 abbrev pub parts_before : Trace → ℕ → ℕ → ℕ → ℕ
-parts_before trace n o i = own_parts (trace_with (take i trace.operations)) n o
+parts_before trace n o i = own_parts (trace_with trace.version (take i trace.operations)) n o
 
 -- the reply to a part: the one at its entry in the journal of its shard
 abbrev pub part_reply : Trace → ℕ → List (List Entry) → ℕ × ℕ → Option Reply

@@ -2,7 +2,7 @@
 use Rattle.std.specs.Prelude.{◌==◌, Bool, not, ℕ, List}
 use Rattle.std.specs.List.{list_all}
 use Rattle.rows.specs.Apply.{Reply}
-use Rattle.rows.specs.Holds.{ReplyHolds}
+use Rattle.cache_model.specs.Holds.{ReplyBytesHold}
 
 -- no LF is among the bytes
 abbrev pub is_unbroken : List ℕ → Bool
@@ -10,4 +10,4 @@ is_unbroken text = list_all (λ b. not (b == 10)) text
 
 -- the value or the keys in a reply are unbroken
 abbrev pub IsUnbroken : Reply → Type 0
-IsUnbroken reply = ReplyHolds is_unbroken is_unbroken reply
+IsUnbroken reply = ReplyBytesHold is_unbroken is_unbroken reply

@@ -25,13 +25,13 @@ puts_of operations = count_by (λ (o : Operation). is_put o.kind) operations
 
 -- what stands where there is no command
 abbrev pub none : Command
-none = record { number = 0; line = 0; kind = Put; key = record { start = 0; len = 0 }; value = record { start = 0; len = 0 }; count = 0 }
+none = record { number = 0; line = 0; kind = Put; table = 0; key = record { start = 0; len = 0 }; value = record { start = 0; len = 0 }; count = 0 }
 
 pub room_behind : (kind : Kind) (most room left all : ℕ) (o : Operation) (puts : List Row) → length puts + all ≤ room → all ≡ cond (is_put kind) 1 0 + left
     → length (puts_after kind most o puts) + left ≤ room
 room_behind Put most room left all o puts few count =
-    let less = staying_few most (size o.key o.value) puts in
-    let long = length-append (staying most (size o.key o.value) puts) (row_of o ∷ []) in omega (arith, less, long, few, count)
+    let less = staying_few most (size o.key.bytes o.value) puts in
+    let long = length-append (staying most (size o.key.bytes o.value) puts) (row_of o ∷ []) in omega (arith, less, long, few, count)
 room_behind Get most room left all o puts few count = omega (arith, few, count)
 room_behind Erase most room left all o puts few count = omega (arith, few, count)
 room_behind Scan most room left all o puts few count = omega (arith, few, count)

@@ -35,10 +35,10 @@ put_of kind o = cond (is_put kind) (row_of o ∷ []) []
 -- what a command flushes, and what is held behind it, is what was held and its put
 step : (kind : Kind) (most : ℕ) (o : Operation) (rows : List Row) → flushed (lines_of kind most o rows) ++ puts_after kind most o rows ≡ rows ++ put_of kind o
 step Put most o rows =
-    ap (λ l. l ++ (staying most (size o.key o.value) rows ++ row_of o ∷ [])) (put_back (going most (size o.key o.value) rows))
-    ∙ (sym (append_assoc (going most (size o.key o.value) rows) (staying most (size o.key o.value) rows) (row_of o ∷ []))
-    ∙ ap (λ l. l ++ row_of o ∷ []) (both most (size o.key o.value) rows))
-step Get most o rows = ap (λ l. l ++ rows) (no_put o.number (newest o.key rows)) ∙ sym (append-nil rows)
+    ap (λ l. l ++ (staying most (size o.key.bytes o.value) rows ++ row_of o ∷ [])) (put_back (going most (size o.key.bytes o.value) rows))
+    ∙ (sym (append_assoc (going most (size o.key.bytes o.value) rows) (staying most (size o.key.bytes o.value) rows) (row_of o ∷ []))
+    ∙ ap (λ l. l ++ row_of o ∷ []) (both most (size o.key.bytes o.value) rows))
+step Get most o rows = ap (λ l. l ++ rows) (no_put o.number (newest o.key.bytes rows)) ∙ sym (append-nil rows)
 step Erase most o rows = sym (append-nil rows)
 step Scan most o rows = sym (append-nil rows)
 

@@ -3,6 +3,7 @@ use Rattle.std.specs.Prelude.{ℕ, ◌+◌, ◌/◌, nat_le, if◌then◌else◌
 use Rattle.layout.specs.Sizes.{segment_pages}
 use Rattle.rows.specs.declared.kind.Kind.{Kind}
 use Rattle.rows.specs.declared.kind.Kind.TheVariants.{Put, Get, Erase, Scan}
+use Rattle.rows.specs.Key.{in_table}
 use Rattle.rows.specs.Operation.{Operation, is_put}
 use Rattle.trace_text.specs.Trace.{Trace}
 use Rattle.rows.specs.Row.{Row, size, live}
@@ -42,8 +43,10 @@ staying most bytes (put ∷ puts) = if nat_le (live (put ∷ puts) + bytes) most
 
 -- ---- the commands
 
+-- A key is its bytes: all puts are of table 0, and a trace that names tables is not run.
+
 abbrev pub row_of : Operation → Row
-row_of operation = record { key = operation.key; value = operation.value; number = operation.number }
+row_of operation = record { key = in_table 0 operation.key.bytes; value = operation.value; number = operation.number }
 
 abbrev pub get_line : ℕ → Option (List ℕ) → Line
 get_line number None = Clean number
@@ -51,13 +54,13 @@ get_line number (Some value) = Unflushed number value
 
 -- the lines of a command, and the queue behind it
 abbrev pub lines_of : Kind → ℕ → Operation → List Row → List Line
-lines_of Put most operation puts = map Flushed (going most (size operation.key operation.value) puts)
-lines_of Get most operation puts = get_line operation.number (newest operation.key puts) ∷ []
+lines_of Put most operation puts = map Flushed (going most (size operation.key.bytes operation.value) puts)
+lines_of Get most operation puts = get_line operation.number (newest operation.key.bytes puts) ∷ []
 lines_of Erase most operation puts = Passed operation.number ∷ []
 lines_of Scan most operation puts = Passed operation.number ∷ []
 
 abbrev pub puts_after : Kind → ℕ → Operation → List Row → List Row
-puts_after Put most operation puts = staying most (size operation.key operation.value) puts ++ row_of operation ∷ []
+puts_after Put most operation puts = staying most (size operation.key.bytes operation.value) puts ++ row_of operation ∷ []
 puts_after Get most operation puts = puts
 puts_after Erase most operation puts = puts
 puts_after Scan most operation puts = puts

@@ -10,12 +10,12 @@ use Rattle.dirty_mode.specs.DirtyText.{text_of, lines_from, dirty_text}
 
 -- two puts of one key, with a get behind each
 abbrev pub put_twice : Trace
-put_twice = trace_with (
+put_twice = trace_with 1 (
     asks 1 Put (codes "a") (codes "1") 0 ∷ asks 2 Get (codes "a") [] 0 ∷ asks 3 Put (codes "a") (codes "2") 0
     ∷ asks 4 Get (codes "a") [] 0 ∷ [])
 
 abbrev pub passed_over : Trace
-passed_over = trace_with (asks 1 Get (codes "a") [] 0 ∷ asks 2 Erase (codes "a") [] 0 ∷ asks 3 Scan (codes "a") [] 5 ∷ [])
+passed_over = trace_with 1 (asks 1 Get (codes "a") [] 0 ∷ asks 2 Erase (codes "a") [] 0 ∷ asks 3 Scan (codes "a") [] 5 ∷ [])
 
 -- three puts of 48 bytes each
 abbrev pub three_puts : List Operation

@@ -2,7 +2,8 @@
 //!
 //! The definition is `specs/DirtyText.antt`: a put waits in a queue. Where the segments would hold too many bytes with the next
 //! put, the oldest ones are flushed before, each as its line; what is left is flushed at the end. A get is answered by the
-//! newest put of its key in the queue.
+//! newest put of its key in the queue. Keys are their bytes: whoever runs a trace here refuses one that names tables before,
+//! as a trace of another version.
 #![tactic(auto)]
 
 mod answers;

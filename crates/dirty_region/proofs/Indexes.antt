@@ -1,6 +1,7 @@
 -- The index of a ring: what it finds, and how it goes on where puts come and go.
 use Rattle.std.proofs.Common.{◌≡◌, ◌≢◌, ◌↔◌, ℕ, zero, suc, Bool, true, false, ◌+◌, ◌-◌, ◌<◌, ◌≤◌, inl, inr, List, ◌∷◌, length, refl, sym, ap, subst, ◌∙◌, arith}
 use Rattle.std.proofs.lemmas.Bool.{cases_eq}
+use Rattle.rows.specs.Key.{Key}
 use Rattle.rows.specs.Row.{Row}
 use Rattle.common_lemmas.specs.Lists.{times}
 use Rattle.common_lemmas.proofs.Counts.{all_numbered, times_here, times_there, times_cons_le, length_below}
@@ -21,7 +22,7 @@ use Rattle.dirty_region.proofs.Slots.{slot_inside, slot_apart, slot_next}
 use Rattle.dirty_region.proofs.Rings.{IsPushed, IsPopped}
 
 -- an index of some keys is one of the same keys wherever these are read
-pub moves : (index : PutRows) (before after : ℕ → List ℕ) → ((n : ℕ) → Has index n → after n ≡ before n) → IsKeyed before index → IsKeyed after index
+pub moves : (index : PutRows) (before after : ℕ → Key) → ((n : ℕ) → Has index n → after n ≡ before n) → IsKeyed before index → IsKeyed after index
 moves index before after same is = record {
   tagged = λ k d inside. is.tagged k d inside ∙ ap tag_of (sym (all_numbered (λ (s : RowAt). s.row) (λ n. after n ≡ before n) index.table.kept (λ n h. same n (has_kept index n h)) k d inside));
   ordered = moved_order before after index.strays
@@ -112,7 +113,7 @@ has_more index after n m same h far = (let s = same m in let t = times_there m n
 
 -- ---- the newest put of a key leaves
 
-pub forgotten : (r : RingState) (live : Live) (key : List ℕ) (n : ℕ) (index after : PutRows) → IsRingOf r live → IsIndexOf r live index → Has index n → key_at live r.places n ≡ key
+pub forgotten : (r : RingState) (live : Live) (key : Key) (n : ℕ) (index after : PutRows) → IsRingOf r live → IsIndexOf r live index → Has index n → key_at live r.places n ≡ key
     → AreSame (rows_in index) (n ∷ rows_in after) → after.room ≡ index.room → IsKeyed (key_at live r.places) after → IsIndexBut key r live after
 forgotten r live key n index after of by has is same room keyed = record {
   room = room ∙ by.room;
@@ -129,7 +130,7 @@ forgotten r live key n index after of by has is same room keyed = record {
   };
 }
 
-pub none_forgotten : (r : RingState) (live : Live) (key : List ℕ) (index : PutRows) → IsIndexOf r live index → ((n : ℕ) → Has index n → key_at live r.places n ≢ key) → IsIndexBut key r live index
+pub none_forgotten : (r : RingState) (live : Live) (key : Key) (index : PutRows) → IsIndexOf r live index → ((n : ℕ) → Has index n → key_at live r.places n ≢ key) → IsIndexBut key r live index
 none_forgotten r live key index by none = record {
   room = by.room;
   keyed = by.keyed;
@@ -293,7 +294,7 @@ entered r live index after of some by same room keyed =
     }
 
 -- a put more stands, and the index has no put of its key
-pub index_pushed : (r : RingState) (live after : Live) (p : Place) (put : Row) (key : List ℕ) (index : PutRows) → IsPushed r p put live after → put.key ≡ key
+pub index_pushed : (r : RingState) (live after : Live) (p : Place) (put : Row) (key : Key) (index : PutRows) → IsPushed r p put live after → put.key ≡ key
     → IsIndexBut key r live index → IsIndexBefore (pushed p r) after index
 index_pushed r live after p put key index is same by =
     let keys : (k : ℕ) → k < r.count → nth_key (pushed p r) after k ≡ nth_key r live k = λ k low. ap (λ (x : Row). x.key) (is.old k low) in

@@ -5,6 +5,7 @@ use Rattle.std.proofs.lemmas.Bool.{cases_eq}
 use Rattle.std.proofs.lemmas.List.{length-map}
 use Rattle.std.proofs.lemmas.List.Elements.{All-nil, All-cons, All-contains}
 use Rattle.common_lemmas.specs.Lists.{times}
+use Rattle.rows.specs.Key.{Key}
 use Rattle.common_lemmas.proofs.Counts.{times_here, times_there, times_cons_le}
 use Rattle.key_index.specs.Order.{PutsIn, TakesOut}
 use Rattle.key_index.specs.Index.{Index, IsIndexOf}
@@ -36,7 +37,7 @@ middle row n front back =
     let b = times-append n front back in
     omega (arith, a, b)
 
-pub put_times : (key_of : ℕ → List ℕ) (row : ℕ) (before after : List ℕ) → PutsIn key_of row before after → AreSame (row ∷ before) after
+pub put_times : (key_of : ℕ → Key) (row : ℕ) (before after : List ℕ) → PutsIn key_of row before after → AreSame (row ∷ before) after
 put_times key_of row before after is = λ n. ap (λ xs. times n (row ∷ xs)) is.were ∙ (sym (middle row n is.front is.back) ∙ sym (ap (times n) is.are))
 
 pub taken_times : (row : ℕ) (before after : List ℕ) → TakesOut row before after → AreSame before (row ∷ after)
@@ -61,24 +62,24 @@ has_stray index n h = let t = times-append n (rows_of index.table.kept) index.st
 pub sizes : (index : PutRows) → length (rows_in index) ≡ length index.table.kept + length index.strays.rows
 sizes index = length-append (rows_of index.table.kept) index.strays.rows ∙ ap (λ n. n + length index.strays.rows) (length-map index.table.kept (λ (s : RowAt). s.row))
 
-pub table_of : (has_row : ℕ → Type 0) (key_of : ℕ → List ℕ) (index : PutRows) → IsPutIndexOf has_row key_of index → IsTableOf has_row key_of index.table
+pub table_of : (has_row : ℕ → Type 0) (key_of : ℕ → Key) (index : PutRows) → IsPutIndexOf has_row key_of index → IsTableOf has_row key_of index.table
 table_of has_row key_of index is = record { readable = λ n h. is.readable n (has_kept index n h); tagged = is.keyed.tagged }
 
-pub strays_of : (has_row : ℕ → Type 0) (key_of : ℕ → List ℕ) (index : PutRows) → IsPutIndexOf has_row key_of index → IsIndexOf has_row key_of index.strays
+pub strays_of : (has_row : ℕ → Type 0) (key_of : ℕ → Key) (index : PutRows) → IsPutIndexOf has_row key_of index → IsIndexOf has_row key_of index.strays
 strays_of has_row key_of index is = record { readable = all_of has_row index.strays.rows (λ n h. is.readable n (has_stray index n h)); ordered = is.keyed.ordered }
 
 -- the tag of a row's key is the one that the table has beside it
-pub tag_there : (key_of : ℕ → List ℕ) (table : Table) (found : RowAt) → IsTagged key_of table → found.tag ≡ tag_of (key_of found.row) → IsTagOf table found
+pub tag_there : (key_of : ℕ → Key) (table : Table) (found : RowAt) → IsTagged key_of table → found.tag ≡ tag_of (key_of found.row) → IsTagOf table found
 tag_there key_of table found tagged is = λ k d inside e. tagged k d inside ∙ (ap (λ n. tag_of (key_of n)) e ∙ sym is)
 
-pub kept_there : (key_of : ℕ → List ℕ) (index : PutRows) (found : RowAt) → IsKeyed key_of index → Contains index.table.kept found → tables.Has index.table found.row → IsThere index found
+pub kept_there : (key_of : ℕ → Key) (index : PutRows) (found : RowAt) → IsKeyed key_of index → Contains index.table.kept found → tables.Has index.table found.row → IsThere index found
 kept_there key_of index found keyed there has = record {
   has = has_kept index found.row has;
   tag = tag_there key_of index.table found keyed.tagged (All-contains (λ (s : RowAt). s.tag ≡ tag_of (key_of s.row)) index.table.kept found keyed.tagged there);
 }
 
 -- what is found among the strays, where the table has no row of the key
-pub stray_found : (key_of : ℕ → List ℕ) (key : List ℕ) (index : PutRows) (result : Result RowAt Spot) → IsKeyed key_of index → ((n : ℕ) → tables.Has index.table n → key_of n ≢ key)
+pub stray_found : (key_of : ℕ → Key) (key : Key) (index : PutRows) (result : Result RowAt Spot) → IsKeyed key_of index → ((n : ℕ) → tables.Has index.table n → key_of n ≢ key)
     → MatchResult result (λ (found : RowAt). (1 ≤ times found.row index.strays.rows) × (found.tag ≡ tag_of key) × (key_of found.row ≡ key))
     (λ (spot : Spot). IsSpotFor key spot × ((n : ℕ) → 1 ≤ times n index.strays.rows → key_of n ≢ key))
     → MatchResult result (λ (found : RowAt). IsThere index found × (key_of found.row ≡ key)) (λ (spot : Spot). IsSpotFor key spot × ((n : ℕ) → Has index n → key_of n ≢ key))
@@ -100,7 +101,7 @@ pub none_listed : (n : ℕ) (xs : List ℕ) → length xs ≡ 0 → times n xs �
 none_listed n [] e = refl
 none_listed n (x ∷ xs) e = absurd (omega (arith, e))
 
-pub absent_row : (key_of : ℕ → List ℕ) (row : ℕ) (xs : List ℕ) → ((n : ℕ) → 1 ≤ times n xs → key_of n ≢ key_of row) → times row xs ≡ 0
+pub absent_row : (key_of : ℕ → Key) (row : ℕ) (xs : List ℕ) → ((n : ℕ) → 1 ≤ times n xs → key_of n ≢ key_of row) → times row xs ≡ 0
 absent_row key_of row xs absent = elim (cases_eq (times row xs) 0) [ inl none ↦ none | inr some ↦ absurd (absent row (omega (arith, some)) refl) ]
 
 more_of : (row : ℕ) (a b u x : List ℕ) → ((n : ℕ) → times n (row ∷ []) + (times n a + times n b) ≡ times n u + times n x) → AreSame (row ∷ (a ++ b)) (u ++ x)

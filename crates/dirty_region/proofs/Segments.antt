@@ -27,12 +27,11 @@ same_live r s keeps = λ i p. item_if_live (keeps p i)
 pub puts_kept : (ring : RingState) (r s : RegionState) → Keeps r s → puts_in ring (live_at s) ≡ puts_in ring (live_at r)
 puts_kept ring r s keeps = ap (puts_in ring) (same_live r s keeps)
 
-pub stored_kept : (ring : RingState) (index : PutRows) (r s : RegionState) (bytes : ℕ) → IsStored ring index r bytes → Keeps r s → live_total s ≡ live_total r → HasSpare s → IsStored ring index s bytes
-stored_kept ring index r s bytes h keeps total spare =
+pub stored_kept : (ring : RingState) (index : PutRows) (r s : RegionState) → IsStored ring index r → Keeps r s → live_total s ≡ live_total r → HasSpare s → IsStored ring index s
+stored_kept ring index r s h keeps total spare =
     let same = same_live r s keeps in record {
       ring_of = subst (IsRingOf ring) (sym same) h.ring_of;
       index_of = subst (λ l. IsIndexOf ring l index) (sym same) h.index_of;
-      counted = h.counted ∙ sym total;
       sizes = ap live (puts_kept ring r s keeps) ∙ (h.sizes ∙ sym total);
       spare = spare;
     }
@@ -146,10 +145,10 @@ spare_emptied r new spare most groups free = record {
 pub no_puts_left : (ring : RingState) (l : Live) → ring.count ≡ 0 → puts_in ring l ≡ []
 no_puts_left ring l none = ap (listed (nth ring l)) none
 
-pub stored_emptied : (ring : RingState) (index : PutRows) (r s : RegionState) (bytes : ℕ) → IsStored ring index r bytes → ring.count ≡ 0 → ((p : Place) → standing_at s p ≡ None)
-    → live_total s ≡ 0 → HasSpare s → IsStored ring index s bytes
-stored_emptied ring index r s bytes h none objects total spare =
-    let old = ap live (no_puts_left ring (live_at r) none) in let sizes = h.sizes in let counted = h.counted in record {
+pub stored_emptied : (ring : RingState) (index : PutRows) (r s : RegionState) → IsStored ring index r → ring.count ≡ 0 → ((p : Place) → standing_at s p ≡ None)
+    → live_total s ≡ 0 → HasSpare s → IsStored ring index s
+stored_emptied ring index r s h none objects total spare =
+    record {
       ring_of = record {
         numbers = h.ring_of.numbers;
         puts = λ k low. absurd (omega (arith, low, none));
@@ -164,7 +163,6 @@ stored_emptied ring index r s bytes h none objects total spare =
           those = λ k low high. absurd (omega (arith, high, none));
         };
       };
-      counted = omega (arith, counted, sizes, old, total);
       sizes = ap live (no_puts_left ring (live_at s) none) ∙ sym total;
       spare = spare;
     }

@@ -1,9 +1,10 @@
 -- What is kept of the segments and of the bytes, where puts come and go or are moved.
-use Rattle.std.proofs.Common.{◌≡◌, ℕ, zero, suc, ◌+◌, ◌-◌, ◌*◌, ◌^◌, ◌<◌, ◌≤◌, cond, get_or, map, replicate, List, [], length, Option, Some, None, refl, sym, ap, subst, ◌∙◌, arith}
+use Rattle.std.proofs.Common.{◌≡◌, ℕ, zero, suc, ◌+◌, ◌*◌, ◌^◌, ◌<◌, ◌≤◌, cond, get_or, map, replicate, [], length, Option, Some, None, refl, sym, ap, subst, ◌∙◌, arith}
 use Rattle.std.specs.Prelude.{slice_get, option_map, IfSome}
 use Rattle.std.specs.List.{count_by, sum}
 use Rattle.std.proofs.lemmas.List.{length-replicate}
 use Rattle.std.proofs.lemmas.List.Sums.{sum_by-cons}
+use Rattle.rows.specs.Key.{Key}
 use Rattle.rows.specs.Row.{Row, size, live}
 use Rattle.row_bytes.specs.Rows.{row_in}
 use Rattle.regions.specs.Segments.{RegionState, SegmentState, group_at, idle}
@@ -65,24 +66,22 @@ segments_grown r m s h same =
 
 -- ---- the oldest put goes
 
-pub stored_popped : (r : RingState) (index : PutRows) (old new : RegionState) (bytes left gone : ℕ) (p : Place) → IsRingOf r (live_at old) → 1 ≤ r.count
-    → live (puts_in r (live_at old)) ≡ live_total old → bytes ≡ live_total old → HasSpare old → slice_get r.places (slot r 0) ≡ Some p → Drops p (live_at old) (live_at new)
-    → IfSome (live_at old p) (λ item. gone ≡ size_of item) → live_total new + gone ≡ live_total old → shape new ≡ shape old → left ≡ bytes - gone
-    → IsIndexBehind r (live_at old) index → IsStored (popped r) index new left
-stored_popped r index old new bytes left gone p of some sizes counted spare here drops is_size total same less by =
+pub stored_popped : (r : RingState) (index : PutRows) (old new : RegionState) (p : Place) → IsRingOf r (live_at old) → 1 ≤ r.count
+    → live (puts_in r (live_at old)) ≡ live_total old → HasSpare old → slice_get r.places (slot r 0) ≡ Some p → Drops p (live_at old) (live_at new)
+    → IfSome (live_at old p) (λ item. live_total new + size_of item ≡ live_total old) → shape new ≡ shape old → IsIndexBehind r (live_at old) index → IsStored (popped r) index new
+stored_popped r index old new p of some sizes spare here drops less same by =
     let popped_is = ring_popped r (live_at old) (live_at new) p of some here drops in
     let least : 0 < r.count = omega (arith, some) in
     let first = of.puts 0 least in
     let at : first.place ≡ p = some_same first.placed here in
-    let is : gone ≡ size_of first.item = of_some (λ (item : Item). gone ≡ size_of item) (live_at old p) first.item is_size (sym (ap (live_at old) at) ∙ first.is_live) in
+    let total = of_some (λ (item : Item). live_total new + size_of item ≡ live_total old) (live_at old p) first.item less (sym (ap (live_at old) at) ∙ first.is_live) in
     let put : nth r (live_at old) 0 ≡ first.put = put_is (live_at old) r.places (slot r 0) (position r 0) first in
-    let one : gone ≡ size (nth r (live_at old) 0).key (nth r (live_at old) 0).value = is ∙ (first.is_put.size ∙ sym (ap (λ (x : Row). size x.key x.value) put)) in
+    let one : size_of first.item ≡ size (nth r (live_at old) 0).key.bytes (nth r (live_at old) 0).value = first.is_put.size ∙ sym (ap (λ (x : Row). size x.key.bytes x.value) put) in
     let split = ap live (puts_popped r (live_at old) (live_at new) some popped_is) in
-    let sum = sum_by-cons (λ (x : Row). size x.key x.value) (nth r (live_at old) 0) (puts_in (popped r) (live_at new)) in
+    let sum = sum_by-cons (λ (x : Row). size x.key.bytes x.value) (nth r (live_at old) 0) (puts_in (popped r) (live_at new)) in
     record {
       ring_of = popped_is.ring_of;
       index_of = index_popped r (live_at old) (live_at new) index of.numbers popped_is by;
-      counted = omega (arith, counted, total, less);
       sizes = omega (arith, sizes, total, one, split, sum);
       spare = spare_same old new same spare;
     }
@@ -152,10 +151,10 @@ abbrev pub no_puts : ℕ → RingState
 no_puts room = record { room = room; head = 0; count = 0; first = 0; places = replicate room nowhere }
 
 pub consistent_new : (ring : RingState) (index : PutRows) (r : RegionState) (rows n : ℕ) → ring ≡ no_puts rows → rows < 2 ^ 32 → r ≡ no_segments n → n ≤ 2048 → index.room ≡ rows → ((m : ℕ) → ¬ Has index m)
-    → ((key_of : ℕ → List ℕ) → IsKeyed key_of index) → IsConsistent ring index r 0 0
+    → ((key_of : ℕ → Key) → IsKeyed key_of index) → IsConsistent ring index r 0
 consistent_new ring index r rows n is_ring small is_region most room none keyed =
-    subst (λ (x : RingState). IsConsistent x index r 0 0) (sym is_ring)
-    (subst (λ (y : RegionState). IsConsistent (no_puts rows) index y 0 0) (sym is_region)
+    subst (λ (x : RingState). IsConsistent x index r 0) (sym is_ring)
+    (subst (λ (y : RegionState). IsConsistent (no_puts rows) index y 0) (sym is_region)
     (let s = no_segments n in let held = none_held n in record {
       stored = record {
         ring_of = record {
@@ -179,7 +178,6 @@ consistent_new ring index r rows n is_ring small is_region most room none keyed 
             those = λ k low high. absurd (omega (arith, high));
           };
         };
-        counted = sym (none_live n);
         sizes = sym (none_live n);
         spare = record {
           most = most;
@@ -194,24 +192,24 @@ consistent_new ring index r rows n is_ring small is_region most room none keyed 
 
 -- ---- how much there is
 
-live_small : (f : ℕ → Row) (n : ℕ) → ((k : ℕ) → k < n → size (f k).key (f k).value ≤ 13000) → live (listed f n) ≤ 13000 * n
+live_small : (f : ℕ → Row) (n : ℕ) → ((k : ℕ) → k < n → size (f k).key.bytes (f k).value ≤ 13000) → live (listed f n) ≤ 13000 * n
 live_small f zero small = omega arith
 live_small f (suc n) small =
     let rest = live_small (λ k. f (suc k)) n (λ k low. small (suc k) (omega (arith, low))) in
-    let sum = sum_by-cons (λ (x : Row). size x.key x.value) (f 0) (listed (λ k. f (suc k)) n) in let first = small 0 (omega arith) in omega (arith, rest, sum, first)
+    let sum = sum_by-cons (λ (x : Row). size x.key.bytes x.value) (f 0) (listed (λ k. f (suc k)) n) in let first = small 0 (omega arith) in omega (arith, rest, sum, first)
 
-size_small : (r : RingState) (l : Live) → IsRingOf r l → (k : ℕ) → k < r.count → size (nth r l k).key (nth r l k).value ≤ 13000
+size_small : (r : RingState) (l : Live) → IsRingOf r l → (k : ℕ) → k < r.count → size (nth r l k).key.bytes (nth r l k).value ≤ 13000
 size_small r l of k low =
     let h = of.puts k low in
     let put : nth r l k ≡ h.put = put_is l r.places (slot r k) (position r k) h in
     let key = h.is_put.holds.storable.short_key in let value = h.is_put.holds.storable.short_value in
-    let small : size h.put.key h.put.value ≤ 13000 = omega (arith, key, value) in
-    subst (λ (x : Row). size x.key x.value ≤ 13000) (sym put) small
+    let small : size h.put.key.bytes h.put.value ≤ 13000 = omega (arith, key, value) in
+    subst (λ (x : Row). size x.key.bytes x.value ≤ 13000) (sym put) small
 
-pub bytes_small : (r : RingState) (index : PutRows) (s : RegionState) (bytes : ℕ) → IsStored r index s bytes → bytes ≤ 13000 * 2 ^ 32
-bytes_small r index s bytes h =
+pub bytes_small : (r : RingState) (index : PutRows) (s : RegionState) → IsStored r index s → live_total s ≤ 13000 * 2 ^ 32
+bytes_small r index s h =
     let all = live_small (nth r (live_at s)) r.count (size_small r (live_at s) h.ring_of) in
-    let few = h.ring_of.numbers.few in let small = h.ring_of.numbers.small in let sizes = h.sizes in let counted = h.counted in omega (arith, all, few, small, sizes, counted)
+    let few = h.ring_of.numbers.few in let small = h.ring_of.numbers.small in let sizes = h.sizes in omega (arith, all, few, small, sizes)
 
 -- what a dirty region shows of its parts
 pub record IsSeen (room count bytes held : ℕ) (now : DirtyState) : Type 0 where
@@ -221,12 +219,12 @@ pub record IsSeen (room count bytes held : ℕ) (now : DirtyState) : Type 0 wher
   pub held_is : held_count now.region ≡ held
   pub total : live_total now.region ≡ bytes
 
-pub seen : (r : RingState) (index : PutRows) (s : RegionState) (bytes out : ℕ) (now : DirtyState) → IsConsistent r index s bytes out
-    → (let d : DirtyState = record { room = r.room; queue = record { puts = puts_in r (live_at s); out = out }; first = r.first; region = s } in d ≡ now) → IsSeen r.room r.count bytes (held_count s) now
-seen r index s bytes out now is view = record {
+pub seen : (r : RingState) (index : PutRows) (s : RegionState) (out : ℕ) (now : DirtyState) → IsConsistent r index s out
+    → (let d : DirtyState = record { room = r.room; queue = record { puts = puts_in r (live_at s); out = out }; first = r.first; region = s } in d ≡ now) → IsSeen r.room r.count (live_total s) (held_count s) now
+seen r index s out now is view = record {
   room_is = sym (ap (λ (x : DirtyState). x.room) view);
   count_is = sym (ap (λ (x : DirtyState). length x.queue.puts) view) ∙ length-listed (nth r (live_at s)) r.count;
-  live_is = sym (ap (λ (x : DirtyState). live x.queue.puts) view) ∙ (is.stored.sizes ∙ sym is.stored.counted);
+  live_is = sym (ap (λ (x : DirtyState). live x.queue.puts) view) ∙ is.stored.sizes;
   held_is = sym (ap (λ (x : DirtyState). held_count x.region) view);
-  total = sym (ap (λ (x : DirtyState). live_total x.region) view) ∙ sym is.stored.counted;
+  total = sym (ap (λ (x : DirtyState). live_total x.region) view);
 }

@@ -1,5 +1,6 @@
 -- A dirty region, as its contracts see it.
 use Rattle.std.specs.Prelude.{◌≡◌, ℕ, List, [], ◌∷◌, ◌++◌}
+use Rattle.rows.specs.Key.{in_table}
 use Rattle.regions.specs.Segments.{RegionState}
 use Rattle.segmented_store.specs.Segments.{HoldsSegments}
 use Rattle.dirty_region.specs.Queues.{Queue}
@@ -21,6 +22,6 @@ pub record Keeps (old new : DirtyState) : Type 0 where
 abbrev pub empty : Queue
 empty = record { puts = []; out = 0 }
 
--- the queue with a put more, which is the newest
+-- the queue with a put more, of a key of table 0, which is the newest
 abbrev pub with_put : List ℕ → List ℕ → ℕ → Queue → Queue
-with_put key value number queue = record queue { puts = queue.puts ++ record { key = key; value = value; number = number } ∷ [] }
+with_put key value number queue = record queue { puts = queue.puts ++ record { key = in_table 0 key; value = value; number = number } ∷ [] }

@@ -1,6 +1,7 @@
 //! The puts that have not reached the disk.
 ghost use Rattle.std.specs.Prelude.{◌≡◌, ◌↔◌, ℕ, ◌+◌, ◌<◌, ◌≤◌, ◌^◌, ◌++◌, length, replicate, true, Err, None, IfOk, IfErr, MatchOption};
 ghost use Rattle.layout.specs.Sizes as sizes;
+ghost use Rattle.rows.specs.Key.{in_table};
 ghost use Rattle.rows.specs.Row.{live, size};
 ghost use Rattle.regions.specs.Segments.{idle};
 ghost use Rattle.regions.specs.Counts.{live_total};
@@ -24,10 +25,14 @@ use crate::seeking::{forget, new_index, search};
 use raw_range::Piece;
 use regions::Region;
 use row_bytes::{NewRow, row_size, value_in};
+use rows::Key;
 use segmented_store::{Segmented, room};
 use std::alloc::{AllocError, Global};
 use std::marker::Model;
 use storing::{add_put, make_way};
+
+// All puts are of this table.
+const TABLE: u8 = 0;
 
 /// The puts that have not reached the disk, oldest first, and the segments in which they stand. Nothing is evicted.
 #[derive(Drop)]
@@ -35,7 +40,6 @@ pub struct Dirty {
     region: Region,
     ring: Ring,
     index: PutIndex,
-    live: u64,
     out: usize,
     // memory for a line
     line: Vec<u8>,
@@ -58,7 +62,7 @@ impl Model for Dirty {
       region = d.region;
     } };
 
-    ghost invariant = { λ d. IsConsistent d.ring d.index d.region d.live d.out
+    ghost invariant = { λ d. IsConsistent d.ring d.index d.region d.out
         × (greatest_line ≤ vec_capacity d.line) };
 }
 
@@ -83,7 +87,6 @@ impl Dirty {
             region: Region::new(alloc, segments, 1)?,
             ring: Ring::new(alloc, rows)?,
             index: new_index(alloc, rows)?,
-            live: 0,
             out: 0,
             line: Vec::with_capacity(alloc, GREATEST_LINE)?,
         })
@@ -111,7 +114,7 @@ impl Dirty {
         // The queue with the put, and what is due then.
         ensures put { IfOk result (λ _. self.new.queue ≡ with_put key.now value.now number self.old.queue) }
         ensures rest { IfOk result (λ _. rest self.new.queue ≡ rest self.old.queue
-            ++ line (record { key = key.now; value = value.now; number = number })) }
+            ++ line (record { key = in_table 0 key.now; value = value.now; number = number })) }
 
         // The oldest put's position, the room and the segments are as they were.
         ensures first { self.new.first ≡ self.old.first }
@@ -121,14 +124,22 @@ impl Dirty {
             return Err(DirtyRefusal::TooMany);
         }
         let size = row_size(key, value);
-        if exceeds(self.live, size, self.region.held_segments()) {
+        if exceeds(self.region.live(), size, self.region.held_segments()) {
             return Err(DirtyRefusal::NoRoom);
         }
         make_way(&mut self.region, &mut self.ring, &self.index, size);
-        let spot = forget(&mut self.index, &self.ring, &self.region, key);
-        let put = NewRow { key, value, number };
+        let sought = Key {
+            table: TABLE,
+            bytes: key,
+        };
+        let spot = forget(&mut self.index, &self.ring, &self.region, &sought);
+        let put = NewRow {
+            table: TABLE,
+            key,
+            value,
+            number,
+        };
         add_put(&mut self.region, &mut self.ring, &mut self.index, spot, put);
-        self.live += u64::from(size);
         Ok(())
     }
 
@@ -137,7 +148,11 @@ impl Dirty {
         ensures { MatchOption result (newest key.now self.now.queue.puts ≡ None)
             (λ value. newest key.now self.now.queue.puts ≡ Some value.now) }
     {
-        let Ok(found) = search(&self.index, &self.ring, &self.region, key) else {
+        let sought = Key {
+            table: TABLE,
+            bytes: key,
+        };
+        let Ok(found) = search(&self.index, &self.ring, &self.region, &sought) else {
             return None;
         };
         Some(value_in(content_of(&self.region, self.ring.places(), found.row)))
@@ -154,7 +169,7 @@ impl Dirty {
     pub fn live(&self) -> u64
         ensures { result ≡ live self.now.queue.puts }
     {
-        self.live
+        self.region.live()
     }
 
     /// What holds of a dirty region at each time.

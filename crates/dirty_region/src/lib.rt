@@ -1,10 +1,10 @@
 //! Puts that stay until they are flushed, in segments that compaction moves: the dirty memory of a database, its
 //! memtable or write-back buffer, from which nothing is evicted.
 //!
-//! A put is an object of a [`regions::Region`] of one group, with the bytes of `row_bytes`. What a [`Dirty`] means is a queue
-//! ([`specs/Queues.antt`]): a list of puts, the oldest first, and how many bytes of the oldest one's line are out. What the
-//! sink has got, followed by what is still due, is the lines of all puts in order, whatever failed in between and whatever
-//! compaction moved.
+//! A put is an object of a [`regions::Region`] of one group, with the bytes of `row_bytes`, and of table 0. What a
+//! [`Dirty`] means is a queue ([`specs/Queues.antt`]): a list of puts, the oldest first, and how many bytes of the oldest
+//! one's line are out. What the sink has got, followed by what is still due, is the lines of all puts in order, whatever
+//! failed in between and whatever compaction moved.
 #![tactic(auto)]
 
 mod dirty;

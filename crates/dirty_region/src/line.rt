@@ -2,6 +2,7 @@
 ghost use Rattle.std.specs.Prelude.{◌≡◌, ◌-◌, ◌≤◌, ◌<◌, [], length, take, drop, vec_capacity, OnOk, OnErr};
 ghost use Rattle.std.specs.Io.KnownBytes.{Appends};
 ghost use Rattle.layout.specs.Sizes.{greatest_key, greatest_value};
+ghost use Rattle.rows.specs.Key.{in_table};
 ghost use Rattle.layout.specs.Counts.{Rose};
 ghost use Rattle.dirty_region.specs.Queues.{line};
 ghost use Rattle.dirty_region.specs.inside.Lines.{greatest_line};
@@ -17,7 +18,7 @@ pub(crate) fn make_line(text: &mut Vec<u8>, key: &[u8], value: &[u8])
     requires short_key { length key.now ≤ greatest_key }
     requires short_value { length value.now ≤ greatest_value }
     requires capacity { greatest_line ≤ vec_capacity text.old }
-    ensures line { text.new.items ≡ line (record { key = key.now; value = value.now; number = 0 }) }
+    ensures line { text.new.items ≡ line (record { key = in_table 0 key.now; value = value.now; number = 0 }) }
     ensures capacity { greatest_line ≤ vec_capacity text.new }
 {
     text.clear();

@@ -11,7 +11,7 @@ ghost use Rattle.regions.specs.Contents.{live_at, size_of, standing_at, zeros, C
 ghost use Rattle.dirty_region.specs.Puts.{dirty_kind, unlinked};
 ghost use Rattle.dirty_region.specs.inside.Rings.{HoldsAPut, AddsPut, Drops};
 
-use layout::{DESCRIPTOR, ObjectKind};
+use layout::ObjectKind;
 use regions::{Place, Region};
 use row_bytes::{Links, NewRow, row_size, write_row};
 
@@ -45,7 +45,9 @@ fn write_put(content: &mut [u8], position: u32, put: NewRow<'_>)
     ensures read { rows.row_in content.new ≡ row_of put.entry }
     ensures number { rows.number_in content.new ≡ position }
 {
-    write_row(content, position, put.number, UNLINKED, put.key, put.value);
+    write_row(
+        content, position, put.number, UNLINKED, put.table, put.key, put.value,
+    );
 }
 
 // Places a put as a new object with its position, for which there is room.
@@ -62,15 +64,12 @@ pub(crate) fn place_put(region: &mut Region, position: u32, put: NewRow<'_>) -> 
     place
 }
 
-// The live object at a place is dead from now on. Answers its bytes, the descriptor included.
-pub(crate) fn kill_put(region: &mut Region, place: Place) -> u32
+// The live object at a place is dead from now on.
+pub(crate) fn kill_put(region: &mut Region, place: Place)
     requires { HoldsAPut (live_at region.old place) }
-    ensures size { IfSome (live_at region.old place) (λ item. result ≡ size_of item) }
     ensures dropped { Drops place (live_at region.old) (live_at region.new) }
-    ensures live { live_total region.new + result ≡ live_total region.old }
+    ensures live { IfSome (live_at region.old place) (λ item. live_total region.new + size_of item ≡ live_total region.old) }
     ensures shape { shape region.new ≡ shape region.old }
 {
-    let size = region.bytes(place).len() as u32 + DESCRIPTOR;
     region.kill(place);
-    size
 }

@@ -1,6 +1,9 @@
 //! Rows by their keys, for exact look-up.
 ghost use Rattle.std.specs.Prelude.{◌≡◌, ◌≢◌, ℕ, ◌<◌, ◌≤◌, ◌∷◌, [], List, length, replicate, true, false, IfOk, MatchResult};
 ghost use Rattle.common_lemmas.specs.Lists.{times};
+ghost use Rattle.layout.specs.Sizes.{tables};
+ghost use Rattle.rows.specs.Key as shown;
+ghost use Rattle.rows.specs.Key.{key_shown};
 ghost use Rattle.key_index.specs.Index.{IsIndexOf, IsOrdered};
 ghost use Rattle.key_table.specs.Hash.{tag_of};
 ghost use Rattle.key_table.specs.Table.{AreSame, IsSpotFor, IsTagOf};
@@ -8,6 +11,7 @@ ghost use Rattle.dirty_region.specs.inside.PutRows.{rows_in, Has, IsKeyed, IsPut
 
 use key_index::{KeyIndex, Keys};
 use key_table::{KeyTable, RowAt, Spot};
+use rows::Key;
 use std::alloc::{AllocError, Global};
 use std::marker::Model;
 
@@ -49,11 +53,12 @@ impl PutIndex {
     }
 
     // The row of a key, or the spot for one.
-    pub(crate) fn find<K: Keys>(&self, keys: &K, key: &[u8]) -> Result<RowAt, Spot>
-        requires { IsPutIndexOf (K.has_row keys.now) (K.key_of keys.now) self.now }
+    pub(crate) fn find<K: Keys>(&self, keys: &K, key: &Key<'_>) -> Result<RowAt, Spot>
+        requires index { IsPutIndexOf (K.has_row keys.now) (K.key_of keys.now) self.now }
+        requires table { key.now.table < tables }
         ensures { MatchResult result
-            (λ found. IsThere self.now found × (K.key_of keys.now found.row ≡ key.now))
-            (λ spot. IsSpotFor key.now spot × ((n : ℕ) → Has self.now n → K.key_of keys.now n ≢ key.now)) }
+            (λ found. IsThere self.now found × (K.key_of keys.now found.row ≡ key_shown key.now))
+            (λ spot. IsSpotFor (key_shown key.now) spot × ((n : ℕ) → Has self.now n → K.key_of keys.now n ≢ key_shown key.now)) }
     {
         match self.table.find(keys, key) {
             Ok(found) => Ok(found),
@@ -87,15 +92,16 @@ impl PutIndex {
 
     // Takes the row with this number out, whose key is given. False where the index has not the row. No other row of the
     // table is asked for its key.
-    pub(crate) fn remove_row<K: Keys>(&mut self, keys: &K, key: &[u8], row: u32) -> bool
+    pub(crate) fn remove_row<K: Keys>(&mut self, keys: &K, key: &Key<'_>, row: u32) -> bool
         requires index { IsPutIndexOf (K.has_row keys.now) (K.key_of keys.now) self.old }
         requires number { row < self.old.room }
-        requires key { K.key_of keys.now row ≡ key.now }
+        requires table { key.now.table < tables }
+        requires key { K.key_of keys.now row ≡ key_shown key.now }
         ensures room { self.new.room ≡ self.old.room }
         ensures rows { result ≡ true → AreSame (rows_in self.old) (row ∷ rows_in self.new) }
         ensures absent { result ≡ false → times row (rows_in self.old) ≡ 0 }
         ensures unchanged { result ≡ false → self.new ≡ self.old }
-        ensures keyed { (key_of : ℕ → List ℕ) → IsKeyed key_of self.old → IsKeyed key_of self.new }
+        ensures keyed { (key_of : ℕ → shown.Key) → IsKeyed key_of self.old → IsKeyed key_of self.new }
     {
         if !self.marks[row as usize] {
             return false;
@@ -104,16 +110,17 @@ impl PutIndex {
     }
 
     // The same, with the tag of the key.
-    pub(crate) fn remove<K: Keys>(&mut self, keys: &K, key: &[u8], found: RowAt) -> bool
+    pub(crate) fn remove<K: Keys>(&mut self, keys: &K, key: &Key<'_>, found: RowAt) -> bool
         requires index { IsPutIndexOf (K.has_row keys.now) (K.key_of keys.now) self.old }
         requires number { found.row < self.old.room }
         requires tag { IsTagOf self.old.table found }
-        requires key { K.key_of keys.now found.row ≡ key.now }
+        requires table { key.now.table < tables }
+        requires key { K.key_of keys.now found.row ≡ key_shown key.now }
         ensures room { self.new.room ≡ self.old.room }
         ensures rows { result ≡ true → AreSame (rows_in self.old) (found.row ∷ rows_in self.new) }
         ensures absent { result ≡ false → times found.row (rows_in self.old) ≡ 0 }
         ensures unchanged { result ≡ false → self.new ≡ self.old }
-        ensures keyed { (key_of : ℕ → List ℕ) → IsKeyed key_of self.old → IsKeyed key_of self.new }
+        ensures keyed { (key_of : ℕ → shown.Key) → IsKeyed key_of self.old → IsKeyed key_of self.new }
     {
         self.marks[found.row as usize] = false;
         if self.table.remove(found) {
@@ -131,12 +138,20 @@ fn no_marks(alloc: Global, room: u32) -> Result<Vec<bool>, AllocError>
 }
 
 // The stray of a key whose spot is given, or the spot.
-fn find_stray<K: Keys>(strays: &KeyIndex, keys: &K, key: &[u8], spot: Spot) -> Result<RowAt, Spot>
+fn find_stray<K: Keys>(
+    strays: &KeyIndex,
+    keys: &K,
+    key: &Key<'_>,
+    spot: Spot,
+) -> Result<RowAt, Spot>
     requires index { IsIndexOf (K.has_row keys.now) (K.key_of keys.now) strays.now }
-    requires spot { IsSpotFor key.now spot }
+    requires table { key.now.table < tables }
+    requires spot { IsSpotFor (key_shown key.now) spot }
     ensures { MatchResult result
-        (λ found. (1 ≤ times found.row strays.now.rows) × (found.tag ≡ tag_of key.now) × (K.key_of keys.now found.row ≡ key.now))
-        (λ spot. IsSpotFor key.now spot × ((n : ℕ) → 1 ≤ times n strays.now.rows → K.key_of keys.now n ≢ key.now)) }
+        (λ found. (1 ≤ times found.row strays.now.rows) × (found.tag ≡ tag_of (key_shown key.now))
+        × (K.key_of keys.now found.row ≡ key_shown key.now))
+        (λ spot. IsSpotFor (key_shown key.now) spot
+        × ((n : ℕ) → 1 ≤ times n strays.now.rows → K.key_of keys.now n ≢ key_shown key.now)) }
 {
     if strays.len() == 0 {
         return Err(spot);
@@ -148,14 +163,15 @@ fn find_stray<K: Keys>(strays: &KeyIndex, keys: &K, key: &[u8], spot: Spot) -> R
 }
 
 // Takes the stray with this number out, whose key is given. False where none has the number.
-fn take_stray<K: Keys>(strays: &mut KeyIndex, keys: &K, key: &[u8], row: u32) -> bool
+fn take_stray<K: Keys>(strays: &mut KeyIndex, keys: &K, key: &Key<'_>, row: u32) -> bool
     requires index { IsIndexOf (K.has_row keys.now) (K.key_of keys.now) strays.old }
-    requires key { K.key_of keys.now row ≡ key.now }
+    requires table { key.now.table < tables }
+    requires key { K.key_of keys.now row ≡ key_shown key.now }
     ensures room { strays.new.room ≡ strays.old.room }
     ensures rows { result ≡ true → AreSame strays.old.rows (row ∷ strays.new.rows) }
     ensures absent { result ≡ false → times row strays.old.rows ≡ 0 }
     ensures unchanged { result ≡ false → strays.new ≡ strays.old }
-    ensures ordered { (key_of : ℕ → List ℕ) → IsOrdered key_of strays.old → IsOrdered key_of strays.new }
+    ensures ordered { (key_of : ℕ → shown.Key) → IsOrdered key_of strays.old → IsOrdered key_of strays.new }
 {
     if strays.len() == 0 {
         return false;

@@ -6,7 +6,8 @@ ghost use Rattle.dirty_region.specs.inside.Rings.{HasSomePut, put_at};
 
 use key_index::Keys;
 use regions::{Place, Region};
-use row_bytes::key_in;
+use row_bytes::key_of_row;
+use rows::Key;
 
 // Reads the keys of puts where they stand.
 #[derive(Clone, Copy)]
@@ -32,7 +33,7 @@ impl<'a> Keys for PutKeys<'a> {
 
     ghost key_of = { λ k. key_at (live_at k.region.now) k.places.now };
 
-    fn key(&self, row: u32) -> &[u8] {
-        key_in(content_of(self.region, self.places, row))
+    fn key(&self, row: u32) -> Key<'_> {
+        key_of_row(content_of(self.region, self.places, row))
     }
 }

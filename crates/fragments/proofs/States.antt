@@ -34,9 +34,9 @@ active_guarded r g guards = elim (cases_eq 0 g) [
 ]
 
 -- guards change nothing but their count
-pub consistent_guarded : (t : TableState) (r s : RegionState) (lengths : List ℕ) (segments bytes g guards : ℕ) → IsConsistent t r lengths segments bytes → s ≡ with_guards r g guards
-    → IsConsistent t s lengths segments bytes
-consistent_guarded t r s lengths segments bytes g guards i is = subst (λ (x : RegionState). IsConsistent t x lengths segments bytes) (sym is) (record {
+pub consistent_guarded : (t : TableState) (r s : RegionState) (lengths : List ℕ) (segments g guards : ℕ) → IsConsistent t r lengths segments → s ≡ with_guards r g guards
+    → IsConsistent t s lengths segments
+consistent_guarded t r s lengths segments g guards i is = subst (λ (x : RegionState). IsConsistent t x lengths segments) (sym is) (record {
   entries = i.entries;
   one = length-set r.groups g _ ∙ i.one;
   few = i.few;
@@ -50,7 +50,6 @@ consistent_guarded t r s lengths segments bytes g guards i is = subst (λ (x : R
     | inl some ↦ inl some
     | inr few ↦ elim few [ inl none ↦ inr (inl none) | inr one ↦ inr (inr (one.0, subst (λ o. IsSome o) (sym (active_guarded r g guards)) one.1)) ]
   ];
-  counted = i.counted;
   sizes = i.sizes;
   within = i.within;
 })
@@ -76,13 +75,13 @@ abbrev AreLengths : List ℕ → Values → Type 0
 AreLengths lengths values = (n : ℕ) (value : List ℕ) → value_of values n ≡ Some value → slice_index_or lengths n 0 ≡ length value
 
 -- the values after a call
-pub consistent_set : (t u : TableState) (r s : RegionState) (lengths now : List ℕ) (segments bytes after n : ℕ) (o : Option (List ℕ)) → IsConsistent t r lengths segments bytes
+pub consistent_set : (t u : TableState) (r s : RegionState) (lengths now : List ℕ) (segments n : ℕ) (o : Option (List ℕ)) → IsConsistent t r lengths segments
     → AreEntries t → AreEntries u → u.names ≡ t.names → n < t.names → AreChains u (live_at s) → HoldParts u (live_at s) (all_parts (slice_set (values_in t r) n o) [])
     → IsShort o → length now ≡ length lengths → AreLengths now (slice_set (values_in t r) n o)
-    → HoldsSegments r s → (1 ≤ free_count s) ⊎ (shape s ≡ shape r) → after ≡ live_total s
+    → HoldsSegments r s → (1 ≤ free_count s) ⊎ (shape s ≡ shape r)
     → live_total s + size_if (value_of (values_in t r) n) ≡ live_total r + size_if o → live_total s ≤ room (held_count r)
-    → (values_in u s ≡ slice_set (values_in t r) n o) × IsConsistent u s now segments after
-consistent_set t u r s lengths now segments bytes after n o i entries entries_now names below chains hold short many lens keeps free counted total within =
+    → (values_in u s ≡ slice_set (values_in t r) n o) × IsConsistent u s now segments
+consistent_set t u r s lengths now segments n o i entries entries_now names below chains hold short many lens keeps free total within =
     let values = slice_set (values_in t r) n o in
     let count : length (values_in t r) ≡ t.names = count_is t r entries in
     let small : n < length (values_in t r) = omega (arith, count, below) in
@@ -103,7 +102,6 @@ consistent_set t u r s lengths now segments bytes after n o i entries entries_no
         lens = subst (λ (vs : Values). AreLengths now vs) (sym read) lens;
         held = i.held ∙ sym keeps.held;
         free = free_now;
-        counted = counted;
         sizes = ap live read ∙ (let e : live values ≡ live_total s = omega (arith, sum_is, were, total) in e);
         within = subst (λ k. live_total s ≤ room k) (sym keeps.held) within;
       },
@@ -187,19 +185,19 @@ module _ (t : TableState) (old new : Live) (same : (p : Place) → new p ≡ old
       by None = refl
       by (Some p) = ap (option_map bare) (same p)
 
-pub values_kept : (t : TableState) (r s : RegionState) (lengths : List ℕ) (segments bytes : ℕ) → IsConsistent t r lengths segments bytes → AreEntries t → Keeps r s → values_in t s ≡ values_in t r
-values_kept t r s lengths segments bytes i entries keeps =
+pub values_kept : (t : TableState) (r s : RegionState) (lengths : List ℕ) (segments : ℕ) → IsConsistent t r lengths segments → AreEntries t → Keeps r s → values_in t s ≡ values_in t r
+values_kept t r s lengths segments i entries keeps =
     let same : (p : Place) → live_at s p ≡ live_at r p = λ p. ap item_if_live (keeps p) in
     let few = entries.few in let most = entries.firsts in
     values_are t (live_at s) (values_in t r) [] (chains_kept t (live_at r) (live_at s) same i.chains) (omega (arith, few)) (omega (arith, most)) (count_is t r entries)
     (parts_kept t (live_at r) (live_at s) same i.chains (all_parts (values_in t r) []) i.parts)
 
 -- a segment more
-pub consistent_more : (t : TableState) (r s : RegionState) (lengths : List ℕ) (segments bytes : ℕ) → IsConsistent t r lengths segments bytes → AreEntries t → Keeps r s
-    → group_count s ≡ group_count r → (shape s).most ≡ (shape r).most → held_count s ≡ held_count r + 1 → HasFree s → live_total s ≡ live_total r → IsConsistent t s lengths (segments + 1) bytes
-consistent_more t r s lengths segments bytes i entries keeps groups most held free total =
+pub consistent_more : (t : TableState) (r s : RegionState) (lengths : List ℕ) (segments : ℕ) → IsConsistent t r lengths segments → AreEntries t → Keeps r s
+    → group_count s ≡ group_count r → (shape s).most ≡ (shape r).most → held_count s ≡ held_count r + 1 → HasFree s → live_total s ≡ live_total r → IsConsistent t s lengths (segments + 1)
+consistent_more t r s lengths segments i entries keeps groups most held free total =
     let same : (p : Place) → live_at s p ≡ live_at r p = λ p. ap item_if_live (keeps p) in
-    let values = values_kept t r s lengths segments bytes i entries keeps in
+    let values = values_kept t r s lengths segments i entries keeps in
     let were = i.held in let within = i.within in
     record {
       entries = entries;
@@ -212,7 +210,6 @@ consistent_more t r s lengths segments bytes i entries keeps groups most held fr
       lens = subst (λ (vs : Values). AreLengths lengths vs) (sym values) i.lens;
       held = omega (arith, were, held);
       free = free;
-      counted = i.counted ∙ sym total;
       sizes = ap live values ∙ (i.sizes ∙ sym total);
       within = omega (arith, within, held, total);
     }
@@ -258,7 +255,7 @@ module _ (t : TableState) (r : RegionState) (lengths : List ℕ) (segments : ℕ
       let few = entries.few in let most = entries.firsts in
       values_are t (live_at r) (replicate t.names None) [] empty_chains (omega (arith, few)) (omega (arith, most)) (length-replicate t.names None) empty_parts
 
-  pub empty_consistent : IsConsistent t r lengths segments 0
+  pub empty_consistent : IsConsistent t r lengths segments
   empty_consistent = record {
     entries = entries;
     one = one;
@@ -270,7 +267,6 @@ module _ (t : TableState) (r : RegionState) (lengths : List ℕ) (segments : ℕ
     lens = λ n value e. some_none e (ap (λ (vs : Values). value_of vs n) empty_values ∙ none_value t.names n);
     held = held;
     free = free;
-    counted = sym total;
     sizes = ap live empty_values ∙ (sum_by-replicate size_if t.names None ∙ (let z : t.names * 0 ≡ live_total r = omega (arith, total) in z));
     within = omega (arith, total);
   }

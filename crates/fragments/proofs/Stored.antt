@@ -217,9 +217,9 @@ module _ (t : TableState) (r : RegionState) (entries : AreEntries t) where
   pub value_some : (n : ℕ) (p : Place) → n < t.names → first_at t.firsts n ≡ Some p → value_of (values_in t r) n ≡ Some (concat (pieces_from (live_at r) (first_at t.firsts n)))
   value_some n p h some = value_at n h ∙ (ap (read (live_at r)) some ∙ ap (λ o. Some (concat (pieces_from (live_at r) o))) (sym some))
 
-  pub leads_from : (lengths : List ℕ) (segments bytes n : ℕ) (p : Place) → IsConsistent t r lengths segments bytes → n < t.names → first_at t.firsts n ≡ Some p
+  pub leads_from : (lengths : List ℕ) (segments n : ℕ) (p : Place) → IsConsistent t r lengths segments → n < t.names → first_at t.firsts n ≡ Some p
       → Leads (live_at r) (first_at t.firsts n) (slice_index_or lengths n 0)
-  leads_from lengths segments bytes n p i h some = record {
+  leads_from lengths segments n p i h some = record {
     path = subst (λ ps. IsPath (live_at r) (first_at t.firsts n) ps) (sym (followed_is t (live_at r) i.chains n)) (path_of t (live_at r) i.chains n);
     left_is = i.lens n (concat (pieces_from (live_at r) (first_at t.firsts n))) (value_some n p h some);
   }

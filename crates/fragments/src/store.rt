@@ -48,7 +48,6 @@ pub struct Fragments {
     tables: Tables,
     lengths: Vec<u32>,
     segments: u32,
-    live: u64,
 }
 
 impl Model for Fragments {
@@ -60,7 +59,7 @@ impl Model for Fragments {
 
     ghost view = { λ f. record { firsts = take f.tables.names f.tables.firsts; region = f.region } };
 
-    ghost invariant = { λ f. IsConsistent f.tables f.region f.lengths.items f.segments f.live };
+    ghost invariant = { λ f. IsConsistent f.tables f.region f.lengths.items f.segments };
 }
 
 impl Fragments {
@@ -84,7 +83,6 @@ impl Fragments {
             tables: Tables::new(alloc, names)?,
             lengths: no_lengths(alloc, names)?,
             segments: 0,
-            live: 0,
         })
     }
 
@@ -157,10 +155,8 @@ impl Fragments {
         if !self.has_room(size) {
             return Err(SetRefusal::NoRoom);
         }
-        let dropped = self.size_of(name);
         set_value(&mut self.region, &mut self.tables, name, bytes);
         self.lengths[name as usize] = bytes.len() as u32;
-        self.live = self.live + size - dropped;
         Ok(())
     }
 
@@ -203,9 +199,7 @@ impl Fragments {
         let Some(_place) = self.tables.first(name) else {
             return false;
         };
-        let dropped = self.size_of(name);
         drop_value(&mut self.region, &mut self.tables, name);
-        self.live -= dropped;
         true
     }
 
@@ -213,18 +207,7 @@ impl Fragments {
     fn has_room(&self, size: u64) -> bool
         ensures { IsTrue result ↔ (values.live (values_of self.now) + size ≤ bound.room (held_count self.now.region)) }
     {
-        size <= room(self.segments) - self.live
-    }
-
-    // The bytes of the objects of a name's value, or 0 where it has none.
-    fn size_of(&self, name: u32) -> u64
-        requires { name < length self.now.firsts }
-        ensures size { result ≡ values.size_if (values.value_of (values_of self.now) name) }
-    {
-        let Some(_place) = self.tables.first(name) else {
-            return 0;
-        };
-        value_size(self.lengths[name as usize] as usize)
+        size <= room(self.segments) - self.region.live()
     }
 
     /// The live bytes: the sizes of all values together, which are those of the segments' live objects.
@@ -232,7 +215,7 @@ impl Fragments {
         ensures values { result ≡ values.live (values_of self.now) }
         ensures segments { result ≡ live_total self.now.region }
     {
-        self.live
+        self.region.live()
     }
 
     /// One guard more. While one stands, no fragment is moved. Guards nest.
@@ -273,7 +256,6 @@ impl Fragments {
     {
         let given = self.region.give_up();
         self.tables.clear();
-        self.live = 0;
         self.segments = self.segments.saturating_sub(1);
         given
     }

@@ -41,43 +41,43 @@ keys_line number keys =
 -- ---- a scan
 
 -- what a scan wrote is a body of its keys
-pub keys_are : (o : Operation) (index : Index) (body : List ℕ) → All IsEntry index → body ≡ scanned o.key o.count index → AreKeys body (scanned_keys o index)
+pub keys_are : (o : Operation) (index : Index) (body : List ℕ) → All IsEntry index → body ≡ scanned o.key.bytes o.count index → AreKeys body (scanned_keys o index)
 keys_are o index body all is =
-    let chosen : List Entry = take o.count (from o.key index) in
+    let chosen : List Entry = take o.count (from o.key.bytes index) in
     record {
       spelled = is ∙ sym (flat_map-map key_field (λ (e : Entry). e.key) chosen);
       lengths = All-map IsKey (λ (e : Entry). e.key) chosen (All-weaker IsEntry (λ (e : Entry). IsKey e.key) (λ e h. record { some = h.some_key; short = h.short_key }) chosen
-          (All-take IsEntry o.count (from o.key index) (All-filter (λ (e : Entry). is_le (key_cmp o.key e.key)) IsEntry index all)));
+          (All-take IsEntry o.count (from o.key.bytes index) (All-filter (λ (e : Entry). is_le (key_cmp o.key.bytes e.key)) IsEntry index all)));
     }
 
 -- ---- a put
 
 -- an insertion that was done, or had no room, is what the definition says
 pub put_is : {E : Type 0} (r : Result (Option ℕ) E) (bound : ℕ) (o : Operation) (old new : Index)
-    → IsErr r ↔ ((number_of o.key old ≡ None) × (bound ≤ length old)) → IfErr r (λ _. new ≡ old)
-    → IfOk r (λ had. had ≡ number_of o.key old) → IfOk r (λ _. new ≡ with_number o.key o.number old)
-    → (new ≡ (put bound o old (number_of o.key old)).0) × (put_answer r ≡ (put bound o old (number_of o.key old)).1)
+    → IsErr r ↔ ((number_of o.key.bytes old ≡ None) × (bound ≤ length old)) → IfErr r (λ _. new ≡ old)
+    → IfOk r (λ had. had ≡ number_of o.key.bytes old) → IfOk r (λ _. new ≡ with_number o.key.bytes o.number old)
+    → (new ≡ (put bound o old (number_of o.key.bytes old)).0) × (put_answer r ≡ (put bound o old (number_of o.key.bytes old)).1)
 put_is (Err e) bound o old new full same had is =
     let why = full.0 refl in
     let past = lt-leb (suc (length old)) bound (let many = why.1 in omega (arith, many)) in
-    let e : put bound o old (number_of o.key old) ≡ (old, Answer.Full) = ap (put bound o old) why.0 ∙ ap (λ b. cond b (with_number o.key o.number old, Answer.Stored) (old, Answer.Full)) past in
+    let e : put bound o old (number_of o.key.bytes old) ≡ (old, Answer.Full) = ap (put bound o old) why.0 ∙ ap (λ b. cond b (with_number o.key.bytes o.number old, Answer.Stored) (old, Answer.Full)) past in
     (same ∙ sym (ap (λ (x : Index × Answer). x.0) e), sym (ap (λ (x : Index × Answer). x.1) e))
 put_is (Ok (Some n)) bound o old new full same had is =
-    let e : put bound o old (number_of o.key old) ≡ (with_number o.key o.number old, Answer.Replaced) = ap (put bound o old) (sym had) in
+    let e : put bound o old (number_of o.key.bytes old) ≡ (with_number o.key.bytes o.number old, Answer.Replaced) = ap (put bound o old) (sym had) in
     (is ∙ sym (ap (λ (x : Index × Answer). x.0) e), sym (ap (λ (x : Index × Answer). x.1) e))
 put_is (Ok None) bound o old new full same had is = by_room (leb (suc (length old)) bound) refl where
   by_room : (b : Bool) → leb (suc (length old)) bound ≡ b
-      → (new ≡ (put bound o old (number_of o.key old)).0) × (Answer.Stored ≡ (put bound o old (number_of o.key old)).1)
+      → (new ≡ (put bound o old (number_of o.key.bytes old)).0) × (Answer.Stored ≡ (put bound o old (number_of o.key.bytes old)).1)
   by_room true low =
-      let e : put bound o old (number_of o.key old) ≡ (with_number o.key o.number old, Answer.Stored) = ap (put bound o old) (sym had) ∙ ap (λ b. cond b (with_number o.key o.number old, Answer.Stored) (old, Answer.Full)) low in
+      let e : put bound o old (number_of o.key.bytes old) ≡ (with_number o.key.bytes o.number old, Answer.Stored) = ap (put bound o old) (sym had) ∙ ap (λ b. cond b (with_number o.key.bytes o.number old, Answer.Stored) (old, Answer.Full)) low in
       (is ∙ sym (ap (λ (x : Index × Answer). x.0) e), sym (ap (λ (x : Index × Answer). x.1) e))
   by_room false past = absurd (true≢false (sym (full.1 (sym had, let far = leb-false (suc (length old)) bound past in omega (arith, far)))))
 
 -- the same of a key that is the command's
-pub put_at : {E : Type 0} (r : Result (Option ℕ) E) (bound : ℕ) (o : Operation) (old new : Index) (key : List ℕ) → key ≡ o.key
+pub put_at : {E : Type 0} (r : Result (Option ℕ) E) (bound : ℕ) (o : Operation) (old new : Index) (key : List ℕ) → key ≡ o.key.bytes
     → IsErr r ↔ ((number_of key old ≡ None) × (bound ≤ length old)) → IfErr r (λ _. new ≡ old)
     → IfOk r (λ had. had ≡ number_of key old) → IfOk r (λ _. new ≡ with_number key o.number old)
-    → (new ≡ (put bound o old (number_of o.key old)).0) × (put_answer r ≡ (put bound o old (number_of o.key old)).1)
+    → (new ≡ (put bound o old (number_of o.key.bytes old)).0) × (put_answer r ≡ (put bound o old (number_of o.key.bytes old)).1)
 put_at r bound o old new key e full same had is =
     put_is r bound o old new (subst (λ k. IsErr r ↔ ((number_of k old ≡ None) × (bound ≤ length old))) e full) same
     (subst (λ k. IfOk r (λ had. had ≡ number_of k old)) e had) (subst (λ k. IfOk r (λ _. new ≡ with_number k o.number old)) e is)
@@ -91,7 +91,7 @@ same_index (Err e) old new same = ap index_in same
 
 -- what stands where there is no command
 abbrev pub none : Command
-none = record { number = 0; line = 0; kind = Put; key = record { start = 0; len = 0 }; value = record { start = 0; len = 0 }; count = 0 }
+none = record { number = 0; line = 0; kind = Put; table = 0; key = record { start = 0; len = 0 }; value = record { start = 0; len = 0 }; count = 0 }
 
 -- the commands that are gone over are those of a trace, and there is another one
 module _ (bytes : List ℕ) (items commands : List Command) (same : items ≡ commands) (i : ℕ) (low : i < length items) where

@@ -8,7 +8,7 @@ use Rattle.index_mode.specs.IndexText.{index_text, text_from}
 
 -- two puts, and what is read and erased of them
 abbrev pub put_both : Trace
-put_both = trace_with (
+put_both = trace_with 1 (
     asks 1 Put (codes "b") (codes "1") 0 ∷ asks 2 Put (codes "a") (codes "2") 0 ∷ asks 3 Get (codes "b") [] 0
     ∷ asks 4 Scan (codes "a") [] 5 ∷ asks 5 Erase (codes "a") [] 0 ∷ asks 6 Get (codes "a") [] 0 ∷ [])
 

@@ -8,6 +8,8 @@ use Rattle.trace_text.specs.Trace.{Trace}
 use Rattle.index_tree.specs.Indexes.{Index, from, number_of, with_number, without}
 use Rattle.index_tree.specs.Sizes.{most}
 
+-- A key is its bytes: a trace that names tables is not run.
+
 -- what a command is answered; of a get the number of its key, of a scan the keys
 pub data Answer : Type 0 where
   Stored : Answer
@@ -20,9 +22,9 @@ pub data Answer : Type 0 where
 
 -- A put sets the number of its key. A key that is not there comes in where fewer are held than the most.
 abbrev pub put : ℕ → Operation → Index → Option ℕ → Index × Answer
-put bound operation index (Some number) = (with_number operation.key operation.number index, Replaced)
+put bound operation index (Some number) = (with_number operation.key.bytes operation.number index, Replaced)
 put bound operation index None =
-    if nat_lt (length index) bound then (with_number operation.key operation.number index, Stored) else (index, Full)
+    if nat_lt (length index) bound then (with_number operation.key.bytes operation.number index, Stored) else (index, Full)
 
 -- the same, of what an insertion tells: the number that the key had, or that there is no room
 abbrev pub put_answer : {E : Type 0} → Result (Option ℕ) E → Answer
@@ -40,13 +42,13 @@ erased (Some number) = Erased
 
 -- the keys of a scan
 abbrev pub scanned_keys : Operation → Index → List (List ℕ)
-scanned_keys operation index = map (λ entry. entry.key) (take operation.count (from operation.key index))
+scanned_keys operation index = map (λ entry. entry.key) (take operation.count (from operation.key.bytes index))
 
 -- what a command does to an index of so many keys at most, and its answer
 abbrev pub done : Kind → ℕ → Operation → Index → Index × Answer
-done kinds.Put bound operation index = put bound operation index (number_of operation.key index)
-done kinds.Get bound operation index = (index, found (number_of operation.key index))
-done kinds.Erase bound operation index = (without operation.key index, erased (number_of operation.key index))
+done kinds.Put bound operation index = put bound operation index (number_of operation.key.bytes index)
+done kinds.Get bound operation index = (index, found (number_of operation.key.bytes index))
+done kinds.Erase bound operation index = (without operation.key.bytes index, erased (number_of operation.key.bytes index))
 done kinds.Scan bound operation index = (index, Keys (scanned_keys operation index))
 
 -- the index behind these commands

@@ -3,6 +3,7 @@ use Rattle.std.proofs.Common.{◌≡◌, ℕ, zero, suc, ◌+◌, ◌<◌, ◌�
 use Rattle.std.specs.Prelude.{All}
 use Rattle.std.proofs.lemmas.List.{drop-map, drop_all}
 use Rattle.std.proofs.lemmas.Bool.{cases_lt}
+use Rattle.rows.specs.Key.{Key}
 use Rattle.key_index.specs.declared.entries.Entry.{Entry}
 use Rattle.key_index.specs.Lead.{rows_of}
 use Rattle.key_index.specs.inside.Blocks.{entries_of, entries_at, back, IsBlock}
@@ -67,7 +68,7 @@ got_within blocks k at e all some = let short = short_at blocks k all in let wit
     go (x ∷ es) (suc at) h = let more = go es at h in omega (arith, more)
 
 -- the rows from a key's place on are those that are not below it
-pub kept_from : (key_of : ℕ → List ℕ) (key : List ℕ) (blocks : List (List Entry)) (k at : ℕ) → IsPlaceOf key_of key blocks k at
+pub kept_from : (key_of : ℕ → Key) (key : Key) (blocks : List (List Entry)) (k at : ℕ) → IsPlaceOf key_of key blocks k at
     → back blocks k at ≡ filter (λ r. is_le (key_cmp key (key_of r))) (rows_of (entries_of blocks))
 kept_from key_of key blocks k at place =
     let p : ℕ → Bool = λ r. is_le (key_cmp key (key_of r)) in

@@ -3,6 +3,7 @@ use Rattle.std.proofs.Common.{◌≡◌, ◌≢◌, ℕ, zero, suc, ◌+◌, ◌
 use Rattle.std.specs.Prelude.{All, Contains}
 use Rattle.std.proofs.lemmas.List.{take-append-drop}
 use Rattle.std.proofs.lemmas.List.Elements.{All-head, All-tail}
+use Rattle.rows.specs.Key.{Key}
 use Rattle.key_index.specs.declared.entries.Entry.{Entry}
 use Rattle.key_index.specs.Order.{key_cmp, Each, AreAbove, AreBelow, AreRising}
 use Rattle.key_index.specs.inside.Blocks.{AreAtLeast}
@@ -34,22 +35,22 @@ cut_at blocks k at =
     ∙ ap (λ xs. a ++ xs) (append_assoc (take at b) (drop at b) d)
     ∙ sym (append_assoc a (take at b) (drop at b ++ d))
 
-pub front_below : (key_of : ℕ → List ℕ) (key : List ℕ) (blocks : List (List Entry)) (k at : ℕ) → IsPlaceOf key_of key blocks k at → AreBelow key_of key (front blocks k at)
+pub front_below : (key_of : ℕ → Key) (key : Key) (blocks : List (List Entry)) (k at : ℕ) → IsPlaceOf key_of key blocks k at → AreBelow key_of key (front blocks k at)
 front_below key_of key blocks k at h =
     each_append (λ r. key_cmp (key_of r) key ≡ Less) (rows_of (entries_of (take k blocks))) (take at (rows_of (entries_at blocks k))) h.before h.below
 
-pub back_least : (key_of : ℕ → List ℕ) (key : List ℕ) (blocks : List (List Entry)) (k at : ℕ) → IsPlaceOf key_of key blocks k at → AreAtLeast key_of key (back blocks k at)
+pub back_least : (key_of : ℕ → Key) (key : Key) (blocks : List (List Entry)) (k at : ℕ) → IsPlaceOf key_of key blocks k at → AreAtLeast key_of key (back blocks k at)
 back_least key_of key blocks k at h =
     each_append (λ r. is_lt (key_cmp (key_of r) key) ≡ false) (drop at (rows_of (entries_at blocks k))) (rows_of (entries_of (drop (k + 1) blocks))) h.at_least
     (each_weaker (λ r. key_cmp key (key_of r) ≡ Less) (λ r. is_lt (key_cmp (key_of r) key) ≡ false) (λ r e. above_least (key_of r) key e) (rows_of (entries_of (drop (k + 1) blocks))) h.after)
 
 -- what is not below a key and has not the key is above it
-pub above_others : (key_of : ℕ → List ℕ) (key : List ℕ) (rows : List ℕ) → AreAtLeast key_of key rows → Each (λ r. key_of r ≢ key) rows → AreAbove key_of key rows
+pub above_others : (key_of : ℕ → Key) (key : Key) (rows : List ℕ) → AreAtLeast key_of key rows → Each (λ r. key_of r ≢ key) rows → AreAbove key_of key rows
 above_others key_of key [] h e = tt
 above_others key_of key (r ∷ rows) h e = (least_other (key_of r) key h.0 e.0, above_others key_of key rows h.1 e.1)
 
 -- the first of rows in order that are not below a key alone may have the key
-pub above_first : (key_of : ℕ → List ℕ) (key : List ℕ) (r : ℕ) (rows : List ℕ) → AreRising key_of (r ∷ rows) → is_lt (key_cmp (key_of r) key) ≡ false → AreAbove key_of key rows
+pub above_first : (key_of : ℕ → Key) (key : Key) (r : ℕ) (rows : List ℕ) → AreRising key_of (r ∷ rows) → is_lt (key_cmp (key_of r) key) ≡ false → AreAbove key_of key rows
 above_first key_of key r rows rising h = go rows rising.0
   where
     go : (rows : List ℕ) → AreAbove key_of (key_of r) rows → AreAbove key_of key rows
@@ -81,25 +82,25 @@ all_got P blocks k at e h all = go (entries_at blocks k) at h (all_at P blocks k
     go (x ∷ es) zero h all = let same : e ≡ x = cc in subst P (sym same) (All-head P x es all)
     go (x ∷ es) (suc at) h all = go es at h (All-tail P x es all)
 
-absent_cut : (key_of : ℕ → List ℕ) (key : List ℕ) (rows xs ys : List ℕ) → rows ≡ xs ++ ys → AreBelow key_of key xs → Each (λ r. key_of r ≢ key) ys → Each (λ r. key_of r ≢ key) rows
+absent_cut : (key_of : ℕ → Key) (key : Key) (rows xs ys : List ℕ) → rows ≡ xs ++ ys → AreBelow key_of key xs → Each (λ r. key_of r ≢ key) ys → Each (λ r. key_of r ≢ key) rows
 absent_cut key_of key rows xs ys e below apart =
     subst (Each (λ r. key_of r ≢ key)) (sym e) (each_append (λ r. key_of r ≢ key) xs ys (each_weaker (λ r. key_cmp (key_of r) key ≡ Less) (λ r. key_of r ≢ key) (λ r f. less_apart (key_of r) key f) xs below) apart)
 
-apart_after : (key_of : ℕ → List ℕ) (key : List ℕ) (blocks : List (List Entry)) (k at : ℕ) → IsPlaceOf key_of key blocks k at → Each (λ r. key_of r ≢ key) (rows_of (entries_of (drop (k + 1) blocks)))
+apart_after : (key_of : ℕ → Key) (key : Key) (blocks : List (List Entry)) (k at : ℕ) → IsPlaceOf key_of key blocks k at → Each (λ r. key_of r ≢ key) (rows_of (entries_of (drop (k + 1) blocks)))
 apart_after key_of key blocks k at h = each_weaker (λ r. key_cmp key (key_of r) ≡ Less) (λ r. key_of r ≢ key) (λ r f. above_apart key (key_of r) f) (rows_of (entries_of (drop (k + 1) blocks))) h.after
 
-pub none_at : (key_of : ℕ → List ℕ) (key : List ℕ) (blocks : List (List Entry)) (k at : ℕ) → IsPlaceOf key_of key blocks k at
+pub none_at : (key_of : ℕ → Key) (key : Key) (blocks : List (List Entry)) (k at : ℕ) → IsPlaceOf key_of key blocks k at
     → None ≡ slice_get (entries_at blocks k) at → Each (λ r. key_of r ≢ key) (rows_of (entries_of blocks))
 none_at key_of key blocks k at h none =
     absent_cut key_of key (rows_of (entries_of blocks)) (front blocks k at) (back blocks k at) (cut_at blocks k at) (front_below key_of key blocks k at h)
     (subst (λ xs. Each (λ r. key_of r ≢ key) (xs ++ rows_of (entries_of (drop (k + 1) blocks)))) (sym (got_none (entries_at blocks k) at none)) (apart_after key_of key blocks k at h))
 
-pub rising_back : (key_of : ℕ → List ℕ) (blocks : List (List Entry)) (k at : ℕ) → AreRising key_of (rows_of (entries_of blocks)) → AreRising key_of (drop at (rows_of (entries_at blocks k)))
+pub rising_back : (key_of : ℕ → Key) (blocks : List (List Entry)) (k at : ℕ) → AreRising key_of (rows_of (entries_of blocks)) → AreRising key_of (drop at (rows_of (entries_at blocks k)))
 rising_back key_of blocks k at rising =
     rising_left key_of (drop at (rows_of (entries_at blocks k))) (rows_of (entries_of (drop (k + 1) blocks)))
     (rising_right key_of (front blocks k at) (back blocks k at) (subst (AreRising key_of) (cut_at blocks k at) rising))
 
-pub other_at : (key_of : ℕ → List ℕ) (key : List ℕ) (blocks : List (List Entry)) (k at : ℕ) (e : Entry) → IsPlaceOf key_of key blocks k at
+pub other_at : (key_of : ℕ → Key) (key : Key) (blocks : List (List Entry)) (k at : ℕ) (e : Entry) → IsPlaceOf key_of key blocks k at
     → AreRising key_of (rows_of (entries_of blocks)) → Some e ≡ slice_get (entries_at blocks k) at → key_of e.row ≢ key → Each (λ r. key_of r ≢ key) (rows_of (entries_of blocks))
 other_at key_of key blocks k at e h rising some apart =
     let is = got (entries_at blocks k) at e some in

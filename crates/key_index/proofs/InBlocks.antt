@@ -3,6 +3,7 @@ use Rattle.std.proofs.Common.{◌≡◌, ℕ, zero, suc, ◌+◌, ◌-◌, ◌<�
 use Rattle.std.specs.Prelude.{All}
 use Rattle.std.proofs.lemmas.List.{take_at, drop_at, map-append}
 use Rattle.std.proofs.lemmas.List.Elements.{All-head, All-tail, All-nil, All-take, All-drop, All-get_or}
+use Rattle.rows.specs.Key.{Key}
 use Rattle.key_index.specs.declared.entries.Entry.{Entry}
 use Rattle.key_index.specs.Order.{key_cmp, Each, AreAbove, AreBelow, AreRising}
 use Rattle.key_index.specs.Lead.{rows_of}
@@ -38,10 +39,10 @@ pub all_first : (P : Entry → Type 0) (blocks : List (List Entry)) (k : ℕ) (e
     → e ≡ get_or (entries_at blocks k) 0 e → P e
 all_first P blocks k e all full h read = subst P (sym read) (All-get_or P (entries_at blocks k) 0 e (some_at blocks k full h) (all_at P blocks k all))
 
-pub rising_rest : (key_of : ℕ → List ℕ) (b : List Entry) (blocks : List (List Entry)) → AreRising key_of (rows_of (entries_of (b ∷ blocks))) → AreRising key_of (rows_of (entries_of blocks))
+pub rising_rest : (key_of : ℕ → Key) (b : List Entry) (blocks : List (List Entry)) → AreRising key_of (rows_of (entries_of (b ∷ blocks))) → AreRising key_of (rows_of (entries_of blocks))
 rising_rest key_of b blocks h = rising_right key_of (rows_of b) (rows_of (entries_of blocks)) (subst (AreRising key_of) (rows_append b (entries_of blocks)) h)
 
-pub rising_at : (key_of : ℕ → List ℕ) (blocks : List (List Entry)) (k : ℕ) → AreRising key_of (rows_of (entries_of blocks)) → AreRising key_of (rows_of (entries_at blocks k))
+pub rising_at : (key_of : ℕ → Key) (blocks : List (List Entry)) (k : ℕ) → AreRising key_of (rows_of (entries_of blocks)) → AreRising key_of (rows_of (entries_at blocks k))
 rising_at key_of [] k h = tt
 rising_at key_of (b ∷ blocks) zero h = rising_left key_of (rows_of b) (rows_of (entries_of blocks)) (subst (AreRising key_of) (rows_append b (entries_of blocks)) h)
 rising_at key_of (b ∷ blocks) (suc k) h = rising_at key_of blocks k (rising_rest key_of b blocks h)
@@ -59,7 +60,7 @@ each_first P (b ∷ blocks) (suc k) d full h e =
     each_first P blocks k d (All-tail (λ (v : List Entry). 0 < length v) b blocks full) (omega arith) (each_right P (rows_of b) (rows_of (entries_of blocks)) (subst (Each P) (rows_append b (entries_of blocks)) e))
 
 -- the blocks from one on that begins above a key
-pub above_from : (key_of : ℕ → List ℕ) (key : List ℕ) (blocks : List (List Entry)) (k : ℕ) (d : Entry) → AreRising key_of (rows_of (entries_of blocks))
+pub above_from : (key_of : ℕ → Key) (key : Key) (blocks : List (List Entry)) (k : ℕ) (d : Entry) → AreRising key_of (rows_of (entries_of blocks))
     → All (λ b. 0 < length b) blocks → k < length blocks → key_cmp key (key_of (get_or (entries_at blocks k) 0 d).row) ≡ Less → AreAbove key_of key (rows_of (entries_of (drop k blocks)))
 above_from key_of key [] k d rising full h e = absurd (omega arith)
 above_from key_of key (b ∷ blocks) zero d rising full h e =
@@ -74,9 +75,9 @@ above_from key_of key (b ∷ blocks) (suc k) d rising full h e =
     above_from key_of key blocks k d (rising_rest key_of b blocks rising) (All-tail (λ (v : List Entry). 0 < length v) b blocks full) (omega arith) e
 
 -- the blocks before one that doesn't begin above a key
-pub below_first : (key_of : ℕ → List ℕ) (key : List ℕ) (blocks : List (List Entry)) (k : ℕ) (d : Entry) → AreRising key_of (rows_of (entries_of blocks))
+pub below_first : (key_of : ℕ → Key) (key : Key) (blocks : List (List Entry)) (k : ℕ) (d : Entry) → AreRising key_of (rows_of (entries_of blocks))
     → All (λ b. 0 < length b) blocks → k < length blocks
-    → ((low : List ℕ) → key_cmp low (key_of (get_or (entries_at blocks k) 0 d).row) ≡ Less → key_cmp low key ≡ Less)
+    → ((low : Key) → key_cmp low (key_of (get_or (entries_at blocks k) 0 d).row) ≡ Less → key_cmp low key ≡ Less)
     → AreBelow key_of key (rows_of (entries_of (take k blocks)))
 below_first key_of key [] k d rising full h e = absurd (omega arith)
 below_first key_of key (b ∷ blocks) zero d rising full h e = tt
@@ -91,7 +92,7 @@ below_first key_of key (b ∷ blocks) (suc k) d rising full h e =
     (below_first key_of key blocks k d (rising_rest key_of b blocks rising) rest (omega arith) e))
 
 -- behind the last block that doesn't begin above a key, or the first block
-pub above_after : (key_of : ℕ → List ℕ) (key : List ℕ) (blocks : List (List Entry)) (u : ℕ)
+pub above_after : (key_of : ℕ → Key) (key : Key) (blocks : List (List Entry)) (u : ℕ)
     → AreAbove key_of key (rows_of (entries_of (drop u blocks))) → AreAbove key_of key (rows_of (entries_of (drop (u - 1 + 1) blocks)))
 above_after key_of key [] zero h = h
 above_after key_of key (b ∷ blocks) zero h =

@@ -2,6 +2,7 @@
 use Rattle.std.proofs.Common.{◌≡◌, ℕ, zero, suc, ◌+◌, ◌<◌, List, [], ◌∷◌, ◌++◌, length, take, drop, length-drop, get_or, subst, arith, Less}
 use Rattle.std.specs.Prelude.{All}
 use Rattle.std.proofs.lemmas.List.{length-map}
+use Rattle.rows.specs.Key.{Key}
 use Rattle.key_index.specs.declared.entries.Entry.{Entry}
 use Rattle.key_index.specs.Order.{key_cmp, Each, AreAbove, AreBelow, AreRising}
 use Rattle.key_index.specs.Lead.{rows_of}
@@ -16,12 +17,12 @@ first_passed P es zero d some within below = absurd (omega arith)
 first_passed P [] (suc at) d some within below = absurd (omega arith)
 first_passed P (e ∷ es) (suc at) d some within below = below.0
 
-above_rest : (key_of : ℕ → List ℕ) (key : List ℕ) (rows rest : List ℕ) → 0 < length rows → AreRising key_of (rows ++ rest) → AreAtLeast key_of key rows → AreAbove key_of key rest
+above_rest : (key_of : ℕ → Key) (key : Key) (rows rest : List ℕ) → 0 < length rows → AreRising key_of (rows ++ rest) → AreAtLeast key_of key rows → AreAbove key_of key rest
 above_rest key_of key [] rest some rising least = absurd (omega arith)
 above_rest key_of key (row ∷ rows) rest some rising least = each_right (λ r. key_cmp key (key_of r) ≡ Less) rows rest (above_first key_of key row (rows ++ rest) rising least.0)
 
 -- between two entries of a block a key stands among all rows
-pub place_inside : (key_of : ℕ → List ℕ) (key : List ℕ) (blocks : List (List Entry)) (k at : ℕ) (d : Entry) → AreRising key_of (rows_of (entries_of blocks))
+pub place_inside : (key_of : ℕ → Key) (key : Key) (blocks : List (List Entry)) (k at : ℕ) (d : Entry) → AreRising key_of (rows_of (entries_of blocks))
     → All (λ b. 0 < length b) blocks → k < length blocks → 0 < at → at < length (entries_at blocks k)
     → AreBelow key_of key (take at (rows_of (entries_at blocks k))) → AreAtLeast key_of key (drop at (rows_of (entries_at blocks k))) → IsPlaceOf key_of key blocks k at
 place_inside key_of key blocks k at d rising full h some within below least =

@@ -1,4 +1,4 @@
--- The first bytes of keys are in the order of the keys.
+-- The first bytes of lists are in the order of the lists.
 use Rattle.std.proofs.Common.{◌≡◌, ℕ, zero, suc, ◌+◌, ◌*◌, ◌^◌, ◌<◌, ◌≤◌, inl, inr, List}
 use Rattle.std.proofs.Common.{[], ◌∷◌, refl, sym, subst, ◌∙◌, arith, Less, nat_cmp, get_or, take, drop}
 use Rattle.std.proofs.lemmas.List.Elements.{All-head, All-tail, All-nil, All-cons}
@@ -6,7 +6,7 @@ use Rattle.std.specs.Cmp.Lexicographic.{slice_cmp}
 use Rattle.std.proofs.lemmas.Bool.{cases_eq, cases_lt}
 use Rattle.std.proofs.lemmas.Bool.Decides.{nat_tests}
 use Rattle.key_index.specs.declared.entries.Entry.{Entry}
-use Rattle.key_index.specs.Order.{key_cmp, Each}
+use Rattle.key_index.specs.Order.{Each}
 use Rattle.key_index.specs.Lead.{first_bytes, rows_of}
 use Rattle.key_index.specs.Lead.{AreBytes}
 use Rattle.std.specs.Prelude.{All}
@@ -21,7 +21,7 @@ positive : (n : ℕ) → 0 < 256 ^ n
 positive zero = omega arith
 positive (suc n) = let more = positive n in let p = power n in omega (arith, more, p)
 
-first_below : (n : ℕ) (key : List ℕ) → AreBytes key → first_bytes n key < 256 ^ n
+pub first_below : (n : ℕ) (key : List ℕ) → AreBytes key → first_bytes n key < 256 ^ n
 first_below zero key h = omega arith
 first_below (suc n) [] h = positive (suc n)
 first_below (suc n) (b ∷ key) h =
@@ -34,14 +34,13 @@ first_below (suc n) (b ∷ key) h =
 lower : (a b p x y : ℕ) → a < b → x < p → a * p + x < b * p + y
 lower a b p x y h k = grind arith
 
-head_less : (a b : ℕ) (xs ys : List ℕ) → a < b → slice_cmp nat_cmp (a ∷ xs) (b ∷ ys) ≡ Less
+pub head_less : (a b : ℕ) (xs ys : List ℕ) → a < b → slice_cmp nat_cmp (a ∷ xs) (b ∷ ys) ≡ Less
 head_less a b xs ys h = grind (arith, nat_tests)
 
-head_same : (a : ℕ) (xs ys : List ℕ) → slice_cmp nat_cmp (a ∷ xs) (a ∷ ys) ≡ slice_cmp nat_cmp xs ys
+pub head_same : (a : ℕ) (xs ys : List ℕ) → slice_cmp nat_cmp (a ∷ xs) (a ∷ ys) ≡ slice_cmp nat_cmp xs ys
 head_same a xs ys = grind (arith, nat_tests)
 
-pub lead_less : (n : ℕ) (a b : List ℕ) → AreBytes a → AreBytes b → first_bytes n a < first_bytes n b → key_cmp a b ≡ Less
-unfolding key_cmp
+pub lead_less : (n : ℕ) (a b : List ℕ) → AreBytes a → AreBytes b → first_bytes n a < first_bytes n b → slice_cmp nat_cmp a b ≡ Less
 lead_less zero a b f g h = absurd (omega arith)
 lead_less (suc n) a [] f g h = absurd (omega arith)
 lead_less (suc n) [] (y ∷ b) f g h = refl
@@ -62,10 +61,9 @@ pub bytes_from : (key : List ℕ) → ((i : ℕ) → get_or key i 0 < 256) → A
 bytes_from [] h = tt
 bytes_from (b ∷ key) h = (h 0, bytes_from key (λ i. h (suc i)))
 
--- ---- behind bytes that two keys share
+-- ---- behind bytes that two lists share
 
-pub behind : (n : ℕ) (a b : List ℕ) → take n a ≡ take n b → key_cmp a b ≡ key_cmp (drop n a) (drop n b)
-unfolding key_cmp
+pub behind : (n : ℕ) (a b : List ℕ) → take n a ≡ take n b → slice_cmp nat_cmp a b ≡ slice_cmp nat_cmp (drop n a) (drop n b)
 behind zero a b e = refl
 behind (suc n) [] [] e = refl
 behind (suc n) [] (y ∷ b) e = cc

@@ -3,6 +3,7 @@ use Rattle.std.proofs.Common.{◌≡◌, ◌≢◌, ℕ, zero, suc, ◌+◌, ◌
 use Rattle.std.specs.Prelude.{Contains}
 use Rattle.std.proofs.lemmas.List.{length-map, length-take-le, take-append-drop}
 use Rattle.std.proofs.Math.Seq.{take-append_seam, drop-append_seam}
+use Rattle.rows.specs.Key.{Key}
 use Rattle.key_index.specs.declared.entries.Entry.{Entry}
 use Rattle.key_index.specs.declared.place.Place.{Place}
 use Rattle.key_index.specs.Order.{key_cmp, Each, AreAbove, AreBelow}
@@ -45,7 +46,7 @@ behind_is room blocks place within =
     ∙ ap (λ (n : ℕ). drop n (before ++ behind)) (sym (front_len room blocks place within)) ∙ drop-append_seam before behind
 
 -- what a search of the index's blocks tells of a place for a key that no row has
-pub place_told : (key_of : ℕ → List ℕ) (key : List ℕ) (room : ℕ) (blocks : List (List Entry)) (index : Index) (place : Place) → meant room blocks ≡ index
+pub place_told : (key_of : ℕ → Key) (key : Key) (room : ℕ) (blocks : List (List Entry)) (index : Index) (place : Place) → meant room blocks ≡ index
     → (0 < length blocks → place.block < length blocks) → place.at ≤ length (entries_at blocks place.block)
     → IsPlaceOf key_of key blocks place.block place.at → Each (λ r. key_of r ≢ key) (rows_of (entries_of blocks)) → IsPlaceFor key_of key index place
 place_told key_of key room blocks index place view inside within is absent =
@@ -61,13 +62,13 @@ place_told key_of key room blocks index place view inside within is absent =
     )
 
 -- what a place says of the blocks
-pub record StandsAt (key_of : ℕ → List ℕ) (key : List ℕ) (blocks : List (List Entry)) (k at : ℕ) : Type 0 where
+pub record StandsAt (key_of : ℕ → Key) (key : Key) (blocks : List (List Entry)) (k at : ℕ) : Type 0 where
   pub inside : 0 < length blocks → k < length blocks
   pub within : at ≤ length (entries_at blocks k)
   pub below : AreBelow key_of key (front blocks k at)
   pub above : AreAbove key_of key (back blocks k at)
 
-pub stands_at : (key_of : ℕ → List ℕ) (key : List ℕ) (room : ℕ) (blocks : List (List Entry)) (index : Index) (place : Place) → meant room blocks ≡ index → IsPlaceFor key_of key index place
+pub stands_at : (key_of : ℕ → Key) (key : Key) (room : ℕ) (blocks : List (List Entry)) (index : Index) (place : Place) → meant room blocks ≡ index → IsPlaceFor key_of key index place
     → StandsAt key_of key blocks place.block place.at
 stands_at key_of key room blocks index place view told =
     let is = subst (λ (i : Index). IsPlaceFor key_of key i place) (sym view) told in
@@ -79,7 +80,7 @@ stands_at key_of key room blocks index place view told =
     }
 
 -- the parts of other blocks with the same rows and the same front
-pub stand_still : (key_of : ℕ → List ℕ) (key : List ℕ) (blocks others : List (List Entry)) (k at j to : ℕ) → StandsAt key_of key blocks k at → rows_of (entries_of others) ≡ rows_of (entries_of blocks) → front others j to ≡ front blocks k at
+pub stand_still : (key_of : ℕ → Key) (key : Key) (blocks others : List (List Entry)) (k at j to : ℕ) → StandsAt key_of key blocks k at → rows_of (entries_of others) ≡ rows_of (entries_of blocks) → front others j to ≡ front blocks k at
     → AreBelow key_of key (front others j to) × AreAbove key_of key (back others j to)
 stand_still key_of key blocks others k at j to is e f = (
   subst (AreBelow key_of key) (sym f) is.below,
@@ -87,7 +88,7 @@ stand_still key_of key blocks others k at j to is e f = (
 )
 
 -- a place in an index is for keys that it has not
-pub absent_at : (key_of : ℕ → List ℕ) (key : List ℕ) (index : Index) (place : Place) → IsPlaceFor key_of key index place → Each (λ r. key_of r ≢ key) index.rows
+pub absent_at : (key_of : ℕ → Key) (key : Key) (index : Index) (place : Place) → IsPlaceFor key_of key index place → Each (λ r. key_of r ≢ key) index.rows
 absent_at key_of key index place is =
     let n = rank index place in
     subst (Each (λ r. key_of r ≢ key)) (take-append-drop n index.rows)

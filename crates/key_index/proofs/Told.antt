@@ -2,6 +2,7 @@
 use Rattle.std.proofs.Common.{◌≡◌, ℕ, List, [], ◌∷◌, refl, sym, subst}
 use Rattle.std.specs.Prelude.{All}
 use Rattle.std.proofs.lemmas.List.Elements.{All-head, All-tail, All-cons, All-nil}
+use Rattle.rows.specs.Key.{Key}
 use Rattle.key_index.specs.declared.entries.Entry.{Entry}
 use Rattle.key_index.specs.Order.{Each, TakesOut}
 use Rattle.key_index.proofs.RowOrder.{each_append, each_left, each_right}
@@ -23,23 +24,23 @@ abbrev pub meant : ℕ → List (List Entry) → Index
 meant room blocks = record { rows = rows_of (entries_of blocks); room = room; kept = blocks }
 
 -- the entries of an index of these keys
-pub entries_told : (has_row : ℕ → Type 0) (key_of : ℕ → List ℕ) (room : ℕ) (blocks : List (List Entry)) (index : Index) → meant room blocks ≡ index
+pub entries_told : (has_row : ℕ → Type 0) (key_of : ℕ → Key) (room : ℕ) (blocks : List (List Entry)) (index : Index) → meant room blocks ≡ index
     → IsIndexOf has_row key_of index → AreEntriesOf has_row key_of (entries_of blocks)
 entries_told has_row key_of room blocks index view is =
     let told = subst (IsIndexOf has_row key_of) (sym view) is in
     record {
       readable = all_from_each has_row (entries_of blocks) (all_each has_row (rows_of (entries_of blocks)) told.readable);
-      bytes = all_from_each (λ row. AreBytes (key_of row)) (entries_of blocks) told.ordered.bytes;
+      bytes = all_from_each (λ row. AreBytes (key_of row).bytes) (entries_of blocks) told.ordered.bytes;
       leads = told.ordered.kept;
       rising = told.ordered.rising;
     }
 
 -- an index of these keys, by its entries
-pub index_told : (has_row : ℕ → Type 0) (key_of : ℕ → List ℕ) (room : ℕ) (blocks : List (List Entry)) → AreEntriesOf has_row key_of (entries_of blocks) → IsIndexOf has_row key_of (meant room blocks)
+pub index_told : (has_row : ℕ → Type 0) (key_of : ℕ → Key) (room : ℕ) (blocks : List (List Entry)) → AreEntriesOf has_row key_of (entries_of blocks) → IsIndexOf has_row key_of (meant room blocks)
 index_told has_row key_of room blocks is =
     record {
       readable = each_all has_row (rows_of (entries_of blocks)) (each_from_all has_row (entries_of blocks) is.readable);
-      ordered = record { beside = refl; rising = is.rising; bytes = each_from_all (λ row. AreBytes (key_of row)) (entries_of blocks) is.bytes; kept = is.leads };
+      ordered = record { beside = refl; rising = is.rising; bytes = each_from_all (λ row. AreBytes (key_of row).bytes) (entries_of blocks) is.bytes; kept = is.leads };
     }
 
 -- what holds of rows holds of them without one

@@ -1,5 +1,6 @@
 -- An index of rows.
 use Rattle.std.specs.Prelude.{◌≡◌, ℕ, zero, suc, ◌+◌, ◌<◌, ◌≤◌, List, [], ◌∷◌, ◌++◌, length, take, drop, slice_get, Some, All}
+use Rattle.rows.specs.Key.{Key}
 use Rattle.key_index.specs.declared.entries.Entry.{Entry}
 use Rattle.key_index.specs.declared.place.Place.{Place}
 use Rattle.key_index.specs.Order.{Each, AreAbove, AreBelow, AreRising}
@@ -16,14 +17,14 @@ joined [] = []
 joined (block ∷ blocks) = block ++ joined blocks
 
 -- the rows stand in the order of these keys, and what the index keeps beside each is so
-pub record IsOrdered (key_of : ℕ → List ℕ) (index : Index) : Type 0 where
+pub record IsOrdered (key_of : ℕ → Key) (index : Index) : Type 0 where
   pub beside : rows_of (joined index.kept) ≡ index.rows
   pub rising : AreRising key_of index.rows
-  pub bytes : Each (λ row. AreBytes (key_of row)) index.rows
+  pub bytes : Each (λ row. AreBytes (key_of row).bytes) index.rows
   pub kept : All (IsLed key_of) (joined index.kept)
 
 -- the index is one of these keys: each of its rows has one that can be read
-pub record IsIndexOf (has_row : ℕ → Type 0) (key_of : ℕ → List ℕ) (index : Index) : Type 0 where
+pub record IsIndexOf (has_row : ℕ → Type 0) (key_of : ℕ → Key) (index : Index) : Type 0 where
   pub readable : All has_row index.rows
   pub ordered : IsOrdered key_of index
 
@@ -42,7 +43,7 @@ pub record IsWithin (index : Index) (place : Place) : Type 0 where
   pub at : place.at ≤ length (block_at index.kept place.block)
 
 -- where a row of a key would stand, which the index has not: the rows before have keys below it, and those behind keys above
-pub record IsPlaceFor (key_of : ℕ → List ℕ) (key : List ℕ) (index : Index) (place : Place) : Type 0 where
+pub record IsPlaceFor (key_of : ℕ → Key) (key : Key) (index : Index) (place : Place) : Type 0 where
   pub within : IsWithin index place
   pub before : AreBelow key_of key (take (rank index place) index.rows)
   pub behind : AreAbove key_of key (drop (rank index place) index.rows)

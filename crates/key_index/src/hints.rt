@@ -3,12 +3,14 @@
 //! A guess may be any number: a search compares the keys where it points, and halves on where it was wrong. So nothing
 //! is proved of a guess but that it is made without a fault and takes no memory.
 ghost use Rattle.std.specs.Prelude.{◌≡◌, ℕ, ◌+◌, ◌*◌, ◌<◌, ◌≤◌, length, slice_index_or, All};
+ghost use Rattle.layout.specs.Sizes.{tables};
 ghost use Rattle.key_index.specs.inside.Blocks.{entries_of, entries_at};
 
 use crate::blocks::{BLOCK, Blocks};
 use crate::entries::{Entry, shared_by, sought_behind};
 use crate::keys::Keys;
 use crate::place::Place;
+use rows::Key;
 use std::alloc::{AllocError, Global};
 
 /// Where a search that has come down to places from a lower to a higher one looks next: at a guess or just before it,
@@ -68,7 +70,7 @@ pub(crate) fn guess_in(entries: &[Entry], lead: u64) -> usize {
         + passed(entries, near + 3, lead)
 }
 
-/// Eight bytes of the first key of each block, behind bytes that all keys were seen to share.
+/// The lead of the first key of each block, behind bytes that all keys were seen to share.
 ///
 /// A hint is put in where a block comes into use, written anew where an entry is put before the others of a block, and
 /// goes with its block. It stays as it is where the first entry of a block is taken out, when no keys are at hand. All
@@ -93,9 +95,11 @@ impl Hints {
         })
     }
 
-    /// How many blocks begin with keys at or below a key, by the hints. Where several hints are the key's bytes they
+    /// How many blocks begin with keys at or below a key, by the hints. Where several hints are the key's lead they
     /// tell nothing, and the answer is no number of blocks.
-    pub(crate) fn guess(&self, key: &[u8]) -> usize {
+    pub(crate) fn guess(&self, key: &Key<'_>) -> usize
+        requires { key.now.table < tables }
+    {
         let lead = sought_behind(key, self.skip).lead;
         let count = count_upto(self.leads.as_slice(), lead);
         if count >= 2 && count <= self.leads.len() && self.leads[count - 2] == lead {
@@ -191,14 +195,15 @@ pub(crate) fn first_of<K: Keys>(keys: &K, blocks: &Blocks, at: usize) -> Entry
     blocks.first(at)
 }
 
-/// Eight bytes of the first key of a block, behind so many.
+/// The lead of the first key of a block, behind so many bytes.
 fn lead_of_first<K: Keys>(keys: &K, blocks: &Blocks, at: usize, skip: u32) -> u64
     requires block { at < length blocks.now.contents }
     requires readable { All (λ entry. K.has_row keys.now entry.row) (entries_of blocks.now.contents) }
     requires full { All (λ block. 0 < length block) blocks.now.contents }
 {
     let first = first_of(keys, blocks, at);
-    sought_behind(keys.key(first.row), skip).lead
+    let key = keys.key(first.row);
+    sought_behind(&key, skip).lead
 }
 
 /// Whether the hint at a place is at most a lead, as a number.

@@ -1,5 +1,8 @@
 //! The index.
 ghost use Rattle.std.specs.Prelude.{◌≡◌, ◌≢◌, ℕ, ◌+◌, ◌<◌, ◌≤◌, ◌++◌, ◌∷◌, [], List, length, take, drop, All, Contains, IfOk, MatchOption, MatchResult};
+ghost use Rattle.layout.specs.Sizes.{tables};
+ghost use Rattle.rows.specs.Key as shown;
+ghost use Rattle.rows.specs.Key.{key_shown};
 ghost use Rattle.key_index.specs.Order.{Each, PutsIn, TakesOut, rows_from};
 ghost use Rattle.key_index.specs.Index.{IsIndexOf, IsOrdered, IsPlaceFor, IsRowAt};
 
@@ -8,9 +11,10 @@ use crate::entries::{entry_of, has_key};
 use crate::hints::Hints;
 use crate::keys::Keys;
 use crate::place::{Place, RowAt};
-use crate::rows::Rows;
 use crate::search::seek;
 use crate::settling::{begin, entry_at, make_room, put, take_out};
+use crate::walk::Rows;
+use rows::Key;
 use std::alloc::{AllocError, Global};
 use std::marker::Model;
 
@@ -79,13 +83,14 @@ impl KeyIndex {
     /// # Errors
     ///
     /// No row has the key. The answer is the place where one would stand, for [`KeyIndex::insert_at`].
-    pub fn search<K: Keys>(&self, keys: &K, key: &[u8]) -> Result<RowAt, Place>
-        requires { IsIndexOf (K.has_row keys.now) (K.key_of keys.now) self.now }
+    pub fn search<K: Keys>(&self, keys: &K, key: &Key<'_>) -> Result<RowAt, Place>
+        requires index { IsIndexOf (K.has_row keys.now) (K.key_of keys.now) self.now }
+        requires table { key.now.table < tables }
         ensures { MatchResult result
             (λ found. IsRowAt self.now found.place found.row × Contains self.now.rows found.row
-            × (K.key_of keys.now found.row ≡ key.now))
-            (λ place. IsPlaceFor (K.key_of keys.now) key.now self.now place
-            × All (λ row. K.key_of keys.now row ≢ key.now) self.now.rows) }
+            × (K.key_of keys.now found.row ≡ key_shown key.now))
+            (λ place. IsPlaceFor (K.key_of keys.now) (key_shown key.now) self.now place
+            × All (λ row. K.key_of keys.now row ≢ key_shown key.now) self.now.rows) }
     {
         let place = seek(keys, &self.blocks, key, self.hints.guess(key));
         let Some(entry) = entry_at(&self.blocks, place) else {
@@ -102,11 +107,12 @@ impl KeyIndex {
     }
 
     /// The row of a key, if one has it.
-    pub fn find<K: Keys>(&self, keys: &K, key: &[u8]) -> Option<u32>
-        requires { IsIndexOf (K.has_row keys.now) (K.key_of keys.now) self.now }
+    pub fn find<K: Keys>(&self, keys: &K, key: &Key<'_>) -> Option<u32>
+        requires index { IsIndexOf (K.has_row keys.now) (K.key_of keys.now) self.now }
+        requires table { key.now.table < tables }
         ensures { MatchOption result
-            (All (λ row. K.key_of keys.now row ≢ key.now) self.now.rows)
-            (λ row. Contains self.now.rows row × (K.key_of keys.now row ≡ key.now)) }
+            (All (λ row. K.key_of keys.now row ≢ key_shown key.now) self.now.rows)
+            (λ row. Contains self.now.rows row × (K.key_of keys.now row ≡ key_shown key.now)) }
     {
         match self.search(keys, key) {
             Ok(found) => Some(found.row),
@@ -149,7 +155,8 @@ impl KeyIndex {
         ensures room { self.new.room ≡ self.old.room }
         ensures rows { PutsIn (K.key_of keys.now) row self.old.rows self.new.rows }
     {
-        let Err(place) = self.search(keys, keys.key(row)) else {
+        let key = keys.key(row);
+        let Err(place) = self.search(keys, &key) else {
             unreachable!();
         };
         self.insert_at(keys, place, row);
@@ -158,7 +165,7 @@ impl KeyIndex {
     /// Takes a row out at its place. No key is read: the others stand in the order of whatever keys all stood in.
     pub fn remove_at(&mut self, found: RowAt)
         requires { IsRowAt self.old found.place found.row }
-        ensures ordered { (key_of : ℕ → List ℕ) → IsOrdered key_of self.old → IsOrdered key_of self.new }
+        ensures ordered { (key_of : ℕ → shown.Key) → IsOrdered key_of self.old → IsOrdered key_of self.new }
         ensures room { self.new.room ≡ self.old.room }
         ensures rows { TakesOut found.row self.old.rows self.new.rows }
     {
@@ -168,13 +175,14 @@ impl KeyIndex {
     }
 
     /// Takes the row of a key out, if one has it.
-    pub fn remove<K: Keys>(&mut self, keys: &K, key: &[u8]) -> Option<u32>
-        requires { IsIndexOf (K.has_row keys.now) (K.key_of keys.now) self.old }
+    pub fn remove<K: Keys>(&mut self, keys: &K, key: &Key<'_>) -> Option<u32>
+        requires index { IsIndexOf (K.has_row keys.now) (K.key_of keys.now) self.old }
+        requires table { key.now.table < tables }
         ensures index { IsIndexOf (K.has_row keys.now) (K.key_of keys.now) self.new }
         ensures room { self.new.room ≡ self.old.room }
         ensures rows { MatchOption result
-            (All (λ row. K.key_of keys.now row ≢ key.now) self.old.rows × (self.new ≡ self.old))
-            (λ row. (K.key_of keys.now row ≡ key.now) × TakesOut row self.old.rows self.new.rows) }
+            (All (λ row. K.key_of keys.now row ≢ key_shown key.now) self.old.rows × (self.new ≡ self.old))
+            (λ row. (K.key_of keys.now row ≡ key_shown key.now) × TakesOut row self.old.rows self.new.rows) }
     {
         let Ok(found) = self.search(keys, key) else {
             return None;
@@ -193,9 +201,10 @@ impl KeyIndex {
     }
 
     /// The rows of the keys that are at or above a key, in order.
-    pub fn rows_from<K: Keys>(&self, keys: &K, key: &[u8]) -> Rows<'_>
-        requires { IsIndexOf (K.has_row keys.now) (K.key_of keys.now) self.now }
-        ensures { result ≡ rows_from (K.key_of keys.now) key.now self.now.rows }
+    pub fn rows_from<K: Keys>(&self, keys: &K, key: &Key<'_>) -> Rows<'_>
+        requires index { IsIndexOf (K.has_row keys.now) (K.key_of keys.now) self.now }
+        requires table { key.now.table < tables }
+        ensures { result ≡ rows_from (K.key_of keys.now) (key_shown key.now) self.now.rows }
     {
         let place = seek(keys, &self.blocks, key, self.hints.guess(key));
         Rows::new(&self.blocks, place)

@@ -1,20 +1,28 @@
--- Keys in the order of their bytes, and what holds of each of some rows.
-use Rattle.std.proofs.Common.{◌≡◌, ◌≢◌, ℕ, List, [], ◌∷◌, ◌++◌, sym, subst, Less, nat_cmp}
+-- Keys in order, and what holds of each of some rows.
+use Rattle.std.proofs.Common.{◌≡◌, ◌≢◌, ℕ, List, [], ◌∷◌, ◌++◌, sym, ap, subst, ◌∙◌, true≢false, Less, is_lt, nat_cmp}
 use Rattle.std.specs.Prelude.{All}
 use Rattle.std.specs.Cmp.Lexicographic.{slice_cmp}
 use Rattle.std.proofs.lemmas.Cmp.{nat_list_cmp_total, tied_itself}
 use Rattle.std.proofs.lemmas.List.Elements.{All-head, All-tail, All-nil, All-cons}
+use Rattle.rows.specs.Key.{Key}
 use Rattle.key_index.specs.declared.entries.Entry.{Entry}
 use Rattle.key_index.specs.Order.{key_cmp, Each, AreAbove, AreRising}
 use Rattle.key_index.specs.Lead.{rows_of}
 
-pub less_less : (a b c : List ℕ) → key_cmp a b ≡ Less → key_cmp b c ≡ Less → key_cmp a c ≡ Less
-unfolding key_cmp
-less_less a b c e f = nat_list_cmp_total.trans a b c e f
+-- a key as one list, with the table in front
+abbrev coded : Key → List ℕ
+coded key = key.table ∷ key.bytes
 
-pub less_apart : (a b : List ℕ) → key_cmp a b ≡ Less → a ≢ b
+pub less_less : (a b c : Key) → key_cmp a b ≡ Less → key_cmp b c ≡ Less → key_cmp a c ≡ Less
 unfolding key_cmp
-less_apart a b e same = let tied = tied_itself nat_list_cmp_total a in let f : slice_cmp nat_cmp a a ≡ Less = subst (λ k. slice_cmp nat_cmp a k ≡ Less) (sym same) e in cc
+less_less a b c e f = nat_list_cmp_total.trans (coded a) (coded b) (coded c) e f
+
+pub less_apart : (a b : Key) → key_cmp a b ≡ Less → a ≢ b
+unfolding key_cmp
+less_apart a b e same =
+    let tied = tied_itself nat_list_cmp_total (coded a) in
+    let f : slice_cmp nat_cmp (coded a) (coded a) ≡ Less = subst (λ (k : Key). slice_cmp nat_cmp (coded a) (coded k) ≡ Less) (sym same) e in
+    true≢false (ap is_lt (sym f ∙ tied))
 
 pub all_each : (P : ℕ → Type 0) (xs : List ℕ) → All P xs → Each P xs
 all_each P [] all = tt
@@ -33,11 +41,11 @@ pub all_from_each : (P : ℕ → Type 0) (es : List Entry) → Each P (rows_of e
 all_from_each P [] each = All-nil (λ (x : Entry). P x.row)
 all_from_each P (e ∷ es) each = All-cons (λ (x : Entry). P x.row) e es each.0 (all_from_each P es each.1)
 
-pub rising_right : (key_of : ℕ → List ℕ) (xs ys : List ℕ) → AreRising key_of (xs ++ ys) → AreRising key_of ys
+pub rising_right : (key_of : ℕ → Key) (xs ys : List ℕ) → AreRising key_of (xs ++ ys) → AreRising key_of ys
 rising_right key_of [] ys h = h
 rising_right key_of (x ∷ xs) ys h = rising_right key_of xs ys h.1
 
 -- each row of the front is below each of the back
-pub rising_apart : (key_of : ℕ → List ℕ) (xs ys : List ℕ) → AreRising key_of (xs ++ ys) → Each (λ x. AreAbove key_of (key_of x) ys) xs
+pub rising_apart : (key_of : ℕ → Key) (xs ys : List ℕ) → AreRising key_of (xs ++ ys) → Each (λ x. AreAbove key_of (key_of x) ys) xs
 rising_apart key_of [] ys h = tt
 rising_apart key_of (x ∷ xs) ys h = (each_right (λ r. key_cmp (key_of x) (key_of r) ≡ Less) xs ys h.0, rising_apart key_of xs ys h.1)

@@ -2,6 +2,7 @@
 use Rattle.std.proofs.Common.{◌≡◌, ◌≢◌, ℕ, zero, suc, ◌⊎◌, inl, inr, List, [], ◌∷◌, ◌++◌, refl, sym, ap, subst, ◌∙◌, arith, Less}
 use Rattle.std.specs.Prelude.{Contains}
 use Rattle.std.proofs.lemmas.List.Elements.{Contains-append_left, Contains-append_right, Contains-append_cases}
+use Rattle.rows.specs.Key.{Key}
 use Rattle.key_index.specs.Order.{key_cmp, Each, AreAbove, AreRising, PutsIn, TakesOut}
 use Rattle.key_lemmas.proofs.Orders.{less_less, less_apart, rising_right, rising_apart}
 
@@ -23,7 +24,7 @@ each_in P [] y e h = absurd (none_in y h)
 each_in P (x ∷ xs) y e h = elim (cases_in x y xs h) [ inl same ↦ subst P same e.0 | inr more ↦ each_in P xs y e.1 more ]
 
 -- two rising lists of the same rows are one
-pub one_order : (key_of : ℕ → List ℕ) (xs ys : List ℕ) → AreRising key_of xs → AreRising key_of ys → ((row : ℕ) → Contains xs row → Contains ys row) → ((row : ℕ) → Contains ys row → Contains xs row) → xs ≡ ys
+pub one_order : (key_of : ℕ → Key) (xs ys : List ℕ) → AreRising key_of xs → AreRising key_of ys → ((row : ℕ) → Contains xs row → Contains ys row) → ((row : ℕ) → Contains ys row → Contains xs row) → xs ≡ ys
 one_order key_of [] [] f g there back = refl
 one_order key_of [] (y ∷ ys) f g there back = absurd (none_in y (back y (first_in y ys)))
 one_order key_of (x ∷ xs) [] f g there back = absurd (none_in x (there x (first_in x xs)))
@@ -64,7 +65,7 @@ with_row xs ys x y h = elim (Contains-append_cases xs (x ∷ ys) y h) [
 of_others : (xs ys : List ℕ) (x y : ℕ) → Contains (xs ++ ys) y → Contains (xs ++ x ∷ ys) y
 of_others xs ys x y h = elim (Contains-append_cases xs ys y h) [ inl e ↦ Contains-append_left xs (x ∷ ys) y e | inr e ↦ Contains-append_right xs (x ∷ ys) y (later_in x y ys e) ]
 
-pub put_in : (key_of : ℕ → List ℕ) (row other : ℕ) (before after : List ℕ) → PutsIn key_of row before after
+pub put_in : (key_of : ℕ → Key) (row other : ℕ) (before after : List ℕ) → PutsIn key_of row before after
     → (Contains after other → (other ≡ row) ⊎ Contains before other) × Contains after row × (Contains before other → Contains after other)
 put_in key_of row other before after is = (
   (λ h. elim (with_row is.front is.back row other (subst (λ (xs : List ℕ). Contains xs other) is.are h)) [ inl e ↦ inl e | inr e ↦ inr (subst (λ (xs : List ℕ). Contains xs other) (sym is.were) e) ]),
@@ -72,7 +73,7 @@ put_in key_of row other before after is = (
   (λ h. subst (λ (xs : List ℕ). Contains xs other) (sym is.are) (of_others is.front is.back row other (subst (λ (xs : List ℕ). Contains xs other) is.were h))),
 )
 
-pub taken_out : (key_of : ℕ → List ℕ) (row other : ℕ) (before after : List ℕ) → TakesOut row before after → AreRising key_of before
+pub taken_out : (key_of : ℕ → Key) (row other : ℕ) (before after : List ℕ) → TakesOut row before after → AreRising key_of before
     → (Contains before other → (other ≡ row) ⊎ Contains after other) × (Contains after other → Contains before other × (other ≢ row))
 taken_out key_of row other before after is rising = (
   (λ h. elim (with_row is.front is.back row other (subst (λ (xs : List ℕ). Contains xs other) is.were h)) [ inl e ↦ inl e | inr e ↦ inr (subst (λ (xs : List ℕ). Contains xs other) (sym is.are) e) ]),
@@ -87,7 +88,7 @@ taken_out key_of row other before after is rising = (
     apart (inr e) = λ same. less_apart (key_of row) (key_of other) (each_in (λ r. key_cmp (key_of row) (key_of r) ≡ Less) is.back other (rising_right key_of is.front (row ∷ is.back) whole).0 e) (ap key_of (sym same))
 
 -- rows of one key are one
-pub one_row : (key_of : ℕ → List ℕ) (xs : List ℕ) (x y : ℕ) → AreRising key_of xs → Contains xs x → Contains xs y → key_of x ≡ key_of y → x ≡ y
+pub one_row : (key_of : ℕ → Key) (xs : List ℕ) (x y : ℕ) → AreRising key_of xs → Contains xs x → Contains xs y → key_of x ≡ key_of y → x ≡ y
 one_row key_of [] x y rising h i same = absurd (none_in x h)
 one_row key_of (z ∷ xs) x y rising h i same = elim (cases_in z x xs h) [
   | inl e ↦ elim (cases_in z y xs i) [

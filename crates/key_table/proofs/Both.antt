@@ -7,6 +7,7 @@ use Rattle.std.proofs.lemmas.List.Elements.{All-nil, All-cons, All-contains}
 use Rattle.std.proofs.lemmas.List.Sorted.{length_permutation}
 use Rattle.common_lemmas.specs.Lists.{times, delete}
 use Rattle.common_lemmas.proofs.Counts.{times_here, times_there, times_cons_le, times-delete_same, times-delete_other, length-delete, same-permutation}
+use Rattle.rows.specs.Key.{Key}
 use Rattle.key_index.specs.Order.{PutsIn, TakesOut}
 use Rattle.key_index.specs.Index.{Index, IsIndexOf, IsOrdered}
 use Rattle.key_table.specs.declared.entries.RowAt.{RowAt}
@@ -37,7 +38,7 @@ middle row n front back =
     let b = times-append n front back in
     omega (arith, a, b)
 
-pub put_times : (key_of : ℕ → List ℕ) (row n : ℕ) (before after : List ℕ) → PutsIn key_of row before after → times n after ≡ times n before + one row n
+pub put_times : (key_of : ℕ → Key) (row n : ℕ) (before after : List ℕ) → PutsIn key_of row before after → times n after ≡ times n before + one row n
 put_times key_of row n before after is = ap (times n) is.are ∙ (middle row n is.front is.back ∙ ap (λ k. k + one row n) (sym (ap (times n) is.were)))
 
 pub taken_times : (row n : ℕ) (before after : List ℕ) → TakesOut row before after → times n before ≡ times n after + one row n
@@ -46,7 +47,7 @@ taken_times row n before after is = ap (times n) is.were ∙ (middle row n is.fr
 pub same_size : (xs ys : List ℕ) → AreSame xs ys → length xs ≡ length ys
 same_size xs ys same = sym (length_permutation xs ys (same-permutation xs ys (λ n. sym (same n))))
 
-pub put_size : (key_of : ℕ → List ℕ) (row : ℕ) (before after : List ℕ) → PutsIn key_of row before after → length after ≡ length before + 1
+pub put_size : (key_of : ℕ → Key) (row : ℕ) (before after : List ℕ) → PutsIn key_of row before after → length after ≡ length before + 1
 put_size key_of row before after is =
     let same = same_size after (row ∷ before) (λ n. (let p = put_times key_of row n before after is in omega (arith, p))) in omega (arith, same)
 
@@ -74,13 +75,13 @@ pub has_kept : (room outside : ℕ) (table : Table) (order : Index) (late : Numb
 has_kept room outside table order late is n h = let a = is.all n in let t = times-append n order.rows late.numbers in omega (arith, a, t, h)
 
 -- the order is one of these keys
-pub order_of : (has_row : ℕ → Type 0) (key_of : ℕ → List ℕ) (order : Index) (late : Numbers) → ((n : ℕ) → 1 ≤ times n (order.rows ++ late.numbers) → has_row n) → IsOrdered key_of order → IsIndexOf has_row key_of order
+pub order_of : (has_row : ℕ → Type 0) (key_of : ℕ → Key) (order : Index) (late : Numbers) → ((n : ℕ) → 1 ≤ times n (order.rows ++ late.numbers) → has_row n) → IsOrdered key_of order → IsIndexOf has_row key_of order
 order_of has_row key_of order late readable ordered = record {
   readable = all_of has_row order.rows (λ n h. readable n (let t = times-append n order.rows late.numbers in omega (arith, t, h)));
   ordered = ordered;
 }
 
-pub can_settle : (has_row : ℕ → Type 0) (key_of : ℕ → List ℕ) (room outside : ℕ) (table : Table) (order : Index) (late : Numbers) → AreMixed room outside table order late
+pub can_settle : (has_row : ℕ → Type 0) (key_of : ℕ → Key) (room outside : ℕ) (table : Table) (order : Index) (late : Numbers) → AreMixed room outside table order late
     → ((n : ℕ) → 1 ≤ times n (order.rows ++ late.numbers) → has_row n) → ((m n : ℕ) → 1 ≤ times m (order.rows ++ late.numbers) → 1 ≤ times n (order.rows ++ late.numbers) → key_of m ≡ key_of n → m ≡ n)
     → IsOrdered key_of order → CanSettle has_row key_of order late
 can_settle has_row key_of room outside table order late is readable apart ordered =
@@ -94,10 +95,10 @@ can_settle has_row key_of room outside table order late is readable apart ordere
     }
 
 -- the tag of a row's key is the one that the table has beside it
-pub tag_there : (key_of : ℕ → List ℕ) (table : Table) (found : RowAt) → IsTagged key_of table → found.tag ≡ tag_of (key_of found.row) → IsTagOf table found
+pub tag_there : (key_of : ℕ → Key) (table : Table) (found : RowAt) → IsTagged key_of table → found.tag ≡ tag_of (key_of found.row) → IsTagOf table found
 tag_there key_of table found tagged is = λ k d inside e. tagged k d inside ∙ (ap (λ n. tag_of (key_of n)) e ∙ sym is)
 
-pub tag_kept : (key_of : ℕ → List ℕ) (table : Table) (found : RowAt) → IsTagged key_of table → Contains table.kept found → found.tag ≡ tag_of (key_of found.row)
+pub tag_kept : (key_of : ℕ → Key) (table : Table) (found : RowAt) → IsTagged key_of table → Contains table.kept found → found.tag ≡ tag_of (key_of found.row)
 tag_kept key_of table found tagged there = All-contains (λ (s : RowAt). s.tag ≡ tag_of (key_of s.row)) table.kept found tagged there
 
 all_at : (P : ℕ → Type 0) (xs : List ℕ) → All P xs → (n : ℕ) → 1 ≤ times n xs → P n
@@ -122,7 +123,7 @@ none_in_order P room outside table order late is ordered kept n h =
     ]
 
 -- a row is put in order, and waits no longer
-pub moved_both : (key_of : ℕ → List ℕ) (row n : ℕ) (before after : Index) (old new : Numbers) → PutsIn key_of row before.rows after.rows → old.numbers ≡ new.numbers ++ row ∷ [] → both after new n ≡ both before old n
+pub moved_both : (key_of : ℕ → Key) (row n : ℕ) (before after : Index) (old new : Numbers) → PutsIn key_of row before.rows after.rows → old.numbers ≡ new.numbers ++ row ∷ [] → both after new n ≡ both before old n
 moved_both key_of row n before after old new put pop =
     let p = put_times key_of row n before.rows after.rows put in
     let q : times n old.numbers ≡ times n new.numbers + one row n = ap (times n) pop ∙ times_push n new.numbers row in
@@ -134,7 +135,7 @@ waits row old new pop =
     let h : one row row + 0 ≡ 1 + 0 = times_here row [] in
     omega (arith, q, h)
 
-pub settles : (has_row : ℕ → Type 0) (key_of : ℕ → List ℕ) (row : ℕ) (before after : Index) (old new : Numbers) → CanSettle has_row key_of before old
+pub settles : (has_row : ℕ → Type 0) (key_of : ℕ → Key) (row : ℕ) (before after : Index) (old new : Numbers) → CanSettle has_row key_of before old
     → PutsIn key_of row before.rows after.rows → old.numbers ≡ new.numbers ++ row ∷ [] → IsIndexOf has_row key_of after → after.room ≡ before.room → CanSettle has_row key_of after new
 settles has_row key_of row before after old new is put pop index room =
     let same = λ (n : ℕ). moved_both key_of row n before after old new put pop in
@@ -194,7 +195,7 @@ mixed_more room outside row old new order before after is same rooms pushed boun
     }
 
 -- a row comes that the table does not take
-pub mixed_outside : (key_of : ℕ → List ℕ) (room outside row : ℕ) (old new : Table) (order order' : Index) (late : Numbers) → AreMixed room outside old order late → AreSame (rows_of old.kept) (rows_of new.kept) → new.room ≡ old.room
+pub mixed_outside : (key_of : ℕ → Key) (room outside row : ℕ) (old new : Table) (order order' : Index) (late : Numbers) → AreMixed room outside old order late → AreSame (rows_of old.kept) (rows_of new.kept) → new.room ≡ old.room
     → PutsIn key_of row order.rows order'.rows → order'.room ≡ order.room → both order late row ≡ 0 → length order.rows + length late.numbers < room → AreMixed room (outside + 1) new order' late
 mixed_outside key_of room outside row old new order order' late is same rooms put orders absent fits =
     let more = λ (n : ℕ). put_times key_of row n order.rows order'.rows put in
@@ -284,7 +285,7 @@ mixed_settled room outside table order order' before after is all more orders bo
 
 -- ---- how often the index has a row
 
-pub absent_row : (key_of : ℕ → List ℕ) (row : ℕ) (order : Index) (late : Numbers) → ((n : ℕ) → 1 ≤ times n (order.rows ++ late.numbers) → key_of n ≢ key_of row) → both order late row ≡ 0
+pub absent_row : (key_of : ℕ → Key) (row : ℕ) (order : Index) (late : Numbers) → ((n : ℕ) → 1 ≤ times n (order.rows ++ late.numbers) → key_of n ≢ key_of row) → both order late row ≡ 0
 absent_row key_of row order late absent =
     let t = times-append row order.rows late.numbers in
     elim (cases_eq (times row (order.rows ++ late.numbers)) 0) [
@@ -299,7 +300,7 @@ rows_waiting row n order before after pushed =
     let u = times-append n order.rows after.numbers in
     omega (arith, more, t, u)
 
-pub rows_ordered : (key_of : ℕ → List ℕ) (row n : ℕ) (order order' : Index) (late : Numbers) → PutsIn key_of row order.rows order'.rows → times n (row ∷ (order.rows ++ late.numbers)) ≡ times n (order'.rows ++ late.numbers)
+pub rows_ordered : (key_of : ℕ → Key) (row n : ℕ) (order order' : Index) (late : Numbers) → PutsIn key_of row order.rows order'.rows → times n (row ∷ (order.rows ++ late.numbers)) ≡ times n (order'.rows ++ late.numbers)
 rows_ordered key_of row n order order' late put =
     let more = put_times key_of row n order.rows order'.rows put in
     let t = times-append n order.rows late.numbers in
@@ -319,7 +320,7 @@ rows_settled n order order' before after all =
     omega (arith, all, t, u)
 
 -- the index is one of these keys, with a row more
-pub lazy_more : (has_row : ℕ → Type 0) (key_of : ℕ → List ℕ) (row : ℕ) (old new : Lazy) → IsLazyOf has_row key_of old → AreSame (row ∷ rows_in old) (rows_in new) → has_row row
+pub lazy_more : (has_row : ℕ → Type 0) (key_of : ℕ → Key) (row : ℕ) (old new : Lazy) → IsLazyOf has_row key_of old → AreSame (row ∷ rows_in old) (rows_in new) → has_row row
     → ((n : ℕ) → Has old n → key_of n ≢ key_of row) → IsKeyed key_of new → IsLazyOf has_row key_of new
 lazy_more has_row key_of row old new is same readable absent keyed =
     let was : (n : ℕ) → Has new n → (row ≡ n) ⊎ Has old n = λ n h. elim (cases_eq row n) [
@@ -342,7 +343,7 @@ lazy_more has_row key_of row old new is same readable absent keyed =
     }
 
 -- the rows that wait are sorted
-pub settles_sorted : (has_row : ℕ → Type 0) (key_of : ℕ → List ℕ) (order : Index) (old new : Numbers) → CanSettle has_row key_of order old → AreSame old.numbers new.numbers → CanSettle has_row key_of order new
+pub settles_sorted : (has_row : ℕ → Type 0) (key_of : ℕ → Key) (order : Index) (old new : Numbers) → CanSettle has_row key_of order old → AreSame old.numbers new.numbers → CanSettle has_row key_of order new
 settles_sorted has_row key_of order old new is same = record {
   readable = λ n h. is.readable n (let s = same n in omega (arith, s, h));
   once = λ n. (let s = same n in let o = is.once n in omega (arith, s, o));

@@ -2,6 +2,7 @@
 use Rattle.std.proofs.Common.{◌≡◌, ℕ, ◌≤◌, List, [], ◌∷◌, sym, ap, ◌∙◌, arith}
 use Rattle.common_lemmas.specs.Lists.{times}
 use Rattle.common_lemmas.proofs.Counts.{times_here, times_cons_le}
+use Rattle.rows.specs.Key.{Key}
 use Rattle.key_index.specs.Order.{Each}
 use Rattle.key_index.specs.Index.{Index}
 use Rattle.key_lemmas.proofs.Moved.{moved_order}
@@ -14,7 +15,7 @@ use Rattle.key_table.specs.inside.Mixed.{AreMixed}
 use Rattle.key_table.proofs.Told.{all_listed}
 use Rattle.key_table.proofs.Both.{has_kept, times-append}
 
-module _ (before after : ℕ → List ℕ) where
+module _ (before after : ℕ → Key) where
   same_each : (rows : List ℕ) → ((n : ℕ) → 1 ≤ times n rows → after n ≡ before n) → Each (λ row. after row ≡ before row) rows
   same_each [] same = tt
   same_each (row ∷ rows) same =

@@ -6,6 +6,7 @@ use Rattle.std.proofs.lemmas.Bool.Decides.{nat_tests}
 use Rattle.std.proofs.lemmas.List.Elements.{All-nil, All-cons, All-head, All-tail, All-contains, All-contains_itself}
 use Rattle.common_lemmas.specs.Lists.{times}
 use Rattle.common_lemmas.proofs.Counts.{all_numbered, times_there}
+use Rattle.rows.specs.Key.{Key}
 use Rattle.key_table.specs.declared.entries.RowAt.{RowAt}
 use Rattle.key_table.specs.Hash.{tag_of}
 use Rattle.key_table.specs.Table.{rows_of}
@@ -43,12 +44,12 @@ held_all P (slot ∷ slots) all (suc k) is =
 pub contains_held : (slots : List RowAt) (k : ℕ) → IsHeld slots k → Contains (held slots) (slot_at slots k)
 contains_held slots = held_all (Contains (held slots)) slots (All-contains_itself (held slots))
 
-pub tagged_within : (key_of : ℕ → List ℕ) (xs ys : List RowAt) → Within xs ys → AreTagged key_of xs → AreTagged key_of ys
+pub tagged_within : (key_of : ℕ → Key) (xs ys : List RowAt) → Within xs ys → AreTagged key_of xs → AreTagged key_of ys
 tagged_within key_of xs ys within is k h =
     let from = within k h in
     subst (λ (s : RowAt). s.tag ≡ tag_of (key_of s.row)) from.1 (is from.0 (subst (λ (s : RowAt). s.row ≢ 4294967295) (sym from.1) h))
 
-pub tagged_more : (key_of : ℕ → List ℕ) (slot : RowAt) (slots : List RowAt) → slot.tag ≡ tag_of (key_of slot.row) → AreTagged key_of slots → AreTagged key_of (slot ∷ slots)
+pub tagged_more : (key_of : ℕ → Key) (slot : RowAt) (slots : List RowAt) → slot.tag ≡ tag_of (key_of slot.row) → AreTagged key_of slots → AreTagged key_of (slot ∷ slots)
 tagged_more key_of slot slots here is zero h = here
 tagged_more key_of slot slots here is (suc k) h = is k h
 

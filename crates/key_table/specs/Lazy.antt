@@ -1,6 +1,7 @@
 -- An index of rows in which some rows wait for their place in the order of keys.
 use Rattle.std.specs.Prelude.{◌≡◌, ℕ, ◌≤◌, List, ◌++◌, MatchOption}
 use Rattle.common_lemmas.specs.Lists.{times}
+use Rattle.rows.specs.Key.{Key}
 use Rattle.key_index.specs.Index.{Index, IsOrdered, IsRowAt}
 use Rattle.key_table.specs.Table.{Table, IsTagged, IsTagOf}
 use Rattle.key_table.specs.declared.entries.RowAt.{RowAt}
@@ -22,12 +23,12 @@ abbrev pub Has : Lazy → ℕ → Type 0
 Has lazy n = 1 ≤ times n (rows_in lazy)
 
 -- what is kept beside the rows is of these keys
-pub record IsKeyed (key_of : ℕ → List ℕ) (lazy : Lazy) : Type 0 where
+pub record IsKeyed (key_of : ℕ → Key) (lazy : Lazy) : Type 0 where
   pub tagged : IsTagged key_of lazy.table
   pub ordered : IsOrdered key_of lazy.order
 
 -- the index is one of these keys: each of its rows has one that can be read, and no other row has it
-pub record IsLazyOf (has_row : ℕ → Type 0) (key_of : ℕ → List ℕ) (lazy : Lazy) : Type 0 where
+pub record IsLazyOf (has_row : ℕ → Type 0) (key_of : ℕ → Key) (lazy : Lazy) : Type 0 where
   pub readable : (n : ℕ) → Has lazy n → has_row n
   pub apart : (m n : ℕ) → Has lazy m → Has lazy n → key_of m ≡ key_of n → m ≡ n
   pub keyed : IsKeyed key_of lazy
@@ -44,4 +45,4 @@ pub record IsStanding (lazy : Lazy) (standing : Standing) : Type 0 where
 
 -- wherever the keys of its rows are moved, what is kept beside the rows stays that of their keys
 abbrev pub StaysKeyed : Lazy → Type 0
-StaysKeyed lazy = (before after : ℕ → List ℕ) → ((n : ℕ) → Has lazy n → after n ≡ before n) → IsKeyed before lazy → IsKeyed after lazy
+StaysKeyed lazy = (before after : ℕ → Key) → ((n : ℕ) → Has lazy n → after n ≡ before n) → IsKeyed before lazy → IsKeyed after lazy

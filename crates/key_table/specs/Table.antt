@@ -1,6 +1,7 @@
 -- A table of rows.
 use Rattle.std.specs.Prelude.{◌≡◌, ℕ, zero, suc, ◌+◌, ◌*◌, ◌<◌, ◌≤◌, ◌&&◌, nat_le, nat_lt, Bool, List, map, All, count_by, bit_and}
 use Rattle.common_lemmas.specs.Lists.{times}
+use Rattle.rows.specs.Key.{Key}
 use Rattle.key_table.specs.Hash.{tag_of}
 use Rattle.key_table.specs.declared.entries.RowAt.{RowAt}
 use Rattle.key_table.specs.declared.entries.Spot.{Spot}
@@ -22,11 +23,11 @@ abbrev pub AreSame : List ℕ → List ℕ → Type 0
 AreSame xs ys = (n : ℕ) → times n xs ≡ times n ys
 
 -- the spot is that of a key
-abbrev pub IsSpotFor : List ℕ → Spot → Type 0
+abbrev pub IsSpotFor : Key → Spot → Type 0
 IsSpotFor key spot = spot.tag ≡ tag_of key
 
 -- each row's tag is the one of its key
-abbrev pub IsTagged : (ℕ → List ℕ) → Table → Type 0
+abbrev pub IsTagged : (ℕ → Key) → Table → Type 0
 IsTagged key_of table = All (λ (found : RowAt). found.tag ≡ tag_of (key_of found.row)) table.kept
 
 -- where the table has a row, it has this tag
@@ -63,6 +64,6 @@ abbrev pub Has : Table → ℕ → Type 0
 Has table n = 1 ≤ times n (rows_of table.kept)
 
 -- the table is one of these keys: each of its rows has one that can be read
-pub record IsTableOf (has_row : ℕ → Type 0) (key_of : ℕ → List ℕ) (table : Table) : Type 0 where
+pub record IsTableOf (has_row : ℕ → Type 0) (key_of : ℕ → Key) (table : Table) : Type 0 where
   pub readable : (n : ℕ) → Has table n → has_row n
   pub tagged : IsTagged key_of table

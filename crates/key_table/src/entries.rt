@@ -1,8 +1,10 @@
 //! What a search in a table finds.
 ghost use Rattle.std.specs.Prelude.{◌≡◌};
+ghost use Rattle.rows.specs.Key.{key_shown};
 ghost use Rattle.key_table.specs.Table.{IsSpotFor};
 
 use crate::hash::tag_of;
+use rows::Key;
 use thiserror::Error;
 
 /// A row of a table, and the tag of its key.
@@ -25,8 +27,8 @@ pub struct Full;
 
 impl Spot {
     /// The spot of a key.
-    pub fn new(key: &[u8]) -> Spot
-        ensures { IsSpotFor key.now result }
+    pub fn new(key: &Key<'_>) -> Spot
+        ensures { IsSpotFor (key_shown key.now) result }
     {
         Spot { tag: tag_of(key) }
     }

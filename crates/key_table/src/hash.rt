@@ -1,9 +1,11 @@
 //! Hashes of keys.
 ghost use Rattle.std.specs.Prelude.{◌≡◌, ℕ, ◌+◌, ◌≤◌, length, drop};
 ghost use Rattle.byteorder.specs.Endian.{little_number};
-ghost use Rattle.key_table.specs.Hash.{mixed, hash_upto, short_word, last_word, tag_of};
+ghost use Rattle.rows.specs.Key.{key_shown};
+ghost use Rattle.key_table.specs.Hash.{mixed, hash_of, hash_upto, short_word, last_word, tag_of};
 
 use byteorder::{ByteOrder, LittleEndian};
+use rows::Key;
 
 /// How many bytes are read at once.
 const WORD: usize = 8;
@@ -50,14 +52,23 @@ fn last_word(key: &[u8]) -> u64
     }
 }
 
-/// The tag of a key: 32 bits of its hash.
-#[tactic(auto, unfolding(crate::specs::Hash::hash_upto, crate::specs::Hash::tag_of))]
-pub(crate) fn tag_of(key: &[u8]) -> u32
-    ensures { result ≡ tag_of key.now }
+/// The hash of the bytes of a key.
+#[tactic(auto, unfolding(crate::specs::Hash::hash_upto, crate::specs::Hash::hash_of))]
+#[inline(always)]
+fn hash_of(key: &[u8]) -> u64
+    ensures { result ≡ hash_of key.now }
 {
     let mut hash = key.len() as u64;
     for count in 0..key.len().saturating_sub(1) / WORD {
         hash = mix(hash, word_at(key, WORD * count));
     }
-    (mix(mix(hash, last_word(key)), 0) >> 32) as u32
+    mix(hash, last_word(key))
+}
+
+/// The tag of a key: 32 bits of its hash. The table is mixed in last, by the one step that is done for table 0 too.
+#[tactic(auto, unfolding(crate::specs::Hash::tag_of))]
+pub(crate) fn tag_of(key: &Key<'_>) -> u32
+    ensures { result ≡ tag_of (key_shown key.now) }
+{
+    (mix(hash_of(key.bytes), key.table as u64) >> 32) as u32
 }

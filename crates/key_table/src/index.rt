@@ -1,9 +1,12 @@
 //! The table and the order of keys as one index.
 ghost use Rattle.std.specs.Prelude.{◌≡◌, ◌≢◌, ℕ, ◌<◌, ◌≤◌, ◌∷◌, [], List, length, IfOk, MatchResult};
 ghost use Rattle.common_lemmas.specs.Lists.{times};
+ghost use Rattle.layout.specs.Sizes.{tables};
+ghost use Rattle.rows.specs.Key as shown;
+ghost use Rattle.rows.specs.Key.{key_shown};
 ghost use Rattle.key_index.specs.Order.{AreRising, rows_from};
 ghost use Rattle.key_table.specs.Table.{AreSame, IsSpotFor};
-ghost use Rattle.key_table.specs.Table as tables;
+ghost use Rattle.key_table.specs.Table as hashed;
 ghost use Rattle.key_table.specs.Lazy.{rows_in, Has, IsKeyed, IsLazyOf, IsStanding, IsThere, StaysKeyed};
 
 use crate::entries::{RowAt, Spot};
@@ -12,6 +15,7 @@ use crate::settling::{leave, settle_all};
 use crate::standing::Standing;
 use crate::table::KeyTable;
 use key_index::{KeyIndex, Keys, Rows};
+use rows::Key;
 use std::alloc::{AllocError, Global};
 use std::marker::Model;
 
@@ -85,11 +89,12 @@ impl LazyIndex {
     ///
     /// # Errors
     /// No row has the key. The answer is the spot for one, for [`LazyIndex::insert`].
-    pub fn find<K: Keys>(&self, keys: &K, key: &[u8]) -> Result<RowAt, Spot>
-        requires { IsLazyOf (K.has_row keys.now) (K.key_of keys.now) self.now }
+    pub fn find<K: Keys>(&self, keys: &K, key: &Key<'_>) -> Result<RowAt, Spot>
+        requires lazy { IsLazyOf (K.has_row keys.now) (K.key_of keys.now) self.now }
+        requires table { key.now.table < tables }
         ensures { MatchResult result
-            (λ found. IsThere self.now found × (K.key_of keys.now found.row ≡ key.now))
-            (λ spot. IsSpotFor key.now spot × ((n : ℕ) → Has self.now n → K.key_of keys.now n ≢ key.now)) }
+            (λ found. IsThere self.now found × (K.key_of keys.now found.row ≡ key_shown key.now))
+            (λ spot. IsSpotFor (key_shown key.now) spot × ((n : ℕ) → Has self.now n → K.key_of keys.now n ≢ key_shown key.now)) }
     {
         match self.table.find(keys, key) {
             Ok(found) => Ok(found),
@@ -98,13 +103,14 @@ impl LazyIndex {
     }
 
     /// The row of a key that no row of the table has.
-    fn find_outside<K: Keys>(&self, keys: &K, key: &[u8], spot: Spot) -> Result<RowAt, Spot>
+    fn find_outside<K: Keys>(&self, keys: &K, key: &Key<'_>, spot: Spot) -> Result<RowAt, Spot>
         requires lazy { IsLazyOf (K.has_row keys.now) (K.key_of keys.now) self.now }
-        requires spot { IsSpotFor key.now spot }
-        requires absent { (n : ℕ) → tables.Has self.now.table n → K.key_of keys.now n ≢ key.now }
+        requires table { key.now.table < tables }
+        requires spot { IsSpotFor (key_shown key.now) spot }
+        requires absent { (n : ℕ) → hashed.Has self.now.table n → K.key_of keys.now n ≢ key_shown key.now }
         ensures { MatchResult result
-            (λ found. IsThere self.now found × (K.key_of keys.now found.row ≡ key.now))
-            (λ spot. IsSpotFor key.now spot × ((n : ℕ) → Has self.now n → K.key_of keys.now n ≢ key.now)) }
+            (λ found. IsThere self.now found × (K.key_of keys.now found.row ≡ key_shown key.now))
+            (λ spot. IsSpotFor (key_shown key.now) spot × ((n : ℕ) → Has self.now n → K.key_of keys.now n ≢ key_shown key.now)) }
     {
         if self.outside == 0 {
             return Err(spot);
@@ -122,7 +128,8 @@ impl LazyIndex {
         ensures there { IsThere self.now result }
         ensures row { result.row ≡ row }
     {
-        Spot::new(keys.key(row)).of(row)
+        let key = keys.key(row);
+        Spot::new(&key).of(row)
     }
 
     /// Puts a row in at the spot of its key, which no other row has. It waits for its place in the order, but where the
@@ -162,7 +169,8 @@ impl LazyIndex {
         if self.late.has(found.row) {
             return Standing { found, place: None };
         }
-        let Ok(at) = self.order.search(keys, keys.key(found.row)) else {
+        let key = keys.key(found.row);
+        let Ok(at) = self.order.search(keys, &key) else {
             unreachable!()
         };
         Standing {
@@ -176,7 +184,7 @@ impl LazyIndex {
         requires { IsStanding self.old standing }
         ensures room { self.new.room ≡ self.old.room }
         ensures rows { AreSame (rows_in self.old) (standing.found.row ∷ rows_in self.new) }
-        ensures keyed { (key_of : ℕ → List ℕ) → IsKeyed key_of self.old → IsKeyed key_of self.new }
+        ensures keyed { (key_of : ℕ → shown.Key) → IsKeyed key_of self.old → IsKeyed key_of self.new }
         ensures moved { StaysKeyed self.new }
     {
         leave(&mut self.late, &mut self.order, standing);
@@ -212,10 +220,11 @@ impl LazyIndex {
     }
 
     /// The rows of the keys that are at or above a key, in order. No row waits.
-    pub fn rows_from<K: Keys>(&self, keys: &K, key: &[u8]) -> Rows<'_>
+    pub fn rows_from<K: Keys>(&self, keys: &K, key: &Key<'_>) -> Rows<'_>
         requires lazy { IsLazyOf (K.has_row keys.now) (K.key_of keys.now) self.now }
+        requires table { key.now.table < tables }
         requires settled { self.now.late ≡ [] }
-        ensures rows { result ≡ rows_from (K.key_of keys.now) key.now self.now.order.rows }
+        ensures rows { result ≡ rows_from (K.key_of keys.now) (key_shown key.now) self.now.order.rows }
         ensures rising { AreRising (K.key_of keys.now) self.now.order.rows }
         ensures all { AreSame (rows_in self.now) self.now.order.rows }
     {

@@ -97,7 +97,7 @@ impl Late {
         self.numbers.clear();
     }
 
-    /// Sorts the numbers by the first bytes of their keys, the least last.
+    /// Sorts the numbers by the leads of their keys, the least last.
     pub(crate) fn sort<K: Keys>(&mut self, keys: &K)
         requires { (n : ℕ) → 1 ≤ times n self.old.numbers → K.has_row keys.now n }
         ensures bound { self.new.bound ≡ self.old.bound }

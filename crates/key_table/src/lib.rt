@@ -1,7 +1,8 @@
 //! A hash table of rows by key, with open addressing and linear probing, for exact look-up.
 //!
 //! The keys stand elsewhere, and a [`Keys`] reads them. The table keeps the number of each row and a tag (a
-//! fingerprint), 32 bits of the hash of its key, so that it reads a key only where the tags agree. A slot holds a row
+//! fingerprint), 32 bits of the hash of its key, so that it reads a key only where the tags agree. Keys are bytes in tables:
+//! the same bytes in two tables are two keys. A slot holds a row
 //! or none; a row stands at the slot of its tag or behind it, and no empty slot between.
 //!
 //! Fewer than 64 slots in a row hold rows: a row that would make so many is not put in, and whoever has the table keeps it

@@ -1,6 +1,7 @@
 //! Rows that wait get their places in the order of keys.
 ghost use Rattle.std.specs.Prelude.{◌≡◌, ℕ, ◌+◌, ◌≤◌, [], ◌∷◌, List, true, false, length, MatchOption};
 ghost use Rattle.common_lemmas.specs.Lists.{times};
+ghost use Rattle.rows.specs.Key.{Key};
 ghost use Rattle.key_index.specs.Index.{IsOrdered, IsRowAt};
 ghost use Rattle.key_table.specs.inside.Mixed.{both, CanSettle};
 
@@ -65,7 +66,7 @@ pub(crate) fn leave(late: &mut Late, order: &mut KeyIndex, standing: Standing)
         (λ place. IsRowAt order.old place standing.found.row) }
     ensures all { (n : ℕ) → both order.old late.old n ≡ times n (standing.found.row ∷ []) + both order.new late.new n }
     ensures fewer { (n : ℕ) → times n order.old.rows ≤ times n (standing.found.row ∷ []) + times n order.new.rows }
-    ensures ordered { (key_of : ℕ → List ℕ) → IsOrdered key_of order.old → IsOrdered key_of order.new }
+    ensures ordered { (key_of : ℕ → Key) → IsOrdered key_of order.old → IsOrdered key_of order.new }
     ensures order_room { order.new.room ≡ order.old.room }
     ensures late_room { late.new.bound ≡ late.old.bound }
 {

@@ -1,6 +1,8 @@
 //! The table.
 ghost use Rattle.std.specs.Prelude.{◌≡◌, ◌≢◌, ℕ, ◌+◌, ◌<◌, ◌≤◌, ◌∷◌, [], List, length, All, Contains, IfOk, IfErr, MatchResult, true, false, vec_capacity};
 ghost use Rattle.common_lemmas.specs.Lists.{times};
+ghost use Rattle.rows.specs.Key as shown;
+ghost use Rattle.rows.specs.Key.{key_shown};
 ghost use Rattle.key_table.specs.Table.{rows_of, vacant_row, AreSame, Has, IsCrowdedAt, IsSpotFor, IsTagged, IsTagOf, IsTableOf};
 
 use crate::entries::{Full, RowAt, Spot};
@@ -8,6 +10,7 @@ use crate::seeking::seek;
 use crate::slots::{REACH, clear, locate, put, take_out};
 use crate::widening::{LEAST, most_of, widen};
 use key_index::Keys;
+use rows::Key;
 use std::alloc::{AllocError, Global};
 use std::marker::Model;
 
@@ -66,7 +69,7 @@ impl KeyTable {
     pub fn len(&self) -> u32
         ensures count { result ≡ length self.now.kept }
         ensures within { result ≤ self.now.room }
-        ensures moved { (before after : ℕ → List ℕ) → ((n : ℕ) → Has self.now n → after n ≡ before n)
+        ensures moved { (before after : ℕ → shown.Key) → ((n : ℕ) → Has self.now n → after n ≡ before n)
             → IsTagged before self.now → IsTagged after self.now }
     {
         self.count
@@ -83,11 +86,11 @@ impl KeyTable {
     ///
     /// # Errors
     /// No row has the key. The answer is the spot for one, for [`KeyTable::insert`].
-    pub fn find<K: Keys>(&self, keys: &K, key: &[u8]) -> Result<RowAt, Spot>
+    pub fn find<K: Keys>(&self, keys: &K, key: &Key<'_>) -> Result<RowAt, Spot>
         requires { IsTableOf (K.has_row keys.now) (K.key_of keys.now) self.now }
         ensures { MatchResult result
-            (λ found. Contains self.now.kept found × Has self.now found.row × (K.key_of keys.now found.row ≡ key.now))
-            (λ spot. IsSpotFor key.now spot × ((n : ℕ) → Has self.now n → K.key_of keys.now n ≢ key.now)) }
+            (λ found. Contains self.now.kept found × Has self.now found.row × (K.key_of keys.now found.row ≡ key_shown key.now))
+            (λ spot. IsSpotFor (key_shown key.now) spot × ((n : ℕ) → Has self.now n → K.key_of keys.now n ≢ key_shown key.now)) }
     {
         let spot = Spot::new(key);
         match seek(keys, &self.slots, self.mask, key, spot.tag) {
@@ -108,7 +111,7 @@ impl KeyTable {
             (λ _. AreSame (row ∷ rows_of self.old.kept) (rows_of self.new.kept))
             (λ _. AreSame (rows_of self.old.kept) (rows_of self.new.kept)) }
         ensures full { IfErr result (λ _. IsCrowdedAt self.new spot) }
-        ensures tagged { (key_of : ℕ → List ℕ) → IsTagged key_of self.old → IsSpotFor (key_of row) spot
+        ensures tagged { (key_of : ℕ → shown.Key) → IsTagged key_of self.old → IsSpotFor (key_of row) spot
             → IsTagged key_of self.new }
     {
         self.mask = widen(
@@ -132,7 +135,7 @@ impl KeyTable {
         ensures rows { result ≡ true → AreSame (rows_of self.old.kept) (found.row ∷ rows_of self.new.kept) }
         ensures absent { result ≡ false → times found.row (rows_of self.old.kept) ≡ 0 }
         ensures unchanged { result ≡ false → self.new ≡ self.old }
-        ensures tagged { (key_of : ℕ → List ℕ) → IsTagged key_of self.old → IsTagged key_of self.new }
+        ensures tagged { (key_of : ℕ → shown.Key) → IsTagged key_of self.old → IsTagged key_of self.new }
     {
         let Some(at) = locate(&self.slots, self.mask, found) else {
             return false;

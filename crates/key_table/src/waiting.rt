@@ -5,16 +5,16 @@ ghost use Rattle.common_lemmas.specs.Lists.{times};
 ghost use Rattle.key_table.specs.Table.{AreSame};
 
 use crate::late::number_at;
-use key_index::{Keys, lead_of};
+use key_index::{Keys, lead_behind};
 
-/// A number that waits, and the first bytes of its key.
+/// A number that waits, and the lead of its key.
 #[derive(Clone, Copy)]
 pub(crate) struct Waiting {
     pub(crate) lead: u64,
     pub(crate) number: u32,
 }
 
-/// Notes the first bytes of the keys of numbers.
+/// Notes the leads of the keys of numbers.
 fn note_all<K: Keys>(keys: &K, numbers: &Vec<u32>, waiting: &mut Vec<Waiting>)
     requires readable { (n : ℕ) → 1 ≤ times n numbers.now.items → K.has_row keys.now n }
     requires small { length numbers.now.items < 4294967296 }
@@ -25,7 +25,8 @@ fn note_all<K: Keys>(keys: &K, numbers: &Vec<u32>, waiting: &mut Vec<Waiting>)
     waiting.clear();
     for at in 0..numbers.len() {
         let number = number_at(numbers, at as u32);
-        let lead = lead_of(keys.key(number));
+        let key = keys.key(number);
+        let lead = lead_behind(&key, 0);
         waiting.push(Waiting { lead, number }).unwrap();
     }
 }
@@ -43,7 +44,7 @@ fn take_all(waiting: &Vec<Waiting>, numbers: &mut Vec<u32>)
     }
 }
 
-/// Sorts numbers by the first bytes of their keys, the least last.
+/// Sorts numbers by the leads of their keys, the least last.
 pub(crate) fn sort_all<K: Keys>(keys: &K, numbers: &mut Vec<u32>, waiting: &mut Vec<Waiting>)
     requires readable { (n : ℕ) → 1 ≤ times n numbers.old.items → K.has_row keys.now n }
     requires small { length numbers.old.items < 4294967296 }

@@ -61,6 +61,14 @@ greatest_value = 12000
 abbrev pub row_overhead : ℕ
 row_overhead = 40
 
+-- the tables of a shard, numbered from 0
+abbrev pub tables : ℕ
+tables = 8
+
+-- the fewest pages of a shard whose rows are of tables
+abbrev pub fewest_table_pages : ℕ
+fewest_table_pages = 1536
+
 -- the most keys that a scan gives
 abbrev pub most_keys : ℕ
 most_keys = 32

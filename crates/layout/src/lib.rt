@@ -56,6 +56,12 @@ pub const GREATEST_KEY: usize = 256;
 /// The most bytes of a value.
 pub const GREATEST_VALUE: usize = 12_000;
 
+/// The tables of a shard, numbered from 0.
+pub const TABLES: u32 = 8;
+
+/// The fewest pages of a shard whose rows are of tables.
+pub const FEWEST_TABLE_PAGES: u32 = 1536;
+
 /// The most keys that a scan gives.
 pub const MOST_KEYS: u32 = 32;
 
@@ -102,6 +108,7 @@ pub fn sizes_hang_together()
     ensures request { sizes.greatest_request ≡ sizes.message_header + sizes.greatest_key + sizes.greatest_value }
     ensures shares { sizes.request_tickets < sizes.tickets }
     ensures fewest { sizes.segment_pages * (sizes.tickets + 2) < sizes.fewest_pages }
+    ensures fewest_tables { sizes.segment_pages * (sizes.tickets + 1 + sizes.tables) < sizes.fewest_table_pages }
     ensures list { sizes.list_words ≡ 1 + sizes.tickets + sizes.line_words }
     ensures row { sizes.greatest_object ≡ sizes.row_overhead + sizes.greatest_key + sizes.greatest_value }
 {}

@@ -32,7 +32,7 @@ is_for n o s operation = origin operation.number n == o && has_part n s operatio
 
 -- of the operations from this place on
 abbrev pub left_from : Parsed → ℕ → ℕ → ℕ → ℕ → List Operation
-left_from trace n o s at = operations_for (trace_with (drop at (trace_in trace).operations)) n o s
+left_from trace n o s at = operations_for (trace_with (trace_in trace).version (drop at (trace_in trace).operations)) n o s
 
 -- the parts of a scan are in the order of their shards
 abbrev pub shards_before : ℕ → Option Operation → ℕ

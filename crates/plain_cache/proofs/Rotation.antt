@@ -7,6 +7,7 @@ use Rattle.std.proofs.lemmas.List.{take_all, take_at, drop_at, drop_all, take_mo
 use Rattle.std.proofs.lemmas.List.Sorted.{IsPermutation-remove, All-permutation}
 use Rattle.plain_cache.specs.declared.plain.OwnedRow.{OwnedRow}
 use Rattle.rows.specs.Apply.{row_of, without, HasDistinctKeys}
+use Rattle.rows.specs.Key.{Key}
 use Rattle.rows.specs.Row.{Row}
 use Rattle.plain_cache.specs.inside.OwnedRow.{row_in, IsPositionOf, IsSmall}
 
@@ -37,12 +38,12 @@ rotated_is ks part front at len k within is all part_is long front_is =
     ∙ ap (λ n. (k ∷ take at ks) ++ drop n ks) (add-one at)
 
 -- what the rotation leaves, by the row that was found
-pub record IsRotated (key : List ℕ) (ks rotated : List OwnedRow) (k : OwnedRow) : Type 0 where
+pub record IsRotated (key : Key) (ks rotated : List OwnedRow) (k : OwnedRow) : Type 0 where
   pub found : row_of key (map row_in ks) ≡ Some (row_in k)
   pub rows : map row_in rotated ≡ row_in k ∷ without key (map row_in ks)
   pub small : All IsSmall ks → All IsSmall rotated
 
-pub rotated : (key : List ℕ) (ks part front : List OwnedRow) (at len : ℕ) → IsPositionOf key ks at → HasDistinctKeys (map row_in ks)
+pub rotated : (key : Key) (ks part front : List OwnedRow) (at len : ℕ) → IsPositionOf key ks at → HasDistinctKeys (map row_in ks)
     → len ≡ length ks → part ≡ take (at + 1 - 0) ks → length front ≡ length part → front ≡ drop (length part - 1) part ++ take (length part - 1) part
     → (k : OwnedRow) × IsRotated key ks (written len front ks) k
 rotated key [] part front at len position are all part_is long front_is = let none : at < 0 = position.within in absurd (omega arith)
@@ -66,14 +67,14 @@ rotated key (first ∷ ks) part front at len position are all part_is long front
     same_item (x ∷ xs) zero d e inside = refl
     same_item (x ∷ xs) (suc i) d e inside = same_item xs i d e (omega arith)
 
-pub rotated_rows : (key : List ℕ) (ks rotated : List OwnedRow) (k : OwnedRow) → IsRotated key ks rotated k
+pub rotated_rows : (key : Key) (ks rotated : List OwnedRow) (k : OwnedRow) → IsRotated key ks rotated k
     → IfSome (row_of key (map row_in ks)) (λ row. map row_in rotated ≡ row ∷ without key (map row_in ks))
 rotated_rows key ks rotated k is = rw is.found is.rows
 
 -- a row that was found, in front of the others
 abbrev pub BroughtStays : Type 0
-BroughtStays = (key : List ℕ) (cache : List Row) (row : Row) → row_of key cache ≡ Some row → HasDistinctKeys cache → HasDistinctKeys (row ∷ without key cache)
+BroughtStays = (key : Key) (cache : List Row) (row : Row) → row_of key cache ≡ Some row → HasDistinctKeys cache → HasDistinctKeys (row ∷ without key cache)
 
-pub rotated_distinct : BroughtStays → (key : List ℕ) (ks rotated : List OwnedRow) (k : OwnedRow) → IsRotated key ks rotated k → HasDistinctKeys (map row_in ks)
+pub rotated_distinct : BroughtStays → (key : Key) (ks rotated : List OwnedRow) (k : OwnedRow) → IsRotated key ks rotated k → HasDistinctKeys (map row_in ks)
     → HasDistinctKeys (map row_in rotated)
 rotated_distinct stays key ks rotated k is are = rw is.rows (stays key (map row_in ks) (row_in k) is.found are)

@@ -4,5 +4,7 @@ use Rattle.rows.specs.Row.{Row}
 
 pub record Cache : Type 0 where
   pub pages : ℕ
+  -- 1, or one for each table
+  pub regions : ℕ
   -- most recently used first
   pub rows : List Row

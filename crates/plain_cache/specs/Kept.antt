@@ -1,9 +1,9 @@
 -- What a user of a cache counts on: while the live bytes stay within the floor no row goes, and a get finds what was put last.
 use Rattle.std.specs.Prelude.{◌≡◌, ℕ, ◌≤◌, List, [], ◌∷◌, ◌++◌, filter_map, if◌then◌else◌, Option, Some, None}
 use Rattle.std.specs.Option.{option_map}
-use Rattle.std.specs.Str.{bytes_eq}
 use Rattle.rows.specs.declared.kind.Kind.TheVariants as kinds
 use Rattle.rows.specs.declared.kind.Kind.{Kind}
+use Rattle.rows.specs.Key.{Key, is_same_key}
 use Rattle.rows.specs.Operation.{Operation}
 use Rattle.trace_text.specs.Trace.{Trace}
 use Rattle.cache_model.specs.declared.entry.Entry.{Entry}
@@ -17,18 +17,18 @@ StaysWithin trace pages bound journal = (before later : List Entry) (cache : Lis
     → journal ≡ before ++ later → cache_after trace pages before ≡ Some cache → live cache ≤ bound
 
 -- the value that a key has among some rows
-abbrev pub value_of : List ℕ → List Row → Option (List ℕ)
+abbrev pub value_of : Key → List Row → Option (List ℕ)
 value_of key cache = option_map (λ row. row.value) (row_of key cache)
 
 -- what a command makes of the value of a key: a put of the key sets it, and an erase of the key takes it away
-abbrev pub set_by : Kind → Operation → List ℕ → Option (List ℕ) → Option (List ℕ)
-set_by kinds.Put operation key value = if bytes_eq operation.key key then Some operation.value else value
+abbrev pub set_by : Kind → Operation → Key → Option (List ℕ) → Option (List ℕ)
+set_by kinds.Put operation key value = if is_same_key operation.key key then Some operation.value else value
 set_by kinds.Get operation key value = value
-set_by kinds.Erase operation key value = if bytes_eq operation.key key then None else value
+set_by kinds.Erase operation key value = if is_same_key operation.key key then None else value
 set_by kinds.Scan operation key value = value
 
 -- the value of a key behind commands, one after the other, as if nothing ever went
-abbrev pub value_behind : List ℕ → List Operation → Option (List ℕ) → Option (List ℕ)
+abbrev pub value_behind : Key → List Operation → Option (List ℕ) → Option (List ℕ)
 value_behind key [] value = value
 value_behind key (operation ∷ operations) value = value_behind key operations (set_by operation.kind operation key value)
 

@@ -3,15 +3,17 @@ ghost use Rattle.std.specs.Prelude.{◌≡◌, ◌+◌, ◌-◌, ◌*◌, ◌/�
 ghost use Rattle.std.specs.Bool.{OnTrue, OnFalse};
 ghost use Rattle.std.specs.List.{last_or};
 ghost use Rattle.trace_text.specs.Operation.{operation};
-ghost use Rattle.rows.specs.Apply.{apply, get, has, is_at_most, is_of, put, row_of, scan, scanned, without, HasDistinctKeys};
-ghost use Rattle.plain_cache.specs.inside.OwnedRow.{row_in, IsPositionOf, IsSmall};
+ghost use Rattle.rows.specs.Apply.{apply, get, has, is_at_most, is_of, keys_in, put, row_of, scan, scanned, without, HasDistinctKeys};
+ghost use Rattle.rows.specs.Key.{key_shown};
+ghost use Rattle.plain_cache.specs.inside.OwnedRow.{row_in, is_from, IsPositionOf, IsSmall};
 ghost use Rattle.rows.specs.Row.{is_of_put, live, floor};
 ghost use Rattle.cache_model.specs.Legal.{can_evict};
-ghost use Rattle.layout.specs.Sizes.{ArePages, greatest_key, greatest_value, row_overhead};
+ghost use Rattle.layout.specs.Sizes.{greatest_key, greatest_value, row_overhead, segment_pages, tickets};
 ghost use Rattle.rows.specs.Spelled.{key_field, spelled, with_body};
 
 use cache_model::{ReplyKind, is_at_most, sort_keys};
 use layout::{DENSE, GREATEST_KEY, GREATEST_OBJECT, GREATEST_VALUE, SEGMENT_PAGES, TICKETS};
+use rows::Key;
 use run_log::append_keys;
 use std::alloc::{AllocError, Global};
 use std::marker::Model;
@@ -23,6 +25,7 @@ const OVERHEAD: u64 = (GREATEST_OBJECT as u64) - (GREATEST_KEY as u64) - (GREATE
 /// A row that owns its bytes, with the number of the put that stored it.
 #[derive(Drop)]
 struct OwnedRow {
+    table: u8,
     key: Vec<u8>,
     value: Vec<u8>,
     number: u32,
@@ -32,6 +35,7 @@ struct OwnedRow {
 #[derive(Drop)]
 pub struct Plain {
     pages: u32,
+    regions: u32,
     rows: Vec<OwnedRow>,
 }
 
@@ -40,24 +44,25 @@ impl Model for Plain {
 
     ghost Value = { Cache };
 
-    ghost use Rattle.std.specs.Prelude.{◌^◌, ◌<◌, length, map, All};
+    ghost use Rattle.std.specs.Prelude.{◌+◌, ◌/◌, ◌^◌, ◌<◌, ◌≤◌, length, map, All};
     ghost use Rattle.rows.specs.Apply.{HasDistinctKeys};
     ghost use Rattle.plain_cache.specs.inside.OwnedRow.{row_in, IsSmall};
-    ghost use Rattle.layout.specs.Sizes.{ArePages};
+    ghost use Rattle.layout.specs.Sizes.{segment_pages, tickets};
 
-    ghost view = { λ p. record { pages = p.pages; rows = map row_in p.rows.items } };
+    ghost view = { λ p. record { pages = p.pages; regions = p.regions; rows = map row_in p.rows.items } };
 
-    ghost invariant = { λ p. ArePages p.pages × All IsSmall p.rows.items × (length p.rows.items < 2 ^ 32)
+    ghost invariant = { λ p. (tickets + 1 + p.regions ≤ p.pages / segment_pages)
+        × All IsSmall p.rows.items × (length p.rows.items < 2 ^ 32)
         × HasDistinctKeys (map row_in p.rows.items) };
 }
 
-/// The floor of a shard with so many pages, in bytes: up to so many live bytes nothing may be evicted.
-/// Pages are a multiple of 32, from 1,280 to 65,536.
-pub fn floor_of(pages: u32) -> u64
-    requires { ArePages pages }
-    ensures { result ≡ floor pages }
+/// The floor of a shard with so many pages and regions, in bytes: up to so many live bytes nothing may be evicted.
+/// There are at least 33 segments, of 32 pages each, beside one for each region.
+pub fn floor_of(pages: u32, regions: u32) -> u64
+    requires { tickets + 1 + regions ≤ pages / segment_pages }
+    ensures { result ≡ floor pages regions }
 {
-    u64::from(pages / SEGMENT_PAGES - (TICKETS + 2)) * u64::from(DENSE)
+    u64::from(pages / SEGMENT_PAGES - (TICKETS + 1 + regions)) * u64::from(DENSE)
 }
 
 /// The bytes that a row takes, from the lengths of its key and its value.
@@ -69,17 +74,24 @@ fn size_of(key: usize, value: usize) -> u64
     (OVERHEAD + key as u64 + value as u64 + 7) / 8 * 8
 }
 
-fn position_of(rows: &[OwnedRow], key: &[u8]) -> Option<usize>
-    ensures { result ≡ position (λ row. is_of key.now (row_in row)) rows.now }
+/// Whether it is the row of a key.
+fn is_row_of(row: &OwnedRow, key: &Key<'_>) -> bool
+    ensures { result ≡ is_of (key_shown key.now) (row_in row.now) }
 {
-    rows.iter().position(|row| row.key.as_slice() == key)
+    row.table == key.table && row.key.as_slice() == key.bytes
+}
+
+fn position_of(rows: &[OwnedRow], key: &Key<'_>) -> Option<usize>
+    ensures { result ≡ position (λ row. is_of (key_shown key.now) (row_in row)) rows.now }
+{
+    rows.iter().position(|row| is_row_of(row, key))
 }
 
 /// The position of the row of a key.
-fn seek(rows: &[OwnedRow], key: &[u8]) -> Option<usize>
-    ensures absent { IfNone result (row_of key.now (map row_in rows.now) ≡ None) }
-    ensures has { is_some result ≡ has key.now (map row_in rows.now) }
-    ensures position { IfSome result (λ at. IsPositionOf key.now rows.now at) }
+fn seek(rows: &[OwnedRow], key: &Key<'_>) -> Option<usize>
+    ensures absent { IfNone result (row_of (key_shown key.now) (map row_in rows.now) ≡ None) }
+    ensures has { is_some result ≡ has (key_shown key.now) (map row_in rows.now) }
+    ensures position { IfSome result (λ at. IsPositionOf (key_shown key.now) rows.now at) }
 {
     position_of(rows, key)
 }
@@ -95,13 +107,13 @@ fn is_last(rows: &[OwnedRow], put: u32) -> bool
 }
 
 /// Takes away the row of a key, if there is one, and answers whether there was.
-fn drop_row(rows: &mut Vec<OwnedRow>, key: &[u8]) -> bool
+fn drop_row(rows: &mut Vec<OwnedRow>, key: &Key<'_>) -> bool
     requires { HasDistinctKeys (map row_in rows.old.items) }
 
     // No row has the key then.
-    ensures found { result ≡ has key.now (map row_in rows.old.items) }
-    ensures rows { map row_in rows.new.items ≡ without key.now (map row_in rows.old.items) }
-    ensures absent { has key.now (map row_in rows.new.items) ≡ false }
+    ensures found { result ≡ has (key_shown key.now) (map row_in rows.old.items) }
+    ensures rows { map row_in rows.new.items ≡ without (key_shown key.now) (map row_in rows.old.items) }
+    ensures absent { has (key_shown key.now) (map row_in rows.new.items) ≡ false }
     ensures distinct { HasDistinctKeys (map row_in rows.new.items) }
 
     // The others stay, in the same memory.
@@ -127,11 +139,11 @@ fn drop_last(rows: &mut Vec<OwnedRow>)
 }
 
 /// Brings the row at this position to the front.
-fn bring_to_front(rows: &mut Vec<OwnedRow>, at: usize, key: &[u8])
-    requires of_key { IsPositionOf key.now rows.old.items at }
+fn bring_to_front(rows: &mut Vec<OwnedRow>, at: usize, key: &Key<'_>)
+    requires of_key { IsPositionOf (key_shown key.now) rows.old.items at }
     requires distinct { HasDistinctKeys (map row_in rows.old.items) }
-    ensures rows { IfSome (row_of key.now (map row_in rows.old.items))
-        (λ row. map row_in rows.new.items ≡ row ∷ without key.now (map row_in rows.old.items)) }
+    ensures rows { IfSome (row_of (key_shown key.now) (map row_in rows.old.items))
+        (λ row. map row_in rows.new.items ≡ row ∷ without (key_shown key.now) (map row_in rows.old.items)) }
     ensures distinct_still { HasDistinctKeys (map row_in rows.new.items) }
     ensures small { All IsSmall rows.old.items → All IsSmall rows.new.items }
     ensures fewer { vec_len rows.new ≤ vec_len rows.old }
@@ -139,32 +151,39 @@ fn bring_to_front(rows: &mut Vec<OwnedRow>, at: usize, key: &[u8])
     rows.slice_mut(..at + 1).rotate_right(1);
 }
 
-/// The keys of these rows that are not below a key.
+/// Whether the row is of the table of a key, and not below the key.
+fn is_from(row: &OwnedRow, key: &Key<'_>) -> bool
+    ensures { result ≡ is_from (key_shown key.now) row.now }
+{
+    row.table == key.table && is_at_most(key.bytes, row.key.as_slice())
+}
+
+/// The keys of these rows that are of the table of a key, and not below the key.
 fn keys_from<'a>(
     alloc: Global,
     rows: &'a [OwnedRow],
-    key: &[u8],
+    key: &Key<'_>,
 ) -> Result<Vec<&'a [u8]>, AllocError>
-    ensures { IfOk result (λ keys. map (λ found. found.now) keys.items ≡ filter (is_at_most key.now)
-        (map (λ row. row.key) (map row_in rows.now))) }
+    ensures { IfOk result (λ keys. map (λ found. found.now) keys.items ≡ filter (is_at_most key.now.bytes.now)
+        (keys_in key.now.table (map row_in rows.now))) }
 {
     let mut keys = Vec::new(alloc);
     for row in rows {
-        if is_at_most(key, row.key.as_slice()) {
+        if is_from(row, key) {
             keys.push(row.key.as_slice())?;
         }
     }
     Ok(keys)
 }
 
-/// The keys of a scan: those of these rows that are not below its key, in order, at most so many.
+/// The keys of a scan: those of these rows that are of the table of its key and not below it, in order, at most so many.
 fn scanned<'a>(
     alloc: Global,
     rows: &'a [OwnedRow],
-    key: &[u8],
+    key: &Key<'_>,
     count: u32,
 ) -> Result<Vec<&'a [u8]>, AllocError>
-    ensures keys { IfOk result (λ keys. map (λ found. found.now) keys.items ≡ scanned key.now count (map row_in rows.now)) }
+    ensures keys { IfOk result (λ keys. map (λ found. found.now) keys.items ≡ scanned (key_shown key.now) count (map row_in rows.now)) }
     ensures short { All IsSmall rows.now → IfOk result (λ keys. All (λ found. length found.now ≤ greatest_key) keys.items) }
 {
     let mut keys = keys_from(alloc, rows, key)?;
@@ -174,13 +193,14 @@ fn scanned<'a>(
 }
 
 impl Plain {
-    /// An empty cache of a shard with so many pages.
-    pub fn new(alloc: Global, pages: u32) -> Result<Plain, AllocError>
-        requires { ArePages pages }
-        ensures { IfOk result (λ plain. plain ≡ record { pages = pages; rows = [] }) }
+    /// An empty cache of a shard with so many pages and regions: `floor_of` says how many.
+    pub fn new(alloc: Global, pages: u32, regions: u32) -> Result<Plain, AllocError>
+        requires { tickets + 1 + regions ≤ pages / segment_pages }
+        ensures { IfOk result (λ plain. plain ≡ record { pages = pages; regions = regions; rows = [] }) }
     {
         Ok(Plain {
             pages,
+            regions,
             rows: Vec::new(alloc),
         })
     }
@@ -204,14 +224,14 @@ impl Plain {
     }
 
     fn can_evict(&self, put: u32) -> bool
-        ensures { result ≡ can_evict self.now.pages put self.now.rows }
+        ensures { result ≡ can_evict self.now.pages self.now.regions put self.now.rows }
     {
-        is_last(self.rows.as_slice(), put) && self.live() > floor_of(self.pages)
+        is_last(self.rows.as_slice(), put) && self.live() > floor_of(self.pages, self.regions)
     }
 
     /// Evicts the row of a put, where that is legal: it is the last row, and the live bytes exceed the floor.
     pub fn evict(&mut self, put: u32) -> bool
-        ensures possible { result ≡ can_evict self.old.pages put self.old.rows }
+        ensures possible { result ≡ can_evict self.old.pages self.old.regions put self.old.rows }
         ensures removed { OnTrue result (self.new ≡ record self.old { rows = take (length self.old.rows - 1) self.old.rows }) }
         ensures kept { OnFalse result (self.new ≡ self.old) }
     {
@@ -225,19 +245,20 @@ impl Plain {
     fn put(
         &mut self,
         alloc: Global,
-        key: &[u8],
+        key: &Key<'_>,
         value: &[u8],
         number: u32,
     ) -> Result<bool, AllocError>
-        requires key { length key.now ≤ greatest_key }
+        requires key { length key.now.bytes.now ≤ greatest_key }
         requires value { length value.now ≤ greatest_value }
         requires few { length self.old.rows < 4294967295 }
-        ensures replaced { IfOk result (λ replaced. replaced ≡ has key.now self.old.rows) }
-        ensures put { OnOk result (self.new ≡ record self.old { rows = (put key.now value.now number self.old.rows).0 }) }
+        ensures replaced { IfOk result (λ replaced. replaced ≡ has (key_shown key.now) self.old.rows) }
+        ensures put { OnOk result (self.new ≡ record self.old { rows = (put (key_shown key.now) value.now number self.old.rows).0 }) }
         ensures kept { OnErr result (self.new ≡ self.old) }
     {
         let row = OwnedRow {
-            key: Vec::from_slice(alloc, key)?,
+            table: key.table,
+            key: Vec::from_slice(alloc, key.bytes)?,
             value: Vec::from_slice(alloc, value)?,
             number,
         };
@@ -247,10 +268,10 @@ impl Plain {
         Ok(replaced)
     }
 
-    fn get(&mut self, key: &[u8], body: &mut Vec<u8>) -> Result<ReplyKind, AllocError>
-        ensures got { OnOk result (self.new ≡ record self.old { rows = (get key.now self.old.rows).0 }) }
+    fn get(&mut self, key: &Key<'_>, body: &mut Vec<u8>) -> Result<ReplyKind, AllocError>
+        ensures got { OnOk result (self.new ≡ record self.old { rows = (get (key_shown key.now) self.old.rows).0 }) }
         ensures replied { IfOk result (λ kind. (kind, body.new.items) ≡ with_body body.old.items
-            (spelled (get key.now self.old.rows).1)) }
+            (spelled (get (key_shown key.now) self.old.rows).1)) }
         ensures kept { OnErr result (self.new ≡ self.old) }
         ensures body_kept { OnErr result (body.new.items ≡ body.old.items) }
     {
@@ -262,9 +283,9 @@ impl Plain {
         Ok(ReplyKind::Value)
     }
 
-    fn erase(&mut self, key: &[u8]) -> bool
-        ensures found { result ≡ has key.now self.old.rows }
-        ensures erased { self.new ≡ record self.old { rows = without key.now self.old.rows } }
+    fn erase(&mut self, key: &Key<'_>) -> bool
+        ensures found { result ≡ has (key_shown key.now) self.old.rows }
+        ensures erased { self.new ≡ record self.old { rows = without (key_shown key.now) self.old.rows } }
     {
         drop_row(&mut self.rows, key)
     }
@@ -273,12 +294,12 @@ impl Plain {
     pub(crate) fn scan(
         &self,
         alloc: Global,
-        key: &[u8],
+        key: &Key<'_>,
         count: u32,
         body: &mut Vec<u8>,
     ) -> Result<ReplyKind, AllocError>
         ensures replied { IfOk result (λ kind. (kind, body.new.items) ≡ with_body body.old.items
-            (spelled (scan key.now count self.now.rows).1)) }
+            (spelled (scan (key_shown key.now) count self.now.rows).1)) }
         ensures body_kept { OnErr result (body.new.items ≡ body.old.items) }
     {
         let keys = scanned(alloc, self.rows.as_slice(), key, count)?;
@@ -311,24 +332,27 @@ impl Plain {
         ensures kept { OnErr result (self.new ≡ self.old) }
         ensures body_kept { OnErr result (body.new.items ≡ body.old.items) }
     {
-        let key = trace.key(command);
+        let key = Key {
+            table: command.table,
+            bytes: trace.key(command),
+        };
         match command.kind {
             Kind::Put => {
-                if self.put(alloc, key, trace.value(command), command.number)? {
+                if self.put(alloc, &key, trace.value(command), command.number)? {
                     Ok(ReplyKind::Replaced)
                 } else {
                     Ok(ReplyKind::Stored)
                 }
             }
-            Kind::Get => self.get(key, body),
+            Kind::Get => self.get(&key, body),
             Kind::Erase => {
-                if self.erase(key) {
+                if self.erase(&key) {
                     Ok(ReplyKind::Erased)
                 } else {
                     Ok(ReplyKind::Missing)
                 }
             }
-            Kind::Scan => self.scan(alloc, key, command.count, body),
+            Kind::Scan => self.scan(alloc, &key, command.count, body),
         }
     }
 }

@@ -13,6 +13,7 @@ pub mod Unused
 pub mod Members
 pub mod Emptied
 pub mod Sums
+pub mod Totals
 pub mod Stores
 pub mod Walked
 pub mod Copied

@@ -34,13 +34,14 @@ pub struct Region {
     held: NumberSet,
     free: NumberSet,
     slots: Vec<Option<Segment>>,
+    live: u64,
 }
 
 impl Model for Region {
     ghost use Rattle.regions.specs.Segments.{RegionState, region_code};
     ghost use Rattle.regions.specs.Shapes.{slots_of};
     ghost use Rattle.regions.specs.Counts.{used_in_each, live_in_each};
-    ghost use Rattle.regions.specs.inside.Consistent.{IsConsistent, states};
+    ghost use Rattle.regions.specs.inside.Consistent.{IsConsistent, IsTotal, states};
 
     ghost Value = { RegionState };
 
@@ -49,7 +50,7 @@ impl Model for Region {
     ghost view = { λ r. record { most = r.most; groups = states r.groups.items; segments = r.slots.items } };
 
     ghost invariant = { λ r. IsConsistent r.most r.groups.items r.held r.free (slots_of r.slots.items)
-        (used_in_each r.slots.items) (live_in_each r.slots.items) };
+        (used_in_each r.slots.items) (live_in_each r.slots.items) × IsTotal r.live (live_in_each r.slots.items) };
 }
 
 impl Region {
@@ -72,6 +73,7 @@ impl Region {
             held: NumberSet::new(alloc, most)?,
             free: NumberSet::new(alloc, most)?,
             slots,
+            live: 0,
         })
     }
 
@@ -213,6 +215,7 @@ impl Region {
     {
         let at = segment_mut(&mut self.slots[segment as usize]).append(kind, size);
         self.groups[group as usize].gain(size);
+        self.live += u64::from(size);
         Place { segment, at }
     }
 
@@ -230,6 +233,7 @@ impl Region {
         let size = segment_mut(&mut self.slots[number as usize]).kill(place.at);
         let group = group_begun(&self.slots[number as usize]);
         self.groups[group as usize].lose(number, size);
+        self.live -= u64::from(size);
     }
 
     /// The content of the live object at the place, for writing, without its descriptor.
@@ -333,6 +337,7 @@ impl Region {
         clear_groups(&mut self.groups);
         clear_all(&mut self.slots);
         self.free.copy_from(&self.held);
+        self.live = 0;
     }
 }
 

@@ -9,6 +9,7 @@ use Rattle.std.proofs.lemmas.List.{get_or-map, length-map}
 use Rattle.std.proofs.lemmas.List.Elements.{All-head, All-map}
 use Rattle.rows.specs.declared.kind.Kind.{Kind}
 use Rattle.rows.specs.declared.kind.Kind.TheVariants as kinds
+use Rattle.rows.specs.Key.{Key}
 use Rattle.rows.specs.Operation.{Operation, is_scan}
 use Rattle.rows.specs.declared.reply_kind.ReplyKind.{ReplyKind}
 use Rattle.cache_model.specs.Answer.{answer_from, answer_kind, join, keys_in}
@@ -27,7 +28,7 @@ FittingStays = (longest : ℕ) (operation : Operation) (reply : Reply) → Fits 
 
 -- ---- replies that fit
 
-pub fits-legal : (kind : Kind) (longest : ℕ) (key : List ℕ) (count : ℕ) (reply : Reply) → FitsKind kind longest key count reply → HasLegalKeys reply
+pub fits-legal : (kind : Kind) (longest : ℕ) (key : Key) (count : ℕ) (reply : Reply) → FitsKind kind longest key count reply → HasLegalKeys reply
 fits-legal kind longest key count Stored fits = tt
 fits-legal kind longest key count Replaced fits = tt
 fits-legal kind longest key count (Value value) fits = tt
@@ -48,7 +49,7 @@ record IsOfScan (count : ℕ) (reply : Reply) : Type 0 where
   rising : IsStrictlySortedBy (slice_cmp nat_cmp) (keys-of reply)
   legal : All IsKey (keys-of reply)
 
-of-scan : (kind : Kind) (longest : ℕ) (key : List ℕ) (count : ℕ) (reply : Reply) → is_scan kind ≡ true → FitsKind kind longest key count reply → IsOfScan count reply
+of-scan : (kind : Kind) (longest : ℕ) (key : Key) (count : ℕ) (reply : Reply) → is_scan kind ≡ true → FitsKind kind longest key count reply → IsOfScan count reply
 of-scan kinds.Put longest key count reply scan fits = cc scan
 of-scan kinds.Get longest key count reply scan fits = cc scan
 of-scan kinds.Erase longest key count reply scan fits = cc scan

@@ -4,9 +4,11 @@ use Rattle.std.proofs.Math.Seq.{drop-append_seam}
 use Rattle.std.proofs.lemmas.List.{take_at, drop-drop, length-replicate}
 use Rattle.byteorder.specs.Endian.{little_bytes}
 use Rattle.byteorder.specs.Numbers.{little_number-reads_back}
+use Rattle.layout.specs.Sizes.{tables}
+use Rattle.rows.specs.Key.{in_table}
 use Rattle.rows.specs.Row.{Row, size}
 use Rattle.row_bytes.specs.declared.links.Links.{Links}
-use Rattle.row_bytes.specs.Rows.{row_bytes, AreLinks, HoldsRow, IsStorable, IsRow, header, number_in, put_in, key_length_in, value_length_in, key_in, value_in, newer_in, older_in, links_in, row_in, without_links}
+use Rattle.row_bytes.specs.Rows.{row_bytes, AreLinks, HoldsRow, IsStorable, IsRow, header, number_in, put_in, key_length_in, value_length_in, key_in, value_in, table_in, newer_in, older_in, links_in, row_in, without_links}
 
 pub number_of_bytes : (n : ℕ) (l : Links) (row : Row) → n < 2 ^ 32 → number_in (row_bytes n l row) ≡ n
 number_of_bytes n l row small = little_number-reads_back 4 n [] small
@@ -14,49 +16,52 @@ number_of_bytes n l row small = little_number-reads_back 4 n [] small
 pub put_of_bytes : (n : ℕ) (l : Links) (row : Row) → row.number < 2 ^ 32 → put_in (row_bytes n l row) ≡ row.number
 put_of_bytes n l row small = little_number-reads_back 4 row.number [] small
 
-pub key_length_of_bytes : (n : ℕ) (l : Links) (row : Row) → IsStorable row → key_length_in (row_bytes n l row) ≡ length row.key
-key_length_of_bytes n l row fits = little_number-reads_back 2 (length row.key) [] (omega (arith, fits.short_key))
+pub key_length_of_bytes : (n : ℕ) (l : Links) (row : Row) → IsStorable row → key_length_in (row_bytes n l row) ≡ length row.key.bytes
+key_length_of_bytes n l row fits = little_number-reads_back 2 (length row.key.bytes) [] (omega (arith, fits.short_key))
 
 pub value_length_of_bytes : (n : ℕ) (l : Links) (row : Row) → IsStorable row → value_length_in (row_bytes n l row) ≡ length row.value
 value_length_of_bytes n l row fits = little_number-reads_back 2 (length row.value) [] (omega (arith, fits.short_value))
 
 -- the zero bytes at the end
 abbrev pub padding : Row → List ℕ
-padding row = replicate (size row.key row.value - (8 + header + length row.key + length row.value)) 0
+padding row = replicate (size row.key.bytes row.value - (8 + header + length row.key.bytes + length row.value)) 0
 
-pub behind_header : (n : ℕ) (l : Links) (row : Row) → drop header (row_bytes n l row) ≡ row.key ++ (row.value ++ padding row)
-behind_header n l row = append_assoc row.key row.value (padding row)
+pub behind_header : (n : ℕ) (l : Links) (row : Row) → drop header (row_bytes n l row) ≡ row.key.bytes ++ (row.value ++ padding row)
+behind_header n l row = append_assoc row.key.bytes row.value (padding row)
 
-pub behind_key : (n : ℕ) (l : Links) (row : Row) → drop (header + length row.key) (row_bytes n l row) ≡ row.value ++ padding row
+pub behind_key : (n : ℕ) (l : Links) (row : Row) → drop (header + length row.key.bytes) (row_bytes n l row) ≡ row.value ++ padding row
 behind_key n l row =
-    sym (drop-drop (length row.key) header (row_bytes n l row))
-    ∙ (ap (λ bytes. drop (length row.key) bytes) (behind_header n l row) ∙ drop-append_seam row.key (row.value ++ padding row))
+    sym (drop-drop (length row.key.bytes) header (row_bytes n l row))
+    ∙ (ap (λ bytes. drop (length row.key.bytes) bytes) (behind_header n l row) ∙ drop-append_seam row.key.bytes (row.value ++ padding row))
 
-pub key_of_bytes : (n : ℕ) (l : Links) (row : Row) → IsStorable row → key_in (row_bytes n l row) ≡ row.key
+pub key_of_bytes : (n : ℕ) (l : Links) (row : Row) → IsStorable row → key_in (row_bytes n l row) ≡ row.key.bytes
 key_of_bytes n l row fits =
     ap (λ k. take k (drop header (row_bytes n l row))) (key_length_of_bytes n l row fits)
-    ∙ (ap (λ bytes. take (length row.key) bytes) (behind_header n l row) ∙ take_at row.key (row.value ++ padding row) (length row.key) refl)
+    ∙ (ap (λ bytes. take (length row.key.bytes) bytes) (behind_header n l row) ∙ take_at row.key.bytes (row.value ++ padding row) (length row.key.bytes) refl)
 
 pub value_of_bytes : (n : ℕ) (l : Links) (row : Row) → IsStorable row → value_in (row_bytes n l row) ≡ row.value
 value_of_bytes n l row fits =
     ap (λ k. take (value_length_in (row_bytes n l row)) (drop (header + k) (row_bytes n l row))) (key_length_of_bytes n l row fits)
-    ∙ (ap (λ k. take k (drop (header + length row.key) (row_bytes n l row))) (value_length_of_bytes n l row fits)
+    ∙ (ap (λ k. take k (drop (header + length row.key.bytes) (row_bytes n l row))) (value_length_of_bytes n l row fits)
     ∙ (ap (λ bytes. take (length row.value) bytes) (behind_key n l row) ∙ take_at row.value (padding row) (length row.value) refl))
 
-pub length_of_bytes : (n : ℕ) (l : Links) (row : Row) → length (row_bytes n l row) + 8 ≡ size row.key row.value
+pub length_of_bytes : (n : ℕ) (l : Links) (row : Row) → length (row_bytes n l row) + 8 ≡ size row.key.bytes row.value
 length_of_bytes n l row =
-    let behind : length (drop header (row_bytes n l row)) ≡ length row.key + (length row.value + (size row.key row.value - (8 + header + length row.key + length row.value))) =
+    let behind : length (drop header (row_bytes n l row)) ≡ length row.key.bytes + (length row.value + (size row.key.bytes row.value - (8 + header + length row.key.bytes + length row.value))) =
     ap (λ bytes. length bytes) (behind_header n l row) ∙ rw (length-append, length-append, length-replicate) refl in
     omega (arith, behind)
 
-abbrev pub with_fields : List ℕ → List ℕ → ℕ → Row
-with_fields key value number = record { key = key; value = value; number = number }
+abbrev pub with_fields : ℕ → List ℕ → List ℕ → ℕ → Row
+with_fields table key value number = record { key = in_table table key; value = value; number = number }
+
+pub table_of_bytes : (n : ℕ) (l : Links) (row : Row) → table_in (row_bytes n l row) ≡ row.key.table
+table_of_bytes n l row = refl
 
 pub row_of_bytes : (n : ℕ) (l : Links) (row : Row) → IsStorable row → row_in (row_bytes n l row) ≡ row
 row_of_bytes n l row fits =
-    ap (λ key. with_fields key (value_in (row_bytes n l row)) (put_in (row_bytes n l row))) (key_of_bytes n l row fits)
-    ∙ (ap (λ value. with_fields row.key value (put_in (row_bytes n l row))) (value_of_bytes n l row fits)
-    ∙ ap (λ number. with_fields row.key row.value number) (put_of_bytes n l row fits.put))
+    ap (λ key. with_fields row.key.table key (value_in (row_bytes n l row)) (put_in (row_bytes n l row))) (key_of_bytes n l row fits)
+    ∙ (ap (λ value. with_fields row.key.table row.key.bytes value (put_in (row_bytes n l row))) (value_of_bytes n l row fits)
+    ∙ ap (λ number. with_fields row.key.table row.key.bytes row.value number) (put_of_bytes n l row fits.put))
 
 -- the fields end within the content
 pub fields_within : (n : ℕ) (l : Links) (row : Row) → IsStorable row
@@ -70,6 +75,9 @@ fields_within n l row fits =
 pub fields_in : (content : List ℕ) → IsRow content → header + key_length_in content + value_length_in content ≤ length content
 fields_in content (number, row, holds) =
     subst (λ bytes. header + key_length_in bytes + value_length_in bytes ≤ length bytes) (sym holds.bytes) (fields_within number holds.links row holds.storable)
+
+pub table_below : (content : List ℕ) → IsRow content → table_in content < tables
+table_below content (number, row, holds) = subst (λ bytes. table_in bytes < tables) (sym holds.bytes) holds.storable.table
 
 -- ---- the links
 

@@ -1,7 +1,8 @@
 -- A row in the content of an object: what a person with a hex dump would read.
-use Rattle.std.specs.Prelude.{◌≡◌, ℕ, ◌+◌, ◌-◌, ◌<◌, ◌≤◌, ◌^◌, List, ◌++◌, length, take, drop, replicate}
+use Rattle.std.specs.Prelude.{◌≡◌, ℕ, ◌+◌, ◌-◌, ◌<◌, ◌≤◌, ◌^◌, List, ◌∷◌, ◌++◌, length, take, drop, replicate, slice_index}
 use Rattle.byteorder.specs.Endian.{little_number, little_bytes}
-use Rattle.layout.specs.Sizes.{descriptor, greatest_key, greatest_value}
+use Rattle.layout.specs.Sizes.{descriptor, greatest_key, greatest_value, tables}
+use Rattle.rows.specs.Key.{Key, in_table}
 use Rattle.rows.specs.Row.{Row, size}
 use Rattle.row_bytes.specs.declared.links.Links.{Links}
 
@@ -14,18 +15,18 @@ abbrev pub no_link : ℕ
 no_link = 18446744073709551615
 
 -- The header: the row number and the number of the put in four bytes each, the lengths of the key and the value in two
--- each, four zero bytes, and the links to the next more recently and the next less recently used row in eight each. The
--- lowest byte of a number stands first.
-abbrev pub header_bytes : ℕ → ℕ → ℕ → ℕ → Links → List ℕ
-header_bytes number put key_length value_length links =
+-- each, the table in one, three zero bytes, and the links to the next more recently and the next less recently used row in
+-- eight each. The lowest byte of a number stands first.
+abbrev pub header_bytes : ℕ → ℕ → ℕ → ℕ → ℕ → Links → List ℕ
+header_bytes number put key_length value_length table links =
     little_bytes 4 number ++ little_bytes 4 put ++ little_bytes 2 key_length ++ little_bytes 2 value_length
-    ++ replicate 4 0 ++ little_bytes 8 links.newer ++ little_bytes 8 links.older
+    ++ (table ∷ replicate 3 0) ++ little_bytes 8 links.newer ++ little_bytes 8 links.older
 
 -- The content of an object that holds a row: the header, the key, the value, and zero bytes up to the size.
 abbrev pub row_bytes : ℕ → Links → Row → List ℕ
 row_bytes number links row =
-    header_bytes number row.number (length row.key) (length row.value) links ++ row.key ++ row.value
-    ++ replicate (size row.key row.value - (descriptor + header + length row.key + length row.value)) 0
+    header_bytes number row.number (length row.key.bytes) (length row.value) row.key.table links ++ row.key.bytes ++ row.value
+    ++ replicate (size row.key.bytes row.value - (descriptor + header + length row.key.bytes + length row.value)) 0
 
 -- what such a content says, field by field
 abbrev pub number_in : List ℕ → ℕ
@@ -39,6 +40,9 @@ key_length_in content = little_number 2 (drop 8 content)
 
 abbrev pub value_length_in : List ℕ → ℕ
 value_length_in content = little_number 2 (drop 10 content)
+
+abbrev pub table_in : List ℕ → ℕ
+table_in content = slice_index content 12
 
 abbrev pub newer_in : List ℕ → ℕ
 newer_in content = little_number 8 (drop 16 content)
@@ -55,14 +59,19 @@ key_in content = take (key_length_in content) (drop header content)
 abbrev pub value_in : List ℕ → List ℕ
 value_in content = take (value_length_in content) (drop (header + key_length_in content) content)
 
+-- the key, in its table
+abbrev pub key_of_row : List ℕ → Key
+key_of_row content = in_table (table_in content) (key_in content)
+
 -- the row that stands in a content
 abbrev pub row_in : List ℕ → Row
-row_in content = record { key = key_in content; value = value_in content; number = put_in content }
+row_in content = record { key = key_of_row content; value = value_in content; number = put_in content }
 
 -- a row that can stand in an object: its key, its value and its put are a trace's
 pub record IsStorable (row : Row) : Type 0 where
-  pub some_key : 1 ≤ length row.key
-  pub short_key : length row.key ≤ greatest_key
+  pub table : row.key.table < tables
+  pub some_key : 1 ≤ length row.key.bytes
+  pub short_key : length row.key.bytes ≤ greatest_key
   pub short_value : length row.value ≤ greatest_value
   pub put : row.number < 2 ^ 32
 

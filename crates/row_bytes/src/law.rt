@@ -14,9 +14,9 @@ pub fn a_row_is_read_as_it_is_written()
         → row_in (without_links content) ≡ row }
     ensures number { (content : List ℕ) (number : ℕ) (row : Row) → HoldsRow content number row → number_in content ≡ number }
     ensures size { (content : List ℕ) (number : ℕ) (row : Row) → HoldsRow content number row
-        → length content + descriptor ≡ size row.key row.value }
+        → length content + descriptor ≡ size row.key.bytes row.value }
     ensures lengths { (content : List ℕ) (number : ℕ) (row : Row) → HoldsRow content number row
-        → (key_length_in content ≡ length row.key) × (value_length_in content ≡ length row.value) }
+        → (key_length_in content ≡ length row.key.bytes) × (value_length_in content ≡ length row.value) }
     ensures within { (content : List ℕ) (number : ℕ) (row : Row) → HoldsRow content number row
         → header + key_length_in content + value_length_in content ≤ length content }
 {}

@@ -1,8 +1,10 @@
 //! A row as it comes.
 
-/// A row as it comes: a key, its value and the number of the put.
+/// A row as it comes: a key and its table, its value and the number of the put.
 #[derive(Clone, Copy)]
 pub struct NewRow<'a> {
+    /// The table of the key, 0 to 7.
+    pub table: u8,
     /// The key.
     pub key: &'a [u8],
     /// The value.

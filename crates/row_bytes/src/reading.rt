@@ -1,10 +1,16 @@
 //! A row read from the content of its object.
-ghost use Rattle.std.specs.Prelude.{◌≡◌, ◌+◌, ◌≤◌, length};
+ghost use Rattle.std.specs.Prelude.{◌≡◌, ◌+◌, ◌<◌, ◌≤◌, length};
+ghost use Rattle.layout.specs.Sizes.{tables};
+ghost use Rattle.rows.specs.Key.{key_shown};
 ghost use Rattle.row_bytes.specs.Rows as rows;
 
 use byteorder::{ByteOrder, LittleEndian};
+use rows::Key;
 
 pub(crate) const HEADER: usize = 32;
+
+// Where the table stands in the content.
+pub(crate) const TABLE: usize = 12;
 
 /// The row number in the content of a row's object.
 #[tactic(auto, using(crate::proofs::Fields::fields_in))]
@@ -24,7 +30,29 @@ pub fn put_in(content: &[u8]) -> u32
     LittleEndian::read_u32(&content[4..])
 }
 
-/// The key of the row, 1 to 256 bytes.
+/// The table of the row, 0 to 7.
+#[tactic(auto, using(crate::proofs::Fields::fields_in))]
+pub fn table_in(content: &[u8]) -> u8
+    requires { rows.IsRow content.now }
+    ensures is { result ≡ rows.table_in content.now }
+    ensures table { result < tables }
+{
+    content[TABLE]
+}
+
+/// The key of the row, in its table.
+pub fn key_of_row(content: &[u8]) -> Key<'_>
+    requires { rows.IsRow content.now }
+    ensures key { key_shown result ≡ rows.key_of_row content.now }
+    ensures table { result.table < tables }
+{
+    Key {
+        table: table_in(content),
+        bytes: key_in(content),
+    }
+}
+
+/// The bytes of the row's key, 1 to 256.
 #[tactic(auto, using(crate::proofs::Fields::fields_in))]
 pub fn key_in(content: &[u8]) -> &[u8]
     requires { rows.IsRow content.now }

@@ -1,11 +1,12 @@
 //! A row written into the content of its object.
 ghost use Rattle.std.specs.Prelude.{◌≡◌, ◌+◌, ◌<◌, ◌≤◌, ◌^◌, ◌++◌, drop, length, replicate};
-ghost use Rattle.layout.specs.Sizes.{descriptor, greatest_key, greatest_value};
+ghost use Rattle.layout.specs.Sizes.{descriptor, greatest_key, greatest_value, tables};
+ghost use Rattle.rows.specs.Key.{in_table};
 ghost use Rattle.rows.specs.Row.{size};
 ghost use Rattle.row_bytes.specs.Rows as rows;
 
 use crate::links::Links;
-use crate::reading::HEADER;
+use crate::reading::{HEADER, TABLE};
 use byteorder::{ByteOrder, LittleEndian};
 use layout::DESCRIPTOR;
 
@@ -19,15 +20,24 @@ pub fn row_size(key: &[u8], value: &[u8]) -> u32
 }
 
 /// Writes a row with its links into the content of a new object, all of whose bytes are 0.
-pub fn write_row(content: &mut [u8], number: u32, put: u32, links: Links, key: &[u8], value: &[u8])
+pub fn write_row(
+    content: &mut [u8],
+    number: u32,
+    put: u32,
+    links: Links,
+    table: u8,
+    key: &[u8],
+    value: &[u8],
+)
+    requires table { table < tables }
     requires some_key { 1 ≤ length key.now }
     requires short_key { length key.now ≤ greatest_key }
     requires short_value { length value.now ≤ greatest_value }
     requires size { length content.old + descriptor ≡ size key.now value.now }
     requires zero { content.old ≡ replicate (length content.old) 0 }
-    ensures bytes { content.new ≡ rows.row_bytes number links (record { key = key.now; value = value.now; number = put }) }
-    ensures holds { rows.HoldsRow content.new number (record { key = key.now; value = value.now; number = put }) }
-    ensures read { rows.row_in content.new ≡ record { key = key.now; value = value.now; number = put } }
+    ensures bytes { content.new ≡ rows.row_bytes number links (record { key = in_table table key.now; value = value.now; number = put }) }
+    ensures holds { rows.HoldsRow content.new number (record { key = in_table table key.now; value = value.now; number = put }) }
+    ensures read { rows.row_in content.new ≡ record { key = in_table table key.now; value = value.now; number = put } }
     ensures number { rows.number_in content.new ≡ number }
     ensures links { rows.links_in content.new ≡ links }
 {
@@ -37,8 +47,10 @@ pub fn write_row(content: &mut [u8], number: u32, put: u32, links: Links, key: &
         put,
         key.len() as u16,
         value.len() as u16,
+        table,
         links,
-    ).as_slice());
+    )
+    .as_slice());
     let (key_part, behind) = behind.split_at_mut(key.len());
     key_part.copy_from_slice(key);
     write_front(behind, value);
@@ -53,8 +65,15 @@ fn write_front(text: &mut [u8], bytes: &[u8])
 }
 
 /// The bytes of a header.
-fn header_of(number: u32, put: u32, key_len: u16, value_len: u16, links: Links) -> [u8; HEADER]
-    ensures bytes { result ≡ rows.header_bytes number put key_len value_len links }
+fn header_of(
+    number: u32,
+    put: u32,
+    key_len: u16,
+    value_len: u16,
+    table: u8,
+    links: Links,
+) -> [u8; HEADER]
+    ensures bytes { result ≡ rows.header_bytes number put key_len value_len table links }
     ensures fit { rows.AreLinks links }
 {
     let mut header = [0; HEADER];
@@ -62,6 +81,7 @@ fn header_of(number: u32, put: u32, key_len: u16, value_len: u16, links: Links) 
     LittleEndian::write_u32(&mut header[4..], put);
     LittleEndian::write_u16(&mut header[8..], key_len);
     LittleEndian::write_u16(&mut header[10..], value_len);
+    header[TABLE] = table;
     LittleEndian::write_u64(&mut header[16..], links.newer);
     LittleEndian::write_u64(&mut header[24..], links.older);
     header

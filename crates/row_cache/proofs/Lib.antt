@@ -18,4 +18,5 @@ pub mod Numbered
 pub mod Renamed
 pub mod Referred
 pub mod Reached
-pub mod OneGroup
+pub mod Groups
+pub mod Grouped

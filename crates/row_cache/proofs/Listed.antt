@@ -2,11 +2,12 @@
 use Rattle.std.proofs.Common.{◌≡◌, ◌≢◌, ℕ, suc, ◌+◌, ◌-◌, ◌*◌, ◌≤◌, ◌⊎◌, inl, inr, Bool, true, false, not, ◌||◌, cond, List, [], ◌∷◌, ◌++◌, length, take, map, Option, Some, None, MatchOption, refl, sym, ap, subst, ◌∙◌, arith}
 use Rattle.std.proofs.lemmas.Bool.{cases_eq}
 use Rattle.std.specs.Bool.{Decides}
-use Rattle.std.proofs.lemmas.Slice.Eq.{bytes_eq-Decides}
 use Rattle.std.proofs.lemmas.List.Sums.{sum_by-cons}
 use Rattle.std.specs.List.{last_or}
+use Rattle.rows.specs.Key.{Key}
 use Rattle.rows.specs.Row.{Row, size, live}
 use Rattle.rows.specs.Apply.{is_of, row_of, has, without}
+use Rattle.row_lemmas.proofs.Keys.{is_same_key-Decides}
 use Rattle.common_lemmas.specs.Lists.{times, delete}
 use Rattle.common_lemmas.proofs.Counts.{times_here, times_there, times_cons_le, delete_here, delete_there}
 
@@ -36,36 +37,36 @@ tells : (b : Bool) (P : Type 0) → Decides b P → ((b ≡ true) × P) ⊎ ((b 
 tells true P d = inl (refl, d.0 refl)
 tells false P d = inr (refl, λ p. (let e : false ≡ true = d.1 p in cc))
 
-of_key : (key : List ℕ) (r : Row) → ((is_of key r ≡ true) × (r.key ≡ key)) ⊎ ((is_of key r ≡ false) × (r.key ≢ key))
-of_key key r = tells (is_of key r) (r.key ≡ key) (bytes_eq-Decides r.key key)
+of_key : (key : Key) (r : Row) → ((is_of key r ≡ true) × (r.key ≡ key)) ⊎ ((is_of key r ≡ false) × (r.key ≢ key))
+of_key key r = tells (is_of key r) (r.key ≡ key) (is_same_key-Decides r.key key)
 
 -- no row has the key
-abbrev pub Lacks : (ℕ → Row) → List ℕ → List ℕ → Type 0
+abbrev pub Lacks : (ℕ → Row) → Key → List ℕ → Type 0
 Lacks row key ns = (n : ℕ) → 1 ≤ times n ns → (row n).key ≢ key
 
-lacks_tail : (row : ℕ → Row) (key : List ℕ) (n : ℕ) (ns : List ℕ) → Lacks row key (n ∷ ns) → Lacks row key ns
+lacks_tail : (row : ℕ → Row) (key : Key) (n : ℕ) (ns : List ℕ) → Lacks row key (n ∷ ns) → Lacks row key ns
 lacks_tail row key n ns none = λ m l. none m (listed_later m n ns l)
 
-not_first : (row : ℕ → Row) (key : List ℕ) (n : ℕ) (ns : List ℕ) → Lacks row key (n ∷ ns) → is_of key (row n) ≡ false
+not_first : (row : ℕ → Row) (key : Key) (n : ℕ) (ns : List ℕ) → Lacks row key (n ∷ ns) → is_of key (row n) ≡ false
 not_first row key n ns none = elim (of_key key (row n)) [ inl h ↦ absurd (none n (listed_here n ns) h.1) | inr h ↦ h.0 ]
 
-pub none_has : (row : ℕ → Row) (key : List ℕ) (ns : List ℕ) → Lacks row key ns → has key (map row ns) ≡ false
+pub none_has : (row : ℕ → Row) (key : Key) (ns : List ℕ) → Lacks row key ns → has key (map row ns) ≡ false
 none_has row key [] none = refl
 none_has row key (n ∷ ns) none =
     ap (λ b. b || has key (map row ns)) (not_first row key n ns none) ∙ none_has row key ns (lacks_tail row key n ns none)
 
-pub none_found : (row : ℕ → Row) (key : List ℕ) (ns : List ℕ) → Lacks row key ns → row_of key (map row ns) ≡ None
+pub none_found : (row : ℕ → Row) (key : Key) (ns : List ℕ) → Lacks row key ns → row_of key (map row ns) ≡ None
 none_found row key [] none = refl
 none_found row key (n ∷ ns) none =
     ap (λ b. cond b (Some (row n)) (row_of key (map row ns))) (not_first row key n ns none) ∙ none_found row key ns (lacks_tail row key n ns none)
 
-pub none_without : (row : ℕ → Row) (key : List ℕ) (ns : List ℕ) → Lacks row key ns → without key (map row ns) ≡ map row ns
+pub none_without : (row : ℕ → Row) (key : Key) (ns : List ℕ) → Lacks row key ns → without key (map row ns) ≡ map row ns
 none_without row key [] none = refl
 none_without row key (n ∷ ns) none =
     ap (λ b. cond (not b) (row n ∷ without key (map row ns)) (without key (map row ns))) (not_first row key n ns none)
     ∙ ap (λ (rs : List Row). row n ∷ rs) (none_without row key ns (lacks_tail row key n ns none))
 
-pub one_has : (row : ℕ → Row) (key : List ℕ) (n : ℕ) (ns : List ℕ) → 1 ≤ times n ns → (row n).key ≡ key → has key (map row ns) ≡ true
+pub one_has : (row : ℕ → Row) (key : Key) (n : ℕ) (ns : List ℕ) → 1 ≤ times n ns → (row n).key ≡ key → has key (map row ns) ≡ true
 one_has row key n [] h e = absurd (omega arith)
 one_has row key n (m ∷ ns) h e =
     elim (of_key key (row m)) [
@@ -75,7 +76,7 @@ one_has row key n (m ∷ ns) h e =
           ∙ one_has row key n ns (listed_apart n m ns (λ q. k.1 (ap (λ x. (row x).key) q ∙ e)) h) e
     ]
 
-pub one_found : (row : ℕ → Row) (key : List ℕ) (n : ℕ) (ns : List ℕ) → Apart row ns → 1 ≤ times n ns → (row n).key ≡ key → row_of key (map row ns) ≡ Some (row n)
+pub one_found : (row : ℕ → Row) (key : Key) (n : ℕ) (ns : List ℕ) → Apart row ns → 1 ≤ times n ns → (row n).key ≡ key → row_of key (map row ns) ≡ Some (row n)
 one_found row key n [] apart h e = absurd (omega arith)
 one_found row key n (m ∷ ns) apart h e =
     elim (of_key key (row m)) [
@@ -86,7 +87,7 @@ one_found row key n (m ∷ ns) apart h e =
     ]
 
 -- the rows of other keys are those of the other numbers
-pub one_without : (row : ℕ → Row) (key : List ℕ) (n : ℕ) (ns : List ℕ)
+pub one_without : (row : ℕ → Row) (key : Key) (n : ℕ) (ns : List ℕ)
     → Apart row ns → 1 ≤ times n ns → ((m : ℕ) → times m ns ≤ 1) → (row n).key ≡ key → without key (map row ns) ≡ map row (delete n ns)
 one_without row key n [] apart h once e = refl
 one_without row key n (m ∷ ns) apart h once e =
@@ -107,27 +108,18 @@ one_without row key n (m ∷ ns) apart h once e =
     ]
 
 -- the sizes of the rows, one of which goes
-pub live_without : (row : ℕ → Row) (n : ℕ) (ns : List ℕ) → 1 ≤ times n ns → live (map row ns) ≡ size (row n).key (row n).value + live (map row (delete n ns))
+pub live_without : (row : ℕ → Row) (n : ℕ) (ns : List ℕ) → 1 ≤ times n ns → live (map row ns) ≡ size (row n).key.bytes (row n).value + live (map row (delete n ns))
 live_without row n [] h = absurd (omega arith)
 live_without row n (m ∷ ns) h =
     elim (cases_eq m n) [
-      | inl e ↦ subst (λ x. live (map row (x ∷ ns)) ≡ size (row n).key (row n).value + live (map row (delete n (x ∷ ns)))) (sym e)
-          (sum_by-cons (λ (r : Row). size r.key r.value) (row n) (map row ns) ∙ ap (λ ks. size (row n).key (row n).value + live (map row ks)) (sym (delete_here n ns)))
+      | inl e ↦ subst (λ x. live (map row (x ∷ ns)) ≡ size (row n).key.bytes (row n).value + live (map row (delete n (x ∷ ns)))) (sym e)
+          (sum_by-cons (λ (r : Row). size r.key.bytes r.value) (row n) (map row ns) ∙ ap (λ ks. size (row n).key.bytes (row n).value + live (map row ks)) (sym (delete_here n ns)))
       | inr far ↦
           (let ih = live_without row n ns (listed_apart n m ns far h) in
-          let whole = sum_by-cons (λ (r : Row). size r.key r.value) (row m) (map row ns) in
-          let rest = sum_by-cons (λ (r : Row). size r.key r.value) (row m) (map row (delete n ns)) in
-          subst (λ ks. live (map row (m ∷ ns)) ≡ size (row n).key (row n).value + live (map row ks)) (sym (delete_there n m ns far)) (omega (arith, ih, whole, rest)))
+          let whole = sum_by-cons (λ (r : Row). size r.key.bytes r.value) (row m) (map row ns) in
+          let rest = sum_by-cons (λ (r : Row). size r.key.bytes r.value) (row m) (map row (delete n ns)) in
+          subst (λ ks. live (map row (m ∷ ns)) ≡ size (row n).key.bytes (row n).value + live (map row ks)) (sym (delete_there n m ns far)) (omega (arith, ih, whole, rest)))
     ]
-
--- so many rows, none of which is larger
-pub live_at_most : (row : ℕ → Row) (ns : List ℕ) (most : ℕ) → ((n : ℕ) → 1 ≤ times n ns → size (row n).key (row n).value ≤ most) → live (map row ns) ≤ most * length ns
-live_at_most row [] most h = omega arith
-live_at_most row (n ∷ ns) most h =
-    let here = h n (listed_here n ns) in
-    let ih = live_at_most row ns most (λ m l. h m (listed_later m n ns l)) in
-    let whole = sum_by-cons (λ (r : Row). size r.key r.value) (row n) (map row ns) in
-    omega (arith, here, ih, whole)
 
 pub last_listed : (n : ℕ) (ns : List ℕ) → last_or None ns ≡ Some n → 1 ≤ times n ns
 last_listed n [] e = absurd (let clash : None ≡ Some n = e in cc)

@@ -6,7 +6,7 @@ use Rattle.std.proofs.lemmas.Bool.Decides.{eqb_tells}
 use Rattle.std.specs.List.{last_or, sum}
 use Rattle.std.specs.Prelude.{slice_get, IsSome, option_map}
 use Rattle.rows.specs.Row.{Row, live, size, is_of_put}
-use Rattle.row_bytes.specs.Rows.{IsRow, header, key_in, key_length_in, put_in, row_bytes, row_in, value_length_in, without_links}
+use Rattle.row_bytes.specs.Rows.{IsRow, header, key_length_in, key_of_row, put_in, row_bytes, row_in, value_length_in, without_links}
 use Rattle.row_bytes.specs.declared.links.Links.{Links}
 use Rattle.common_lemmas.specs.Lists.{times, delete}
 use Rattle.regions.specs.Segments.{RegionState, SegmentState, idle}
@@ -60,7 +60,7 @@ row_stands r places n h p there =
 
 -- a row is read without its links
 abbrev with_value : List ℕ → List ℕ → Row
-with_value content value = record { key = key_in content; value = value; number = put_in content }
+with_value content value = record { key = key_of_row content; value = value; number = put_in content }
 
 abbrev behind_key : List ℕ → List ℕ
 behind_key content = take (value_length_in content) (drop (key_length_in content) (drop header content))
@@ -76,11 +76,11 @@ links_unread : (number : ℕ) (links : Links) (row : Row) → row_in (without_li
 links_unread number links row =
     let bytes = row_bytes number links row in read_behind (without_links bytes) ∙ (links_behind number links row ∙ sym (read_behind bytes))
 
-bare_read : (item : Item) (n : ℕ) (row : Row) → IsRowOf item n row → row_in (without_links item.content) ≡ row
+pub bare_read : (item : Item) (n : ℕ) (row : Row) → IsRowOf item n row → row_in (without_links item.content) ≡ row
 bare_read item n row is =
     let h = is.holds in ap (λ bytes. row_in (without_links bytes)) h.bytes ∙ (links_unread n h.links row ∙ (sym (ap row_in h.bytes) ∙ is.read))
 
-stored_item : (t : TableState) (l : Live) (are : AreTablesOf t l) (n : ℕ) (listed : IsListed t n) → store_of bare (place_of t) l n ≡ Some (bare (are.rows n listed).item)
+pub stored_item : (t : TableState) (l : Live) (are : AreTablesOf t l) (n : ℕ) (listed : IsListed t n) → store_of bare (place_of t) l n ≡ Some (bare (are.rows n listed).item)
 stored_item t l are n listed =
     let h = are.rows n listed in
     ap (found bare l) (listed_place t n listed ∙ h.placed) ∙ ap (option_map bare) h.is_live
@@ -96,8 +96,8 @@ rows_moved t u l m are now recency same =
     let items : bare b.item ≡ bare a.item = some_same (stored_item u m now n k) (same n ∙ stored_item t l are n listed) in
     row_is m u.places n b ∙ (sym (bare_read b.item n b.row b.is_row) ∙ (ap (λ (i : Item). row_in i.content) items ∙ (bare_read a.item n a.row a.is_row ∙ sym (row_is l t.places n a))))))
 
-pub consistent_moved : (t u : TableState) (r s : RegionState) (bytes : ℕ) → IsCounted t r bytes → AreTablesOf u (live_at s) → rows_in u s ≡ rows_in t r → live_total s ≡ live_total r → IsCounted u s bytes
-consistent_moved t u r s bytes c tables rows total = record { tables = tables; counted = c.counted ∙ sym total; sizes = ap live rows ∙ (c.sizes ∙ sym total) }
+pub consistent_moved : (t u : TableState) (r s : RegionState) → IsCounted t r → AreTablesOf u (live_at s) → rows_in u s ≡ rows_in t r → live_total s ≡ live_total r → IsCounted u s
+consistent_moved t u r s c tables rows total = record { tables = tables; sizes = ap live rows ∙ (c.sizes ∙ sym total) }
 
 -- ---- a row is used
 
@@ -107,15 +107,15 @@ rows_touched t u r s n a recency places =
     ap (λ ns. rows_at (live_at s) u.places ns) recency
     ∙ (ap (λ (ps : List Place). rows_at (live_at s) ps (n ∷ delete n t.recency)) places ∙ relinked_rows r s t.places (n ∷ delete n t.recency) a)
 
-pub consistent_touched : (t u : TableState) (r s : RegionState) (bytes n : ℕ) → IsCounted t r bytes → AreTablesOf u (live_at s) → IsListed t n → AreRelinked r s
-    → u.recency ≡ n ∷ delete n t.recency → u.places ≡ t.places → IsCounted u s bytes
-consistent_touched t u r s bytes n c tables listed a recency places =
+pub consistent_touched : (t u : TableState) (r s : RegionState) (n : ℕ) → IsCounted t r → AreTablesOf u (live_at s) → IsListed t n → AreRelinked r s
+    → u.recency ≡ n ∷ delete n t.recency → u.places ≡ t.places → IsCounted u s
+consistent_touched t u r s n c tables listed a recency places =
     let row = row_at (live_at r) t.places in
-    let first = sum_by-cons (λ (x : Row). size x.key x.value) (row n) (rows_at (live_at r) t.places (delete n t.recency)) in
+    let first = sum_by-cons (λ (x : Row). size x.key.bytes x.value) (row n) (rows_at (live_at r) t.places (delete n t.recency)) in
     let whole = live_without row n t.recency listed in let sizes = c.sizes in
     let now : live (rows_in u s) ≡ live (row n ∷ rows_with t r (delete n t.recency)) = ap live (rows_touched t u r s n a recency places) in
     let total = relinked_total r s a in
-    record { tables = tables; counted = c.counted ∙ sym total; sizes = omega (arith, first, whole, sizes, now, total) }
+    record { tables = tables; sizes = omega (arith, first, whole, sizes, now, total) }
 
 -- ---- the row that was used longest ago
 
@@ -143,12 +143,14 @@ none_live : (n : ℕ) → sum (map live_in (replicate n (none_of_type SegmentSta
 none_live zero = refl
 none_live (suc n) = let e = sum_by-cons (λ (x : ℕ). x) 0 (map live_in (replicate n (none_of_type SegmentState))) in let ih = none_live n in omega (arith, e, ih)
 
-pub consistent_new : (t : TableState) (r : RegionState) (n : ℕ) → r ≡ record { most = n; groups = replicate 1 idle; segments = replicate n None } → t.recency ≡ []
-    → ((live : Live) → ((p : Place) → live p ≡ None) → AreTablesOf t live) → IsCounted t r 0
-consistent_new t r n is none tables =
+pub none_new : (r : RegionState) (n groups : ℕ) → r ≡ record { most = n; groups = replicate groups idle; segments = replicate n None } → (p : Place) → live_at r p ≡ None
+none_new r n groups is p = ap (λ (x : RegionState). live_at x p) is ∙ ap (λ s. item_if_live (standing_in s p.at)) (none_there {A = SegmentState} n p.segment)
+
+pub consistent_new : (t : TableState) (r : RegionState) (n groups : ℕ) → r ≡ record { most = n; groups = replicate groups idle; segments = replicate n None } → t.recency ≡ []
+    → ((live : Live) → ((p : Place) → live p ≡ None) → AreTablesOf t live) → IsCounted t r
+consistent_new t r n groups is none tables =
     let total : live_total r ≡ 0 = ap live_total is ∙ none_live n in
     record {
-      tables = tables (live_at r) (λ p. ap (λ (x : RegionState). live_at x p) is ∙ ap (λ s. item_if_live (standing_in s p.at)) (none_there {A = SegmentState} n p.segment));
-      counted = sym total;
+      tables = tables (live_at r) (none_new r n groups is);
       sizes = ap (λ ns. live (rows_with t r ns)) none ∙ sym total;
     }

@@ -40,9 +40,9 @@ maps f n (m ∷ ms) h = elim (cases_eq m n) [
 abbrev pub seen : TableState → RegionState → CacheState
 seen t r = record { room = t.room; front = t.ends.front; last = t.ends.last; places = t.places; region = r }
 
-pub linked_through : (t : TableState) (r : RegionState) (bytes : ℕ) → IsConsistent t r bytes → IsLinkedThrough (seen t r)
-linked_through t r bytes c =
-    let e = sym (places_read t r bytes c) in
+pub linked_through : (t : TableState) (r : RegionState) → IsConsistent t r → IsLinkedThrough (seen t r)
+linked_through t r c =
+    let e = sym (places_read t r c) in
     record {
       front = c.chain.front ∙ ap (first_or None) e;
       last = c.chain.last ∙ ap (last_or None) e;
@@ -64,9 +64,9 @@ live_there : (o : Option Item) → IsSome o → (item : Item) × (o ≡ Some ite
 live_there None h = absurd (let clash : false ≡ true = h in cc)
 live_there (Some item) h = (item, refl)
 
-pub met_once : (t : TableState) (r : RegionState) (bytes : ℕ) → IsConsistent t r bytes → AreMetOnce (seen t r)
-met_once t r bytes c =
-    let read = places_read t r bytes c in let e = sym read in let are = c.counted.tables in
+pub met_once : (t : TableState) (r : RegionState) → IsConsistent t r → AreMetOnce (seen t r)
+met_once t r c =
+    let read = places_read t r c in let e = sym read in let are = c.counted.tables in
     record {
       once = subst (λ (ps : List Place). AreApart ps) e c.chain.apart;
       rows = λ p h. (let w = mapped (place_in t.places) t.recency p (subst (λ (ps : List Place). Contains ps p) read h) in (w.0, row_of_number t r w.0 p (are.rows w.0 w.1) w.2));

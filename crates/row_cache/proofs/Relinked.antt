@@ -1,18 +1,19 @@
 -- What stays where nothing changed but links of rows.
-use Rattle.std.proofs.Common.{◌≡◌, ℕ, ◌+◌, ◌⊎◌, inl, inr, cond, Bool, true, false, List, length, Option, Some, None, refl, sym, ap, subst, ◌∙◌}
+use Rattle.std.proofs.Common.{◌≡◌, ℕ, ◌+◌, ◌%◌, ◌⊎◌, inl, inr, cond, Bool, true, false, List, length, Option, Some, None, refl, sym, ap, subst, ◌∙◌}
 use Rattle.std.specs.Prelude.{slice_get, option_map}
 use Rattle.std.specs.List.{sum}
+use Rattle.rows.specs.Key.{Key}
 use Rattle.rows.specs.Row.{Row}
 use Rattle.row_bytes.specs.Rows.{HoldsRow, row_bytes, row_in, number_in, without_links}
 use Rattle.key_table.specs.Lazy.{IsKeyed}
 use Rattle.regions.specs.Segments.{RegionState}
-use Rattle.regions.specs.Shapes.{Shape, active_in, active_of, shape}
+use Rattle.regions.specs.Shapes.{Shape, active_in, active_of, group_count, shape}
 use Rattle.regions.specs.Counts.{left, left_of, live_total, live_counts, used_counts}
 use Rattle.regions.specs.Contents.{Item, Standing, ChangesAt, if_live, item_if_live, live_at, size_of, standing_at, with_bytes}
 use Rattle.regions.specs.Stores.{Live, SameBut, less, without_references}
 use Rattle.regions.specs.declared.place.Place.{Place}
 use Rattle.row_cache.specs.Links.{bare, content_of}
-use Rattle.row_cache.specs.Rows.{AreRelinked, HasOtherLinks, IsSameRow, Stay, content_at, key_at, row_at}
+use Rattle.row_cache.specs.Rows.{AreGrouped, AreRelinked, HasOtherLinks, IsSameRow, Stay, content_at, key_at, row_at}
 use Rattle.row_cache.specs.inside.Tables.{AreTablesOf, HoldsARow, IsRowOf, TableState}
 use Rattle.place_lemmas.proofs.Places.{place_tells}
 use Rattle.row_cache.proofs.States.{some_none, some_same, place_cases}
@@ -84,8 +85,8 @@ relinked_again r s t a b = record {
   shape = b.shape ∙ a.shape;
 }
 
-pub relinked_left : (r s : RegionState) → AreRelinked r s → left s 0 ≡ left r 0
-relinked_left r s a = ap (λ u. left_of u (active_of s 0)) a.used ∙ ap (λ (x : Shape). left_of (used_counts r) (active_in x.groups 0)) a.shape
+pub relinked_left : (r s : RegionState) → AreRelinked r s → (g : ℕ) → left s g ≡ left r g
+relinked_left r s a g = ap (λ u. left_of u (active_of s g)) a.used ∙ ap (λ (x : Shape). left_of (used_counts r) (active_in x.groups g)) a.shape
 
 pub relinked_total : (r s : RegionState) → AreRelinked r s → live_total s ≡ live_total r
 relinked_total r s a = ap (λ ns. sum ns) a.live
@@ -165,6 +166,28 @@ relinked_same_but r s a = record {
         ap (option_map (without_references bare)) h.is
         ∙ (ap (λ t. Some t) (one h.before h.after h.live h.same) ∙ sym (ap (option_map (without_references bare)) h.was))
 
+if_flag : (b : Bool) (x y i : Item) → if_live b x ≡ Some i → (x ≡ i) × (if_live b y ≡ Some y)
+if_flag false x y i e = some_none e refl
+if_flag true x y i e = (some_same refl e, refl)
+
+-- each row is of the group of which it was
+group_still : (a b : Option Standing) → (b ≡ a) ⊎ HasOtherLinks a b → (now : Item) → item_if_live b ≡ Some now
+    → (item : Item) × (item_if_live a ≡ Some item) × (now.group ≡ item.group) × (row_in now.content ≡ row_in item.content)
+group_still a b (inl e) now is = (now, sym (ap item_if_live e) ∙ is, refl, refl)
+group_still a b (inr h) now is =
+    let f = if_flag h.before.live h.after.item h.before.item now (sym (ap (λ c. if_live c h.after.item) h.live) ∙ (sym (ap item_if_live h.is) ∙ is)) in (
+      h.before.item,
+      ap item_if_live h.was ∙ f.1,
+      ap (λ (i : Item). i.group) (sym f.0) ∙ h.same.group,
+      ap (λ (i : Item). row_in i.content) (sym f.0) ∙ h.same.row,
+    )
+
+pub relinked_grouped : (r s : RegionState) → AreRelinked r s → AreGrouped r → AreGrouped s
+relinked_grouped r s a all = λ p now is.
+    (let x = group_still (standing_at r p) (standing_at s p) (a.objects p) now is in
+    x.2 ∙ (all p x.0 x.1 ∙ (ap (λ (row : Row). Some (row.key.table % group_count r)) (sym x.3)
+    ∙ ap (λ (shape : Shape). Some ((row_in now.content).key.table % length shape.groups)) (sym a.shape))))
+
 -- ---- live objects
 
 -- the same rows are live, with whatever links
@@ -172,10 +195,6 @@ pub record Relives (old new : Live) : Type 0 where
   pub rows : (p : Place) (item : Item) (n : ℕ) (row : Row) → old p ≡ Some item → IsRowOf item n row → (now : Item) × (new p ≡ Some now) × IsRowOf now n row
   pub back : (p : Place) (now : Item) → new p ≡ Some now → (item : Item) × (old p ≡ Some item)
   pub read : (p : Place) → row_in (content_of (new p)) ≡ row_in (content_of (old p))
-
-if_flag : (b : Bool) (x y i : Item) → if_live b x ≡ Some i → (x ≡ i) × (if_live b y ≡ Some y)
-if_flag false x y i e = some_none e refl
-if_flag true x y i e = (some_same refl e, refl)
 
 live_rows : (a b : Option Standing) → (b ≡ a) ⊎ HasOtherLinks a b → (item : Item) (n : ℕ) (row : Row) → item_if_live a ≡ Some item → IsRowOf item n row
     → (now : Item) × (item_if_live b ≡ Some now) × IsRowOf now n row
@@ -225,7 +244,7 @@ same_rows old new places a = λ i n. read_at old new a (slice_get places n) i
 pub tables_relived : (t : TableState) (old new : Live) → Relives old new → AreTablesOf t old → AreTablesOf t new
 tables_relived t old new a are =
     let keys : key_at new t.places ≡ key_at old t.places = ap (λ (f : ℕ → Row). λ (n : ℕ). (f n).key) (same_rows old new t.places a) in
-    let key : (n : ℕ) → key_at new t.places n ≡ key_at old t.places n = λ n. ap (λ (f : ℕ → List ℕ). f n) keys in
+    let key : (n : ℕ) → key_at new t.places n ≡ key_at old t.places n = λ n. ap (λ (f : ℕ → Key). f n) keys in
     record {
       numbers = are.numbers;
       rows = λ n l.
@@ -233,7 +252,7 @@ tables_relived t old new a are =
           record { place = h.place; placed = h.placed; item = x.0; is_live = x.1; row = h.row; is_row = x.2 });
       every = λ p now e. (let b = a.back p now e in are.every p b.0 b.1);
       apart = λ m n lm ln e. are.apart m n lm ln (sym (key m) ∙ (e ∙ key n));
-      index = subst (λ (f : ℕ → List ℕ). IsKeyed f t.index) (sym keys) are.index;
+      index = subst (λ (f : ℕ → Key). IsKeyed f t.index) (sym keys) are.index;
     }
 
 -- ---- one link is written

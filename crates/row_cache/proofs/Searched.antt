@@ -1,6 +1,7 @@
 -- What a search of the index tells of the rows.
-use Rattle.std.proofs.Common.{◌≡◌, ◌≢◌, ℕ, List, Result, Ok, Err, subst, arith}
+use Rattle.std.proofs.Common.{◌≡◌, ◌≢◌, ℕ, Result, Ok, Err, subst, arith}
 use Rattle.std.specs.Prelude.{MatchResult}
+use Rattle.rows.specs.Key.{Key}
 use Rattle.key_table.specs.Table.{IsSpotFor}
 use Rattle.key_table.specs.declared.entries.RowAt.{RowAt}
 use Rattle.key_table.specs.declared.entries.Spot.{Spot}
@@ -13,7 +14,7 @@ use Rattle.row_cache.proofs.Listed.{none_has, none_found, none_without, one_has,
 use Rattle.row_cache.proofs.Numbers.{once}
 use Rattle.row_cache.proofs.States.{apart_rows}
 
-found_in : (t : TableState) (live : Live) (key : List ℕ) (result : Result RowAt Spot) → AreTablesOf t live
+found_in : (t : TableState) (live : Live) (key : Key) (result : Result RowAt Spot) → AreTablesOf t live
     → MatchResult result (λ found. IsThere t.index found × (key_at live t.places found.row ≡ key))
     (λ spot. IsSpotFor key spot × ((n : ℕ) → Has t.index n → key_at live t.places n ≢ key))
     → MatchResult result (IsFound t live key) (IsMissing t live key)
@@ -37,12 +38,12 @@ found_in t live key (Err spot) are e =
       without = none_without (row_at live t.places) key t.recency absent;
     }
 
-pub search_told : (t : TableState) (live : Live) (key : List ℕ) (k : ℕ → List ℕ) (i : Lazy) (result : Result RowAt Spot) → AreTablesOf t live → i ≡ t.index → k ≡ key_at live t.places
+pub search_told : (t : TableState) (live : Live) (key : Key) (k : ℕ → Key) (i : Lazy) (result : Result RowAt Spot) → AreTablesOf t live → i ≡ t.index → k ≡ key_at live t.places
     → MatchResult result (λ found. IsThere i found × (k found.row ≡ key)) (λ spot. IsSpotFor key spot × ((n : ℕ) → Has i n → k n ≢ key))
     → MatchResult result (IsFound t live key) (IsMissing t live key)
 search_told t live key k i result are same keys e =
     found_in t live key result are
     (subst (λ (x : Lazy). MatchResult result (λ found. IsThere x found × (key_at live t.places found.row ≡ key))
     (λ spot. IsSpotFor key spot × ((n : ℕ) → Has x n → key_at live t.places n ≢ key))) same
-    (subst (λ (f : ℕ → List ℕ). MatchResult result (λ found. IsThere i found × (f found.row ≡ key))
+    (subst (λ (f : ℕ → Key). MatchResult result (λ found. IsThere i found × (f found.row ≡ key))
     (λ spot. IsSpotFor key spot × ((n : ℕ) → Has i n → f n ≢ key))) keys e))

@@ -8,8 +8,9 @@ use Rattle.std.proofs.Math.Seq.{get_or-append_seam}
 use Rattle.std.proofs.lemmas.List.Elements.{All-from_recursion}
 use Rattle.std.proofs.lemmas.Option.{slice_get-get_or, slice_get_past}
 use Rattle.std.specs.List.{AllByRecursion}
+use Rattle.rows.specs.Key.{Key}
 use Rattle.rows.specs.Row.{Row}
-use Rattle.row_bytes.specs.Rows.{number_in, row_in, key_in}
+use Rattle.row_bytes.specs.Rows.{number_in, row_in, key_of_row}
 use Rattle.common_lemmas.specs.Lists.{times, delete}
 use Rattle.common_lemmas.proofs.Counts.{times-delete_other}
 use Rattle.key_table.specs.Table.{IsSpotFor}
@@ -45,9 +46,9 @@ pub row_content : (r : RegionState) (places : List Place) (n : ℕ) (h : HasRow 
 row_content r places n h bytes e = content_standing (standing_at r h.place) h.item bytes h.is_live e
 
 pub key_read : (r : RegionState) (places : List Place) (n : ℕ) (h : HasRow (live_at r) places n) (bytes : List ℕ)
-    → option_map (λ (s : Standing). s.item.content) (standing_at r h.place) ≡ Some bytes → key_in bytes ≡ key_at (live_at r) places n
+    → option_map (λ (s : Standing). s.item.content) (standing_at r h.place) ≡ Some bytes → key_of_row bytes ≡ key_at (live_at r) places n
 key_read r places n h bytes e =
-    ap key_in (row_content r places n h bytes e) ∙ (ap (λ (x : Row). x.key) h.is_row.read ∙ sym (ap (λ (x : Row). x.key) (row_is (live_at r) places n h)))
+    ap key_of_row (row_content r places n h bytes e) ∙ (ap (λ (x : Row). x.key) h.is_row.read ∙ sym (ap (λ (x : Row). x.key) (row_is (live_at r) places n h)))
 
 pub some_same : {A : Type 0} {a b : A} {o : Option A} → o ≡ Some a → o ≡ Some b → a ≡ b
 some_same {A} {a} {b} {o} p q = (let e : Some a ≡ Some b = sym p ∙ q in cc)
@@ -143,7 +144,7 @@ still_listed t n m a listed l =
 
 pub tables_dropped : (t u : TableState) (live after : Live) (n : ℕ) (p : Place) → AreTablesOf t live → AreNumbers u → IsListed t n → slice_get t.places n ≡ Some p → Drops p live after
     → u.recency ≡ delete n t.recency → u.places ≡ t.places
-    → ((a : ℕ → List ℕ) → IsKeyed a t.index → IsKeyed a u.index) → AreTablesOf u after
+    → ((a : ℕ → Key) → IsKeyed a t.index → IsKeyed a u.index) → AreTablesOf u after
 tables_dropped t u live after n p are numbers listed here drops recency places kept =
     let a = are.numbers in
     let was : (m : ℕ) → IsListed u m → IsListed t m × (m ≢ n) = λ m l. still_listed t n m a listed (subst (λ ns. 1 ≤ times m ns) recency l) in

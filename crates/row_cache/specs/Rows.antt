@@ -1,7 +1,8 @@
 -- The rows that a row cache means, read off the bytes of its segments.
-use Rattle.std.specs.Prelude.{◌≡◌, ◌⊎◌, ℕ, List, [], length, Option, None, Some, IsSome, slice_get, map, option_map, Contains}
+use Rattle.std.specs.Prelude.{◌≡◌, ◌⊎◌, ℕ, ◌%◌, List, [], length, Option, None, Some, IsSome, slice_get, map, option_map, Contains}
 use Rattle.std.specs.List.{last_or}
 pub use Rattle.layout.specs.Kinds.{row_kind}
+use Rattle.rows.specs.Key.{Key}
 use Rattle.rows.specs.Row.{Row}
 use Rattle.rows.specs.Apply.{Reply, Stored, Replaced}
 use Rattle.row_cache.specs.declared.put.Put.{Put}
@@ -9,7 +10,7 @@ use Rattle.row_cache.specs.declared.put.Put.TheVariants as puts
 use Rattle.row_bytes.specs.Rows.{row_in, number_in, HoldsRow, IsRow}
 use Rattle.regions.specs.Segments.{RegionState}
 use Rattle.regions.specs.Contents.{Item, Standing, standing_at, live_at}
-use Rattle.regions.specs.Shapes.{shape}
+use Rattle.regions.specs.Shapes.{group_count, shape}
 use Rattle.regions.specs.Counts.{used_counts, live_counts}
 use Rattle.regions.specs.Stores.{Live}
 use Rattle.regions.specs.declared.place.Place.{Place}
@@ -32,7 +33,7 @@ content_at live (Some p) = content_of (live p)
 abbrev pub row_at : Live → List Place → ℕ → Row
 row_at live places n = row_in (content_at live (slice_get places n))
 
-abbrev pub key_at : Live → List Place → ℕ → List ℕ
+abbrev pub key_at : Live → List Place → ℕ → Key
 key_at live places n = (row_at live places n).key
 
 abbrev pub rows_at : Live → List Place → List ℕ → List Row
@@ -72,6 +73,19 @@ pub record AreMetOnce (c : CacheState) : Type 0 where
   pub rows : (p : Place) → Contains (places_of c) p → (n : ℕ) × HasRowAt c n p
   pub every : (p : Place) → IsSome (live_at c.region p) → Contains (places_of c) p
 
+-- the group in which the rows of a table stand
+abbrev pub group_for : RegionState → ℕ → ℕ
+group_for r table = table % group_count r
+
+-- each of these live objects, which are rows, is of its table's group, of so many groups
+abbrev pub AreOfGroups : ℕ → Live → Type 0
+AreOfGroups groups live =
+    (p : Place) (item : Item) → live p ≡ Some item → item.group ≡ Some ((row_in item.content).key.table % groups)
+
+-- each row stands in a segment of its table's group
+abbrev pub AreGrouped : RegionState → Type 0
+AreGrouped r = AreOfGroups (group_count r) (live_at r)
+
 -- the object at a place, live or dead
 abbrev pub item_at : RegionState → Place → Option Item
 item_at r p = option_map (λ (s : Standing). s.item) (standing_at r p)
@@ -89,6 +103,11 @@ pub record IsSameRow (old new : Item) : Type 0 where
 abbrev pub Stay : RegionState → RegionState → Type 0
 Stay old new = (p : Place) (item : Item) → item_at old p ≡ Some item
     → (now : Item) × (item_at new p ≡ Some now) × ((now ≡ item) ⊎ IsSameRow item now)
+
+-- what a call leaves as it was: the tables have room for as many rows, and each object that stood stands
+pub record Keeps (old new : CacheState) : Type 0 where
+  pub room : new.room ≡ old.room
+  pub stay : Stay old.region new.region
 
 -- the same row stands there, live as it was or dead
 pub record HasOtherLinks (old new : Option Standing) : Type 0 where

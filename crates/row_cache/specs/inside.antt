@@ -2,5 +2,6 @@
 pub mod Tables
 pub mod Chained
 pub mod Moved
+pub mod Scanned
 pub mod Sought
 pub mod Consistent

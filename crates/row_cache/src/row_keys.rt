@@ -7,7 +7,8 @@ ghost use Rattle.row_cache.specs.inside.Tables.{HasRow};
 
 use key_table::Keys;
 use regions::{Place, Region};
-use row_bytes::key_in;
+use row_bytes::key_of_row;
+use rows::Key;
 
 // Reads the keys of rows where they stand.
 #[derive(Clone, Copy)]
@@ -34,7 +35,7 @@ impl<'a> Keys for RowKeys<'a> {
 
     ghost key_of = { λ k. key_at (live_at k.region.now) k.places.now };
 
-    fn key(&self, row: u32) -> &[u8] {
-        key_in(content_of(self.region, self.places, row))
+    fn key(&self, row: u32) -> Key<'_> {
+        key_of_row(content_of(self.region, self.places, row))
     }
 }

@@ -1,9 +1,10 @@
 //! Where rows stand, and in which order they were used.
-ghost use Rattle.std.specs.Prelude.{◌≡◌, ◌≢◌, ◌+◌, ◌<◌, ◌≤◌, ℕ, [], ◌∷◌, length, Some, None, slice_get, slice_set, IfOk, IfSome, MatchOption, MatchResult, All, vec_len, vec_capacity, List, ◌-◌, ◌^◌, take, map, filter};
+ghost use Rattle.std.specs.Prelude.{◌≡◌, ◌≢◌, ◌+◌, ◌<◌, ◌≤◌, ℕ, [], ◌∷◌, length, Some, None, slice_get, slice_set, IfOk, IfSome, MatchOption, MatchResult, All, vec_len, vec_capacity, List, ◌-◌, ◌^◌, take, filter};
 ghost use Rattle.std.specs.List.{last_or};
 ghost use Rattle.layout.specs.Sizes as sizes;
 ghost use Rattle.rows.specs.Row.{Row};
-ghost use Rattle.rows.specs.Apply.{in_order, is_at_most};
+ghost use Rattle.rows.specs.Apply.{in_order, is_at_most, keys_in};
+ghost use Rattle.rows.specs.Key.{key_shown};
 ghost use Rattle.rows.specs.Spelled.{IsKey};
 ghost use Rattle.common_lemmas.specs.Lists.{delete, times};
 ghost use Rattle.key_table.specs.Table.{AreSame};
@@ -14,8 +15,10 @@ ghost use Rattle.row_bytes.specs.Rows.{number_in};
 ghost use Rattle.regions.specs.Places as place_links;
 ghost use Rattle.row_cache.specs.Links as links;
 ghost use Rattle.row_cache.specs.Rows.{key_at, row_at, rows_at, AreRelinked};
+ghost use Rattle.row_cache.specs.inside.Scanned.{keys_in_front};
 ghost use Rattle.row_cache.specs.inside.Sought.{IsFound, IsMissing};
 ghost use Rattle.row_cache.specs.inside.Chained as chained;
+ghost use Rattle.row_cache.specs.inside.Consistent.{Relinks};
 ghost use Rattle.row_cache.specs.inside.Tables as tables;
 
 use crate::ends::Ends;
@@ -23,7 +26,8 @@ use crate::order::Order;
 use crate::row_keys::{RowKeys, content_of};
 use key_table::{LazyIndex, RowAt, Rows, Spot, Standing};
 use regions::{Movers, Place, Region};
-use row_bytes::{key_in, number_in, put_in};
+use row_bytes::{key_of_row, number_in, put_in};
+use rows::Key;
 use std::alloc::{AllocError, Global};
 use std::marker::Model;
 
@@ -138,9 +142,11 @@ impl Tables {
     }
 
     // The row of a key, or the spot for one.
-    pub(crate) fn search(&self, region: &Region, key: &[u8]) -> Result<RowAt, Spot>
-        requires { tables.AreTablesOf self.now (live_at region.now) }
-        ensures { MatchResult result (IsFound self.now (live_at region.now) key.now) (IsMissing self.now (live_at region.now) key.now) }
+    pub(crate) fn search(&self, region: &Region, key: &Key<'_>) -> Result<RowAt, Spot>
+        requires tables { tables.AreTablesOf self.now (live_at region.now) }
+        requires table { key.now.table < sizes.tables }
+        ensures { MatchResult result (IsFound self.now (live_at region.now) (key_shown key.now))
+            (IsMissing self.now (live_at region.now) (key_shown key.now)) }
     {
         self.index.find(&self.keys(region), key)
     }
@@ -151,9 +157,7 @@ impl Tables {
         requires linked { chained.IsLinked self.old (live_at region.old) }
         requires listed { tables.IsListed self.old number }
         ensures state { self.new ≡ record self.old { recency = number ∷ delete number self.old.recency; ends = self.new.ends } }
-        ensures tables { tables.AreTablesOf self.new (live_at region.new) }
-        ensures linked { chained.IsLinked self.new (live_at region.new) }
-        ensures same { AreRelinked region.old region.new }
+        ensures relinks { Relinks self.new region.old region.new }
     {
         let place = self.place(number);
         self.ends.bring_front(region, place);
@@ -183,9 +187,7 @@ impl Tables {
         ensures recency { self.new.recency ≡ number ∷ delete number self.old.recency }
         ensures places { self.new.places ≡ slice_set self.old.places number place }
         ensures room { self.new.room ≡ self.old.room }
-        ensures tables { tables.AreTablesOf self.new (live_at region.new) }
-        ensures linked { chained.IsLinked self.new (live_at region.new) }
-        ensures same { AreRelinked region.old region.new }
+        ensures relinks { Relinks self.new region.old region.new }
     {
         self.put_at(number, place);
         self.ends.push_front(region, place);
@@ -210,9 +212,7 @@ impl Tables {
         ensures room { self.new.room ≡ self.old.room }
         ensures recency { self.new.recency ≡ tables.next_number self.old ∷ self.old.recency }
         ensures places { self.new.places ≡ tables.placed (tables.next_number self.old) place self.old.places }
-        ensures tables { tables.AreTablesOf self.new (live_at region.new) }
-        ensures linked { chained.IsLinked self.new (live_at region.new) }
-        ensures same { AreRelinked region.old region.new }
+        ensures relinks { Relinks self.new region.old region.new }
     {
         self.enter(region, at, place);
         self.ends.push_front(region, place);
@@ -271,25 +271,26 @@ impl Tables {
         self.index.settle(&keys);
     }
 
-    // The rows whose keys are at or above one, in the order of their keys.
-    pub(crate) fn rows_from<'a>(&'a self, region: &'a Region, key: &[u8]) -> Rows<'a>
+    // The rows whose keys are at or above one, in the order of their keys: first those of its table.
+    pub(crate) fn rows_from<'a>(&'a self, region: &'a Region, key: &Key<'_>) -> Rows<'a>
+        requires table { key.now.table < sizes.tables }
         requires tables { tables.AreTablesOf self.now (live_at region.now) }
         requires settled { self.now.index.late ≡ [] }
         ensures rows { All (tables.HasRow (live_at region.now) self.now.places) result }
-        ensures order { map (key_at (live_at region.now) self.now.places) result
-            ≡ in_order (filter (is_at_most key.now)
-            (map (λ row. row.key) (rows_at (live_at region.now) self.now.places self.now.recency))) }
+        ensures order { keys_in_front (key_at (live_at region.now) self.now.places) key.now.table result
+            ≡ in_order (filter (is_at_most (key_shown key.now).bytes)
+            (keys_in key.now.table (rows_at (live_at region.now) self.now.places self.now.recency))) }
     {
         self.index.rows_from(&self.keys(region), key)
     }
 
     // The key of a row.
-    pub(crate) fn key<'a>(&'a self, region: &'a Region, number: u32) -> &'a [u8]
+    pub(crate) fn key<'a>(&'a self, region: &'a Region, number: u32) -> Key<'a>
         requires { tables.HasRow (live_at region.now) self.now.places number }
-        ensures key { result.now ≡ key_at (live_at region.now) self.now.places number }
-        ensures lengths { IsKey result.now }
+        ensures key { key_shown result ≡ key_at (live_at region.now) self.now.places number }
+        ensures lengths { IsKey (key_shown result).bytes }
     {
-        key_in(content_of(region, &self.places, number))
+        key_of_row(content_of(region, &self.places, number))
     }
 
     // The number of the put that stored a row.

@@ -8,6 +8,7 @@ use Rattle.std.proofs.Common.{not, refl}
 use Rattle.std.proofs.lemmas.List.Elements.{All-contains_itself}
 use Rattle.rows.specs.Apply.{apply, has, in_order, row_of, without, HasDistinctKeys, is_of}
 use Rattle.rows.specs.Evictions.{Evicts}
+use Rattle.rows.specs.Key.{Key}
 use Rattle.rows.specs.Row.{is_of_put, Row, live}
 use Rattle.rows.specs.Fits.{Fits}
 use Rattle.rows.specs.Holds.{PutHolds, RowsHold, ReplyHolds}
@@ -37,16 +38,16 @@ evictions_are_counted-count bound cache rest puts evicts = count bound cache res
 
 -- What the rows of other keys are: where no row has the key they are all rows, and no two of them have one key. A row
 -- that was found may stand before them.
-pub other_rows_are_distinct-absent : (key : List ℕ) (cache : List Row) → has key (without key cache) ≡ false
+pub other_rows_are_distinct-absent : (key : Key) (cache : List Row) → has key (without key cache) ≡ false
 other_rows_are_distinct-absent key cache = has-without key cache
 
-pub other_rows_are_distinct-all : (key : List ℕ) (cache : List Row) → has key cache ≡ false → without key cache ≡ cache
+pub other_rows_are_distinct-all : (key : Key) (cache : List Row) → has key cache ≡ false → without key cache ≡ cache
 other_rows_are_distinct-all key cache none = without-absent key cache none
 
-pub other_rows_are_distinct-distinct : (key : List ℕ) (cache : List Row) → HasDistinctKeys cache → HasDistinctKeys (without key cache)
+pub other_rows_are_distinct-distinct : (key : Key) (cache : List Row) → HasDistinctKeys cache → HasDistinctKeys (without key cache)
 other_rows_are_distinct-distinct key cache are = distinct-filter (λ row. not (is_of key row)) cache are
 
-pub other_rows_are_distinct-brought : (key : List ℕ) (cache : List Row) (row : Row) → row_of key cache ≡ Some row → HasDistinctKeys cache
+pub other_rows_are_distinct-brought : (key : Key) (cache : List Row) (row : Row) → row_of key cache ≡ Some row → HasDistinctKeys cache
     → HasDistinctKeys (row ∷ without key cache)
 other_rows_are_distinct-brought key cache row found are = brought-distinct key cache (row ∷ without key cache) row found refl are
 
@@ -76,9 +77,9 @@ rising_keys_are_in_order keys rising = rising_stay keys rising
 
 -- What holds of the key and the value of a put, and of each row of a cache, holds of each row after a part, and of the
 -- value or the keys in its reply.
-pub parts_hold_what_was_put : (on_key on_value : List ℕ → Bool) (operation : Operation) (cache : List Row)
+pub parts_hold_what_was_put : (on_key : Key → Bool) (on_value : List ℕ → Bool) (operation : Operation) (cache : List Row)
     → PutHolds on_key on_value operation → RowsHold on_key on_value cache
-    → RowsHold on_key on_value (apply operation cache).0 × ReplyHolds on_key on_value (apply operation cache).1
+    → RowsHold on_key on_value (apply operation cache).0 × ReplyHolds on_key on_value operation.key.table (apply operation cache).1
 parts_hold_what_was_put k v operation cache put holds = part-holds k v operation cache put holds
 
 -- A body spells at most one list of keys.
@@ -88,6 +89,6 @@ a_body_spells_one_list body keys others are others-are = same_keys body keys oth
 -- The reply to a part fits its operation, on a cache whose rows have different keys, of 1 to 256 bytes, and values no
 -- longer than `longest`.
 pub replies_fit_their_operations : (longest : ℕ) (operation : Operation) (cache : List Row)
-    → HasDistinctKeys cache → All (λ row. IsKey row.key) cache → All (λ row. length row.value ≤ longest) cache
+    → HasDistinctKeys cache → All (λ row. IsKey row.key.bytes) cache → All (λ row. length row.value ≤ longest) cache
     → Fits longest operation (apply operation cache).1
 replies_fit_their_operations longest operation cache distinct keyed short = kind-fits operation.kind longest operation cache distinct keyed short

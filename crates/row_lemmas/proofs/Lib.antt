@@ -4,6 +4,8 @@ pub mod Holding
 pub mod InTurn
 pub mod KeyBodies
 pub mod KeyOrder
+pub mod Keys
 pub mod Laws
 pub mod Looked
 pub mod Rising
+pub mod Tables

@@ -1,14 +1,15 @@
 -- Distinct keys that are put in order rise strictly.
-use Rattle.std.proofs.Common.{◌≡◌, ℕ, zero, suc, Bool, ◌||◌, true, false, cond, List, [], ◌∷◌, take, filter, map, ap, sym, ◌∙◌, refl, true≢false, Ordering, Less, Equal, Greater}
+use Rattle.std.proofs.Common.{◌≡◌, ℕ, zero, suc, Bool, ◌||◌, true, false, cond, List, [], ◌∷◌, take, filter, map, eqb, eqb-true, ap, sym, ◌∙◌, subst, refl, true≢false, Ordering, Less, Equal, Greater}
 use Rattle.std.specs.Ordering.{is_le, nat_cmp, ordering_reverse}
 use Rattle.std.specs.Cmp.Lexicographic.{slice_cmp}
 use Rattle.std.specs.List.{AllByRecursion}
 use Rattle.std.specs.List.Sorted.{IsStrictlySortedBy}
 use Rattle.std.proofs.lemmas.Cmp.{nat_list_cmp_total}
 use Rattle.std.proofs.lemmas.Map.Lookups.{exact_bytes}
-use Rattle.std.proofs.lemmas.Slice.Eq.{bytes_eq-Decides}
-use Rattle.rows.specs.Apply.{is_at_most, put_in_order, in_order, is_of, has, HasDistinctKeys}
+use Rattle.rows.specs.Apply.{is_at_most, put_in_order, in_order, is_of, has, keys_in, HasDistinctKeys}
+use Rattle.rows.specs.Key.{Key}
 use Rattle.rows.specs.Row.{Row}
+use Rattle.row_lemmas.proofs.Keys.{is_same_key-Decides, one_key}
 use Rattle.row_lemmas.proofs.KeyOrder.{IsInOrder, in_order-stays}
 
 abbrev IsBelow : List ℕ → List ℕ → Type 0
@@ -113,24 +114,38 @@ distinct-filter p (key ∷ keys) apart = go (p key) (distinct-filter p keys apar
     go true more = (each-filter (λ other. key ≡ other → ⊥) p keys apart.0, more)
     go false more = more
 
-apart-from : (key : List ℕ) (rows : List Row) → has key rows ≡ false → AllByRecursion (λ other. key ≡ other → ⊥) (map (λ row. row.key) rows)
+-- the bytes of a key are none of those of its table, where no row has the key
+apart-from : (key : Key) (rows : List Row) → has key rows ≡ false → AllByRecursion (λ other. key.bytes ≡ other → ⊥) (keys_in key.table rows)
 apart-from key [] none = tt
-apart-from key (row ∷ rows) none = go (is_of key row) refl none (apart-from key rows)
+apart-from key (row ∷ rows) none = go (eqb row.key.table key.table) (is_of key row) refl refl none (apart-from key rows)
   where
-    go : (b : Bool) → is_of key row ≡ b → (b || has key rows) ≡ false → (has key rows ≡ false → AllByRecursion (λ other. key ≡ other → ⊥) (map (λ r. r.key) rows))
-        → AllByRecursion (λ other. key ≡ other → ⊥) (map (λ r. r.key) (row ∷ rows))
-    go true e neither more = absurd (true≢false neither)
-    go false e neither more = (λ same. true≢false (sym ((bytes_eq-Decides row.key key).1 (sym same)) ∙ e), more neither)
+    go : (t b : Bool) → eqb row.key.table key.table ≡ t → is_of key row ≡ b → (b || has key rows) ≡ false
+        → (has key rows ≡ false → AllByRecursion (λ other. key.bytes ≡ other → ⊥) (keys_in key.table rows))
+        → AllByRecursion (λ other. key.bytes ≡ other → ⊥)
+        (map (λ (r : Row). r.key.bytes) (cond t (row ∷ filter (λ r. eqb r.key.table key.table) rows) (filter (λ r. eqb r.key.table key.table) rows)))
+    go t true is e neither more = absurd (true≢false neither)
+    go true false is e neither more =
+        let tables : row.key.table ≡ key.table = eqb-true row.key.table key.table is in
+        (λ same. true≢false (sym ((is_same_key-Decides row.key key).1 (one_key row.key key tables (sym same))) ∙ e), more neither)
+    go false false is e neither more = more neither
 
-distinct-keys : (cache : List Row) → HasDistinctKeys cache → AreDistinct (map (λ row. row.key) cache)
-distinct-keys [] are = tt
-distinct-keys (row ∷ rows) are = (apart-from row.key rows are.0, distinct-keys rows are.1)
+distinct-keys : (table : ℕ) (cache : List Row) → HasDistinctKeys cache → AreDistinct (keys_in table cache)
+distinct-keys table [] are = tt
+distinct-keys table (row ∷ rows) are = go (eqb row.key.table table) refl (apart-from row.key rows are.0) (distinct-keys table rows are.1)
+  where
+    go : (t : Bool) → eqb row.key.table table ≡ t → AllByRecursion (λ other. row.key.bytes ≡ other → ⊥) (keys_in row.key.table rows)
+        → AreDistinct (keys_in table rows)
+        → AreDistinct (map (λ (r : Row). r.key.bytes) (cond t (row ∷ filter (λ r. eqb r.key.table table) rows) (filter (λ r. eqb r.key.table table) rows)))
+    go true is apart more =
+        let tables : row.key.table ≡ table = eqb-true row.key.table table is in
+        (subst (λ (n : ℕ). AllByRecursion (λ other. row.key.bytes ≡ other → ⊥) (keys_in n rows)) tables apart, more)
+    go false is apart more = more
 
--- the first keys of a cache that pass a test, in order
-pub scanned_rise : (n : ℕ) (p : List ℕ → Bool) (cache : List Row) → HasDistinctKeys cache → Rises (take n (in_order (filter p (map (λ row. row.key) cache))))
-scanned_rise n p cache are =
-    let keys = map (λ (row : Row). row.key) cache in
-    rises-take n (in_order (filter p keys)) (rises-in_order (filter p keys) (distinct-filter p keys (distinct-keys cache are)))
+-- the first keys of a table that pass a test, in order
+pub scanned_rise : (n : ℕ) (p : List ℕ → Bool) (table : ℕ) (cache : List Row) → HasDistinctKeys cache → Rises (take n (in_order (filter p (keys_in table cache))))
+scanned_rise n p table cache are =
+    let keys = keys_in table cache in
+    rises-take n (in_order (filter p keys)) (rises-in_order (filter p keys) (distinct-filter p keys (distinct-keys table cache are)))
 
 -- ---- what rises is in order
 

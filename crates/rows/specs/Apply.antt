@@ -1,11 +1,11 @@
 -- One part of an operation, done on a cache.
-use Rattle.std.specs.Prelude.{◌≡◌, ℕ, Bool, false, not, List, [], ◌∷◌, map, filter, find, take, if◌then◌else◌, Option, Some, None}
+use Rattle.std.specs.Prelude.{◌≡◌, ℕ, ◌==◌, Bool, false, not, List, [], ◌∷◌, map, filter, find, take, if◌then◌else◌, Option, Some, None}
 use Rattle.std.specs.List.{list_any}
 use Rattle.std.specs.Ordering.{nat_cmp, is_le}
 use Rattle.std.specs.Cmp.Lexicographic.{slice_cmp}
-use Rattle.std.specs.Str.{bytes_eq}
 use Rattle.rows.specs.declared.kind.Kind.TheVariants as kinds
 use Rattle.rows.specs.declared.kind.Kind.{Kind}
+use Rattle.rows.specs.Key.{Key, is_same_key}
 use Rattle.rows.specs.Operation.{Operation}
 use Rattle.rows.specs.Row.{Row}
 
@@ -18,16 +18,16 @@ pub data Reply : Type 0 where
   Keys : List (List ℕ) → Reply
 
 -- the row of a key, and the cache without it
-abbrev pub is_of : List ℕ → Row → Bool
-is_of key row = bytes_eq row.key key
+abbrev pub is_of : Key → Row → Bool
+is_of key row = is_same_key row.key key
 
-abbrev pub row_of : List ℕ → List Row → Option Row
+abbrev pub row_of : Key → List Row → Option Row
 row_of key cache = find (is_of key) cache
 
-abbrev pub has : List ℕ → List Row → Bool
+abbrev pub has : Key → List Row → Bool
 has key cache = list_any (is_of key) cache
 
-abbrev pub without : List ℕ → List Row → List Row
+abbrev pub without : Key → List Row → List Row
 without key cache = filter (λ row. not (is_of key row)) cache
 
 -- no two rows have one key
@@ -35,7 +35,7 @@ abbrev pub HasDistinctKeys : List Row → Type 0
 HasDistinctKeys [] = Unit {0}
 HasDistinctKeys (row ∷ rows) = (has row.key rows ≡ false) × HasDistinctKeys rows
 
--- keys in the order of their bytes
+-- the keys of one table, in the order of their bytes
 abbrev pub is_at_most : List ℕ → List ℕ → Bool
 is_at_most a b = is_le (slice_cmp nat_cmp a b)
 
@@ -48,28 +48,32 @@ in_order [] = []
 in_order (key ∷ keys) = put_in_order key (in_order keys)
 
 -- after a put the new row stands in front, and no other row has its key
-abbrev pub put : List ℕ → List ℕ → ℕ → List Row → List Row × Reply
+abbrev pub put : Key → List ℕ → ℕ → List Row → List Row × Reply
 put key value number cache =
     (record { key = key; value = value; number = number } ∷ without key cache, if has key cache then Replaced else Stored)
 
 -- after a get its row stands in front, where there is one
-abbrev pub get_where : Option Row → List ℕ → List Row → List Row × Reply
+abbrev pub get_where : Option Row → Key → List Row → List Row × Reply
 get_where None key cache = (cache, Missing)
 get_where (Some row) key cache = (row ∷ without key cache, Value row.value)
 
-abbrev pub get : List ℕ → List Row → List Row × Reply
+abbrev pub get : Key → List Row → List Row × Reply
 get key cache = get_where (row_of key cache) key cache
 
 -- after an erase no row has the key
-abbrev pub erase : List ℕ → List Row → List Row × Reply
+abbrev pub erase : Key → List Row → List Row × Reply
 erase key cache = (without key cache, if has key cache then Erased else Missing)
 
--- the keys from one on, in the order of their bytes, at most so many
-abbrev pub scanned : List ℕ → ℕ → List Row → List (List ℕ)
-scanned key count cache = take count (in_order (filter (is_at_most key) (map (λ row. row.key) cache)))
+-- the keys of the rows of a table
+abbrev pub keys_in : ℕ → List Row → List (List ℕ)
+keys_in table cache = map (λ (row : Row). row.key.bytes) (filter (λ (row : Row). row.key.table == table) cache)
 
--- a scan looks up the keys from its own on, at most its count of them
-abbrev pub scan : List ℕ → ℕ → List Row → List Row × Reply
+-- the keys of its table from one on, in the order of their bytes, at most so many
+abbrev pub scanned : Key → ℕ → List Row → List (List ℕ)
+scanned key count cache = take count (in_order (filter (is_at_most key.bytes) (keys_in key.table cache)))
+
+-- a scan looks up the keys of its table from its own on, at most its count of them
+abbrev pub scan : Key → ℕ → List Row → List Row × Reply
 scan key count cache = (cache, Keys (scanned key count cache))
 
 abbrev pub apply_kind : Kind → Operation → List Row → List Row × Reply

@@ -5,6 +5,7 @@ use Rattle.std.specs.Cmp.Lexicographic.{slice_cmp}
 use Rattle.std.specs.List.Sorted.{IsStrictlySortedBy}
 use Rattle.rows.specs.declared.kind.Kind.{Kind}
 use Rattle.rows.specs.declared.kind.Kind.TheVariants as kinds
+use Rattle.rows.specs.Key.{Key}
 use Rattle.rows.specs.Operation.{Operation}
 use Rattle.rows.specs.Apply.{Reply, Stored, Replaced, Value, Missing, Erased, Keys, is_at_most}
 use Rattle.rows.specs.Spelled.{IsKey}
@@ -17,14 +18,14 @@ pub record AreFound (key : List ℕ) (count : ℕ) (keys : List (List ℕ)) : Ty
   pub lengths : All IsKey keys
 
 -- which replies the kinds of operations can have, where no value is longer than `longest`
-abbrev pub FitsKind : Kind → ℕ → List ℕ → ℕ → Reply → Type 0
+abbrev pub FitsKind : Kind → ℕ → Key → ℕ → Reply → Type 0
 FitsKind kinds.Put longest key count Stored = Unit {0}
 FitsKind kinds.Put longest key count Replaced = Unit {0}
 FitsKind kinds.Get longest key count (Value value) = length value ≤ longest
 FitsKind kinds.Get longest key count Missing = Unit {0}
 FitsKind kinds.Erase longest key count Erased = Unit {0}
 FitsKind kinds.Erase longest key count Missing = Unit {0}
-FitsKind kinds.Scan longest key count (Keys keys) = AreFound key count keys
+FitsKind kinds.Scan longest key count (Keys keys) = AreFound key.bytes count keys
 FitsKind kind longest key count reply = ⊥
 
 -- a reply that a part of the operation can have

@@ -4,6 +4,7 @@ pub mod Bodies
 pub mod Evictions
 pub mod Fits
 pub mod Holds
+pub mod Key
 pub mod KeyBody
 pub mod Operation
 pub mod Operations

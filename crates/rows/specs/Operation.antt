@@ -2,14 +2,15 @@
 use Rattle.std.specs.Prelude.{◌≡◌, ℕ, ◌≤◌, Bool, true, false, List, []}
 use Rattle.layout.specs.Sizes.{most_keys}
 use Rattle.rows.specs.declared.kind.Kind.{Kind}
+use Rattle.rows.specs.Key.{Key}
 use Rattle.rows.specs.declared.kind.Kind.TheVariants.{Put, Get, Erase, Scan}
 
 pub record Operation : Type 0 where
   -- the row of a put carries it; the commands of a trace are numbered from 1
   pub number : ℕ
   pub kind : Kind
-  -- the key, or the least key of a scan
-  pub key : List ℕ
+  -- the key, or the least key of a scan, which looks up keys of its table alone
+  pub key : Key
   -- of a put; else empty
   pub value : List ℕ
   -- the most keys that a scan gives; else 0

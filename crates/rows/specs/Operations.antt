@@ -2,26 +2,27 @@
 use Rattle.std.specs.Prelude.{ℕ, List, []}
 use Rattle.rows.specs.declared.kind.Kind.{Kind}
 use Rattle.rows.specs.declared.kind.Kind.TheVariants as kinds
+use Rattle.rows.specs.Key.{Key, key_shown}
 use Rattle.rows.specs.Operation.{Operation}
 use Rattle.rows.specs.declared.operation.Operation.{Operation as Operations}
 use Rattle.rows.specs.declared.operation.Operation.TheVariants.{Put, Get, Erase, Scan}
 
 -- a command of this number, of a kind and with these fields
-abbrev pub of_fields : ℕ → Kind → List ℕ → List ℕ → ℕ → Operation
+abbrev pub of_fields : ℕ → Kind → Key → List ℕ → ℕ → Operation
 of_fields number kind key value count = record { number = number; kind = kind; key = key; value = value; count = count }
 
 -- the same, of each kind
 
-abbrev pub put_of : ℕ → List ℕ → List ℕ → Operation
+abbrev pub put_of : ℕ → Key → List ℕ → Operation
 put_of number key value = of_fields number kinds.Put key value 0
 
-abbrev pub get_of : ℕ → List ℕ → Operation
+abbrev pub get_of : ℕ → Key → Operation
 get_of number key = of_fields number kinds.Get key [] 0
 
-abbrev pub erase_of : ℕ → List ℕ → Operation
+abbrev pub erase_of : ℕ → Key → Operation
 erase_of number key = of_fields number kinds.Erase key [] 0
 
-abbrev pub scan_of : ℕ → List ℕ → ℕ → Operation
+abbrev pub scan_of : ℕ → Key → ℕ → Operation
 scan_of number from count = of_fields number kinds.Scan from [] count
 
 -- Fields.
@@ -33,11 +34,11 @@ kind_of (Erase key) = kinds.Erase
 kind_of (Scan from count) = kinds.Scan
 
 -- the key, or the least key of a scan
-abbrev pub key_of : Operations → List ℕ
-key_of (Put key value) = key.now
-key_of (Get key) = key.now
-key_of (Erase key) = key.now
-key_of (Scan from count) = from.now
+abbrev pub key_of : Operations → Key
+key_of (Put key value) = key_shown key
+key_of (Get key) = key_shown key
+key_of (Erase key) = key_shown key
+key_of (Scan from count) = key_shown from
 
 -- of a put; else empty
 abbrev pub value_of : Operations → List ℕ

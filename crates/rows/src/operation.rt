@@ -1,21 +1,23 @@
 //! What can be asked of a shard.
 ghost use Rattle.std.specs.Prelude.{◌≡◌, ℕ};
 ghost use Rattle.std.specs.Bool.{Decides};
+ghost use Rattle.rows.specs.Key.{key_shown};
 ghost use Rattle.rows.specs.Operations.{count_of, key_of, kind_of, numbered, value_of};
 
+use crate::key::Key;
 use crate::kind::Kind;
 
 /// An operation on the rows of a shard.
 #[derive(Clone, Copy, Debug, PartialEq, Eq)]
 pub enum Operation<'a> {
     /// Stores a value, of at most 12,000 bytes, under a key of 1 to 256 bytes.
-    Put { key: &'a [u8], value: &'a [u8] },
+    Put { key: Key<'a>, value: &'a [u8] },
     /// Looks the value of a key up.
-    Get { key: &'a [u8] },
+    Get { key: Key<'a> },
     /// Removes the row of a key.
-    Erase { key: &'a [u8] },
-    /// Looks keys up, from this one on, at most so many: 1 to 32.
-    Scan { from: &'a [u8], count: u32 },
+    Erase { key: Key<'a> },
+    /// Looks keys of its table up, from this one on, at most so many: 1 to 32.
+    Scan { from: Key<'a>, count: u32 },
 }
 
 impl<'a> Operation<'a> {
@@ -39,8 +41,8 @@ impl<'a> Operation<'a> {
     }
 
     /// The key, or the least key of a scan.
-    pub fn key(&self) -> &'a [u8]
-        ensures { result.now ≡ key_of self.now }
+    pub fn key(&self) -> Key<'a>
+        ensures { key_shown result ≡ key_of self.now }
     {
         match *self {
             Operation::Put { key, .. } => key,

@@ -16,7 +16,7 @@ row_of : (item now : Item) (row : Row) → (now ≡ item) ⊎ IsSameRow item now
 row_of item now row (inl same) is read = (subst (λ (i : Item). IsRow i.content) (sym same) is, ap (λ (i : Item). row_in i.content) same ∙ read)
 row_of item now row (inr same) is read = ((number_in item.content, row_in item.content, same.is), same.row ∙ read)
 
-stays_once : (r m : RegionState) (p : Place) (row : Row) → Stay r m → StandsAt r p row → StandsAt m p row
+pub stays_once : (r m : RegionState) (p : Place) (row : Row) → Stay r m → StandsAt r p row → StandsAt m p row
 stays_once r m p row stay here =
     let there = stay p here.0.item (ap (option_map (λ (x : Standing). x.item)) here.1) in
     let t = standing_of (standing_at m p) there.0 there.1 in

@@ -1,8 +1,11 @@
-//! Tests of `key_index`: kinds of keys and orders of insertion, against a sorted vector.
-ghost use Rattle.std.specs.Prelude.{◌≡◌, ℕ, ◌<◌, ◌≤◌, length, IfOk};
+//! Tests of `key_index`: kinds of keys in one table and in eight, and orders of insertion, against a sorted vector.
+ghost use Rattle.std.specs.List.{flat_map};
+ghost use Rattle.std.specs.Prelude.{◌≡◌, ℕ, ◌<◌, ◌≤◌, ◌%◌, if◌then◌else◌, length, take, drop, IfOk};
+ghost use Rattle.layout.specs.Sizes.{tables};
 ghost use Rattle.key_index.specs.Index.{IsIndexOf};
 
 use key_index::{KeyIndex, Keys};
+use rows::Key;
 use std::alloc::{AllocError, Global};
 use std::test::Fail;
 
@@ -10,18 +13,43 @@ use std::test::Fail;
 #[derive(Drop)]
 struct Shelf {
     keys: Vec<Vec<u8>>,
+    // whether the rows are of eight tables in turn, and not of the first alone
+    mixed: bool,
+}
+
+impl Shelf {
+    /// The bytes of the key of a row.
+    fn bytes(&self, row: u32) -> &[u8]
+        requires { row < length self.now.keys.items }
+        ensures { result.now ≡ flat_map (λ key. key.items) (take 1 (drop row self.now.keys.items)) }
+    {
+        self.keys[row as usize].as_slice()
+    }
+}
+
+/// The table of a row.
+fn table_of(mixed: bool, row: u32) -> u8
+    ensures is { result ≡ (if mixed then row % 8 else 0) }
+    ensures below { result < tables }
+{
+    if mixed { (row % 8) as u8 } else { 0 }
 }
 
 impl Keys for Shelf {
     ghost use Rattle.std.specs.List.{flat_map};
-    ghost use Rattle.std.specs.Prelude.{ℕ, ◌<◌, length, take, drop};
+    ghost use Rattle.std.specs.Prelude.{ℕ, ◌<◌, ◌%◌, if◌then◌else◌, length, take, drop};
+    ghost use Rattle.rows.specs.Key.{in_table};
 
     ghost has_row = { λ shelf row. row < length shelf.keys.items };
 
-    ghost key_of = { λ shelf row. flat_map (λ key. key.items) (take 1 (drop row shelf.keys.items)) };
+    ghost key_of = { λ shelf row. in_table (if shelf.mixed then row % 8 else 0)
+        (flat_map (λ key. key.items) (take 1 (drop row shelf.keys.items))) };
 
-    fn key(&self, row: u32) -> &[u8] {
-        self.keys[row as usize].as_slice()
+    fn key(&self, row: u32) -> Key<'_> {
+        Key {
+            table: table_of(self.mixed, row),
+            bytes: self.bytes(row),
+        }
     }
 }
 
@@ -34,7 +62,8 @@ fn insert_row<K: Keys>(index: &mut KeyIndex, keys: &K, row: u32)
     if index.len() >= index.room() {
         return;
     }
-    let Err(place) = index.search(keys, keys.key(row)) else {
+    let key = keys.key(row);
+    let Err(place) = index.search(keys, &key) else {
         return;
     };
     index.insert_at(keys, place, row);
@@ -60,7 +89,8 @@ fn remove_row<K: Keys>(index: &mut KeyIndex, keys: &K, row: u32)
     if row % 3 == 0 {
         return;
     }
-    index.remove(keys, keys.key(row));
+    let key = keys.key(row);
+    index.remove(keys, &key);
 }
 
 /// Takes two of three rows out.
@@ -74,13 +104,24 @@ fn thin<K: Keys>(index: &mut KeyIndex, keys: &K, rows: u32)
     }
 }
 
+/// A key, by its table and its bytes, and its row.
+type Listed = ((u8, Vec<u8>), u32);
+
+fn shown(key: &(u8, Vec<u8>)) -> Key<'_> {
+    Key {
+        table: key.0,
+        bytes: key.1.as_slice(),
+    }
+}
+
 /// Whether the rows from a key on are those of a list from its first such key on.
-fn lists<K: Keys>(index: &KeyIndex, keys: &K, wanted: &[(Vec<u8>, u32)], from: &[u8]) -> bool
-    requires { IsIndexOf (K.has_row keys.now) (K.key_of keys.now) index.now }
+fn lists<K: Keys>(index: &KeyIndex, keys: &K, wanted: &[Listed], from: &Key<'_>) -> bool
+    requires index { IsIndexOf (K.has_row keys.now) (K.key_of keys.now) index.now }
+    requires table { from.now.table < tables }
 {
     let mut rows = index.rows_from(keys, from);
     for (key, row) in wanted {
-        if key.as_slice() >= from && rows.next() != Some(*row) {
+        if !shown(key).cmp_with(from).is_lt() && rows.next() != Some(*row) {
             return false;
         }
     }
@@ -88,11 +129,12 @@ fn lists<K: Keys>(index: &KeyIndex, keys: &K, wanted: &[(Vec<u8>, u32)], from: &
 }
 
 /// Whether each row of a list is found, and there are no more.
-fn finds<K: Keys>(index: &KeyIndex, keys: &K, wanted: &[(Vec<u8>, u32)]) -> bool
+fn finds<K: Keys>(index: &KeyIndex, keys: &K, wanted: &[Listed]) -> bool
     requires { IsIndexOf (K.has_row keys.now) (K.key_of keys.now) index.now }
 {
     for (key, row) in wanted {
-        if index.find(keys, key.as_slice()) != Some(*row) {
+        let key = shown(key);
+        if key.table >= 8 || index.find(keys, &key) != Some(*row) {
             return false;
         }
     }
@@ -163,28 +205,24 @@ fn number_of(row: u32, order: u32) -> u32
 }
 
 /// Keys of a kind, in an order.
-fn shelf_of(alloc: Global, kind: u32, order: u32) -> Result<Shelf, AllocError>
+fn shelf_of(alloc: Global, kind: u32, order: u32, mixed: bool) -> Result<Shelf, AllocError>
     ensures { IfOk result (λ shelf. length shelf.keys.items ≡ 401) }
 {
     let mut keys = Vec::new(alloc);
     for row in 0..ROWS {
         keys.push(key_of(alloc, kind, number_of(row, order))?)?;
     }
-    Ok(Shelf { keys })
+    Ok(Shelf { keys, mixed })
 }
 
 /// The keys and rows of the first rows of a shelf, or each third of them, in order.
-fn sorted(
-    alloc: Global,
-    shelf: &Shelf,
-    rows: u32,
-    step: u32,
-) -> Result<Vec<(Vec<u8>, u32)>, AllocError> {
+fn sorted(alloc: Global, shelf: &Shelf, rows: u32, step: u32) -> Result<Vec<Listed>, AllocError> {
     let mut sorted = Vec::new(alloc);
     let mut number: u32 = 0;
     for key in &shelf.keys {
         if number < rows && number % step.max(1) == 0 {
-            sorted.push((key.clone()?, number))?;
+            let table = table_of(shelf.mixed, number);
+            sorted.push(((table, key.clone()?), number))?;
         }
         number = number.wrapping_add(1);
     }
@@ -202,12 +240,33 @@ const STARTS: [&[u8]; 7] = [
     b"\xc8\xff",
 ];
 
+/// Whether the rows from some bytes on in each of three tables are those of a list.
+fn lists_from<K: Keys>(index: &KeyIndex, keys: &K, wanted: &[Listed], start: &[u8]) -> bool
+    requires { IsIndexOf (K.has_row keys.now) (K.key_of keys.now) index.now }
+{
+    let first = Key {
+        table: 0,
+        bytes: start,
+    };
+    let later = Key {
+        table: 3,
+        bytes: start,
+    };
+    let last = Key {
+        table: 7,
+        bytes: start,
+    };
+    lists(index, keys, wanted, &first)
+        && lists(index, keys, wanted, &later)
+        && lists(index, keys, wanted, &last)
+}
+
 /// Whether the rows from each of some keys on are those of a list.
-fn agrees<K: Keys>(index: &KeyIndex, keys: &K, wanted: &[(Vec<u8>, u32)]) -> bool
+fn agrees<K: Keys>(index: &KeyIndex, keys: &K, wanted: &[Listed]) -> bool
     requires { IsIndexOf (K.has_row keys.now) (K.key_of keys.now) index.now }
 {
     for start in STARTS {
-        if !lists(index, keys, wanted, start) {
+        if !lists_from(index, keys, wanted, start) {
             return false;
         }
     }
@@ -215,8 +274,8 @@ fn agrees<K: Keys>(index: &KeyIndex, keys: &K, wanted: &[(Vec<u8>, u32)]) -> boo
 }
 
 /// Whether an index of keys of a kind agrees with a sorted vector: filled in an order, thinned and filled again.
-fn is_right(alloc: Global, kind: u32, order: u32) -> Result<bool, AllocError> {
-    let shelf = shelf_of(alloc, kind, order)?;
+fn is_right(alloc: Global, kind: u32, order: u32, mixed: bool) -> Result<bool, AllocError> {
+    let shelf = shelf_of(alloc, kind, order, mixed)?;
     let all = sorted(alloc, &shelf, ROWS, 1)?;
     let thirds = sorted(alloc, &shelf, ROWS, 3)?;
     let mut index = KeyIndex::new(alloc, ROWS)?;
@@ -224,12 +283,7 @@ fn is_right(alloc: Global, kind: u32, order: u32) -> Result<bool, AllocError> {
 }
 
 /// Whether an index agrees with a list once it is filled, with another one once it is thinned, and with the first again.
-fn agree<K: Keys>(
-    index: &mut KeyIndex,
-    keys: &K,
-    all: &[(Vec<u8>, u32)],
-    thirds: &[(Vec<u8>, u32)],
-) -> [bool; 3]
+fn agree<K: Keys>(index: &mut KeyIndex, keys: &K, all: &[Listed], thirds: &[Listed]) -> [bool; 3]
     requires index { IsIndexOf (K.has_row keys.now) (K.key_of keys.now) index.old }
     requires readable { (row : ℕ) → row < 401 → K.has_row keys.now row }
 {
@@ -246,7 +300,8 @@ fn rows_are_in_the_order_of_a_sorted_vector(rt: HostRuntime) -> Result<(), Fail>
     for kind in 0..8 {
         for order in 0..3 {
             assert!(rt;
-                is_right(rt.alloc(), kind, order)?,
+                is_right(rt.alloc(), kind, order, false)?
+                    && is_right(rt.alloc(), kind, order, true)?,
                 "kind {kind} order {order}"
             );
         }
@@ -256,7 +311,7 @@ fn rows_are_in_the_order_of_a_sorted_vector(rt: HostRuntime) -> Result<(), Fail>
 
 /// Whether an index takes as many rows as it has room for, and no more.
 fn is_filled(alloc: Global, room: u32, order: u32) -> Result<bool, AllocError> {
-    let shelf = shelf_of(alloc, 1, order)?;
+    let shelf = shelf_of(alloc, 1, order, false)?;
     let wanted = sorted(alloc, &shelf, room, 1)?;
     let mut index = KeyIndex::new(alloc, room)?;
     fill(&mut index, &shelf, ROWS);
@@ -279,12 +334,20 @@ fn as_many_rows_as_there_is_room_for(rt: HostRuntime) -> Result<(), Fail> {
 
 #[test]
 fn an_index_with_room_for_no_row(rt: HostRuntime) -> Result<(), Fail> {
-    let shelf = shelf_of(rt.alloc(), 0, 0)?;
+    let shelf = shelf_of(rt.alloc(), 0, 0, false)?;
     let mut index = KeyIndex::new(rt.alloc(), 0)?;
     assert_eq!(rt; (index.room(), index.len()), (0, 0));
-    let found = index.find(&shelf, b"k0000");
-    let removed = index.remove(&shelf, b"k0000");
-    let next = index.rows_from(&shelf, b"").next();
+    let key = Key {
+        table: 0,
+        bytes: b"k0000",
+    };
+    let least = Key {
+        table: 0,
+        bytes: b"",
+    };
+    let found = index.find(&shelf, &key);
+    let removed = index.remove(&shelf, &key);
+    let next = index.rows_from(&shelf, &least).next();
     assert_eq!(rt; [found, removed, next], [None; 3]);
     Ok(())
 }

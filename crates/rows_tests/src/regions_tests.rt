@@ -73,6 +73,7 @@ fn a_content_is_written_through_and_its_neighbours_stand(rt: HostRuntime) -> Res
         Step::GoOn(0),
         Step::WriteBoth,
         Step::SpendTen,
+        Step::Live(64),
         Step::Counts(0, None),
         Step::GoOn(1),
         Step::Counts(0, Some((123_024, 64))),

@@ -1,7 +1,9 @@
 //! Tests of `row_bytes`: a row's bytes field by field, rows read again, and sizes.
 use row_bytes::{
-    Links, NO_LINK, key_in, newer_in, number_in, older_in, put_in, row_size, value_in, write_row,
+    Links, NO_LINK, key_in, key_of_row, newer_in, number_in, older_in, put_in, row_size, table_in,
+    value_in, write_row,
 };
+use rows::Key;
 use std::test::Fail;
 
 #[test]
@@ -11,9 +13,9 @@ fn a_row_is_laid_out_field_by_field(rt: HostRuntime) -> Result<(), Fail> {
         newer: 0x0000_0002_0000_0030,
         older: NO_LINK,
     };
-    write_row(&mut content, 0, 1, links, b"a", b"abc");
+    write_row(&mut content, 0, 1, links, 5, b"a", b"abc");
     let wanted = [
-        0, 0, 0, 0, 1, 0, 0, 0, 1, 0, 3, 0, 0, 0, 0, 0, 0x30, 0, 0, 0, 2, 0, 0, 0, 0xff, 0xff,
+        0, 0, 0, 0, 1, 0, 0, 0, 1, 0, 3, 0, 5, 0, 0, 0, 0x30, 0, 0, 0, 2, 0, 0, 0, 0xff, 0xff,
         0xff, 0xff, 0xff, 0xff, 0xff, 0xff, 0x61, 0x61, 0x62, 0x63, 0, 0, 0, 0,
     ];
     assert!(rt; content == wanted);
@@ -24,9 +26,15 @@ fn a_row_is_laid_out_field_by_field(rt: HostRuntime) -> Result<(), Fail> {
 fn a_row_is_read_again(rt: HostRuntime) -> Result<(), Fail> {
     let mut content = [0; 40];
     let links = Links { newer: 1, older: 2 };
-    write_row(&mut content, 7, 300, links, b"key", b"v");
+    write_row(&mut content, 7, 300, links, 7, b"key", b"v");
     assert_eq!(rt; (number_in(&content), put_in(&content)), (7, 300));
     assert!(rt; key_in(&content) == b"key".as_slice());
+    assert_eq!(rt; table_in(&content), 7);
+    let key = Key {
+        table: 7,
+        bytes: b"key",
+    };
+    assert!(rt; key_of_row(&content).is_same_as(&key));
     assert!(rt; value_in(&content) == b"v".as_slice());
     assert_eq!(rt; (newer_in(&content), older_in(&content)), (1, 2));
     Ok(())

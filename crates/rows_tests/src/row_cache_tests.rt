@@ -8,6 +8,7 @@ mod one_tag;
 mod scans;
 mod sizes;
 mod steps;
+mod tables;
 mod trial;
 
 use row_cache::{Compacted, Put};

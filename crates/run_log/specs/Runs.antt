@@ -2,7 +2,7 @@
 use Rattle.std.specs.Prelude.{◌≡◌, ℕ, ◌+◌, ◌<◌, List, length, map, Option}
 use Rattle.std.specs.List.{enumerate_from, slice_index_or}
 use Rattle.layout.specs.Sizes.{dense}
-use Rattle.trace_text.specs.Trace.{Trace}
+use Rattle.trace_text.specs.Trace.{Trace, regions}
 use Rattle.rows.specs.Row.{tight_floor}
 use Rattle.rows.specs.declared.reply_kind.ReplyKind.{ReplyKind}
 use Rattle.cache_model.specs.declared.entry.Entry.{Entry}
@@ -57,4 +57,4 @@ pub record IsFinished (trace : Trace) (n pages : ℕ) (ran : RanState) : Type 0 
   -- the lines say what is in the caches to which the journals lead; each shard lent as many blocks as a report says, and all came back
   pub occupied : occupancies_in ran.lines ≡ map (occupancy trace n pages) (enumerate_from 0 (journals_in ran.journals))
   -- one shard evicts nothing but where the live bytes exceed what no lent block leaves, and a dense segment more
-  pub evicts : n ≡ 1 → (d : List Entry) → EvictsAbove trace pages (tight_floor pages 0 + dense) (slice_index_or (journals_in ran.journals) 0 d)
+  pub evicts : n ≡ 1 → (d : List Entry) → EvictsAbove trace pages (tight_floor pages 0 (regions trace) + dense) (slice_index_or (journals_in ran.journals) 0 d)

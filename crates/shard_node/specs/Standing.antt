@@ -5,6 +5,7 @@ use Rattle.std.specs.Option.{option_map}
 use mathlib.Core.List.{IsPrefix}
 use Rattle.layout.specs.Sizes.{dense}
 use Rattle.trace_text.specs.Parts.{origin, parts}
+use Rattle.trace_text.specs.Trace.{regions}
 use Rattle.rows.specs.declared.reply_kind.ReplyKind.{ReplyKind}
 use Rattle.rows.specs.Apply.{Reply}
 use Rattle.cache_model.specs.Legal.{EvictsAbove, cache_after, done, reply_at}
@@ -47,7 +48,7 @@ module _ {L G : Type 0} (traffic : L → Traffic) (node : NodeState L G) where
   -- the journal is legal, and the cache has the rows that it leads to; with one shard nothing is evicted but under pressure
   pub record LeadsToItsRows : Type 0 where
     pub legal : cache_after node.trace node.pages node.journal.entries ≡ Some node.store.rows
-    pub pressure : node.shards ≡ 1 → EvictsAbove node.trace node.pages (tight_floor node.pages 0 + dense) node.journal.entries
+    pub pressure : node.shards ≡ 1 → EvictsAbove node.trace node.pages (tight_floor node.pages 0 (regions node.trace) + dense) node.journal.entries
 
   -- what was sent to a peer on the lane of requests is the first of what is due to it
   abbrev pub AsksInOrder : PeerState L → Type 0

@@ -2,6 +2,7 @@
 ghost use Rattle.std.specs.Prelude.{◌≡◌, ◌⊎◌, ◌+◌, ◌<◌, ◌≤◌, [], ◌∷◌, length, true};
 ghost use Rattle.cache_model.specs.declared.entry.Entry.{Entry as Entries};
 ghost use Rattle.rows.specs.Apply.{has};
+ghost use Rattle.rows.specs.Key.{key_shown};
 ghost use Rattle.row_cache.specs.Rows.{reply_of};
 ghost use Rattle.rows.specs.Askable.{IsAskable};
 ghost use Rattle.rows.specs.Operations.{put_of};
@@ -12,6 +13,7 @@ ghost use Rattle.shard_store.specs.Works.{pressure};
 ghost use Rattle.shard_node.specs.inside.Did.{DoesAbove};
 
 use cache_model::Entry;
+use rows::Key;
 use run_log::Journal;
 use shard_store::{Put, ShardStore};
 
@@ -27,24 +29,24 @@ pub(crate) fn note_done(journal: &mut Journal, number: u32)
 pub(crate) fn put_row(
     store: &mut ShardStore<'_>,
     number: u32,
-    key: &[u8],
+    key: Key<'_>,
     value: &[u8],
     journal: &mut Journal,
 ) -> Put
     // What is asked, with no guard standing.
-    requires askable { IsAskable (put_of number key.now value.now) }
+    requires askable { IsAskable (put_of number (key_shown key) value.now) }
     requires unguarded { IsUnguarded store.old }
 
     // Nothing it writes lacks room.
-    requires tables { (has key.now store.old.rows ≡ true) ⊎ (length store.old.rows < store.old.room) }
+    requires tables { (has (key_shown key) store.old.rows ≡ true) ⊎ (length store.old.rows < store.old.room) }
     requires spare { length store.old.rows + 1 ≤ journal.old.spare }
 
     // What it does, answers and writes down.
-    ensures does { DoesAbove (pressure store.old.pages store.old.lent) (put_of number key.now value.now) (reply_of result)
-        store.old store.new journal.old journal.new }
+    ensures does { DoesAbove (pressure store.old.pages store.old.lent store.old.regions) (put_of number (key_shown key.entry) value.now)
+        (reply_of result) store.old store.new journal.old journal.new }
     ensures came { TakesBack store.old store.new }
 {
-    let did = store.put(key, value, number, journal);
+    let did = store.put(key.table, key.bytes, value, number, journal);
     note_done(journal, number);
     did
 }

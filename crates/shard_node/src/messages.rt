@@ -3,6 +3,7 @@ ghost use Rattle.std.specs.Prelude.{◌≡◌, ◌+◌, ◌*◌, ◌<◌, ◌≤
 ghost use Rattle.layout.specs.Sizes as sizes;
 ghost use Rattle.rows.specs.declared.kind.Kind.TheVariants as kinds;
 ghost use Rattle.rows.specs.Apply.{row_of, Reply as Replied, Erased, Missing};
+ghost use Rattle.rows.specs.Key.{key_shown};
 ghost use Rattle.rows.specs.Spelled.{spelled};
 ghost use Rattle.row_cache.specs.Rows.{reply_of};
 ghost use Rattle.shard_memory.specs.Tickets.{HasIdle};
@@ -21,6 +22,7 @@ use crate::doing::{note_done, put_row};
 use cache_model::ReplyKind;
 use foreign_list::ForeignBlock;
 use layout::MESSAGE_HEADER;
+use rows::Key;
 use run_log::Journal;
 use shard_memory::Share;
 use shard_rings::{Operation, request_size, write_reply_header, write_request};
@@ -76,8 +78,8 @@ pub(crate) fn reply<'f>(
 
     // What it does, answers and writes down.
     ensures replied { (answer : Replied) × HoldsReply result.piece.bytes number answer
-        × DoesAbove (floor_of store.old.pages store.old.lent) (numbered number operation.now) answer store.old store.new
-        journal.old journal.new }
+        × DoesAbove (floor_of store.old.pages store.old.lent store.old.regions) (numbered number operation.now) answer
+        store.old store.new journal.old journal.new }
 
     // What is lent.
     ensures lends { LendsBlock Shares.Reply store.old store.new result }
@@ -96,19 +98,19 @@ pub(crate) fn reply<'f>(
 fn reply_put<'f>(
     store: &mut ShardStore<'f>,
     number: u32,
-    key: &[u8],
+    key: Key<'_>,
     value: &[u8],
     journal: &mut Journal,
 ) -> ForeignBlock<'f>
-    requires askable { IsAskable (put_of number key.now value.now) }
+    requires askable { IsAskable (put_of number (key_shown key) value.now) }
     requires idle { HasIdle store.old.lent Shares.Reply }
     requires unguarded { IsUnguarded store.old }
     requires within { length store.old.rows ≤ store.old.room }
-    requires room { HasPlace key.now store.old }
+    requires room { HasPlace (key_shown key) store.old }
     requires spare { length store.old.rows + 1 ≤ journal.old.spare }
     ensures replied { (answer : Replied) × HoldsReply result.piece.bytes number answer
-        × DoesAbove (floor_of store.old.pages store.old.lent) (put_of number key.now value.now) answer store.old store.new
-        journal.old journal.new }
+        × DoesAbove (floor_of store.old.pages store.old.lent store.old.regions) (put_of number (key_shown key.entry) value.now) answer
+        store.old store.new journal.old journal.new }
     ensures lends { LendsBlock Shares.Reply store.old store.new result }
     ensures size { length result.piece.bytes ≡ sizes.message_header }
 {
@@ -122,19 +124,26 @@ fn reply_put<'f>(
 fn reply_get<'f>(
     store: &mut ShardStore<'f>,
     number: u32,
-    key: &[u8],
+    key: Key<'_>,
     journal: &mut Journal,
 ) -> ForeignBlock<'f>
+    requires table { key.table < sizes.tables }
     requires idle { HasIdle store.old.lent Shares.Reply }
     requires unguarded { IsUnguarded store.old }
     requires spare { length store.old.rows + 1 ≤ journal.old.spare }
     ensures replied { (answer : Replied) × HoldsReply result.piece.bytes number answer
-        × DoesAbove (floor_of store.old.pages store.old.lent) (get_of number key.now) answer store.old store.new
-        journal.old journal.new }
+        × DoesAbove (floor_of store.old.pages store.old.lent store.old.regions) (get_of number (key_shown key.entry)) answer
+        store.old store.new journal.old journal.new }
     ensures lends { LendsBlock Shares.Reply store.old store.new result }
-    ensures size { length result.piece.bytes ≡ sizes.message_header + value_length (row_of key.now store.old.rows) }
+    ensures size { length result.piece.bytes ≡ sizes.message_header + value_length (row_of (key_shown key.entry) store.old.rows) }
 {
-    let (mut block, found) = store.lend_value(key, MESSAGE_HEADER, Share::Reply, journal);
+    let (mut block, found) = store.lend_value(
+        key.table,
+        key.bytes,
+        MESSAGE_HEADER,
+        Share::Reply,
+        journal,
+    );
     note_done(journal, number);
     write_found(found, number, block.bytes_mut());
     block
@@ -144,21 +153,22 @@ fn reply_get<'f>(
 fn reply_erase<'f>(
     store: &mut ShardStore<'f>,
     number: u32,
-    key: &[u8],
+    key: Key<'_>,
     journal: &mut Journal,
 ) -> ForeignBlock<'f>
+    requires table { key.table < sizes.tables }
     requires idle { HasIdle store.old.lent Shares.Reply }
     requires unguarded { IsUnguarded store.old }
     requires spare { length store.old.rows + 1 ≤ journal.old.spare }
     ensures replied { (answer : Replied) × HoldsReply result.piece.bytes number answer
-        × DoesAbove (floor_of store.old.pages store.old.lent) (erase_of number key.now) answer store.old store.new
-        journal.old journal.new }
+        × DoesAbove (floor_of store.old.pages store.old.lent store.old.regions) (erase_of number (key_shown key.entry)) answer
+        store.old store.new journal.old journal.new }
     ensures lends { LendsBlock Shares.Reply store.old store.new result }
     ensures size { length result.piece.bytes ≡ sizes.message_header }
 {
     let mut block = store.lend(MESSAGE_HEADER, Share::Reply, journal);
     note_done(journal, number);
-    let was_there = store.erase(key);
+    let was_there = store.erase(key.table, key.bytes);
     write_erased(was_there, number, block.bytes_mut());
     block
 }
@@ -167,21 +177,28 @@ fn reply_erase<'f>(
 fn reply_scan<'f>(
     store: &mut ShardStore<'f>,
     number: u32,
-    from: &[u8],
+    from: Key<'_>,
     count: u32,
     journal: &mut Journal,
 ) -> ForeignBlock<'f>
-    requires askable { IsAskable (scan_of number from.now count) }
+    requires askable { IsAskable (scan_of number (key_shown from) count) }
     requires idle { HasIdle store.old.lent Shares.Reply }
     requires unguarded { IsUnguarded store.old }
     requires spare { length store.old.rows + 1 ≤ journal.old.spare }
     ensures replied { (answer : Replied) × HoldsReply result.piece.bytes number answer
-        × DoesAbove (floor_of store.old.pages store.old.lent) (scan_of number from.now count) answer store.old store.new
-        journal.old journal.new }
+        × DoesAbove (floor_of store.old.pages store.old.lent store.old.regions) (scan_of number (key_shown from.entry) count) answer
+        store.old store.new journal.old journal.new }
     ensures lends { LendsBlock Shares.Reply store.old store.new result }
     ensures size { length result.piece.bytes ≡ sizes.message_header + sizes.key_room * count }
 {
-    let (mut block, scanned) = store.lend_keys(from, count, MESSAGE_HEADER, Share::Reply, journal);
+    let (mut block, scanned) = store.lend_keys(
+        from.table,
+        from.bytes,
+        count,
+        MESSAGE_HEADER,
+        Share::Reply,
+        journal,
+    );
     note_done(journal, number);
     write_reply_header(
         ReplyKind::Keys,

@@ -6,7 +6,7 @@ ghost use Rattle.foreign_list.specs.OwnerSeats.{IsAtRest};
 ghost use Rattle.shard_memory.specs.Tickets.{tickets_out};
 ghost use Rattle.layout.specs.Counts.{counted};
 ghost use Rattle.shard_store.specs.Stores.{IsUnguarded};
-ghost use Rattle.shard_node.specs.Nodes.{others};
+ghost use Rattle.shard_node.specs.Nodes.{others, HasTablePages};
 ghost use Rattle.shard_node.specs.Standing.{InStanding};
 ghost use Rattle.shard_node.specs.Links.{IsUnused};
 ghost use Rattle.shard_node.specs.Lines.{line_of};
@@ -67,7 +67,8 @@ pub struct Finished<'f, L: Drop> {
 
 impl<'f, L: Link<'f> + Drop, G: Gate + Drop> Node<'f, L, G> {
     /// The node of a shard, of a trace that was parsed for so many shards, with so many pages and a link to each other shard, in
-    /// the order of their numbers. The blocks that it lends come home over `home`. No other call takes memory.
+    /// the order of their numbers. The pages are at least 1,536 where the trace is of version 2. The blocks that it lends come home
+    /// over `home`. No other call takes memory.
     ///
     /// # Errors
     /// Want of memory; then the seat and the links are handed back.
@@ -84,6 +85,7 @@ impl<'f, L: Link<'f> + Drop, G: Gate + Drop> Node<'f, L, G> {
     ) -> Result<Node<'f, L, G>, NodeRefusal<L>>
         // What it is opened with.
         requires pages { ArePages pages }
+        requires tables { HasTablePages (trace_in trace.now) pages }
         requires owner { home.now.owner ≡ shard }
         requires seat { IsAtRest home.now seat }
         requires parsed_for { shards ≡ trace.now.shards }

@@ -1,9 +1,10 @@
 //! The parts that a shard issues to itself: what its store answers goes into its log.
 ghost use Rattle.std.specs.Prelude.{◌≡◌, ◌⊎◌, ◌*◌, ◌+◌, ◌^◌, ◌<◌, ◌≤◌, length, true, Some, None};
 ghost use Rattle.std.specs.List.{slice_get};
-ghost use Rattle.layout.specs.Sizes.{key_room, most_keys};
+ghost use Rattle.layout.specs.Sizes.{key_room, most_keys, tables};
 ghost use Rattle.rows.specs.declared.kind.Kind.TheVariants as kinds;
 ghost use Rattle.rows.specs.Apply.{apply, has};
+ghost use Rattle.rows.specs.Key.{key_shown};
 ghost use Rattle.rows.specs.Spelled.{spelled};
 ghost use Rattle.rows.specs.Askable.{IsAskable};
 ghost use Rattle.rows.specs.Operations.{erase_of, get_of, key_of, kind_of, numbered, put_of, scan_of};
@@ -12,6 +13,7 @@ ghost use Rattle.shard_node.specs.inside.Parts.{DoesPart};
 
 use crate::doing::{note_done, put_row};
 use cache_model::ReplyKind;
+use rows::Key;
 use run_log::{Journal, ReplyLog};
 use shard_rings::Operation;
 use shard_store::{Put, ShardStore};
@@ -57,18 +59,18 @@ pub(crate) fn do_part(
 fn do_put(
     store: &mut ShardStore<'_>,
     number: u32,
-    key: &[u8],
+    key: Key<'_>,
     value: &[u8],
     part: u32,
     journal: &mut Journal,
     log: &mut ReplyLog,
 )
-    requires askable { IsAskable (put_of number key.now value.now) }
+    requires askable { IsAskable (put_of number (key_shown key) value.now) }
     requires unguarded { IsUnguarded store.old }
-    requires tables { (has key.now store.old.rows ≡ true) ⊎ (length store.old.rows < store.old.room) }
+    requires tables { (has (key_shown key) store.old.rows ≡ true) ⊎ (length store.old.rows < store.old.room) }
     requires spare { length store.old.rows + 1 ≤ journal.old.spare }
     requires unanswered { slice_get log.old.replies part ≡ Some None }
-    ensures { DoesPart part (put_of number key.now value.now) store.old store.new journal.old journal.new log.old log.new }
+    ensures { DoesPart part (put_of number (key_shown key.entry) value.now) store.old store.new journal.old journal.new log.old log.new }
 {
     let kind = match put_row(store, number, key, value, journal) {
         Put::Stored => ReplyKind::Stored,
@@ -81,20 +83,21 @@ fn do_put(
 fn do_get(
     store: &mut ShardStore<'_>,
     number: u32,
-    key: &[u8],
+    key: Key<'_>,
     part: u32,
     journal: &mut Journal,
     log: &mut ReplyLog,
 )
+    requires table { key.table < tables }
     requires unguarded { IsUnguarded store.old }
     requires counted { store.old.backs < 2 ^ 64 }
     requires spare { 1 ≤ journal.old.spare }
     requires unanswered { slice_get log.old.replies part ≡ Some None }
-    requires fits { length (spelled (apply (get_of number key.now) store.old.rows).1).1 ≤ log.old.room }
-    ensures { DoesPart part (get_of number key.now) store.old store.new journal.old journal.new log.old log.new }
+    requires fits { length (spelled (apply (get_of number (key_shown key)) store.old.rows).1).1 ≤ log.old.room }
+    ensures { DoesPart part (get_of number (key_shown key.entry)) store.old store.new journal.old journal.new log.old log.new }
 {
     note_done(journal, number);
-    match store.get(key) {
+    match store.get(key.table, key.bytes) {
         Some(value) => log.record(part, ReplyKind::Value, value),
         None => log.record(part, ReplyKind::Missing, &[]),
     }
@@ -104,19 +107,20 @@ fn do_get(
 fn do_erase(
     store: &mut ShardStore<'_>,
     number: u32,
-    key: &[u8],
+    key: Key<'_>,
     part: u32,
     journal: &mut Journal,
     log: &mut ReplyLog,
 )
+    requires table { key.table < tables }
     requires unguarded { IsUnguarded store.old }
     requires counted { store.old.backs < 2 ^ 64 }
     requires spare { 1 ≤ journal.old.spare }
     requires unanswered { slice_get log.old.replies part ≡ Some None }
-    ensures { DoesPart part (erase_of number key.now) store.old store.new journal.old journal.new log.old log.new }
+    ensures { DoesPart part (erase_of number (key_shown key.entry)) store.old store.new journal.old journal.new log.old log.new }
 {
     note_done(journal, number);
-    let kind = if store.erase(key) {
+    let kind = if store.erase(key.table, key.bytes) {
         ReplyKind::Erased
     } else {
         ReplyKind::Missing
@@ -128,7 +132,7 @@ fn do_erase(
 fn do_scan(
     store: &mut ShardStore<'_>,
     number: u32,
-    from: &[u8],
+    from: Key<'_>,
     count: u32,
     part: u32,
     keys: &mut [u8],
@@ -136,7 +140,7 @@ fn do_scan(
     log: &mut ReplyLog,
 )
     // A scan, with no guard standing, and blocks that came home are counted.
-    requires askable { IsAskable (scan_of number from.now count) }
+    requires askable { IsAskable (scan_of number (key_shown from) count) }
     requires unguarded { IsUnguarded store.old }
     requires counted { store.old.backs < 2 ^ 64 }
 
@@ -144,12 +148,12 @@ fn do_scan(
     requires spare { 1 ≤ journal.old.spare }
     requires buffer { key_room * count ≤ length keys.old }
     requires unanswered { slice_get log.old.replies part ≡ Some None }
-    requires fits { length (spelled (apply (scan_of number from.now count) store.old.rows).1).1 ≤ log.old.room }
+    requires fits { length (spelled (apply (scan_of number (key_shown from) count) store.old.rows).1).1 ≤ log.old.room }
 
     // What it does, answers and writes down.
-    ensures { DoesPart part (scan_of number from.now count) store.old store.new journal.old journal.new log.old log.new }
+    ensures { DoesPart part (scan_of number (key_shown from.entry) count) store.old store.new journal.old journal.new log.old log.new }
 {
     note_done(journal, number);
-    let scanned = store.scan(from, count, keys);
+    let scanned = store.scan(from.table, from.bytes, count, keys);
     log.record(part, ReplyKind::Keys, &keys[..scanned.bytes as usize]);
 }

@@ -4,10 +4,13 @@ use Rattle.std.specs.List.{slice_get}
 use Rattle.layout.specs.Sizes.{tickets}
 use Rattle.cache_model.specs.declared.entry.Entry.{Entry}
 use Rattle.cache_model.specs.declared.entry.Entry.TheVariants.{Done}
-use Rattle.cache_model.specs.Examples.{put_b}
+use Rattle.cache_model.specs.Examples.{asks_in, put_b}
+use Rattle.rows.specs.declared.kind.Kind.TheVariants.{Put}
+use Rattle.rows.specs.Key.{in_table}
 use Rattle.foreign_list.specs.Blocks.{Block}
 use Rattle.shard_store.specs.Stores.{StoreState}
 use Rattle.shard_rings.specs.Lanes.{each_lane, Traffic}
+use Rattle.shard_rings.specs.Request.{request}
 use Rattle.shard_rings.specs.declared.link.Packet.{Packet}
 use Rattle.shard_rings.specs.declared.link.Packet.TheVariants.{Block as InBlock, Bye}
 use Rattle.shard_node.specs.Nodes.{NodeState}
@@ -23,12 +26,15 @@ put_request = 1 ∷ 0 ∷ 1 ∷ 0 ∷ 1 ∷ 0 ∷ 0 ∷ 0 ∷ 1 ∷ 0 ∷ 0 ∷ 
 abbrev pub put_reply : List ℕ
 put_reply = 17 ∷ 0 ∷ 0 ∷ 0 ∷ 1 ∷ 0 ∷ 0 ∷ 0 ∷ 0 ∷ 0 ∷ 0 ∷ 0 ∷ 0 ∷ 0 ∷ 0 ∷ 0 ∷ []
 
--- the same request with the number 3, and with the value 2
+-- the same request with the number 3, with the value 2, and of table 3
 abbrev pub of_number_3 : List ℕ
 of_number_3 = 1 ∷ 0 ∷ 1 ∷ 0 ∷ 3 ∷ 0 ∷ 0 ∷ 0 ∷ 1 ∷ 0 ∷ 0 ∷ 0 ∷ 0 ∷ 0 ∷ 0 ∷ 0 ∷ 98 ∷ 49 ∷ []
 
 abbrev pub of_value_2 : List ℕ
 of_value_2 = 1 ∷ 0 ∷ 1 ∷ 0 ∷ 1 ∷ 0 ∷ 0 ∷ 0 ∷ 1 ∷ 0 ∷ 0 ∷ 0 ∷ 0 ∷ 0 ∷ 0 ∷ 0 ∷ 98 ∷ 50 ∷ []
+
+abbrev pub of_table_3 : List ℕ
+of_table_3 = 1 ∷ 3 ∷ 1 ∷ 0 ∷ 1 ∷ 0 ∷ 0 ∷ 0 ∷ 1 ∷ 0 ∷ 0 ∷ 0 ∷ 0 ∷ 0 ∷ 0 ∷ 0 ∷ 98 ∷ 49 ∷ []
 
 -- a packet with these bytes, in some block
 abbrev pub packet : Block → List ℕ → Packet
@@ -52,6 +58,9 @@ pub record PacketsAreRight (block : Block) : Type 0 where
   -- so is one of the right number that differs elsewhere
   pub other_value : is_next to_the_owner 0 (packet block of_value_2) ≡ false
   pub other_value_found : number_in (packet block of_value_2) ≡ 1
+  -- and of another table, whose request this is
+  pub other_table : is_next to_the_owner 0 (packet block of_table_3) ≡ false
+  pub of_table : request (asks_in 3 1 Put (codes "b") (codes "1") 0) ≡ of_table_3
   -- Bye before its time, and five bytes
   pub early_bye : is_next to_the_owner 0 Bye ≡ false
   pub bye_found : number_in Bye ≡ 0
@@ -70,7 +79,7 @@ at_owner block store requests entries = record {
   shards = 2;
   pages = 8192;
   trace = put_b;
-  store = record store { rows = record { key = codes "b"; value = codes "1"; number = 1 } ∷ []; lent = replicate tickets None; lends = 1; backs = 1 };
+  store = record store { rows = record { key = in_table 0 (codes "b"); value = codes "1"; number = 1 } ∷ []; lent = replicate tickets None; lends = 1; backs = 1 };
   journal = record { entries = entries; spare = 1 };
   log = record { replies = []; room = 0 };
   peers = record {

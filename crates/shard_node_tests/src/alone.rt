@@ -27,9 +27,9 @@ fn play<'f, L: Link<'f> + Drop>(
     requires seat { IsAtRest home.now seat }
     requires one { trace.now.shards ≡ 1 }
     requires links { links.items ≡ [] }
-    requires ran { ran.old ≡ record { trace = trace_in trace.now; shards = 1; pages = 1280; journals = []; logs = []; lines = [] } }
+    requires ran { ran.old ≡ record { trace = trace_in trace.now; shards = 1; pages = 1536; journals = []; logs = []; lines = [] } }
 {
-    let Ok(mut node) = Node::open(alloc, 0, 1, 1280, trace, home, seat, links, OpenGate) else {
+    let Ok(mut node) = Node::open(alloc, 0, 1, 1536, trace, home, seat, links, OpenGate) else {
         return false;
     };
     for _ in 0..100 {
@@ -56,7 +56,7 @@ fn abandon<'f, L: Link<'f> + Drop>(
     ensures seat { IfSome result (λ handed. IsAtRest home.now handed.seat) }
     ensures links { IfSome result (λ handed. handed.links.items ≡ []) }
 {
-    match Node::open(alloc, 0, 1, 1280, trace, home, seat, links, OpenGate) {
+    match Node::open(alloc, 0, 1, 1536, trace, home, seat, links, OpenGate) {
         Ok(node) => Some(node.abandon()),
         Err(_) => None,
     }
@@ -74,7 +74,7 @@ fn open_and_play(
     requires owner { home.now.owner ≡ 0 }
     requires seat { IsAtRest home.now seat }
     requires one { trace.now.shards ≡ 1 }
-    requires ran { ran.old ≡ record { trace = trace_in trace.now; shards = 1; pages = 1280; journals = []; logs = []; lines = [] } }
+    requires ran { ran.old ≡ record { trace = trace_in trace.now; shards = 1; pages = 1536; journals = []; logs = []; lines = [] } }
 {
     let links: Vec<MemoryLink<'_>> = Vec::new(alloc);
     if !again {
@@ -89,7 +89,7 @@ fn open_and_play(
 /// What the node of the only shard left of these lines. None where it did not get done.
 fn left_of(rt: &impl Abort, alloc: Global, lines: &[u8], again: bool) -> Result<Option<Ran>, Fail> {
     let trace = parsed(rt, alloc, lines, 1)?;
-    let mut ran = Ran::new(alloc, &trace, 1, 1280)?;
+    let mut ran = Ran::new(alloc, &trace, 1, 1536)?;
     let (home, seat) = Foreign::new(alloc, 0)?;
     if !open_and_play(alloc, &trace, &home, seat, again, &mut ran) {
         return Ok(None);

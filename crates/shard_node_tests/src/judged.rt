@@ -62,7 +62,7 @@ fn told_of(
     trace: &Trace,
     journal: &[Entry],
 ) -> Result<Option<Vec<Told>>, AllocError> {
-    let mut plain = Plain::new(alloc, 1280)?;
+    let mut plain = Plain::new(alloc, 1536, trace.regions())?;
     let mut told = Vec::new(alloc);
     for entry in journal {
         if !follow(alloc, &mut plain, trace, *entry, &mut told)? {

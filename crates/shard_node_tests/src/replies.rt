@@ -119,7 +119,7 @@ fn open_and_play<'f>(
     requires node { IsAtRest homes.0.now seats.0 }
     requires lender { IsAtRest homes.1.now seats.1 }
 {
-    let mut ran = Ran::new(alloc, trace, 2, 1280)?;
+    let mut ran = Ran::new(alloc, trace, 2, 1536)?;
     let mut node = Trial::open(alloc, 0, trace, homes.0, seats.0)?;
     let mut lender = match Lender::open(alloc, 1, homes.1, seats.1) {
         Ok(lender) => lender,

@@ -15,10 +15,14 @@ use std::process::Abort;
 use std::test::Fail;
 use trace_text::Trace;
 
-// `put c 1` as command 1, and a request of a kind that there is not.
+// `put c 1` as command 1, a request of a kind that there is not, and requests of another table and of one that there is not.
 const OTHER_KEY: [u8; 18] = [1, 0, 1, 0, 1, 0, 0, 0, 1, 0, 0, 0, 0, 0, 0, 0, b'c', b'1'];
 
 const NO_KIND: [u8; 18] = [9, 0, 1, 0, 1, 0, 0, 0, 1, 0, 0, 0, 0, 0, 0, 0, b'b', b'1'];
+
+const OTHER_TABLE: [u8; 18] = [1, 3, 1, 0, 1, 0, 0, 0, 1, 0, 0, 0, 0, 0, 0, 0, b'b', b'1'];
+
+const NO_TABLE: [u8; 18] = [1, 8, 1, 0, 1, 0, 0, 0, 1, 0, 0, 0, 0, 0, 0, 0, b'b', b'1'];
 
 // The reply to the put.
 const STORED: [u8; 16] = [17, 0, 0, 0, 1, 0, 0, 0, 0, 0, 0, 0, 0, 0, 0, 0];
@@ -79,6 +83,8 @@ fn play<'f>(node: &mut Trial<'f>, lender: &mut Lender<'f>) -> bool
         && turns_on_bye(node, stray(1, 0))
         && turns_on(node, lender, &OTHER_KEY, stray(1, 1))
         && turns_on(node, lender, &NO_KIND, stray(1, 1))
+        && turns_on(node, lender, &OTHER_TABLE, stray(1, 1))
+        && turns_on(node, lender, &NO_TABLE, stray(1, 1))
         && turns(node, lender, 1, Turn::Moved)
         && is_answered(node)
         && turns(node, lender, 1, stray(0, 1))
@@ -88,11 +94,11 @@ fn play<'f>(node: &mut Trial<'f>, lender: &mut Lender<'f>) -> bool
 /// The record of a run whose first shard has finished, which asked the other for the put.
 fn ran_first(rt: &impl Abort, alloc: Global, trace: &Trace) -> Result<Ran, Fail>
     requires two { trace.now.shards ≡ 2 }
-    ensures { IfOk result (λ ran. IsOfRun (trace_in trace.now) 2 1280 ran) }
+    ensures { IfOk result (λ ran. IsOfRun (trace_in trace.now) 2 1536 ran) }
 {
     let (home, seat) = Foreign::new(alloc, 0)?;
     let (lending, lent) = Foreign::new(alloc, 1)?;
-    let mut ran = Ran::new(alloc, trace, 2, 1280)?;
+    let mut ran = Ran::new(alloc, trace, 2, 1536)?;
     let is_finished = finish_first(alloc, trace, (&home, &lending), (seat, lent), &mut ran)?;
     assert!(rt; is_finished);
     Ok(ran)
@@ -110,8 +116,8 @@ fn finish_first<'f>(
     requires owners { (homes.0.now.owner ≡ 0) × (homes.1.now.owner ≡ 1) }
     requires node { IsAtRest homes.0.now seats.0 }
     requires lender { IsAtRest homes.1.now seats.1 }
-    requires ran { IsOfRun (trace_in trace.now) 2 1280 ran.old }
-    ensures { OnOk result (IsOfRun (trace_in trace.now) 2 1280 ran.new) }
+    requires ran { IsOfRun (trace_in trace.now) 2 1536 ran.old }
+    ensures { OnOk result (IsOfRun (trace_in trace.now) 2 1536 ran.new) }
 {
     let mut node = Trial::open(alloc, 0, trace, homes.0, seats.0)?;
     let mut lender = match Lender::open(alloc, 1, homes.1, seats.1) {
@@ -147,7 +153,7 @@ fn open_and_play<'f>(
     requires owners { (homes.0.now.owner ≡ 0) × (homes.1.now.owner ≡ 1) }
     requires lender { IsAtRest homes.0.now seats.0 }
     requires node { IsAtRest homes.1.now seats.1 }
-    requires ran { IsOfRun (trace_in trace.now) 2 1280 ran.old }
+    requires ran { IsOfRun (trace_in trace.now) 2 1536 ran.old }
 {
     let mut lender = Lender::open(alloc, 0, homes.0, seats.0)?;
     let mut node = match Trial::open(alloc, 1, trace, homes.1, seats.1) {

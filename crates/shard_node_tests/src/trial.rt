@@ -9,6 +9,7 @@ ghost use Rattle.shard_node.specs.Links.{IsUnused};
 ghost use Rattle.run_log.specs.Runs.{IsOfRun};
 
 use foreign_list::{Foreign, ForeignBlock, OwnerSeat};
+use rows::Key;
 use run_log::Journal;
 use shard_node::{Node, OpenGate, Ran, Turn};
 use shard_rings::{
@@ -77,7 +78,7 @@ impl<'f> Model for Trial<'f> {
     ghost view = { λ t. t.node.trace };
 
     ghost invariant = { λ t. InStanding traffic_of t.node × (t.node.shard ≡ t.shard) × (t.node.shards ≡ 2)
-        × (t.node.pages ≡ 1280) };
+        × (t.node.pages ≡ 1536) };
 }
 
 impl<'f> Trial<'f> {
@@ -97,7 +98,7 @@ impl<'f> Trial<'f> {
         let (link, peer) = both_ends(alloc)?;
         let mut links = Vec::with_capacity(alloc, 1)?;
         links.push(link).unwrap();
-        match Node::open(alloc, shard, 2, 1280, trace, home, seat, links, OpenGate) {
+        match Node::open(alloc, shard, 2, 1536, trace, home, seat, links, OpenGate) {
             Ok(node) => Ok(Trial { node, peer, shard }),
             Err(_) => Err(Fail::new("there is no memory")),
         }
@@ -126,8 +127,8 @@ impl<'f> Trial<'f> {
     /// Finishes the node into the record of a run. False where it is not done, a block is not at home, or the record has not those
     /// of the shards below it.
     pub(super) fn finish(self, ran: &mut Ran) -> bool
-        requires { IsOfRun self 2 1280 ran.old }
-        ensures { IsOfRun self.entry 2 1280 ran.new }
+        requires { IsOfRun self 2 1536 ran.old }
+        ensures { IsOfRun self.entry 2 1536 ran.new }
     {
         self.node.facts();
         if !self.node.is_done() || ran.journals().len() != self.shard as usize {
@@ -160,7 +161,7 @@ impl<'f> Lender<'f> {
         requires seat { IsAtRest home.now seat }
     {
         let journal = Journal::new(alloc, 0)?;
-        let Ok(store) = ShardStore::open(alloc, shard, 1280, 0, home, seat) else {
+        let Ok(store) = ShardStore::open(alloc, shard, 1536, 0, 1, home, seat) else {
             return Err(Fail::new("there is no memory"));
         };
         Ok(Lender { store, journal })
@@ -172,7 +173,10 @@ impl<'f> Lender<'f> {
             return None;
         }
         let put = Operation::Put {
-            key: b"b",
+            key: Key {
+                table: 0,
+                bytes: b"b",
+            },
             value: b"1",
         };
         let size = request_size(&put);

@@ -20,6 +20,10 @@ use trace_text::Trace;
 const LINES: &[u8] =
     b"put a 1\nput b 2\nput b 3\nput c 4\nget b\nget a\nscan a 4\nscan b 9\nerase a\nget b\nput c 5\nput d 6\n";
 
+// The same, in two tables.
+const IN_TABLES: &[u8] = b"version 2\nput 3 a 1\nput 4 b 2\nput 3 b 3\nput 4 c 4\nget 4 b\n\
+      get 3 a\nscan 3 a 4\nscan 4 b 9\nerase 4 a\nget 3 b\nput 3 c 5\nput 4 d 6\n";
+
 /// Carries the next packet on the lane from one node to the other. False where it does not fit.
 fn carry<'f>(from: &mut Trial<'f>, to: &mut Trial<'f>, word: u32) -> bool
     ensures from { from.new ≡ from.old }
@@ -107,8 +111,8 @@ fn play_two<'f>(
     mut second: Trial<'f>,
     ran: &mut Ran,
 ) -> bool
-    requires first { IsOfRun first 2 1280 ran.old }
-    requires second { IsOfRun second 2 1280 ran.old }
+    requires first { IsOfRun first 2 1536 ran.old }
+    requires second { IsOfRun second 2 1536 ran.old }
 {
     let are_done = play(words, &mut first, &mut second);
     let is_first_finished = first.finish(ran);
@@ -129,7 +133,7 @@ fn play_once<'f>(
     requires first { IsAtRest homes.0.now seats.0 }
     requires second { IsAtRest homes.1.now seats.1 }
 {
-    let mut ran = Ran::new(alloc, trace, 2, 1280)?;
+    let mut ran = Ran::new(alloc, trace, 2, 1536)?;
     let first = Trial::open(alloc, 0, trace, homes.0, seats.0)?;
     let second = match Trial::open(alloc, 1, trace, homes.1, seats.1) {
         Ok(second) => second,
@@ -171,9 +175,11 @@ fn count_own_first(alloc: Global, trace: &Trace) -> Result<Option<u32>, Fail>
 
 #[test]
 fn two_nodes_do_what_is_right_in_any_order(rt: HostRuntime) -> Result<(), Fail> {
-    let trace = parsed(&rt, rt.alloc(), LINES, 2)?;
-    let own_first = count_own_first(rt.alloc(), &trace)?;
-    // Both happen.
-    assert!(rt; own_first.is_some_and(|own_first| 0 < own_first && own_first < 1000));
+    for lines in [LINES, IN_TABLES] {
+        let trace = parsed(&rt, rt.alloc(), lines, 2)?;
+        let own_first = count_own_first(rt.alloc(), &trace)?;
+        // Both happen.
+        assert!(rt; own_first.is_some_and(|own_first| 0 < own_first && own_first < 1000));
+    }
     Ok(())
 }

@@ -4,6 +4,7 @@ use Rattle.rows.specs.declared.kind.Kind.{Kind}
 use Rattle.rows.specs.declared.kind.Kind.TheVariants.{Put, Get, Erase, Scan}
 use Rattle.rows.specs.Apply.{Reply, Stored, Replaced, Value, Missing, Erased, Keys}
 use Rattle.rows.specs.Fits.{FitsKind}
+use Rattle.rows.specs.Key.{Key}
 use Rattle.rows.specs.CanAnswer.{can_answer}
 use Rattle.rows.specs.KeyBody.{AreKeys}
 use Rattle.rows.specs.declared.reply_kind.ReplyKind.{ReplyKind}
@@ -17,8 +18,8 @@ false-true : false ≡ true → ⊥
 false-true e = cc
 
 -- a reply fits where it is of such a kind, and its body fits
-pub fits_by_body : (longest : ℕ) (kind : Kind) (key : List ℕ) (count : ℕ) (reply : Reply) → IsSendable reply
-    → FitsKind kind longest key count reply ↔ ((can_answer kind (spelled reply).0 ≡ true) × BodyFits longest key count reply)
+pub fits_by_body : (longest : ℕ) (kind : Kind) (key : Key) (count : ℕ) (reply : Reply) → IsSendable reply
+    → FitsKind kind longest key count reply ↔ ((can_answer kind (spelled reply).0 ≡ true) × BodyFits longest key.bytes count reply)
 fits_by_body longest Put key count Stored sendable = (λ fit. (refl, fit), λ parts. parts.1)
 fits_by_body longest Put key count Replaced sendable = (λ fit. (refl, fit), λ parts. parts.1)
 fits_by_body longest Put key count (Value value) sendable = (λ fit. absurd fit, λ parts. absurd (false-true parts.0))
@@ -43,8 +44,8 @@ fits_by_body longest Scan key count (Value value) sendable = (λ fit. absurd fit
 fits_by_body longest Scan key count Missing sendable = (λ fit. absurd fit, λ parts. absurd (false-true parts.0))
 fits_by_body longest Scan key count Erased sendable = (λ fit. absurd fit, λ parts. absurd (false-true parts.0))
 fits_by_body longest Scan key count (Keys keys) sendable = (
-  λ fit. (refl, (fit.few, finds key keys fit.rising fit.from)),
-  λ parts. let is = found key keys parts.1.1 in record { few = parts.1.0; rising = is.0; from = is.1; lengths = sendable.1 },
+  λ fit. (refl, (fit.few, finds key.bytes keys fit.rising fit.from)),
+  λ parts. let is = found key.bytes keys parts.1.1 in record { few = parts.1.0; rising = is.0; from = is.1; lengths = sendable.1 },
 )
 
 -- the byte of a kind, by which kinds differ

@@ -109,11 +109,11 @@ of-commands : (m n : ℕ) (list : List Operation) → All (λ (x : Operation). x
 of-commands m n [] low = All-nil (λ (part : ℕ × ℕ). part.0 ≤ m)
 of-commands m n (x ∷ xs) low =
     All-append (λ (part : ℕ × ℕ). part.0 ≤ m) (parts_of n x) (flat_map (parts_of n) xs)
-    (of-command m n x.number (owner x.key n) (is_scan x.kind) (All-head (λ (y : Operation). y.number ≤ m) x xs low))
+    (of-command m n x.number (owner x.key.bytes n) (is_scan x.kind) (All-head (λ (y : Operation). y.number ≤ m) x xs low))
     (of-commands m n xs (All-tail (λ (y : Operation). y.number ≤ m) x xs low))
 
 -- the parts before a place are of commands with lower numbers
-numbers-before : (ops : List Operation) (n o at : ℕ) → IsNumbered ops → All (λ (part : ℕ × ℕ). part.0 ≤ at) (issued_parts (trace_with (take at ops)) n o)
+numbers-before : (ops : List Operation) (n o at : ℕ) → IsNumbered ops → All (λ (part : ℕ × ℕ). part.0 ≤ at) (issued_parts (trace_with 1 (take at ops)) n o)
 numbers-before ops n o at are =
     of-commands at n (filter (λ x. eqb (origin x.number n) o) (take at ops))
     (All-filter (λ x. eqb (origin x.number n) o) (λ (x : Operation). x.number ≤ at) (take at ops)
@@ -131,9 +131,9 @@ pub is-first : AreCounted → (trace : Parsed) (n o at to begun : ℕ) → AreNu
 is-first counted trace n o at to begun are stands within none part next =
     let ops = (trace_in trace).operations in
     let inside : at < length ops = rw (length-operations trace.bytes trace.commands) within in
-    let front = issued_parts (trace_with (take at ops)) n o in
+    let front = issued_parts (trace_with 1 (take at ops)) n o in
     let stood = stands.part in
-    let many = counted (trace_with (take at ops)) n o in
+    let many = counted (trace_with 1 (take at ops)) n o in
     let place : begun ≡ length front = omega (arith, stood, none, many) in
     let those : ((get_or ops at no_operation).number, to) ≡ part = same_Some _ _ (sym (next-in-log counted trace n o at to begun no_operation are stands within) ∙ next) in
     let number : part.0 ≡ at + 1 = ap (λ (p : ℕ × ℕ). p.0) (sym those) ∙ numbered trace.bytes trace.commands are at no_operation inside in
@@ -145,7 +145,7 @@ is-first counted trace n o at to begun are stands within none part next =
           let low : before.0 ≤ at = All-get_or (λ (p : ℕ × ℕ). p.0 ≤ at) front (begun - 1) (0, 0) earlier (numbers-before ops n o at (numbered trace.bytes trace.commands are)) in
           inr (
             before,
-            ap (λ list. slice_get list (begun - 1)) (issued-cut ops n o at) ∙ in-front front (issued_parts (trace_with (drop at ops)) n o) (begun - 1) (0, 0) earlier,
+            ap (λ list. slice_get list (begun - 1)) (issued-cut ops n o at) ∙ in-front front (issued_parts (trace_with 1 (drop at ops)) n o) (begun - 1) (0, 0) earlier,
             λ same. omega (arith, low, number, same),
           )
     ]
@@ -165,7 +165,7 @@ is-not-first counted trace n o at to begun are stands within scan later part nex
     let place : begun - 1 ≡ part_at trace n o (to - 1) at = omega (arith, stood, last, same) in
     let below = stands.below in
     let those : (one.number, to) ≡ part = same_Some _ _ (sym (next-in-log counted trace n o at to begun no_operation are stands within) ∙ next) in
-    let does : has_part n (to - 1) one ≡ true = ap (λ b. cond b true (eqb (owner one.key n) (to - 1))) scan in
+    let does : has_part n (to - 1) one ≡ true = ap (λ b. cond b true (eqb (owner one.key.bytes n) (to - 1))) scan in
     let there : slice_get log (begun - 1) ≡ Some (one.number, to - 1) =
     ap (slice_get log) place ∙ own-stands counted trace n o at (to - 1) no_operation are stands.origin (omega (arith, below)) within does in
     elim first [

@@ -21,7 +21,7 @@ pub(crate) fn fits(reply: &Reply<'_>, operation: &Operation<'_>, longest: u32) -
     let asked = operation.kind();
     let from = operation.key();
     let most = operation.count();
-    answered.can_answer(asked) && body_fits(reply, from, most, longest)
+    answered.can_answer(asked) && body_fits(reply, from.bytes, most, longest)
 }
 
 /// Whether a value is not too long, and keys are at most so many and rise from this one on.

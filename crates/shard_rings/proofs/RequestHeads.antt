@@ -9,12 +9,12 @@ use Rattle.shard_rings.specs.inside.RequestHead.{head_bytes, IsRequestHeadOf}
 use Rattle.shard_rings.proofs.Numbers.{IsBytes, cells, take-cells, four_is, two_again, four_again}
 
 pub head_read : (head : RequestHead) (bytes : List ℕ) → 16 ≤ length bytes
-    → head.kind ≡ get_or bytes 0 0 → get_or bytes 1 0 ≡ 0 → little_number 4 (drop 12 bytes) ≡ 0
+    → head.kind ≡ get_or bytes 0 0 → head.table ≡ get_or bytes 1 0 → little_number 4 (drop 12 bytes) ≡ 0
     → head.key_len ≡ little_number 2 (drop 2 bytes) → head.number ≡ little_number 4 (drop 4 bytes)
     → head.value_len ≡ little_number 2 (drop 8 bytes) → head.count ≡ little_number 2 (drop 10 bytes)
     → head.key_len < 2 ^ 16 → head.number < 2 ^ 32 → head.value_len < 2 ^ 16 → head.count < 2 ^ 16
     → IsBytes bytes → IsRequestHeadOf head bytes
-head_read head bytes long kind none zeros key number value count p q r s fits = record {
+head_read head bytes long kind table zeros key number value count p q r s fits = record {
   key_len = p;
   number = q;
   value_len = r;
@@ -23,7 +23,7 @@ head_read head bytes long kind none zeros key number value count p q r s fits = 
       take-cells 16 0 bytes long
       ∙ rw (
         kind,
-        none,
+        table,
         two_again 2 bytes head.key_len fits key,
         four_again 4 bytes head.number fits number,
         two_again 8 bytes head.value_len fits value,
@@ -33,11 +33,11 @@ head_read head bytes long kind none zeros key number value count p q r s fits = 
 }
 
 -- the zeros of a header
-pub zeros_read : (head : RequestHead) (bytes : List ℕ) → IsRequestHeadOf head bytes → (16 ≤ length bytes) × (get_or bytes 1 0 ≡ 0) × (little_number 4 (drop 12 bytes) ≡ 0)
+pub zeros_read : (head : RequestHead) (bytes : List ℕ) → IsRequestHeadOf head bytes → (16 ≤ length bytes) × (little_number 4 (drop 12 bytes) ≡ 0)
 zeros_read head bytes is =
     let long : 16 ≤ length bytes = omega (arith, ap length is.begins, length-take 16 bytes) in
     let same : cells 16 0 bytes ≡ head_bytes head = sym (take-cells 16 0 bytes long) ∙ is.begins in
-    (long, ap (λ (t : List ℕ). get_or t 1 0) same, four_is 12 bytes ∙ ap (λ (t : List ℕ). from_le_bytes w32 (drop 12 t)) same)
+    (long, four_is 12 bytes ∙ ap (λ (t : List ℕ). from_le_bytes w32 (drop 12 t)) same)
 
 -- ---- a header has one reading
 
@@ -45,6 +45,7 @@ zeros_read head bytes is =
 abbrev head_from : List ℕ → RequestHead
 head_from header = record {
   kind = get_or header 0 0;
+  table = get_or header 1 0;
   key_len = little_number 2 (drop 2 header);
   number = little_number 4 (drop 4 header);
   value_len = little_number 2 (drop 8 header);

@@ -6,10 +6,11 @@ use Rattle.std.proofs.lemmas.Slice.Eq.{bytes_eq-Decides}
 use Rattle.std.proofs.Math.Seq.{take-append_seam, drop-append_seam}
 use Rattle.rows.specs.declared.kind.Kind.{Kind}
 use Rattle.rows.specs.declared.kind.Kind.TheVariants as kinds
+use Rattle.rows.specs.Key.{Key, in_table}
 use Rattle.rows.specs.Operation.{Operation, HasItsFields}
 use Rattle.rows.specs.declared.operation.Operation.{Operation as Operations}
 use Rattle.shard_rings.specs.declared.request_head.RequestHead.{RequestHead}
-use Rattle.rows.specs.Operations.{key_of, numbered, of_fields, value_of}
+use Rattle.rows.specs.Operations.{count_of, key_of, kind_of, numbered, of_fields, value_of}
 use Rattle.shard_rings.specs.Request.{kind_byte, request, IsRequest}
 use Rattle.shard_rings.specs.inside.RequestHead.{IsRequestHeadOf}
 use Rattle.shard_rings.specs.inside.Requests.{HasFields}
@@ -20,7 +21,8 @@ use Rattle.shard_rings.proofs.RequestHeads.{heads_same}
 abbrev pub head_of : Operation → RequestHead
 head_of operation = record {
   kind = kind_byte operation.kind;
-  key_len = length operation.key;
+  table = operation.key.table;
+  key_len = length operation.key.bytes;
   number = operation.number;
   value_len = length operation.value;
   count = operation.count;
@@ -41,7 +43,7 @@ head_for bytes operation h = record {
   begins = ap (take 16) h.is;
 }
 
-behind : (bytes : List ℕ) (operation : Operation) → IsRequest bytes operation → drop 16 bytes ≡ operation.key ++ operation.value
+behind : (bytes : List ℕ) (operation : Operation) → IsRequest bytes operation → drop 16 bytes ≡ operation.key.bytes ++ operation.value
 behind bytes operation h = ap (drop 16) h.is
 
 -- ---- two texts one behind the other, by the length of the first
@@ -55,16 +57,18 @@ second_same a b c d e n = sym (drop_at a b (length c) n) ∙ ap (drop (length c)
 -- ---- what was read is the request's
 
 pub fields_of : (bytes key value : List ℕ) (head : RequestHead) (operation : Operation) → IsRequestHeadOf head bytes
-    → drop 16 bytes ≡ key ++ value → length key ≡ head.key_len → IsRequest bytes operation → HasFields head.kind key value head.count operation
+    → drop 16 bytes ≡ key ++ value → length key ≡ head.key_len → IsRequest bytes operation
+    → HasFields head.kind head.table key value head.count operation
 fields_of bytes key value head operation is fill len h =
     let same : head ≡ head_of operation = heads_same bytes head (head_of operation) is (head_for bytes operation h) in
-    let e : key ++ value ≡ operation.key ++ operation.value = sym fill ∙ behind bytes operation h in
-    let n : length key ≡ length operation.key = len ∙ ap (λ (g : RequestHead). g.key_len) same in
+    let e : key ++ value ≡ operation.key.bytes ++ operation.value = sym fill ∙ behind bytes operation h in
+    let n : length key ≡ length operation.key.bytes = len ∙ ap (λ (g : RequestHead). g.key_len) same in
     rw same (record {
       askable = h.askable;
       of_kind = refl;
-      of_key = first_same key value operation.key operation.value e n;
-      of_value = second_same key value operation.key operation.value e n;
+      of_table = refl;
+      of_key = first_same key value operation.key.bytes operation.value e n;
+      of_value = second_same key value operation.key.bytes operation.value e n;
       of_count = refl;
     })
 
@@ -72,11 +76,11 @@ fields_of bytes key value head operation is fill len h =
 
 pub is_read : (bytes key value : List ℕ) (g : RequestHead) (operation : Operations) → IsRequestHeadOf g bytes
     → drop 16 bytes ≡ key ++ value → length key ≡ g.key_len → length value ≡ g.value_len
-    → HasFields g.kind key value g.count (numbered g.number operation) → IsRequest bytes (numbered g.number operation)
+    → HasFields g.kind g.table key value g.count (numbered g.number operation) → IsRequest bytes (numbered g.number operation)
 is_read bytes key value g operation is fill key_len value_len has = record {
   number = is.number;
   askable = has.askable;
-  is = sym (take-append-drop 16 bytes) ∙ rw (is.begins, fill, ← key_len, ← value_len, has.of_kind, has.of_key, has.of_value, has.of_count) refl;
+  is = sym (take-append-drop 16 bytes) ∙ rw (is.begins, fill, ← key_len, ← value_len, has.of_kind, has.of_table, has.of_key, has.of_value, has.of_count) refl;
 }
 
 -- ---- a request has one reading
@@ -93,12 +97,18 @@ kind_again kinds.Scan = refl
 
 -- what the bytes ask, by their header
 read_from : List ℕ → RequestHead → Operation
-read_from bytes h = of_fields h.number (kind_from h.kind) (take h.key_len (drop 16 bytes)) (drop h.key_len (drop 16 bytes)) h.count
+read_from bytes h =
+    of_fields h.number (kind_from h.kind) (in_table h.table (take h.key_len (drop 16 bytes))) (drop h.key_len (drop 16 bytes)) h.count
 
 read_again : (bytes : List ℕ) (operation : Operation) → IsRequest bytes operation → read_from bytes (head_of operation) ≡ operation
 unfolding read_from
 read_again bytes operation h =
-    rw (behind bytes operation h, take-append_seam operation.key operation.value, drop-append_seam operation.key operation.value, kind_again operation.kind) refl
+    rw (
+      behind bytes operation h,
+      take-append_seam operation.key.bytes operation.value,
+      drop-append_seam operation.key.bytes operation.value,
+      kind_again operation.kind,
+    ) refl
 
 pub same_operation : (bytes : List ℕ) (a b : Operation) → IsRequest bytes a → IsRequest bytes b → a ≡ b
 same_operation bytes a b p q =
@@ -110,5 +120,11 @@ tested xs ys r h = search (rules, bytes_eq-Decides)
 
 -- ---- how long it is
 
-pub request_length : (number : ℕ) (operation : Operations) → 16 + length (key_of operation) + length (value_of operation) ≡ length (request (numbered number operation))
-request_length number operation = omega (arith, length-append (key_of operation) (value_of operation))
+pub request_length : (number : ℕ) (operation : Operations) → 16 + length (key_of operation).bytes + length (value_of operation) ≡ length (request (numbered number operation))
+request_length number operation = omega (arith, length-append (key_of operation).bytes (value_of operation))
+
+-- ---- an operation by its fields
+
+pub by_fields : (number : ℕ) (operation : Operations) (kind : Kind) (key : Key) (value : List ℕ) (count : ℕ) → kind ≡ kind_of operation → key ≡ key_of operation
+    → value ≡ value_of operation → count ≡ count_of operation → of_fields number kind key value count ≡ numbered number operation
+by_fields number operation kind key value count k y v n = rw (k, y, v, n) refl

@@ -29,7 +29,7 @@ IsSendable Erased = Unit {0}
 
 -- a row whose key and value a message can carry
 pub record IsSendableRow (row : Row) : Type 0 where
-  pub key : IsKey row.key
+  pub key : IsKey row.key.bytes
   pub value : length row.value ≤ greatest_value
 
 -- the kind, a zero, how many keys, the command's number, the body's length, and four zeros

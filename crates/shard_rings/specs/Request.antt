@@ -12,16 +12,16 @@ kind_byte kinds.Get = 2
 kind_byte kinds.Erase = 3
 kind_byte kinds.Scan = 4
 
--- the kind, a zero, the key's length, the command's number, the value's length, the count, and four zeros; only a put has
+-- the kind, the table, the key's length, the command's number, the value's length, the count, and four zeros; only a put has
 -- a value, and only a scan a count
 abbrev pub request_header : Operation → List ℕ
 request_header operation =
-    kind_byte operation.kind ∷ 0 ∷ to_le_bytes w16 (length operation.key) ++ to_le_bytes w32 operation.number
+    kind_byte operation.kind ∷ operation.key.table ∷ to_le_bytes w16 (length operation.key.bytes) ++ to_le_bytes w32 operation.number
     ++ to_le_bytes w16 (length operation.value) ++ to_le_bytes w16 operation.count ++ replicate 4 0
 
 -- the request of an operation
 abbrev pub request : Operation → List ℕ
-request operation = request_header operation ++ operation.key ++ operation.value
+request operation = request_header operation ++ operation.key.bytes ++ operation.value
 
 -- The bytes are the request of an operation that can be asked, neither more nor fewer.
 pub record IsRequest (bytes : List ℕ) (operation : Operation) : Type 0 where

@@ -5,9 +5,10 @@ ghost use Rattle.rows.specs.Operation.{HasItsFields};
 ghost use Rattle.rows.specs.Apply.{apply};
 ghost use Rattle.rows.specs.Row.{Row};
 ghost use Rattle.rows.specs.Askable.{IsAskable};
+ghost use Rattle.rows.specs.Key.{key_shown};
 ghost use Rattle.rows.specs.Operations.{numbered, of_fields};
 
-use rows::Operation;
+use rows::{Key, Operation};
 use trace_text::{Command, Kind, Trace};
 
 /// What a command of the trace asks. It does not matter on which line it stood.
@@ -20,16 +21,19 @@ pub fn operation_of<'a>(trace: &'a Trace, command: &Command) -> Operation<'a>
 {
     with_fields(
         command.kind,
-        trace.key(command),
+        Key {
+            table: command.table,
+            bytes: trace.key(command),
+        },
         trace.value(command),
         command.count,
     )
 }
 
 /// The operation of a kind with these fields, and it has no others.
-fn with_fields<'a>(kind: Kind, key: &'a [u8], value: &'a [u8], count: u32) -> Operation<'a>
+fn with_fields<'a>(kind: Kind, key: Key<'a>, value: &'a [u8], count: u32) -> Operation<'a>
     requires { HasItsFields kind value.now count }
-    ensures { (number : ℕ) → numbered number result ≡ of_fields number kind key.now value.now count }
+    ensures { (number : ℕ) → numbered number result ≡ of_fields number kind (key_shown key.entry) value.now count }
 {
     match kind {
         Kind::Put => Operation::Put { key, value },

@@ -36,4 +36,4 @@ pub use mesh::ring_links;
 pub use replying::{read_reply, write_reply, write_reply_header};
 pub use request::{is_request, read_expected, read_request, request_size, write_request};
 pub use ring_link::{RingLink, close_pair};
-pub use rows::{Operation, Reply};
+pub use rows::{Key, Operation, Reply};

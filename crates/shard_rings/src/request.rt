@@ -2,6 +2,7 @@
 ghost use Rattle.std.specs.Prelude.{◌≡◌, ◌≢◌, ◌+◌, ◌≤◌, ◌++◌, ℕ, length, drop, is_some, IfSome, IfNone};
 ghost use Rattle.std.specs.Str.{bytes_eq};
 ghost use Rattle.layout.specs.Sizes.{greatest_request, greatest_value, message_header};
+ghost use Rattle.rows.specs.Key.{key_shown};
 ghost use Rattle.rows.specs.Operation.{Operation as Asked};
 ghost use Rattle.rows.specs.Spelled.{IsKey};
 ghost use Rattle.rows.specs.Askable.{IsAskable};
@@ -12,19 +13,19 @@ ghost use Rattle.shard_rings.specs.inside.Requests.{HasFields};
 use crate::head::HEADER;
 use crate::request_head::{RequestHead, request_head_in, write_request_head};
 use crate::writing::write_at;
-use layout::{GREATEST_KEY, GREATEST_VALUE, MESSAGE_HEADER, MOST_KEYS};
-use rows::Operation;
+use layout::{GREATEST_KEY, GREATEST_VALUE, MESSAGE_HEADER, MOST_KEYS, TABLES};
+use rows::{Key, Operation};
 use trace_text::Kind;
 
 /// How many bytes the request of an operation has.
 pub fn request_size(operation: &Operation<'_>) -> u32
-    requires key { IsKey (key_of operation.now) }
+    requires key { IsKey (key_of operation.now).bytes }
     requires value { length (value_of operation.now) ≤ greatest_value }
     ensures size { (number : ℕ) → result ≡ length (request (numbered number operation.now)) }
-    ensures fields { result ≡ message_header + length (key_of operation.now) + length (value_of operation.now) }
+    ensures fields { result ≡ message_header + length (key_of operation.now).bytes + length (value_of operation.now) }
     ensures most { result ≤ greatest_request }
 {
-    size_of(operation.key(), operation.value())
+    size_of(operation.key().bytes, operation.value())
 }
 
 /// How many bytes the request with this key and this value has.
@@ -53,21 +54,22 @@ pub fn write_request(number: u32, operation: &Operation<'_>, into: &mut [u8])
 }
 
 /// Writes the request of a kind with these fields.
-fn write_fields(number: u32, kind: Kind, key: &[u8], value: &[u8], count: u32, into: &mut [u8])
-    requires askable { IsAskable (of_fields number kind key.now value.now count) }
-    requires room { length into.old ≡ length (request (of_fields number kind key.now value.now count)) }
-    ensures { into.new ≡ request (of_fields number kind key.now value.now count) }
+fn write_fields(number: u32, kind: Kind, key: Key<'_>, value: &[u8], count: u32, into: &mut [u8])
+    requires askable { IsAskable (of_fields number kind (key_shown key) value.now count) }
+    requires room { length into.old ≡ length (request (of_fields number kind (key_shown key) value.now count)) }
+    ensures { into.new ≡ request (of_fields number kind (key_shown key.entry) value.now count) }
 {
     let head = RequestHead {
         kind: byte_of(kind),
-        key_len: key.len() as u16,
+        table: key.table,
+        key_len: key.bytes.len() as u16,
         number,
         value_len: value.len() as u16,
         count: count as u16,
     };
-    let value_at = HEADER + key.len();
+    let value_at = HEADER + key.bytes.len();
     write_request_head(&head, into);
-    write_at(into, HEADER, key);
+    write_at(into, HEADER, key.bytes);
     write_at(into, value_at, value);
 }
 
@@ -78,7 +80,15 @@ pub fn read_request(bytes: &[u8]) -> Option<(u32, Operation<'_>)>
 {
     let head = request_head_in(bytes)?;
     let (key, value) = fields_in(bytes, head.key_len, head.value_len)?;
-    let operation = operation_in(head.kind, key, value, head.count)?;
+    let operation = operation_in(
+        head.kind,
+        Key {
+            table: head.table,
+            bytes: key,
+        },
+        value,
+        head.count,
+    )?;
     Some((head.number, operation))
 }
 
@@ -126,13 +136,18 @@ fn fields_in(bytes: &[u8], key_len: u16, value_len: u16) -> Option<(&[u8], &[u8]
     Some(behind.split_at(key_len as usize))
 }
 
-/// The operation of a kind with these fields. None where it lacks a field or has one too many, or one is too long.
-fn operation_in<'a>(kind: u8, key: &'a [u8], value: &'a [u8], count: u16) -> Option<Operation<'a>>
-    ensures some { IfSome result (λ operation. (number : ℕ) → HasFields kind key.now value.now count (numbered number operation)) }
-    ensures none { IfNone result ((operation : Asked) → HasFields kind key.now value.now count operation → ⊥) }
+/// The operation of a kind with these fields. None where it lacks a field or has one too many, or one is too long or too great.
+fn operation_in<'a>(kind: u8, key: Key<'a>, value: &'a [u8], count: u16) -> Option<Operation<'a>>
+    ensures some { IfSome result (λ operation. (number : ℕ)
+        → HasFields kind key.entry.table key.entry.bytes.now value.now count (numbered number operation)) }
+    ensures none { IfNone result ((operation : Asked)
+        → HasFields kind key.entry.table key.entry.bytes.now value.now count operation → ⊥) }
 {
     let count = count as u32;
-    if key.is_empty() || GREATEST_KEY < key.len() || GREATEST_VALUE < value.len() {
+    if TABLES <= key.table as u32 {
+        return None;
+    }
+    if key.bytes.is_empty() || GREATEST_KEY < key.bytes.len() || GREATEST_VALUE < value.len() {
         return None;
     }
     match kind {

@@ -11,6 +11,7 @@ use byteorder::{ByteOrder, LittleEndian};
 #[derive(Clone, Copy)]
 pub(crate) struct RequestHead {
     pub(crate) kind: u8,
+    pub(crate) table: u8,
     pub(crate) key_len: u16,
     pub(crate) number: u32,
     pub(crate) value_len: u16,
@@ -23,11 +24,12 @@ pub(crate) fn request_head_in(bytes: &[u8]) -> Option<RequestHead>
     ensures some { IfSome result (λ head. IsRequestHeadOf head bytes.now) }
     ensures none { IfNone result ((head : Heads) → IsRequestHeadOf head bytes.now → ⊥) }
 {
-    if bytes.len() < HEADER || bytes[1] != 0 || LittleEndian::read_u32(&bytes[12..]) != 0 {
+    if bytes.len() < HEADER || LittleEndian::read_u32(&bytes[12..]) != 0 {
         return None;
     }
     Some(RequestHead {
         kind: bytes[0],
+        table: bytes[1],
         key_len: LittleEndian::read_u16(&bytes[2..]),
         number: LittleEndian::read_u32(&bytes[4..]),
         value_len: LittleEndian::read_u16(&bytes[8..]),
@@ -41,7 +43,7 @@ pub(crate) fn write_request_head(head: &RequestHead, into: &mut [u8])
     ensures { into.new ≡ head_bytes head.now ++ drop message_header into.old }
 {
     into[0] = head.kind;
-    into[1] = 0;
+    into[1] = head.table;
     LittleEndian::write_u16(&mut into[2..], head.key_len);
     LittleEndian::write_u32(&mut into[4..], head.number);
     LittleEndian::write_u16(&mut into[8..], head.value_len);

@@ -26,9 +26,9 @@ eqb-below a b h = grind (arith, nat_tests)
 eqb-same : (a : ℕ) → eqb a a ≡ true
 eqb-same a = grind (arith, nat_tests)
 
--- a command is found by its number
+-- a command is found by its number, in a trace of each version alike
 find_number : (n : ℕ) (trace : List Operation) (k : ℕ) (d : Operation) → Numbered n trace → k < length trace
-    → command_of (trace_with trace) (get_or trace k d).number ≡ Some (get_or trace k d)
+    → command_of (trace_with 1 trace) (get_or trace k d).number ≡ Some (get_or trace k d)
 find_number n [] k d numbered lt = absurd (omega arith)
 find_number n (operation ∷ trace) zero d numbered lt = rw (eqb-same operation.number) refl
 find_number n (operation ∷ trace) (suc k) d numbered lt =
@@ -37,7 +37,7 @@ find_number n (operation ∷ trace) (suc k) d numbered lt =
     rw (eqb-below operation.number (get_or trace k d).number (omega (arith, numbered.0, later))) (find_number (n + 1) trace k d numbered.1 within)
 
 pub command_at : (trace : List Operation) (k : ℕ) (d : Operation) → Numbered 1 trace → k < length trace
-    → command_of (trace_with trace) (get_or trace k d).number ≡ Some (get_or trace k d)
+    → command_of (trace_with 1 trace) (get_or trace k d).number ≡ Some (get_or trace k d)
 command_at trace k d numbered lt = find_number 1 trace k d numbered lt
 
 -- ---- the commands of a trace that was read

@@ -7,7 +7,7 @@ use Rattle.std.proofs.lemmas.List.{length-map}
 use Rattle.layout.specs.Sizes.{dense}
 use Rattle.trace_text.specs.Parts.{most_shards}
 use Rattle.trace_text.specs.Reading.{most_commands}
-use Rattle.trace_text.specs.Trace.{Trace}
+use Rattle.trace_text.specs.Trace.{Trace, regions}
 use Rattle.cache_model.specs.declared.entry.Entry.{Entry}
 use Rattle.cache_model.specs.Bodies.{HasKeys}
 use Rattle.cache_model.specs.Legal.{EvictsAbove, IsComplete, IsLegal, cache_after, command_of}
@@ -56,15 +56,15 @@ module _ {G : Type 0} (holds : G → ℕ) (trace : Trace) (n pages : ℕ) (homes
   same_logs : replies_in remains.ran.logs ≡ logs_by nodes
   same_logs = ap (map (λ log. log.replies)) left.logs ∙ map-map (λ log. log.replies) (λ node. node.log) nodes
 
-  pressure : n ≡ 1 → All (EvictsAbove trace pages (tight_floor pages 0 + dense)) (journals_in remains.ran.journals)
-  pressure one = subst (λ l. All (EvictsAbove trace pages (tight_floor pages 0 + dense)) l) (sym same_journals)
-      (all_mapped (EvictsAbove trace pages (tight_floor pages 0 + dense)) (λ node. node.journal.entries) nodes (λ s node at.
+  pressure : n ≡ 1 → All (EvictsAbove trace pages (tight_floor pages 0 (regions trace) + dense)) (journals_in remains.ran.journals)
+  pressure one = subst (λ l. All (EvictsAbove trace pages (tight_floor pages 0 (regions trace) + dense)) l) (sym same_journals)
+      (all_mapped (EvictsAbove trace pages (tight_floor pages 0 (regions trace) + dense)) (λ node. node.journal.entries) nodes (λ s node at.
       let was = was_opened holds trace n pages homes nodes d s node at in
       let stands = all_at (InStanding traffic_of) nodes s node d.standing at in
       let evicts = stands.journal.pressure (was.kept.shards ∙ was.as_opened.shards ∙ one) in
       let room : node.pages ≡ pages = was.kept.pages ∙ was.as_opened.room in
-      subst (λ p. EvictsAbove trace p (tight_floor p 0 + dense) node.journal.entries) room
-      (subst (λ t. EvictsAbove t node.pages (tight_floor node.pages 0 + dense) node.journal.entries) (was.kept.trace ∙ was.as_opened.work) evicts)))
+      subst (λ p. EvictsAbove trace p (tight_floor p 0 (regions trace) + dense) node.journal.entries) room
+      (subst (λ t. EvictsAbove t node.pages (tight_floor node.pages 0 (regions t) + dense) node.journal.entries) (was.kept.trace ∙ was.as_opened.work) evicts)))
 
   module _ (agree : Agree traffic_of trace n pages nodes) (few : n ≤ most_shards) (short : length trace.operations ≤ most_commands) where
     occupied_at : (s : ℕ) (node : NodeState LinkState G) → slice_get nodes s ≡ Some node → occupancy_in (line_of node.store) ≡ occupancy trace n pages (0 + s, node.journal.entries)

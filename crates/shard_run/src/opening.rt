@@ -3,6 +3,7 @@ ghost use Rattle.std.specs.Prelude.{◌≡◌, ◌+◌, ◌<◌, ◌≤◌, [], 
 ghost use Rattle.layout.specs.Sizes.{ArePages};
 ghost use Rattle.trace_text.specs.Parsed.{trace_in};
 ghost use Rattle.shard_rings.specs.Mesh.{IsMesh};
+ghost use Rattle.shard_node.specs.Nodes.{HasTablePages};
 ghost use Rattle.shard_run.specs.Opening.{AreAtRest, AreLists, AreOpened, AreSeatsOf};
 ghost use Rattle.shard_run.specs.inside.Opening.{AreLeft, AreUnturned, AreUnused, GivesBack, OpensLast};
 
@@ -12,8 +13,8 @@ use shard_rings::{RingLink, ring_links};
 use std::alloc::{AllocError, Global};
 use trace_text::Trace;
 
-/// The nodes of all shards of a trace, in their order, with so many pages each. The blocks of shard s come home over list s. All of
-/// the memory that they use is taken here.
+/// The nodes of all shards of a trace, in their order, with so many pages each, at least 1,536 where the trace is of version 2. The
+/// blocks of shard s come home over list s. All of the memory that they use is taken here.
 ///
 /// # Errors
 /// Want of memory: then each node that was opened is abandoned, and the seats are handed back in their order.
@@ -26,6 +27,7 @@ pub fn open_nodes<'f, G: Gates>(
     gates: &G,
 ) -> Result<Vec<Node<'f, RingLink<'f>, G::Made>>, Vec<OwnerSeat>>
     requires pages { ArePages pages }
+    requires tables { HasTablePages (trace_in trace.now) pages }
     requires seats { AreAtRest trace.now.shards homes.now seats.items }
     ensures opened { IfOk result (λ nodes. AreOpened (trace_in trace.now) trace.now.shards pages homes.now nodes.items) }
     ensures refused { IfErr result (λ back. AreAtRest trace.now.shards homes.now back.items) }
@@ -61,6 +63,7 @@ fn open_all<'f, G: Gates>(
 ) -> Result<(), AllocError>
     // What all shards share.
     requires pages { ArePages pages }
+    requires tables { HasTablePages (trace_in trace.now) pages }
 
     // What each shard starts with.
     requires lists { AreLists trace.now.shards homes.now }
@@ -97,6 +100,7 @@ fn open_last<'f, G: Gates>(
 ) -> Result<(), AllocError>
     // What all shards share.
     requires pages { ArePages pages }
+    requires tables { HasTablePages (trace_in trace.now) pages }
     requires lists { AreLists trace.now.shards homes.now }
 
     // What the last of them starts with.

@@ -1,5 +1,5 @@
 -- The region is made of the segments of the memory, also after one more was given.
-use Rattle.std.proofs.Common.{◌≡◌, ◌≢◌, ◌⊎◌, inl, inr, ℕ, zero, suc, ◌+◌, ◌-◌, ◌*◌, ◌/◌, ◌^◌, ◌<◌, ◌≤◌, Bool, true, false, not, ◌==◌, cond, List, [], ◌∷◌, length, replicate, refl, sym, ap, ◌∙◌, subst, arith}
+use Rattle.std.proofs.Common.{◌≡◌, ◌≢◌, ◌⊎◌, inl, inr, ℕ, zero, suc, ◌+◌, ◌*◌, ◌/◌, ◌^◌, ◌<◌, ◌≤◌, Bool, true, false, not, ◌==◌, cond, List, [], ◌∷◌, length, replicate, refl, sym, ap, ◌∙◌, subst, arith}
 use Rattle.std.specs.Prelude.{Option, None, Some, IsSome, slice_get, slice_set, slice_index_or, filter, Contains, option_map, map}
 use Rattle.std.specs.List.{count_by}
 use Rattle.std.proofs.lemmas.Bool.{ne_eqb}
@@ -13,16 +13,17 @@ use Rattle.layout.specs.Extents.{Extent, extent, Disjoint, IsWithin, AreDisjoint
 use Rattle.raw_range.specs.Memory.{Lent, extent_of, remove_extent}
 use Rattle.shard_memory.specs.Shards.{MemoryState, ComeBack}
 use Rattle.shard_memory.specs.Tickets.{Tickets, tickets_out}
-use Rattle.regions.specs.Segments.{GroupState, SegmentState, RegionState, group_at, segment_at, with_guards, with_segment, fresh}
-use Rattle.regions.specs.Shapes.{Identity, Shape, Slot, active_in, identity, slot_of, slots_of, shape, is_free, is_held, pieces, pieces_in, guards_of, held_count, free_count}
-use Rattle.regions.specs.Counts.{left_of}
+use Rattle.regions.specs.Segments.{SegmentState, RegionState, segment_at, with_segment, fresh}
+use Rattle.regions.specs.Shapes.{Identity, Shape, Slot, identity, slot_at, slot_of, slots_of, shape, is_free, is_held, pieces, pieces_in, group_count, group_in, group_of, guards_at, guards_in, held_count, free_count}
+use Rattle.regions.specs.Counts.{left_of, objects_in}
 use Rattle.rows.specs.Row.{Row}
 use Rattle.row_bytes.specs.Rows.{IsRow, row_in, number_in}
-use Rattle.regions.specs.Contents.{Item, Standing, standing_at}
+use Rattle.regions.specs.Contents.{Item, Standing, object_with, standing, standing_at, standing_in}
 use Rattle.regions.specs.declared.place.Place.{Place}
-use Rattle.row_cache.specs.Rows.{IsSameRow, Stay, StandsAt}
+use Rattle.row_cache.specs.Rows.{CacheState, IsSameRow, Keeps, Stay, StandsAt}
 use Rattle.compaction.specs.Emptied.{HoldsTheSame}
-use Rattle.shard_store.specs.inside.Consistent.{IsOf, HoldsAll, IsCounted, IsMadeOf, IsConsistent}
+use Rattle.shard_store.specs.Stores.{SameGuards}
+use Rattle.shard_store.specs.inside.Consistent.{IsOf, HoldsAll, IsCounted, IsMadeOf, IsConsistent, LeavesRows}
 use Rattle.shard_store.specs.inside.Homecoming.{SameTickets}
 use Rattle.shard_store.proofs.Homecoming.{raised-both, raised-small, trimmed-same}
 
@@ -98,16 +99,17 @@ holds-kept memory old new same held h = record {
   count = held ∙ h.count;
 }
 
-pub made-kept : (shard pages standing : ℕ) (memory : MemoryState) (old new : RegionState) → pieces new ≡ pieces old → held_count new ≡ held_count old → (shape new).most ≡ (shape old).most → guards_of new 0 ≡ guards_of old 0
-    → IsMadeOf shard pages standing memory old → IsMadeOf shard pages standing memory new
-made-kept shard pages standing memory old new same held most guards h = record {
+pub made-kept : (shard pages regions : ℕ) (memory : MemoryState) (old new : RegionState) → pieces new ≡ pieces old → held_count new ≡ held_count old → (shape new).most ≡ (shape old).most → group_count new ≡ group_count old
+    → IsMadeOf shard pages regions memory old → IsMadeOf shard pages regions memory new
+made-kept shard pages regions memory old new same held most groups h = record {
   owner = h.owner;
   size = h.size;
   are_pages = h.are_pages;
   blocks = h.blocks;
   most = most ∙ h.most;
   holds = holds-kept memory old new same held h.holds;
-  guards = guards ∙ h.guards;
+  groups = groups ∙ h.groups;
+  enough = h.enough;
   counted = h.counted;
 }
 
@@ -139,9 +141,9 @@ counted-came old new count c long h = record {
 }
 
 -- the memory has the same pieces
-pub consistent-same : (shard pages standing : ℕ) (old new : MemoryState) (region : RegionState) → new.home ≡ old.home → new.owner ≡ old.owner → new.pages ≡ old.pages → new.blocks ≡ old.blocks → new.segments ≡ old.segments
-    → (IsCounted old → IsCounted new) → IsConsistent shard pages standing old region → IsConsistent shard pages standing new region
-consistent-same shard pages standing old new region home owner size blocks segments counted h =
+pub consistent-same : (shard pages regions : ℕ) (old new : MemoryState) (region : RegionState) → new.home ≡ old.home → new.owner ≡ old.owner → new.pages ≡ old.pages → new.blocks ≡ old.blocks → new.segments ≡ old.segments
+    → (IsCounted old → IsCounted new) → IsConsistent shard pages regions old region → IsConsistent shard pages regions new region
+consistent-same shard pages regions old new region home owner size blocks segments counted h =
     let m = h.made in
     record {
       made = record {
@@ -155,41 +157,54 @@ consistent-same shard pages standing old new region home owner size blocks segme
           apart = m.holds.apart;
           count = m.holds.count ∙ ap length (sym segments);
         };
-        guards = m.guards;
+        groups = m.groups;
+        enough = m.enough;
         counted = counted m.counted;
       };
-      active = h.active;
       free = h.free;
     }
 
-pub consistent-came : (shard pages standing : ℕ) (old new : MemoryState) (count : ℕ) (region : RegionState) → ComeBack old new count → length new.lent ≡ tickets
-    → IsConsistent shard pages standing old region → IsConsistent shard pages standing new region
-consistent-came shard pages standing old new count region c long h =
-    consistent-same shard pages standing old new region (ap (λ (s : MemoryState). s.home) c.same) (ap (λ (s : MemoryState). s.owner) c.same) (ap (λ (s : MemoryState). s.pages) c.same) (ap (λ (s : MemoryState). s.blocks) c.same) (ap (λ (s : MemoryState). s.segments) c.same)
+pub consistent-came : (shard pages regions : ℕ) (old new : MemoryState) (count : ℕ) (region : RegionState) → ComeBack old new count → length new.lent ≡ tickets
+    → IsConsistent shard pages regions old region → IsConsistent shard pages regions new region
+consistent-came shard pages regions old new count region c long h =
+    consistent-same shard pages regions old new region (ap (λ (s : MemoryState). s.home) c.same) (ap (λ (s : MemoryState). s.owner) c.same) (ap (λ (s : MemoryState). s.pages) c.same) (ap (λ (s : MemoryState). s.blocks) c.same) (ap (λ (s : MemoryState). s.segments) c.same)
     (counted-came old new count c long) h
 
-pub consistent-trimmed : (shard pages standing : ℕ) (old new : MemoryState) (region : RegionState) → new ≡ record old { pages_out = new.pages_out; room = new.room } → IsConsistent shard pages standing old region → IsConsistent shard pages standing new region
-consistent-trimmed shard pages standing old new region same h =
-    consistent-same shard pages standing old new region (ap (λ (s : MemoryState). s.home) same) (ap (λ (s : MemoryState). s.owner) same) (ap (λ (s : MemoryState). s.pages) same) (ap (λ (s : MemoryState). s.blocks) same) (ap (λ (s : MemoryState). s.segments) same)
+pub consistent-trimmed : (shard pages regions : ℕ) (old new : MemoryState) (region : RegionState) → new ≡ record old { pages_out = new.pages_out; room = new.room } → IsConsistent shard pages regions old region → IsConsistent shard pages regions new region
+consistent-trimmed shard pages regions old new region same h =
+    consistent-same shard pages regions old new region (ap (λ (s : MemoryState). s.home) same) (ap (λ (s : MemoryState). s.owner) same) (ap (λ (s : MemoryState). s.pages) same) (ap (λ (s : MemoryState). s.blocks) same) (ap (λ (s : MemoryState). s.segments) same)
     (counted-same old new (trimmed-same old new same)) h
 
 -- another region holds the same
-pub consistent-held : (shard pages standing : ℕ) (memory : MemoryState) (old new : RegionState) → HoldsTheSame old new → 1 ≤ free_count new → IsConsistent shard pages standing memory old → IsConsistent shard pages standing memory new
-consistent-held shard pages standing memory old new holds free h = record {
-  made = made-kept shard pages standing memory old new holds.pieces holds.held holds.most (holds.guards 0) h.made;
-  active = holds.active 0 h.active;
+pub consistent-held : (shard pages regions : ℕ) (memory : MemoryState) (old new : RegionState) → HoldsTheSame old new → 1 ≤ free_count new → IsConsistent shard pages regions memory old → IsConsistent shard pages regions memory new
+consistent-held shard pages regions memory old new holds free h = record {
+  made = made-kept shard pages regions memory old new holds.pieces holds.held holds.most holds.groups h.made;
   free = free;
 }
 
--- what holds for some owner, pages and guards holds for those that there are
-pub consistent-own : (shard pages standing : ℕ) (memory : MemoryState) (region : RegionState) → IsConsistent shard pages standing memory region → IsConsistent memory.owner memory.pages (guards_of region 0) memory region
-consistent-own shard pages standing memory region h =
-    let m = h.made in
-    record {
-      made = record { owner = refl; size = refl; are_pages = subst ArePages (sym m.size) m.are_pages; blocks = m.blocks; most = m.most ∙ ap (λ k. k / segment_pages) (sym m.size); holds = m.holds; guards = refl; counted = m.counted };
-      active = h.active;
-      free = h.free;
-    }
+-- what holds for some owner, pages and number of groups holds for those that there are
+pub made-own : (shard pages regions : ℕ) (memory : MemoryState) (region : RegionState) → IsMadeOf shard pages regions memory region → IsMadeOf memory.owner memory.pages (group_count region) memory region
+made-own shard pages regions memory region m = record {
+  owner = refl;
+  size = refl;
+  are_pages = subst ArePages (sym m.size) m.are_pages;
+  blocks = m.blocks;
+  most = m.most ∙ ap (λ k. k / segment_pages) (sym m.size);
+  holds = m.holds;
+  groups = refl;
+  enough = (let same = ap (λ k. k / segment_pages) m.size in let groups = m.groups in let enough = m.enough in omega (arith, same, groups, enough));
+  counted = m.counted;
+}
+
+pub consistent-own : (shard pages regions : ℕ) (memory : MemoryState) (region : RegionState) → IsConsistent shard pages regions memory region → IsConsistent memory.owner memory.pages (group_count region) memory region
+consistent-own shard pages regions memory region h = record { made = made-own shard pages regions memory region h.made; free = h.free }
+
+-- what holds for the owner, the pages and the groups that there were before holds for those that they are
+pub consistent-since : (shard pages regions : ℕ) (mid new : MemoryState) (before after : RegionState) → IsMadeOf shard pages regions mid before
+    → IsConsistent mid.owner mid.pages (group_count before) new after → IsConsistent shard pages regions new after
+consistent-since shard pages regions mid new before after m h =
+    subst (λ (k : ℕ). IsConsistent shard pages k new after) m.groups
+    (subst (λ (k : ℕ). IsConsistent shard k (group_count before) new after) m.size (subst (λ (k : ℕ). IsConsistent k mid.pages (group_count before) new after) m.owner h))
 
 -- rows that stand at places where each object stays
 item-of : (o : Option Standing) (item : Item) → option_map (λ (s : Standing). s.item) o ≡ Some item → (s : Standing) × (o ≡ Some s) × (s.item ≡ item)
@@ -206,6 +221,49 @@ rows-stay old new stay p row h =
     let found = item-of (standing_at new p) there.0 there.1 in
     let is = row-of h.0.item there.0 row there.2 h.2 h.3 in
     (found.0, found.1, subst (λ (i : Item). IsRow i.content) (sym found.2) is.0, ap (λ (i : Item). row_in i.content) found.2 ∙ is.1)
+
+-- an object is of the group of its segment
+slot-in : (segments : List (Option SegmentState)) (n : ℕ) → slot_at (slots_of segments) n ≡ option_map slot_of (slice_index_or segments n None)
+slot-in [] zero = refl
+slot-in [] (suc n) = refl
+slot-in (x ∷ xs) zero = refl
+slot-in (x ∷ xs) (suc n) = slot-in xs n
+
+group-found : {O : Type 0} (read : O → Standing) (group : Option ℕ) → ((o : O) → (read o).item.group ≡ group) → (found : Option O) (s : Standing) → option_map read found ≡ Some s → s.item.group ≡ group
+group-found read group of None s e = absurd (let clash : None ≡ Some s = e in cc)
+group-found read group of (Some o) s e =
+    let same : read o ≡ s = (let some : Some (read o) ≡ Some s = e in cc) in ap (λ (x : Standing). x.item.group) (sym same) ∙ of o
+
+group-in : (segment : Option SegmentState) (at : ℕ) (s : Standing) → standing_in segment at ≡ Some s → s.item.group ≡ group_in (option_map slot_of segment)
+group-in None at s e = absurd (let clash : None ≡ Some s = e in cc)
+group-in (Some h) at s e = group-found (standing h.group h.piece.bytes) h.group (λ _. refl) (object_with at (objects_in h)) s e
+
+group-there : (r : RegionState) (p : Place) (s : Standing) → standing_at r p ≡ Some s → s.item.group ≡ group_of r p.segment
+group-there r p s e = group-in (segment_at r p.segment) p.at s e ∙ ap group_in (sym (slot-in r.segments p.segment))
+
+group-kept : (item now : Item) → (now ≡ item) ⊎ IsSameRow item now → now.group ≡ item.group
+group-kept item now (inl same) = ap (λ (i : Item). i.group) same
+group-kept item now (inr same) = same.group
+
+guards-in : (old new : RegionState) (group : Option ℕ) → SameGuards old new → guards_in (shape new).groups group ≡ guards_in (shape old).groups group
+guards-in old new None same = refl
+guards-in old new (Some g) same = same g
+
+-- so rows that stay are under as many guards
+pub rows-guarded : (old new : RegionState) → Stay old new → SameGuards old new → (p : Place) (row : Row) → StandsAt old p row → guards_at new p.segment ≡ guards_at old p.segment
+rows-guarded old new stay same p row h =
+    let there = stay p h.0.item (ap (option_map (λ (s : Standing). s.item)) h.1) in
+    let found = item-of (standing_at new p) there.0 there.1 in
+    let group : group_of new p.segment ≡ group_of old p.segment =
+    sym (group-there new p found.0 found.1) ∙ ap (λ (i : Item). i.group) found.2 ∙ group-kept h.0.item there.0 there.2 ∙ group-there old p h.0 h.1 in
+    ap (guards_in (shape new).groups) group ∙ guards-in old new (group_of old p.segment) same
+
+-- a cache that no call touched
+pub keeps-same : (c : CacheState) → Keeps c c
+keeps-same c = record { room = refl; stay = λ p i e. (i, e, inl refl) }
+
+pub leaves-same : (m n : MemoryState) (c : CacheState) → ((shard pages regions : ℕ) → IsConsistent shard pages regions m c.region → IsConsistent shard pages regions n c.region) → LeavesRows m n c c
+leaves-same m n c consistent = record { rows = refl; keeps = keeps-same c; guards = λ g. refl; consistent = consistent }
 
 -- a free segment that is taken out
 piece-in : (segments : List (Option SegmentState)) (n : ℕ) (piece : Lent) → slice_index_or segments n None ≡ Some (fresh piece) → slice_get (pieces_in (slots_of segments)) n ≡ Some (Some (identity piece))
@@ -277,44 +335,15 @@ module _ (old new : MemoryState) (home : new.home ≡ old.home) (piece : Lent) (
     count = let counted = h.count in omega (arith, held, one-less, counted);
   }
 
--- the guards of a group whose active segment is another one
-pub guards-activated : (groups : List GroupState) (n : ℕ)
-    → (group_at (slice_set groups 0 (record { active = Some n; guards = (group_at groups 0).guards })) 0).guards ≡ (group_at groups 0).guards
-guards-activated [] n = refl
-guards-activated (x ∷ xs) n = refl
-
 -- what has a whole segment left has one
 pub left-of-one : (used : List ℕ) (active : Option ℕ) → left_of used active ≡ segment → IsSome active
 left-of-one used None whole = absurd (omega (arith, whole))
 left-of-one used (Some n) whole = refl
 
 -- a region of the same shape
-pub consistent-shape : (shard pages standing : ℕ) (memory : MemoryState) (old new : RegionState) → shape new ≡ shape old → IsConsistent shard pages standing memory old → IsConsistent shard pages standing memory new
-consistent-shape shard pages standing memory old new same h = record {
-  made = made-kept shard pages standing memory old new (ap (λ (s : Shape). pieces_in s.slots) same) (ap (λ (s : Shape). count_by is_held s.slots) same) (ap (λ (s : Shape). s.most) same)
-      (ap (λ (s : Shape). (group_at s.groups 0).guards) same) h.made;
-  active = subst (λ (s : Shape). IsSome (active_in s.groups 0)) (sym same) h.active;
+pub consistent-shape : (shard pages regions : ℕ) (memory : MemoryState) (old new : RegionState) → shape new ≡ shape old → IsConsistent shard pages regions memory old → IsConsistent shard pages regions memory new
+consistent-shape shard pages regions memory old new same h = record {
+  made = made-kept shard pages regions memory old new (ap (λ (s : Shape). pieces_in s.slots) same) (ap (λ (s : Shape). count_by is_held s.slots) same) (ap (λ (s : Shape). s.most) same)
+      (ap (λ (s : Shape). length s.groups) same) h.made;
   free = subst (λ (s : Shape). 1 ≤ count_by is_free s.slots) (sym same) h.free;
 }
-
--- one guard more, and then one less
-abbrev guarded : List GroupState → ℕ → List GroupState
-guarded groups guards = slice_set groups 0 (record { active = (group_at groups 0).active; guards = guards })
-
-abbrev with_groups : Shape → List GroupState → Shape
-with_groups s groups = record s { groups = groups }
-
-abbrev lowered : Shape → Shape
-lowered s = with_groups s (guarded s.groups ((group_at s.groups 0).guards - 1))
-
-abbrev with_active : Option ℕ → ℕ → GroupState
-with_active active guards = record { active = active; guards = guards }
-
-same-groups : (groups : List GroupState) → guarded (guarded groups ((group_at groups 0).guards + 1)) ((group_at (guarded groups ((group_at groups 0).guards + 1)) 0).guards - 1) ≡ groups
-same-groups [] = refl
-same-groups (x ∷ xs) = (let back : x.guards + 1 - 1 ≡ x.guards = omega arith in ap (λ (n : ℕ). with_active x.active n ∷ xs) back)
-
-pub shape-guarded : (r g k u : RegionState) → g ≡ with_guards r 0 (guards_of r 0 + 1) → shape k ≡ shape g → u ≡ with_guards k 0 (guards_of k 0 - 1) → shape u ≡ shape r
-shape-guarded r g k u up same down =
-    ap (λ (x : RegionState). shape x) down
-    ∙ (ap lowered same ∙ (ap (λ (x : RegionState). lowered (shape x)) up ∙ ap (λ (groups : List GroupState). with_groups (shape r) groups) (same-groups r.groups)))

@@ -8,13 +8,14 @@ use Rattle.shard_memory.specs.Tickets.{Tickets, tickets_out}
 use Rattle.shard_store.specs.Stores.{StoreState, IsSameStore}
 use Rattle.rows.specs.Told.{AreTold}
 
--- the live bytes exceed this where a row goes for a block: the tight floor with the tickets that are not idle as the call begins
-abbrev pub floor_of : ℕ → Tickets → ℕ
-floor_of pages lent = tight_floor pages (tickets_out lent)
+-- the live bytes exceed this where a row goes for a block: the tight floor of so many regions, with the tickets that are not idle as
+-- the call begins
+abbrev pub floor_of : ℕ → Tickets → ℕ → ℕ
+floor_of pages lent regions = tight_floor pages (tickets_out lent) regions
 
 -- and this where a row goes for a put: a dense segment more
-abbrev pub pressure : ℕ → Tickets → ℕ
-pressure pages lent = floor_of pages lent + dense
+abbrev pub pressure : ℕ → Tickets → ℕ → ℕ
+pressure pages lent regions = floor_of pages lent regions + dense
 
 module _ {E : Type 0} (tells : E → ℕ → E → Type 0) where
   -- Rows went in turn, each while more bytes were live than the bound, and were told. What was to be done was then done on the
@@ -32,6 +33,6 @@ module _ {E : Type 0} (tells : E → ℕ → E → Type 0) where
   -- rows went in turn for a block, and were told; nothing was done
   pub record EvictsForBlock (old new : StoreState) (before after : E) : Type 0 where
     pub evicted : List ℕ
-    pub evicts : Evicts (floor_of old.pages old.lent) old.rows evicted new.rows
+    pub evicts : Evicts (floor_of old.pages old.lent old.regions) old.rows evicted new.rows
     pub told : AreTold tells before evicted after
     pub same : IsSameStore old new

@@ -5,7 +5,9 @@ ghost use Rattle.layout.specs.Sizes.{greatest_object};
 ghost use Rattle.rows.specs.Row.{live, is_of_put};
 ghost use Rattle.shard_memory.specs.Shards.{MemoryState};
 ghost use Rattle.regions.specs.Counts.{left};
+ghost use Rattle.regions.specs.Shapes.{group_count, HasGroup, IsUnguarded};
 ghost use Rattle.row_cache.specs.Rows.{rows_of};
+ghost use Rattle.shard_store.specs.Stores.{SameGuards};
 ghost use Rattle.shard_store.specs.Works.{pressure};
 ghost use Rattle.shard_store.specs.inside.Consistent.{IsConsistent};
 ghost use Rattle.shard_store.specs.inside.Evicted.{HasEvicted};
@@ -16,33 +18,37 @@ use row_cache::RowCache;
 use rows::Evictions;
 use shard_memory::ShardMemory;
 
-// Makes room for an object of so many bytes in the active segment. Where there is none otherwise, the rows that were used
-// longest ago go, one by one.
+// Makes room for an object of so many bytes in the active segment of the group. Where there is none otherwise, the rows that were
+// used longest ago go, one by one, of whatever table.
 pub(crate) fn make_room_evicting<E: Evictions>(
     memory: &mut ShardMemory<'_>,
     cache: &mut RowCache,
+    group: u32,
     size: u32,
     evictions: &mut E,
 )
     // Unguarded, and each row may be told.
+    requires group { HasGroup cache.old.region group }
     requires size { size ≤ greatest_object }
-    requires consistent { IsConsistent memory.old.owner memory.old.pages 0 memory.old cache.old.region }
+    requires unguarded { IsUnguarded cache.old.region }
+    requires consistent { IsConsistent memory.old.owner memory.old.pages (group_count cache.old.region) memory.old cache.old.region }
     requires told { length (rows_of cache.old) ≤ E.room evictions.old }
 
     // The active segment has so much left.
-    ensures room { size ≤ left cache.new.region 0 }
+    ensures room { size ≤ left cache.new.region group }
 
     // Which rows went, and were told.
-    ensures evicted { HasEvicted E.tells (pressure memory.old.pages memory.old.lent) (rows_of cache.old)
-        (rows_of cache.new) evictions.old evictions.new }
+    ensures evicted { HasEvicted E.tells (pressure memory.old.pages memory.old.lent (group_count cache.old.region))
+        (rows_of cache.old) (rows_of cache.new) evictions.old evictions.new }
     ensures fewer { (rows_of cache.new ≡ rows_of cache.old) ⊎ (length (rows_of cache.new) < cache.new.room) }
 
     // Memory and cache go together, nothing was lent.
-    ensures consistent { IsConsistent memory.old.owner memory.old.pages 0 memory.new cache.new.region }
+    ensures consistent { IsConsistent memory.old.owner memory.old.pages (group_count cache.old.region) memory.new cache.new.region }
+    ensures unguarded { IsUnguarded cache.new.region }
     ensures taken { TakesHome memory.old memory.new }
     ensures tables { cache.new.room ≡ cache.old.room }
 {
-    while !make_room(memory, cache, size) {
+    while !make_room(memory, cache, group, size) {
         evict(cache, evictions);
     }
 }
@@ -57,8 +63,9 @@ pub(crate) fn evict<E: Evictions>(cache: &mut RowCache, evictions: &mut E)
     ensures rows { rows_of cache.new ≡ take (length (rows_of cache.old) - 1) (rows_of cache.old) }
     ensures one_less { length (rows_of cache.new) + 1 ≡ length (rows_of cache.old) }
     ensures few { length (rows_of cache.new) < cache.new.room }
-    ensures consistent { (shard pages guards : ℕ) (memory : MemoryState) → IsConsistent shard pages guards memory cache.old.region
-        → IsConsistent shard pages guards memory cache.new.region }
+    ensures consistent { (shard pages regions : ℕ) (memory : MemoryState) → IsConsistent shard pages regions memory cache.old.region
+        → IsConsistent shard pages regions memory cache.new.region }
+    ensures guards { SameGuards cache.old.region cache.new.region }
     ensures tables { cache.new.room ≡ cache.old.room }
 {
     let Some(tag) = cache.evict_last() else {

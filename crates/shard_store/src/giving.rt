@@ -7,12 +7,12 @@ ghost use Rattle.shard_memory.specs.Shards.{MemoryState, IsCrowded};
 ghost use Rattle.shard_memory.specs.Tickets.{HasIdle, tickets_out};
 ghost use Rattle.shard_memory.specs.Refusals.{RefusesFor};
 ghost use Rattle.regions.specs.Segments.{RegionState};
-ghost use Rattle.regions.specs.Shapes.{free_count, held_count};
-ghost use Rattle.row_cache.specs.Rows.{rows_of, Stay};
+ghost use Rattle.regions.specs.Shapes.{free_count, group_count, held_count, IsUnguarded};
+ghost use Rattle.row_cache.specs.Rows.{rows_of, Keeps};
 ghost use Rattle.shard_store.specs.Works.{floor_of};
-ghost use Rattle.shard_store.specs.Stores.{IsSameStore, RowsStay};
+ghost use Rattle.shard_store.specs.Stores.{IsSameStore, RowsStay, SameGuards};
 ghost use Rattle.shard_store.specs.Lending.{RefusesNow, GivesNow, HandsOneBack, LendsBlock};
-ghost use Rattle.shard_store.specs.inside.Consistent.{IsConsistent, IsWhole, store_of};
+ghost use Rattle.shard_store.specs.inside.Consistent.{IsConsistent, IsWhole, LeavesRows, store_of};
 ghost use Rattle.shard_store.specs.inside.Evicted.{HasEvicted};
 ghost use Rattle.shard_store.specs.inside.Homecoming.{TakesHome, TakesOnce, GivesAfter, HandsBack, RefusesAfter};
 
@@ -38,18 +38,20 @@ pub(crate) fn find_block<'f, E: Evictions>(
     requires idle { HasIdle memory.old.lent share }
 
     // Unguarded, and each row may be told.
-    requires consistent { IsConsistent memory.old.owner memory.old.pages 0 memory.old cache.old.region }
+    requires unguarded { IsUnguarded cache.old.region }
+    requires consistent { IsConsistent memory.old.owner memory.old.pages (group_count cache.old.region) memory.old cache.old.region }
     requires told { length (rows_of cache.old) ≤ E.room evictions.old }
 
     // A block is lent, others may come home.
     ensures given { GivesAfter share size memory.old memory.new result }
 
     // Which rows went, and were told.
-    ensures evicted { HasEvicted E.tells (floor_of memory.old.pages memory.old.lent) (rows_of cache.old)
-        (rows_of cache.new) evictions.old evictions.new }
+    ensures evicted { HasEvicted E.tells (floor_of memory.old.pages memory.old.lent (group_count cache.old.region))
+        (rows_of cache.old) (rows_of cache.new) evictions.old evictions.new }
 
     // Memory and cache go together still.
-    ensures consistent { IsConsistent memory.old.owner memory.old.pages 0 memory.new cache.new.region }
+    ensures consistent { IsConsistent memory.old.owner memory.old.pages (group_count cache.old.region) memory.new cache.new.region }
+    ensures unguarded { IsUnguarded cache.new.region }
     ensures tables { cache.new.room ≡ cache.old.room }
 {
     let mut found = give_unevicted(memory, cache, size, share);
@@ -73,17 +75,20 @@ fn give_unevicted<'f>(
     requires idle { HasIdle memory.old.lent share }
 
     // No guard stands.
-    requires consistent { IsConsistent memory.old.owner memory.old.pages 0 memory.old cache.old.region }
+    requires unguarded { IsUnguarded cache.old.region }
+    requires consistent { IsConsistent memory.old.owner memory.old.pages (group_count cache.old.region) memory.old cache.old.region }
 
     // A block is lent, others may come home.
     ensures given { IfSome result (GivesAfter share size memory.old memory.new) }
 
     // Else more is live than the floor.
     ensures taken { IfNone result (TakesHome memory.old memory.new) }
-    ensures pressed { IfNone result (floor_of memory.old.pages memory.old.lent < live (rows_of cache.new)) }
+    ensures pressed { IfNone result
+        (floor_of memory.old.pages memory.old.lent (group_count cache.old.region) < live (rows_of cache.new)) }
 
     // No row went, whatever moved.
-    ensures consistent { IsConsistent memory.old.owner memory.old.pages 0 memory.new cache.new.region }
+    ensures consistent { IsConsistent memory.old.owner memory.old.pages (group_count cache.old.region) memory.new cache.new.region }
+    ensures unguarded { IsUnguarded cache.new.region }
     ensures rows { rows_of cache.new ≡ rows_of cache.old }
     ensures tables { cache.new.room ≡ cache.old.room }
 {
@@ -106,17 +111,20 @@ fn give_compacted<'f>(
     requires idle { HasIdle memory.old.lent share }
 
     // No guard stands.
-    requires consistent { IsConsistent memory.old.owner memory.old.pages 0 memory.old cache.old.region }
+    requires unguarded { IsUnguarded cache.old.region }
+    requires consistent { IsConsistent memory.old.owner memory.old.pages (group_count cache.old.region) memory.old cache.old.region }
 
     // A block is lent, others may come home.
     ensures given { IfSome result (GivesAfter share size memory.old memory.new) }
 
     // Else nothing is left to compact.
     ensures unchanged { IfNone result (memory.new ≡ memory.old) }
-    ensures most { IfNone result ((held_count cache.new.region - 2) * (dense + 1) ≤ live (rows_of cache.new)) }
+    ensures most { IfNone result
+        ((held_count cache.new.region - 1 - group_count cache.new.region) * (dense + 1) ≤ live (rows_of cache.new)) }
 
     // No row went, whatever moved.
-    ensures consistent { IsConsistent memory.old.owner memory.old.pages 0 memory.new cache.new.region }
+    ensures consistent { IsConsistent memory.old.owner memory.old.pages (group_count cache.old.region) memory.new cache.new.region }
+    ensures unguarded { IsUnguarded cache.new.region }
     ensures rows { rows_of cache.new ≡ rows_of cache.old }
     ensures tables { cache.new.room ≡ cache.old.room }
 {
@@ -170,7 +178,7 @@ fn give_or_refuse<'f>(
 ) -> Result<ForeignBlock<'f>, GiveRefusal>
     // Of any size, guarded or not.
     requires some { 1 ≤ size }
-    requires consistent { (guards : ℕ) × IsConsistent memory.old.owner memory.old.pages guards memory.old cache.old.region }
+    requires consistent { (regions : ℕ) × IsConsistent memory.old.owner memory.old.pages regions memory.old cache.old.region }
 
     // What is lent, and how room was made.
     ensures given { IfOk result (GivesAfter share size memory.old memory.new) }
@@ -182,11 +190,11 @@ fn give_or_refuse<'f>(
     ensures kept { IfErr result (λ _. cache.new ≡ cache.old) }
 
     // No row moves or goes.
-    ensures consistent { (shard pages guards : ℕ) → IsConsistent shard pages guards memory.old cache.old.region
-        → IsConsistent shard pages guards memory.new cache.new.region }
-    ensures stay { Stay cache.old.region cache.new.region }
+    ensures guards { SameGuards cache.old.region cache.new.region }
+    ensures consistent { (shard pages regions : ℕ) → IsConsistent shard pages regions memory.old cache.old.region
+        → IsConsistent shard pages regions memory.new cache.new.region }
+    ensures keeps { Keeps cache.old cache.new }
     ensures rows { rows_of cache.new ≡ rows_of cache.old }
-    ensures tables { cache.new.room ≡ cache.old.room }
 {
     match give_at_once(memory, size, share) {
         Ok(block) => Ok(block),
@@ -210,7 +218,7 @@ fn give_uncompacted<'f>(
     requires idle { HasIdle memory.old.lent share }
 
     // Guards may stand.
-    requires consistent { (guards : ℕ) × IsConsistent memory.old.owner memory.old.pages guards memory.old cache.old.region }
+    requires consistent { (regions : ℕ) × IsConsistent memory.old.owner memory.old.pages regions memory.old cache.old.region }
 
     // A block is lent, others may come home.
     ensures given { IfSome result (GivesAfter share size memory.old memory.new) }
@@ -219,10 +227,7 @@ fn give_uncompacted<'f>(
     ensures none { IfNone result (TakesHome memory.old memory.new × IsCrowded memory.new) }
 
     // No row went.
-    ensures consistent { (shard pages guards : ℕ) → IsConsistent shard pages guards memory.old cache.old.region
-        → IsConsistent shard pages guards memory.new cache.new.region }
-    ensures rows { rows_of cache.new ≡ rows_of cache.old }
-    ensures tables { cache.new.room ≡ cache.old.room }
+    ensures leaves { LeavesRows memory.old memory.new cache.old cache.new }
 {
     match give_at_once(memory, size, share) {
         Ok(block) => Some(block),
@@ -243,7 +248,7 @@ fn give_squeezed<'f>(
     requires idle { HasIdle memory.old.lent share }
 
     // Guards may stand.
-    requires consistent { (guards : ℕ) × IsConsistent memory.old.owner memory.old.pages guards memory.old cache.old.region }
+    requires consistent { (regions : ℕ) × IsConsistent memory.old.owner memory.old.pages regions memory.old cache.old.region }
 
     // What is lent, and how room was made.
     ensures given { IfSome result (GivesAfter share size memory.old memory.new) }
@@ -256,11 +261,7 @@ fn give_squeezed<'f>(
     ensures unchanged { IfNone result (cache.new ≡ cache.old) }
 
     // No row moves or goes.
-    ensures consistent { (shard pages guards : ℕ) → IsConsistent shard pages guards memory.old cache.old.region
-        → IsConsistent shard pages guards memory.new cache.new.region }
-    ensures stay { Stay cache.old.region cache.new.region }
-    ensures rows { rows_of cache.new ≡ rows_of cache.old }
-    ensures tables { cache.new.room ≡ cache.old.room }
+    ensures leaves { LeavesRows memory.old memory.new cache.old cache.new }
 {
     match give_trimmed(memory, size, share) {
         Some(block) => Some(block),
@@ -289,8 +290,8 @@ fn give_trimmed<'f>(
     ensures none { IfNone result (LacksBlock memory.new.room size × IsTrimmed memory.new.room × IsCrowded memory.new) }
 
     // Memory and cache go together still.
-    ensures consistent { (shard pages guards : ℕ) (region : RegionState) → IsConsistent shard pages guards memory.old region
-        → IsConsistent shard pages guards memory.new region }
+    ensures consistent { (shard pages regions : ℕ) (region : RegionState) → IsConsistent shard pages regions memory.old region
+        → IsConsistent shard pages regions memory.new region }
 {
     memory.take_back();
     memory.trim();
@@ -314,7 +315,7 @@ fn give_freed<'f>(
     requires idle { HasIdle memory.old.lent share }
 
     // Guards may stand.
-    requires consistent { (guards : ℕ) × IsConsistent memory.old.owner memory.old.pages guards memory.old cache.old.region }
+    requires consistent { (regions : ℕ) × IsConsistent memory.old.owner memory.old.pages regions memory.old cache.old.region }
 
     // A segment goes for the block.
     ensures given { IfSome result (GivesAfter share size memory.old memory.new) }
@@ -327,11 +328,7 @@ fn give_freed<'f>(
     ensures unchanged { IfNone result ((memory.new ≡ memory.old) × (cache.new ≡ cache.old)) }
 
     // No row moves or goes.
-    ensures consistent { (shard pages guards : ℕ) → IsConsistent shard pages guards memory.old cache.old.region
-        → IsConsistent shard pages guards memory.new cache.new.region }
-    ensures stay { Stay cache.old.region cache.new.region }
-    ensures rows { rows_of cache.new ≡ rows_of cache.old }
-    ensures tables { cache.new.room ≡ cache.old.room }
+    ensures leaves { LeavesRows memory.old memory.new cache.old cache.new }
 {
     if !give_free_back(memory, cache) {
         return None;
@@ -348,8 +345,8 @@ fn give_surely<'f>(memory: &mut ShardMemory<'f>, size: u32, share: Share) -> For
     ensures given { GivesAfter share size memory.old memory.new result }
     ensures out { tickets_out memory.new.lent ≡ tickets_out memory.old.lent + 1 }
     ensures looks { memory.new.take_wholes ≡ memory.old.take_wholes }
-    ensures consistent { (shard pages guards : ℕ) (region : RegionState) → IsConsistent shard pages guards memory.old region
-        → IsConsistent shard pages guards memory.new region }
+    ensures consistent { (shard pages regions : ℕ) (region : RegionState) → IsConsistent shard pages regions memory.old region
+        → IsConsistent shard pages regions memory.new region }
 {
     let Ok(block) = give_at_once(memory, size, share) else {
         unreachable!()
@@ -377,8 +374,8 @@ fn give_at_once<'f>(
     ensures unchanged { IfErr result (λ _. memory.new ≡ memory.old) }
 
     // Memory and cache go together still.
-    ensures consistent { (shard pages guards : ℕ) (region : RegionState) → IsConsistent shard pages guards memory.old region
-        → IsConsistent shard pages guards memory.new region }
+    ensures consistent { (shard pages regions : ℕ) (region : RegionState) → IsConsistent shard pages regions memory.old region
+        → IsConsistent shard pages regions memory.new region }
 {
     let block = memory.give_uncleared(size, share)?;
     Ok(block)

@@ -3,6 +3,7 @@ ghost use Rattle.std.specs.Prelude.{◌≡◌, ◌⊎◌, ◌*◌, ◌-◌, ◌^
 ghost use Rattle.layout.specs.Sizes as sizes;
 ghost use Rattle.rows.specs.Row.{live};
 ghost use Rattle.rows.specs.Apply as apply;
+ghost use Rattle.rows.specs.Key.{in_table};
 ghost use Rattle.rows.specs.KeyBody.{AreKeys};
 ghost use Rattle.rows.specs.Spelled.{IsKey};
 ghost use Rattle.foreign_list.specs.OwnerSeats.{IsAtRest};
@@ -35,7 +36,7 @@ pub struct ShardStore<'f> {
 
 impl<'f> Model for ShardStore<'f> {
     ghost use Rattle.std.specs.Coded.{codes};
-    ghost use Rattle.regions.specs.Shapes.{guards_of};
+    ghost use Rattle.regions.specs.Shapes.{group_count};
     ghost use Rattle.shard_memory.specs.Room.{room_code};
     ghost use Rattle.shard_store.specs.Stores.{StoreState};
     ghost use Rattle.shard_store.specs.inside.Consistent.{IsConsistent, store_of};
@@ -46,12 +47,13 @@ impl<'f> Model for ShardStore<'f> {
 
     ghost view = { λ s. store_of s.memory s.cache };
 
-    ghost invariant = { λ s. IsConsistent s.memory.owner s.memory.pages (guards_of s.cache.region 0) s.memory s.cache.region };
+    ghost invariant = { λ s. IsConsistent s.memory.owner s.memory.pages (group_count s.cache.region) s.memory s.cache.region };
 }
 
 impl<'f> ShardStore<'f> {
-    /// The store of a shard of so many pages, with room for so many rows, fewer than 4,294,967,295, and none in it,
-    /// whose lent blocks come home over this list. Two segments go to the cache, one of them active.
+    /// The store of a shard of so many pages, with room for so many rows, fewer than 4,294,967,295, and none in it, whose lent
+    /// blocks come home over this list. Its segments have 1 or 8 groups, `regions`: with 8 the rows of each table stand in segments
+    /// of their own, and the pages are at least 1,536. Two segments go to the cache, one of them active, in group 0.
     ///
     /// # Errors
     /// Want of memory; then the seat is handed back. No other call takes memory.
@@ -60,12 +62,14 @@ impl<'f> ShardStore<'f> {
         shard: u32,
         pages: u32,
         rows: u32,
+        regions: u32,
         home: &'f Foreign,
         seat: OwnerSeat,
     ) -> Result<ShardStore<'f>, OwnerSeat>
         // What it is opened with.
         requires pages { sizes.ArePages pages }
         requires rows { rows < 2 ^ 32 - 1 }
+        requires regions { (regions ≡ 1) ⊎ ((regions ≡ sizes.tables) × (sizes.fewest_table_pages ≤ pages)) }
         requires owner { home.now.owner ≡ shard }
         requires seat { IsAtRest home.now seat }
 
@@ -74,6 +78,7 @@ impl<'f> ShardStore<'f> {
 
         // It is this shard's, and empty.
         ensures numbers { IfOk result (λ store. (store.shard ≡ shard) × (store.pages ≡ pages) × (store.room ≡ rows)) }
+        ensures regions { IfOk result (λ store. store.regions ≡ regions) }
         ensures rows { IfOk result (λ store. store.rows ≡ []) }
         ensures segments { IfOk result (λ store. HoldsTwo store.region) }
 
@@ -83,7 +88,7 @@ impl<'f> ShardStore<'f> {
         ensures idle { IfOk result (λ store. tickets_out store.lent ≡ 0) }
         ensures unguarded { IfOk result IsUnguarded }
     {
-        let Ok(mut cache) = RowCache::new(alloc, rows, pages / SEGMENT_PAGES) else {
+        let Ok(mut cache) = RowCache::new(alloc, rows, pages / SEGMENT_PAGES, regions) else {
             return Err(seat);
         };
         let mut memory = ShardMemory::open(alloc, shard, pages, home, seat)?;
@@ -91,27 +96,29 @@ impl<'f> ShardStore<'f> {
         Ok(ShardStore { memory, cache })
     }
 
-    /// Stores a row in front of the others; no other row has its key afterwards. It always stores: where no room can be made
-    /// otherwise, the rows that were used longest ago go, one by one, and each is told.
+    /// Stores a row of a table, 0 to 7, in front of the others; no other row has its key in the table afterwards. It always stores:
+    /// where no room can be made otherwise, the rows that were used longest ago go, one by one, of whatever table, and each is told.
     pub fn put<E: Evictions>(
         &mut self,
+        table: u8,
         key: &[u8],
         value: &[u8],
         tag: u32,
         evictions: &mut E,
     ) -> Put
         // A row of any size, with no guard standing.
+        requires table { table < sizes.tables }
         requires key { IsKey key.now }
         requires value { length value.now ≤ sizes.greatest_value }
         requires unguarded { IsUnguarded self.old }
 
         // There is room for it, and each other row may be told.
-        requires room { (apply.has key.now self.old.rows ≡ true) ⊎ (length self.old.rows < self.old.room) }
+        requires room { (apply.has (in_table table key.now) self.old.rows ≡ true) ⊎ (length self.old.rows < self.old.room) }
         requires told { length self.old.rows ≤ E.room evictions.old }
 
         // What it does, answers and tells.
-        ensures stored { DoesAbove E.tells (pressure self.old.pages self.old.lent) (apply.put key.now value.now tag) (reply_of result)
-            self.old self.new evictions.old evictions.new }
+        ensures stored { DoesAbove E.tells (pressure self.old.pages self.old.lent self.old.regions)
+            (apply.put (in_table table key.now) value.now tag) (reply_of result) self.old self.new evictions.old evictions.new }
 
         // Nothing is lent.
         ensures taken { TakesBack self.old self.new }
@@ -119,6 +126,7 @@ impl<'f> ShardStore<'f> {
         put_evicting(
             &mut self.memory,
             &mut self.cache,
+            table,
             key,
             value,
             tag,
@@ -126,41 +134,43 @@ impl<'f> ShardStore<'f> {
         )
     }
 
-    /// Removes the row of a key. False where no row has the key.
-    pub fn erase(&mut self, key: &[u8]) -> bool
-        requires { IsUnguarded self.old }
+    /// Removes the row of a table's key. False where no row has the key there.
+    pub fn erase(&mut self, table: u8, key: &[u8]) -> bool
+        requires table { table < sizes.tables }
+        requires unguarded { IsUnguarded self.old }
 
         // No row has the key then.
-        ensures found { result ≡ apply.has key.now self.old.rows }
-        ensures rows { self.new.rows ≡ apply.without key.now self.old.rows }
+        ensures found { result ≡ apply.has (in_table table key.now) self.old.rows }
+        ensures rows { self.new.rows ≡ apply.without (in_table table key.now) self.old.rows }
 
         // Nothing else has changed.
         ensures same { IsSameStore self.old self.new }
         ensures tickets { (self.new.lent ≡ self.old.lent) × (self.new.lends ≡ self.old.lends) × (self.new.backs ≡ self.old.backs)
             × (self.new.looks ≡ self.old.looks) }
     {
-        self.cache.erase(key)
+        self.cache.erase(table, key)
     }
 
-    /// Writes the first `count` keys at or above `from`, in the order of their bytes, to the front of `into`: each behind its
-    /// length in two bytes, low byte first. The bytes behind them stay. `into` has room for so many keys of the greatest length.
-    pub fn scan(&mut self, from: &[u8], count: u32, into: &mut [u8]) -> Scanned
+    /// Writes the first `count` keys of a table at or above `from`, in the order of their bytes, to the front of `into`: each behind
+    /// its length in two bytes, low byte first. The bytes behind them stay. `into` has room for so many keys of the greatest length.
+    pub fn scan(&mut self, table: u8, from: &[u8], count: u32, into: &mut [u8]) -> Scanned
         // Some keys, with no guard standing.
+        requires table { table < sizes.tables }
         requires some { 1 ≤ count }
         requires most { count ≤ sizes.most_keys }
         requires unguarded { IsUnguarded self.old }
         requires room { sizes.key_room * count ≤ length into.old }
 
         // What it writes, and where.
-        ensures count { result.keys ≡ length (apply.scanned from.now count self.old.rows) }
-        ensures keys { AreKeys (take result.bytes into.new) (apply.scanned from.now count self.old.rows) }
+        ensures count { result.keys ≡ length (apply.scanned (in_table table from.now) count self.old.rows) }
+        ensures keys { AreKeys (take result.bytes into.new) (apply.scanned (in_table table from.now) count self.old.rows) }
         ensures within { result.bytes ≤ length into.old }
         ensures behind { drop result.bytes into.new ≡ drop result.bytes into.old }
 
         // Else nothing changes.
         ensures unchanged { self.new ≡ self.old }
     {
-        self.cache.scan(from, count, into)
+        self.cache.scan(table, from, count, into)
     }
 
     /// How many rows there are.

@@ -1,1 +1,2 @@
+mod Guarded
 mod TwoEnds

@@ -1,22 +1,24 @@
-//! Puts, look-ups and scans on one shard, and the rows that go where there is no room for a put.
+//! Puts, look-ups and scans on one shard, of one table and of several, and the rows that go where there is no room for a put.
 mod drawn;
 mod drawn_store;
 mod lent;
 mod list;
 mod passed;
 mod steps;
+mod tables;
 mod threads;
 mod told;
 mod used;
 
-ghost use Rattle.std.specs.Prelude.{◌≡◌};
+ghost use Rattle.std.specs.Prelude.{◌≡◌, ◌⊎◌, ◌<◌, ◌≤◌};
+ghost use Rattle.layout.specs.Sizes as sizes;
 ghost use Rattle.foreign_list.specs.OwnerSeats.{IsAtRest};
-ghost use Rattle.regions.specs.Shapes.{guards_of};
+ghost use Rattle.shard_store.specs.Stores.{IsUnguarded};
 
 use self::steps::{Step, done};
 use cache_model::Entry;
 use foreign_list::{Foreign, ForeignBlock, OwnerSeat};
-use layout::{GREATEST_KEY, GREATEST_VALUE};
+use layout::{FEWEST_TABLE_PAGES, GREATEST_KEY, GREATEST_VALUE, TABLES};
 use run_log::Journal;
 use shard_store::{Put, ShardStore, Share};
 use std::alloc::{AllocError, Global};
@@ -48,26 +50,65 @@ fn value_in(bytes: &[u8], found: Option<u32>) -> Option<&[u8]> {
     }
 }
 
-// A store of 1,280 pages, and the journal that is told of the rows that go. A call for which there is no room changes nothing.
+// A store, the journal that is told of the rows that go, and the table of which the next calls are. A call for which there is no
+// room changes nothing.
 #[derive(Drop)]
 struct Trial<'f> {
     store: ShardStore<'f>,
     journal: Journal,
+    table: u8,
     ghost room: { store.room ≡ 512 },
-    ghost unguarded: { guards_of store.region 0 ≡ 0 },
+    ghost unguarded: { IsUnguarded store },
+    ghost below: { table < sizes.tables },
 }
 
 impl<'f> Trial<'f> {
-    // The seat is handed back where there is no memory.
+    // Of 1,280 pages, the segments in one group.
     fn new(alloc: Global, home: &'f Foreign, seat: OwnerSeat) -> Result<Trial<'f>, Fail>
         requires owner { home.now.owner ≡ 0 }
         requires seat { IsAtRest home.now seat }
     {
+        Trial::open(alloc, 1280, 1, home, seat)
+    }
+
+    // Of 1,536 pages, the segments in a group for each table.
+    fn in_tables(alloc: Global, home: &'f Foreign, seat: OwnerSeat) -> Result<Trial<'f>, Fail>
+        requires owner { home.now.owner ≡ 0 }
+        requires seat { IsAtRest home.now seat }
+    {
+        Trial::open(alloc, FEWEST_TABLE_PAGES, TABLES, home, seat)
+    }
+
+    fn open(
+        alloc: Global,
+        pages: u32,
+        regions: u32,
+        home: &'f Foreign,
+        seat: OwnerSeat,
+    ) -> Result<Trial<'f>, Fail>
+        requires pages { sizes.ArePages pages }
+        requires regions { (regions ≡ 1) ⊎ ((regions ≡ sizes.tables) × (sizes.fewest_table_pages ≤ pages)) }
+        requires owner { home.now.owner ≡ 0 }
+        requires seat { IsAtRest home.now seat }
+    {
         let journal = Journal::new(alloc, ENTRIES)?;
-        let Ok(store) = ShardStore::open(alloc, 0, 1280, ROWS, home, seat) else {
+        let Ok(store) = ShardStore::open(alloc, 0, pages, ROWS, regions, home, seat) else {
             return Err(AllocError.into());
         };
-        Ok(Trial { store, journal })
+        Ok(Trial {
+            store,
+            journal,
+            table: 0,
+        })
+    }
+
+    // The next calls are of this table. False where there is none of this number.
+    fn turn_to(&mut self, table: u8) -> bool {
+        if table as u32 >= TABLES {
+            return false;
+        }
+        self.table = table;
+        true
     }
 
     // None where the row is none, or where its evictions may have no room in the journal.
@@ -78,16 +119,19 @@ impl<'f> Trial<'f> {
         if self.store.rows() >= ROWS || self.store.rows() > self.journal.spare() {
             return None;
         }
-        Some(self.store.put(key, value, tag, &mut self.journal))
+        Some(
+            self.store
+                .put(self.table, key, value, tag, &mut self.journal),
+        )
     }
 
     // Whether the key has this value, or none.
     fn has(&mut self, key: &[u8], value: Option<&[u8]>) -> bool {
-        self.store.get(key) == value
+        self.store.get(self.table, key) == value
     }
 
     fn erase(&mut self, key: &[u8]) -> bool {
-        self.store.erase(key)
+        self.store.erase(self.table, key)
     }
 
     // Whether the first keys from one on are spelled like this.
@@ -96,7 +140,7 @@ impl<'f> Trial<'f> {
             return false;
         }
         let mut into = [0; 1032];
-        let scanned = self.store.scan(key, count, &mut into);
+        let scanned = self.store.scan(self.table, key, count, &mut into);
         &into[..scanned.bytes as usize] == body
     }
 
@@ -145,7 +189,7 @@ impl<'f> Trial<'f> {
         }
         Some(
             self.store
-                .lend_value(key, HEAD, Share::Reply, &mut self.journal),
+                .lend_value(self.table, key, HEAD, Share::Reply, &mut self.journal),
         )
     }
 

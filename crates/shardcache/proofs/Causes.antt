@@ -2,7 +2,6 @@
 use Rattle.std.proofs.Common.{◌≡◌, ℕ, ◌≤◌, true, false, List, ◌++◌, length, Option, Some, None, Result, Ok, Err, is_ok, arith, refl, sym, ap, subst, inl, inr, ◌⊎◌, ◌∙◌, append-nil}
 use Rattle.std.specs.Io.KnownBytes.{Consumes, IsAtEnd}
 use Rattle.std.proofs.lemmas.List.{length-append}
-use Rattle.trace_text.specs.Reading.{Refusal, TooLong, AtLine}
 use Rattle.trace_text.specs.Trace.{Trace}
 use Rattle.value_script.specs.Order.{Order}
 use Rattle.value_script.specs.Reading.{Refusal as ScriptRefusal, script_of}
@@ -15,8 +14,9 @@ use Rattle.shardcache.specs.declared.status.Status.TheVariants as status
 use Rattle.settings.specs.Settings.{Settings, settings}
 use Rattle.shardcache.specs.Meanings.{Does, IsReadOut, IsScriptReadOut, ReadsAs, Refuses, is_accepted, meaning_of, script_read, trace_read}
 use Rattle.shardcache.specs.Table.{FollowsTable}
-use Rattle.shardcache.specs.TraceFor.{trace_for}
-use Rattle.shardcache.proofs.TableRows.{is_too_long, is_too_long_script}
+use Rattle.shardcache.specs.TraceFor.{NotRun, TooLong, AtLine, trace_for}
+use Rattle.shardcache.proofs.Fitting.{too_long_for}
+use Rattle.shardcache.proofs.TableRows.{is_too_long_script}
 
 all_taken : (bytes taken : List ℕ) (left : Option (List ℕ)) → Consumes (Some bytes) left taken → IsAtEnd left → taken ≡ bytes
 all_taken bytes taken None took ended = absurd took
@@ -27,14 +27,14 @@ few_taken bytes taken None took = absurd took
 few_taken bytes taken (Some rest) took = let all = ap length took in let parts = length-append taken rest in omega (arith, all, parts)
 
 -- what was read means what the whole source does
-read_same : (found : Settings) (meaning : Result Trace Refusal) (bytes taken : List ℕ) (left : Option (List ℕ)) → Consumes (Some bytes) left taken → ReadsAs trace_read found taken left meaning
+read_same : (found : Settings) (meaning : Result Trace NotRun) (bytes taken : List ℕ) (left : Option (List ℕ)) → Consumes (Some bytes) left taken → ReadsAs trace_read found taken left meaning
     → trace_for found bytes ≡ meaning
 read_same found meaning bytes taken left took reads = go meaning reads.is reads.out
   where
-    go : (m : Result Trace Refusal) → trace_for found taken ≡ m → IsReadOut m taken left → trace_for found bytes ≡ m
+    go : (m : Result Trace NotRun) → trace_for found taken ≡ m → IsReadOut m taken left → trace_for found bytes ≡ m
     go (Ok trace) is out = ap (trace_for found) (sym (all_taken bytes taken left took out)) ∙ is
-    go (Err TooLong) is out = let few = few_taken bytes taken left took in is_too_long bytes found.shards (omega (arith, few, out))
-    go (Err (AtLine number cause)) is out = ap (trace_for found) (sym (all_taken bytes taken left took out)) ∙ is
+    go (Err TooLong) is out = let few = few_taken bytes taken left took in too_long_for found bytes (omega (arith, few, out))
+    go (Err (AtLine number fault)) is out = ap (trace_for found) (sym (all_taken bytes taken left took out)) ∙ is
 
 script_same : (found : Settings) (meaning : Result (List Order) ScriptRefusal) (bytes taken : List ℕ) (left : Option (List ℕ)) → Consumes (Some bytes) left taken → ReadsAs script_read found taken left meaning
     → script_of bytes ≡ meaning

@@ -1,4 +1,5 @@
 pub mod Causes
+pub mod Fitting
 pub mod Printed
 pub mod Reported
 pub mod TableRows

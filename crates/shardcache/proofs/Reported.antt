@@ -12,8 +12,7 @@ use Rattle.cache_model.specs.declared.entry.Entry.{Entry}
 use Rattle.rows.specs.declared.reply_kind.ReplyKind.{ReplyKind}
 use Rattle.cache_model.specs.Answer.{answer}
 use Rattle.rows.specs.Apply.{Reply}
-use Rattle.rows.specs.Holds.{ReplyHolds}
-use Rattle.cache_model.specs.Holds.{PutsHold}
+use Rattle.cache_model.specs.Holds.{PutBytesHold, ReplyBytesHold}
 use Rattle.cache_model.specs.Logged.{AreLogged}
 use Rattle.cache_model.specs.Summary.{IsSummaryOf, summary}
 use Rattle.cache_model.specs.Report.{IsReportOf, Occupancy, answers, journal_text, occupancy, report, report_of, text_lines}
@@ -26,8 +25,8 @@ use Rattle.shardcache.proofs.Unbroken.{key-unbroken, value-unbroken}
 
 -- the laws of answers and of reports, as their functions promise them
 pub record ReportLaws : Type 0 where
-  pub holds : (on_key on_value : List ℕ → Bool) (trace : Trace) (n pages : ℕ) (journals : List (List Entry)) (operation : Operation) (reply : Reply)
-      → PutsHold on_key on_value trace → answer trace n pages journals operation ≡ Some reply → ReplyHolds on_key on_value reply
+  pub holds : (on_bytes on_value : List ℕ → Bool) (trace : Trace) (n pages : ℕ) (journals : List (List Entry)) (operation : Operation) (reply : Reply)
+      → PutBytesHold on_bytes on_value trace → answer trace n pages journals operation ≡ Some reply → ReplyBytesHold on_bytes on_value reply
   pub lines : (answers : List (ℕ × Reply)) (journals : List (List Entry)) (occupancies : List Occupancy) (s : ℕ) → All (λ answer. IsUnbroken answer.1) answers
       → s < length journals
       → slice_get (text_lines (report_of answers journals occupancies)) (length answers + s) ≡ option_map (λ journal. journal_text (s, journal)) (slice_get journals s)
@@ -46,9 +45,9 @@ all-unbroken answer_of (operation ∷ operations) unbroken = go (all-unbroken an
     go rest None is = rw is rest
     go rest (Some reply) is = rw is (unbroken operation reply is, rest)
 
-puts-hold : (trace : Trace) → All IsWellFormed trace.operations → PutsHold is_unbroken is_unbroken trace
+puts-hold : (trace : Trace) → All IsWellFormed trace.operations → PutBytesHold is_unbroken is_unbroken trace
 puts-hold trace formed = λ i d within is.
-    (key-unbroken (get_or trace.operations i d).key (formed i d within).key, value-unbroken (get_or trace.operations i d).value (formed i d within).value)
+    (key-unbroken (get_or trace.operations i d).key.bytes (formed i d within).key, value-unbroken (get_or trace.operations i d).value (formed i d within).value)
 
 -- the report of the journals is legal
 pub reported : ReportLaws → (trace : Trace) (n pages : ℕ) (ran : RanState) → All IsWellFormed trace.operations → IsFinished trace n pages ran

@@ -5,7 +5,6 @@ use Rattle.std.specs.Io.KnownBytes.{Appends, Consumes, IsAtEnd}
 use Rattle.std.proofs.lemmas.Bool.Decides.{nat_tests}
 use Rattle.std.proofs.lemmas.List.{take-append-drop}
 use Rattle.layout.specs.Sizes.{most_trace_bytes}
-use Rattle.trace_text.specs.Reading.{TooLong, AtLine, trace_of}
 use Rattle.trace_text.specs.Trace.{Trace}
 use Rattle.made_trace.specs.Made.{made}
 use Rattle.value_script.specs.Order.{Order}
@@ -19,8 +18,9 @@ use Rattle.shardcache.specs.declared.status.Status.TheVariants as status
 use Rattle.settings.specs.Settings.{Settings, settings}
 use Rattle.shardcache.specs.Meanings.{Does, Meaning, Reading, meaning_of, script_read, trace_made, trace_read}
 use Rattle.shardcache.specs.Table.{FollowsTable, Writes, WritesAll}
-use Rattle.shardcache.specs.TraceFor.{refusal_text, script_refusal_text, trace_for}
+use Rattle.shardcache.specs.TraceFor.{TooLong, AtLine, refusal_text, script_refusal_text, trace_for}
 use Rattle.shardcache.specs.inside.Ending.{EndsCall, EndsInput, EndsOutput, EndsUnread, EndsWith, RefusesScript, RefusesTrace, Stops, Takes}
+use Rattle.shardcache.proofs.Fitting.{too_long_for}
 
 -- ---- where nothing moved
 
@@ -146,9 +146,6 @@ ends_stopped m failed found answered ended ran before left before_sink after_sin
 
 -- ---- what is too long
 
-pub is_too_long : (bytes : List ℕ) (n : ℕ) → most_trace_bytes < length bytes → trace_of bytes n ≡ Err TooLong
-is_too_long bytes n long = let test : ltb most_trace_bytes (length bytes) ≡ true = grind (arith, nat_tests) in rw test refl
-
 pub is_too_long_script : (bytes : List ℕ) → most_trace_bytes < length bytes → script_of bytes ≡ Err script_refusal.TooLong
 is_too_long_script bytes long = let test : ltb most_trace_bytes (length bytes) ≡ true = grind (arith, nat_tests) in rw test refl
 
@@ -164,10 +161,10 @@ takes_script found before left bytes script took ended is = record { taken = byt
 
 pub stops_trace : (failed : Type 0) (found : Settings) (answered : Status) (before left before_sink after_sink : Option (List ℕ)) (bytes : List ℕ) → Consumes before left bytes
     → IsAtEnd left → RefusesTrace found bytes answered before_sink after_sink → Stops trace_read failed found answered before left before_sink after_sink
-stops_trace failed found answered before left before_sink after_sink bytes took ended (inl (number, cause, is, written)) = record {
+stops_trace failed found answered before left before_sink after_sink bytes took ended (inl (number, fault, is, written)) = record {
   taken = bytes;
   took = took;
-  ending = inl (refusal_text (AtLine number cause), (AtLine number cause, record { is = is; out = ended }, refl), written);
+  ending = inl (refusal_text (AtLine number fault), (AtLine number fault, record { is = is; out = ended }, refl), written);
 }
 stops_trace failed found answered before left before_sink after_sink bytes took ended (inr memory) =
     record { taken = bytes; took = took; ending = inr (inr memory) }
@@ -192,7 +189,7 @@ pub stops_long_trace : (failed : Type 0) (found : Settings) (answered : Status) 
 stops_long_trace failed found answered before left before_sink after_sink taken long took written = record {
   taken = taken;
   took = took;
-  ending = inl (refusal_text TooLong, (TooLong, record { is = is_too_long taken found.shards (omega (arith, long)); out = long }, refl), written);
+  ending = inl (refusal_text TooLong, (TooLong, record { is = too_long_for found taken (omega (arith, long)); out = long }, refl), written);
 }
 
 pub stops_long_script : (failed : Type 0) (found : Settings) (answered : Status) (before left before_sink after_sink : Option (List ℕ)) (taken : List ℕ)
@@ -230,12 +227,12 @@ takes_made found source bytes trace is parsed =
 
 pub stops_made : (failed : Type 0) (found : Settings) (answered : Status) (source before_sink after_sink : Option (List ℕ)) (bytes : List ℕ) → bytes ≡ made found.number found.commands
     → RefusesTrace found bytes answered before_sink after_sink → Stops trace_made failed found answered source source before_sink after_sink
-stops_made failed found answered source before_sink after_sink bytes is (inl (number, cause, refused, written)) = record {
+stops_made failed found answered source before_sink after_sink bytes is (inl (number, fault, refused, written)) = record {
   taken = [];
   took = takes_none source;
   ending = inl (
-    refusal_text (AtLine number cause),
-    (AtLine number cause, record { is = ap (trace_for found) (sym is) ∙ refused; out = refl }, refl),
+    refusal_text (AtLine number fault),
+    (AtLine number fault, record { is = ap (trace_for found) (sym is) ∙ refused; out = refl }, refl),
     written,
   );
 }
@@ -248,5 +245,5 @@ pub stops_long_made : (failed : Type 0) (found : Settings) (answered : Status) (
 stops_long_made failed found answered source before_sink after_sink bytes is long written = record {
   taken = [];
   took = takes_none source;
-  ending = inl (refusal_text TooLong, (TooLong, record { is = ap (trace_for found) (sym is) ∙ is_too_long bytes found.shards long; out = refl }, refl), written);
+  ending = inl (refusal_text TooLong, (TooLong, record { is = ap (trace_for found) (sym is) ∙ too_long_for found bytes long; out = refl }, refl), written);
 }

@@ -2,7 +2,6 @@
 use Rattle.std.specs.Prelude.{◌≡◌, ℕ, ◌+◌, Bool, true, false, List, [], length, Some, None, Result, Ok, Err, is_ok, Option}
 use Rattle.std.specs.Io.KnownBytes.{IsAtEnd}
 use Rattle.layout.specs.Sizes.{most_trace_bytes}
-use Rattle.trace_text.specs.Reading.{Refusal, TooLong, AtLine}
 use Rattle.trace_text.specs.Trace.{Trace}
 use Rattle.cache_model.specs.declared.entry.Entry.{Entry}
 use Rattle.cache_model.specs.Report.{IsReportOf}
@@ -18,15 +17,15 @@ use Rattle.values_mode.specs.Text.{values_text}
 use Rattle.settings.specs.declared.settings.mode.Mode.{Mode}
 use Rattle.settings.specs.declared.settings.mode.Mode.TheVariants.{Run, Sim, Gen, Dirty, Index, Values}
 use Rattle.settings.specs.Settings.{Settings}
-use Rattle.shardcache.specs.TraceFor.{refusal_text, script_refusal_text, trace_for}
+use Rattle.shardcache.specs.TraceFor.{NotRun, TooLong, AtLine, refusal_text, script_refusal_text, trace_for}
 
 -- ---- what is read
 
--- A source is read to its end for a trace, or for why there is none; but of a trace that is too long one byte above the most is read.
-abbrev pub IsReadOut : Result Trace Refusal → List ℕ → Option (List ℕ) → Type 0
+-- A source is read to its end for a trace, or for why none is run; but of a trace that is too long one byte above the most is read.
+abbrev pub IsReadOut : Result Trace NotRun → List ℕ → Option (List ℕ) → Type 0
 IsReadOut (Ok trace) taken left = IsAtEnd left
 IsReadOut (Err TooLong) taken left = length taken ≡ most_trace_bytes + 1
-IsReadOut (Err (AtLine number cause)) taken left = IsAtEnd left
+IsReadOut (Err (AtLine number fault)) taken left = IsAtEnd left
 
 -- the same for a script
 abbrev pub IsScriptReadOut : Result (List Order) ScriptRefusal → List ℕ → Option (List ℕ) → Type 0
@@ -47,11 +46,11 @@ pub record Reading : Type 1 where
   pub IsRead : Result Input Why → List ℕ → Option (List ℕ) → Type 0
   pub refusal : Why → List ℕ
 
--- a trace that is read
+-- a trace that is read, and of a version that the mode runs on so many pages
 abbrev pub trace_read : Reading
 trace_read = record {
   Input = Trace;
-  Why = Refusal;
+  Why = NotRun;
   reads = true;
   bytes_of = λ found taken. taken;
   meaning = trace_for;
@@ -63,7 +62,7 @@ trace_read = record {
 abbrev pub trace_made : Reading
 trace_made = record {
   Input = Trace;
-  Why = Refusal;
+  Why = NotRun;
   reads = false;
   bytes_of = λ found taken. made found.number found.commands;
   meaning = trace_for;

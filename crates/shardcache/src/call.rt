@@ -30,7 +30,7 @@ use std::thread::Threads;
 /// |---|---|
 /// | `Done` | the report or the summary of legal and complete journals, those of `ran`, the record of the run; or the text of a store |
 /// | `Usage` | `usage`, exactly where the words ask for nothing that the program does; nothing was read |
-/// | `Refused` | `refused line L CAUSE`, exactly where the bytes that were read or made are no trace, or no script |
+/// | `Refused` | `refused line L CAUSE`, exactly where what was read or made is no trace or script, or a trace that is not run so |
 /// | `ReadFault` | `read fault`, only where the source failed |
 /// | `WriteFault` | a front of what should have been written, only where the sink failed |
 /// | `Memory` | nothing, where memory ran out |
@@ -54,7 +54,7 @@ where
     ensures usage { settings_of (map (λ word. string_bytes word) words.now) ≡ None
         → (result.status ≡ Status.Usage) ⊎ ((result.status ≡ Status.WriteFault) ⊎ (result.status ≡ Status.Memory)) }
 
-    // Where no fault rose, a trace is run and what is no trace is refused, unless memory runs out.
+    // Where no fault rose, a trace is run and what is no trace for this mode is refused, unless memory runs out.
     ensures accepted { (bytes : List ℕ) (wanted : Wanted)
         → ((meaning_of wanted.mode).reading.reads ≡ true → S.left source.old ≡ Some bytes)
         → settings_of (map (λ word. string_bytes word) words.now) ≡ Some wanted

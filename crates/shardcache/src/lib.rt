@@ -8,6 +8,7 @@
 
 mod asked;
 mod call;
+mod misfit;
 mod modes;
 mod outcome;
 mod printing;
@@ -16,6 +17,7 @@ mod running;
 mod status;
 
 pub use call::shardcache;
+pub use misfit::Misfit;
 pub use modes::shardcache_gated;
 pub use outcome::Outcome;
 pub use status::Status;

@@ -218,7 +218,7 @@ where
     ensures usage { settings_of (map (λ word. string_bytes word) words.now) ≡ None
         → (result.status ≡ Status.Usage) ⊎ ((result.status ≡ Status.WriteFault) ⊎ (result.status ≡ Status.Memory)) }
 
-    // Where no fault rose, a trace is run and what is no trace is refused, unless memory runs out.
+    // Where no fault rose, a trace is run and what is no trace for this mode is refused, unless memory runs out.
     ensures accepted { (bytes : List ℕ) (wanted : Wanted)
         → ((meaning_of wanted.mode).reading.reads ≡ true → S.left source.old ≡ Some bytes)
         → settings_of (map (λ word. string_bytes word) words.now) ≡ Some wanted

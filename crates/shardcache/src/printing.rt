@@ -5,14 +5,14 @@ ghost use Rattle.cache_model.specs.Report.{IsReportOf, report};
 ghost use Rattle.cache_model.specs.Summary.{IsSummaryOf, summary};
 ghost use Rattle.run_log.specs.Runs.{IsFinished, journals_in};
 ghost use Rattle.trace_text.specs.Parsed.{IsWellFormed, trace_in};
-ghost use Rattle.trace_text.specs.Reading.{AtLine, TooLong};
 ghost use Rattle.value_script.specs.Reading as script_refusal;
 ghost use Rattle.settings.specs.Settings.{view};
 ghost use Rattle.shardcache.specs.Meanings.{Shown};
-ghost use Rattle.shardcache.specs.TraceFor.{refusal_text, refused_line, script_refusal_text};
+ghost use Rattle.shardcache.specs.TraceFor.{AtLine, Own, TooLong, Unfit, refusal_text, refused_line, script_refusal_text};
 ghost use Rattle.shardcache.specs.inside.Ending.{EndsOutput, EndsWith};
 
 use crate::asked::Asked;
+use crate::misfit::Misfit;
 use crate::status::Status;
 use outside::{Failed, Sink, write_all};
 use report_text::{Texts, write_report_on, write_summary};
@@ -48,11 +48,20 @@ pub(crate) fn refuse_line<K: Sink>(alloc: Global, sink: &mut K, line: u32, cause
 
 /// Writes that a trace is refused: the line, and the cause.
 pub(crate) fn refuse<K: Sink>(alloc: Global, sink: &mut K, line: u32, cause: Cause) -> Status
-    ensures written { EndsWith result Status.Refused (K.written sink.old) (K.written sink.new) (refusal_text (AtLine line cause)) }
+    ensures written { EndsWith result Status.Refused (K.written sink.old) (K.written sink.new) (refusal_text (AtLine line (Own cause))) }
     ensures cases { (result ≡ Status.Refused) ⊎ ((result ≡ Status.WriteFault) ⊎ (result ≡ Status.Memory)) }
     ensures fault { result ≡ Status.WriteFault → Rose (K.faults sink.old) (K.faults sink.new) }
 {
     refuse_line(alloc, sink, line, cause.name())
+}
+
+/// Writes that a trace is refused that these settings don't run.
+pub(crate) fn refuse_unfit<K: Sink>(alloc: Global, sink: &mut K, misfit: Misfit) -> Status
+    ensures written { EndsWith result Status.Refused (K.written sink.old) (K.written sink.new) (refusal_text (AtLine 1 (Unfit misfit))) }
+    ensures cases { (result ≡ Status.Refused) ⊎ ((result ≡ Status.WriteFault) ⊎ (result ≡ Status.Memory)) }
+    ensures fault { result ≡ Status.WriteFault → Rose (K.faults sink.old) (K.faults sink.new) }
+{
+    refuse_line(alloc, sink, 1, misfit.name())
 }
 
 /// Writes that a script is refused: the line, and the cause.

@@ -1,6 +1,6 @@
 //! What a mode works on: a trace or a script that is read, or a trace that is made. Where there is none, the call is over, and
 //! what is to be written of that was.
-ghost use Rattle.std.specs.Prelude.{◌≡◌, ◌≢◌, ◌+◌, ◌≤◌, ℕ, List, Option, length, IfErr, IfOk, OnOk, Err, Ok};
+ghost use Rattle.std.specs.Prelude.{◌≡◌, ◌≢◌, ◌+◌, ◌≤◌, ℕ, List, Option, Some, None, length, IfErr, IfOk, OnOk, Err, Ok};
 ghost use Rattle.std.specs.Io.KnownBytes.{Consumes, IsAtEnd};
 ghost use Rattle.outside.specs.Moves.{ConsumesExactly, ConsumesUpTo};
 ghost use Rattle.layout.specs.Counts.{Rose};
@@ -11,10 +11,13 @@ ghost use Rattle.value_script.specs.Reading.{script_of};
 ghost use Rattle.value_script.specs.Script.{script_in};
 ghost use Rattle.settings.specs.Settings.{Settings as Wanted, most_made_commands, view};
 ghost use Rattle.shardcache.specs.Meanings.{script_read, trace_made, trace_read};
-ghost use Rattle.shardcache.specs.TraceFor.{trace_for};
-ghost use Rattle.shardcache.specs.inside.Ending.{RefusesScript, RefusesTrace, Stops, Takes};
+ghost use Rattle.shard_node.specs.Nodes.{HasTablePages};
+ghost use Rattle.shardcache.specs.declared.misfit.Misfit.{Misfit as Misfits};
+ghost use Rattle.shardcache.specs.TraceFor.{AtLine, Unfit, misfit_of, refusal_text, trace_for};
+ghost use Rattle.shardcache.specs.inside.Ending.{EndsWith, RefusesScript, RefusesTrace, Stops, Takes};
 
-use crate::printing::{refuse, refuse_script, too_long, write_line};
+use crate::misfit::misfit_of;
+use crate::printing::{refuse, refuse_script, refuse_unfit, too_long, write_line};
 use crate::status::Status;
 use layout::MOST_TRACE_BYTES;
 use made_trace::make_trace;
@@ -37,7 +40,30 @@ fn read_bytes<S: Source>(alloc: Global, source: &mut S) -> Result<Vec<u8>, ReadS
     read_all(alloc, source, MOST_TRACE_BYTES)
 }
 
-/// Takes these bytes for a trace.
+/// Hands a trace on that the settings run.
+///
+/// # Errors
+/// How the call ends: the refusal was written, or memory ran out.
+fn keep_fit<K: Sink>(
+    alloc: Global,
+    settings: Settings,
+    trace: Trace,
+    sink: &mut K,
+) -> Result<Trace, Status>
+    ensures kept { IfOk result (λ kept. (kept ≡ trace) × (misfit_of settings.mode settings.pages (trace_in trace) ≡ None)) }
+    ensures quiet { OnOk result (sink.new ≡ sink.old) }
+    ensures refused { IfErr result (λ answered. (misfit : Misfits)
+        × (misfit_of settings.mode settings.pages (trace_in trace) ≡ Some misfit)
+        × EndsWith answered Status.Refused (K.written sink.old) (K.written sink.new) (refusal_text (AtLine 1 (Unfit misfit)))) }
+    ensures fault { IfErr result (λ answered. answered ≡ Status.WriteFault → Rose (K.faults sink.old) (K.faults sink.new)) }
+{
+    match misfit_of(settings, &trace) {
+        None => Ok(trace),
+        Some(misfit) => Err(refuse_unfit(alloc, sink, misfit)),
+    }
+}
+
+/// Takes these bytes for a trace that the settings run.
 ///
 /// # Errors
 /// How the call ends: the refusal was written, or memory ran out.
@@ -53,13 +79,14 @@ fn parse_trace<R: Threads + Sync, K: Sink>(
     requires most { settings.shards ≤ most_shards }
     ensures read { IfOk result (λ trace. trace_for (view settings) bytes.items ≡ Ok (trace_in trace)) }
     ensures shards { IfOk result (λ trace. settings.shards ≡ trace.shards) }
+    ensures tables { IfOk result (λ trace. HasTablePages (trace_in trace) settings.pages) }
     ensures quiet { OnOk result (sink.new ≡ sink.old) }
     ensures refused { IfErr result (λ answered.
         RefusesTrace (view settings) bytes.items answered (K.written sink.old) (K.written sink.new)) }
     ensures fault { IfErr result (λ answered. answered ≡ Status.WriteFault → Rose (K.faults sink.old) (K.faults sink.new)) }
 {
     match parse_on(rt, alloc, settings.threads(), bytes, settings.shards) {
-        Ok(trace) => Ok(trace),
+        Ok(trace) => keep_fit(alloc, settings, trace, sink),
         Err(ParseRefusal::Trace { line, cause }) => Err(refuse(alloc, sink, line, cause)),
         Err(ParseRefusal::Memory) => Err(Status::Memory),
     }
@@ -81,6 +108,7 @@ pub(crate) fn read_trace<R: Threads + Sync, S: Source, K: Sink>(
     ensures taken { IfOk result (λ trace.
         Takes trace_read (view settings) (S.left source.old) (S.left source.new) (trace_in trace)) }
     ensures shards { IfOk result (λ trace. settings.shards ≡ trace.shards) }
+    ensures tables { IfOk result (λ trace. HasTablePages (trace_in trace) settings.pages) }
     ensures quiet { OnOk result (sink.new ≡ sink.old) }
     ensures stopped { IfErr result (λ answered. Stops trace_read (Rose (S.faults source.old) (S.faults source.new)) (view settings)
         answered (S.left source.old) (S.left source.new) (K.written sink.old) (K.written sink.new)) }
@@ -115,6 +143,7 @@ pub(crate) fn make_trace_of<R: Threads + Sync, K: Sink>(
         → Stops trace_made (Rose before after) (view settings) answered source source (K.written sink.old) (K.written sink.new)) }
 
     ensures shards { IfOk result (λ trace. settings.shards ≡ trace.shards) }
+    ensures tables { IfOk result (λ trace. HasTablePages (trace_in trace) settings.pages) }
     ensures quiet { OnOk result (sink.new ≡ sink.old) }
     ensures fault { IfErr result (λ answered. answered ≡ Status.WriteFault → Rose (K.faults sink.old) (K.faults sink.new)) }
 {

@@ -10,6 +10,7 @@ ghost use Rattle.dirty_mode.specs.DirtyText.{dirty_text};
 ghost use Rattle.index_mode.specs.IndexText.{index_text};
 ghost use Rattle.values_mode.specs.Text.{values_text};
 ghost use Rattle.settings.specs.Settings.{view};
+ghost use Rattle.shard_node.specs.Nodes.{HasTablePages};
 ghost use Rattle.shardcache.specs.Meanings.{Shown, Written};
 ghost use Rattle.shardcache.specs.inside.Ending.{EndsInput};
 
@@ -45,6 +46,7 @@ where
     K: Sink,
     G: Gates,
     requires pages { ArePages asked.now.settings.pages }
+    requires tables { HasTablePages (trace_in asked.now.trace.now) asked.now.settings.pages }
     ensures ending { EndsInput (Shown IsReportOf) (view asked.now.settings) (trace_in asked.now.trace.now)
         result.status result.ran (K.written sink.old) (K.written sink.new) }
     ensures fault { result.status ≡ Status.WriteFault → Rose (K.faults sink.old) (K.faults sink.new) }
@@ -76,6 +78,7 @@ where
     K: Sink,
     G: Gates,
     requires pages { ArePages asked.now.settings.pages }
+    requires tables { HasTablePages (trace_in asked.now.trace.now) asked.now.settings.pages }
     ensures ending { EndsInput (Shown IsSummaryOf) (view asked.now.settings) (trace_in asked.now.trace.now)
         result.status result.ran (K.written sink.old) (K.written sink.new) }
     ensures fault { result.status ≡ Status.WriteFault → Rose (K.faults sink.old) (K.faults sink.new) }

@@ -8,6 +8,7 @@ mod printed;
 mod shards;
 mod stores;
 mod summaries;
+mod tables;
 
 use outside::{MemorySink, MemorySource};
 use shard_node::Gates;

@@ -4,7 +4,13 @@
 mod scheduled;
 mod side_by_side;
 
+ghost use Rattle.std.specs.Prelude.{◌≡◌, ◌≤◌};
+ghost use Rattle.layout.specs.Sizes.{ArePages};
+ghost use Rattle.trace_text.specs.Parsed.{trace_in};
+ghost use Rattle.shard_node.specs.Nodes.{HasTablePages};
+
 use crate::plain::apply_to;
+use layout::{FEWEST_PAGES, FEWEST_TABLE_PAGES, TABLES};
 use plain_cache::{Entry, Plain, ReplyKind, ReplyLog};
 use rand_core::utils::NextWord;
 use rand_pcg::Lcg64Xsh32;
@@ -15,8 +21,6 @@ use std::test::Fail;
 use std::thread::Threads;
 use trace_run::{Order, run_trace};
 use trace_text::{Kind, MOST_SHARDS, Trace, parse};
-
-const PAGES: u32 = 1280;
 
 const KEYS: u32 = 20_000;
 
@@ -44,38 +48,65 @@ fn length_of(lengths: Lengths, number: u32, word: u32) -> u32 {
     }
 }
 
+/// A key, which is drawn. In version 2 its table stands before it.
+fn key_of(alloc: Global, version: u32, words: &mut Lcg64Xsh32) -> Result<String, AllocError> {
+    let draw = words.next_word();
+    let key = draw % KEYS;
+    if version == 2 {
+        let table = draw / KEYS % TABLES;
+        return format!(in alloc; "{table} k{key}");
+    }
+    format!(in alloc; "k{key}")
+}
+
 /// A command of every sixteen is an erase, one a scan, two are gets, and the others puts.
 fn command_line(
     alloc: Global,
+    version: u32,
     lengths: Lengths,
     number: u32,
     words: &mut Lcg64Xsh32,
 ) -> Result<Vec<u8>, AllocError> {
-    let key = words.next_word() % KEYS;
+    let key = key_of(alloc, version, words)?;
     let length = length_of(lengths, number, words.next_word());
     let text = match words.next_word() % 16 {
-        0 => format!(in alloc; "erase k{key}")?,
-        1 => format!(in alloc; "scan k{key} 32")?,
-        2 | 3 => format!(in alloc; "get k{key}")?,
-        _ => format!(in alloc; "put k{key} {number:0>w$}", w = length as usize)?,
+        0 => format!(in alloc; "erase {key}")?,
+        1 => format!(in alloc; "scan {key} 32")?,
+        2 | 3 => format!(in alloc; "get {key}")?,
+        _ => format!(in alloc; "put {key} {number:0>w$}", w = length as usize)?,
     };
     Vec::from_slice(alloc, text.as_bytes())
 }
 
-/// A trace of so many commands for so many shards, which are drawn.
+/// The bytes of so many commands, which are drawn.
+fn drawn_lines(
+    alloc: Global,
+    version: u32,
+    lengths: Lengths,
+    commands: u32,
+) -> Result<Vec<u8>, AllocError> {
+    let mut words = Lcg64Xsh32::new(7, 1);
+    let mut bytes = Vec::new(alloc);
+    if version == 2 {
+        bytes.extend_from_slice(b"version 2\n")?;
+    }
+    for number in 0..commands {
+        let line = command_line(alloc, version, lengths, number, &mut words)?;
+        bytes.extend_from_slice(line.as_slice())?;
+        bytes.push(b'\n')?;
+    }
+    Ok(bytes)
+}
+
+/// A trace of a version and of so many commands for so many shards.
 fn drawn_trace(
     alloc: Global,
+    version: u32,
     shards: u32,
     lengths: Lengths,
     commands: u32,
 ) -> Result<Option<Trace>, AllocError> {
-    let mut words = Lcg64Xsh32::new(7, 1);
-    let mut bytes = Vec::new(alloc);
-    for number in 0..commands {
-        let line = command_line(alloc, lengths, number, &mut words)?;
-        bytes.extend_from_slice(line.as_slice())?;
-        bytes.push(b'\n')?;
-    }
+    let bytes = drawn_lines(alloc, version, lengths, commands)?;
     if bytes.len() > 67_108_864 || shards == 0 || shards > MOST_SHARDS {
         return Ok(None);
     }
@@ -153,6 +184,27 @@ impl<'a> Judge<'a> {
     }
 }
 
+/// The fewest pages on which a trace is run.
+fn pages_for(trace: &Trace) -> u32
+    ensures pages { ArePages result }
+    ensures tables { HasTablePages (trace_in trace.now) result }
+{
+    if trace.regions() == 1 {
+        FEWEST_PAGES
+    } else {
+        FEWEST_TABLE_PAGES
+    }
+}
+
+/// A plain cache of so many pages and regions.
+fn plain_for(alloc: Global, trace: &Trace) -> Result<Plain, AllocError> {
+    if trace.regions() == 1 {
+        Plain::new(alloc, FEWEST_PAGES, 1)
+    } else {
+        Plain::new(alloc, FEWEST_TABLE_PAGES, TABLES)
+    }
+}
+
 /// Whether a plain cache does the same as a shard, entry by entry.
 fn is_the_same(
     alloc: Global,
@@ -167,7 +219,7 @@ fn is_the_same(
     else {
         return Ok(false);
     };
-    let plain = Plain::new(alloc, PAGES)?;
+    let plain = plain_for(alloc, trace)?;
     let mut judge = Judge {
         trace,
         shards,
@@ -214,7 +266,8 @@ fn runs_the_same<R: Threads + Wait + Sync>(
     order: Order,
 ) -> Result<bool, AllocError> {
     let shards = trace.shards();
-    let ran = run_trace(rt, alloc, trace, PAGES, order, &OpenGates)?;
+    let pages = pages_for(trace);
+    let ran = run_trace(rt, alloc, trace, pages, order, &OpenGates)?;
     let (evicted, same) = (evictions(&ran), are_the_same(alloc, trace, shards, &ran));
     drop(ran);
     Ok((shards > 1 || evicted > 500) && same?)
@@ -222,21 +275,27 @@ fn runs_the_same<R: Threads + Wait + Sync>(
 
 #[test]
 fn a_plain_cache_evicts_and_replies_the_same(rt: HostRuntime) -> Result<(), Fail> {
-    for (shards, lengths, commands) in [
-        (1, Lengths::One, 12_000),
-        (1, Lengths::Alternating, 4_000),
-        (1, Lengths::Random, 4_000),
-        (2, Lengths::One, 20_000),
-        (3, Lengths::One, 20_000),
-        (4, Lengths::Random, 8_000),
-        (7, Lengths::One, 20_000),
-        (16, Lengths::One, 20_000),
+    for (version, shards, lengths, commands) in [
+        (1, 1, Lengths::One, 12_000),
+        (1, 1, Lengths::Alternating, 4_000),
+        (1, 1, Lengths::Random, 4_000),
+        (1, 2, Lengths::One, 20_000),
+        (1, 3, Lengths::One, 20_000),
+        (1, 4, Lengths::Random, 8_000),
+        (1, 7, Lengths::One, 20_000),
+        (1, 16, Lengths::One, 20_000),
+        (2, 1, Lengths::One, 12_000),
+        (2, 1, Lengths::Alternating, 4_000),
+        (2, 1, Lengths::Random, 4_000),
+        (2, 2, Lengths::One, 20_000),
+        (2, 4, Lengths::Random, 8_000),
+        (2, 16, Lengths::One, 20_000),
     ] {
         let alloc = rt.alloc();
-        let trace = drawn_trace(alloc, shards, lengths, commands)?.ok_or("no trace")?;
+        let trace = drawn_trace(alloc, version, shards, lengths, commands)?.ok_or("no trace")?;
         for order in [Order::Threads, Order::Numbered(3)] {
             let same = runs_the_same(&rt, alloc, &trace, order)?;
-            assert!(rt; same, "{shards} {lengths:?}");
+            assert!(rt; same, "{version} {shards} {lengths:?}");
         }
     }
     Ok(())

@@ -11,10 +11,12 @@ use Rattle.std.proofs.Math.Seq.{set-append_seam, get_or-append_seam}
 use Rattle.trace_text.specs.declared.command.Command.{Command}
 use Rattle.rows.specs.declared.kind.Kind.{Kind}
 use Rattle.rows.specs.declared.kind.Kind.TheVariants as asks
+use Rattle.rows.specs.Key.{Key}
 use Rattle.rows.specs.Operation.{Operation}
 use Rattle.trace_text.specs.Operation.{operation}
 use Rattle.trace_text.specs.Parsed.{Parsed, trace_in, AreNumbered}
 use Rattle.trace_text.specs.Parts.{longest_value}
+use Rattle.trace_text.specs.Reading.{version_in}
 use Rattle.trace_text.specs.Trace.{Trace, trace_with}
 use Rattle.rows.specs.declared.reply_kind.ReplyKind.{ReplyKind}
 use Rattle.rows.specs.declared.reply_kind.ReplyKind.TheVariants as kinds
@@ -29,7 +31,7 @@ use Rattle.cache_model.specs.OwnParts.{issued_parts, parts_of}
 
 -- a reply without a body
 abbrev pub IsBareTo : Kind → ReplyKind → Type 0
-IsBareTo asked kind = (reply : Reply) × ((kind, []) ≡ spelled reply) × ((longest : ℕ) (key : List ℕ) (count : ℕ) → FitsKind asked longest key count reply)
+IsBareTo asked kind = (reply : Reply) × ((kind, []) ≡ spelled reply) × ((longest : ℕ) (key : Key) (count : ℕ) → FitsKind asked longest key count reply)
 
 pub stored_fits : IsBareTo asks.Put kinds.Stored
 stored_fits = (Stored, refl, λ longest key count. tt)
@@ -44,7 +46,7 @@ pub missing_fits : IsBareTo asks.Erase kinds.Missing
 missing_fits = (Missing, refl, λ longest key count. tt)
 
 abbrev pub IsGot : ℕ → ReplyKind → List ℕ → Type 0
-IsGot longest kind body = (key : List ℕ) (count : ℕ) → (reply : Reply) × ((kind, body) ≡ spelled reply) × FitsKind asks.Get longest key count reply
+IsGot longest kind body = (key : Key) (count : ℕ) → (reply : Reply) × ((kind, body) ≡ spelled reply) × FitsKind asks.Get longest key count reply
 
 pub value_fits : (longest : ℕ) (value : List ℕ) → length value ≤ longest → IsGot longest kinds.Value value
 value_fits longest value short = λ key count. (Value value, refl, short)
@@ -216,20 +218,21 @@ pub logged_when_filled : OnePart → OnePartEach → FittingStays → (trace : P
     → (answers : List (ℕ × Reply)) × AreLogged (trace_in trace) 1 (log ∷ []) answers
 logged_when_filled part parts stays trace commands log value numbered p =
     let operations = map (operation trace.bytes) commands in
+    let version = version_in trace.bytes in
     let f : ℕ → Option Reply = slice_get p.replies in
     let same : operations ≡ (trace_in trace).operations = ap (map (operation trace.bytes)) value in
     let read = are_read part stays (longest_value (trace_in trace)) 0 f operations p.replies (p.many ∙ sym (simp length-map refl)) (λ j. ap f (zero-add j))
     (numbered-from trace.bytes 0 commands (λ i d below. numbered i d below ∙ omega arith)) p.fit in
-    let by-part : log ≡ map (λ x. option_map spelled (f (x.0 - 1))) (issued_parts (trace_with operations) 1 0) =
+    let by-part : log ≡ map (λ x. option_map spelled (f (x.0 - 1))) (issued_parts (trace_with version operations) 1 0) =
     p.parts_are ∙ append-nil (map part_of p.replies) ∙ sym read.parts
     ∙ sym (map-map' (λ (x : ℕ × ℕ). option_map spelled (f (x.0 - 1))) (λ (o : Operation). (o.number, 0)) operations)
-    ∙ ap (map (λ x. option_map spelled (f (x.0 - 1)))) (sym (parts (trace_with operations))) in (
+    ∙ ap (map (λ x. option_map spelled (f (x.0 - 1)))) (sym (parts (trace_with version operations))) in (
       enumerate_from 1 p.replies,
-      subst (λ (list : List Operation). AreLogged (trace_with list) 1 (log ∷ []) (enumerate_from 1 p.replies)) same
+      subst (λ (list : List Operation). AreLogged (trace_with version list) 1 (log ∷ []) (enumerate_from 1 p.replies)) same
           (record {
             replies = λ x. f (x.0 - 1);
             logged = λ o d below. let first : o ≡ 0 = omega (arith, below) in rw first by-part;
-            fit = subst (λ (n : ℕ). All (λ operation. All (λ part. HasFitting n operation (f (part.0 - 1))) (parts_of 1 operation)) operations) (sym (ap (λ (list : List Operation). longest_value (trace_with list)) same)) read.fit;
+            fit = subst (λ (n : ℕ). All (λ operation. All (λ part. HasFitting n operation (f (part.0 - 1))) (parts_of 1 operation)) operations) (sym (ap (λ (list : List Operation). longest_value (trace_with version list)) same)) read.fit;
             answered = read.answered;
           }),
     )

@@ -1,5 +1,5 @@
-//! The definitions compute on examples: journals, reports and summaries of two shards, and evictions.
-ghost use Rattle.cache_model.specs.Examples.{EvictionsAreRight, ReportsAreRight, SummariesAreRight, TwoShardsAreRight};
+//! The definitions compute on examples: journals, reports and summaries of two shards, evictions, and tables.
+ghost use Rattle.cache_model.specs.Examples.{EvictionsAreRight, ReportsAreRight, SummariesAreRight, TablesAreRight, TwoShardsAreRight};
 
 /// Two shards: their journals are legal and complete, in each order that keeps an origin's own, and a scan joins
 /// the keys of both.
@@ -40,4 +40,15 @@ fn evictions()
 #[test]
 fn the_oldest_row_goes_above_the_floor() {
     evictions()
+}
+
+/// A row is found, looked up and taken away in its table alone; each table's region has an active segment; and the row
+/// used longest ago goes, whatever its table.
+fn tables()
+    ensures { TablesAreRight }
+{}
+
+#[test]
+fn each_table_has_its_own_rows() {
+    tables()
 }

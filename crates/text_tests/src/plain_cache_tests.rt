@@ -1,7 +1,8 @@
 //! A plain cache on worked traces.
-ghost use Rattle.std.specs.Prelude.{◌≡◌, List, []};
-ghost use Rattle.rows.specs.Row.{Row};
+ghost use Rattle.std.specs.Prelude.{◌≡◌, ℕ, List, []};
 ghost use Rattle.rows.specs.Apply.{scanned};
+ghost use Rattle.rows.specs.Key.{in_table};
+ghost use Rattle.rows.specs.Row.{Row};
 
 use plain_cache::{Plain, ReplyKind};
 use std::alloc::{AllocError, Global};
@@ -80,10 +81,10 @@ fn put_rows(alloc: Global, plain: &mut Plain, last: u32) -> Result<(), AllocErro
 
 #[test]
 fn nothing_is_evicted_up_to_the_floor(rt: HostRuntime) -> Result<(), Fail> {
-    let mut plain = Plain::new(rt.alloc(), 1280)?;
+    let mut plain = Plain::new(rt.alloc(), 1280, 1)?;
     reply_to(rt.alloc(), &mut plain, b"put a abc")?;
     assert_eq!(rt; (plain.live(), plain.evict(1)), (48, false));
-    let mut plain = Plain::new(rt.alloc(), 1280)?;
+    let mut plain = Plain::new(rt.alloc(), 1280, 1)?;
     put_rows(rt.alloc(), &mut plain, 59)?;
     assert_eq!(rt; (plain.live(), plain.evict(1)), (710_832, false));
     put_long(rt.alloc(), &mut plain, 60, "k060")?;
@@ -94,7 +95,7 @@ fn nothing_is_evicted_up_to_the_floor(rt: HostRuntime) -> Result<(), Fail> {
 
 #[test]
 fn the_oldest_row_goes_first(rt: HostRuntime) -> Result<(), Fail> {
-    let mut plain = Plain::new(rt.alloc(), 1280)?;
+    let mut plain = Plain::new(rt.alloc(), 1280, 1)?;
     put_rows(rt.alloc(), &mut plain, 390)?;
     assert_eq!(rt;
         (plain.live(), plain.evict(2), plain.evict(1)),
@@ -122,7 +123,7 @@ fn the_oldest_row_goes_first(rt: HostRuntime) -> Result<(), Fail> {
 
 #[test]
 fn a_row_that_was_evicted_is_stored_again(rt: HostRuntime) -> Result<(), Fail> {
-    let mut plain = Plain::new(rt.alloc(), 1280)?;
+    let mut plain = Plain::new(rt.alloc(), 1280, 1)?;
     put_rows(rt.alloc(), &mut plain, 390)?;
     assert!(rt; plain.evict(1));
     assert_eq!(rt;
@@ -140,7 +141,7 @@ fn a_row_that_was_evicted_is_stored_again(rt: HostRuntime) -> Result<(), Fail> {
 
 /// These lines find these keys in a cache that was empty.
 fn expect_keys(rt: &impl Abort, alloc: Global, lines: &[u8], keys: &[u8]) -> Result<(), Fail> {
-    let mut plain = Plain::new(alloc, 1280)?;
+    let mut plain = Plain::new(alloc, 1280, 1)?;
     let mut body = Vec::new(alloc);
     apply_all(alloc, &mut plain, Vec::from_slice(alloc, lines)?, &mut body)?;
     assert!(rt; body.as_slice() == keys);
@@ -185,7 +186,7 @@ fn a_scan_gives_the_keys_from_its_own_on(rt: HostRuntime) -> Result<(), Fail> {
 
 /// A scan of no key, which no line asks for, gives none.
 fn no_keys(key: &[u8])
-    ensures { (rows : List Row) → scanned key.now 0 rows ≡ [] }
+    ensures { (table : ℕ) (rows : List Row) → scanned (in_table table key.now) 0 rows ≡ [] }
 {}
 
 #[test]
@@ -195,7 +196,7 @@ fn a_scan_of_no_key_gives_none() {
 
 #[test]
 fn a_body_is_appended(rt: HostRuntime) -> Result<(), Fail> {
-    let mut plain = Plain::new(rt.alloc(), 1280)?;
+    let mut plain = Plain::new(rt.alloc(), 1280, 1)?;
     let mut body = Vec::from_slice(rt.alloc(), b"xyz")?;
     let lines = Vec::from_slice(rt.alloc(), b"put b 1\nput a 1\nscan a 32\n")?;
     let last = apply_all(rt.alloc(), &mut plain, lines, &mut body)?;
@@ -206,7 +207,7 @@ fn a_body_is_appended(rt: HostRuntime) -> Result<(), Fail> {
 
 #[test]
 fn a_scan_leaves_the_order_of_eviction(rt: HostRuntime) -> Result<(), Fail> {
-    let mut plain = Plain::new(rt.alloc(), 1280)?;
+    let mut plain = Plain::new(rt.alloc(), 1280, 1)?;
     put_rows(rt.alloc(), &mut plain, 60)?;
     reply_to(rt.alloc(), &mut plain, b"get k001\nscan k002 2")?;
     let mut body = Vec::new(rt.alloc());
@@ -214,5 +215,64 @@ fn a_scan_leaves_the_order_of_eviction(rt: HostRuntime) -> Result<(), Fail> {
     apply_all(rt.alloc(), &mut plain, line, &mut body)?;
     assert!(rt; body.as_slice() == b"\x04\0k002\x04\0k003".as_slice());
     assert_eq!(rt; (plain.evict(1), plain.evict(2)), (false, true));
+    Ok(())
+}
+
+#[test]
+fn a_key_is_one_of_its_table(rt: HostRuntime) -> Result<(), Fail> {
+    let mut plain = Plain::new(rt.alloc(), 1536, 8)?;
+    let mut body = Vec::new(rt.alloc());
+    let lines = b"version 2\nput 3 a 1\nput 4 a 2\nput 5 a 3\nput 4 b 4\nget 3 a\nscan 4 a 2\n";
+    let lines = Vec::from_slice(rt.alloc(), lines)?;
+    let last = apply_all(rt.alloc(), &mut plain, lines, &mut body)?;
+    assert_eq!(rt; last, Some(ReplyKind::Keys));
+    assert!(rt; body.as_slice() == b"1\x01\0a\x01\0b".as_slice());
+    let taken = reply_to(rt.alloc(), &mut plain, b"version 2\nerase 4 a")?;
+    let gone = reply_to(rt.alloc(), &mut plain, b"version 2\nget 4 a")?;
+    let there = reply_to(rt.alloc(), &mut plain, b"version 2\nget 3 a")?;
+    assert_eq!(rt;
+        [taken, gone, there],
+        [
+            Some(ReplyKind::Erased),
+            Some(ReplyKind::Missing),
+            Some(ReplyKind::Value)
+        ]
+    );
+    assert_eq!(rt; (plain.rows(), plain.live()), (3, 144));
+    Ok(())
+}
+
+/// A put of 12,000 letters x to a table, with this number: before it come gets of a key that is not there.
+fn put_long_in(
+    alloc: Global,
+    plain: &mut Plain,
+    table: u32,
+    number: u32,
+) -> Result<Option<ReplyKind>, AllocError> {
+    let mut bytes = Vec::from_slice(alloc, b"version 2\n")?;
+    for _ in 1..number {
+        bytes.extend_from_slice(b"get 0 z\n")?;
+    }
+    bytes.extend_from_slice(format!(in alloc; "put {table} k{number:03} ")?.as_bytes())?;
+    for _ in 0..12_000 {
+        bytes.push(b'x')?;
+    }
+    apply_all(alloc, plain, bytes, &mut Vec::new(alloc))
+}
+
+// The floor of 1,536 pages with eight regions is 831,432 bytes: of 69 rows none goes, and of 70 the one used longest ago.
+#[test]
+fn the_oldest_row_of_all_tables_goes_first(rt: HostRuntime) -> Result<(), Fail> {
+    let mut plain = Plain::new(rt.alloc(), 1536, 8)?;
+    for number in 1..=69 {
+        put_long_in(rt.alloc(), &mut plain, 3 + number % 2, number)?;
+    }
+    assert_eq!(rt; (plain.live(), plain.evict(1)), (831_312, false));
+    put_long_in(rt.alloc(), &mut plain, 3, 70)?;
+    assert_eq!(rt;
+        (plain.live(), plain.evict(2), plain.evict(1)),
+        (843_360, false, true)
+    );
+    assert_eq!(rt; plain.rows(), 69);
     Ok(())
 }

@@ -2,6 +2,7 @@
 ghost use Rattle.std.specs.Prelude.{◌≡◌, ℕ, ◌≤◌, List, [], ◌∷◌, length, true, IfOk};
 ghost use Rattle.rows.specs.Apply.{Reply, Keys, is_at_most};
 ghost use Rattle.rows.specs.Fits.{AreFound, FitsKind};
+ghost use Rattle.rows.specs.Key.{Key, in_table};
 ghost use Rattle.trace_text.specs.Parsed.{trace_in};
 ghost use Rattle.cache_model.specs.Logged.{AreLogged};
 ghost use Rattle.rows.specs.Spelled.{spelled};
@@ -46,7 +47,7 @@ fn found_keys<'b>(key: &[u8], count: u32, body: &'b [u8]) -> &'b [u8]
 /// The kind of a reply to a put: this one, where it can be.
 fn put_reply(kind: ReplyKind) -> ReplyKind
     ensures { (reply : Reply) × ((result, []) ≡ spelled reply)
-        × ((longest : ℕ) (key : List ℕ) (count : ℕ) → FitsKind CommandKind.Put longest key count reply) }
+        × ((longest : ℕ) (key : Key) (count : ℕ) → FitsKind CommandKind.Put longest key count reply) }
 {
     match kind {
         ReplyKind::Replaced => ReplyKind::Replaced,
@@ -57,7 +58,7 @@ fn put_reply(kind: ReplyKind) -> ReplyKind
 /// The kind of a reply to an erase: this one, where it can be.
 fn erase_reply(kind: ReplyKind) -> ReplyKind
     ensures { (reply : Reply) × ((result, []) ≡ spelled reply)
-        × ((longest : ℕ) (key : List ℕ) (count : ℕ) → FitsKind CommandKind.Erase longest key count reply) }
+        × ((longest : ℕ) (key : Key) (count : ℕ) → FitsKind CommandKind.Erase longest key count reply) }
 {
     match kind {
         ReplyKind::Erased => ReplyKind::Erased,
@@ -67,7 +68,7 @@ fn erase_reply(kind: ReplyKind) -> ReplyKind
 
 /// The reply to a get, where no value is longer than `longest`: this one where it can be, else that the key is missing.
 fn get_reply(longest: u32, kind: ReplyKind, body: &[u8]) -> (ReplyKind, &[u8])
-    ensures fits { (key : List ℕ) (count : ℕ)
+    ensures fits { (key : Key) (count : ℕ)
         → (reply : Reply) × ((result.0, result.1.now) ≡ spelled reply) × FitsKind CommandKind.Get longest key count reply }
     ensures short { length result.1.now ≤ length body.now }
 {
@@ -78,16 +79,18 @@ fn get_reply(longest: u32, kind: ReplyKind, body: &[u8]) -> (ReplyKind, &[u8])
     }
 }
 
-/// A reply that a command of this kind can have.
+/// A reply that a command of this kind, with this key of a table, can have.
 fn reply_to<'b>(
     asked: Kind,
     longest: u32,
+    table: u8,
     key: &[u8],
     count: u32,
     kind: ReplyKind,
     body: &'b [u8],
 ) -> (ReplyKind, &'b [u8])
-    ensures fits { (reply : Reply) × ((result.0, result.1.now) ≡ spelled reply) × FitsKind asked longest key.now count reply }
+    ensures fits { (reply : Reply) × ((result.0, result.1.now) ≡ spelled reply)
+        × FitsKind asked longest (in_table table key.now) count reply }
     ensures short { length result.1.now ≤ length body.now }
 {
     match asked {
@@ -116,7 +119,15 @@ fn log_of(
         assert!(rt; body.len() <= 100);
         let command = &commands[part];
         let key = trace.key(command);
-        let (kind, body) = reply_to(command.kind, longest, key, command.count, *kind, body);
+        let (kind, body) = reply_to(
+            command.kind,
+            longest,
+            command.table,
+            key,
+            command.count,
+            *kind,
+            body,
+        );
         log.record(part as u32, kind, body);
     }
     Ok(log)
@@ -260,6 +271,26 @@ fn a_report_has_the_answers_the_journal_and_the_shard(rt: HostRuntime) -> Result
         )?;
     }
     Ok(())
+}
+
+#[test]
+fn a_report_of_version_2_has_keys_of_one_table(rt: HostRuntime) -> Result<(), Fail> {
+    use ReplyKind::{Keys, Missing, Stored};
+    check_report(
+        &rt,
+        rt.alloc(),
+        "version 2\nput 4 b 1\nput 4 c 2\nget 3 b\nscan 4 b 2\n",
+        &[
+            (Stored, b""),
+            (Stored, b""),
+            (Missing, b""),
+            (Keys, B_AND_C),
+        ],
+        (2, 96),
+        1000,
+        Ok(()),
+        "1 stored\n2 stored\n3 missing\n4 keys b c\njournal 0 1 2 3 4\nshard 0 rows 2 live 96 lent 0 back 0\n",
+    )
 }
 
 #[test]

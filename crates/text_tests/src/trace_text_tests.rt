@@ -1,10 +1,11 @@
-//! Which shard owns a key, where commands go, and the longest value of a trace.
-ghost use Rattle.std.specs.Prelude.{◌≡◌, [], ◌∷◌};
+//! Which shard owns a key, where commands go, the longest value of a trace, and the tables of version 2.
+ghost use Rattle.std.specs.Prelude.{◌≡◌, ◌<◌, [], ◌∷◌};
 ghost use Rattle.trace_text.specs.Parts.{hash};
 
 use std::alloc::Global;
 use std::process::Abort;
 use std::test::Fail;
+use std::thread::Threads;
 use trace_text::{Cause, MOST_SHARDS, ParseRefusal, Trace, owner_of, parse, parse_on};
 
 // The hash of each key, by the definition that `owner_of` is proved to follow.
@@ -89,6 +90,7 @@ fn a_trace_tells_where_its_commands_go(rt: HostRuntime) -> Result<(), Fail> {
 
 // The four commands come again and again, on lines of which six stand for four.
 fn expect_commands(rt: &impl Abort, trace: &Trace) {
+    assert_eq!(rt; (trace.version(), trace.regions()), (1, 1));
     assert_eq!(rt; trace.commands().len(), 400);
     for (at, command) in trace.commands().iter().enumerate() {
         let (line, key, value, count) = [
@@ -101,7 +103,7 @@ fn expect_commands(rt: &impl Abort, trace: &Trace) {
         assert_eq!(rt; place, (at + 1, at / 4 * 6 + line));
         assert!(rt; trace.key(command) == key.as_bytes());
         assert!(rt; trace.value(command) == value.as_bytes());
-        assert_eq!(rt; command.count, count);
+        assert_eq!(rt; (command.table, command.count), (0, count));
     }
 }
 
@@ -181,6 +183,123 @@ fn the_first_refused_line_is_named_on_threads(rt: HostRuntime) -> Result<(), Fai
             assert_eq!(rt; (line, cause), (2, Cause::MissingField));
         }
         _ => assert!(rt; false, "not refused"),
+    }
+    Ok(())
+}
+
+// The same with tables, behind the line that says the version.
+fn expect_commands_on_tables(rt: &impl Abort, trace: &Trace) {
+    assert_eq!(rt; (trace.version(), trace.regions()), (2, 8));
+    assert_eq!(rt; trace.commands().len(), 400);
+    for (at, command) in trace.commands().iter().enumerate() {
+        let (line, table, key, value, count) = [
+            (2, 0, "a", "3 12", 0),
+            (3, 7, "bc", "", 0),
+            (6, 3, "d", "", 3),
+            (7, 4, "3", "", 0),
+        ][at % 4];
+        let place = (command.number as usize, command.line as usize);
+        assert_eq!(rt; place, (at + 1, at / 4 * 6 + line));
+        assert_eq!(rt; (command.table, command.count), (table, count));
+        assert!(rt; trace.key(command) == key.as_bytes());
+        assert!(rt; trace.value(command) == value.as_bytes());
+    }
+}
+
+#[test]
+fn a_command_of_version_2_names_its_table(rt: HostRuntime) -> Result<(), Fail> {
+    let lines = b"put 0 a 3 12\nget 7 bc\n# none\n\nscan 3 d 3\r\nerase 4 3\n".repeat(
+        rt.alloc(),
+        100,
+    )?;
+    for threads in [1, 2, 3] {
+        let mut bytes = Vec::from_slice(rt.alloc(), b"version 2\r\n")?;
+        bytes.extend_from_slice(&lines)?;
+        assert!(rt; bytes.len() <= 10_000);
+        let trace = parse_on(&rt, rt.alloc(), threads, bytes, 3)?;
+        expect_commands_on_tables(&rt, &trace);
+    }
+    Ok(())
+}
+
+// The owners of the keys of two commands.
+fn two_owners(rt: &impl Abort, trace: &Trace) -> [u32; 2] {
+    assert!(rt; trace.commands().len() == 2);
+    [trace.owner(0), trace.owner(1)]
+}
+
+#[test]
+fn a_table_plays_no_part_in_the_owner(rt: HostRuntime) -> Result<(), Fail> {
+    let bytes = b"version 2\nput 3 a 1\nput 4 a 2\n".to_vec(rt.alloc())?;
+    assert!(rt; bytes.len() <= 1000);
+    let trace = parse(rt.alloc(), bytes, 16)?;
+    assert_eq!(rt; two_owners(&rt, &trace), [12, 12]);
+    Ok(())
+}
+
+// The first line of these that is refused, and its cause, where they are read on so many threads.
+fn refused_of<R: Threads + Sync + Abort>(
+    rt: &R,
+    alloc: Global,
+    threads: usize,
+    input: &str,
+) -> Result<Option<(u32, Cause)>, Fail>
+    requires { 0 < threads }
+{
+    let bytes = input.as_bytes().to_vec(alloc)?;
+    assert!(rt; bytes.len() <= 1000);
+    match parse_on(rt, alloc, threads, bytes, 1) {
+        Ok(_) => Ok(None),
+        Err(ParseRefusal::Trace { line, cause }) => Ok(Some((line, cause))),
+        Err(ParseRefusal::Memory) => Err(Fail::from("no memory is left")),
+    }
+}
+
+// The same on one thread and on two.
+fn refused_on_both<R: Threads + Sync + Abort>(
+    rt: &R,
+    alloc: Global,
+    input: &str,
+) -> Result<Option<(u32, Cause)>, Fail> {
+    let refused = refused_of(rt, alloc, 1, input)?;
+    assert!(rt; refused_of(rt, alloc, 2, input)? == refused);
+    Ok(refused)
+}
+
+#[test]
+fn a_table_is_one_digit_behind_the_word(rt: HostRuntime) -> Result<(), Fail> {
+    for (input, refused) in [
+        ("version 2\nput 0 a 1\nput 7 a 1\n", None),
+        ("version 2\nput 8 a 1\n", Some((2, Cause::Table))),
+        ("version 2\nput 03 a 1\n", Some((2, Cause::Table))),
+        ("version 2\nget a\n", Some((2, Cause::Table))),
+        ("version 2\nget  3 a\n", Some((2, Cause::Table))),
+        ("version 2\nget /\n", Some((2, Cause::Table))),
+        ("version 2\nget 3\n", Some((2, Cause::MissingField))),
+        ("version 2\nget\n", Some((2, Cause::MissingField))),
+        ("version 2\nget 3 \n", Some((2, Cause::KeyLength))),
+        ("version 2\nget 3 a b\n", Some((2, Cause::ExtraField))),
+        ("version 2\nscan 3 a 33\n", Some((2, Cause::Count))),
+        ("version 2\nlist 8 a\n", Some((2, Cause::UnknownWord))),
+    ] {
+        assert_eq!(rt; refused_on_both(&rt, rt.alloc(), input)?, refused);
+    }
+    Ok(())
+}
+
+#[test]
+fn the_first_line_alone_says_the_version(rt: HostRuntime) -> Result<(), Fail> {
+    for (input, refused) in [
+        ("version 2", None),
+        ("version 2\r\nget 3 a\n", None),
+        ("version 2 \nget 3 a\n", Some((1, Cause::UnknownWord))),
+        ("version 2\r\r\nget 3 a\n", Some((1, Cause::UnknownWord))),
+        ("version 1\nget a\n", Some((1, Cause::UnknownWord))),
+        ("put a 1\nversion 2\n", Some((2, Cause::UnknownWord))),
+        ("\nversion 2\n", Some((2, Cause::UnknownWord))),
+        ("version 2\nversion 2\n", Some((2, Cause::UnknownWord))),
+    ] {
+        assert_eq!(rt; refused_on_both(&rt, rt.alloc(), input)?, refused);
     }
     Ok(())
 }

@@ -27,7 +27,8 @@ fn insert_row<A: RowKeys>(index: &mut KeyIndex, arena: &A, row: u32)
     if !arena.has_key(row) || index.len() >= index.room() {
         return;
     }
-    let Err(place) = index.search(arena, arena.key(row)) else {
+    let key = arena.key(row);
+    let Err(place) = index.search(arena, &key) else {
         return;
     };
     index.insert_at(arena, place, row);
@@ -50,7 +51,7 @@ pub fn count_found<A: RowKeys>(index: &KeyIndex, arena: &A, rows: u32) -> u32
     let mut found: u32 = 0;
     for at in 0..rows {
         let row = row_at(at, rows);
-        if arena.has_key(row) && index.find(arena, arena.key(row)) == Some(row) {
+        if arena.has_key(row) && index.find(arena, &arena.key(row)) == Some(row) {
             found = found.wrapping_add(1);
         }
     }
@@ -65,7 +66,8 @@ fn remove_row<A: RowKeys>(index: &mut KeyIndex, arena: &A, row: u32) -> bool
     if !arena.has_key(row) {
         return false;
     }
-    index.remove(arena, arena.key(row)) == Some(row)
+    let key = arena.key(row);
+    index.remove(arena, &key) == Some(row)
 }
 
 /// How many rows were taken out.

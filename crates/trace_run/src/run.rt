@@ -4,6 +4,7 @@ ghost use Rattle.layout.specs.Sizes.{ArePages};
 ghost use Rattle.trace_text.specs.Parsed.{IsWellFormed, trace_in};
 ghost use Rattle.run_log.specs.Runs.{IsFinished};
 ghost use Rattle.shard_rings.specs.Links.{end_of, traffic_of};
+ghost use Rattle.shard_node.specs.Nodes.{HasTablePages};
 ghost use Rattle.shard_node.specs.Standing.{InStanding};
 ghost use Rattle.shard_node.specs.Turns.{IsDone, IsSameNode};
 ghost use Rattle.shard_drive.specs.Drives.{AtEach};
@@ -63,6 +64,7 @@ where
     R: Threads + Wait + Sync,
     G: Gates,
     requires pages { ArePages pages }
+    requires tables { HasTablePages (trace_in trace.now) pages }
     requires some { 1 ≤ trace.now.shards }
     requires seats { AreAtRest trace.now.shards homes.now seats.items }
     ensures run { IfOk result (λ ended. IsFinished (trace_in trace.now) trace.now.shards pages ended.ran) }
@@ -77,7 +79,7 @@ where
     Ok(finish_run(trace, nodes, remains))
 }
 
-/// Runs a trace on the shards that it was parsed for, each of so many pages.
+/// Runs a trace on the shards that it was parsed for, each of so many pages, at least 1,536 where the trace is of version 2.
 ///
 /// # Errors
 /// Want of memory, which is all taken before the first turn; then nothing was done.
@@ -93,6 +95,7 @@ where
     R: Threads + Wait + Sync,
     G: Gates,
     requires pages { ArePages pages }
+    requires tables { HasTablePages (trace_in trace.now) pages }
     ensures run { IfOk result (λ ran. IsFinished (trace_in trace.now) trace.now.shards pages ran) }
 
     // What holds of each trace.

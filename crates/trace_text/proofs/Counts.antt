@@ -11,7 +11,7 @@ use Rattle.layout.specs.Sizes.{most_keys}
 use Rattle.trace_text.specs.inside.Found.{digits_in}
 use Rattle.trace_text.specs.Line.{count_of}
 
-abbrev within : ℕ → ℕ → ℕ → Bool
+abbrev pub within : ℕ → ℕ → ℕ → Bool
 within a k n = leb a n && ltb n (a + k)
 
 range_none : (a n : ℕ) → within a 0 n ≡ false
@@ -42,14 +42,14 @@ range_where p n a k false e only later = later ∙ elim (cases_eq n a) [
 ]
 
 -- the first of a range that passes, where only n can
-find_range : (p : ℕ → Bool) (n a k : ℕ) → ((m : ℕ) → a ≤ m → m < a + k → p m ≡ true → m ≡ n)
+pub find_range : (p : ℕ → Bool) (n a k : ℕ) → ((m : ℕ) → a ≤ m → m < a + k → p m ≡ true → m ≡ n)
     → find p (range_with_len a k) ≡ cond (within a k n && p n) (Some n) None
 find_range p n a zero only = rw (range_none a n) refl
 find_range p n a (suc k) only =
     range_where p n a k (p a) refl (only a (omega arith) (omega arith)) (find_range p n (a + 1) k (λ m low high. only m (omega arith) (omega arith)))
 
 -- the digits of a number below 100 say it
-digits_of : (m : ℕ) → m < 100 → digits_in (decimal m) ≡ m
+pub digits_of : (m : ℕ) → m < 100 → digits_in (decimal m) ≡ m
 digits_of m small = elim (cases_lt m 10) [
   | inl one ↦ rw (decimal_digit m one) (omega arith)
   | inr two ↦ rw (decimal_step m two (omega arith), decimal_digit (m / 10) (omega arith)) (omega arith)

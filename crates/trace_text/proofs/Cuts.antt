@@ -8,7 +8,7 @@ use Rattle.std.proofs.lemmas.Option.{cond_some}
 use borrow.Author.Tests.{ltb-true, ltb-false}
 use Rattle.memchr.specs.Find.{IsFirstByte}
 use Rattle.trace_text.specs.Line.{cut_where, cut_at}
-use Rattle.trace_text.specs.Reading.{lines, command_lines, strip_cr}
+use Rattle.trace_text.specs.Reading.{lines, lines_from, strip_cr}
 
 pub some_not : {A : Type 0} (b : Bool) (x : A) → cond b (Some x) None ≡ None → b ≡ false
 some_not true x e = cc
@@ -39,17 +39,30 @@ split_some p xs i e =
     let within : position_or_len p xs < length xs = ltb-true _ _ found.0 in
     rw (← found.1) (slice_split_first p xs 0 within)
 
+-- the lines behind the first one
+abbrev pub tail_lines : Option (List ℕ) → List (List ℕ)
+tail_lines None = []
+tail_lines (Some rest) = lines rest
+
+lines_where : (text : List ℕ) (o : Option ℕ) → position (λ b. eqb b 10) text ≡ o
+    → lines text ≡ strip_cr (cut_where o text).0 ∷ tail_lines (cut_where o text).1
+lines_where text None e = ap (map strip_cr) (split_none (λ b. eqb b 10) text e)
+lines_where text (Some i) e = ap (map strip_cr) (split_some (λ b. eqb b 10) text i e)
+
+pub lines_cut : (text : List ℕ) → lines text ≡ strip_cr (cut_at 10 text).0 ∷ tail_lines (cut_at 10 text).1
+lines_cut text = lines_where text (position (λ b. eqb b 10) text) refl
+
 -- the lines of what stands behind a cut
 abbrev pub later : Option (List ℕ) → List (List ℕ)
 later None = lines []
 later (Some rest) = lines rest
 
 cut_lines_where : (line : ℕ) (text : List ℕ) (o : Option ℕ) → position (λ b. eqb b 10) text ≡ o
-    → command_lines line (lines text) ≡ command_lines line (strip_cr (cut_where o text).0 ∷ later (cut_where o text).1)
-cut_lines_where line text None e = ap (λ pieces. command_lines line (map strip_cr pieces)) (split_none (λ b. eqb b 10) text e)
-cut_lines_where line text (Some i) e = ap (λ pieces. command_lines line (map strip_cr pieces)) (split_some (λ b. eqb b 10) text i e)
+    → lines_from line (lines text) ≡ lines_from line (strip_cr (cut_where o text).0 ∷ later (cut_where o text).1)
+cut_lines_where line text None e = ap (λ pieces. lines_from line (map strip_cr pieces)) (split_none (λ b. eqb b 10) text e)
+cut_lines_where line text (Some i) e = ap (λ pieces. lines_from line (map strip_cr pieces)) (split_some (λ b. eqb b 10) text i e)
 
--- The lines that are command_lines are the first, which stands before the first LF, and those behind it. Behind the last
+-- The lines that may be commands are the first, which stands before the first LF, and those behind it. Behind the last
 -- line there is an empty one, which is passed over.
-pub cut_lines : (line : ℕ) (text : List ℕ) → command_lines line (lines text) ≡ command_lines line (strip_cr (cut_at 10 text).0 ∷ later (cut_at 10 text).1)
+pub cut_lines : (line : ℕ) (text : List ℕ) → lines_from line (lines text) ≡ lines_from line (strip_cr (cut_at 10 text).0 ∷ later (cut_at 10 text).1)
 cut_lines line text = cut_lines_where line text (position (λ b. eqb b 10) text) refl

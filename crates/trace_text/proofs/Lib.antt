@@ -7,5 +7,7 @@ pub mod PlainText
 pub mod Routes
 pub mod ShardCounts
 pub mod Stretches
+pub mod Tables
 pub mod Tallies
 pub mod TraceRead
+pub mod Versions

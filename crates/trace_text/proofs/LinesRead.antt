@@ -14,8 +14,10 @@ use Rattle.trace_text.specs.Line.{Fields, fields_of, is_passed}
 use Rattle.trace_text.specs.Parsed.{AreNumbered, AreSpelled, LiesWithin}
 use Rattle.rows.specs.Operation.{Operation}
 use Rattle.trace_text.specs.Operation.{operation, operations}
-use Rattle.trace_text.specs.Reading.{Refusal, IsRefusedAs, numbered_reading, numbered, line_numbers, lines, most_commands, operations_of, command_lines, with_first, with_front}
+use Rattle.trace_text.specs.Reading.{Refusal, IsRefusedAs, numbered_reading, numbered, line_numbers, lines, lines_from, most_commands, operations_of, with_first, with_front}
+use Rattle.trace_text.specs.inside.Version.{Begins, reading_in}
 use Rattle.trace_text.proofs.Offsets.{lies_within}
+use Rattle.trace_text.proofs.Versions.{begins_lines, begins_read}
 
 -- on which line each command stands, and the numbers of lines
 abbrev pub lines_of : List Command → List ℕ
@@ -24,24 +26,24 @@ lines_of commands = map (λ command. command.line) commands
 abbrev pub numbers_of : List (ℕ × List ℕ) → List ℕ
 numbers_of texts = map (λ line. line.0) texts
 
--- what was read, and behind it what the rest gives, is the reading of all lines
-pub record Reads (bytes : List ℕ) (commands : List Command) (rest : List ℕ) (line : ℕ) : Type 0 where
+-- in a trace of this version, what was read, and behind it what the rest gives, is the reading of all lines
+pub record Reads (version : ℕ) (bytes : List ℕ) (commands : List Command) (rest : List ℕ) (line : ℕ) : Type 0 where
   pub is_rest : IsRestOf bytes rest
   pub counted : line + length rest ≤ length bytes + 1
   pub numbered : AreNumbered commands
-  pub placed : line_numbers bytes ≡ lines_of commands ++ numbers_of (command_lines line (lines rest))
+  pub placed : line_numbers bytes ≡ lines_of commands ++ numbers_of (lines_from line (lines rest))
   pub within : All (LiesWithin bytes) commands
   pub few : length commands ≤ most_commands
-  pub joined : operations_of 1 (command_lines 1 (lines bytes))
-      ≡ with_front (operations bytes commands) (operations_of (length commands + 1) (command_lines line (lines rest)))
+  pub joined : reading_in bytes
+      ≡ with_front (operations bytes commands) (operations_of version (length commands + 1) (lines_from line (lines rest)))
 
 -- a line that is passed over, and one that is not
-pub lines_passed : (text : List ℕ) (texts : List (List ℕ)) (line : ℕ) → is_passed text ≡ true → command_lines line (text ∷ texts) ≡ command_lines (line + 1) texts
-lines_passed text texts line e = ap (λ b. cond (not b) ((line, text) ∷ command_lines (line + 1) texts) (command_lines (line + 1) texts)) e
+pub lines_passed : (text : List ℕ) (texts : List (List ℕ)) (line : ℕ) → is_passed text ≡ true → lines_from line (text ∷ texts) ≡ lines_from (line + 1) texts
+lines_passed text texts line e = ap (λ b. cond (not b) ((line, text) ∷ lines_from (line + 1) texts) (lines_from (line + 1) texts)) e
 
 pub lines_kept : (text : List ℕ) (texts : List (List ℕ)) (line : ℕ) → is_passed text ≡ false
-    → command_lines line (text ∷ texts) ≡ (line, text) ∷ command_lines (line + 1) texts
-lines_kept text texts line e = ap (λ b. cond (not b) ((line, text) ∷ command_lines (line + 1) texts) (command_lines (line + 1) texts)) e
+    → lines_from line (text ∷ texts) ≡ (line, text) ∷ lines_from (line + 1) texts
+lines_kept text texts line e = ap (λ b. cond (not b) ((line, text) ∷ lines_from (line + 1) texts) (lines_from (line + 1) texts)) e
 
 pub with_front-none : (later : Result (List Operation) Refusal) → with_front [] later ≡ later
 with_front-none (Err refusal) = refl
@@ -81,41 +83,40 @@ numbered_push commands command so_far next k d within =
     ]
 
 -- before any line is read
-pub reads_first : (bytes : List ℕ) → Reads bytes [] bytes 1
-reads_first bytes =
-    let none : length bytes - length bytes ≡ 0 = omega arith in
-    record {
-      is_rest = (omega arith, rw none refl);
-      counted = omega arith;
-      numbered = λ k d within. absurd (omega arith);
-      placed = refl;
-      within = λ k d within. absurd (omega arith);
-      few = omega arith;
-      joined = sym (with_front-none (operations_of 1 (command_lines 1 (lines bytes))));
-    }
+pub reads_first : (bytes behind : List ℕ) (version : ℕ) → Begins bytes version behind → Reads version bytes [] behind version
+reads_first bytes behind version begins = record {
+  is_rest = begins.is_rest;
+  counted = begins.counted;
+  numbered = λ k d within. absurd (omega arith);
+  placed = ap numbers_of (begins_lines bytes behind version begins);
+  within = λ k d within. absurd (omega arith);
+  few = omega arith;
+  joined = begins_read bytes behind version begins
+      ∙ sym (with_front-none (operations_of version 1 (lines_from version (lines behind))));
+}
 
 -- a line that is passed over
-reads_passed : (bytes : List ℕ) (commands : List Command) (rest : List ℕ) (line : ℕ) (text after : List ℕ)
-    → Reads bytes commands rest line → command_lines line (lines rest) ≡ command_lines line (text ∷ lines after) → IsRestOf rest after
-    → length after < length rest → is_passed text ≡ true → Reads bytes commands after (line + 1)
-reads_passed bytes commands rest line text after reads first is_rest shorter passed = record {
+reads_passed : (version : ℕ) (bytes : List ℕ) (commands : List Command) (rest : List ℕ) (line : ℕ) (text after : List ℕ)
+    → Reads version bytes commands rest line → lines_from line (lines rest) ≡ lines_from line (text ∷ lines after) → IsRestOf rest after
+    → length after < length rest → is_passed text ≡ true → Reads version bytes commands after (line + 1)
+reads_passed version bytes commands rest line text after reads first is_rest shorter passed = record {
   is_rest = rest_of_rest bytes rest after reads.is_rest is_rest;
   counted = let c = reads.counted in omega arith;
   numbered = reads.numbered;
   placed = reads.placed ∙ ap (λ texts. lines_of commands ++ numbers_of texts) (first ∙ lines_passed text (lines after) line passed);
   within = reads.within;
   few = reads.few;
-  joined = reads.joined ∙ ap (λ texts. with_front (operations bytes commands) (operations_of (length commands + 1) texts))
+  joined = reads.joined ∙ ap (λ texts. with_front (operations bytes commands) (operations_of version (length commands + 1) texts))
       (first ∙ lines_passed text (lines after) line passed);
 }
 
 -- a line that is a command
-reads_command : (bytes : List ℕ) (commands : List Command) (rest : List ℕ) (line : ℕ) (text after : List ℕ) (command : Command)
-    → Reads bytes commands rest line → command_lines line (lines rest) ≡ command_lines line (text ∷ lines after) → IsRestOf rest after → LiesAt rest 0 text
-    → length after < length rest → is_passed text ≡ false → length commands + 1 ≤ most_commands
-    → IsCommandAt text (length bytes - length rest) (length commands + 1) line command
-    → Reads bytes (commands ++ command ∷ []) after (line + 1)
-reads_command bytes commands rest line text after command reads first is_rest lies shorter kept room is =
+reads_command : (version : ℕ) (bytes : List ℕ) (commands : List Command) (rest : List ℕ) (line : ℕ) (text after : List ℕ) (command : Command)
+    → Reads version bytes commands rest line → lines_from line (lines rest) ≡ lines_from line (text ∷ lines after)
+    → IsRestOf rest after → LiesAt rest 0 text → length after < length rest → is_passed text ≡ false → length commands + 1 ≤ most_commands
+    → IsCommandAt version text (length bytes - length rest) (length commands + 1) line command
+    → Reads version bytes (commands ++ command ∷ []) after (line + 1)
+reads_command version bytes commands rest line text after command reads first is_rest lies shorter kept room is =
     let zero : length bytes - length rest + 0 ≡ length bytes - length rest = omega arith in
     let at : LiesAt bytes (length bytes - length rest) text = rw zero at (lies_within bytes rest text 0 reads.is_rest lies) in
     let found = is bytes at in
@@ -123,14 +124,14 @@ reads_command bytes commands rest line text after command reads first is_rest li
     let longer : length (commands ++ command ∷ []) ≡ number = rw length-append refl in
     let front = operations bytes commands in
     let here = operation bytes command in
-    let later = operations_of (number + 1) (command_lines (line + 1) (lines after)) in
+    let later = operations_of version (number + 1) (lines_from (line + 1) (lines after)) in
     let before = lines_of commands in
-    let behind = numbers_of (command_lines (line + 1) (lines after)) in
+    let behind = numbers_of (lines_from (line + 1) (lines after)) in
     record {
       is_rest = rest_of_rest bytes rest after reads.is_rest is_rest;
       counted = let c = reads.counted in omega arith;
       numbered = numbered_push commands command reads.numbered
-          (number_where _ (fields_of text) number line _ here found.0);
+          (number_where _ (fields_of version text) number line _ here found.0);
       placed = reads.placed
           ∙ ap (λ texts. before ++ numbers_of texts) (first ∙ lines_kept text (lines after) line kept)
           ∙ sym (append_assoc before (line ∷ []) behind)
@@ -139,47 +140,49 @@ reads_command bytes commands rest line text after command reads first is_rest li
       within = All-push (LiesWithin bytes) commands command reads.within found.1;
       few = rw longer room;
       joined = reads.joined
-          ∙ ap (λ texts. with_front front (operations_of number texts)) (first ∙ lines_kept text (lines after) line kept)
+          ∙ ap (λ texts. with_front front (operations_of version number texts)) (first ∙ lines_kept text (lines after) line kept)
           ∙ ap (λ reading. with_front front (with_first reading later)) found.0
           ∙ with_front-with_front front (here ∷ []) later
           ∙ ap (λ all. with_front all later) (sym (map-append (operation bytes) commands (command ∷ [])))
-          ∙ ap (λ n. with_front (operations bytes (commands ++ command ∷ [])) (operations_of (n + 1) (command_lines (line + 1) (lines after)))) (sym longer);
+          ∙ ap (λ n. with_front (operations bytes (commands ++ command ∷ [])) (operations_of version (n + 1) (lines_from (line + 1) (lines after))))
+          (sym longer);
     }
 
 -- one line more
-pub reads_more : (bytes : List ℕ) (commands more : List Command) (rest : List ℕ) (line : ℕ) (text after : List ℕ)
-    → Reads bytes commands rest line → command_lines line (lines rest) ≡ command_lines line (text ∷ lines after) → IsRestOf rest after → LiesAt rest 0 text
-    → length after < length rest → AddsLine text (length bytes - length rest) line commands more → length more ≤ most_commands
-    → Reads bytes more after (line + 1)
-reads_more bytes commands more rest line text after reads first is_rest lies shorter adds few = elim adds [
-  | inl passed ↦ rw passed.1 (reads_passed bytes commands rest line text after reads first is_rest shorter passed.0)
+pub reads_more : (version : ℕ) (bytes : List ℕ) (commands more : List Command) (rest : List ℕ) (line : ℕ) (text after : List ℕ)
+    → Reads version bytes commands rest line → lines_from line (lines rest) ≡ lines_from line (text ∷ lines after)
+    → IsRestOf rest after → LiesAt rest 0 text → length after < length rest
+    → AddsLine version text (length bytes - length rest) line commands more → length more ≤ most_commands
+    → Reads version bytes more after (line + 1)
+reads_more version bytes commands more rest line text after reads first is_rest lies shorter adds few = elim adds [
+  | inl passed ↦ rw passed.1 (reads_passed version bytes commands rest line text after reads first is_rest shorter passed.0)
   | inr kept ↦
       let longer : length (commands ++ kept.1 ∷ []) ≡ length commands + 1 = rw length-append refl in
       let room : length commands + 1 ≤ most_commands = rw (kept.2, longer) at few in
-      rw kept.2 (reads_command bytes commands rest line text after kept.1 reads first is_rest lies shorter kept.0 room kept.3)
+      rw kept.2 (reads_command version bytes commands rest line text after kept.1 reads first is_rest lies shorter kept.0 room kept.3)
 ]
 
 -- a line that is refused refuses the trace
-pub reads_refused : (bytes : List ℕ) (commands : List Command) (rest : List ℕ) (line : ℕ) (text after : List ℕ) (refusal : ParseRefusal)
-    → Reads bytes commands rest line → command_lines line (lines rest) ≡ command_lines line (text ∷ lines after)
-    → RefusesLine refusal text (length commands + 1) line → IsRefusedAs refusal (operations_of 1 (command_lines 1 (lines bytes)))
-reads_refused bytes commands rest line text after refusals.Memory reads first refused = tt
-reads_refused bytes commands rest line text after (refusals.Trace at cause) reads first refused =
+pub reads_refused : (version : ℕ) (bytes : List ℕ) (commands : List Command) (rest : List ℕ) (line : ℕ) (text after : List ℕ) (refusal : ParseRefusal)
+    → Reads version bytes commands rest line → lines_from line (lines rest) ≡ lines_from line (text ∷ lines after)
+    → RefusesLine refusal version text (length commands + 1) line → IsRefusedAs refusal (reading_in bytes)
+reads_refused version bytes commands rest line text after refusals.Memory reads first refused = tt
+reads_refused version bytes commands rest line text after (refusals.Trace at cause) reads first refused =
     let number = length commands + 1 in
     let front = operations bytes commands in
-    let later = operations_of (number + 1) (command_lines (line + 1) (lines after)) in
+    let later = operations_of version (number + 1) (lines_from (line + 1) (lines after)) in
     rw refused.0 (reads.joined
-    ∙ ap (λ texts. with_front front (operations_of number texts)) (first ∙ lines_kept text (lines after) line refused.1)
+    ∙ ap (λ texts. with_front front (operations_of version number texts)) (first ∙ lines_kept text (lines after) line refused.1)
     ∙ ap (λ reading. with_front front (with_first reading later)) refused.2)
 
 -- behind the last line
-pub reads_all : (bytes : List ℕ) (commands : List Command) (rest : List ℕ) (line : ℕ) → Reads bytes commands rest line → length rest ≡ 0
-    → AreSpelled bytes commands
-reads_all bytes commands [] line reads none = record {
+pub reads_all : (version : ℕ) (bytes : List ℕ) (commands : List Command) (rest : List ℕ) (line : ℕ) → Reads version bytes commands rest line
+    → length rest ≡ 0 → AreSpelled bytes commands
+reads_all version bytes commands [] line reads none = record {
   read = reads.joined ∙ ap Ok (append-nil (operations bytes commands));
   numbered = reads.numbered;
   placed = sym (reads.placed ∙ append-nil (lines_of commands));
   within = reads.within;
   few = reads.few;
 }
-reads_all bytes commands (b ∷ rest) line reads none = absurd (omega arith)
+reads_all version bytes commands (b ∷ rest) line reads none = absurd (omega arith)

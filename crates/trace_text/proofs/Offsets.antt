@@ -53,6 +53,7 @@ well_formed bytes commands lie =
     All-map IsWellFormed (operation bytes) commands (λ k d within.
     let lies : LiesWithin bytes (get_or commands k d) = lie k d within in
     record {
+      table = lies.table;
       key = lies.is_key;
       value = lies.is_value;
       fields = lies.fields;
@@ -62,6 +63,6 @@ well_formed bytes commands lie =
     })
 
 -- a line that asks this is line_reading to be its command
-pub line_reading_is : (number line : ℕ) (text : List ℕ) (fields : Fields) → number ≤ most_commands → Ok fields ≡ fields_of text
-    → line_reading (number, (line, text)) ≡ Ok (numbered number fields)
-line_reading_is number line text fields few e = rw (le-ltb _ _ few, ← e) refl
+pub line_reading_is : (version number line : ℕ) (text : List ℕ) (fields : Fields) → number ≤ most_commands → Ok fields ≡ fields_of version text
+    → line_reading version (number, (line, text)) ≡ Ok (numbered number fields)
+line_reading_is version number line text fields few e = rw (le-ltb _ _ few, ← e) refl

@@ -75,7 +75,7 @@ pub issued_is : (trace : Trace) (n s : ℕ) → 1 ≤ n → issued trace n s ≡
 issued_is trace n s some =
     sum_by-cong (λ q. length (parts trace n s q)) (λ q. count_by (λ operation. origin operation.number n == s && has_part n q operation) trace.operations) (range_with_len 0 n) (λ q. length-parts trace n s q)
     ∙ sum_by-exchange (λ q operation. one_if (origin operation.number n == s && has_part n q operation)) (range_with_len 0 n) trace.operations
-    ∙ sum_by-cong _ _ trace.operations (λ operation. takers (origin operation.number n == s) (is_scan operation.kind) n (owner operation.key n) (mod-lt (hash operation.key) some))
+    ∙ sum_by-cong _ _ trace.operations (λ operation. takers (origin operation.number n == s) (is_scan operation.kind) n (owner operation.key.bytes n) (mod-lt (hash operation.key.bytes) some))
 
 pub done_is : (trace : Trace) (n s : ℕ) → 1 ≤ n → done_at trace n s ≡ here_parts trace n s
 done_is trace n s some =

@@ -14,7 +14,7 @@ use lib.Lanes.{chunk, mask_l, top}
 use Rattle.trace_text.specs.inside.Found.{IsRestOf}
 use Rattle.trace_text.specs.inside.Plain.{ArePlain, IsPlain, first_set}
 use Rattle.trace_text.specs.Line.{cut_at, cut_where, is_key_byte, is_value_byte}
-use Rattle.trace_text.specs.Reading.{command_lines, is_cr, lines, strip_cr}
+use Rattle.trace_text.specs.Reading.{is_cr, lines, lines_from, strip_cr}
 use Rattle.trace_text.proofs.Cuts.{some_not, split_some}
 
 -- the bytes before the first lane that is set pass, where each that fails has its lane set
@@ -59,14 +59,14 @@ plain_strip text is = cond-false _ _ _ (elim (slice_get_cases text (length text 
 
 -- what stands before an LF that follows only such bytes is the first line
 pub plain_cut : (text : List ℕ) (end : ℕ) → end < length text → ArePlain text 0 end → get_or text end 0 ≡ 10 → (line : ℕ)
-    → command_lines line (lines text) ≡ command_lines line (take end text ∷ lines (drop (end + 1) text))
+    → lines_from line (lines text) ≡ lines_from line (take end text ∷ lines (drop (end + 1) text))
 plain_cut text end within are lf line =
     let test = λ (b : ℕ). eqb b 10 in
     let here : position_or_len test text ≡ end = position_or_len_is test text end 0 (omega arith)
     (λ k below. value_not (get_or text k 0) 10 (are k (omega arith) below) (omega arith)) (λ below. eq-eqb _ _ lf) in
     let found : position test text ≡ Some end = rw (here, lt-ltb end (length text) within) refl in
-    ap (λ pieces. command_lines line (map strip_cr pieces)) (split_some test text end found)
-    ∙ ap (λ first. command_lines line (first ∷ lines (drop (end + 1) text))) (plain_strip (take end text) (plain_front_is text end (omega arith) are))
+    ap (λ pieces. lines_from line (map strip_cr pieces)) (split_some test text end found)
+    ∙ ap (λ first. lines_from line (first ∷ lines (drop (end + 1) text))) (plain_strip (take end text) (plain_front_is text end (omega arith) are))
 
 -- an end of it is of such bytes too
 pub plain_rest : (text rest : List ℕ) → IsPlain text → IsRestOf text rest → IsPlain rest

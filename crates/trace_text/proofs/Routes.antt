@@ -16,7 +16,7 @@ use Rattle.trace_text.proofs.Offsets.{lies_within}
 
 -- for places behind the end
 abbrev pub no_command : Command
-no_command = record { number = 0; line = 0; kind = Put; key = record { start = 0; len = 0 }; value = record { start = 0; len = 0 }; count = 0 }
+no_command = record { number = 0; line = 0; kind = Put; table = 0; key = record { start = 0; len = 0 }; value = record { start = 0; len = 0 }; count = 0 }
 
 abbrev pub no_operation : Operation
 no_operation = operation [] no_command
@@ -36,10 +36,10 @@ adds_route n text start commands old command key to is goes bytes lies are =
     ∙ ap (map (route n)) (sym (map-append (operation bytes) commands (command ∷ [])))
 
 -- one line more
-pub routes_more : (n : ℕ) (bytes : List ℕ) (commands more : List Command) (old new : List Route) (rest : List ℕ) (line : ℕ) (text : List ℕ)
-    → Reads bytes commands rest line → LiesAt rest 0 text → AddsRoute n text (length bytes - length rest) commands old more new
+pub routes_more : (version n : ℕ) (bytes : List ℕ) (commands more : List Command) (old new : List Route) (rest : List ℕ) (line : ℕ) (text : List ℕ)
+    → Reads version bytes commands rest line → LiesAt rest 0 text → AddsRoute n text (length bytes - length rest) commands old more new
     → old ≡ routes n (operations bytes commands) → new ≡ routes n (operations bytes more)
-routes_more n bytes commands more old new rest line text reads lies adds are =
+routes_more version n bytes commands more old new rest line text reads lies adds are =
     let zero : length bytes - length rest + 0 ≡ length bytes - length rest = omega arith in
     let at : LiesAt bytes (length bytes - length rest) text = rw zero at (lies_within bytes rest text 0 reads.is_rest lies) in
     adds bytes at are
@@ -65,7 +65,7 @@ origin_at bytes commands n at c d numbered within =
 pub owner_below : (n : ℕ) (trace : List Operation) (to : List Route) (at : ℕ) (e : Route) → 1 ≤ n → to ≡ routes n trace → at < length to
     → (get_or to at e).owner < n
 owner_below n trace to at e some are within =
-    rw (route_at n trace to at e no_operation are within) (mod-lt (hash (get_or trace at no_operation).key) some)
+    rw (route_at n trace to at e no_operation are within) (mod-lt (hash (get_or trace at no_operation).key.bytes) some)
 
 -- where each stands at its place, they are all of them
 pub routes_from_each : (n : ℕ) (bytes : List ℕ) (commands : List Command) (to : List Route) → length to ≡ length commands

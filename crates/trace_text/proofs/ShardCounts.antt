@@ -66,7 +66,7 @@ few_before shard_of bytes commands i counts are below few =
 
 pub owned_few : (trace : Parsed) (where_to : List Route) (owned issued : List ℕ) → IsRouted trace where_to owned issued → AreFew owned
 owned_few trace where_to owned issued is =
-    counts_few (λ o. owner o.key trace.shards) (operations trace.bytes trace.commands) owned is.owned_are
+    counts_few (λ o. owner o.key.bytes trace.shards) (operations trace.bytes trace.commands) owned is.owned_are
     (rw (length-map trace.commands (operation trace.bytes)) is.consistent.spelled.few)
 
 pub issued_few : (trace : Parsed) (where_to : List Route) (owned issued : List ℕ) → IsRouted trace where_to owned issued → AreFew issued
@@ -203,13 +203,13 @@ pub here_parts_are : (trace : Trace) (n s : ℕ) (owned : List ℕ) → AreOwned
     → get_or owned (slot s Put) 0 + get_or owned (slot s Get) 0 + get_or owned (slot s Erase) 0
     + count_by (λ o. is_scan o.kind) trace.operations ≡ here_parts trace n s
 here_parts_are trace n s owned are =
-    let by : Operation → ℕ = λ o. owner o.key n in
+    let by : Operation → ℕ = λ o. owner o.key.bytes n in
     rw (others_are by s trace.operations owned are) (sym (here_split by s trace.operations))
 
 pub here_puts_are : (trace : Trace) (n s : ℕ) (owned : List ℕ) → AreOwned n trace.operations owned
     → get_or owned (slot s Put) 0 ≡ here_puts trace n s
 unfolding AreCountsBy
-here_puts_are trace n s owned are = are (slot s Put) ∙ sum_by-cong _ _ trace.operations (λ o. ap one_if (puts_at (owner o.key n) s o.kind))
+here_puts_are trace n s owned are = are (slot s Put) ∙ sum_by-cong _ _ trace.operations (λ o. ap one_if (puts_at (owner o.key.bytes n) s o.kind))
 
 pub reply_bytes_are : (trace : Trace) (n s : ℕ) (issued : List ℕ) → AreIssued n trace.operations issued
     → get_or issued (slot s Get) 0 * longest_value trace + get_or issued (slot s Scan) 0 * (n * scan_room) ≡ reply_bytes trace n s

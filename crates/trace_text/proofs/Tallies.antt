@@ -54,8 +54,8 @@ longest_from bytes (c ∷ commands) most lie =
     longest_from bytes commands (max most c.value.len) lie.1
     ∙ ap (λ len. fold (λ m d. max m (length (part bytes d.value))) (max most len) commands) (sym (value_len bytes c lie.0))
 
-pub longest_in : (bytes : List ℕ) (commands : List Command) → All (LiesWithin bytes) commands
-    → fold (λ m c. max m c.value.len) 0 commands ≡ longest_value (trace_with (operations bytes commands))
-longest_in bytes commands lie =
+pub longest_in : (version : ℕ) (bytes : List ℕ) (commands : List Command) → All (LiesWithin bytes) commands
+    → fold (λ m c. max m c.value.len) 0 commands ≡ longest_value (trace_with version (operations bytes commands))
+longest_in version bytes commands lie =
     longest_from bytes commands 0 (recursion_from_All (LiesWithin bytes) commands lie)
     ∙ sym (fold-map (λ m o. max m (length o.value)) (operation bytes) 0 commands)

@@ -2,11 +2,12 @@
 use Rattle.std.specs.Prelude.{ℕ, ◌==◌, ◌+◌, ◌&&◌, nat_lt, nat_le, Bool, true, not, List, [], ◌∷◌, length, take, drop, find, Option, Some, None, Result, Ok, Err, position, codes, decimal, if◌then◌else◌}
 use Rattle.std.specs.List.{list_all, range_with_len}
 use Rattle.std.specs.Str.{bytes_eq}
-use Rattle.layout.specs.Sizes.{greatest_key, greatest_value, most_keys}
+use Rattle.layout.specs.Sizes.{greatest_key, greatest_value, most_keys, tables}
+use Rattle.rows.specs.Key.{Key, in_table}
 use Rattle.rows.specs.declared.kind.Kind.{Kind}
 use Rattle.rows.specs.declared.kind.Kind.TheVariants.{Put, Get, Erase, Scan}
 use Rattle.trace_text.specs.declared.refusal.Cause.{Cause}
-use Rattle.trace_text.specs.declared.refusal.Cause.TheVariants.{UnknownWord, MissingField, KeyLength, KeyByte, ValueLength, ValueByte, Count, ExtraField}
+use Rattle.trace_text.specs.declared.refusal.Cause.TheVariants.{UnknownWord, MissingField, Table, KeyLength, KeyByte, ValueLength, ValueByte, Count, ExtraField}
 
 -- an empty line, and one that begins with `#`, are passed over
 abbrev pub is_passed : List ℕ → Bool
@@ -50,7 +51,7 @@ count_of field = find (λ n. bytes_eq (decimal n) field) (range_with_len 1 most_
 -- the kind of a line's command, and its fields
 pub record Fields : Type 0 where
   pub kind : Kind
-  pub key : List ℕ
+  pub key : Key
   -- of a put; else empty
   pub value : List ℕ
   -- the most keys that a scan gives; else 0
@@ -62,17 +63,17 @@ unless None later = later
 unless (Some cause) later = Err cause
 
 -- what follows a scan's count: nothing
-abbrev pub behind_count : List ℕ → Option ℕ → Option (List ℕ) → Result Fields Cause
+abbrev pub behind_count : Key → Option ℕ → Option (List ℕ) → Result Fields Cause
 behind_count key None behind = Err Count
 behind_count key (Some count) None = Ok (record { kind = Scan; key = key; value = []; count = count })
 behind_count key (Some count) (Some behind) = Err ExtraField
 
 -- the count of a scan, and what follows it
-abbrev pub from_count : List ℕ → List ℕ × Option (List ℕ) → Result Fields Cause
+abbrev pub from_count : Key → List ℕ × Option (List ℕ) → Result Fields Cause
 from_count key (field, behind) = behind_count key (count_of field) behind
 
 -- what follows a key: nothing; the value, which is all that follows the space; or a count
-abbrev pub behind_key : Kind → List ℕ → Option (List ℕ) → Result Fields Cause
+abbrev pub behind_key : Kind → Key → Option (List ℕ) → Result Fields Cause
 behind_key Put key None = Err MissingField
 behind_key Put key (Some value) = unless (value_fault value) (Ok (record { kind = Put; key = key; value = value; count = 0 }))
 behind_key Get key None = Ok (record { kind = Get; key = key; value = []; count = 0 })
@@ -82,9 +83,26 @@ behind_key Erase key (Some behind) = Err ExtraField
 behind_key Scan key None = Err MissingField
 behind_key Scan key (Some behind) = from_count key (cut_at 32 behind)
 
--- the fields of a command: its key, and what follows it
-abbrev pub from_key : Kind → List ℕ × Option (List ℕ) → Result Fields Cause
-from_key kind (key, behind) = unless (key_fault key) (behind_key kind key behind)
+-- the fields of a command on a table: its key, and what follows it
+abbrev pub from_key : Kind → ℕ → List ℕ × Option (List ℕ) → Result Fields Cause
+from_key kind table (bytes, behind) = unless (key_fault bytes) (behind_key kind (in_table table bytes) behind)
+
+-- the table that a field spells: one digit, 0 to 7
+abbrev pub table_of : List ℕ → Option ℕ
+table_of field = find (λ n. bytes_eq (decimal n) field) (range_with_len 0 tables)
+
+-- what follows the word in version 2: the table, a space, and the key
+abbrev pub behind_table : Kind → Option ℕ → Option (List ℕ) → Result Fields Cause
+behind_table kind None behind = Err Table
+behind_table kind (Some table) None = Err MissingField
+behind_table kind (Some table) (Some fields) = from_key kind table (cut_at 32 fields)
+
+abbrev pub from_table : Kind → List ℕ × Option (List ℕ) → Result Fields Cause
+from_table kind (field, behind) = behind_table kind (table_of field) behind
+
+-- in version 1 all rows are of table 0
+abbrev pub from_fields : ℕ → Kind → List ℕ → Result Fields Cause
+from_fields version kind fields = if version == 2 then from_table kind (cut_at 32 fields) else from_key kind 0 (cut_at 32 fields)
 
 abbrev pub kind_of : List ℕ → Option Kind
 kind_of word =
@@ -94,14 +112,14 @@ kind_of word =
     else (if bytes_eq word (codes "scan") then Some Scan else None)))
 
 -- what follows the word: a space, and the fields
-abbrev pub behind_word : Option Kind → Option (List ℕ) → Result Fields Cause
-behind_word None behind = Err UnknownWord
-behind_word (Some kind) None = Err MissingField
-behind_word (Some kind) (Some fields) = from_key kind (cut_at 32 fields)
+abbrev pub behind_word : ℕ → Option Kind → Option (List ℕ) → Result Fields Cause
+behind_word version None behind = Err UnknownWord
+behind_word version (Some kind) None = Err MissingField
+behind_word version (Some kind) (Some fields) = from_fields version kind fields
 
-abbrev pub from_word : List ℕ × Option (List ℕ) → Result Fields Cause
-from_word (word, behind) = behind_word (kind_of word) behind
+abbrev pub from_word : ℕ → List ℕ × Option (List ℕ) → Result Fields Cause
+from_word version (word, behind) = behind_word version (kind_of word) behind
 
--- the fields of a line, or the first thing that is wrong with it, from left to right
-abbrev pub fields_of : List ℕ → Result Fields Cause
-fields_of line = from_word (cut_at 32 line)
+-- the fields of a line in a trace of a version, or the first thing that is wrong with it, from left to right
+abbrev pub fields_of : ℕ → List ℕ → Result Fields Cause
+fields_of version line = from_word version (cut_at 32 line)

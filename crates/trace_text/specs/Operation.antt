@@ -1,5 +1,6 @@
 -- What a command of a trace asks.
 use Rattle.std.specs.Prelude.{ℕ, List, map, take, drop}
+use Rattle.rows.specs.Key.{in_table}
 use Rattle.rows.specs.Operation.{Operation}
 use Rattle.trace_text.specs.declared.command.Command.{Command}
 use Rattle.trace_text.specs.declared.command.Span.{Span}
@@ -13,7 +14,7 @@ abbrev pub operation : List ℕ → Command → Operation
 operation bytes command = record {
   number = command.number;
   kind = command.kind;
-  key = part bytes command.key;
+  key = in_table command.table (part bytes command.key);
   value = part bytes command.value;
   count = command.count;
 }

@@ -1,12 +1,12 @@
 -- What contracts see of a trace that was read.
 use Rattle.std.specs.Prelude.{◌≡◌, ℕ, ◌+◌, ◌<◌, ◌≤◌, List, length, map, slice_index_or, None, Ok, All}
-use Rattle.layout.specs.Sizes.{greatest_key, greatest_value, most_trace_bytes}
+use Rattle.layout.specs.Sizes.{greatest_key, greatest_value, most_trace_bytes, tables}
 use Rattle.rows.specs.Operation.{Operation, HasItsFields}
 use Rattle.trace_text.specs.declared.command.Command.{Command}
 use Rattle.trace_text.specs.Line.{key_fault, value_fault}
 use Rattle.trace_text.specs.Operation.{operations, part}
 use Rattle.trace_text.specs.Parts.{most_shards, replies_room}
-use Rattle.trace_text.specs.Reading.{command_lines, line_numbers, lines, most_commands, most_replies, operations_of}
+use Rattle.trace_text.specs.Reading.{command_lines, line_numbers, lines, version_in, most_commands, most_replies, operations_of}
 use Rattle.trace_text.specs.Trace.{Trace, trace_with}
 
 pub record Parsed : Type 0 where
@@ -17,20 +17,22 @@ pub record Parsed : Type 0 where
 
 -- what the commands of a trace ask, in order
 abbrev pub trace_in : Parsed → Trace
-trace_in trace = trace_with (operations trace.bytes trace.commands)
+trace_in trace = trace_with (version_in trace.bytes) (operations trace.bytes trace.commands)
 
 -- what a command of an accepted trace asks
 pub record IsWellFormed (operation : Operation) : Type 0 where
-  pub key : key_fault operation.key ≡ None
+  pub table : operation.key.table < tables
+  pub key : key_fault operation.key.bytes ≡ None
   pub value : value_fault operation.value ≡ None
   pub fields : HasItsFields operation.kind operation.value operation.count
   -- what this says of lengths, in bytes
-  pub key_some : 1 ≤ length operation.key
-  pub key_most : length operation.key ≤ greatest_key
+  pub key_some : 1 ≤ length operation.key.bytes
+  pub key_most : length operation.key.bytes ≤ greatest_key
   pub value_most : length operation.value ≤ greatest_value
 
 -- the command's key and value lie in the bytes
 pub record LiesWithin (bytes : List ℕ) (command : Command) : Type 0 where
+  pub table : command.table < tables
   pub key : command.key.start + command.key.len ≤ length bytes
   pub value : command.value.start + command.value.len ≤ length bytes
   pub key_some : 1 ≤ command.key.len
@@ -46,7 +48,7 @@ AreNumbered commands = (k : ℕ) (d : Command) → k < length commands → (slic
 
 -- the commands are those that the bytes spell
 pub record AreSpelled (bytes : List ℕ) (commands : List Command) : Type 0 where
-  pub read : operations_of 1 (command_lines 1 (lines bytes)) ≡ Ok (operations bytes commands)
+  pub read : operations_of (version_in bytes) 1 (command_lines (version_in bytes) (lines bytes)) ≡ Ok (operations bytes commands)
   pub numbered : AreNumbered commands
   pub placed : map (λ command. command.line) commands ≡ line_numbers bytes
   pub within : All (LiesWithin bytes) commands

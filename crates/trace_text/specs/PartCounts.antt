@@ -19,7 +19,7 @@ here_parts trace n s = count_by (has_part n s) trace.operations
 
 -- the puts whose key shard s owns
 abbrev pub here_puts : Trace → ℕ → ℕ → ℕ
-here_puts trace n s = count_by (λ operation. is_put operation.kind && owner operation.key n == s) trace.operations
+here_puts trace n s = count_by (λ operation. is_put operation.kind && owner operation.key.bytes n == s) trace.operations
 
 -- the room for the replies of what shard s issues: the greatest value for each get, and `scan_room` bytes for each part of a scan
 abbrev pub reply_bytes : Trace → ℕ → ℕ → ℕ

@@ -12,7 +12,7 @@ most_shards = 16
 abbrev pub hash : List ℕ → ℕ
 hash key = fold (λ h b. (bit_xor h b * 1099511628211) % 2 ^ 64) 14695981039346656037 key
 
--- the shard that owns a key, of n shards
+-- the shard that owns the bytes of a key, whatever its table, of n shards
 abbrev pub owner : List ℕ → ℕ → ℕ
 owner key n = hash key % n
 
@@ -22,7 +22,7 @@ origin i n = (i - 1) % n
 
 -- every shard does a part of a scan; of another command the one that owns the key
 abbrev pub has_part : ℕ → ℕ → Operation → Bool
-has_part n s operation = if is_scan operation.kind then true else owner operation.key n == s
+has_part n s operation = if is_scan operation.kind then true else owner operation.key.bytes n == s
 
 -- the numbers of the commands of origin o that have a part at shard s, rising
 abbrev pub parts : Trace → ℕ → ℕ → ℕ → List ℕ

@@ -4,3 +4,4 @@ pub mod Lines
 pub mod Plain
 pub mod Routes
 pub mod ShardCounts
+pub mod Version

@@ -16,6 +16,8 @@ pub struct Command {
     /// The line on which it stands. All lines are counted, from 1.
     pub line: u32,
     pub kind: Kind,
+    /// The table of the key: 0 to 7, and 0 in a trace of version 1.
+    pub table: u8,
     /// The key, or the least key of a scan.
     pub key: Span,
     /// The value of a put; empty for the other kinds.

@@ -1,5 +1,7 @@
 //! The trace: its bytes, the commands that they spell, and where the parts of a command are done.
 //!
+//! It is of version 1 or, where its first line says so, of version 2, in which each command names a table.
+//!
 //! A trace is read once, by [`parse`], or on threads by [`parse_on`]. A [`Trace`] keeps its bytes, and each [`Command`]
 //! says where its key and its value stand in them; no text is copied.
 //!
@@ -11,6 +13,7 @@ mod command;
 mod command_list;
 mod cutting;
 mod line;
+mod line_end;
 mod parts;
 mod plain;
 mod reading;
@@ -19,6 +22,7 @@ mod refusal;
 mod route;
 mod shard_counts;
 mod trace;
+mod version;
 
 pub use command::{Command, Span};
 pub use parts::{MOST_SHARDS, Needs, origin_of, owner_of};

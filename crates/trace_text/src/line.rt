@@ -1,13 +1,16 @@
 //! One line of a trace.
-ghost use Rattle.std.specs.Prelude.{◌≡◌, ◌⊎◌, ℕ, List, [], Ok, Err, ◌==◌, ◌<◌, ◌&&◌, nat_le, nat_lt, length, decimal, position, true, None, Some, IfSome, IfOk, IfErr, IsTrue};
+ghost use Rattle.std.specs.Prelude.{◌≡◌, ◌⊎◌, [], Ok, Err, ◌==◌, ◌<◌, ◌&&◌, nat_le, nat_lt, length, decimal, position, true, None, Some, IfSome, IfOk, IfErr, IsTrue};
 ghost use Rattle.std.specs.List.{list_all};
 ghost use Rattle.std.specs.Option.{option_map};
 ghost use Rattle.std.specs.Str.{bytes_eq};
-ghost use Rattle.layout.specs.Sizes.{most_keys};
-ghost use Rattle.trace_text.specs.Line.{is_passed, cut_at, cut_where, is_key_byte, is_value_byte, key_fault, value_fault, kind_of, count_of, from_count, from_key, fields_of};
+ghost use Rattle.layout.specs.Sizes.{most_keys, tables};
+ghost use Rattle.rows.specs.Key.{Key};
+ghost use Rattle.trace_text.specs.Line.{is_passed, cut_at, cut_where, is_key_byte, is_value_byte, key_fault, value_fault};
+ghost use Rattle.trace_text.specs.Line.{kind_of, count_of, from_count, from_key, table_of, from_table, from_fields, fields_of};
 ghost use Rattle.rows.specs.Operation.{HasItsFields};
 ghost use Rattle.trace_text.specs.inside.Found.{digits_in, reading_of, IsRestOf, LieIn};
 ghost use Rattle.trace_text.specs.inside.Plain.{IsPlain};
+ghost use Rattle.trace_text.specs.inside.Version.{table_in, table_spelled};
 
 use crate::refusal::Cause;
 use itoa::Buffer;
@@ -19,6 +22,7 @@ use rows::Kind;
 #[derive(Clone, Copy, Debug)]
 pub struct Found<'a> {
     pub kind: Kind,
+    pub table: u8,
     pub key: &'a [u8],
     pub key_at: usize,
     pub value: &'a [u8],
@@ -98,6 +102,7 @@ fn are_value_bytes(value: &[u8]) -> bool
 }
 
 /// What is wrong with a key. `sound` says that its bytes are known to be those of a key.
+#[inline(always)]
 fn key_fault(key: &[u8], sound: bool) -> Option<Cause>
     requires { IsTrue sound → list_all is_key_byte key.now ≡ true }
     ensures { result ≡ key_fault key.now }
@@ -112,6 +117,7 @@ fn key_fault(key: &[u8], sound: bool) -> Option<Cause>
 }
 
 /// What is wrong with a value. `sound` says that its bytes are known to be those of a value.
+#[inline(always)]
 fn value_fault(value: &[u8], sound: bool) -> Option<Cause>
     requires { IsTrue sound → IsPlain value.now }
     ensures { result ≡ value_fault value.now }
@@ -163,6 +169,7 @@ fn count_of(field: &[u8]) -> Option<u32>
 }
 
 /// The key with which the fields begin, and what stands behind the space after it.
+#[inline(always)]
 fn key_in(fields: &[u8], sound: bool) -> Result<(&[u8], Option<&[u8]>), Cause>
     requires { IsTrue sound → IsPlain fields.now }
     ensures parts { IfOk result (λ parts. (parts.0.now, option_map (λ behind. behind.now) parts.1) ≡ cut_at 32 fields.now) }
@@ -179,9 +186,11 @@ fn key_in(fields: &[u8], sound: bool) -> Result<(&[u8], Option<&[u8]>), Cause>
 
 /// The key, a space, and the value, which is all that follows.
 #[tactic(auto, using(crate::proofs::PlainText::plain_rest))]
-fn put_in(fields: &[u8], sound: bool) -> Result<Found<'_>, Cause>
-    requires { IsTrue sound → IsPlain fields.now }
-    ensures fields { reading_of result ≡ from_key Kind.Put (cut_at 32 fields.now) }
+#[inline(always)]
+fn put_in(table: u8, fields: &[u8], sound: bool) -> Result<Found<'_>, Cause>
+    requires table { table < tables }
+    requires sound { IsTrue sound → IsPlain fields.now }
+    ensures fields { reading_of result ≡ from_key Kind.Put table (cut_at 32 fields.now) }
     ensures offsets { IfOk result (LieIn fields.now) }
 {
     let (key, behind) = key_in(fields, sound)?;
@@ -190,6 +199,7 @@ fn put_in(fields: &[u8], sound: bool) -> Result<Found<'_>, Cause>
         Some(cause) => Err(cause),
         None => Ok(Found {
             kind: Kind::Put,
+            table,
             key,
             key_at: 0,
             value,
@@ -200,10 +210,12 @@ fn put_in(fields: &[u8], sound: bool) -> Result<Found<'_>, Cause>
 }
 
 /// A key, and nothing behind it.
-fn bare_in(kind: Kind, fields: &[u8], sound: bool) -> Result<Found<'_>, Cause>
+#[inline(always)]
+fn bare_in(kind: Kind, table: u8, fields: &[u8], sound: bool) -> Result<Found<'_>, Cause>
+    requires table { table < tables }
     requires sound { IsTrue sound → IsPlain fields.now }
     requires kind { (kind ≡ Kind.Get) ⊎ (kind ≡ Kind.Erase) }
-    ensures fields { reading_of result ≡ from_key kind (cut_at 32 fields.now) }
+    ensures fields { reading_of result ≡ from_key kind table (cut_at 32 fields.now) }
     ensures offsets { IfOk result (LieIn fields.now) }
 {
     let (key, behind) = key_in(fields, sound)?;
@@ -212,6 +224,7 @@ fn bare_in(kind: Kind, fields: &[u8], sound: bool) -> Result<Found<'_>, Cause>
     }
     Ok(Found {
         kind,
+        table,
         key,
         key_at: 0,
         value: &[],
@@ -222,10 +235,10 @@ fn bare_in(kind: Kind, fields: &[u8], sound: bool) -> Result<Found<'_>, Cause>
 
 /// The count of a scan, and nothing behind it.
 fn count_in(fields: &[u8]) -> Result<u32, Cause>
-    ensures count { IfOk result (λ count. (key : List ℕ) → from_count key (cut_at 32 fields.now) ≡ Ok
+    ensures count { IfOk result (λ count. (key : Key) → from_count key (cut_at 32 fields.now) ≡ Ok
         (record { kind = Kind.Scan; key = key; value = []; count = count })) }
     ensures fields { IfOk result (λ count. HasItsFields Kind.Scan [] count) }
-    ensures fault { IfErr result (λ cause. (key : List ℕ) → from_count key (cut_at 32 fields.now) ≡ Err cause) }
+    ensures fault { IfErr result (λ cause. (key : Key) → from_count key (cut_at 32 fields.now) ≡ Err cause) }
 {
     let (field, extra) = cut(fields, b' ');
     let count = count_of(field).ok_or(Cause::Count)?;
@@ -236,9 +249,11 @@ fn count_in(fields: &[u8]) -> Result<u32, Cause>
 }
 
 /// A key, a space, and a count.
-fn scan_in(fields: &[u8], sound: bool) -> Result<Found<'_>, Cause>
-    requires { IsTrue sound → IsPlain fields.now }
-    ensures fields { reading_of result ≡ from_key Kind.Scan (cut_at 32 fields.now) }
+#[inline(always)]
+fn scan_in(table: u8, fields: &[u8], sound: bool) -> Result<Found<'_>, Cause>
+    requires table { table < tables }
+    requires sound { IsTrue sound → IsPlain fields.now }
+    ensures fields { reading_of result ≡ from_key Kind.Scan table (cut_at 32 fields.now) }
     ensures offsets { IfOk result (LieIn fields.now) }
 {
     let (key, behind) = key_in(fields, sound)?;
@@ -246,6 +261,7 @@ fn scan_in(fields: &[u8], sound: bool) -> Result<Found<'_>, Cause>
     let count = count_in(behind)?;
     Ok(Found {
         kind: Kind::Scan,
+        table,
         key,
         key_at: 0,
         value: &[],
@@ -267,29 +283,94 @@ fn kind_of(word: &[u8]) -> Option<Kind>
     }
 }
 
-fn fields_behind(kind: Kind, fields: &[u8], sound: bool) -> Result<Found<'_>, Cause>
-    requires { IsTrue sound → IsPlain fields.now }
-    ensures fields { reading_of result ≡ from_key kind (cut_at 32 fields.now) }
+/// The fields of a command on this table.
+#[inline(always)]
+fn fields_on(kind: Kind, table: u8, fields: &[u8], sound: bool) -> Result<Found<'_>, Cause>
+    requires table { table < tables }
+    requires sound { IsTrue sound → IsPlain fields.now }
+    ensures fields { reading_of result ≡ from_key kind table (cut_at 32 fields.now) }
     ensures offsets { IfOk result (LieIn fields.now) }
 {
     match kind {
-        Kind::Put => put_in(fields, sound),
-        Kind::Get | Kind::Erase => bare_in(kind, fields, sound),
-        Kind::Scan => scan_in(fields, sound),
+        Kind::Put => put_in(table, fields, sound),
+        Kind::Get | Kind::Erase => bare_in(kind, table, fields, sound),
+        Kind::Scan => scan_in(table, fields, sound),
     }
 }
 
-/// What a line asks, or the first thing that is wrong with it. `sound` says that its bytes are known to be those
-/// of a value.
-pub fn fields_of(line: &[u8], sound: bool) -> Result<Found<'_>, Cause>
+/// The table that a byte spells.
+fn table_in(byte: u8) -> Option<u8>
+    ensures value { result ≡ table_in byte }
+    ensures below { IfSome result (λ table. table < tables) }
+{
+    match byte {
+        b'0'..=b'7' => Some(byte - b'0'),
+        _ => None,
+    }
+}
+
+fn table_spelled(field: &[u8]) -> Option<u8>
+    ensures value { result ≡ table_spelled field.now }
+    ensures below { IfSome result (λ table. table < tables) }
+{
+    match field {
+        [byte] => table_in(*byte),
+        _ => None,
+    }
+}
+
+/// The table that a field spells: one digit, 0 to 7.
+fn table_of(field: &[u8]) -> Option<u8>
+    ensures value { result ≡ table_of field.now }
+    ensures below { IfSome result (λ table. table < tables) }
+{
+    table_spelled(field)
+}
+
+/// The fields of a command that names its table: the table, a space, and the others.
+#[inline(always)]
+fn fields_named(kind: Kind, fields: &[u8], sound: bool) -> Result<Found<'_>, Cause>
+    requires { IsTrue sound → IsPlain fields.now }
+    ensures fields { reading_of result ≡ from_table kind (cut_at 32 fields.now) }
+    ensures offsets { IfOk result (LieIn fields.now) }
+{
+    let (field, behind) = cut(fields, b' ');
+    let table = table_of(field).ok_or(Cause::Table)?;
+    let behind = behind.ok_or(Cause::MissingField)?;
+    let found = fields_on(kind, table, behind, sound)?;
+    let before = fields.len() - behind.len();
+    Ok(Found {
+        key_at: before + found.key_at,
+        value_at: before + found.value_at,
+        ..found
+    })
+}
+
+/// The fields of a command: in a trace of version 1 it is on table 0.
+#[inline(always)]
+fn fields_behind(version: u32, kind: Kind, fields: &[u8], sound: bool) -> Result<Found<'_>, Cause>
+    requires { IsTrue sound → IsPlain fields.now }
+    ensures fields { reading_of result ≡ from_fields version kind fields.now }
+    ensures offsets { IfOk result (LieIn fields.now) }
+{
+    if version == 2 {
+        fields_named(kind, fields, sound)
+    } else {
+        fields_on(kind, 0, fields, sound)
+    }
+}
+
+/// What a line of a trace of this version asks, or the first thing that is wrong with it. `sound` says that its bytes
+/// are known to be those of a value.
+pub fn fields_of(version: u32, line: &[u8], sound: bool) -> Result<Found<'_>, Cause>
     requires { IsTrue sound → IsPlain line.now }
-    ensures fields { reading_of result ≡ fields_of line.now }
+    ensures fields { reading_of result ≡ fields_of version line.now }
     ensures offsets { IfOk result (LieIn line.now) }
 {
     let (word, fields) = cut(line, b' ');
     let kind = kind_of(word).ok_or(Cause::UnknownWord)?;
     let fields = fields.ok_or(Cause::MissingField)?;
-    let found = fields_behind(kind, fields, sound)?;
+    let found = fields_behind(version, kind, fields, sound)?;
     let before = line.len() - fields.len();
     Ok(Found {
         key_at: before + found.key_at,

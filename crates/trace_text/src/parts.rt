@@ -5,7 +5,7 @@ ghost use Rattle.trace_text.specs.Operation.{operations};
 ghost use Rattle.rows.specs.Operation.{is_get, is_scan};
 ghost use Rattle.trace_text.specs.Parts.{most_shards, hash, owner, origin, own_parts, longest_value, replies_room};
 ghost use Rattle.trace_text.specs.PartCounts.{issued, done_at, here_parts, here_puts, reply_bytes};
-ghost use Rattle.trace_text.specs.Reading.{most_commands};
+ghost use Rattle.trace_text.specs.Reading.{most_commands, version_in};
 ghost use Rattle.trace_text.specs.Trace.{trace_with};
 
 use crate::command_list::CommandList;
@@ -26,8 +26,8 @@ fn hash(key: &[u8]) -> u64
     key.iter().fold(OFFSET, |hash, b| (hash ^ u64::from(*b)).wrapping_mul(PRIME))
 }
 
-/// The shard that owns a key, of `shards` shards, 1 to 16: the key's FNV-1a hash of 64 bits, modulo their number.
-/// The rule is this project's own.
+/// The shard that owns a key, of `shards` shards, 1 to 16: the FNV-1a hash of 64 bits of the key's bytes, modulo their
+/// number. A key's table plays no part. The rule is this project's own.
 pub fn owner_of(key: &[u8], shards: u32) -> u32
     requires some { 1 ≤ shards }
     requires most { shards ≤ most_shards }
@@ -109,7 +109,7 @@ pub(crate) fn replies_room(commands: &CommandList, shards: u32) -> u64
     requires few { length commands.now ≤ most_commands }
     requires most { shards ≤ most_shards }
     ensures { (bytes : List ℕ) → All (LiesWithin bytes) commands.now
-        → result ≡ replies_room (trace_with (operations bytes commands.now)) shards }
+        → result ≡ replies_room (trace_with (version_in bytes) (operations bytes commands.now)) shards }
 {
     let gets = commands.gets() as u64;
     let scans = commands.scans() as u64;

@@ -6,7 +6,7 @@ ghost use Rattle.trace_text.specs.declared.command.Command.{Command};
 ghost use Rattle.trace_text.specs.Operation.{operation, operations};
 ghost use Rattle.trace_text.specs.Parsed.{AreSpelled, LiesWithin, trace_in};
 ghost use Rattle.trace_text.specs.Parts.{most_shards};
-ghost use Rattle.trace_text.specs.Reading.{most_commands, trace_of, IsRefusedAs};
+ghost use Rattle.trace_text.specs.Reading.{most_commands, trace_of, version_in, IsRefusedAs};
 ghost use Rattle.trace_text.specs.inside.Lines.{AddsCommands, AddsPlace, AddsRead, AreRead, IsCut, IsPlace, IsPlaceOf, IsRead, IsReadTo, Settles};
 ghost use Rattle.trace_text.specs.inside.Plain.{IsPlain};
 ghost use Rattle.trace_text.specs.inside.Routes.{route, routes, AreRoutedAt};
@@ -19,6 +19,7 @@ use crate::reading::{MOST_COMMANDS, command_at, cut_line, parse, trace_over};
 use crate::refusal::ParseRefusal;
 use crate::route::Route;
 use crate::trace::Trace;
+use crate::version::{behind_version, version_of};
 use rows::Kind;
 use std::alloc::{AllocError, Global};
 use std::thread;
@@ -72,40 +73,51 @@ fn add_place(
     Ok(())
 }
 
-/// What the line at this place is read to be.
-fn read_at(bytes: &[u8], place: &Place) -> Line
+/// What the line at this place is read to be, in a trace of this version.
+fn read_at(version: u32, bytes: &[u8], place: &Place) -> Line
     requires place { IsPlace bytes.now place.now }
     requires short { length bytes.now ≤ most_trace_bytes }
-    ensures { IsReadTo bytes.now place.now result }
+    ensures { IsReadTo version bytes.now place.now result }
 {
     let start = place.text.start as usize;
     let text = &bytes[start..start + place.text.len as usize];
-    match command_at(text, place.sound, start, place.number, place.line) {
+    match command_at(version, text, place.sound, start, place.number, place.line) {
         Ok((command, _)) => Line::Read(command),
         Err(_) => Line::Refused,
     }
 }
 
 /// Reads a line that was cut.
-fn read_line(bytes: &[u8], line: &mut Line)
+fn read_line(version: u32, bytes: &[u8], line: &mut Line)
     requires cut { IsCut bytes.now line.old }
     requires short { length bytes.now ≤ most_trace_bytes }
-    ensures { IsRead bytes.now line.old line.new }
+    ensures { IsRead version bytes.now line.old line.new }
 {
     match *line {
-        Line::Cut(place) => *line = read_at(bytes, &place),
+        Line::Cut(place) => *line = read_at(version, bytes, &place),
         Line::Read(_) | Line::Refused => {}
     }
 }
 
 /// Reads these lines on at most so many threads.
-fn read_lines<R: Threads + Sync>(rt: &R, threads: usize, bytes: &[u8], lines: &mut [Line])
+fn read_lines<R: Threads + Sync>(
+    rt: &R,
+    threads: usize,
+    version: u32,
+    bytes: &[u8],
+    lines: &mut [Line],
+)
     requires threads { 0 < threads }
     requires cut { All (IsCut bytes.now) lines.old }
     requires short { length bytes.now ≤ most_trace_bytes }
-    ensures { AreRead bytes.now lines.old lines.new }
+    ensures { AreRead version bytes.now lines.old lines.new }
 {
-    thread::for_each_mut(rt, lines, threads, &|_, line| read_line(bytes, line));
+    thread::for_each_mut(
+        rt,
+        lines,
+        threads,
+        &|_, line| read_line(version, bytes, line),
+    );
 }
 
 /// Adds the commands that these lines are, where none of them is refused.
@@ -123,6 +135,7 @@ fn add_commands(commands: &mut CommandList, lines: &[Line]) -> Result<(), Unread
 fn read_all<R: Threads + Sync>(
     rt: &R,
     threads: usize,
+    version: u32,
     bytes: &[u8],
     commands: &mut CommandList,
     lines: &mut [Line],
@@ -130,9 +143,9 @@ fn read_all<R: Threads + Sync>(
     requires threads { 0 < threads }
     requires cut { All (IsCut bytes.now) lines.old }
     requires short { length bytes.now ≤ most_trace_bytes }
-    ensures { OnOk result (AddsRead bytes.now commands.old lines.old commands.new) }
+    ensures { OnOk result (AddsRead version bytes.now commands.old lines.old commands.new) }
 {
-    read_lines(rt, threads, bytes, lines);
+    read_lines(rt, threads, version, bytes, lines);
     add_commands(commands, lines)?;
     Ok(())
 }
@@ -141,6 +154,7 @@ fn read_all<R: Threads + Sync>(
 fn settle<R: Threads + Sync>(
     rt: &R,
     threads: usize,
+    version: u32,
     bytes: &[u8],
     commands: &mut CommandList,
     lines: &mut Vec<Line>,
@@ -148,10 +162,10 @@ fn settle<R: Threads + Sync>(
     requires threads { 0 < threads }
     requires cut { All (IsCut bytes.now) lines.old.items }
     requires short { length bytes.now ≤ most_trace_bytes }
-    ensures commands { OnOk result (AddsRead bytes.now commands.old lines.old.items commands.new) }
+    ensures commands { OnOk result (AddsRead version bytes.now commands.old lines.old.items commands.new) }
     ensures none_left { OnOk result (lines.new.items ≡ []) }
 {
-    read_all(rt, threads, bytes, commands, lines.as_mut_slice())?;
+    read_all(rt, threads, version, bytes, commands, lines.as_mut_slice())?;
     lines.clear();
     Ok(())
 }
@@ -160,6 +174,7 @@ fn settle<R: Threads + Sync>(
 fn settle_stretch<R: Threads + Sync>(
     rt: &R,
     threads: usize,
+    version: u32,
     bytes: &[u8],
     commands: &mut CommandList,
     lines: &mut Vec<Line>,
@@ -167,12 +182,12 @@ fn settle_stretch<R: Threads + Sync>(
     requires threads { 0 < threads }
     requires cut { All (IsCut bytes.now) lines.old.items }
     requires short { length bytes.now ≤ most_trace_bytes }
-    ensures { OnOk result (Settles bytes.now commands.old lines.old.items commands.new lines.new.items) }
+    ensures { OnOk result (Settles version bytes.now commands.old lines.old.items commands.new lines.new.items) }
 {
     if lines.len() < STRETCH {
         return Ok(());
     }
-    settle(rt, threads, bytes, commands, lines)?;
+    settle(rt, threads, version, bytes, commands, lines)?;
     Ok(())
 }
 
@@ -181,25 +196,28 @@ fn read_stretches<R: Threads + Sync>(
     rt: &R,
     alloc: Global,
     threads: usize,
+    version: u32,
     bytes: &[u8],
 ) -> Result<CommandList, Unread>
     requires threads { 0 < threads }
+    requires version { version ≡ version_in bytes.now }
     requires short { length bytes.now ≤ most_trace_bytes }
     ensures { IfOk result (λ commands. AreSpelled bytes.now commands) }
 {
     let mut commands = CommandList::new(alloc);
     let mut lines = Vec::new(alloc);
-    let mut rest = bytes;
-    let mut line = 1u32;
+    let mut rest = behind_version(version, bytes);
+    // In a trace of version 2 this is the second line.
+    let mut line = version;
     while !rest.is_empty() {
         let start = bytes.len() - rest.len();
         let (text, after, sound) = cut_line(rest);
         add_place(&mut lines, &commands, text, sound, start, line)?;
-        settle_stretch(rt, threads, bytes, &mut commands, &mut lines)?;
+        settle_stretch(rt, threads, version, bytes, &mut commands, &mut lines)?;
         rest = after;
         line += 1;
     }
-    settle(rt, threads, bytes, &mut commands, &mut lines)?;
+    settle(rt, threads, version, bytes, &mut commands, &mut lines)?;
     Ok(commands)
 }
 
@@ -214,7 +232,8 @@ fn commands_on<R: Threads + Sync>(
     requires short { length bytes.now ≤ most_trace_bytes }
     ensures { IfOk result (λ read. IfSome read (λ commands. AreSpelled bytes.now commands)) }
 {
-    match read_stretches(rt, alloc, threads, bytes) {
+    let version = version_of(bytes);
+    match read_stretches(rt, alloc, threads, version, bytes) {
         Ok(commands) => Ok(Some(commands)),
         Err(Unread::Refused) => Ok(None),
         Err(Unread::Memory) => Err(AllocError),

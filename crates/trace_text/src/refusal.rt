@@ -28,6 +28,8 @@ pub enum Cause {
     ExtraField,
     /// 1,048,576 commands stand before this one.
     TooManyCommands,
+    /// In version 2 the field behind the word is not one digit 0 to 7.
+    Table,
     /// The replies may have more than 536,870,912 bytes: the longest value for each get, and 8,272 bytes for
     /// each shard's part of a scan. It has line 0.
     RepliesTooLarge,
@@ -48,6 +50,7 @@ impl Cause {
             Cause::Count => "Count",
             Cause::ExtraField => "ExtraField",
             Cause::TooManyCommands => "TooManyCommands",
+            Cause::Table => "Table",
             Cause::RepliesTooLarge => "RepliesTooLarge",
         }
     }

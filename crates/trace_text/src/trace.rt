@@ -1,17 +1,19 @@
 //! A trace that was read.
-ghost use Rattle.std.specs.Prelude.{◌≡◌, ◌<◌, ◌≤◌, length, map, slice_index_or, All, Ok, Contains};
-ghost use Rattle.layout.specs.Sizes.{greatest_key, greatest_value};
+ghost use Rattle.std.specs.Prelude.{◌≡◌, ◌⊎◌, ◌<◌, ◌≤◌, length, map, slice_index_or, All, Ok, Contains};
+ghost use Rattle.layout.specs.Sizes.{greatest_key, greatest_value, tables};
 ghost use Rattle.rows.specs.Operation.{Operation, is_scan};
 ghost use Rattle.trace_text.specs.Operation.{part};
 ghost use Rattle.trace_text.specs.Parsed.{trace_in, AreNumbered, IsConsistent, IsWellFormed, LiesWithin};
 ghost use Rattle.trace_text.specs.Parts.{has_part, most_shards, owner, replies_room};
 ghost use Rattle.trace_text.specs.Reading.{line_numbers, most_commands, most_replies, trace_of};
+ghost use Rattle.trace_text.specs.Trace.{regions};
 ghost use Rattle.trace_text.specs.inside.Routes.{route};
 
 use crate::command::Command;
 use crate::command_list::CommandList;
 use crate::route::Route;
 use crate::shard_counts::ShardCounts;
+use crate::version::{regions_in, version_of};
 use std::marker::Model;
 
 /// The commands of a trace, with its bytes. Contracts see the bytes, the commands, and the number of
@@ -56,6 +58,22 @@ impl Trace {
         self.shards
     }
 
+    /// The version of the trace: 2 where its first line is `version 2`, so that each command names a table; else 1.
+    pub fn version(&self) -> u32
+        ensures value { result ≡ (trace_in self.now).version }
+        ensures one_or_two { (result ≡ 1) ⊎ (result ≡ 2) }
+    {
+        version_of(self.bytes.as_slice())
+    }
+
+    /// The regions of each shard that runs the trace: one for each table, which are 8, in version 2; else 1.
+    pub fn regions(&self) -> u32
+        ensures value { result ≡ regions (trace_in self.now) }
+        ensures one_or_tables { (result ≡ 1) ⊎ (result ≡ tables) }
+    {
+        regions_in(self.version())
+    }
+
     /// The commands, in order.
     pub fn commands(&self) -> &[Command]
         // The commands, as they are read off the bytes.
@@ -78,7 +96,7 @@ impl Trace {
         self.commands.as_slice()
     }
 
-    /// The bytes of a command's key, 1 to 256 of them. The command is of this trace.
+    /// The bytes of a command's key, 1 to 256 of them. The command, which says the key's table, is of this trace.
     pub fn key(&self, command: &Command) -> &[u8]
         requires { Contains self.now.commands command.now }
         ensures value { result.now ≡ part self.now.bytes command.now.key }
@@ -112,7 +130,8 @@ impl Trace {
     /// The owner of the key of the command at this place, counted from 0. No key is looked at.
     pub fn owner(&self, at: usize) -> u32
         requires { at < length self.now.commands }
-        ensures value { (d : Operation) → result ≡ owner (slice_index_or (trace_in self.now).operations at d).key self.now.shards }
+        ensures value { (d : Operation)
+            → result ≡ owner (slice_index_or (trace_in self.now).operations at d).key.bytes self.now.shards }
         ensures below { result < self.now.shards }
     {
         u32::from(self.route(at).owner)

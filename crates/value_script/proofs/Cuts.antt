@@ -8,7 +8,7 @@ use Rattle.std.proofs.lemmas.Option.{cond_some}
 use borrow.Author.Tests.{ltb-true, ltb-false}
 use Rattle.memchr.specs.Find.{IsFirstByte}
 use Rattle.trace_text.specs.Line.{cut_where, cut_at}
-use Rattle.trace_text.specs.Reading.{lines, command_lines, strip_cr}
+use Rattle.trace_text.specs.Reading.{lines, lines_from, strip_cr}
 
 pub some_not : {A : Type 0} (b : Bool) (x : A) → cond b (Some x) None ≡ None → b ≡ false
 some_not true x e = cc
@@ -45,11 +45,11 @@ later None = lines []
 later (Some rest) = lines rest
 
 cut_lines_where : (line : ℕ) (text : List ℕ) (o : Option ℕ) → position (λ b. eqb b 10) text ≡ o
-    → command_lines line (lines text) ≡ command_lines line (strip_cr (cut_where o text).0 ∷ later (cut_where o text).1)
-cut_lines_where line text None e = ap (λ pieces. command_lines line (map strip_cr pieces)) (split_none (λ b. eqb b 10) text e)
-cut_lines_where line text (Some i) e = ap (λ pieces. command_lines line (map strip_cr pieces)) (split_some (λ b. eqb b 10) text i e)
+    → lines_from line (lines text) ≡ lines_from line (strip_cr (cut_where o text).0 ∷ later (cut_where o text).1)
+cut_lines_where line text None e = ap (λ pieces. lines_from line (map strip_cr pieces)) (split_none (λ b. eqb b 10) text e)
+cut_lines_where line text (Some i) e = ap (λ pieces. lines_from line (map strip_cr pieces)) (split_some (λ b. eqb b 10) text i e)
 
--- The lines that are command_lines are the first, which stands before the first LF, and those behind it. Behind the last
+-- The lines that may be commands are the first, which stands before the first LF, and those behind it. Behind the last
 -- line there is an empty one, which is passed over.
-pub cut_lines : (line : ℕ) (text : List ℕ) → command_lines line (lines text) ≡ command_lines line (strip_cr (cut_at 10 text).0 ∷ later (cut_at 10 text).1)
+pub cut_lines : (line : ℕ) (text : List ℕ) → lines_from line (lines text) ≡ lines_from line (strip_cr (cut_at 10 text).0 ∷ later (cut_at 10 text).1)
 cut_lines line text = cut_lines_where line text (position (λ b. eqb b 10) text) refl

@@ -4,7 +4,7 @@ use Rattle.std.specs.Prelude.{All}
 use Rattle.std.proofs.lemmas.List.{drop-drop, map-append}
 use Rattle.std.proofs.lemmas.List.Elements.{All-push}
 use Rattle.trace_text.specs.Line.{is_passed}
-use Rattle.trace_text.specs.Reading.{lines, command_lines, most_commands}
+use Rattle.trace_text.specs.Reading.{lines, lines_from, most_commands}
 use Rattle.value_script.specs.declared.command.Command.{Command}
 use Rattle.value_script.specs.declared.refusal.ScriptRefusal.{ScriptRefusal}
 use Rattle.value_script.specs.declared.refusal.ScriptRefusal.TheVariants as refusals
@@ -25,16 +25,16 @@ pub record Reads (bytes : List ℕ) (commands : List Command) (rest : List ℕ) 
   pub counted : line + length rest ≤ length bytes + 1
   pub sound : All (IsSound bytes) commands
   pub few : length commands ≤ most_commands
-  pub joined : orders_of 0 (command_lines 1 (lines bytes))
-      ≡ behind (orders bytes commands) (orders_of (length commands) (command_lines line (lines rest)))
+  pub joined : orders_of 0 (lines_from 1 (lines bytes))
+      ≡ behind (orders bytes commands) (orders_of (length commands) (lines_from line (lines rest)))
 
 -- a line that is passed over, and one that is not
-lines_passed : (text : List ℕ) (texts : List (List ℕ)) (line : ℕ) → is_passed text ≡ true → command_lines line (text ∷ texts) ≡ command_lines (line + 1) texts
-lines_passed text texts line e = ap (λ b. cond (not b) ((line, text) ∷ command_lines (line + 1) texts) (command_lines (line + 1) texts)) e
+lines_passed : (text : List ℕ) (texts : List (List ℕ)) (line : ℕ) → is_passed text ≡ true → lines_from line (text ∷ texts) ≡ lines_from (line + 1) texts
+lines_passed text texts line e = ap (λ b. cond (not b) ((line, text) ∷ lines_from (line + 1) texts) (lines_from (line + 1) texts)) e
 
 lines_kept : (text : List ℕ) (texts : List (List ℕ)) (line : ℕ) → is_passed text ≡ false
-    → command_lines line (text ∷ texts) ≡ (line, text) ∷ command_lines (line + 1) texts
-lines_kept text texts line e = ap (λ b. cond (not b) ((line, text) ∷ command_lines (line + 1) texts) (command_lines (line + 1) texts)) e
+    → lines_from line (text ∷ texts) ≡ (line, text) ∷ lines_from (line + 1) texts
+lines_kept text texts line e = ap (λ b. cond (not b) ((line, text) ∷ lines_from (line + 1) texts) (lines_from (line + 1) texts)) e
 
 behind-append : (front : List Order) (o : Order) (later : Result (List Order) Refusal) → behind (front ++ o ∷ []) later ≡ behind front (with_later o later)
 behind-append [] o later = refl
@@ -73,7 +73,7 @@ reads_first bytes =
 
 -- a line that is passed over
 reads_passed : (bytes : List ℕ) (commands : List Command) (rest : List ℕ) (line : ℕ) (text after : List ℕ)
-    → Reads bytes commands rest line → command_lines line (lines rest) ≡ command_lines line (text ∷ lines after) → IsRestOf rest after
+    → Reads bytes commands rest line → lines_from line (lines rest) ≡ lines_from line (text ∷ lines after) → IsRestOf rest after
     → length after < length rest → is_passed text ≡ true → Reads bytes commands after (line + 1)
 reads_passed bytes commands rest line text after reads first is_rest shorter passed = record {
   is_rest = rest_of_rest bytes rest after reads.is_rest is_rest;
@@ -86,7 +86,7 @@ reads_passed bytes commands rest line text after reads first is_rest shorter pas
 
 -- a line that is a command
 reads_command : (bytes : List ℕ) (commands : List Command) (rest : List ℕ) (line : ℕ) (text after : List ℕ) (command : Command)
-    → Reads bytes commands rest line → command_lines line (lines rest) ≡ command_lines line (text ∷ lines after) → IsRestOf rest after → LiesAt rest 0 text
+    → Reads bytes commands rest line → lines_from line (lines rest) ≡ lines_from line (text ∷ lines after) → IsRestOf rest after → LiesAt rest 0 text
     → length after < length rest → is_passed text ≡ false → length commands + 1 ≤ most_commands
     → IsCommandAt text (length bytes - length rest) (length commands) line command
     → Reads bytes (commands ++ command ∷ []) after (line + 1)
@@ -97,7 +97,7 @@ reads_command bytes commands rest line text after command reads first is_rest li
     let longer : length (commands ++ command ∷ []) ≡ length commands + 1 = rw length-append refl in
     let front = orders bytes commands in
     let here = order bytes command in
-    let later = orders_of (length commands + 1) (command_lines (line + 1) (lines after)) in
+    let later = orders_of (length commands + 1) (lines_from (line + 1) (lines after)) in
     record {
       is_rest = rest_of_rest bytes rest after reads.is_rest is_rest;
       counted = let c = reads.counted in omega arith;
@@ -112,7 +112,7 @@ reads_command bytes commands rest line text after command reads first is_rest li
 
 -- one line more
 pub reads_more : (bytes : List ℕ) (commands more : List Command) (rest : List ℕ) (line : ℕ) (text after : List ℕ)
-    → Reads bytes commands rest line → command_lines line (lines rest) ≡ command_lines line (text ∷ lines after) → IsRestOf rest after → LiesAt rest 0 text
+    → Reads bytes commands rest line → lines_from line (lines rest) ≡ lines_from line (text ∷ lines after) → IsRestOf rest after → LiesAt rest 0 text
     → length after < length rest → AddsLine text (length bytes - length rest) line commands more → length more ≤ most_commands
     → Reads bytes more after (line + 1)
 reads_more bytes commands more rest line text after reads first is_rest lies shorter (inl (passed, same)) few =
@@ -123,17 +123,17 @@ reads_more bytes commands more rest line text after reads first is_rest lies sho
 
 -- no line is left
 pub reads_all : (bytes : List ℕ) (commands : List Command) (rest : List ℕ) (line : ℕ) → length rest ≡ 0 → Reads bytes commands rest line
-    → orders_of 0 (command_lines 1 (lines bytes)) ≡ Ok (orders bytes commands)
+    → orders_of 0 (lines_from 1 (lines bytes)) ≡ Ok (orders bytes commands)
 reads_all bytes commands [] line none reads = reads.joined ∙ behind-none (orders bytes commands)
 reads_all bytes commands (b ∷ rest) line none reads = absurd (omega (arith, none))
 
 -- a line is refused
 pub reads_refused : (bytes : List ℕ) (commands : List Command) (rest : List ℕ) (line : ℕ) (text after : List ℕ) (refusal : ScriptRefusal)
-    → Reads bytes commands rest line → command_lines line (lines rest) ≡ command_lines line (text ∷ lines after)
-    → RefusesLine refusal text (length commands) line → IsRefusedAs refusal (orders_of 0 (command_lines 1 (lines bytes)))
+    → Reads bytes commands rest line → lines_from line (lines rest) ≡ lines_from line (text ∷ lines after)
+    → RefusesLine refusal text (length commands) line → IsRefusedAs refusal (orders_of 0 (lines_from 1 (lines bytes)))
 reads_refused bytes commands rest line text after (refusals.Script at cause) reads first (here, kept, refused) =
     rw here (reads.joined
     ∙ ap (λ texts. behind (orders bytes commands) (orders_of (length commands) texts)) (first ∙ lines_kept text (lines after) line kept)
-    ∙ ap (λ reading. behind (orders bytes commands) (with_first reading (orders_of (length commands + 1) (command_lines (line + 1) (lines after))))) refused
+    ∙ ap (λ reading. behind (orders bytes commands) (with_first reading (orders_of (length commands + 1) (lines_from (line + 1) (lines after))))) refused
     ∙ behind-err (orders bytes commands) _)
 reads_refused bytes commands rest line text after refusals.Memory reads first refused = tt

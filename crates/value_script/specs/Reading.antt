@@ -1,7 +1,7 @@
 -- The reading of a script.
 use Rattle.std.specs.Prelude.{◌≡◌, ℕ, ◌+◌, nat_lt, List, [], ◌∷◌, length, Result, Ok, Err, if◌then◌else◌}
 use Rattle.layout.specs.Sizes.{most_trace_bytes}
-use Rattle.trace_text.specs.Reading.{lines, command_lines, most_commands}
+use Rattle.trace_text.specs.Reading.{lines, lines_from, most_commands}
 use Rattle.value_script.specs.declared.refusal.Cause.{Cause}
 use Rattle.value_script.specs.declared.refusal.Cause.TheVariants.{TooManyCommands}
 use Rattle.value_script.specs.declared.refusal.ScriptRefusal.{ScriptRefusal}
@@ -39,7 +39,7 @@ orders_of before ((line, text) ∷ texts) = with_first (line_reading before line
 
 -- What the bytes of a script mean. Lines are cut, passed over and numbered as those of a trace.
 abbrev pub script_of : List ℕ → Result (List Order) Refusal
-script_of bytes = if nat_lt most_trace_bytes (length bytes) then Err TooLong else orders_of 0 (command_lines 1 (lines bytes))
+script_of bytes = if nat_lt most_trace_bytes (length bytes) then Err TooLong else orders_of 0 (lines_from 1 (lines bytes))
 
 -- the refusal of `parse_script` is the one of the reading; want of memory says nothing of it
 abbrev pub IsRefusedAs : {T : Type 0} → ScriptRefusal → Result T Refusal → Type 0

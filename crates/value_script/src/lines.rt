@@ -2,7 +2,7 @@
 ghost use Rattle.std.specs.Prelude.{◌≡◌, ◌==◌, ◌+◌, ◌<◌, ◌≤◌, ◌∷◌, ℕ, length, position, IfSome};
 ghost use Rattle.std.specs.Option.{option_map};
 ghost use Rattle.trace_text.specs.Line.{is_passed, cut_at, cut_where};
-ghost use Rattle.trace_text.specs.Reading.{command_lines, is_cr, lines, strip_cr};
+ghost use Rattle.trace_text.specs.Reading.{lines_from, is_cr, lines, strip_cr};
 ghost use Rattle.value_script.specs.inside.Found.{IsRestOf, LiesAt};
 
 use memchr::memchr;
@@ -83,7 +83,7 @@ pub(crate) fn cut_line(text: &[u8]) -> (&[u8], &[u8])
     ensures front { LiesAt text.now 0 result.0.now }
     ensures rest { IsRestOf text.now result.1.now }
     ensures progress { 0 < length text.now → length result.1.now < length text.now }
-    ensures lines { (line : ℕ) → command_lines line (lines text.now) ≡ command_lines line (result.0.now ∷ lines result.1.now) }
+    ensures lines { (line : ℕ) → lines_from line (lines text.now) ≡ lines_from line (result.0.now ∷ lines result.1.now) }
 {
     match cut_at_lf(text) {
         (line, None) => (strip_cr(line), &[]),

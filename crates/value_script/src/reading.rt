@@ -1,7 +1,7 @@
 //! The reading of a script.
 ghost use Rattle.std.specs.Prelude.{◌≡◌, ℕ, ◌+◌, ◌<◌, ◌≤◌, ◌^◌, length, All, IfOk, IfErr, OnOk, Ok, Err};
 ghost use Rattle.layout.specs.Sizes.{most_trace_bytes};
-ghost use Rattle.trace_text.specs.Reading.{command_lines, lines, most_commands};
+ghost use Rattle.trace_text.specs.Reading.{lines_from, lines, most_commands};
 ghost use Rattle.value_script.specs.Commands.{orders};
 ghost use Rattle.value_script.specs.Reading.{AtLine, line_reading, orders_of, script_of, IsRefusedAs};
 ghost use Rattle.value_script.specs.Script.{script_in, IsSound};
@@ -73,10 +73,10 @@ fn add_line(
 /// The commands that the bytes spell.
 fn commands_of(alloc: Global, bytes: &[u8]) -> Result<Vec<Command>, ScriptRefusal>
     requires short { length bytes.now ≤ most_trace_bytes }
-    ensures read { IfOk result (λ commands. orders_of 0 (command_lines 1 (lines bytes.now)) ≡ Ok (orders bytes.now commands.items)) }
+    ensures read { IfOk result (λ commands. orders_of 0 (lines_from 1 (lines bytes.now)) ≡ Ok (orders bytes.now commands.items)) }
     ensures sound { IfOk result (λ commands. All (IsSound bytes.now) commands.items) }
     ensures few { IfOk result (λ commands. length commands.items ≤ most_commands) }
-    ensures refused { IfErr result (λ refusal. IsRefusedAs refusal (orders_of 0 (command_lines 1 (lines bytes.now)))) }
+    ensures refused { IfErr result (λ refusal. IsRefusedAs refusal (orders_of 0 (lines_from 1 (lines bytes.now)))) }
 {
     let mut commands = Vec::new(alloc);
     let mut rest = bytes;

@@ -19,14 +19,13 @@ pub record HasSpare (r : RegionState) : Type 0 where
   pub begun : active_of r 0 ≡ None → held_count r ≤ free_count r
   pub free : 2 ≤ held_count r → 1 ≤ free_count r
 
--- the ring is the one of the live objects, whose bytes are so many, and the index the one of the ring
-pub record IsStored (ring : RingState) (index : PutRows) (r : RegionState) (bytes : ℕ) : Type 0 where
+-- the ring is the one of the live objects, and the index the one of the ring
+pub record IsStored (ring : RingState) (index : PutRows) (r : RegionState) : Type 0 where
   pub ring_of : IsRingOf ring (live_at r)
   pub index_of : IsIndexOf ring (live_at r) index
-  pub counted : bytes ≡ live_total r
   pub sizes : live (puts_in ring (live_at r)) ≡ live_total r
   pub spare : HasSpare r
 
-pub record IsConsistent (ring : RingState) (index : PutRows) (r : RegionState) (bytes out : ℕ) : Type 0 where
-  pub stored : IsStored ring index r bytes
+pub record IsConsistent (ring : RingState) (index : PutRows) (r : RegionState) (out : ℕ) : Type 0 where
+  pub stored : IsStored ring index r
   pub out_is : IsOut out (puts_in ring (live_at r))

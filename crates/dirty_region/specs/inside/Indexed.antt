@@ -1,12 +1,13 @@
 -- Which puts of a ring the index of keys has: of each key the newest one.
-use Rattle.std.specs.Prelude.{◌≡◌, ◌≢◌, ◌↔◌, ℕ, ◌-◌, ◌<◌, ◌≤◌, List}
+use Rattle.std.specs.Prelude.{◌≡◌, ◌≢◌, ◌↔◌, ℕ, ◌-◌, ◌<◌, ◌≤◌}
 use Rattle.common_lemmas.specs.Lists.{times}
+use Rattle.rows.specs.Key.{Key}
 use Rattle.dirty_region.specs.inside.PutRows.{PutRows, Has, IsKeyed, rows_in}
 use Rattle.regions.specs.Stores.{Live}
 use Rattle.dirty_region.specs.inside.Rings.{RingState, slot, key_at}
 
 -- the key of the put with so many older ones
-abbrev pub nth_key : RingState → Live → ℕ → List ℕ
+abbrev pub nth_key : RingState → Live → ℕ → Key
 nth_key r live k = key_at live r.places (slot r k)
 
 -- no newer put has its key
@@ -37,5 +38,5 @@ abbrev pub IsIndexBefore : RingState → Live → PutRows → Type 0
 IsIndexBefore r live index = IsKeyedBy r live 0 (r.count - 1) (IsNewest r live) index
 
 -- the same, but for the puts of a key
-abbrev pub IsIndexBut : List ℕ → RingState → Live → PutRows → Type 0
+abbrev pub IsIndexBut : Key → RingState → Live → PutRows → Type 0
 IsIndexBut key r live index = IsKeyedBy r live 0 r.count (λ k. IsNewest r live k × (nth_key r live k ≢ key)) index

@@ -1,6 +1,7 @@
 -- The rows of an index from key to put: those of a table, and the strays, which the table refused.
 use Rattle.std.specs.Prelude.{◌≡◌, ◌↔◌, ℕ, ◌+◌, ◌^◌, ◌<◌, ◌≤◌, Bool, true, List, ◌++◌, length, Some, slice_get}
 use Rattle.common_lemmas.specs.Lists.{times}
+use Rattle.rows.specs.Key.{Key}
 use Rattle.key_index.specs.Index.{Index, IsOrdered}
 use Rattle.key_table.specs.Table.{Table, rows_of, IsTagged, IsTagOf}
 use Rattle.key_table.specs.declared.entries.RowAt.{RowAt}
@@ -23,12 +24,12 @@ abbrev pub Has : PutRows → ℕ → Type 0
 Has index n = 1 ≤ times n (rows_in index)
 
 -- what is kept beside the rows is of these keys
-pub record IsKeyed (key_of : ℕ → List ℕ) (index : PutRows) : Type 0 where
+pub record IsKeyed (key_of : ℕ → Key) (index : PutRows) : Type 0 where
   pub tagged : IsTagged key_of index.table
   pub ordered : IsOrdered key_of index.strays
 
 -- the index is one of these keys: each of its rows has one that can be read
-pub record IsPutIndexOf (has_row : ℕ → Type 0) (key_of : ℕ → List ℕ) (index : PutRows) : Type 0 where
+pub record IsPutIndexOf (has_row : ℕ → Type 0) (key_of : ℕ → Key) (index : PutRows) : Type 0 where
   pub readable : (n : ℕ) → Has index n → has_row n
   pub keyed : IsKeyed key_of index
 

@@ -1,5 +1,6 @@
 -- The ring of the places of a queue's puts, and the live objects that it is the ring of.
 use Rattle.std.specs.Prelude.{◌≡◌, ◌≢◌, ℕ, zero, suc, ◌+◌, ◌-◌, ◌%◌, ◌^◌, ◌<◌, ◌≤◌, nat_lt, cond, List, [], ◌∷◌, length, Option, None, Some, slice_get, slice_set}
+use Rattle.rows.specs.Key.{Key}
 use Rattle.rows.specs.Row.{Row, size}
 use Rattle.row_bytes.specs.Rows.{HoldsRow, row_bytes, row_in, number_in}
 use Rattle.regions.specs.Contents.{Item, size_of}
@@ -52,7 +53,7 @@ pub record IsPutOf (item : Item) (position : ℕ) (put : Row) : Type 0 where
   pub holds : HoldsRow item.content position put
   pub read : row_in item.content ≡ put
   pub number : number_in item.content ≡ position
-  pub size : size_of item ≡ size put.key put.value
+  pub size : size_of item ≡ size put.key.bytes put.value
 
 -- the live object is a put
 pub record HoldsAPut (o : Option Item) : Type 0 where
@@ -93,7 +94,7 @@ content_at live (Some p) = content_of (live p)
 abbrev pub put_at : Live → List Place → ℕ → Row
 put_at live places n = row_in (content_at live (slice_get places n))
 
-abbrev pub key_at : Live → List Place → ℕ → List ℕ
+abbrev pub key_at : Live → List Place → ℕ → Key
 key_at live places n = (put_at live places n).key
 
 -- the first n of some puts

@@ -59,7 +59,6 @@ impl Dirty {
             &mut self.region,
             &mut self.ring,
             &mut self.index,
-            &mut self.live,
             &mut self.out,
         );
         Ok(Some(number))
@@ -90,7 +89,6 @@ impl Dirty {
             &mut self.region,
             &mut self.ring,
             &mut self.index,
-            &mut self.live,
             &mut self.out,
         );
         Ok(())
@@ -106,16 +104,10 @@ fn rest_of(line: &[u8], out: usize) -> &[u8]
 }
 
 // Takes the oldest put, whose line is out, out of the queue. No byte of the next line is out.
-fn take_out(
-    region: &mut Region,
-    ring: &mut Ring,
-    index: &mut PutIndex,
-    live_bytes: &mut u64,
-    out: &mut usize,
-)
+fn take_out(region: &mut Region, ring: &mut Ring, index: &mut PutIndex, out: &mut usize)
     requires some { 1 ≤ ring.old.count }
-    requires stored { IsStored ring.old index.old region.old live_bytes.old }
-    ensures stored { IsStored ring.new index.new region.new live_bytes.new }
+    requires stored { IsStored ring.old index.old region.old }
+    ensures stored { IsStored ring.new index.new region.new }
     ensures puts { puts_in ring.old (live_at region.old)
         ≡ nth ring.old (live_at region.old) 0 ∷ puts_in ring.new (live_at region.new) }
     ensures count { ring.new.count + 1 ≡ ring.old.count }
@@ -124,7 +116,7 @@ fn take_out(
     ensures shape { shape region.new ≡ shape region.old }
     ensures begun { out.new ≡ 0 }
 {
-    drop_oldest(region, ring, index, live_bytes);
+    drop_oldest(region, ring, index);
     *out = 0;
 }
 

@@ -41,12 +41,7 @@ impl Dirty {
         ensures first { self.new.first ≡ (self.old.first + length self.old.queue.puts) % 2 ^ 32 }
         ensures room { self.new.room ≡ self.old.room }
     {
-        drop_all(
-            &mut self.region,
-            &mut self.ring,
-            &mut self.index,
-            &mut self.live,
-        );
+        drop_all(&mut self.region, &mut self.ring, &mut self.index);
         self.out = 0;
         self.region.give_up()
     }

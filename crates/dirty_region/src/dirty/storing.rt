@@ -1,5 +1,6 @@
 //! How a put comes into the segments, and how the oldest one goes.
 ghost use Rattle.std.specs.Prelude.{◌≡◌, ℕ, ◌+◌, ◌-◌, ◌%◌, ◌^◌, ◌<◌, ◌≤◌, ◌++◌, ◌∷◌, [], length};
+ghost use Rattle.rows.specs.Key.{in_table};
 ghost use Rattle.rows.specs.Row.{Row, size, live};
 ghost use Rattle.row_bytes.specs.NewRows.{row_of, CanStand};
 ghost use Rattle.key_table.specs.Table.{IsSpotFor};
@@ -56,8 +57,8 @@ pub(super) fn add_put(
 )
     requires group { HasGroup region.old 0 }
     requires ring { IsRingOf ring.old (live_at region.old) }
-    requires index { IsIndexBut put.key.now ring.old (live_at region.old) index.old }
-    requires spot { IsSpotFor put.key.now spot }
+    requires index { IsIndexBut (in_table put.table put.key.now) ring.old (live_at region.old) index.old }
+    requires spot { IsSpotFor (in_table put.table put.key.now) spot }
     requires put { CanStand put }
     requires few { ring.old.count < ring.old.room }
     requires left { size put.key.now put.value.now ≤ left region.old 0 }
@@ -79,15 +80,10 @@ pub(super) fn add_put(
 }
 
 // Takes the oldest put out.
-pub(super) fn drop_oldest(
-    region: &mut Region,
-    ring: &mut Ring,
-    index: &mut PutIndex,
-    live_bytes: &mut u64,
-)
+pub(super) fn drop_oldest(region: &mut Region, ring: &mut Ring, index: &mut PutIndex)
     requires some { 1 ≤ ring.old.count }
-    requires stored { IsStored ring.old index.old region.old live_bytes.old }
-    ensures stored { IsStored ring.new index.new region.new live_bytes.new }
+    requires stored { IsStored ring.old index.old region.old }
+    ensures stored { IsStored ring.new index.new region.new }
     ensures puts { puts_in ring.old (live_at region.old)
         ≡ nth ring.old (live_at region.old) 0 ∷ puts_in ring.new (live_at region.new) }
     ensures count { ring.new.count + 1 ≡ ring.old.count }
@@ -96,26 +92,20 @@ pub(super) fn drop_oldest(
     ensures shape { shape region.new ≡ shape region.old }
 {
     forget_oldest(index, ring, region);
-    let size = kill_put(region, ring.place(0));
+    kill_put(region, ring.place(0));
     ring.pop();
-    *live_bytes -= u64::from(size);
 }
 
 // Takes all puts out.
-pub(super) fn drop_all(
-    region: &mut Region,
-    ring: &mut Ring,
-    index: &mut PutIndex,
-    live_bytes: &mut u64,
-)
-    requires stored { IsStored ring.old index.old region.old live_bytes.old }
-    ensures stored { IsStored ring.new index.new region.new live_bytes.new }
+pub(super) fn drop_all(region: &mut Region, ring: &mut Ring, index: &mut PutIndex)
+    requires stored { IsStored ring.old index.old region.old }
+    ensures stored { IsStored ring.new index.new region.new }
     ensures none { ring.new.count ≡ 0 }
     ensures first { ring.new.first ≡ (ring.old.first + ring.old.count) % 2 ^ 32 }
     ensures room { ring.new.room ≡ ring.old.room }
     ensures shape { shape region.new ≡ shape region.old }
 {
     while ring.len() > 0 {
-        drop_oldest(region, ring, index, live_bytes);
+        drop_oldest(region, ring, index);
     }
 }

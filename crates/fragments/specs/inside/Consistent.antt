@@ -31,7 +31,7 @@ abbrev pub HasFree : RegionState → Type 0
 HasFree r = (1 ≤ free_count r) ⊎ ((held_count r ≡ 0) ⊎ ((held_count r ≤ 1) × IsSome (active_of r 0)))
 
 -- each entry has a first fragment and a chain, the region has one group, and its chains hold the values and nothing else
-pub record IsConsistent (t : TableState) (r : RegionState) (lengths : List ℕ) (segments bytes : ℕ) : Type 0 where
+pub record IsConsistent (t : TableState) (r : RegionState) (lengths : List ℕ) (segments : ℕ) : Type 0 where
   pub entries : AreEntries t
   pub one : group_count r ≡ 1
   pub few : (shape r).most ≤ most_segments
@@ -42,6 +42,5 @@ pub record IsConsistent (t : TableState) (r : RegionState) (lengths : List ℕ) 
   pub lens : (n : ℕ) (value : List ℕ) → value_of (values_in t r) n ≡ Some value → slice_index_or lengths n 0 ≡ length value
   pub held : segments ≡ held_count r
   pub free : HasFree r
-  pub counted : bytes ≡ live_total r
   pub sizes : live (values_in t r) ≡ live_total r
   pub within : live_total r ≤ room (held_count r)

@@ -1,6 +1,7 @@
 -- Rows in order and rows that wait.
 use Rattle.std.specs.Prelude.{◌≡◌, ℕ, ◌+◌, ◌^◌, ◌<◌, ◌≤◌, List, length}
 use Rattle.common_lemmas.specs.Lists.{times}
+use Rattle.rows.specs.Key.{Key}
 use Rattle.key_index.specs.Index.{Index, IsIndexOf}
 use Rattle.key_table.specs.Table.{Table, rows_of}
 use Rattle.key_table.specs.Late.{Numbers}
@@ -22,7 +23,7 @@ abbrev pub both : Index → Numbers → ℕ → ℕ
 both order late n = times n order.rows + times n late.numbers
 
 -- the rows in order and those that wait have keys that can be read, each its own
-pub record CanSettle (has_row : ℕ → Type 0) (key_of : ℕ → List ℕ) (order : Index) (late : Numbers) : Type 0 where
+pub record CanSettle (has_row : ℕ → Type 0) (key_of : ℕ → Key) (order : Index) (late : Numbers) : Type 0 where
   pub readable : (n : ℕ) → 1 ≤ both order late n → has_row n
   pub once : (n : ℕ) → both order late n ≤ 1
   pub apart : (m n : ℕ) → 1 ≤ both order late m → 1 ≤ both order late n → key_of m ≡ key_of n → m ≡ n

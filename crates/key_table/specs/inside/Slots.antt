@@ -1,5 +1,6 @@
 -- Slots, of which each holds a row or none.
 use Rattle.std.specs.Prelude.{◌≡◌, ◌≢◌, ℕ, ◌+◌, ◌-◌, ◌<◌, ◌≤◌, ◌==◌, Bool, not, List, length, filter, count_by, slice_index_or}
+use Rattle.rows.specs.Key.{Key}
 use Rattle.key_table.specs.Hash.{tag_of}
 use Rattle.key_table.specs.Table.{is_near, reach, vacant_row}
 pub use Rattle.key_table.specs.Table.{home_of}
@@ -97,15 +98,15 @@ abbrev pub AreReadable : (ℕ → Type 0) → List RowAt → Type 0
 AreReadable has_row slots = (k : ℕ) → IsHeld slots k → has_row (slot_at slots k).row
 
 -- each row's tag is the one of its key
-abbrev pub AreTagged : (ℕ → List ℕ) → List RowAt → Type 0
+abbrev pub AreTagged : (ℕ → Key) → List RowAt → Type 0
 AreTagged key_of slots = (k : ℕ) → IsHeld slots k → (slot_at slots k).tag ≡ tag_of (key_of (slot_at slots k).row)
 
 -- no row has the key
-abbrev pub HaveNot : (ℕ → List ℕ) → List ℕ → List RowAt → Type 0
+abbrev pub HaveNot : (ℕ → Key) → Key → List RowAt → Type 0
 HaveNot key_of key slots = (k : ℕ) → IsHeld slots k → key_of (slot_at slots k).row ≢ key
 
 -- a row that has the key
-pub record IsFound (key_of : ℕ → List ℕ) (key : List ℕ) (slots : List RowAt) (found : RowAt) : Type 0 where
+pub record IsFound (key_of : ℕ → Key) (key : Key) (slots : List RowAt) (found : RowAt) : Type 0 where
   pub place : ℕ
   pub is : slot_at slots place ≡ found
   pub here : IsHeld slots place

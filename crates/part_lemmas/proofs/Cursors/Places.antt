@@ -161,7 +161,7 @@ first-left trace n o s at e d within here =
 
 -- for places behind the end
 abbrev pub no_command : Command
-no_command = record { number = 0; line = 0; kind = Put; key = record { start = 0; len = 0 }; value = record { start = 0; len = 0 }; count = 0 }
+no_command = record { number = 0; line = 0; kind = Put; table = 0; key = record { start = 0; len = 0 }; value = record { start = 0; len = 0 }; count = 0 }
 
 abbrev pub no_operation : Operation
 no_operation = operation [] no_command

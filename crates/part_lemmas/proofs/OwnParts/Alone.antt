@@ -28,7 +28,7 @@ doers-of : (n : ℕ) (list : List Operation) → 1 ≤ n → All (λ (part : ℕ
 doers-of n [] some = All-nil (λ (part : ℕ × ℕ). part.1 < n)
 doers-of n (x ∷ xs) some =
     All-append (λ (part : ℕ × ℕ). part.1 < n) (parts_of n x) (flat_map (parts_of n) xs)
-    (doer-of n x.number (owner x.key n) (is_scan x.kind) (mod-lt (hash x.key) some))
+    (doer-of n x.number (owner x.key.bytes n) (is_scan x.kind) (mod-lt (hash x.key.bytes) some))
     (doers-of n xs some)
 
 pub doers-below : (trace : Trace) (n o : ℕ) → 1 ≤ n → All (λ part. part.1 < n) (issued_parts trace n o)

@@ -10,7 +10,7 @@ use Rattle.std.proofs.lemmas.List.Sums.{prefix_len-le-length, sum_by_push}
 use Rattle.layout.specs.Sizes.{dense, tickets}
 use Rattle.rows.specs.Operation.{Operation}
 use Rattle.trace_text.specs.Parts.{origin}
-use Rattle.trace_text.specs.Trace.{Trace}
+use Rattle.trace_text.specs.Trace.{Trace, regions}
 use Rattle.cache_model.specs.declared.entry.Entry.{Entry}
 use Rattle.cache_model.specs.declared.entry.Entry.TheVariants.{Done, Evicted}
 use Rattle.rows.specs.Apply.{Reply, apply}
@@ -33,10 +33,10 @@ pub record Laws : Type 0 where
   pub evicts : (trace : Trace) (pages bound i : ℕ) (journal : List Entry)
       → EvictsAbove trace pages bound journal → EvictsAbove trace pages bound (journal ++ Done i ∷ [])
   pub legal : (trace : Trace) (pages bound : ℕ) (cache rest : List Row) (puts : List ℕ)
-      → Evicts bound cache puts rest → floor pages ≤ bound → cache_from trace pages cache (map Evicted puts) ≡ Some rest
+      → Evicts bound cache puts rest → floor pages (regions trace) ≤ bound → cache_from trace pages cache (map Evicted puts) ≡ Some rest
   pub above : (trace : Trace) (pages bound : ℕ) (journal : List Entry) (cache rest : List Row) (puts : List ℕ)
       → cache_after trace pages journal ≡ Some cache → EvictsAbove trace pages bound journal
-      → Evicts bound cache puts rest → floor pages ≤ bound → EvictsAbove trace pages bound (journal ++ map Evicted puts)
+      → Evicts bound cache puts rest → floor pages (regions trace) ≤ bound → EvictsAbove trace pages bound (journal ++ map Evicted puts)
 
 -- the entries of so many evictions
 abbrev pub evictions : List ℕ → List Entry
@@ -175,13 +175,13 @@ regroup : (entries : List Entry) (puts : List ℕ) (i : ℕ) → behind entries 
 regroup entries puts i = append_assoc entries (evictions puts) (Done i ∷ [])
 
 pub leads-evicted : Laws → (trace : Trace) (pages bound : ℕ) (entries : List Entry) (rows rest : List Row) (puts : List ℕ)
-    → cache_after trace pages entries ≡ Some rows → Evicts bound rows puts rest → floor pages ≤ bound
+    → cache_after trace pages entries ≡ Some rows → Evicts bound rows puts rest → floor pages (regions trace) ≤ bound
     → cache_after trace pages (entries ++ evictions puts) ≡ Some rest
 leads-evicted laws trace pages bound entries rows rest puts leads evicts low =
     laws.leads trace pages entries (evictions puts) rows leads ∙ laws.legal trace pages bound rows rest puts evicts low
 
 pub leads-more : Laws → (trace : Trace) (pages bound i : ℕ) (entries : List Entry) (rows rest : List Row) (puts : List ℕ) (operation : Operation)
-    → command_of trace i ≡ Some operation → cache_after trace pages entries ≡ Some rows → Evicts bound rows puts rest → floor pages ≤ bound
+    → command_of trace i ≡ Some operation → cache_after trace pages entries ≡ Some rows → Evicts bound rows puts rest → floor pages (regions trace) ≤ bound
     → cache_after trace pages (entries ++ then_done puts i) ≡ Some (apply operation rest).0
 leads-more laws trace pages bound i entries rows rest puts operation command leads evicts low =
     ap (cache_after trace pages) (sym (regroup entries puts i))
@@ -191,7 +191,7 @@ leads-more laws trace pages bound i entries rows rest puts operation command lea
 -- the reply to a command that is done behind evictions
 pub reply-of : Laws → (trace : Trace) (pages bound i : ℕ) (entries : List Entry) (rows rest : List Row) (puts : List ℕ) (operation : Operation)
     → list_any (is_done i) entries ≡ false → command_of trace i ≡ Some operation
-    → cache_after trace pages entries ≡ Some rows → Evicts bound rows puts rest → floor pages ≤ bound
+    → cache_after trace pages entries ≡ Some rows → Evicts bound rows puts rest → floor pages (regions trace) ≤ bound
     → reply_at trace pages (entries ++ then_done puts i) i ≡ Some (apply operation rest).1
 reply-of laws trace pages bound i entries rows rest puts operation none command leads evicts low =
     let unseen : list_any (is_done i) (entries ++ evictions puts) ≡ false =
@@ -209,13 +209,13 @@ evicts-lower low bound cache rest (put ∷ puts) le evicts =
     (evicts.0, (let above = evicts.1 in omega (arith, above, le)), evicts-lower low bound (take (length cache - 1) cache) rest puts le evicts.2)
 
 pub above-evicted : Laws → (trace : Trace) (pages low bound : ℕ) (entries : List Entry) (rows rest : List Row) (puts : List ℕ)
-    → cache_after trace pages entries ≡ Some rows → EvictsAbove trace pages low entries → Evicts bound rows puts rest → low ≤ bound → floor pages ≤ low
+    → cache_after trace pages entries ≡ Some rows → EvictsAbove trace pages low entries → Evicts bound rows puts rest → low ≤ bound → floor pages (regions trace) ≤ low
     → EvictsAbove trace pages low (entries ++ evictions puts)
 above-evicted laws trace pages low bound entries rows rest puts leads so_far evicts le lowest =
     laws.above trace pages low entries rows rest puts leads so_far (evicts-lower low bound rows rest puts le evicts) lowest
 
 pub above-more : Laws → (trace : Trace) (pages low bound i : ℕ) (entries : List Entry) (rows rest : List Row) (puts : List ℕ)
-    → cache_after trace pages entries ≡ Some rows → EvictsAbove trace pages low entries → Evicts bound rows puts rest → low ≤ bound → floor pages ≤ low
+    → cache_after trace pages entries ≡ Some rows → EvictsAbove trace pages low entries → Evicts bound rows puts rest → low ≤ bound → floor pages (regions trace) ≤ low
     → EvictsAbove trace pages low (entries ++ then_done puts i)
 above-more laws trace pages low bound i entries rows rest puts leads so_far evicts le lowest =
     subst (EvictsAbove trace pages low) (regroup entries puts i)
@@ -223,11 +223,11 @@ above-more laws trace pages low bound i entries rows rest puts leads so_far evic
 
 -- The bounds.
 
-pub floor-low : (pages t : ℕ) → t ≤ tickets → floor pages ≤ tight_floor pages t
-floor-low pages t few = omega arith
+pub floor-low : (pages t count : ℕ) → t ≤ tickets → floor pages count ≤ tight_floor pages t count
+floor-low pages t count few = omega arith
 
-pub pressure-low : (pages t : ℕ) → t ≤ tickets → floor pages ≤ tight_floor pages t + dense
-pressure-low pages t few = omega arith
+pub pressure-low : (pages t count : ℕ) → t ≤ tickets → floor pages count ≤ tight_floor pages t count + dense
+pressure-low pages t count few = omega arith
 
 -- Replies that were sent.
 

@@ -27,9 +27,11 @@ AreCounted = (trace : Trace) (n o : ℕ) → length (issued_parts trace n o) ≡
 abbrev pub AreOfPeers : Type 0
 AreOfPeers = (trace : Trace) (n o q : ℕ) → q < n → map (λ part. part.0) (filter (λ part. eqb part.1 q) (issued_parts trace n o)) ≡ parts trace n o q
 
+-- Parts hang on no version of their trace: that of version 1 stands for each.
+
 -- those of the commands before a place, and those of the commands from there on
 pub issued-cut : (ops : List Operation) (n o at : ℕ)
-    → issued_parts (trace_with ops) n o ≡ issued_parts (trace_with (take at ops)) n o ++ issued_parts (trace_with (drop at ops)) n o
+    → issued_parts (trace_with 1 ops) n o ≡ issued_parts (trace_with 1 (take at ops)) n o ++ issued_parts (trace_with 1 (drop at ops)) n o
 issued-cut ops n o at =
     let is_own : Operation → Bool = λ x. eqb (origin x.number n) o in
     ap (λ list. flat_map (parts_of n) (filter is_own list)) (sym (take-append-drop at ops))
@@ -37,7 +39,7 @@ issued-cut ops n o at =
     ∙ flat_map-append (parts_of n) (filter is_own (take at ops)) (filter is_own (drop at ops))
 
 pub issued-here : (ops : List Operation) (n o at : ℕ) (d : Operation) → at < length ops → eqb (origin (get_or ops at d).number n) o ≡ true
-    → issued_parts (trace_with (drop at ops)) n o ≡ parts_of n (get_or ops at d) ++ issued_parts (trace_with (drop (suc at) ops)) n o
+    → issued_parts (trace_with 1 (drop at ops)) n o ≡ parts_of n (get_or ops at d) ++ issued_parts (trace_with 1 (drop (suc at) ops)) n o
 issued-here ops n o at d within own = ap (flat_map (parts_of n)) (meets-first (λ x. eqb (origin x.number n) o) ops at d within own)
 
 -- what stands behind a list
@@ -70,11 +72,11 @@ pub scans-end : (ops : List Operation) (s at : ℕ) → length ops ≤ at → sh
 scans-end ops s at ended = ap (shards_before s) (slice_get_past ops at ended)
 
 pub place-of : AreCounted → (trace : Parsed) (n o s at : ℕ) (d : Operation) → at < length (trace_in trace).operations
-    → part_at trace n o s at ≡ length (issued_parts (trace_with (take at (trace_in trace).operations)) n o) + cond (is_scan (get_or (trace_in trace).operations at d).kind) s 0
+    → part_at trace n o s at ≡ length (issued_parts (trace_with 1 (take at (trace_in trace).operations)) n o) + cond (is_scan (get_or (trace_in trace).operations at d).kind) s 0
 place-of counted trace n o s at d within =
     let ops = (trace_in trace).operations in
     ap (λ k. parts_before (trace_in trace) n o at + k) (scans-here ops s at d within)
-    ∙ ap (λ k. k + cond (is_scan (get_or ops at d).kind) s 0) (sym (counted (trace_with (take at ops)) n o))
+    ∙ ap (λ k. k + cond (is_scan (get_or ops at d).kind) s 0) (sym (counted (trace_with 1 (take at ops)) n o))
 
 pub place-end : AreCounted → (trace : Parsed) (n o s at : ℕ) → length (trace_in trace).operations ≤ at
     → part_at trace n o s at ≡ length (issued_parts (trace_in trace) n o)
@@ -119,22 +121,22 @@ part-stands counted trace n o s at d below within here =
     let ops = (trace_in trace).operations in
     let one = get_or ops at d in
     let both = and_parts (eqb (origin one.number n) o) (has_part n s one) here in
-    let front = issued_parts (trace_with (take at ops)) n o in
-    let later = issued_parts (trace_with (drop (suc at) ops)) n o in
+    let front = issued_parts (trace_with 1 (take at ops)) n o in
+    let later = issued_parts (trace_with 1 (drop (suc at) ops)) n o in
     ap (slice_get (issued_parts (trace_in trace) n o)) (place-of counted trace n o s at d within)
     ∙ ap (λ list. slice_get list (length front + cond (is_scan one.kind) s 0)) (issued-cut ops n o at ∙ ap (λ list. front ++ list) (issued-here ops n o at d within both.0))
     ∙ behind front (parts_of n one ++ later) (cond (is_scan one.kind) s 0)
-    ∙ among (is_scan one.kind) n s one.number (owner one.key n) later below both.1
+    ∙ among (is_scan one.kind) n s one.number (owner one.key.bytes n) later below both.1
 
 -- How many of one shard stand before it.
 
 count-there : AreOfPeers → (ops : List Operation) (n o s : ℕ) → s < n
-    → count_by (λ part. eqb part.1 s) (issued_parts (trace_with ops) n o) ≡ length (filter (is_for n o s) ops)
+    → count_by (λ part. eqb part.1 s) (issued_parts (trace_with 1 ops) n o) ≡ length (filter (is_for n o s) ops)
 count-there peers ops n o s below =
-    let all = issued_parts (trace_with ops) n o in
+    let all = issued_parts (trace_with 1 ops) n o in
     sym (length-filter (λ (part : ℕ × ℕ). eqb part.1 s) all)
     ∙ sym (length-map (filter (λ (part : ℕ × ℕ). eqb part.1 s) all) (λ part. part.0))
-    ∙ ap length (peers (trace_with ops) n o s below)
+    ∙ ap length (peers (trace_with 1 ops) n o s below)
     ∙ length-map (filter (is_for n o s) ops) (λ operation. operation.number)
 
 none-lower : (i s a k n : ℕ) (others : List (ℕ × ℕ)) → a + k ≤ s → k ≤ n
@@ -163,10 +165,10 @@ count-before counted peers trace n o s at below here =
       | inl within ↦
           let one = get_or ops at no_operation in
           let both = and_parts (eqb (origin one.number n) o) (has_part n s one) (here no_operation within) in
-          let front = issued_parts (trace_with (take at ops)) n o in
-          let later = parts_of n one ++ issued_parts (trace_with (drop (suc at) ops)) n o in
+          let front = issued_parts (trace_with 1 (take at ops)) n o in
+          let later = parts_of n one ++ issued_parts (trace_with 1 (drop (suc at) ops)) n o in
           let lower = cond (is_scan one.kind) s 0 in
-          let none : count_by p (take lower later) ≡ 0 = none-among (is_scan one.kind) n s one.number (owner one.key n) (issued_parts (trace_with (drop (suc at) ops)) n o) below in
+          let none : count_by p (take lower later) ≡ 0 = none-among (is_scan one.kind) n s one.number (owner one.key.bytes n) (issued_parts (trace_with 1 (drop (suc at) ops)) n o) below in
           ap (λ k. count_by p (take k (issued_parts (trace_in trace) n o))) (place-of counted trace n o s at no_operation within)
           ∙ ap (λ list. count_by p (take (length front + lower) list)) (issued-cut ops n o at ∙ ap (λ list. front ++ list) (issued-here ops n o at no_operation within both.0))
           ∙ ap (count_by p) (take-append-add front later lower)

@@ -17,30 +17,32 @@ GoUp = (trace : Trace) (n o i : ℕ) (d : Operation) → i < length trace.operat
     → parts_before trace n o (i + 1) ≡ parts_before trace n o i
     + cond (eqb (origin (get_or trace.operations i d).number n) o) (cond (is_scan (get_or trace.operations i d).kind) n 1) 0
 
+-- Parts hang on no version of their trace: that of version 1 stands for each.
+
 -- a place behind the end
-pub parts-end : (ops : List Operation) (n o at : ℕ) → length ops ≤ at → parts_before (trace_with ops) n o at ≡ own_parts (trace_with ops) n o
-parts-end ops n o at ended = ap (λ list. own_parts (trace_with list) n o) (take_all at ops ended)
+pub parts-end : (ops : List Operation) (n o at : ℕ) → length ops ≤ at → parts_before (trace_with 1 ops) n o at ≡ own_parts (trace_with 1 ops) n o
+parts-end ops n o at ended = ap (λ list. own_parts (trace_with 1 list) n o) (take_all at ops ended)
 
 -- they stay at a command of another shard
-stays : GoUp → (ops : List Operation) (n o i : ℕ) → IsNumbered ops → (i % n ≡ o → ⊥) → parts_before (trace_with ops) n o (i + 1) ≡ parts_before (trace_with ops) n o i
+stays : GoUp → (ops : List Operation) (n o i : ℕ) → IsNumbered ops → (i % n ≡ o → ⊥) → parts_before (trace_with 1 ops) n o (i + 1) ≡ parts_before (trace_with 1 ops) n o i
 stays up ops n o i are other = elim (cases_lt i (length ops)) [
   | inl within ↦
       let number : (get_or ops i no_operation).number ≡ i + 1 = are i no_operation within in
       let from : origin (get_or ops i no_operation).number n ≡ i % n = ap (λ k. (k - 1) % n) number ∙ ap (λ k. k % n) (omega arith) in
       let away : eqb (origin (get_or ops i no_operation).number n) o ≡ false = ne_eqb _ _ (λ e. other (sym from ∙ e)) in
-      let nothing : parts_before (trace_with ops) n o i + 0 ≡ parts_before (trace_with ops) n o i = omega arith in
-      up (trace_with ops) n o i no_operation within
-      ∙ ap (λ b. parts_before (trace_with ops) n o i + cond b (cond (is_scan (get_or ops i no_operation).kind) n 1) 0) away
+      let nothing : parts_before (trace_with 1 ops) n o i + 0 ≡ parts_before (trace_with 1 ops) n o i = omega arith in
+      up (trace_with 1 ops) n o i no_operation within
+      ∙ ap (λ b. parts_before (trace_with 1 ops) n o i + cond b (cond (is_scan (get_or ops i no_operation).kind) n 1) 0) away
       ∙ nothing
   | inr ended ↦ parts-end ops n o (i + 1) (omega (arith, ended)) ∙ sym (parts-end ops n o i ended)
 ]
 
 pub stay : GoUp → (ops : List Operation) (n o from k : ℕ) → IsNumbered ops → ((i : ℕ) → from ≤ i → i < from + k → i % n ≡ o → ⊥)
-    → parts_before (trace_with ops) n o (from + k) ≡ parts_before (trace_with ops) n o from
-stay up ops n o from zero are others = ap (parts_before (trace_with ops) n o) (omega arith)
+    → parts_before (trace_with 1 ops) n o (from + k) ≡ parts_before (trace_with 1 ops) n o from
+stay up ops n o from zero are others = ap (parts_before (trace_with 1 ops) n o) (omega arith)
 stay up ops n o from (suc k) are others =
     let next : from + suc k ≡ from + k + 1 = omega arith in
-    ap (parts_before (trace_with ops) n o) next
+    ap (parts_before (trace_with 1 ops) n o) next
     ∙ stays up ops n o (from + k) are (others (from + k) (omega arith) (omega arith))
     ∙ stay up ops n o from k are (λ i above below. others i above (omega (arith, below)))
 

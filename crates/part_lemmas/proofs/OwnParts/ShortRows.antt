@@ -1,5 +1,5 @@
 -- The rows of a cache, as rows go from it and a command is done on it: how many they are, and how long.
-use Rattle.std.proofs.Common.{◌≡◌, ℕ, zero, suc, ◌+◌, ◌-◌, ◌*◌, ◌<◌, ◌≤◌, Bool, true, false, not, cond, leb, List, [], ◌∷◌, length, map, take, get_or, Option, Some, None, arith, refl, sym, subst, max, fold}
+use Rattle.std.proofs.Common.{◌≡◌, ℕ, zero, suc, ◌+◌, ◌-◌, ◌*◌, ◌<◌, ◌≤◌, Bool, true, false, not, cond, leb, List, [], ◌∷◌, length, take, get_or, Option, Some, None, arith, refl, sym, subst, max, fold}
 use Rattle.std.specs.List.{All, Contains, filter, find, flat_map}
 use Rattle.std.proofs.lemmas.Bool.Decides.{nat_tests}
 use Rattle.std.proofs.lemmas.List.{length-append, length-take}
@@ -8,11 +8,12 @@ use Rattle.std.proofs.lemmas.List.Sums.{count_by-le-length, length-filter}
 use Rattle.layout.specs.Sizes.{greatest_key, key_room}
 use Rattle.rows.specs.declared.kind.Kind.{Kind}
 use Rattle.rows.specs.declared.kind.Kind.TheVariants.{Put, Get, Erase, Scan}
+use Rattle.rows.specs.Key.{Key}
 use Rattle.rows.specs.Operation.{Operation, is_put}
 use Rattle.trace_text.specs.Parsed.{IsWellFormed}
 use Rattle.trace_text.specs.Parts.{longest_value}
 use Rattle.trace_text.specs.Trace.{Trace}
-use Rattle.rows.specs.Apply.{Stored, Replaced, Missing, Erased, apply, apply_kind, in_order, is_at_most, is_of, row_of, scanned, without}
+use Rattle.rows.specs.Apply.{Stored, Replaced, Missing, Erased, apply, apply_kind, in_order, is_at_most, is_of, keys_in, row_of, scanned, without}
 use Rattle.rows.specs.Bodies.{most_of_body, most_of_kind}
 use Rattle.rows.specs.Evictions.{Evicts}
 use Rattle.rows.specs.Holds.{PutHolds, ReplyHolds, RowsHold}
@@ -33,7 +34,7 @@ one-goes p (y ∷ ys) x found = go (p y) found (one-goes p ys x)
     go true found others = let a = length-filter (λ z. not (p z)) ys in let b = count_by-le-length (λ z. not (p z)) ys in omega (arith, a, b)
     go false found others = let e = others found in omega (arith, e)
 
-fewer : (key : List ℕ) (cache : List Row) → length (without key cache) ≤ length cache
+fewer : (key : Key) (cache : List Row) → length (without key cache) ≤ length cache
 fewer key cache =
     let a = length-filter (λ row. not (is_of key row)) cache in
     let b = count_by-le-length (λ row. not (is_of key row)) cache in
@@ -56,8 +57,8 @@ few-after operation cache = go operation.kind
 -- How long they are.
 
 -- no longer than a key can be, or than so many bytes
-abbrev pub is_short_key : List ℕ → Bool
-is_short_key key = leb (length key) greatest_key
+abbrev pub is_short_key : Key → Bool
+is_short_key key = leb (length key.bytes) greatest_key
 
 abbrev pub is_short_value : ℕ → List ℕ → Bool
 is_short_value longest value = leb (length value) longest
@@ -75,9 +76,9 @@ short-left longest bound cache rest (put ∷ puts) evicts short =
 
 -- That what holds of puts holds of rows and of replies is a law.
 abbrev pub KeepsRows : Type 0
-KeepsRows = (on_key on_value : List ℕ → Bool) (operation : Operation) (cache : List Row)
+KeepsRows = (on_key : Key → Bool) (on_value : List ℕ → Bool) (operation : Operation) (cache : List Row)
     → PutHolds on_key on_value operation → RowsHold on_key on_value cache
-    → RowsHold on_key on_value (apply operation cache).0 × ReplyHolds on_key on_value (apply operation cache).1
+    → RowsHold on_key on_value (apply operation cache).0 × ReplyHolds on_key on_value operation.key.table (apply operation cache).1
 
 most-so-far : (operations : List Operation) (m : ℕ) → m ≤ fold (λ most (o : Operation). max most (length o.value)) m operations
 most-so-far [] m = omega arith
@@ -104,15 +105,19 @@ short-after keeps longest bound operation cache rest puts put evicts short =
 
 -- How long a reply's body is.
 
-keys-short : (keys : List (List ℕ)) → All (λ key. is_short_key key ≡ true) keys → length (flat_map key_field keys) ≤ key_room * length keys
+abbrev is_short : List ℕ → Bool
+is_short bytes = leb (length bytes) greatest_key
+
+keys-short : (keys : List (List ℕ)) → All (λ key. is_short key ≡ true) keys → length (flat_map key_field keys) ≤ key_room * length keys
 keys-short [] all = omega arith
 keys-short (key ∷ keys) all =
-    let first : is_short_key key ≡ true = All-head (λ (k : List ℕ). is_short_key k ≡ true) key keys all in
+    let first : is_short key ≡ true = All-head (λ (k : List ℕ). is_short k ≡ true) key keys all in
     let few : length key ≤ 256 = grind (arith, nat_tests) in
-    let rest = keys-short keys (All-tail (λ (k : List ℕ). is_short_key k ≡ true) key keys all) in
+    let rest = keys-short keys (All-tail (λ (k : List ℕ). is_short k ≡ true) key keys all) in
     omega (arith, length-append (key_field key) (flat_map key_field keys), rest, few)
 
-pub short-body : (longest : ℕ) (operation : Operation) (cache : List Row) → ReplyHolds is_short_key (is_short_value longest) (apply operation cache).1
+pub short-body : (longest : ℕ) (operation : Operation) (cache : List Row)
+    → ReplyHolds is_short_key (is_short_value longest) operation.key.table (apply operation cache).1
     → length (spelled (apply operation cache).1).1 ≤ most_of_body longest operation
 short-body longest operation cache holds = go operation.kind holds
   where
@@ -124,14 +129,15 @@ short-body longest operation cache holds = go operation.kind holds
     erased true = omega arith
     erased false = omega arith
 
-    got : (found : Option Row) → row_of operation.key cache ≡ found → ReplyHolds is_short_key (is_short_value longest) (apply_kind Get operation cache).1
+    got : (found : Option Row) → row_of operation.key cache ≡ found
+        → ReplyHolds is_short_key (is_short_value longest) operation.key.table (apply_kind Get operation cache).1
         → length (spelled (apply_kind Get operation cache).1).1 ≤ longest
     got None is holds = rw is (omega arith)
     got (Some row) is holds =
         let here = rw is at holds in
         rw is (grind (arith, nat_tests))
 
-    go : (kind : Kind) → ReplyHolds is_short_key (is_short_value longest) (apply_kind kind operation cache).1
+    go : (kind : Kind) → ReplyHolds is_short_key (is_short_value longest) operation.key.table (apply_kind kind operation cache).1
         → length (spelled (apply_kind kind operation cache).1).1 ≤ most_of_kind kind longest operation.count
     go Put holds = stored _
     go Get holds = got (row_of operation.key cache) refl holds
@@ -139,7 +145,7 @@ short-body longest operation cache holds = go operation.kind holds
     go Scan holds =
         let keys = scanned operation.key operation.count cache in
         let room = keys-short keys holds in
-        let few = length-take operation.count (in_order (filter (is_at_most operation.key) (map (λ (row : Row). row.key) cache))) in
+        let few = length-take operation.count (in_order (filter (is_at_most operation.key.bytes) (keys_in operation.key.table cache))) in
         omega (arith, room, few)
 
 -- so is that of a reply on the rows that are left

@@ -142,8 +142,8 @@ here-parts trace n s some =
 pub here-puts : (trace : Trace) (n s : ℕ) → 1 ≤ n → sum_by (λ o. puts_among (operations_for trace n o s)) (range_with_len 0 n) ≡ here_puts trace n s
 here-puts trace n s some =
     all-origins (λ operation. one_if (is_put operation.kind)) trace n s some
-    ∙ sum-same (λ operation. cond (has_part n s operation) (one_if (is_put operation.kind)) 0) (λ operation. one_if (is_put operation.kind && owner operation.key n == s)) trace.operations
-    (λ operation. go operation.kind (owner operation.key n == s))
+    ∙ sum-same (λ operation. cond (has_part n s operation) (one_if (is_put operation.kind)) 0) (λ operation. one_if (is_put operation.kind && owner operation.key.bytes n == s)) trace.operations
+    (λ operation. go operation.kind (owner operation.key.bytes n == s))
   where
     go : (kind : Kind) (b : Bool) → cond (cond (is_scan kind) true b) (one_if (is_put kind)) 0 ≡ one_if (is_put kind && b)
     go kinds.Put true = refl
@@ -179,7 +179,7 @@ all-peers f trace n s some =
     sum-exchange f (λ q operation. origin operation.number n == s && has_part n q operation) (range_with_len 0 n) trace.operations
     ∙ sum-same (λ operation. sum_by (λ q. cond (origin operation.number n == s && has_part n q operation) (f operation) 0) (range_with_len 0 n))
     (λ operation. cond (origin operation.number n == s) (cond (is_scan operation.kind) (n * f operation) (f operation)) 0) trace.operations
-    (λ operation. takers (origin operation.number n == s) (is_scan operation.kind) n (owner operation.key n) (f operation) (mod-lt (hash operation.key) some))
+    (λ operation. takers (origin operation.number n == s) (is_scan operation.kind) n (owner operation.key.bytes n) (f operation) (mod-lt (hash operation.key.bytes) some))
 
 pub own-parts : (trace : Trace) (n s : ℕ) → 1 ≤ n → sum_by (λ q. length (operations_for trace n s q)) (range_with_len 0 n) ≡ own_parts trace n s
 own-parts trace n s some =

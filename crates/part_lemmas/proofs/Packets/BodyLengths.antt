@@ -8,6 +8,7 @@ use Rattle.rows.specs.declared.kind.Kind.{Kind}
 use Rattle.rows.specs.Apply.{Reply, Stored, Replaced, Value, Missing, Erased, Keys}
 use Rattle.rows.specs.Bodies.{most_of_kind}
 use Rattle.rows.specs.Fits.{FitsKind}
+use Rattle.rows.specs.Key.{Key}
 use Rattle.rows.specs.Spelled.{IsKey, key_field, spelled}
 use Rattle.shard_rings.specs.Reply.{IsSendable}
 
@@ -26,7 +27,7 @@ sendable_short Missing sendable = omega arith
 sendable_short Erased sendable = omega arith
 sendable_short (Keys keys) sendable = let e = keys_length keys sendable.1 in let few = sendable.0 in omega (arith, e, few)
 
-pub fits_short : (kind : Kind) (longest : ℕ) (key : List ℕ) (count : ℕ) (reply : Reply) → FitsKind kind longest key count reply → length (spelled reply).1 ≤ most_of_kind kind longest count
+pub fits_short : (kind : Kind) (longest : ℕ) (key : Key) (count : ℕ) (reply : Reply) → FitsKind kind longest key count reply → length (spelled reply).1 ≤ most_of_kind kind longest count
 fits_short Put longest key count Stored fits = omega arith
 fits_short Put longest key count Replaced fits = omega arith
 fits_short Put longest key count (Value value) fits = absurd fits

@@ -36,7 +36,7 @@ below-all : (n : ℕ) (operations : List Operation) → 0 < n → All (λ (part 
 below-all n [] some = All-nil (λ (part : ℕ × ℕ). part.1 < n)
 below-all n (x ∷ xs) some =
     All-append (λ (part : ℕ × ℕ). part.1 < n) (parts_of n x) (flat_map (parts_of n) xs)
-    (each-part (λ part. part.1 < n) n x.number (owner x.key n) (is_scan x.kind) (mod-lt _ some) (λ s below has. below)) (below-all n xs some)
+    (each-part (λ part. part.1 < n) n x.number (owner x.key.bytes n) (is_scan x.kind) (mod-lt _ some) (λ s below has. below)) (below-all n xs some)
 
 pub issued-below : (trace : Trace) (n o : ℕ) → 0 < n → All (λ (part : ℕ × ℕ). part.1 < n) (issued_parts trace n o)
 issued-below trace n o some = below-all n (filter (λ x. origin x.number n == o) trace.operations) some
@@ -48,7 +48,7 @@ of-all-parts P trace n some each k d below =
     let operations = trace.operations in
     let x = get_or operations k d in
     let o = origin x.number n in
-    each-part P n x.number (owner x.key n) (is_scan x.kind) (mod-lt _ some)
+    each-part P n x.number (owner x.key.bytes n) (is_scan x.kind) (mod-lt _ some)
     (λ s less has.
     all-unfiltered (λ y. P (y.number, s)) (λ y. origin y.number n == o && has_part n s y) operations
     (all-unmapped (λ i. P (i, s)) (λ (y : Operation). y.number) (operations_for trace n o s) (each o s (mod-lt _ some) less)) k d below

@@ -1,7 +1,8 @@
 -- What holds of the fields of a region.
 use Rattle.std.specs.Prelude.{◌≡◌, ℕ, ◌-◌, ◌<◌, ◌≤◌, Bool, true, false, cond, nat_le, List, length, replicate, Option, None, Some, IsSome, slice_index, slice_index_or, slice_set, map, refl}
 use Rattle.std.specs.Coded.{Coded, code_by, coded×, coded_ℕ, coded_list}
-use Rattle.layout.specs.Sizes.{dense, most_segments}
+use Rattle.std.specs.List.{sum}
+use Rattle.layout.specs.Sizes.{segment, dense, most_segments}
 use Rattle.regions.specs.Segments.{GroupState, group_code, idle, ended}
 use Rattle.regions.specs.Shapes.{Slot, slot_at, group_in, active_in, is_held, is_free, is_begun, is_number, is_closed, is_closed_in}
 
@@ -71,3 +72,8 @@ pub record IsConsistent (most : ℕ) (groups : List GroupFields) (now_held now_f
   pub tabled : (g : ℕ) → g < length groups → length (fields_at groups g).table ≡ most
   pub table : (g n : ℕ) → g < length groups → n < most → slice_index (fields_at groups g).table n ≡ closed_live (states groups) slots live g n
   pub active_live : (g n : ℕ) → active_in (states groups) g ≡ Some n → (fields_at groups g).live ≡ slice_index live n
+
+-- the live bytes of all segments together, each of which has at most its own bytes live
+pub record IsTotal (total : ℕ) (live : List ℕ) : Type 0 where
+  pub summed : total ≡ sum live
+  pub within : (n : ℕ) → slice_index live n ≤ segment

@@ -3,7 +3,7 @@ ghost use Rattle.std.specs.Prelude.{◌≡◌, ◌↔◌, ◌⊎◌, ℕ, ◌-�
 ghost use Rattle.layout.specs.Sizes as sizes;
 ghost use Rattle.regions.specs.declared.place.Place.{Place};
 ghost use Rattle.regions.specs.Shapes.{shape, group_count, group_of, active_of, guards_of, guards_at, held_count, free_count, HasGroup, IsHeld, IsFree, IsClosed, IsClosedIn};
-ghost use Rattle.regions.specs.Counts.{live_bytes_at, left};
+ghost use Rattle.regions.specs.Counts.{live_bytes_at, live_total, left};
 ghost use Rattle.regions.specs.Contents.{Item, standing_at, live_at};
 ghost use Rattle.regions.specs.Stores.{Bare, StandsFor, store_of, itself};
 
@@ -78,6 +78,13 @@ impl Region {
             return 0;
         };
         SEGMENT - segment_in(&self.slots[segment as usize]).used()
+    }
+
+    /// The bytes of the live objects of all segments, descriptors included.
+    pub fn live(&self) -> u64
+        ensures { result ≡ live_total self.now }
+    {
+        self.live
     }
 
     /// The sum of the sizes of the segment's live objects, in bytes.

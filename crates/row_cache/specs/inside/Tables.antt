@@ -29,7 +29,7 @@ pub record IsRowOf (item : Item) (n : ℕ) (row : Row) : Type 0 where
   pub holds : HoldsRow item.content n row
   pub read : row_in item.content ≡ row
   pub number : number_in item.content ≡ n
-  pub size : size_of item ≡ size row.key row.value
+  pub size : size_of item ≡ size row.key.bytes row.value
 
 -- a row with the number stands at its place
 pub record HasRow (live : Live) (places : List Place) (n : ℕ) : Type 0 where

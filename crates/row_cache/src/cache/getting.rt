@@ -1,5 +1,7 @@
 //! A look-up that makes the row the one used last.
-ghost use Rattle.std.specs.Prelude.{◌≡◌, Some, None, IsSome, MatchOption};
+ghost use Rattle.std.specs.Prelude.{◌≡◌, ◌<◌, Some, None, IsSome, MatchOption};
+ghost use Rattle.layout.specs.Sizes as sizes;
+ghost use Rattle.rows.specs.Key.{in_table, key_shown};
 ghost use Rattle.rows.specs.Row.{Row};
 ghost use Rattle.rows.specs.Apply as apply;
 ghost use Rattle.regions.specs.Contents.{live_at};
@@ -7,29 +9,35 @@ ghost use Rattle.row_cache.specs.Rows.{rows_of, AreRelinked, StandsAt};
 
 use super::RowCache;
 use regions::Place;
+use rows::Key;
 
 impl RowCache {
     ghost use Rattle.std.specs.Borrow.{sem};
     ghost use Rattle.row_cache.specs.Lends.{EndsAs};
 
-    /// The value of a key's row, which is the row used last from now on. None where no row has the key. Of the segments' bytes
-    /// only links of rows change.
-    pub fn get(&mut self, key: &[u8]) -> Option<&[u8]>
-        ensures value { MatchOption result (apply.row_of key.now (rows_of self.old) ≡ None)
-            (λ value. (row : Row) × (apply.row_of key.now (rows_of self.old) ≡ Some row) × (value.now ≡ row.value)) }
-        ensures* after { sem 𝓛 (EndsAs self.entry (λ c. (rows_of c ≡ (apply.get key.now (rows_of self.old)).0) ×
+    /// The value of the row of a table's key, which is the row used last from now on. None where no row has the key there. Of
+    /// the segments' bytes only links of rows change.
+    pub fn get(&mut self, table: u8, key: &[u8]) -> Option<&[u8]>
+        requires table { table < sizes.tables }
+        ensures value { MatchOption result (apply.row_of (in_table table key.now) (rows_of self.old) ≡ None)
+            (λ value. (row : Row) × (apply.row_of (in_table table key.now) (rows_of self.old) ≡ Some row)
+            × (value.now ≡ row.value)) }
+        ensures* after { sem 𝓛 (EndsAs self.entry (λ c.
+            (rows_of c ≡ (apply.get (in_table table key.now) (rows_of self.old)).0) ×
             (c.room ≡ self.old.room) × AreRelinked self.old.region c.region)) }
     {
-        let place = self.use_row(key)?;
+        let sought = Key { table, bytes: key };
+        let place = self.use_row(&sought)?;
         Some(self.value_at(place))
     }
 
     // Makes the row of a key the one used last, and tells where it stands.
-    fn use_row(&mut self, key: &[u8]) -> Option<Place>
-        ensures found { MatchOption result (apply.row_of key.now (rows_of self.old) ≡ None)
-            (λ place. (row : Row) × (apply.row_of key.now (rows_of self.old) ≡ Some row) × StandsAt self.new.region place row
-            × IsSome (live_at self.new.region place)) }
-        ensures rows { rows_of self.new ≡ (apply.get key.now (rows_of self.old)).0 }
+    fn use_row(&mut self, key: &Key<'_>) -> Option<Place>
+        requires table { key.now.table < sizes.tables }
+        ensures found { MatchOption result (apply.row_of (key_shown key.now) (rows_of self.old) ≡ None)
+            (λ place. (row : Row) × (apply.row_of (key_shown key.now) (rows_of self.old) ≡ Some row)
+            × StandsAt self.new.region place row × IsSome (live_at self.new.region place)) }
+        ensures rows { rows_of self.new ≡ (apply.get (key_shown key.now) (rows_of self.old)).0 }
         ensures room { self.new.room ≡ self.old.room }
         ensures region { AreRelinked self.old.region self.new.region }
     {

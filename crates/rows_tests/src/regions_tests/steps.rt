@@ -39,6 +39,8 @@ pub(super) enum Step<'a> {
     ActiveIn(u32, Option<u32>),
     /// The group of a segment.
     GroupOf(u32, Option<u32>),
+    /// The live bytes of all segments.
+    Live(u64),
     FreeSegments(u32),
     IsClosed(u32, bool),
     /// Where the objects of a segment end, and its live bytes.
@@ -124,6 +126,7 @@ fn stands(region: &Region, step: &Step<'_>) -> bool {
     match step {
         Step::Guards(guards) => calls::guards(region, 0) == Some(*guards),
         Step::Left(left) => calls::left(region, 0) == Some(*left),
+        Step::Live(live) => region.live() == *live,
         Step::FreeSegments(segments) => region.free_segments() == *segments,
         Step::IsClosed(segment, answer) => region.is_closed(*segment) == *answer,
         Step::Counts(segment, counts) => calls::counts(region, *segment) == *counts,

@@ -22,7 +22,7 @@ pub(super) struct Both {
 }
 
 /// One of 200 keys, of which each begins many others.
-fn key_of(alloc: Global, draw: u32) -> Result<Vec<u8>, AllocError> {
+pub(super) fn key_of(alloc: Global, draw: u32) -> Result<Vec<u8>, AllocError> {
     let mut key = Vec::from_elem(alloc, 0xfe, draw as usize % 20 + 1)?;
     let tail = (draw / 20 % 10) as u8;
     if tail > 0 {
@@ -47,6 +47,21 @@ impl Both {
             list: List::new(alloc),
             begun: 0,
         })
+    }
+
+    /// With a group for each of eight tables.
+    pub(super) fn of_tables(alloc: Global) -> Result<Both, AllocError> {
+        Ok(Both {
+            trial: Trial::of_tables(alloc, ROWS)?,
+            list: List::new(alloc),
+            begun: 0,
+        })
+    }
+
+    /// The next calls are of this table.
+    pub(super) fn turn_to(&mut self, table: u8) -> bool {
+        self.list.turn_to(table);
+        self.trial.turn_to(table)
     }
 
     /// Begins another segment or frees one, and else evicts a row.

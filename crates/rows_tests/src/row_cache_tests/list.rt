@@ -6,6 +6,7 @@ use std::alloc::{AllocError, Global};
 
 #[derive(Drop)]
 struct Row {
+    table: u8,
     key: Vec<u8>,
     value: Vec<u8>,
     number: u32,
@@ -14,19 +15,28 @@ struct Row {
 #[derive(Drop)]
 pub(crate) struct List {
     rows: Vec<Row>,
+    // of which the next calls are
+    table: u8,
 }
 
-fn position_of(rows: &[Row], key: &[u8]) -> Option<usize>
+fn position_of(rows: &[Row], table: u8, key: &[u8]) -> Option<usize>
     ensures { IfSome result (λ at. at < length rows.now) }
 {
-    rows.iter().position(|row| row.key.as_slice() == key)
+    rows.iter()
+        .position(|row| row.table == table && row.key.as_slice() == key)
 }
 
 impl List {
     pub(crate) fn new(alloc: Global) -> List {
         List {
             rows: Vec::new(alloc),
+            table: 0,
         }
+    }
+
+    /// The next calls are of this table.
+    pub(crate) fn turn_to(&mut self, table: u8) {
+        self.table = table;
     }
 
     pub(crate) fn len(&self) -> usize {
@@ -61,6 +71,7 @@ impl List {
             Put::Stored
         };
         let row = Row {
+            table: self.table,
             key: key.to_vec(alloc)?,
             value: value.to_vec(alloc)?,
             number,
@@ -72,7 +83,7 @@ impl List {
 
     /// The value of a key, whose row comes to the front.
     pub(crate) fn get(&mut self, key: &[u8]) -> Option<&[u8]> {
-        let at = position_of(&self.rows, key)?;
+        let at = position_of(&self.rows, self.table, key)?;
         self.rows.slice_mut(..at + 1).rotate_right(1);
         let first = self.rows.first()?;
         Some(first.value.as_slice())
@@ -80,12 +91,12 @@ impl List {
 
     /// The value of a key, whose row stays where it is.
     pub(crate) fn find(&self, key: &[u8]) -> Option<&[u8]> {
-        let at = position_of(&self.rows, key)?;
+        let at = position_of(&self.rows, self.table, key)?;
         Some(self.rows[at].value.as_slice())
     }
 
     pub(crate) fn erase(&mut self, key: &[u8]) -> bool {
-        let Some(at) = position_of(&self.rows, key) else {
+        let Some(at) = position_of(&self.rows, self.table, key) else {
             return false;
         };
         let _row = self.rows.remove(at);
@@ -97,12 +108,12 @@ impl List {
         Some(row.number)
     }
 
-    /// The least key that is at or above `lo`, but not `lo` itself where `above`.
+    /// The least key of the table that is at or above `lo`, but not `lo` itself where `above`.
     fn next_key(&self, lo: &[u8], above: bool) -> Option<&[u8]> {
         let mut least: Option<&[u8]> = None;
         for row in &self.rows {
             let key = row.key.as_slice();
-            let after = key > lo || !above && key == lo;
+            let after = row.table == self.table && (key > lo || !above && key == lo);
             let less = match least {
                 None => true,
                 Some(other) => key < other,

@@ -6,10 +6,11 @@ use super::calls::{Both, all_go, one_call_of};
 use key_table::{KeyTable, Spot};
 use rand_core::utils::NextWord;
 use rand_pcg::Lcg64Xsh32;
+use rows::Key;
 use std::alloc::{AllocError, Global};
 use std::test::Fail;
 
-/// A hash of a key that is mixed with a word, as a table of keys has it.
+/// A hash of a key of table 0 that is mixed with a word, as a table of keys has it.
 fn mix(hash: u64, word: u64) -> u64 {
     let product = (hash ^ word).wrapping_mul(0x9E37_79B9_7F4A_7C15);
     product ^ (product >> 32)
@@ -31,7 +32,11 @@ fn insert(table: &mut KeyTable, key: &[u8], row: u32)
     requires { row < 200 }
 {
     if table.len() < table.room() {
-        let _taken = table.insert(Spot::new(key), row);
+        let key = Key {
+            table: 0,
+            bytes: key,
+        };
+        let _taken = table.insert(Spot::new(&key), row);
     }
 }
 

@@ -13,14 +13,20 @@ pub(crate) enum Step<'a> {
     Erase(&'a [u8], bool),
     /// Whether the value of a key stays under a guard, which stays too, where another replaces it.
     Keeps(&'a [u8], &'a [u8], &'a [u8], Option<bool>),
+    /// Whether the value of a key stays under a guard, which stays too, where a row of another table is put and erased.
+    KeepsBeside(&'a [u8], &'a [u8], u8, &'a [u8], Option<bool>),
     /// How many keys a scan from here on gives, of at most so many, and their bytes.
     Scan(&'a [u8], u32, u32, &'a [u8]),
     EvictLast(Option<u32>),
     Compact(Option<Compacted>),
     Unguard,
+    /// The next steps are of this table.
+    Table(u8),
+    /// Whether another segment becomes active in the table's group.
+    GoOn(bool),
     /// How many rows there are, and the live bytes.
     Size(u32, u64),
-    /// How many segments are free, and the bytes that the active one has left.
+    /// How many segments are free, and the bytes that the active one of the table's group has left.
     Free(u32, u32),
 }
 
@@ -44,10 +50,15 @@ fn answers(trial: &mut Trial, step: &Step<'_>) -> bool {
         Step::FindLen(key, answer) => trial.find_len(key) == *answer,
         Step::Erase(key, answer) => trial.erase(key) == *answer,
         Step::Keeps(key, value, other, answer) => trial.keeps(key, value, other) == *answer,
+        Step::KeepsBeside(key, value, table, other, answer) => {
+            trial.keeps_beside(key, value, *table, other) == *answer
+        }
         Step::Scan(lo, count, keys, bytes) => scans(trial, lo, *count, *keys, bytes),
         Step::EvictLast(answer) => trial.evict_last() == *answer,
         Step::Compact(answer) => trial.compact() == *answer,
         Step::Unguard => trial.unguard(),
+        Step::Table(table) => trial.turn_to(*table),
+        Step::GoOn(answer) => trial.go_on() == *answer,
         Step::Size(rows, live) => trial.size() == (*rows, *live),
         Step::Free(segments, left) => trial.free() == (*segments, *left),
     }
@@ -75,6 +86,20 @@ pub(crate) fn wrong(
     requires { rows < 1000 }
 {
     let mut trial = Trial::new(alloc, rows)?;
+    let wrong = first_wrong(&mut trial, steps);
+    drop(trial);
+    Ok(wrong)
+}
+
+/// Which step is the first that a cache of eight groups with room for so many rows answers otherwise.
+pub(crate) fn wrong_of_tables(
+    alloc: Global,
+    rows: u32,
+    steps: &[Step<'_>],
+) -> Result<Option<usize>, AllocError>
+    requires { rows < 1000 }
+{
+    let mut trial = Trial::of_tables(alloc, rows)?;
     let wrong = first_wrong(&mut trial, steps);
     drop(trial);
     Ok(wrong)

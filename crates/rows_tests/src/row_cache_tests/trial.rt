@@ -1,8 +1,9 @@
 //! A cache whose calls are made in any order: one that does not fit what stands changes nothing.
-ghost use Rattle.std.specs.Prelude.{◌≡◌, ◌+◌, ◌*◌, ◌<◌, ◌≤◌, ◌⊎◌, length, true, IsSome};
+ghost use Rattle.std.specs.Prelude.{◌≡◌, ◌+◌, ◌*◌, ◌<◌, ◌≤◌, ◌⊎◌, length, true, false, IfOk};
+ghost use Rattle.rows.specs.Key.{in_table};
 ghost use Rattle.rows.specs.Apply.{has};
 ghost use Rattle.layout.specs.Sizes as sizes;
-ghost use Rattle.regions.specs.Shapes.{active_of, guards_of};
+ghost use Rattle.regions.specs.Shapes.{guards_of, IsUnguarded};
 ghost use Rattle.row_cache.specs.Rows.{rows_of};
 
 use crate::pieces::piece;
@@ -11,12 +12,14 @@ use raw_range::Piece;
 use row_cache::{Compacted, Put, RowCache, Scanned};
 use std::alloc::{AllocError, Global};
 
-/// A cache, and for how many rows it has room.
+/// A cache, for how many rows it has room, and the table of which the next calls are.
 #[derive(Drop)]
 pub(crate) struct Trial {
     cache: RowCache,
     rows: u32,
+    table: u8,
     ghost room: { cache.room ≡ rows },
+    ghost below: { table < sizes.tables },
 }
 
 fn is_row(key: &[u8], value: &[u8]) -> bool
@@ -26,20 +29,52 @@ fn is_row(key: &[u8], value: &[u8]) -> bool
     !key.is_empty() && key.len() <= GREATEST_KEY && value.len() <= GREATEST_VALUE
 }
 
-fn is_active(cache: &RowCache) -> bool
-    ensures { result ≡ true → IsSome (active_of cache.now.region 0) }
+fn has_room(cache: &RowCache, rows: u32, table: u8, key: &[u8]) -> bool
+    requires { table < sizes.tables }
+    ensures { result ≡ true → (has (in_table table key.now) (rows_of cache.now) ≡ true) ⊎ (length (rows_of cache.now) < rows) }
 {
-    cache.left() > 0
-}
-
-#[tactic(auto, using(crate::proofs::Found::found_has))]
-fn has_room(cache: &RowCache, rows: u32, key: &[u8]) -> bool
-    ensures { result ≡ true → (has key.now (rows_of cache.now) ≡ true) ⊎ (length (rows_of cache.now) < rows) }
-{
-    match cache.find_len(key) {
+    match cache.find_len(table, key) {
         Some(_) => true,
         None => cache.rows() < rows,
     }
+}
+
+/// Whether a guard stands on some group.
+fn is_guarded(cache: &RowCache) -> bool
+    ensures { result ≡ false → IsUnguarded cache.now.region }
+{
+    cache.rows();
+    for table in 0..8u8 {
+        if cache.guards(cache.group_of(table)) > 0 {
+            return true;
+        }
+    }
+    false
+}
+
+/// Another segment becomes the active one of a table's group. False where fewer than two are free, or the active one is not full.
+fn begin(cache: &mut RowCache, table: u8) -> bool
+    ensures { cache.new.room ≡ cache.old.room }
+{
+    let group = cache.group_of(table);
+    if cache.free_segments() < 2 || cache.left(group) >= GREATEST_OBJECT {
+        return false;
+    }
+    cache.next_active(group);
+    true
+}
+
+/// A cache of so many rows, with eight groups and twelve free segments.
+fn cache_of_tables(alloc: Global, rows: u32) -> Result<RowCache, AllocError>
+    requires { rows < 1000 }
+    ensures { IfOk result (λ cache. cache.room ≡ rows) }
+{
+    let mut cache = RowCache::new(alloc, rows, 12, 8)?;
+    for owner in 0..12 {
+        let segment = piece(alloc, owner)?;
+        cache.add_segment(segment);
+    }
+    Ok(cache)
 }
 
 impl Trial {
@@ -47,11 +82,15 @@ impl Trial {
     pub(crate) fn small(alloc: Global) -> Result<Trial, AllocError> {
         let first = piece(alloc, 0)?;
         let second = piece(alloc, 1)?;
-        let mut cache = RowCache::new(alloc, 2, 2)?;
+        let mut cache = RowCache::new(alloc, 2, 2, 1)?;
         cache.add_segment(first);
         cache.add_segment(second);
-        cache.next_active();
-        Ok(Trial { cache, rows: 2 })
+        begin(&mut cache, 0);
+        Ok(Trial {
+            cache,
+            rows: 2,
+            table: 0,
+        })
     }
 
     /// A cache with room for so many rows, and four segments, of which one is active.
@@ -62,13 +101,38 @@ impl Trial {
         let second = piece(alloc, 1)?;
         let third = piece(alloc, 2)?;
         let fourth = piece(alloc, 3)?;
-        let mut cache = RowCache::new(alloc, rows, 4)?;
+        let mut cache = RowCache::new(alloc, rows, 4, 1)?;
         cache.add_segment(first);
         cache.add_segment(second);
         cache.add_segment(third);
         cache.add_segment(fourth);
-        cache.next_active();
-        Ok(Trial { cache, rows })
+        begin(&mut cache, 0);
+        Ok(Trial {
+            cache,
+            rows,
+            table: 0,
+        })
+    }
+
+    /// A cache with room for so many rows, with eight groups, and with twelve segments, of which none is active.
+    pub(crate) fn of_tables(alloc: Global, rows: u32) -> Result<Trial, AllocError>
+        requires { rows < 1000 }
+    {
+        let cache = cache_of_tables(alloc, rows)?;
+        Ok(Trial {
+            cache,
+            rows,
+            table: 0,
+        })
+    }
+
+    /// The next calls are of this table. False where there is none.
+    pub(crate) fn turn_to(&mut self, table: u8) -> bool {
+        if table >= 8 {
+            return false;
+        }
+        self.table = table;
+        true
     }
 
     /// How many rows there are, and the live bytes.
@@ -76,46 +140,41 @@ impl Trial {
         (self.cache.rows(), self.cache.live())
     }
 
-    /// How many segments are free, and the bytes that the active one has left.
+    /// How many segments are free, and the bytes that the active one of the table's group has left.
     pub(crate) fn free(&self) -> (u32, u32) {
-        (self.cache.free_segments(), self.cache.left())
+        let group = self.cache.group_of(self.table);
+        (self.cache.free_segments(), self.cache.left(group))
     }
 
     pub(crate) fn find_len(&self, key: &[u8]) -> Option<u32> {
-        self.cache.find_len(key)
+        self.cache.find_len(self.table, key)
     }
 
-    /// None where the row is none, or has no room in the segment or in the tables.
+    /// None where the row is none, or has no room in the table's group or among the rows.
     pub(crate) fn put(&mut self, key: &[u8], value: &[u8], number: u32) -> Option<Put> {
-        let can = is_row(key, value)
-            && is_active(&self.cache)
-            && has_room(&self.cache, self.rows, key);
+        let can = is_row(key, value) && has_room(&self.cache, self.rows, self.table, key);
         if !can {
             return None;
         }
-        self.cache.put(key, value, number).ok()
+        self.cache.put(self.table, key, value, number).ok()
     }
 
     /// Whether a look-up finds this value, or no row where it is none.
     pub(crate) fn gets(&mut self, key: &[u8], value: Option<&[u8]>) -> bool {
-        self.cache.get(key) == value
+        self.cache.get(self.table, key) == value
     }
 
     pub(crate) fn erase(&mut self, key: &[u8]) -> bool {
-        self.cache.erase(key)
+        self.cache.erase(self.table, key)
     }
 
     pub(crate) fn evict_last(&mut self) -> Option<u32> {
         self.cache.evict_last()
     }
 
-    /// Whether the active segment was full, another one was free, and it is active now.
+    /// Whether the active segment of the table's group was full or none, two were free, and another one is active now.
     pub(crate) fn go_on(&mut self) -> bool {
-        if self.cache.free_segments() < 2 || self.cache.left() >= GREATEST_OBJECT {
-            return false;
-        }
-        self.cache.next_active();
-        true
+        begin(&mut self.cache, self.table)
     }
 
     /// None where no segment is free.
@@ -128,39 +187,64 @@ impl Trial {
 
     /// The piece of the segment that has the greatest number. None where a guard stands, and where no segment is held.
     pub(crate) fn give_up(&mut self) -> Option<Piece> {
-        if self.cache.guards() > 0 {
+        if is_guarded(&self.cache) {
             return None;
         }
         self.cache.give_up()
     }
 
-    /// False where no guard stands.
+    /// False where no guard stands on the table's group.
     pub(crate) fn unguard(&mut self) -> bool {
-        if self.cache.guards() == 0 {
+        let group = self.cache.group_of(self.table);
+        if self.cache.guards(group) == 0 {
             return false;
         }
-        self.cache.unguard();
+        self.cache.unguard(group);
         true
     }
 
     /// The value of a key's row, where it stands.
     pub(crate) fn value_of(&self, key: &[u8]) -> Option<&[u8]> {
-        let place = self.cache.place_of(key)?;
+        let place = self.cache.place_of(self.table, key)?;
         Some(self.cache.value_at(place))
     }
 
     /// Whether the value stays where it stood, under a guard that stays, after the row of the key was replaced by
     /// another. None where the row can't be put.
     pub(crate) fn keeps(&mut self, key: &[u8], value: &[u8], other: &[u8]) -> Option<bool> {
-        if !is_row(key, other) || !is_active(&self.cache) || self.cache.guards() > 0 {
+        let group = self.cache.group_of(self.table);
+        if !is_row(key, other) || self.cache.guards(group) > 0 {
             return None;
         }
-        let place = self.cache.place_of(key)?;
-        self.cache.guard();
-        if !has_room(&self.cache, self.rows, key) {
+        let place = self.cache.place_of(self.table, key)?;
+        self.cache.guard(group);
+        if !has_room(&self.cache, self.rows, self.table, key) {
             return None;
         }
-        self.cache.put(key, other, 7).ok()?;
+        self.cache.put(self.table, key, other, 7).ok()?;
+        Some(self.cache.value_at(place) == value)
+    }
+
+    /// Whether the value stays where it stood, under a guard of its table that stays, after a row was put in another table
+    /// and was erased. None where there is no such table, or the row can't be put.
+    pub(crate) fn keeps_beside(
+        &mut self,
+        key: &[u8],
+        value: &[u8],
+        table: u8,
+        other: &[u8],
+    ) -> Option<bool> {
+        let group = self.cache.group_of(self.table);
+        if table >= 8 || !is_row(other, value) || self.cache.guards(group) > 0 {
+            return None;
+        }
+        let place = self.cache.place_of(self.table, key)?;
+        self.cache.guard(group);
+        if !has_room(&self.cache, self.rows, table, other) {
+            return None;
+        }
+        self.cache.put(table, other, value, 8).ok()?;
+        self.cache.erase(table, other);
         Some(self.cache.value_at(place) == value)
     }
 
@@ -169,6 +253,6 @@ impl Trial {
         if count == 0 || count > 32 || into.len() < count as usize * 258 {
             return None;
         }
-        Some(self.cache.scan(lo, count, into))
+        Some(self.cache.scan(self.table, lo, count, into))
     }
 }

@@ -25,7 +25,7 @@ impl Driven for Counter {
       shard = 0;
       shards = 1;
       pages = 0;
-      trace = record { operations = [] };
+      trace = record { version = 1; operations = [] };
       list = record { id = record { words = 0; slots = 0; views_name = 0; atom = 0; block = 0; offset = 0; slot_names = [] }; owner = 0 };
       ends = [];
     } };

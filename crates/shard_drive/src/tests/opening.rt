@@ -9,7 +9,7 @@ ghost use Rattle.shard_node.specs.Standing.{InStanding};
 ghost use Rattle.shard_drive.specs.Trials.{AreReady, AreUnused};
 
 use foreign_list::{Foreign, OwnerSeat};
-use layout::FEWEST_PAGES;
+use layout::FEWEST_TABLE_PAGES;
 use shard_node::{Gate, Gates, Node};
 use shard_rings::{RingLink, ring_links};
 use std::alloc::{AllocError, Global};
@@ -55,7 +55,7 @@ fn links_of<'f>(alloc: Global, shards: u32) -> Result<Vec<Vec<RingLink<'f>>>, Al
     ring_links(alloc, shards)
 }
 
-/// The node of one shard, over few pages.
+/// The node of one shard, over as few pages as a trace of each version runs on.
 fn open_node<'f, G: Gate + Drop>(
     alloc: Global,
     shard: u32,
@@ -78,7 +78,7 @@ fn open_node<'f, G: Gate + Drop>(
         alloc,
         shard,
         shards,
-        FEWEST_PAGES,
+        FEWEST_TABLE_PAGES,
         trace,
         home,
         seat,

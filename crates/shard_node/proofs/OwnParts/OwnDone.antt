@@ -138,7 +138,7 @@ module _ {L G : Type 0} (traffic : L → Traffic) (end : L → LinkEnd) (laws : 
   rows_now : length store.rows + length evicted ≤ length shard.store.rows + cond (is_put operation.kind) 1 0
   rows_now =
       let most = few-after operation rest in
-      let count = counts (pressure shard.store.pages shard.store.lent) shard.store.rows rest evicted did.does.works.evicts in
+      let count = counts (pressure shard.store.pages shard.store.lent shard.store.regions) shard.store.rows rest evicted did.does.works.evicts in
       let rows = ap length did.does.works.rows in
       omega (arith, most, count, rows)
 
@@ -165,7 +165,7 @@ module _ {L G : Type 0} (traffic : L → Traffic) (end : L → LinkEnd) (laws : 
   bodies_now =
       let all = bodies-left trace operation shard.here.left did.first in
       let left = ap (bodies trace) did.here_left in
-      let body = body-left keeps (longest_value trace) (pressure shard.store.pages shard.store.lent) operation shard.store.rows rest evicted put did.does.works.evicts short in
+      let body = body-left keeps (longest_value trace) (pressure shard.store.pages shard.store.lent shard.store.regions) operation shard.store.rows rest evicted put did.does.works.evicts short in
       let reply = ap (λ r. length (spelled r).1) did.does.works.reply in
       let logged = did.does.logs.room in
       let before = x.room.bodies in
@@ -191,7 +191,7 @@ module _ {L G : Type 0} (traffic : L → Traffic) (end : L → LinkEnd) (laws : 
   short_now =
       subst (λ m. AreShort m store.rows) (sym x.longest)
       (subst (AreShort (longest_value trace)) (sym did.does.works.rows)
-      (short-after keeps (longest_value trace) (pressure shard.store.pages shard.store.lent) operation shard.store.rows rest evicted put did.does.works.evicts short))
+      (short-after keeps (longest_value trace) (pressure shard.store.pages shard.store.lent shard.store.regions) operation shard.store.rows rest evicted put did.does.works.evicts short))
 
   here_now : here.left ≡ drop (count_by (λ part. part.1 == s) (take own.begun (issued_by shard))) (operations_for trace n s s)
   here_now =
@@ -217,7 +217,8 @@ module _ {L G : Type 0} (traffic : L → Traffic) (end : L → LinkEnd) (laws : 
     within = x.within;
     of_shard = did.does.works.same.shard ∙ x.of_shard;
     pages = did.does.works.same.pages ∙ x.pages;
-    unguarded = did.does.works.same.guards ∙ x.unguarded;
+    of_regions = did.does.works.same.regions ∙ x.of_regions;
+    unguarded = λ g. did.does.works.same.guards g ∙ x.unguarded g;
     counted = did.counted;
     longest = x.longest;
     peers = x.peers;
@@ -265,6 +266,7 @@ module _ {L G : Type 0} (traffic : L → Traffic) (end : L → LinkEnd) (laws : 
     apart = All-map (λ (peer : PeerState L). peer.shard ≢ s) peer_state shard.peers.items apart;
     few = did.few;
     pages = x.pages;
+    of_regions = x.of_regions;
     next = next;
     there = there;
     does = did.does;

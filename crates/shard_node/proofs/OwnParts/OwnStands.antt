@@ -7,7 +7,7 @@ use Rattle.std.proofs.lemmas.List.Sums.{length-filter}
 use Rattle.layout.specs.Sizes.{dense, tickets}
 use Rattle.rows.specs.Operation.{Operation}
 use Rattle.trace_text.specs.Parts.{origin, parts}
-use Rattle.trace_text.specs.Trace.{Trace}
+use Rattle.trace_text.specs.Trace.{Trace, regions}
 use Rattle.cache_model.specs.declared.entry.Entry.{Entry}
 use Rattle.rows.specs.Apply.{Reply}
 use Rattle.cache_model.specs.Legal.{EvictsAbove, cache_after, command_of, is_done, reply_at}
@@ -46,6 +46,7 @@ pub record DoesOwn {L G : Type 0} (node : NodeState L G) (store : StoreState) (j
   pub apart : All (λ peer. peer.shard ≢ node.shard) node.peers
   pub few : tickets_out node.store.lent ≤ tickets
   pub pages : node.store.pages ≡ node.pages
+  pub of_regions : node.store.regions ≡ regions node.trace
   pub next : slice_get (issued_parts node.trace node.shards node.shard) node.begun ≡ Some (operation.number, node.shard)
   pub there : slice_get (operations_for node.trace node.shards node.shard node.shard) (place_at node.shard (issued_parts node.trace node.shards node.shard) node.begun) ≡ Some operation
   pub does : DoesPart node.begun operation node.store store node.journal journal node.log log
@@ -77,7 +78,7 @@ module _ {L G : Type 0} (traffic : L → Traffic) (laws : Laws) (kept : KeepsRep
   place = place_at s issued node.begun
 
   abbrev bound : ℕ
-  bound = pressure node.store.pages node.store.lent
+  bound = pressure node.store.pages node.store.lent node.store.regions
 
   abbrev after : NodeState L G
   after = later traffic node store journal log node.peers begun node.request node.gate node.tally
@@ -85,8 +86,10 @@ module _ {L G : Type 0} (traffic : L → Traffic) (laws : Laws) (kept : KeepsRep
   grown : journal.entries ≡ entries ++ then_done puts i
   grown = x.does.works.recorded.entries
 
-  low : floor node.pages ≤ bound
-  low = subst (λ p. floor p ≤ bound) x.pages (pressure-low node.store.pages (tickets_out node.store.lent) x.few)
+  low : floor node.pages (regions node.trace) ≤ bound
+  low =
+      subst (λ count. floor node.pages count ≤ bound) x.of_regions
+      (subst (λ p. floor p node.store.regions ≤ bound) x.pages (pressure-low node.store.pages (tickets_out node.store.lent) node.store.regions x.few))
 
   command : command_of node.trace i ≡ Some operation
   command = command-at node.trace n s s place operation x.numbered x.there
@@ -110,14 +113,17 @@ module _ {L G : Type 0} (traffic : L → Traffic) (laws : Laws) (kept : KeepsRep
         ∙ leads-more laws node.trace node.pages bound i entries node.store.rows x.does.works.rest puts operation command itself.journal.legal x.does.works.evicts low
         ∙ ap Some (sym x.does.works.rows)
 
-    above : n ≡ 1 → EvictsAbove node.trace node.pages (tight_floor node.pages 0 + dense) journal.entries
+    above : n ≡ 1 → EvictsAbove node.trace node.pages (tight_floor node.pages 0 (regions node.trace) + dense) journal.entries
     above one =
-        let least : ℕ = tight_floor node.pages 0 + dense in
-        let same : bound ≡ tight_floor node.pages 0 + dense =
-        ap (λ t. tight_floor node.store.pages t + dense) (alone one) ∙ ap (λ p. tight_floor p 0 + dense) x.pages in
-        subst (EvictsAbove node.trace node.pages (tight_floor node.pages 0 + dense)) (sym grown)
-        (above-more laws node.trace node.pages (tight_floor node.pages 0 + dense) bound i entries node.store.rows x.does.works.rest puts
-        itself.journal.legal (itself.journal.pressure one) x.does.works.evicts (omega (arith, same)) (pressure-low node.pages 0 (omega arith)))
+        let count = regions node.trace in
+        let least : ℕ = tight_floor node.pages 0 count + dense in
+        let same : bound ≡ tight_floor node.pages 0 count + dense =
+        ap (λ t. tight_floor node.store.pages t node.store.regions + dense) (alone one)
+        ∙ ap (λ p. tight_floor p 0 node.store.regions + dense) x.pages
+        ∙ ap (λ r. tight_floor node.pages 0 r + dense) x.of_regions in
+        subst (EvictsAbove node.trace node.pages (tight_floor node.pages 0 count + dense)) (sym grown)
+        (above-more laws node.trace node.pages (tight_floor node.pages 0 count + dense) bound i entries node.store.rows x.does.works.rest puts
+        itself.journal.legal (itself.journal.pressure one) x.does.works.evicts (omega (arith, same)) (pressure-low node.pages 0 count (omega arith)))
 
     replied : reply_at node.trace node.pages journal.entries i ≡ Some x.does.reply
     replied =

@@ -1,5 +1,6 @@
 -- Own parts that evict nothing, and what they leave as it was.
 use Rattle.std.proofs.Common.{◌≡◌, inl, ℕ, ◌+◌, ◌<◌, ◌^◌, Bool, cond, List, [], ◌∷◌, length, slice_set, Option, Some, None, refl, sym, ap, subst, ◌∙◌, arith}
+use Rattle.rows.specs.Key.{Key}
 use Rattle.rows.specs.Operation.{Operation}
 use Rattle.cache_model.specs.declared.entry.Entry.TheVariants.{Done}
 use Rattle.rows.specs.Row.{Row}
@@ -18,18 +19,18 @@ use Rattle.shard_store.specs.Stores.{StoreState, IsSameStore, with_rows}
 use Rattle.run_log.specs.Recorded.{Records}
 use Rattle.shard_node.specs.inside.Parts.{DoesPart}
 
-pub got_some : (number : ℕ) (key : List ℕ) (cache : List Row) (row : Row) → row_of key cache ≡ Some row
+pub got_some : (number : ℕ) (key : Key) (cache : List Row) (row : Row) → row_of key cache ≡ Some row
     → apply (get_of number key) cache ≡ ((get key cache).0, Value row.value)
 got_some number key cache row found =
     let same = ap (λ (o : Option Row). get_where o key cache) found in
     same ∙ ap (λ (rows : List Row). (rows, Value row.value)) (sym (ap (λ (did : List Row × Reply). did.0) same))
 
-pub got_none : (number : ℕ) (key : List ℕ) (cache : List Row) → row_of key cache ≡ None → apply (get_of number key) cache ≡ ((get key cache).0, Missing)
+pub got_none : (number : ℕ) (key : Key) (cache : List Row) → row_of key cache ≡ None → apply (get_of number key) cache ≡ ((get key cache).0, Missing)
 got_none number key cache found =
     let same = ap (λ (o : Option Row). get_where o key cache) found in
     same ∙ ap (λ (rows : List Row). (rows, Missing)) (sym (ap (λ (did : List Row × Reply). did.0) same))
 
-pub erased : (number : ℕ) (key : List ℕ) (cache : List Row) (found : Bool) → has key cache ≡ found
+pub erased : (number : ℕ) (key : Key) (cache : List Row) (found : Bool) → has key cache ≡ found
     → apply (erase_of number key) cache ≡ (without key cache, cond found Erased Missing)
 erased number key cache found has_it = ap (λ (b : Bool). (without key cache, cond b Erased Missing)) has_it
 
@@ -72,9 +73,10 @@ same_but_rows old new rows is small = (
   record {
     shard = ap (λ (s : StoreState). s.shard) is;
     pages = ap (λ (s : StoreState). s.pages) is;
+    regions = ap (λ (s : StoreState). s.regions) is;
     room = ap (λ (s : StoreState). s.room) is;
     list = ap (λ (s : StoreState). s.list) is;
-    guards = ap (λ (s : StoreState). guards_of s.region 0) is;
+    guards = λ g. ap (λ (s : StoreState). guards_of s.region g) is;
   },
   none_came old new small (ap (λ (s : StoreState). s.lent) is) (ap (λ (s : StoreState). s.lends) is) (ap (λ (s : StoreState). s.backs) is) (ap (λ (s : StoreState). s.looks) is),
 )
@@ -87,9 +89,10 @@ same_but_links old new rows is same small = (
   record {
     shard = ap (λ (s : StoreState). s.shard) is;
     pages = ap (λ (s : StoreState). s.pages) is;
+    regions = ap (λ (s : StoreState). s.regions) is;
     room = ap (λ (s : StoreState). s.room) is;
     list = ap (λ (s : StoreState). s.list) is;
-    guards = ap (λ (s : Shape). (group_at s.groups 0).guards) same;
+    guards = λ g. ap (λ (s : Shape). (group_at s.groups g).guards) same;
   },
   none_came old new small (ap (λ (s : StoreState). s.lent) is) (ap (λ (s : StoreState). s.lends) is) (ap (λ (s : StoreState). s.backs) is) (ap (λ (s : StoreState). s.looks) is),
 )

@@ -145,6 +145,7 @@ module _ {L G : Type 0} (shard : Shard L G) where
         within = x.within;
         of_shard = x.of_shard;
         pages = x.pages;
+        of_regions = x.of_regions;
         unguarded = x.unguarded;
         counted = x.counted;
         longest = x.longest;

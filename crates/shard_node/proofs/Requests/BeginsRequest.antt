@@ -10,6 +10,7 @@ use Rattle.std.proofs.lemmas.Option.{slice_get-map, slice_get_within}
 use Rattle.layout.specs.Sizes.{tickets}
 use Rattle.rows.specs.Operation.{Operation}
 use Rattle.trace_text.specs.Parts.{parts}
+use Rattle.trace_text.specs.Trace.{regions}
 use Rattle.cache_model.specs.declared.entry.Entry.{Entry}
 use Rattle.cache_model.specs.Legal.{cache_after, reply_at}
 use Rattle.cache_model.specs.OwnParts.{issued_parts}
@@ -88,6 +89,7 @@ pub record Begins {L G : Type 0} (node : NodeState L G) (store : StoreState) (jo
   pub idle : node.request ≡ None
   pub few : tickets_out node.store.lent ≤ tickets
   pub pages : node.store.pages ≡ node.pages
+  pub of_regions : node.store.regions ≡ regions node.trace
   pub next : slice_get (issued_parts node.trace node.shards node.shard) node.begun ≡ Some (operation.number, waiting.peer)
   pub there : slice_get (operations_for node.trace node.shards node.shard waiting.peer) (place_at waiting.peer (issued_parts node.trace node.shards node.shard) node.begun) ≡ Some operation
   pub asks : waiting.block.piece.bytes ≡ request operation
@@ -117,7 +119,7 @@ module _ {L G : Type 0} (traffic : L → Traffic) (laws : Laws) (node : NodeStat
   puts = x.evicts.evicted
 
   abbrev bound : ℕ
-  bound = floor_of node.store.pages node.store.lent
+  bound = floor_of node.store.pages node.store.lent node.store.regions
 
   abbrev after : NodeState L G
   after = later traffic node store journal node.log node.peers begun (Some waiting) node.gate node.tally
@@ -125,8 +127,10 @@ module _ {L G : Type 0} (traffic : L → Traffic) (laws : Laws) (node : NodeStat
   grown : journal.entries ≡ entries ++ evictions puts
   grown = x.evicts.recorded.entries
 
-  low : floor node.pages ≤ bound
-  low = subst (λ p. floor p ≤ bound) x.pages (floor-low node.store.pages (tickets_out node.store.lent) x.few)
+  low : floor node.pages (regions node.trace) ≤ bound
+  low =
+      subst (λ count. floor node.pages count ≤ bound) x.of_regions
+      (subst (λ p. floor p node.store.regions ≤ bound) x.pages (floor-low node.store.pages (tickets_out node.store.lent) node.store.regions x.few))
 
   still : (k : ℕ) → reply_at node.trace node.pages journal.entries k ≡ reply_at node.trace node.pages entries k
   still k = ap (λ es. reply_at node.trace node.pages es k) grown ∙ reply-evicted node.trace node.pages entries puts k

@@ -6,6 +6,7 @@ use Rattle.std.proofs.lemmas.Bool.{cases_eq}
 use Rattle.layout.specs.Sizes.{tickets}
 use Rattle.rows.specs.Operation.{Operation}
 use Rattle.trace_text.specs.Parts.{origin}
+use Rattle.trace_text.specs.Trace.{regions}
 use Rattle.rows.specs.Apply.{Reply}
 use Rattle.cache_model.specs.Legal.{cache_after, command_of, is_done, reply_at}
 use Rattle.rows.specs.Row.{floor}
@@ -54,7 +55,7 @@ module _ {L G : Type 0} (traffic : L → Traffic) where
     pub idle : a.reply ≡ None
     pub first : slice_get a.keeps.asks 0 ≡ Some operation
     pub same : is_same (Some (request operation)) (said packet) ≡ true
-    pub does : DoesAbove (floor_of node.store.pages node.store.lent) operation answer node.store store node.journal journal
+    pub does : DoesAbove (floor_of node.store.pages node.store.lent node.store.regions) operation answer node.store store node.journal journal
     pub holds : HoldsReply block.piece.bytes operation.number answer
     pub lends : store.lends ≡ raised node.store.lends 1
     pub out : store.lends ≡ raised store.backs (tickets_out store.lent)
@@ -69,6 +70,7 @@ module _ {L G : Type 0} (traffic : L → Traffic) where
     pub many : node.shards ≡ 1 → ⊥
     pub numbered : IsNumbered node.trace.operations
     pub pages : node.store.pages ≡ node.pages
+    pub of_regions : node.store.regions ≡ regions node.trace
     pub few : tickets_out node.store.lent ≤ tickets
 
   pub request_done : (laws : Laws) → TellsNumbers → (node : NodeState L G) (k : ℕ) (a : PeerState L) → IsApart node k a
@@ -93,8 +95,10 @@ module _ {L G : Type 0} (traffic : L → Traffic) where
       let none : list_any (is_done i) node.journal.entries ≡ false = not-done tells node.trace n a.shard node.shard taken node.journal.entries operation apart.numbered x.served here in
       let puts = d.does.evicted in
       let entries : journal.entries ≡ node.journal.entries ++ then_done puts i = d.does.recorded.entries in
-      let bound = floor_of node.store.pages node.store.lent in
-      let low : floor node.pages ≤ bound = subst (λ p. floor p ≤ bound) apart.pages (floor-low node.store.pages (tickets_out node.store.lent) apart.few) in
+      let bound = floor_of node.store.pages node.store.lent node.store.regions in
+      let low : floor node.pages (regions node.trace) ≤ bound =
+      subst (λ count. floor node.pages count ≤ bound) apart.of_regions
+      (subst (λ p. floor p node.store.regions ≤ bound) apart.pages (floor-low node.store.pages (tickets_out node.store.lent) node.store.regions apart.few)) in
       let legal : cache_after node.trace node.pages journal.entries ≡ Some store.rows =
       ap (cache_after node.trace node.pages) entries
       ∙ (leads-more laws node.trace node.pages bound i node.journal.entries node.store.rows d.does.rest puts operation command stands.journal.legal d.does.evicts low ∙ ap Some (sym d.does.rows)) in

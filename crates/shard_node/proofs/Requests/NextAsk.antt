@@ -66,7 +66,7 @@ module _ {L : Type 0} where
     pub line : asked ≡ operation
     pub same : (cache : List Row) → apply asked cache ≡ apply operation cache
     pub replied : (answer : Reply) × HoldsReply block.piece.bytes asked.number answer
-        × DoesAbove (floor_of store.pages store.lent) asked answer store store' journal journal'
+        × DoesAbove (floor_of store.pages store.lent store.regions) asked answer store store' journal journal'
     pub lends : LendsBlock shares.Reply store store' block
     pub reply : new.reply ≡ Some block
     pub left : new.asks.left ≡ drop 1 old.asks.left
@@ -83,7 +83,7 @@ module _ {L : Type 0} where
     answer = a.replied.0;
     waits = a.reply;
     holds = subst (λ n. HoldsReply block.piece.bytes n a.replied.0) (same_number asked operation a.line) a.replied.1;
-    does = does_operation asked operation a.line a.same (floor_of store.pages store.lent) a.replied.0 store store' journal journal' a.replied.2;
+    does = does_operation asked operation a.line a.same (floor_of store.pages store.lent store.regions) a.replied.0 store store' journal journal' a.replied.2;
     lends = a.lends;
     left = a.left;
     trace = a.trace;

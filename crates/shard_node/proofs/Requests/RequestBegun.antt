@@ -72,7 +72,7 @@ module _ {L G : Type 0} (traffic : L → Traffic) (end : L → LinkEnd) (laws : 
 
   room_now : HasRoom now
   room_now =
-      let count = counts (floor_of shard.store.pages shard.store.lent) shard.store.rows store.rows did.evicts.evicted did.evicts.evicts in
+      let count = counts (floor_of shard.store.pages shard.store.lent shard.store.regions) shard.store.rows store.rows did.evicts.evicted did.evicts.evicts in
       let spare = did.evicts.recorded.spare in
       let entries = length-map did.evicts.evicted (λ put. Evicted put) in
       let most = did.evicts.same.room in
@@ -117,7 +117,8 @@ module _ {L G : Type 0} (traffic : L → Traffic) (end : L → LinkEnd) (laws : 
     within = x.within;
     of_shard = did.evicts.same.shard ∙ x.of_shard;
     pages = did.evicts.same.pages ∙ x.pages;
-    unguarded = did.evicts.same.guards ∙ x.unguarded;
+    of_regions = did.evicts.same.regions ∙ x.of_regions;
+    unguarded = λ g. did.evicts.same.guards g ∙ x.unguarded g;
     counted = did.counted;
     longest = x.longest;
     peers = x.peers;
@@ -141,7 +142,7 @@ module _ {L G : Type 0} (traffic : L → Traffic) (end : L → LinkEnd) (laws : 
     waits = λ w is. subst (λ (v : Waiting). Contains (others n s) v.peer) (same_Some waiting w is) (other-there n s q did.below did.other);
     asked = λ k d below. asked_now (get_or shard.peers.items k d) (x.asked k d below);
     room = room_now;
-    short = short-left shard.longest (floor_of shard.store.pages shard.store.lent) shard.store.rows store.rows did.evicts.evicted did.evicts.evicts x.short;
+    short = short-left shard.longest (floor_of shard.store.pages shard.store.lent shard.store.regions) shard.store.rows store.rows did.evicts.evicted did.evicts.evicts x.short;
     one_each = x.one_each;
     own_unanswered = λ k i from there. let more = did.own_begun in x.own_unanswered k i (omega (arith, more, from)) there;
     unanswered = x.unanswered;
@@ -158,6 +159,7 @@ module _ {L G : Type 0} (traffic : L → Traffic) (end : L → LinkEnd) (laws : 
           idle = did.idle;
           few = did.few;
           pages = x.pages;
+          of_regions = x.of_regions;
           next = did.next;
           there = next-command peers shard.trace.now n s q shard.own.begun command did.are_numbered did.of_trace did.below did.next;
           asks = did.asks;

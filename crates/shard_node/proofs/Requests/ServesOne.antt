@@ -172,6 +172,7 @@ module _ {L G : Type 0} (traffic : L → Traffic) (end : L → LinkEnd) (shard :
     many = none_alone shard x at within;
     numbered = numbered shard.trace.now.bytes shard.trace.now.commands are;
     pages = x.pages;
+    of_regions = x.of_regions;
     few = (let counted = count_by-le-length is_some shard.store.lent in omega (arith, counted, many));
   }
 
@@ -203,7 +204,7 @@ module _ {L G : Type 0} (traffic : L → Traffic) (end : L → LinkEnd) (shard :
     now = moved store journal tally
 
     abbrev bound : ℕ
-    bound = floor_of shard.store.pages shard.store.lent
+    bound = floor_of shard.store.pages shard.store.lent shard.store.regions
 
     counted : IsCounted store
     counted = lends_counted shares.Reply shard.store store done.reply done.lends x.counted

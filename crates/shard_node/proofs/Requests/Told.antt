@@ -3,12 +3,13 @@ use Rattle.std.proofs.Common.{◌≡◌, ◌⊎◌, inr, true, ℕ, ◌+◌, ◌
 use Rattle.std.specs.List.{refill}
 use Rattle.std.proofs.lemmas.List.{length-map, map-append}
 use Rattle.layout.specs.Sizes.{most_keys}
+use Rattle.rows.specs.Key.{Key}
 use Rattle.rows.specs.Operation.{Operation}
 use Rattle.cache_model.specs.declared.entry.Entry.{Entry}
 use Rattle.cache_model.specs.declared.entry.Entry.TheVariants.{Done, Evicted}
 use Rattle.rows.specs.declared.reply_kind.ReplyKind.{ReplyKind}
 use Rattle.rows.specs.Row.{Row}
-use Rattle.rows.specs.Apply.{Reply, Stored, Replaced, Value, Missing, Erased, Keys, apply, has, in_order, is_at_most, scanned}
+use Rattle.rows.specs.Apply.{Reply, Stored, Replaced, Value, Missing, Erased, Keys, apply, has, in_order, is_at_most, keys_in, scanned}
 use Rattle.rows.specs.Evictions.{Evicts}
 use Rattle.rows.specs.Spelled.{spelled}
 use Rattle.run_log.specs.JournalState.{JournalState}
@@ -67,18 +68,25 @@ evicts-both low high rows mid rest [] (tag ∷ second) less a b =
 evicts-both low high rows mid rest (tag ∷ first) second less a b = (a.0, a.1, evicts-both low high (take (length rows - 1) rows) mid rest first second less a.2 b)
 
 pub same-store : (s : StoreState) → IsSameStore s s
-same-store s = record { shard = refl; pages = refl; room = refl; list = refl; guards = refl }
+same-store s = record { shard = refl; pages = refl; regions = refl; room = refl; list = refl; guards = λ g. refl }
 
 same-both : (old mid new : StoreState) → IsSameStore old mid → IsSameStore mid new → IsSameStore old new
-same-both old mid new a b = record { shard = b.shard ∙ a.shard; pages = b.pages ∙ a.pages; room = b.room ∙ a.room; list = b.list ∙ a.list; guards = b.guards ∙ a.guards }
+same-both old mid new a b = record {
+  shard = b.shard ∙ a.shard;
+  pages = b.pages ∙ a.pages;
+  regions = b.regions ∙ a.regions;
+  room = b.room ∙ a.room;
+  list = b.list ∙ a.list;
+  guards = λ g. b.guards g ∙ a.guards g;
+}
 
 -- what was done behind a block
-pub done-behind : (high : ℕ) (operation : Operation) (answer : Reply) (old mid new : StoreState) (before now after : JournalState) → floor_of old.pages old.lent ≤ high
-    → EvictsForBlock old mid before now → DoesAbove high operation answer mid new now after → DoesAbove (floor_of old.pages old.lent) operation answer old new before after
+pub done-behind : (high : ℕ) (operation : Operation) (answer : Reply) (old mid new : StoreState) (before now after : JournalState) → floor_of old.pages old.lent old.regions ≤ high
+    → EvictsForBlock old mid before now → DoesAbove high operation answer mid new now after → DoesAbove (floor_of old.pages old.lent old.regions) operation answer old new before after
 done-behind high operation answer old mid new before now after less e h = record {
   evicted = e.evicted ++ h.evicted;
   rest = h.rest;
-  evicts = evicts-both (floor_of old.pages old.lent) high old.rows mid.rows h.rest e.evicted h.evicted less e.evicts h.evicts;
+  evicts = evicts-both (floor_of old.pages old.lent old.regions) high old.rows mid.rows h.rest e.evicted h.evicted less e.evicts h.evicts;
   recorded = subst (Records before after)
       (sym (append_assoc (map (λ tag. Evicted tag) e.evicted) (map (λ tag. Evicted tag) h.evicted) (Done operation.number ∷ [])) ∙ ap (λ xs. xs ++ Done operation.number ∷ []) (sym (map-append (λ tag. Evicted tag) e.evicted h.evicted)))
       (records-both before now after (map (λ tag. Evicted tag) e.evicted) (map (λ tag. Evicted tag) h.evicted ++ Done operation.number ∷ []) e.recorded h.recorded);
@@ -89,7 +97,7 @@ done-behind high operation answer old mid new before now after less e h = record
 
 -- the same, where it evicted nothing
 pub quiet-behind : (operation : Operation) (answer : Reply) (rows : List Row) (old mid new : StoreState) (before now after : JournalState) → EvictsForBlock old mid before now → Records now after (Done operation.number ∷ [])
-    → apply operation mid.rows ≡ (rows, answer) → new.rows ≡ rows → IsSameStore mid new → DoesAbove (floor_of old.pages old.lent) operation answer old new before after
+    → apply operation mid.rows ≡ (rows, answer) → new.rows ≡ rows → IsSameStore mid new → DoesAbove (floor_of old.pages old.lent old.regions) operation answer old new before after
 quiet-behind operation answer rows old mid new before now after e one does is same = record {
   evicted = e.evicted;
   rest = mid.rows;
@@ -101,15 +109,16 @@ quiet-behind operation answer rows old mid new before now after e one does is sa
 }
 
 -- a new row has a place as before
-pub place-kept : (bound most : ℕ) (key : List ℕ) (rows mid : List Row) (tags : List ℕ) → Evicts bound rows tags mid → length tags + length mid ≡ length rows → length rows ≤ most
+pub place-kept : (bound most : ℕ) (key : Key) (rows mid : List Row) (tags : List ℕ) → Evicts bound rows tags mid → length tags + length mid ≡ length rows → length rows ≤ most
     → (has key rows ≡ true) ⊎ (length rows < most) → (has key mid ≡ true) ⊎ (length mid < most)
 unfolding Evicts
 place-kept bound most key rows mid [] evicts count few either = subst (λ (r : List Row). (has key r ≡ true) ⊎ (length r < most)) (sym evicts) either
 place-kept bound most key rows mid (tag ∷ tags) evicts count few either = inr (omega (arith, count, few))
 
 -- a scan finds few keys
-pub few-scanned : (key : List ℕ) (count : ℕ) (rows : List Row) → count ≤ most_keys → length (scanned key count rows) < 2 ^ 16
-few-scanned key count rows few = let taken = length-take count (in_order (filter (is_at_most key) (map (λ (row : Row). row.key) rows))) in omega (arith, taken, few)
+pub few-scanned : (key : Key) (count : ℕ) (rows : List Row) → count ≤ most_keys → length (scanned key count rows) < 2 ^ 16
+few-scanned key count rows few =
+    let taken = length-take count (in_order (filter (is_at_most key.bytes) (keys_in key.table rows))) in omega (arith, taken, few)
 
 -- a reply without a body
 pub bare-sent : (answer : Reply) (kind : ReplyKind) (bytes : List ℕ) → IsBare answer → (spelled answer).0 ≡ kind → IsSendable answer × (spelled answer ≡ (kind, take 0 bytes)) × (key_count answer ≡ 0)

@@ -169,7 +169,8 @@ module _ {L G : Type 0} where
     within = x.within;
     of_shard = same.shard ∙ x.of_shard;
     pages = same.pages ∙ x.pages;
-    unguarded = same.guards ∙ x.unguarded;
+    of_regions = same.regions ∙ x.of_regions;
+    unguarded = λ g. same.guards g ∙ x.unguarded g;
     counted = counted;
     longest = x.longest;
     peers = numbers ∙ x.peers;
@@ -232,7 +233,7 @@ module _ {L G : Type 0} where
       let rows = x.room.rows in
       let spare = x.room.spare in
       let most = x.room.bodies in
-      goes_on shard shard.store shard.journal peers tally (record { shard = refl; pages = refl; room = refl; list = refl; guards = refl }) x.counted
+      goes_on shard shard.store shard.journal peers tally (record { shard = refl; pages = refl; regions = refl; room = refl; list = refl; guards = λ g. refl }) x.counted
       (maps-agree (λ (peer : Peer L). peer.shard) old peers.items same (λ k d below. (each k d below).shard))
       (λ k d below. has-cursors shard (get_or old k d) (get_or peers.items k d) (each k d (inside k below)) (x.cursors k d (inside k below)))
       (λ k d below. has-asked shard (get_or old k d) (get_or peers.items k d) (each k d (inside k below)) (x.asked k d (inside k below)))

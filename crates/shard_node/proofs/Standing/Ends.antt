@@ -87,7 +87,7 @@ below-of n i own false less = All-cons (λ (part : ℕ × ℕ). part.1 < n) (i, 
 all-below : (n : ℕ) (list : List Operation) → 0 < n → All (λ (part : ℕ × ℕ). part.1 < n) (flat_map (parts_of n) list)
 all-below n [] some = All-nil (λ (part : ℕ × ℕ). part.1 < n)
 all-below n (x ∷ xs) some =
-    All-append (λ (part : ℕ × ℕ). part.1 < n) (parts_of n x) (flat_map (parts_of n) xs) (below-of n x.number (owner x.key n) (is_scan x.kind) (mod-lt _ some)) (all-below n xs some)
+    All-append (λ (part : ℕ × ℕ). part.1 < n) (parts_of n x) (flat_map (parts_of n) xs) (below-of n x.number (owner x.key.bytes n) (is_scan x.kind) (mod-lt _ some)) (all-below n xs some)
 
 issued-below : (trace : Trace) (n o : ℕ) → 0 < n → All (λ (part : ℕ × ℕ). part.1 < n) (issued_parts trace n o)
 issued-below trace n o some = all-below n (filter (λ x. origin x.number n == o) trace.operations) some

@@ -12,6 +12,7 @@ use Rattle.rows.specs.Operation.{Operation}
 use Rattle.trace_text.specs.Parsed.{IsConsistent as IsReadTrace, IsWellFormed, trace_in}
 use Rattle.trace_text.specs.Parts.{longest_value, own_parts}
 use Rattle.trace_text.specs.PartCounts.{here_parts, here_puts, reply_bytes}
+use Rattle.trace_text.specs.Trace.{regions}
 use Rattle.rows.specs.declared.reply_kind.ReplyKind.{ReplyKind}
 use Rattle.rows.specs.Holds.{RowsHold}
 use Rattle.shard_memory.specs.Tickets.{tickets_out}
@@ -52,6 +53,7 @@ module _ {L G : Type 0} (traffic : L → Traffic) where
     pub within : shard.shard < shard.shards
     pub of_shard : shard.store.shard ≡ shard.shard
     pub pages : shard.store.pages ≡ shard.pages
+    pub of_regions : shard.store.regions ≡ regions (trace_in shard.trace.now)
     pub unguarded : IsUnguarded shard.store
     pub longest : shard.longest ≡ longest_value (trace_in shard.trace.now)
     pub rows : shard.store.rows ≡ []
@@ -143,6 +145,7 @@ module _ {L G : Type 0} (traffic : L → Traffic) where
       within = x.within;
       of_shard = x.of_shard;
       pages = x.pages;
+      of_regions = x.of_regions;
       unguarded = x.unguarded;
       counted = let lends = x.lends in let backs = x.backs in let idle = x.idle in record { lends = omega (arith, lends, backs, idle); backs = omega (arith, backs) };
       longest = x.longest;
@@ -173,7 +176,7 @@ module _ {L G : Type 0} (traffic : L → Traffic) where
           let waits = waiting-none (get_or shard.peers.items k d).shard in
           omega (arith, begun, left, owed, waits);
       room = has-room;
-      short = subst (RowsHold (λ key. nat_le (length key) greatest_key) (λ value. nat_le (length value) shard.longest)) (sym x.rows) (λ k d below. absurd (omega (arith, below)));
+      short = subst (RowsHold (λ key. nat_le (length key.bytes) greatest_key) (λ value. nat_le (length value) shard.longest)) (sym x.rows) (λ k d below. absurd (omega (arith, below)));
       one_each = so-many;
       own_unanswered = none-answered shard.shard shard.own.begun;
       unanswered = λ k d below. none-answered (get_or shard.peers.items k d).shard (get_or shard.peers.items k d).answers.part;

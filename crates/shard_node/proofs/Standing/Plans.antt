@@ -71,6 +71,7 @@ module _ {L G : Type 0} where
         within = x.within;
         of_shard = x.of_shard;
         pages = x.pages;
+        of_regions = x.of_regions;
         unguarded = x.unguarded;
         counted = x.counted;
         longest = x.longest;

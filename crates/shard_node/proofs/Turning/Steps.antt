@@ -39,7 +39,8 @@ module _ {L G : Type 0} (traffic : L → Traffic) (end : L → LinkEnd) where
           within = x.within;
           of_shard = ap (λ (s : StoreState). s.shard) same ∙ x.of_shard;
           pages = ap (λ (s : StoreState). s.pages) same ∙ x.pages;
-          unguarded = ap (λ (s : StoreState). guards_of s.region 0) same ∙ x.unguarded;
+          of_regions = ap (λ (s : StoreState). s.regions) same ∙ x.of_regions;
+          unguarded = λ g. ap (λ (s : StoreState). guards_of s.region g) same ∙ x.unguarded g;
           counted = counted;
           longest = x.longest;
           peers = x.peers;
@@ -68,7 +69,7 @@ module _ {L G : Type 0} (traffic : L → Traffic) (end : L → LinkEnd) where
             bodies = r.bodies;
             keys = r.keys;
           };
-          short = subst (RowsHold (λ key. nat_le (length key) greatest_key) (λ value. nat_le (length value) shard.longest)) (sym rows) x.short;
+          short = subst (RowsHold (λ key. nat_le (length key.bytes) greatest_key) (λ value. nat_le (length value) shard.longest)) (sym rows) x.short;
           one_each = x.one_each;
           own_unanswered = x.own_unanswered;
           unanswered = x.unanswered;
@@ -145,6 +146,7 @@ module _ {L G : Type 0} (traffic : L → Traffic) (end : L → LinkEnd) where
     within = x.within;
     of_shard = x.of_shard;
     pages = x.pages;
+    of_regions = x.of_regions;
     unguarded = x.unguarded;
     counted = x.counted;
     longest = x.longest;

@@ -5,6 +5,7 @@ use Rattle.rows.specs.declared.kind.Kind.{Kind}
 use Rattle.rows.specs.declared.kind.Kind.TheVariants as kinds
 use Rattle.rows.specs.Operation.{Operation}
 use Rattle.cache_model.specs.declared.entry.Entry.TheVariants.{Done, Evicted}
+use Rattle.rows.specs.Key.{Key}
 use Rattle.rows.specs.Row.{Row}
 use Rattle.rows.specs.Apply.{Reply, apply, has}
 use Rattle.rows.specs.Evictions.{Evicts}
@@ -29,12 +30,12 @@ pub record DoesAbove (bound : ℕ) (operation : Operation) (answer : Reply) (old
 -- rows went in turn for a block, and were written down; nothing was done
 pub record EvictsForBlock (old new : StoreState) (before after : JournalState) : Type 0 where
   pub evicted : List ℕ
-  pub evicts : Evicts (floor_of old.pages old.lent) old.rows evicted new.rows
+  pub evicts : Evicts (floor_of old.pages old.lent old.regions) old.rows evicted new.rows
   pub recorded : Records before after (map (λ put. Evicted put) evicted)
   pub same : IsSameStore old new
 
 -- a put of the key has a place for its row: the key has one, or one is free
-abbrev pub HasPlace : List ℕ → StoreState → Type 0
+abbrev pub HasPlace : Key → StoreState → Type 0
 HasPlace key store = (has key store.rows ≡ true) ⊎ (length store.rows < store.room)
 
 -- how many bytes of a reply's block its body has: for a get the length that is found first, for a scan room for each key

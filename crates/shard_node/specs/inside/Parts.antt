@@ -19,6 +19,6 @@ pub record LogsReply (part : ℕ) (reply : Reply) (old new : Replies) : Type 0 w
 -- log has its reply. Lent blocks may have come home, and none was lent.
 pub record DoesPart (part : ℕ) (operation : Operation) (old new : StoreState) (before after : JournalState) (log logged : Replies) : Type 0 where
   pub reply : Reply
-  pub works : DoesAbove (pressure old.pages old.lent) operation reply old new before after
+  pub works : DoesAbove (pressure old.pages old.lent old.regions) operation reply old new before after
   pub came : TakesBack old new
   pub logs : LogsReply part reply log logged

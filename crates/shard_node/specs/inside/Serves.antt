@@ -31,7 +31,7 @@ module _ {L : Type 0} where
     pub answer : Reply
     pub waits : new.reply ≡ Some reply
     pub holds : HoldsReply reply.piece.bytes operation.number answer
-    pub does : DoesAbove (floor_of store.pages store.lent) operation answer store store' journal journal'
+    pub does : DoesAbove (floor_of store.pages store.lent store.regions) operation answer store store' journal journal'
     pub lends : LendsBlock shares.Reply store store' reply
     pub left : new.asks.left ≡ drop 1 old.asks.left
     pub trace : new.asks.trace ≡ old.asks.trace

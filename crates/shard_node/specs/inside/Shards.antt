@@ -5,6 +5,7 @@ use Rattle.layout.specs.Counts.{raised}
 use Rattle.layout.specs.Sizes.{greatest_key, key_room, most_keys}
 use Rattle.trace_text.specs.Parsed.{IsConsistent as IsReadTrace, IsWellFormed, trace_in}
 use Rattle.trace_text.specs.Parts.{longest_value}
+use Rattle.trace_text.specs.Trace.{regions}
 use Rattle.rows.specs.Holds.{RowsHold}
 use Rattle.cache_model.specs.OwnParts.{issued_parts}
 use Rattle.shard_memory.specs.Tickets.{tickets_out}
@@ -71,7 +72,7 @@ module _ {L G : Type 0} where
 
   -- no row is longer than the puts of the trace can make one
   abbrev pub HasShortRows : Shard L G → Type 0
-  HasShortRows shard = RowsHold (λ key. nat_le (length key) greatest_key) (λ value. nat_le (length value) shard.longest) shard.store.rows
+  HasShortRows shard = RowsHold (λ key. nat_le (length key.bytes) greatest_key) (λ value. nat_le (length value) shard.longest) shard.store.rows
 
   abbrev pub issued_by : Shard L G → List (ℕ × ℕ)
   issued_by shard = issued_parts (trace_in shard.trace.now) shard.shards shard.shard
@@ -102,6 +103,7 @@ module _ {L G : Type 0} where
     pub within : shard.shard < shard.shards
     pub of_shard : shard.store.shard ≡ shard.shard
     pub pages : shard.store.pages ≡ shard.pages
+    pub of_regions : shard.store.regions ≡ regions (trace_in shard.trace.now)
     pub unguarded : IsUnguarded shard.store
     pub counted : IsCounted shard.store
     pub longest : shard.longest ≡ longest_value (trace_in shard.trace.now)

@@ -1,9 +1,10 @@
 //! How a shard is opened.
 ghost use Rattle.std.specs.Prelude.{◌≡◌, ◌+◌, ◌<◌, length, map, All, IfOk, IfErr};
 ghost use Rattle.layout.specs.Sizes.{ArePages};
+ghost use Rattle.trace_text.specs.Parsed.{trace_in};
 ghost use Rattle.foreign_list.specs.OwnerSeats.{IsAtRest};
 ghost use Rattle.shard_memory.specs.Tickets.{tickets_out};
-ghost use Rattle.shard_node.specs.Nodes.{others};
+ghost use Rattle.shard_node.specs.Nodes.{others, HasTablePages};
 ghost use Rattle.shard_node.specs.Standing.{InStanding};
 ghost use Rattle.shard_node.specs.Links.{IsUnused};
 ghost use Rattle.shard_node.specs.inside.Shards.{node_state, IsConsistent};
@@ -36,6 +37,7 @@ impl<'f, L: Link<'f> + Drop, G: Gate + Drop> Shard<'f, L, G> {
     ) -> Result<Shard<'f, L, G>, NodeRefusal<L>>
         // What it is opened with.
         requires pages { ArePages pages }
+        requires tables { HasTablePages (trace_in trace.now) pages }
         requires owner { home.now.owner ≡ shard }
         requires seat { IsAtRest home.now seat }
         requires within { shard < trace.now.shards }
@@ -72,7 +74,8 @@ impl<'f, L: Link<'f> + Drop, G: Gate + Drop> Shard<'f, L, G> {
             peers,
             rows,
         } = room;
-        let store = match ShardStore::open(alloc, shard, pages, rows, home, seat) {
+        let regions = trace.regions();
+        let store = match ShardStore::open(alloc, shard, pages, rows, regions, home, seat) {
             Ok(store) => store,
             Err(seat) => return Err(NodeRefusal { seat, links }),
         };

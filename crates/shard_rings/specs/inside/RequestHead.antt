@@ -4,10 +4,10 @@ use Rattle.std.specs.Int.{w16, w32, to_le_bytes}
 use Rattle.std.specs.Io.{StartsWith}
 use Rattle.shard_rings.specs.declared.request_head.RequestHead.{RequestHead}
 
--- the bytes of a header: its fields in their order, with a zero behind the kind and four zeros at the end
+-- the bytes of a header: its fields in their order, with four zeros at the end
 abbrev pub head_bytes : RequestHead → List ℕ
 head_bytes head =
-    head.kind ∷ 0 ∷ to_le_bytes w16 head.key_len ++ to_le_bytes w32 head.number
+    head.kind ∷ head.table ∷ to_le_bytes w16 head.key_len ++ to_le_bytes w32 head.number
     ++ to_le_bytes w16 head.value_len ++ to_le_bytes w16 head.count ++ replicate 4 0
 
 -- the bytes begin with this header

@@ -1,14 +1,15 @@
 //! The blocks that a store lends, and the guards under which places stay.
-ghost use Rattle.std.specs.Prelude.{◌≡◌, ◌≢◌, ◌⊎◌, ◌↔◌, ◌+◌, ◌-◌, ◌^◌, ◌<◌, ◌≤◌, length, replicate, Some, None, IfOk, IfErr, IfSome, IfNone, IsSome, IsNone, IsTrue, MatchOption};
-ghost use Rattle.layout.specs.Sizes.{greatest_block, tickets};
+ghost use Rattle.std.specs.Prelude.{◌≡◌, ◌≢◌, ◌⊎◌, ◌↔◌, ℕ, ◌+◌, ◌-◌, ◌^◌, ◌<◌, ◌≤◌, length, replicate, Some, None, IfOk, IfErr, IfSome, IfNone, IsSome, IsNone, IsTrue, MatchOption};
+ghost use Rattle.layout.specs.Sizes.{greatest_block, tables, tickets};
+ghost use Rattle.rows.specs.Key.{in_table};
 ghost use Rattle.rows.specs.Row.{Row};
 ghost use Rattle.rows.specs.Apply as apply;
 ghost use Rattle.regions.specs.Contents.{live_at};
-ghost use Rattle.regions.specs.Shapes.{guards_of, most_guards};
+ghost use Rattle.regions.specs.Shapes.{group_count, group_of, guards_at, guards_of, most_guards};
 ghost use Rattle.row_cache.specs.Rows.{StandsAt};
 ghost use Rattle.layout.specs.Counts.{raised};
 ghost use Rattle.shard_memory.specs.Tickets.{HasIdle, tickets_out};
-ghost use Rattle.shard_store.specs.Stores.{IsSameStore, IsUnguarded, RowsStay, with_guards};
+ghost use Rattle.shard_store.specs.Stores.{IsSameStore, IsUnguarded, RowsStay, group_for, with_guards};
 ghost use Rattle.shard_store.specs.Works.{EvictsForBlock, floor_of, pressure};
 ghost use Rattle.shard_store.specs.Lending.{TakesBack, LooksOnce, LendsBlock, RefusesNow, GivesNow};
 
@@ -27,6 +28,7 @@ impl<'f> ShardStore<'f> {
         ensures tickets { length self.now.lent ≡ tickets }
         ensures lends { self.now.lends ≡ raised self.now.backs (tickets_out self.now.lent) }
         ensures backs { self.now.backs < 2 ^ 64 }
+        ensures regions { group_count self.now.region ≡ self.now.regions }
     {
         self.cache.rows();
     }
@@ -56,7 +58,7 @@ impl<'f> ShardStore<'f> {
         ensures evicted { EvictsForBlock E.tells self.old self.new evictions.old evictions.new }
 
         // A put behind it evicts above the floor that there was before it.
-        ensures floor { floor_of self.old.pages self.old.lent ≤ pressure self.new.pages self.new.lent }
+        ensures floor { floor_of self.old.pages self.old.lent self.old.regions ≤ pressure self.new.pages self.new.lent self.new.regions }
     {
         let (memory, cache) = (&mut self.memory, &mut self.cache);
         find_block(memory, cache, size, share, evictions)
@@ -171,37 +173,50 @@ impl<'f> ShardStore<'f> {
         self.memory.back()
     }
 
-    /// One guard more. While one stands, what stands at a place stays there. Guards nest.
-    pub fn guard(&mut self)
-        requires { guards_of self.old.region 0 < most_guards }
-        ensures guards { self.new ≡ with_guards self.old (guards_of self.old.region 0 + 1) }
-        ensures count { guards_of self.new.region 0 ≡ guards_of self.old.region 0 + 1 }
+    /// One guard more on the group of a table, 0 to 7. While one stands, what stands at a place of the group's segments stays there.
+    /// Guards nest.
+    pub fn guard(&mut self, table: u8)
+        requires table { table < tables }
+        requires few { guards_of self.old.region (group_for self.old table) < most_guards }
+        ensures guards { self.new ≡ with_guards self.old (group_for self.old table)
+            (guards_of self.old.region (group_for self.old table) + 1) }
+        ensures count { guards_of self.new.region (group_for self.old table)
+            ≡ guards_of self.old.region (group_for self.old table) + 1 }
+        ensures others { (g : ℕ) → g ≢ group_for self.old table → guards_of self.new.region g ≡ guards_of self.old.region g }
     {
-        self.cache.guard();
+        let group = self.cache.group_of(table);
+        self.cache.guard(group);
     }
 
-    /// One guard less.
-    pub fn unguard(&mut self)
-        requires { 1 ≤ guards_of self.old.region 0 }
-        ensures guards { self.new ≡ with_guards self.old (guards_of self.old.region 0 - 1) }
-        ensures count { guards_of self.new.region 0 + 1 ≡ guards_of self.old.region 0 }
+    /// One guard less on the group of a table.
+    pub fn unguard(&mut self, table: u8)
+        requires table { table < tables }
+        requires some { 1 ≤ guards_of self.old.region (group_for self.old table) }
+        ensures guards { self.new ≡ with_guards self.old (group_for self.old table)
+            (guards_of self.old.region (group_for self.old table) - 1) }
+        ensures count { guards_of self.new.region (group_for self.old table) + 1
+            ≡ guards_of self.old.region (group_for self.old table) }
+        ensures others { (g : ℕ) → g ≢ group_for self.old table → guards_of self.new.region g ≡ guards_of self.old.region g }
     {
-        self.cache.unguard();
+        let group = self.cache.group_of(table);
+        self.cache.unguard(group);
     }
 
-    /// Where the row of a key stands. None where no row has the key.
-    pub fn place_of(&self, key: &[u8]) -> Option<Place>
-        ensures { MatchOption result (apply.row_of key.now self.now.rows ≡ None)
-            (λ place. (row : Row) × (apply.row_of key.now self.now.rows ≡ Some row) × StandsAt self.now.region place row
-            × IsSome (live_at self.now.region place)) }
+    /// Where the row of a table's key stands: in a segment of the table's group. None where no row has the key there.
+    pub fn place_of(&self, table: u8, key: &[u8]) -> Option<Place>
+        requires table { table < tables }
+        ensures found { MatchOption result (apply.row_of (in_table table key.now) self.now.rows ≡ None)
+            (λ place. (row : Row) × (apply.row_of (in_table table key.now) self.now.rows ≡ Some row)
+            × StandsAt self.now.region place row × IsSome (live_at self.now.region place)) }
+        ensures group { IfSome result (λ place. group_of self.now.region place.segment ≡ Some (group_for self.now table)) }
     {
-        self.cache.place_of(key)
+        self.cache.place_of(table, key)
     }
 
-    /// The value of the row at a place, live, or dead under a guard.
+    /// The value of the row at a place, live, or dead under a guard of its segment's group.
     pub fn value_at(&self, place: Place) -> &[u8]
         requires row { (row : Row) × StandsAt self.now.region place row }
-        requires live { IsSome (live_at self.now.region place) ⊎ (1 ≤ guards_of self.now.region 0) }
+        requires live { IsSome (live_at self.now.region place) ⊎ (1 ≤ guards_at self.now.region place.segment) }
         ensures { (row : Row) × StandsAt self.now.region place row × (result.now ≡ row.value) }
     {
         self.cache.value_at(place)

@@ -4,11 +4,11 @@ ghost use Rattle.rows.specs.Askable.{IsAskable};
 ghost use Rattle.rows.specs.Operations.{numbered};
 ghost use Rattle.shard_rings.specs.Request.{request};
 
-use shard_rings::{Operation, is_request, read_request, request_size, write_request};
+use shard_rings::{Key, Operation, is_request, read_request, request_size, write_request};
 use std::alloc::{AllocError, Global};
 use std::test::Fail;
 
-// The requests of `put b 1` as command 1, of `get b` as command 513, of `erase b1` and of `scan b 32` as command 7.
+// The requests of `put b 1` as command 1, of `get b` as command 513, of `erase b1` and of `scan b 32` as command 7, all of table 0.
 const PUT: [u8; 18] = [1, 0, 1, 0, 1, 0, 0, 0, 1, 0, 0, 0, 0, 0, 0, 0, 0x62, 0x31];
 
 const GET: [u8; 17] = [2, 0, 1, 0, 1, 2, 0, 0, 0, 0, 0, 0, 0, 0, 0, 0, 0x62];
@@ -16,6 +16,9 @@ const GET: [u8; 17] = [2, 0, 1, 0, 1, 2, 0, 0, 0, 0, 0, 0, 0, 0, 0, 0, 0x62];
 const ERASE: [u8; 18] = [3, 0, 2, 0, 7, 0, 0, 0, 0, 0, 0, 0, 0, 0, 0, 0, 0x62, 0x31];
 
 const SCAN: [u8; 17] = [4, 0, 1, 0, 7, 0, 0, 0, 0, 0, 32, 0, 0, 0, 0, 0, 0x62];
+
+// The request of `get 7 b` as command 513.
+const GET_IN_7: [u8; 17] = [2, 7, 1, 0, 1, 2, 0, 0, 0, 0, 0, 0, 0, 0, 0, 0, 0x62];
 
 /// The request of an operation, of the command of this number, in a block of its size.
 fn request_of(alloc: Global, number: u32, operation: &Operation<'_>) -> Result<Vec<u8>, AllocError>
@@ -43,16 +46,39 @@ fn is_laid(
 #[test]
 fn a_request_is_laid_byte_for_byte(rt: HostRuntime) -> Result<(), Fail> {
     let put = Operation::Put {
-        key: b"b",
+        key: Key {
+            table: 0,
+            bytes: b"b",
+        },
         value: b"1",
     };
     assert!(rt; is_laid(rt.alloc(), 1, &put, &PUT)?);
-    let get = Operation::Get { key: b"b" };
+    let get = Operation::Get {
+        key: Key {
+            table: 0,
+            bytes: b"b",
+        },
+    };
     assert!(rt; is_laid(rt.alloc(), 513, &get, &GET)?);
-    let erase = Operation::Erase { key: b"b1" };
+    let get = Operation::Get {
+        key: Key {
+            table: 7,
+            bytes: b"b",
+        },
+    };
+    assert!(rt; is_laid(rt.alloc(), 513, &get, &GET_IN_7)?);
+    let erase = Operation::Erase {
+        key: Key {
+            table: 0,
+            bytes: b"b1",
+        },
+    };
     assert!(rt; is_laid(rt.alloc(), 7, &erase, &ERASE)?);
     let scan = Operation::Scan {
-        from: b"b",
+        from: Key {
+            table: 0,
+            bytes: b"b",
+        },
         count: 32,
     };
     assert!(rt; is_laid(rt.alloc(), 7, &scan, &SCAN)?);
@@ -61,25 +87,31 @@ fn a_request_is_laid_byte_for_byte(rt: HostRuntime) -> Result<(), Fail> {
 
 #[test]
 fn a_request_is_read_as_it_is_laid(rt: HostRuntime) {
-    let laid: [(&[u8], u32, Operation<'_>); 4] = [
+    let b = Key {
+        table: 0,
+        bytes: b"b",
+    };
+    let b1 = Key {
+        table: 0,
+        bytes: b"b1",
+    };
+    let in_7 = Key {
+        table: 7,
+        bytes: b"b",
+    };
+    let laid: [(&[u8], u32, Operation<'_>); 5] = [
         (
             &PUT,
             1,
             Operation::Put {
-                key: b"b",
+                key: b,
                 value: b"1",
             },
         ),
-        (&GET, 513, Operation::Get { key: b"b" }),
-        (&ERASE, 7, Operation::Erase { key: b"b1" }),
-        (
-            &SCAN,
-            7,
-            Operation::Scan {
-                from: b"b",
-                count: 32,
-            },
-        ),
+        (&GET, 513, Operation::Get { key: b }),
+        (&GET_IN_7, 513, Operation::Get { key: in_7 }),
+        (&ERASE, 7, Operation::Erase { key: b1 }),
+        (&SCAN, 7, Operation::Scan { from: b, count: 32 }),
     ];
     for (bytes, number, operation) in laid {
         assert!(rt; read_request(bytes) == Some((number, operation)));
@@ -98,7 +130,10 @@ fn changed_get(at: usize, byte: u8, bytes: &[u8]) -> Option<(u32, Operation<'_>)
     requires { length bytes.now ≡ 17 }
 {
     let number = number_in(bytes);
-    let key = &bytes[16..];
+    let key = Key {
+        table: 0,
+        bytes: &bytes[16..],
+    };
     match at {
         // The kind: of a put of an empty value, of a get, of an erase. A scan would lack a count.
         0 => match byte {
@@ -107,37 +142,56 @@ fn changed_get(at: usize, byte: u8, bytes: &[u8]) -> Option<(u32, Operation<'_>)
             3 => Some((number, Operation::Erase { key })),
             _ => None,
         },
+        // The table, 0 to 7.
+        1 if byte < 8 => Some((
+            number,
+            Operation::Get {
+                key: Key {
+                    table: byte,
+                    bytes: &bytes[16..],
+                },
+            },
+        )),
+        1 => None,
         // The low byte of the key's length, the number, and the key.
         2 if byte == 1 => Some((number, Operation::Get { key })),
         2 => None,
         4 | 5 | 6 | 7 | 16 => Some((number, Operation::Get { key })),
-        // All others are 0: a zero, lengths and counts that a get has not, and the zeros at the end.
+        // All others are 0: lengths and counts that a get has not, and the zeros at the end.
         _ if byte == 0 => Some((number, Operation::Get { key })),
         _ => None,
     }
 }
 
-/// The same of `put b 1`: only its number, its key and its value can be others, of the lengths that they had.
+/// The same of `put b 1`: only its table, its number, its key and its value can be others, of the lengths that they had.
 fn changed_put(at: usize, byte: u8, bytes: &[u8]) -> Option<(u32, Operation<'_>)>
     requires { (length bytes.now ≡ 18) × (at < 18) }
 {
-    if !matches!(at, 4 | 5 | 6 | 7 | 16 | 17) && byte != PUT[at] {
+    let is_table = at == 1 && byte < 8;
+    if !matches!(at, 4 | 5 | 6 | 7 | 16 | 17) && !is_table && byte != PUT[at] {
         return None;
     }
-    let key = &bytes[16..17];
+    let key = Key {
+        table: bytes[1],
+        bytes: &bytes[16..17],
+    };
     let value = &bytes[17..];
     Some((number_in(bytes), Operation::Put { key, value }))
 }
 
-/// The same of `scan b 32`: its number, its key, and its count, which is 1 to 32.
+/// The same of `scan b 32`: its table, its number, its key, and its count, which is 1 to 32.
 fn changed_scan(at: usize, byte: u8, bytes: &[u8]) -> Option<(u32, Operation<'_>)>
     requires { (length bytes.now ≡ 17) × (at < 17) }
 {
     let counts = at == 10 && 1 <= byte && byte <= 32;
-    if !matches!(at, 4 | 5 | 6 | 7 | 16) && !counts && byte != SCAN[at] {
+    let is_table = at == 1 && byte < 8;
+    if !matches!(at, 4 | 5 | 6 | 7 | 16) && !counts && !is_table && byte != SCAN[at] {
         return None;
     }
-    let from = &bytes[16..];
+    let from = Key {
+        table: bytes[1],
+        bytes: &bytes[16..],
+    };
     let count = bytes[10] as u32;
     Some((number_in(bytes), Operation::Scan { from, count }))
 }
@@ -255,8 +309,8 @@ fn what_is_no_request_is_refused(rt: HostRuntime) {
             &[5, 0, 1, 0, 1, 0, 0, 0, 0, 0, 0, 0, 0, 0, 0, 0, 97],
         ),
         (
-            "byte 1",
-            &[2, 1, 1, 0, 1, 0, 0, 0, 0, 0, 0, 0, 0, 0, 0, 0, 97],
+            "table 8",
+            &[2, 8, 1, 0, 1, 0, 0, 0, 0, 0, 0, 0, 0, 0, 0, 0, 97],
         ),
         (
             "byte 12",
@@ -309,20 +363,21 @@ fn longest_is(
 
 #[test]
 fn the_greatest_requests(rt: HostRuntime) -> Result<(), Fail> {
-    let key = [b'k'; 256];
+    let bytes = [b'k'; 256];
     let value = [b'v'; 12_000];
-    let put = Operation::Put {
-        key: &key,
-        value: &value,
+    let key = Key {
+        table: 0,
+        bytes: &bytes,
     };
+    let put = Operation::Put { key, value: &value };
     let front = [1, 0, 0, 1, 255, 255, 255, 255, 0xe0, 0x2e, 0, 0, 0, 0, 0, 0];
     assert!(rt; longest_is(rt.alloc(), &put, 12_272, &front)?);
-    let get = Operation::Get { key: &key };
+    let get = Operation::Get { key };
     assert!(rt; longest_is(rt.alloc(), &get, 272, &[])?);
-    let erase = Operation::Erase { key: &key };
+    let erase = Operation::Erase { key };
     assert!(rt; longest_is(rt.alloc(), &erase, 272, &[])?);
     let scan = Operation::Scan {
-        from: &key,
+        from: key,
         count: 32,
     };
     let front = [

@@ -1,19 +1,22 @@
 // Calls drawn at random on a store, beside a plain list of rows: what they answer, which rows go, and what stands in lent blocks.
-ghost use Rattle.std.specs.Prelude.{◌≡◌};
+ghost use Rattle.std.specs.Prelude.{◌≡◌, ◌⊎◌, ◌≤◌};
+ghost use Rattle.layout.specs.Sizes as sizes;
 ghost use Rattle.foreign_list.specs.OwnerSeats.{IsAtRest};
 
 use super::drawn_store::{Drawn, SCAN_BYTES, SCANNED};
 use super::list::List;
 use super::{behind, value_in};
 use foreign_list::{Foreign, ForeignBlock, OwnerSeat};
-use layout::GREATEST_BLOCK;
+use layout::{FEWEST_TABLE_PAGES, GREATEST_BLOCK, TABLES};
 use rand_core::utils::NextWord;
 use rand_pcg::Lcg64Xsh32;
 use std::alloc::{AllocError, Global};
 use std::test::Fail;
 
-// How many keys are drawn. The pages hold some five hundred of their rows.
+// How many keys are drawn, and how many of each table. The pages hold some five or six hundred of their rows.
 const KEYS: u32 = 700;
+
+const KEYS_OF_TABLE: u32 = 90;
 
 // The most rows that go in one call.
 const MOST: usize = 512;
@@ -36,6 +39,8 @@ fn reads(lent: Lent<'_>) -> bool {
 
 #[derive(Drop)]
 struct Both<'f> {
+    // Whether rows are of all tables, or of table 0 alone.
+    in_tables: bool,
     drawn: Drawn<'f>,
     list: List,
     out: Vec<Lent<'f>>,
@@ -44,12 +49,21 @@ struct Both<'f> {
 }
 
 impl<'f> Both<'f> {
-    fn new(alloc: Global, home: &'f Foreign, seat: OwnerSeat) -> Result<Both<'f>, Fail>
+    fn new(
+        alloc: Global,
+        pages: u32,
+        regions: u32,
+        home: &'f Foreign,
+        seat: OwnerSeat,
+    ) -> Result<Both<'f>, Fail>
+        requires pages { sizes.ArePages pages }
+        requires regions { (regions ≡ 1) ⊎ ((regions ≡ sizes.tables) × (sizes.fewest_table_pages ≤ pages)) }
         requires owner { home.now.owner ≡ 0 }
         requires seat { IsAtRest home.now seat }
     {
         Ok(Both {
-            drawn: Drawn::new(alloc, home, seat)?,
+            in_tables: regions == TABLES,
+            drawn: Drawn::new(alloc, pages, regions, home, seat)?,
             list: List::new(alloc),
             out: Vec::new(alloc),
             gone: 0,
@@ -68,30 +82,37 @@ impl<'f> Both<'f> {
     fn put(
         &mut self,
         alloc: Global,
+        table: u8,
         key: &[u8],
         value: &[u8],
         tag: u32,
     ) -> Result<bool, AllocError> {
         let mut tags = [0u32; MOST];
-        let Some((did, count)) = self.drawn.put(key, value, tag, &mut tags) else {
+        let Some((did, count)) = self.drawn.put(table, key, value, tag, &mut tags) else {
             return Ok(false);
         };
         let lost = self.loses(tags.get(..count));
-        Ok(did == self.list.put(alloc, key, value, tag)? && lost)
+        Ok(did == self.list.put(alloc, table, key, value, tag)? && lost)
     }
 
-    fn get(&mut self, key: &[u8]) -> bool {
-        self.drawn.has(key, self.list.get(key))
+    fn get(&mut self, table: u8, key: &[u8]) -> bool {
+        self.drawn.has(table, key, self.list.get(table, key))
     }
 
-    fn erase(&mut self, key: &[u8]) -> bool {
-        self.drawn.erase(key) == self.list.erase(key)
+    fn erase(&mut self, table: u8, key: &[u8]) -> bool {
+        self.drawn.erase(table, key) == Some(self.list.erase(table, key))
     }
 
-    fn scan(&mut self, alloc: Global, from: &[u8], count: u32) -> Result<bool, AllocError> {
+    fn scan(
+        &mut self,
+        alloc: Global,
+        table: u8,
+        from: &[u8],
+        count: u32,
+    ) -> Result<bool, AllocError> {
         let mut into = [0u8; SCAN_BYTES];
-        let (keys, body) = self.list.scan(alloc, from, count)?;
-        let Some(scanned) = self.drawn.scan(from, count, &mut into) else {
+        let (keys, body) = self.list.scan(alloc, table, from, count)?;
+        let Some(scanned) = self.drawn.scan(table, from, count, &mut into) else {
             return Ok(false);
         };
         Ok(scanned.keys == keys && into.get(..scanned.bytes as usize) == Some(body.as_slice()))
@@ -123,24 +144,31 @@ impl<'f> Both<'f> {
         self.out.len() < MOST_OUT || self.come_home()
     }
 
-    fn lend_value(&mut self, alloc: Global, key: &[u8]) -> Result<bool, AllocError> {
+    fn lend_value(&mut self, alloc: Global, table: u8, key: &[u8]) -> Result<bool, AllocError> {
         let mut tags = [0u32; MOST];
-        let Some((block, found, count)) = self.drawn.lend_value(key, &mut tags) else {
+        let Some((block, found, count)) = self.drawn.lend_value(table, key, &mut tags) else {
             return Ok(false);
         };
         let lost = self.loses(tags.get(..count));
-        let same = value_in(block.bytes(), found) == self.list.get(key);
+        let same = value_in(block.bytes(), found) == self.list.get(table, key);
         self.hand_out(alloc, block)?;
         Ok(lost && same)
     }
 
-    fn lend_keys(&mut self, alloc: Global, from: &[u8], count: u32) -> Result<bool, AllocError> {
+    fn lend_keys(
+        &mut self,
+        alloc: Global,
+        table: u8,
+        from: &[u8],
+        count: u32,
+    ) -> Result<bool, AllocError> {
         let mut tags = [0u32; MOST];
-        let Some((block, scanned, told)) = self.drawn.lend_keys(from, count, &mut tags) else {
+        let Some((block, scanned, told)) = self.drawn.lend_keys(table, from, count, &mut tags)
+        else {
             return Ok(false);
         };
         let lost = self.loses(tags.get(..told));
-        let (keys, body) = self.list.scan(alloc, from, count)?;
+        let (keys, body) = self.list.scan(alloc, table, from, count)?;
         let same = scanned.keys == keys
             && behind(block.bytes(), scanned.bytes) == Some(body.as_slice());
         self.hand_out(alloc, block)?;
@@ -185,19 +213,29 @@ fn one_call_of(
     random: &mut Lcg64Xsh32,
     number: u32,
     call: u32,
+    table: u8,
     key: &[u8],
 ) -> Result<bool, AllocError> {
     match call {
         0..=6 => {
             let value = Vec::from_elem(alloc, (number % 251) as u8, length_of(random.next_word()))?;
-            both.put(alloc, key, &value, number)
+            both.put(alloc, table, key, &value, number)
         }
-        7..=9 => Ok(both.get(key)),
-        10 => Ok(both.erase(key)),
-        11 => both.scan(alloc, key, number % SCANNED + 1),
-        12 | 13 => both.lend_value(alloc, key),
-        14 => both.lend_keys(alloc, key, number % SCANNED + 1),
+        7..=9 => Ok(both.get(table, key)),
+        10 => Ok(both.erase(table, key)),
+        11 => both.scan(alloc, table, key, number % SCANNED + 1),
+        12 | 13 => both.lend_value(alloc, table, key),
+        14 => both.lend_keys(alloc, table, key, number % SCANNED + 1),
         _ => both.lend(alloc, random.next_word() % GREATEST_BLOCK + 1),
+    }
+}
+
+// The table and the key of a call.
+fn key_of(draw: u32, in_tables: bool) -> (u8, u32) {
+    if in_tables {
+        ((draw / KEYS_OF_TABLE % TABLES) as u8, draw % KEYS_OF_TABLE)
+    } else {
+        (0, draw % KEYS)
     }
 }
 
@@ -212,8 +250,16 @@ fn one_call(
         return Ok(false);
     }
     let draw = random.next_word();
-    let key = (draw / 16 % KEYS).to_be_bytes();
-    one_call_of(alloc, both, random, number, draw % 16, &key)
+    let (table, key) = key_of(draw / 16, both.in_tables);
+    one_call_of(
+        alloc,
+        both,
+        random,
+        number,
+        draw % 16,
+        table,
+        &key.to_be_bytes(),
+    )
 }
 
 // Which of the calls is the first whose answers are not alike.
@@ -234,9 +280,12 @@ fn first_unlike(
 }
 
 // The first call whose answers are not alike, whether many rows went, and whether all blocks come home.
-fn answers(alloc: Global) -> Result<(Option<u32>, bool, bool), Fail> {
+fn answers(alloc: Global, pages: u32, regions: u32) -> Result<(Option<u32>, bool, bool), Fail>
+    requires pages { sizes.ArePages pages }
+    requires regions { (regions ≡ 1) ⊎ ((regions ≡ sizes.tables) × (sizes.fewest_table_pages ≤ pages)) }
+{
     let (home, seat) = Foreign::new(alloc, 0)?;
-    let mut both = Both::new(alloc, &home, seat)?;
+    let mut both = Both::new(alloc, pages, regions, &home, seat)?;
     let mut random = Lcg64Xsh32::new(5, 1);
     let unlike = first_unlike(alloc, &mut both, &mut random);
     let many = both.gone > 100;
@@ -246,6 +295,13 @@ fn answers(alloc: Global) -> Result<(Option<u32>, bool, bool), Fail> {
 
 #[test]
 fn ten_thousand_answers_are_those_of_a_list(rt: HostRuntime) -> Result<(), Fail> {
-    assert_eq!(rt; answers(rt.alloc())?, (None, true, true));
+    assert_eq!(rt; answers(rt.alloc(), 1280, 1)?, (None, true, true));
+    Ok(())
+}
+
+#[test]
+fn ten_thousand_answers_in_tables_are_those_of_a_list(rt: HostRuntime) -> Result<(), Fail> {
+    let answers = answers(rt.alloc(), FEWEST_TABLE_PAGES, TABLES)?;
+    assert_eq!(rt; answers, (None, true, true));
     Ok(())
 }

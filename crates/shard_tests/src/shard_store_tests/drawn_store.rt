@@ -1,11 +1,12 @@
 // A store that any calls are made on, and that tells the tags of the rows that go.
-ghost use Rattle.std.specs.Prelude.{◌≡◌};
+ghost use Rattle.std.specs.Prelude.{◌≡◌, ◌⊎◌, ◌<◌, ◌≤◌};
+ghost use Rattle.layout.specs.Sizes as sizes;
 ghost use Rattle.foreign_list.specs.OwnerSeats.{IsAtRest};
-ghost use Rattle.regions.specs.Shapes.{guards_of};
+ghost use Rattle.shard_store.specs.Stores.{IsUnguarded};
 
 use super::HEAD;
 use foreign_list::{Foreign, ForeignBlock, OwnerSeat};
-use layout::{GREATEST_BLOCK, GREATEST_KEY, GREATEST_VALUE};
+use layout::{GREATEST_BLOCK, GREATEST_KEY, GREATEST_VALUE, TABLES};
 use shard_store::{EvictedTags, Put, Scanned, ShardStore, Share};
 use std::alloc::{AllocError, Global};
 use std::test::Fail;
@@ -18,20 +19,29 @@ pub(super) const SCANNED: u32 = 5;
 
 pub(super) const SCAN_BYTES: usize = 1290;
 
-// A call that can't be made, or with a tag that has no place, answers None.
+// A call that can't be made, as one of a table that there is not, or one with a tag that has no place, answers None.
 #[derive(Drop)]
 pub(super) struct Drawn<'f> {
     store: ShardStore<'f>,
     ghost room: { store.room ≡ 800 },
-    ghost unguarded: { guards_of store.region 0 ≡ 0 },
+    ghost unguarded: { IsUnguarded store },
 }
 
 impl<'f> Drawn<'f> {
-    pub(super) fn new(alloc: Global, home: &'f Foreign, seat: OwnerSeat) -> Result<Drawn<'f>, Fail>
+    // Of so many pages, the segments in so many groups.
+    pub(super) fn new(
+        alloc: Global,
+        pages: u32,
+        regions: u32,
+        home: &'f Foreign,
+        seat: OwnerSeat,
+    ) -> Result<Drawn<'f>, Fail>
+        requires pages { sizes.ArePages pages }
+        requires regions { (regions ≡ 1) ⊎ ((regions ≡ sizes.tables) × (sizes.fewest_table_pages ≤ pages)) }
         requires owner { home.now.owner ≡ 0 }
         requires seat { IsAtRest home.now seat }
     {
-        let Ok(store) = ShardStore::open(alloc, 0, 1280, ROWS, home, seat) else {
+        let Ok(store) = ShardStore::open(alloc, 0, pages, ROWS, regions, home, seat) else {
             return Err(AllocError.into());
         };
         Ok(Drawn { store })
@@ -40,11 +50,15 @@ impl<'f> Drawn<'f> {
     // Puts a row. Answers how many tags are in `tags` besides.
     pub(super) fn put(
         &mut self,
+        table: u8,
         key: &[u8],
         value: &[u8],
         tag: u32,
         tags: &mut [u32],
     ) -> Option<(Put, usize)> {
+        if table as u32 >= TABLES {
+            return None;
+        }
         if key.is_empty() || key.len() > GREATEST_KEY || value.len() > GREATEST_VALUE {
             return None;
         }
@@ -52,35 +66,52 @@ impl<'f> Drawn<'f> {
             return None;
         }
         let mut told = EvictedTags::new(tags);
-        let did = self.store.put(key, value, tag, &mut told);
+        let did = self.store.put(table, key, value, tag, &mut told);
         if told.missed > 0 {
             return None;
         }
         Some((did, told.told))
     }
 
-    // Whether the key has this value, or none.
-    pub(super) fn has(&mut self, key: &[u8], value: Option<&[u8]>) -> bool {
-        self.store.get(key) == value
+    // Whether the key of a table has this value, or none.
+    pub(super) fn has(&mut self, table: u8, key: &[u8], value: Option<&[u8]>) -> bool {
+        (table as u32) < TABLES && self.store.get(table, key) == value
     }
 
-    pub(super) fn erase(&mut self, key: &[u8]) -> bool {
-        self.store.erase(key)
+    // Whether a row went. None where there is no such table.
+    pub(super) fn erase(&mut self, table: u8, key: &[u8]) -> Option<bool> {
+        if table as u32 >= TABLES {
+            return None;
+        }
+        Some(self.store.erase(table, key))
     }
 
-    pub(super) fn scan(&mut self, from: &[u8], count: u32, into: &mut [u8]) -> Option<Scanned> {
+    pub(super) fn scan(
+        &mut self,
+        table: u8,
+        from: &[u8],
+        count: u32,
+        into: &mut [u8],
+    ) -> Option<Scanned> {
+        if table as u32 >= TABLES {
+            return None;
+        }
         if count == 0 || count > SCANNED || into.len() < SCAN_BYTES {
             return None;
         }
-        Some(self.store.scan(from, count, into))
+        Some(self.store.scan(table, from, count, into))
     }
 
     // Lends a block with the value of a key behind its head.
     pub(super) fn lend_value(
         &mut self,
+        table: u8,
         key: &[u8],
         tags: &mut [u32],
     ) -> Option<(ForeignBlock<'f>, Option<u32>, usize)> {
+        if table as u32 >= TABLES {
+            return None;
+        }
         if !self.store.is_idle(Share::Reply) {
             return None;
         }
@@ -88,7 +119,9 @@ impl<'f> Drawn<'f> {
             return None;
         }
         let mut told = EvictedTags::new(tags);
-        let (block, found) = self.store.lend_value(key, HEAD, Share::Reply, &mut told);
+        let (block, found) = self
+            .store
+            .lend_value(table, key, HEAD, Share::Reply, &mut told);
         if told.missed > 0 {
             return None;
         }
@@ -98,10 +131,14 @@ impl<'f> Drawn<'f> {
     // Lends a block with keys behind its head.
     pub(super) fn lend_keys(
         &mut self,
+        table: u8,
         from: &[u8],
         count: u32,
         tags: &mut [u32],
     ) -> Option<(ForeignBlock<'f>, Scanned, usize)> {
+        if table as u32 >= TABLES {
+            return None;
+        }
         if count == 0 || count > SCANNED {
             return None;
         }
@@ -114,7 +151,7 @@ impl<'f> Drawn<'f> {
         let mut told = EvictedTags::new(tags);
         let (block, scanned) = self
             .store
-            .lend_keys(from, count, HEAD, Share::Reply, &mut told);
+            .lend_keys(table, from, count, HEAD, Share::Reply, &mut told);
         if told.missed > 0 {
             return None;
         }

@@ -1,9 +1,10 @@
 // Blocks that are lent while rows fill the store, and a row that stays at its place under a guard.
-ghost use Rattle.std.specs.Prelude.{◌≤◌};
+ghost use Rattle.std.specs.Prelude.{◌≡◌, ◌<◌, ◌≤◌};
+ghost use Rattle.layout.specs.Sizes.{tables};
 ghost use Rattle.regions.specs.Shapes.{guards_of};
-ghost use Rattle.shard_store.specs.Stores.{IsSameStore, RowsStay};
+ghost use Rattle.shard_store.specs.Stores.{IsSameStore, IsUnguarded, RowsStay, group_for};
 
-use super::steps::{Step, done};
+use super::steps::{Step, done, done_in_tables};
 use super::{Trial, large_value};
 use foreign_list::ForeignBlock;
 use layout::{GREATEST_BLOCK, TICKETS};
@@ -38,24 +39,40 @@ fn lend_often(store: &mut ShardStore<'_>, times: u32) -> bool
     true
 }
 
-// Whether the row of a key has this value at its place when so many blocks were lent and taken back.
-fn keeps(store: &mut ShardStore<'_>, key: &[u8], value: &[u8], blocks: u32) -> bool
-    requires guarded { 1 ≤ guards_of store.old.region 0 }
+// Whether the row of a table's key has this value at its place when so many blocks were lent and taken back.
+fn keeps(store: &mut ShardStore<'_>, table: u8, key: &[u8], value: &[u8], blocks: u32) -> bool
+    requires table { table < tables }
+    requires guarded { 1 ≤ guards_of store.old.region (group_for store.old table) }
     ensures same { IsSameStore store.old store.new }
 {
-    let Some(place) = store.place_of(key) else {
+    let Some(place) = store.place_of(table, key) else {
         return false;
     };
     lend_often(store, blocks) && store.value_at(place) == value
 }
 
+// The same under a guard of the table.
+fn keeps_guarded(
+    store: &mut ShardStore<'_>,
+    table: u8,
+    key: &[u8],
+    value: &[u8],
+    blocks: u32,
+) -> bool
+    requires table { table < tables }
+    requires unguarded { IsUnguarded store.old }
+    ensures unguarded { IsUnguarded store.new }
+    ensures room { store.new.room ≡ store.old.room }
+{
+    store.guard(table);
+    let kept = keeps(store, table, key, value, blocks);
+    store.unguard(table);
+    kept
+}
+
 impl<'f> Trial<'f> {
-    // The same under a guard.
     pub(super) fn keeps(&mut self, key: &[u8], value: &[u8], blocks: u32) -> bool {
-        self.store.guard();
-        let kept = keeps(&mut self.store, key, value, blocks);
-        self.store.unguard();
-        kept
+        keeps_guarded(&mut self.store, self.table, key, value, blocks)
     }
 
     // A block of so many bytes, with a ticket for requests. None where no ticket is idle, or where its evictions may have no room in
@@ -174,6 +191,22 @@ fn a_row_stays_at_its_place_under_a_guard(rt: HostRuntime) -> Result<(), Fail> {
         Step::Counts(100, 100),
     ];
     assert_eq!(rt; done(rt.alloc(), STEPS)?, STEPS.len());
+    Ok(())
+}
+
+#[test]
+fn a_row_of_a_table_stays_under_a_guard_of_it(rt: HostRuntime) -> Result<(), Fail> {
+    const STEPS: &[Step] = &[
+        Step::In(3),
+        Step::Puts(b"a", b"abc", 1, Put::Stored),
+        Step::In(4),
+        Step::Puts(b"a", b"def", 2, Put::Stored),
+        Step::Keeps(b"a", b"def", 100),
+        Step::In(3),
+        Step::Keeps(b"a", b"abc", 100),
+        Step::Counts(200, 200),
+    ];
+    assert_eq!(rt; done_in_tables(rt.alloc(), STEPS)?, STEPS.len());
     Ok(())
 }
 

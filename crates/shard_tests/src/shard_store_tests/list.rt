@@ -6,6 +6,7 @@ use std::alloc::{AllocError, Global};
 
 #[derive(Drop)]
 struct Row {
+    table: u8,
     key: Vec<u8>,
     value: Vec<u8>,
     tag: u32,
@@ -16,10 +17,11 @@ pub(super) struct List {
     rows: Vec<Row>,
 }
 
-fn position_of(rows: &[Row], key: &[u8]) -> Option<usize>
+fn position_of(rows: &[Row], table: u8, key: &[u8]) -> Option<usize>
     ensures { IfSome result (λ at. at < length rows.now) }
 {
-    rows.iter().position(|row| row.key.as_slice() == key)
+    rows.iter()
+        .position(|row| row.table == table && row.key.as_slice() == key)
 }
 
 impl List {
@@ -51,16 +53,18 @@ impl List {
     pub(super) fn put(
         &mut self,
         alloc: Global,
+        table: u8,
         key: &[u8],
         value: &[u8],
         tag: u32,
     ) -> Result<Put, AllocError> {
-        let put = if self.erase(key) {
+        let put = if self.erase(table, key) {
             Put::Replaced
         } else {
             Put::Stored
         };
         let row = Row {
+            table,
             key: key.to_vec(alloc)?,
             value: value.to_vec(alloc)?,
             tag,
@@ -70,16 +74,16 @@ impl List {
         Ok(put)
     }
 
-    // The value of a key, whose row comes to the front.
-    pub(super) fn get(&mut self, key: &[u8]) -> Option<&[u8]> {
-        let at = position_of(&self.rows, key)?;
+    // The value of a table's key, whose row comes to the front.
+    pub(super) fn get(&mut self, table: u8, key: &[u8]) -> Option<&[u8]> {
+        let at = position_of(&self.rows, table, key)?;
         self.rows.slice_mut(..at + 1).rotate_right(1);
         let first = self.rows.first()?;
         Some(first.value.as_slice())
     }
 
-    pub(super) fn erase(&mut self, key: &[u8]) -> bool {
-        let Some(at) = position_of(&self.rows, key) else {
+    pub(super) fn erase(&mut self, table: u8, key: &[u8]) -> bool {
+        let Some(at) = position_of(&self.rows, table, key) else {
             return false;
         };
         let _row = self.rows.remove(at);
@@ -102,8 +106,8 @@ impl List {
         true
     }
 
-    // The least key that is at or above `lo`, but not `lo` itself where `above`.
-    fn next_key(&self, lo: &[u8], above: bool) -> Option<&[u8]> {
+    // The least key of a table that is at or above `lo`, but not `lo` itself where `above`.
+    fn next_key(&self, table: u8, lo: &[u8], above: bool) -> Option<&[u8]> {
         let mut least: Option<&[u8]> = None;
         for row in &self.rows {
             let key = row.key.as_slice();
@@ -112,29 +116,30 @@ impl List {
                 None => true,
                 Some(other) => key < other,
             };
-            if after && less {
+            if row.table == table && after && less {
                 least = Some(key);
             }
         }
         least
     }
 
-    // How many keys a scan gives, and their bytes: each behind its length in two bytes.
+    // How many keys of a table a scan gives, and their bytes: each behind its length in two bytes.
     pub(super) fn scan(
         &self,
         alloc: Global,
+        table: u8,
         lo: &[u8],
         count: u32,
     ) -> Result<(u32, Vec<u8>), AllocError> {
         let mut bytes = Vec::new(alloc);
-        let mut next = self.next_key(lo, false);
+        let mut next = self.next_key(table, lo, false);
         for keys in 0..count {
             let Some(key) = next else {
                 return Ok((keys, bytes));
             };
             bytes.extend_from_slice(&(key.len() as u64).to_le_bytes()[..2])?;
             bytes.extend_from_slice(key)?;
-            next = self.next_key(key, true);
+            next = self.next_key(table, key, true);
         }
         Ok((count, bytes))
     }

@@ -9,6 +9,8 @@ use std::test::Fail;
 // A call with what it answers, or what is so then.
 #[derive(Clone, Copy)]
 pub(super) enum Step<'a> {
+    // The next calls are of this table.
+    In(u8),
     // A row is put: key, value, tag.
     Puts(&'a [u8], &'a [u8], u32, Put),
     // So many of the large rows of these numbers, the last one left out, have new keys.
@@ -41,6 +43,7 @@ pub(super) enum Step<'a> {
 impl<'f> Trial<'f> {
     fn does(&mut self, alloc: Global, step: Step<'_>) -> bool {
         match step {
+            Step::In(table) => self.turn_to(table),
             Step::Puts(key, value, number, answer) => self.put(key, value, number) == Some(answer),
             Step::PutsLarge(from, to, stored) => self.put_large(alloc, from, to) == stored,
             Step::PutsAgain(times, replaced) => self.put_again(alloc, times) == replaced,
@@ -78,10 +81,20 @@ impl<'f> Trial<'f> {
     }
 }
 
-// How many steps go as they should on a store of 1,280 pages.
+// How many steps go as they should on a store of 1,280 pages, whose segments are in one group.
 pub(super) fn done(alloc: Global, steps: &[Step<'_>]) -> Result<usize, Fail> {
     let (home, seat) = Foreign::new(alloc, 0)?;
-    let mut trial = Trial::new(alloc, &home, seat)?;
+    done_by(alloc, Trial::new(alloc, &home, seat)?, steps)
+}
+
+// The same on a store of 1,536 pages, with a group for each table.
+pub(super) fn done_in_tables(alloc: Global, steps: &[Step<'_>]) -> Result<usize, Fail> {
+    let (home, seat) = Foreign::new(alloc, 0)?;
+    done_by(alloc, Trial::in_tables(alloc, &home, seat)?, steps)
+}
+
+fn done_by(alloc: Global, trial: Trial<'_>, steps: &[Step<'_>]) -> Result<usize, Fail> {
+    let mut trial = trial;
     let done = trial.play(alloc, steps);
     if !trial.finish() {
         return Err(Fail::new("a block is out"));

@@ -2,8 +2,6 @@
 use Rattle.std.specs.Prelude.{◌≡◌, ℕ, ◌⊎◌, true, List, [], codes, Ok, Err, Option, None}
 use Rattle.std.specs.Io.KnownBytes.{Appends, Consumes}
 use Rattle.outside.specs.Moves.{AppendsFront}
-use Rattle.trace_text.specs.declared.refusal.Cause.{Cause}
-use Rattle.trace_text.specs.Reading.{AtLine}
 use Rattle.value_script.specs.Reading.{script_of}
 use Rattle.value_script.specs.Reading as script_refusal
 use Rattle.value_script.specs.declared.refusal.Cause.{Cause as ScriptCause}
@@ -13,7 +11,7 @@ use Rattle.shardcache.specs.declared.status.Status.{Status}
 use Rattle.shardcache.specs.declared.status.Status.TheVariants as status
 use Rattle.settings.specs.Settings.{Settings}
 use Rattle.shardcache.specs.Meanings.{Does, Meaning, Reading, ReadsAs, Refuses}
-use Rattle.shardcache.specs.TraceFor.{refusal_text, script_refusal_text, trace_for}
+use Rattle.shardcache.specs.TraceFor.{AtLine, Fault, refusal_text, script_refusal_text, trace_for}
 
 -- ---- what is written
 
@@ -38,11 +36,11 @@ EndsInput IsOutput settings input answered ran before after =
 
 -- ---- what was read
 
--- the bytes are refused as a trace, at a line, and that was written; or memory ran out, and nothing was
+-- the bytes are refused as a trace to run, at a line, and that was written; or memory ran out, and nothing was
 abbrev pub RefusesTrace : Settings → List ℕ → Status → Option (List ℕ) → Option (List ℕ) → Type 0
 RefusesTrace settings bytes answered before after =
-    ((number : ℕ) × (cause : Cause) × (trace_for settings bytes ≡ Err (AtLine number cause))
-    × EndsWith answered status.Refused before after (refusal_text (AtLine number cause)))
+    ((number : ℕ) × (fault : Fault) × (trace_for settings bytes ≡ Err (AtLine number fault))
+    × EndsWith answered status.Refused before after (refusal_text (AtLine number fault)))
     ⊎ ((answered ≡ status.Memory) × Appends before after [])
 
 -- the same of a script

@@ -47,6 +47,21 @@ fn ending(
     text.extend_from_slice(line.as_bytes())
 }
 
+/// The same under keys of a table.
+fn put_in_table(
+    alloc: Global,
+    lines: &mut Vec<u8>,
+    table: u32,
+    first: u32,
+    last: u32,
+) -> Result<(), AllocError> {
+    for number in first..=last {
+        let key = format!(in alloc; "{table} k{number:03}")?;
+        put_letters(alloc, lines, key.as_str())?;
+    }
+    Ok(())
+}
+
 /// A part of a trace or of a report.
 #[derive(Clone, Copy)]
 pub enum Part<'a> {
@@ -54,6 +69,8 @@ pub enum Part<'a> {
     Letters,
     /// Puts of the letters under the keys of these numbers.
     Puts(u32, u32),
+    /// The same of a table, which is the first number.
+    PutsIn(u32, u32, u32),
     /// So many puts of the letters under `a`.
     Again(u32),
     /// So many gets of `a`.
@@ -113,6 +130,7 @@ fn lay(alloc: Global, text: &mut Vec<u8>, part: Part<'_>) -> Result<(), AllocErr
         Part::Text(bytes) => text.extend_from_slice(bytes),
         Part::Letters => text.extend_from_slice(letters(alloc)?.as_slice()),
         Part::Puts(first, last) => put_all(alloc, text, first, last),
+        Part::PutsIn(table, first, last) => put_in_table(alloc, text, table, first, last),
         Part::Again(times) => put_again(alloc, text, times),
         Part::Gets(times) => get_again(text, times),
         Part::Found(first, last) => found(alloc, text, first, last),
@@ -139,7 +157,19 @@ pub fn says_with_few_pages<R: Threads + Wait + Sync>(
     lines: &[Part<'_>],
     text: &[Part<'_>],
 ) -> Result<bool, AllocError> {
-    let words = [mode, "--pages", "1280"];
+    says_with_pages(rt, alloc, mode, "1280", lines, text)
+}
+
+/// The same with so many pages.
+fn says_with_pages<R: Threads + Wait + Sync>(
+    rt: &R,
+    alloc: Global,
+    mode: &str,
+    pages: &str,
+    lines: &[Part<'_>],
+    text: &[Part<'_>],
+) -> Result<bool, AllocError> {
+    let words = [mode, "--pages", pages];
     let lines = text_of(alloc, lines)?;
     let text = text_of(alloc, text)?;
     let room = text.len() + 1;
@@ -181,6 +211,18 @@ fn a_row_that_went_is_missing_and_the_next_is_there(rt: HostRuntime) -> Result<(
         Part::Ending(390, " !1 391 !2 392 393 394", 390, 4_698_720),
     ];
     assert!(rt; reports(&rt, rt.alloc(), &lines, &report)?);
+    Ok(())
+}
+
+/// Worked by hand: of the 48 segments of 1,536 pages one stays free, and group 0 has its active one, though no row is of table 0.
+#[test]
+fn a_row_of_a_table_goes_at_the_461st_put(rt: HostRuntime) -> Result<(), Fail> {
+    let lines = [Part::Text(b"version 2\n"), Part::PutsIn(3, 1, 461)];
+    let report = [
+        Part::Answers(1, 461, "stored"),
+        Part::Ending(460, " !1 461", 460, 5_542_080),
+    ];
+    assert!(rt; says_with_pages(&rt, rt.alloc(), "run", "1536", &lines, &report)?);
     Ok(())
 }
 

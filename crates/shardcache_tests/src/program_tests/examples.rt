@@ -77,6 +77,34 @@ journal 1\n\
 shard 0 rows 1 live 48 lent 3 back 3\n\
 shard 1 rows 0 live 0 lent 3 back 3\n";
 
+const TABLES: &[u8] = b"version 2\n\
+# Table 1 has names, table 2 what is known of their sessions. A key is one of its table.\n\
+put 1 ada Ada Lovelace\n\
+put 1 grace Grace Hopper\n\
+put 2 ada since noon\n\
+get 1 ada\n\
+get 2 ada\n\
+get 2 grace\n\
+scan 1 a 9\n\
+scan 2 a 9\n\
+erase 2 ada\n\
+get 1 ada\n\
+scan 2 a 9\n";
+
+const TABLES_REPORT: &[u8] = b"1 stored\n\
+2 stored\n\
+3 stored\n\
+4 value Ada Lovelace\n\
+5 value since noon\n\
+6 missing\n\
+7 keys ada grace\n\
+8 keys ada\n\
+9 erased\n\
+10 value Ada Lovelace\n\
+11 keys\n\
+journal 0 1 2 3 4 5 6 7 8 9 10 11\n\
+shard 0 rows 2 live 120 lent 0 back 0\n";
+
 const DIRTY: &[u8] = b"# A basket is put twice, and is read from memory until its lines are out.\n\
 put basket:7 apples\n\
 get basket:7\n\
@@ -152,11 +180,12 @@ values 1 live 56\n";
 
 #[test]
 fn the_examples_have_their_reports(rt: HostRuntime) -> Result<(), Fail> {
-    let rows: [(&[&str], &[u8], &[u8]); 6] = [
+    let rows: [(&[&str], &[u8], &[u8]); 7] = [
         (&["dirty"], DIRTY, DIRTY_REPORT),
         (&["index"], INDEX, INDEX_REPORT),
         (&["values"], VALUES, VALUES_REPORT),
         (&["run"], REPLACED, REPLACED_REPORT),
+        (&["run"], TABLES, TABLES_REPORT),
         (
             &["sim", "--shards", "3", "--number", "7"],
             SCAN,

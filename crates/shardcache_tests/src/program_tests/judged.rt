@@ -158,7 +158,7 @@ fn done_by(
     let Some((journal, line)) = lines_of_shard(rest, shard) else {
         return Ok(None);
     };
-    let plain = Plain::new(alloc, 1280)?;
+    let plain = Plain::new(alloc, 1280, 1)?;
     let mut judge = Judge {
         trace,
         shard,

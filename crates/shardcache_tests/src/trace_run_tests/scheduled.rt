@@ -9,7 +9,6 @@ ghost use Rattle.shard_drive.specs.Drives.{AtEach};
 ghost use Rattle.shard_run.specs.Opening.{AreAtRest};
 ghost use Rattle.shard_run.specs.Remaining.{IsRoomFor};
 
-use super::PAGES;
 use foreign_list::{Foreign, OwnerSeat};
 use plain_cache::{Entry, ReplyKind};
 use run_log::ShardLine;
@@ -20,6 +19,9 @@ use shard_run::{Remains, finish_run, open_lists, open_nodes};
 use std::alloc::{AllocError, Global};
 use std::test::Fail;
 use trace_text::{Trace, parse};
+
+/// As many pages as a trace of each version runs on.
+const PAGES: u32 = 1536;
 
 /// Forty turns, which two shards make in turn.
 const SCHEDULE: [u32; 40] = [
@@ -61,7 +63,7 @@ fn run_into<'f>(
 ) -> Option<Ran>
     requires two { trace.now.shards ≡ 2 }
     requires seats { AreAtRest 2 homes.now seats.items }
-    requires room { IsRoomFor (trace_in trace.now) trace.now.shards 1280 remains }
+    requires room { IsRoomFor (trace_in trace.now) trace.now.shards 1536 remains }
 {
     let Ok(mut nodes) = open_nodes(alloc, trace, PAGES, homes, seats, &OpenGates) else {
         return None;

@@ -7,7 +7,6 @@ ghost use Rattle.layout.specs.Sizes.{most_trace_bytes};
 ghost use Rattle.trace_text.specs.Parsed.{trace_in};
 ghost use Rattle.run_log.specs.Runs.{IsFinished};
 
-use super::PAGES;
 use outside::MemorySink;
 use plain_cache::Entry;
 use report_text::{Texts, write_report_on};
@@ -21,6 +20,9 @@ use trace_run::{Order, run_trace};
 use trace_text::{Trace, parse_on};
 
 const SHARDS: u32 = 3;
+
+/// As many pages as a trace of each version runs on.
+const PAGES: u32 = 1536;
 
 /// The keys of each origin.
 const KEYS: u32 = 40;
@@ -144,7 +146,7 @@ fn writes_on<R: Threads + Wait + Sync>(
     text: &[u8],
 ) -> Result<bool, AllocError>
     requires threads { 0 < threads }
-    requires run { IsFinished (trace_in trace.now) trace.now.shards 1280 ran.now }
+    requires run { IsFinished (trace_in trace.now) trace.now.shards 1536 ran.now }
 {
     let mut texts = Texts::new(alloc, threads, trace)?;
     let mut sink = MemorySink::new(alloc, text.len().saturating_add(1))?;

@@ -13,28 +13,29 @@ pub fn key_of(row: u64) -> [u8; 8] {
     row.to_be_bytes()
 }
 
-/// Puts a row into the active segment, and answers whether it had room.
+/// Puts a row of table 0 into the active segment, and answers whether there is one and it had room.
 fn put_row(cache: &mut RowCache, value: &[u8], row: u32, rows: u32) -> bool
     requires value { length value.now ≤ sizes.greatest_value }
     requires room { cache.old.room ≡ rows }
     ensures room { cache.new.room ≡ rows }
 {
-    if cache.left() == 0 || cache.rows() >= rows {
+    if cache.rows() >= rows {
         return false;
     }
     cache
-        .put(key_of(u64::from(row)).as_slice(), value, row)
+        .put(0, key_of(u64::from(row)).as_slice(), value, row)
         .is_ok()
 }
 
-/// Makes the next segment active where the active one is full, and answers whether it did.
+/// Makes the next segment active where the active one is full or there is none, and answers whether it did.
 fn go_on(cache: &mut RowCache) -> bool
     ensures room { cache.new.room ≡ cache.old.room }
 {
-    if cache.free_segments() <= FREE || cache.left() >= GREATEST_OBJECT {
+    let group = cache.group_of(0);
+    if cache.free_segments() <= FREE || cache.left(group) >= GREATEST_OBJECT {
         return false;
     }
-    cache.next_active();
+    cache.next_active(group);
     true
 }
 
@@ -60,7 +61,7 @@ pub fn erase_some(cache: &mut RowCache, rows: u32, kept: u32) {
             .wrapping_mul(6_364_136_223_846_793_005)
             .wrapping_add(1_442_695_040_888_963_407);
         if (number >> 33) % (rows - row) < wanted {
-            cache.erase(key_of(row).as_slice());
+            cache.erase(0, key_of(row).as_slice());
             wanted -= 1;
         }
     }

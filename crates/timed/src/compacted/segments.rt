@@ -16,7 +16,7 @@ pub fn new_cache(alloc: Global, rows: u32, segments: u32) -> Result<RowCache, Al
     ensures { IfOk result (λ c. c.room ≡ rows) }
 {
     let mut range = Range::new(alloc, 0, segments * SEGMENT_PAGES)?;
-    let mut cache = RowCache::new(alloc, rows, segments)?;
+    let mut cache = RowCache::new(alloc, rows, segments, 1)?;
     add_segments(&mut cache, &mut range, segments);
     Ok(cache)
 }

@@ -3,6 +3,7 @@
 use super::kinds::Kind;
 use crate::rounds::RowKeys;
 use key_index::Keys;
+use rows::Key;
 use std::alloc::{AllocError, Global};
 
 /// How many digits the number in a key has.
@@ -22,9 +23,12 @@ impl Keys for Arena {
 
     ghost key_of = { λ arena row. key_of arena row };
 
-    fn key(&self, row: u32) -> &[u8] {
+    fn key(&self, row: u32) -> Key<'_> {
         let start = row as usize * self.width as usize;
-        &self.bytes[start..start + self.width as usize]
+        Key {
+            table: 0,
+            bytes: &self.bytes[start..start + self.width as usize],
+        }
     }
 }
 

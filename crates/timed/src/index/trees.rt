@@ -46,7 +46,7 @@ impl Tree {
             if !arena.has_key(row) {
                 break;
             }
-            let key = arena.key(row);
+            let key = arena.key(row).bytes;
             if key.is_empty() || key.len() > 256 {
                 break;
             }
@@ -62,7 +62,7 @@ impl Tree {
         let mut found = 0u32;
         for at in 0..rows {
             let row = row_at(at, rows);
-            if arena.has_key(row) && self.tree.get(arena.key(row)) == Some(row) {
+            if arena.has_key(row) && self.tree.get(arena.key(row).bytes) == Some(row) {
                 found = found.wrapping_add(1);
             }
         }
@@ -76,7 +76,7 @@ impl Tree {
         for at in 0..rows {
             let row = row_at(at, rows);
             if arena.has_key(row) {
-                let scanned = self.tree.range(arena.key(row), MOST_KEYS, &mut keys);
+                let scanned = self.tree.range(arena.key(row).bytes, MOST_KEYS, &mut keys);
                 count = count.wrapping_add(scanned.keys);
             }
         }
@@ -88,7 +88,7 @@ impl Tree {
         let mut removed = 0u32;
         for at in 0..rows {
             let row = row_at(at, rows);
-            if arena.has_key(row) && self.tree.remove(arena.key(row)).is_some() {
+            if arena.has_key(row) && self.tree.remove(arena.key(row).bytes).is_some() {
                 removed = removed.wrapping_add(1);
             }
         }

@@ -2,6 +2,7 @@
 
 use crate::rounds::RowKeys;
 use key_index::Keys;
+use rows::Key;
 use std::alloc::{AllocError, Global};
 
 /// The keys of rows, each in 24 bytes, of which the first is its length.
@@ -17,9 +18,12 @@ impl Keys for Arena {
 
     ghost key_of = { λ arena row. key_of arena row };
 
-    fn key(&self, row: u32) -> &[u8] {
+    fn key(&self, row: u32) -> Key<'_> {
         let start = 24 * row as usize + 1;
-        &self.bytes[start..start + self.bytes[start - 1] as usize]
+        Key {
+            table: 0,
+            bytes: &self.bytes[start..start + self.bytes[start - 1] as usize],
+        }
     }
 }
 

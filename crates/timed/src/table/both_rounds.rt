@@ -15,7 +15,8 @@ fn insert_row(index: &mut LazyIndex, arena: &Arena, row: u32)
     if !arena.has_key(row) || index.len() >= index.room() || row >= index.room() {
         return;
     }
-    let Err(spot) = index.find(arena, arena.key(row)) else {
+    let key = arena.key(row);
+    let Err(spot) = index.find(arena, &key) else {
         return;
     };
     index.insert(arena, spot, row);
@@ -39,7 +40,8 @@ pub fn count_found(index: &LazyIndex, arena: &Arena, rows: u32) -> u32
     for at in 0..rows {
         let row = row_at(at, rows);
         if arena.has_key(row) {
-            if let Ok(found) = index.find(arena, arena.key(row)) {
+            let key = arena.key(row);
+            if let Ok(found) = index.find(arena, &key) {
                 if found.row == row {
                     count = count.wrapping_add(1);
                 }
@@ -68,7 +70,8 @@ fn remove_row(index: &mut LazyIndex, arena: &Arena, row: u32) -> bool
     if !arena.has_key(row) {
         return false;
     }
-    let Ok(found) = index.find(arena, arena.key(row)) else {
+    let key = arena.key(row);
+    let Ok(found) = index.find(arena, &key) else {
         return false;
     };
     let standing = index.standing(arena, found);

@@ -15,7 +15,8 @@ fn insert_row(table: &mut KeyTable, arena: &Arena, row: u32)
     if !arena.has_key(row) || table.len() >= table.room() || row == u32::MAX {
         return;
     }
-    let Err(spot) = table.find(arena, arena.key(row)) else {
+    let key = arena.key(row);
+    let Err(spot) = table.find(arena, &key) else {
         return;
     };
     let _taken = table.insert(spot, row); // a row that finds no slot is left out
@@ -39,7 +40,8 @@ pub fn count_found(table: &KeyTable, arena: &Arena, rows: u32) -> u32
     for at in 0..rows {
         let row = row_at(at, rows);
         if arena.has_key(row) {
-            if let Ok(found) = table.find(arena, arena.key(row)) {
+            let key = arena.key(row);
+            if let Ok(found) = table.find(arena, &key) {
                 if found.row == row {
                     count = count.wrapping_add(1);
                 }
@@ -57,7 +59,8 @@ fn remove_row(table: &mut KeyTable, arena: &Arena, row: u32) -> bool
     if !arena.has_key(row) {
         return false;
     }
-    let Ok(found) = table.find(arena, arena.key(row)) else {
+    let key = arena.key(row);
+    let Ok(found) = table.find(arena, &key) else {
         return false;
     };
     if !table.remove(found) {

@@ -44,7 +44,8 @@ pub fn turn_idly(alloc: Global, trace: &Trace, turns: u32) -> Option<u64>
     Some(idle)
 }
 
-/// The node of shard 0, over few pages, whose commands wait for no gate.
+/// The node of shard 0, over few pages, whose commands wait for no gate. None where the trace has tables, for which the pages are
+/// too few.
 fn open_node<'f>(
     alloc: Global,
     shards: u32,
@@ -60,6 +61,9 @@ fn open_node<'f>(
     requires links { length links.items + 1 ≡ shards }
     requires unused { All (IsUnused memory_traffic) links.items }
 {
+    if trace.regions() > 1 {
+        return None;
+    }
     Node::open(
         alloc,
         0,

@@ -29,7 +29,10 @@ fn open_store<'f>(alloc: Global, home: &'f Foreign, seat: OwnerSeat) -> Option<S
     ensures unguarded { IfSome result IsUnguarded }
     ensures room { IfSome result (λ store. store.room ≡ 1) }
 {
-    ShardStore::open(alloc, 0, FEWEST_PAGES, 1, home, seat).ok()
+    match ShardStore::open(alloc, 0, FEWEST_PAGES, 1, 1, home, seat) {
+        Ok(store) => Some(store),
+        Err(_) => None,
+    }
 }
 
 /// Does the commands, at most so many reads, and answers how many rows were read.
@@ -74,12 +77,12 @@ fn do_part(
     }
     match operation_of(trace, command) {
         Operation::Put { key, value } if store.rows() == 0 => {
-            store.put(key, value, command.number, journal);
+            store.put(key.table, key.bytes, value, command.number, journal);
             false
         }
         Operation::Get { key } => {
             journal.add(Entry::Done(command.number));
-            match store.get(key) {
+            match store.get(key.table, key.bytes) {
                 Some(value) => values.extend_from_slice(value).is_ok(),
                 None => false,
             }

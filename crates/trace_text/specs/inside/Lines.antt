@@ -41,28 +41,28 @@ IsCut bytes (Cut place) = IsPlace bytes place
 IsCut bytes (Read command) = ⊥
 IsCut bytes Refused = ⊥
 
--- the line at the place is that command
-abbrev pub IsReadAs : List ℕ → Place → Command → Type 0
-IsReadAs bytes place command =
-    (line_reading (place.number, line_at bytes place) ≡ Ok (operation bytes command)) × LiesWithin bytes command
+-- the line at the place, in a trace of this version, is that command
+abbrev pub IsReadAs : ℕ → List ℕ → Place → Command → Type 0
+IsReadAs version bytes place command =
+    (line_reading version (place.number, line_at bytes place) ≡ Ok (operation bytes command)) × LiesWithin bytes command
     × (command.line ≡ place.line)
 
 -- what the line at a place was read to be; where it is refused nothing is said
-abbrev pub IsReadTo : List ℕ → Place → Line → Type 0
-IsReadTo bytes place (Read command) = IsReadAs bytes place command
-IsReadTo bytes place (Cut other) = Unit {0}
-IsReadTo bytes place Refused = Unit {0}
+abbrev pub IsReadTo : ℕ → List ℕ → Place → Line → Type 0
+IsReadTo version bytes place (Read command) = IsReadAs version bytes place command
+IsReadTo version bytes place (Cut other) = Unit {0}
+IsReadTo version bytes place Refused = Unit {0}
 
 -- what a line that was cut was read to be
-abbrev pub IsRead : List ℕ → Line → Line → Type 0
-IsRead bytes (Cut place) line = IsReadTo bytes place line
-IsRead bytes (Read command) line = Unit {0}
-IsRead bytes Refused line = Unit {0}
+abbrev pub IsRead : ℕ → List ℕ → Line → Line → Type 0
+IsRead version bytes (Cut place) line = IsReadTo version bytes place line
+IsRead version bytes (Read command) line = Unit {0}
+IsRead version bytes Refused line = Unit {0}
 
 -- and so each
-abbrev pub AreRead : List ℕ → List Line → List Line → Type 0
-AreRead bytes stretch read = (k : ℕ) (d : Line) → k < length stretch
-    → IsRead bytes (slice_index_or stretch k d) (slice_index_or read k d)
+abbrev pub AreRead : ℕ → List ℕ → List Line → List Line → Type 0
+AreRead version bytes stretch read = (k : ℕ) (d : Line) → k < length stretch
+    → IsRead version bytes (slice_index_or stretch k d) (slice_index_or read k d)
 
 abbrev pub command_in : Line → Option Command
 command_in (Cut place) = None
@@ -90,13 +90,13 @@ pub record AddsCommands (before : List Command) (lines : List Line) (after : Lis
   pub behind : after ≡ before ++ commands_in lines
 
 -- a stretch was read, all of it, and its commands stand behind the others
-pub record AddsRead (bytes : List ℕ) (before : List Command) (stretch : List Line) (after : List Command) : Type 0 where
+pub record AddsRead (version : ℕ) (bytes : List ℕ) (before : List Command) (stretch : List Line) (after : List Command) : Type 0 where
   pub read : List Line
   pub many : length read ≡ length stretch
-  pub are : AreRead bytes stretch read
+  pub are : AreRead version bytes stretch read
   pub adds : AddsCommands before read after
 
 -- a stretch that has not its length yet is left as it is, and another one is read and taken away
-abbrev pub Settles : List ℕ → List Command → List Line → List Command → List Line → Type 0
-Settles bytes before stretch after left =
-    ((after ≡ before) × (left ≡ stretch)) ⊎ (AddsRead bytes before stretch after × (left ≡ []))
+abbrev pub Settles : ℕ → List ℕ → List Command → List Line → List Command → List Line → Type 0
+Settles version bytes before stretch after left =
+    ((after ≡ before) × (left ≡ stretch)) ⊎ (AddsRead version bytes before stretch after × (left ≡ []))

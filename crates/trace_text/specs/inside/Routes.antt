@@ -15,7 +15,7 @@ abbrev pub route_of : ℕ → Kind → List ℕ → Route
 route_of n kind key = record { kind = kind; owner = owner key n }
 
 abbrev pub route : ℕ → Operation → Route
-route n operation = route_of n operation.kind operation.key
+route n operation = route_of n operation.kind operation.key.bytes
 
 abbrev pub routes : ℕ → List Operation → List Route
 routes n operations = map (route n) operations
@@ -32,7 +32,7 @@ AreRoutedAt bytes commands n where_to = (k : ℕ) (d : Command) (e : Route) → 
 
 -- the counts by the shard that owns the key, and by the one that issues the command, of n shards
 abbrev pub AreOwned : ℕ → List Operation → List ℕ → Type 0
-AreOwned n operations counts = AreCountsBy (λ operation. owner operation.key n) operations counts
+AreOwned n operations counts = AreCountsBy (λ operation. owner operation.key.bytes n) operations counts
 
 abbrev pub AreIssued : ℕ → List Operation → List ℕ → Type 0
 AreIssued n operations counts = AreCountsBy (λ operation. origin operation.number n) operations counts

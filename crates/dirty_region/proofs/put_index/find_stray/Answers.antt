@@ -1,5 +1,6 @@
 use Rattle.std.proofs.Common.{◌≢◌, ◌≤◌, sym, ap, subst, ◌∙◌, arith}
 use Rattle.common_lemmas.specs.Lists.{times}
+use Rattle.rows.specs.Key.{key_shown}
 use Rattle.dirty_region.proofs.PutRows.{contains_times, none_listed, all_at}
 use Rattle.dirty_region.proofs.put_index.find_stray.Goals as goal
 
@@ -16,4 +17,4 @@ returns-in-Ok g c =
     )
 
 pub returns-in-Err : goal.returns-in-Err
-returns-in-Err g c = (c.requires.spot, all_at (λ n. (g.K.Keys.key_of c.args.keys.now) n ≢ c.args.key.now) c.args.strays.now.rows c.in-Err.ensures.1)
+returns-in-Err g c = (c.requires.spot, all_at (λ n. (g.K.Keys.key_of c.args.keys.now) n ≢ key_shown c.args.key.now) c.args.strays.now.rows c.in-Err.ensures.1)

@@ -1,8 +1,9 @@
-use Rattle.std.proofs.Common.{◌≡◌, ◌≢◌, inl, inr, ◌∷◌, sym, subst, ◌∙◌, arith}
+use Rattle.std.proofs.Common.{◌≢◌, inl, inr, ◌∷◌, sym, subst, ◌∙◌, arith}
 use Rattle.std.proofs.lemmas.Bool.{cases_eq}
 use Rattle.std.proofs.lemmas.List.Elements.{All-contains_itself}
 use Rattle.std.specs.Prelude.{Contains}
 use Rattle.common_lemmas.specs.Lists.{times}
+use Rattle.rows.specs.Key.{key_shown}
 use Rattle.key_lemmas.proofs.Unique.{one_row}
 use Rattle.key_table.specs.Table.{AreSame}
 use Rattle.dirty_region.proofs.PutRows.{none_listed, absent_row, all_at, taken_times}
@@ -14,7 +15,7 @@ returns-then-len-eq0-clause-absent g c = λ _. none_listed c.args.row c.args.str
 pub returns-in_default-clause-absent : goal.returns-in_default-clause-absent
 returns-in_default-clause-absent g c =
     let key_of = g.K.Keys.key_of c.args.keys.now in let rows = c.args.strays.now.rows in
-    λ _. absent_row key_of c.args.row rows (λ n h e. all_at (λ m. key_of m ≢ c.args.key.now) rows c.in_default.ensures.1 n h (e ∙ c.requires.key))
+    λ _. absent_row key_of c.args.row rows (λ n h e. all_at (λ m. key_of m ≢ key_shown c.args.key.now) rows c.in_default.ensures.1 n h (e ∙ c.requires.key))
 
 pub returns-then-found-row-clause-absent : goal.returns-then-found-row-clause-absent
 returns-then-found-row-clause-absent g c =

@@ -1,4 +1,5 @@
 use Rattle.std.proofs.Common.{◌≡◌, List, ◌∷◌, sym, ap, subst, ◌∙◌, arith}
+use Rattle.rows.specs.Key.{key_shown}
 use Rattle.rows.specs.Row.{Row}
 use Rattle.common_lemmas.specs.Lists.{times}
 use Rattle.key_table.specs.Table.{AreSame}
@@ -18,9 +19,9 @@ remove_row-requires-clause-index c =
 pub remove_row-requires-clause-key : goal.remove_row-requires-clause-key
 remove_row-requires-clause-key c =
     let k = c.keys.result in let n = c.slot-slot.result in
-    let key : key_at (live_at c.args.region.now) c.args.ring.now.places n ≡ c.key_in-key.result.now =
-    sym (c.key_in-key.ensures ∙ (ap (λ (x : Row). x.key) c.content_of.ensures.read ∙ ap (λ (ps : List Place). key_at (live_at c.args.region.now) ps n) c.places.ensures)) in
-    at_keys (λ s places. key_at (live_at s) places n ≡ c.key_in-key.result.now) c.args.region.now k.region.now c.args.ring.now.places k.places.now c.keys.ensures.region c.keys.ensures.places key
+    let key : key_at (live_at c.args.region.now) c.args.ring.now.places n ≡ key_shown c.key_of_row-key.result =
+    sym (c.key_of_row-key.ensures.key ∙ (ap (λ (x : Row). x.key) c.content_of.ensures.read ∙ ap (λ (ps : List Place). key_at (live_at c.args.region.now) ps n) c.places.ensures)) in
+    at_keys (λ s places. key_at (live_at s) places n ≡ key_shown c.key_of_row-key.result) c.args.region.now k.region.now c.args.ring.now.places k.places.now c.keys.ensures.region c.keys.ensures.places key
 
 pub returns : goal.returns
 returns c =

@@ -1,5 +1,6 @@
 use Rattle.std.proofs.Common.{◌≡◌, ℕ, ◌+◌, ◌-◌, take, drop, inr, false, sym, ap, subst, ◌∙◌, arith, Less}
 use Rattle.std.specs.Ordering.{is_gt}
+use Rattle.rows.specs.Key.{key_shown}
 use Rattle.key_index.specs.declared.entries.Entry.{Entry}
 use Rattle.key_index.specs.Order.{key_cmp, AreBelow}
 use Rattle.key_index.specs.Lead.{rows_of, AreBytes, IsLed}
@@ -22,7 +23,7 @@ compare-compared-requires-clause-readable g c =
 pub compare-compared-requires-clause-bytes : goal.compare-compared-requires-clause-bytes
 compare-compared-requires-clause-bytes g c =
     let read = c.first-first.ensures in
-    all_first (λ (e : Entry). AreBytes (g.K.Keys.key_of c.args.keys.now e.row)) c.args.blocks.now.contents _ c.first-first.result c.requires.entries.bytes c.requires.full (omega arith) read
+    all_first (λ (e : Entry). AreBytes (g.K.Keys.key_of c.args.keys.now e.row).bytes) c.args.blocks.now.contents _ c.first-first.result c.requires.entries.bytes c.requires.full (omega arith) read
 
 pub compare-compared-requires-clause-led : goal.compare-compared-requires-clause-led
 compare-compared-requires-clause-led g c =
@@ -34,10 +35,10 @@ compare-compared-requires-clause-shared g c =
     let key_of = g.K.Keys.key_of c.args.keys.now in
     let middle : ℕ = c.probe-middle.result in
     let read = c.first-first.ensures in
-    let all = share_in key_of c.args.key.now c.args.blocks.now.contents (c.loop-low.low - 1) c.loop-low.high middle c.loop-low.low_shared c.loop-low.high_shared c.fewer-shared.result (omega arith)
+    let all = share_in key_of (key_shown c.args.key.now) c.args.blocks.now.contents (c.loop-low.low - 1) c.loop-low.high middle c.loop-low.low_shared c.loop-low.high_shared c.fewer-shared.result (omega arith)
     (omega arith) c.fewer-shared.ensures.first c.fewer-shared.ensures.second c.loop-low.invariant.low_bound c.loop-low.invariant.high_bound in
-    subst (λ (e : Entry). Share c.fewer-shared.result (key_of e.row) c.args.key.now) (sym read)
-    (All-get_or (λ (e : Entry). Share c.fewer-shared.result (key_of e.row) c.args.key.now) (entries_at c.args.blocks.now.contents middle) 0 c.first-first.result (some_at c.args.blocks.now.contents middle c.requires.full (omega arith)) all)
+    subst (λ (e : Entry). Share c.fewer-shared.result (key_of e.row) (key_shown c.args.key.now)) (sym read)
+    (All-get_or (λ (e : Entry). Share c.fewer-shared.result (key_of e.row) (key_shown c.args.key.now)) (entries_at c.args.blocks.now.contents middle) 0 c.first-first.result (some_at c.args.blocks.now.contents middle c.requires.full (omega arith)) all)
 
 pub loop-low-preserved-then-is_gt : goal.loop-low-preserved-then-is_gt
 loop-low-preserved-then-is_gt g c =
@@ -45,20 +46,20 @@ loop-low-preserved-then-is_gt g c =
     let middle : ℕ = c.probe-middle.result in
     let first = c.first-first.result in
     let read = c.first-first.ensures in
-    let above : key_cmp c.args.key.now (key_of first.row) ≡ Less = less c.args.key.now (key_of first.row) (sym c.compare-compared.ensures.order ∙ is_greater c.compare-compared.result.order (sym c.is_gt.ensures ∙ c.if-is_gt.true)) in
+    let above : key_cmp (key_shown c.args.key.now) (key_of first.row) ≡ Less = less (key_shown c.args.key.now) (key_of first.row) (sym c.compare-compared.ensures.order ∙ is_greater c.compare-compared.result.order (sym c.is_gt.ensures ∙ c.if-is_gt.true)) in
     record {
       sought = c.sought_as-sought.ensures;
       ordered = omega arith;
       within = omega arith;
       below = c.loop-low.invariant.below;
-      above = above_from key_of c.args.key.now c.args.blocks.now.contents middle first c.requires.entries.rising c.requires.full (omega arith)
-          (subst (λ (e : Entry). key_cmp c.args.key.now (key_of e.row) ≡ Less) read above);
+      above = above_from key_of (key_shown c.args.key.now) c.args.blocks.now.contents middle first c.requires.entries.rising c.requires.full (omega arith)
+          (subst (λ (e : Entry). key_cmp (key_shown c.args.key.now) (key_of e.row) ≡ Less) read above);
       low_bound = c.loop-low.invariant.low_bound;
       high_bound = inr (
         first.row,
         subst (λ (e : Entry). AreAtMost key_of (key_of e.row) (rows_of (entries_of (take middle c.args.blocks.now.contents)))) (sym read)
             (first_upto key_of c.args.blocks.now.contents middle first c.requires.entries.rising c.requires.full (omega arith)),
-        most_less c.args.key.now (key_of first.row) above,
+        most_less (key_shown c.args.key.now) (key_of first.row) above,
         c.compare-compared.ensures.shared,
       );
     }
@@ -70,13 +71,13 @@ loop-low-preserved g c =
     let first = c.first-first.result in
     let read = c.first-first.ensures in
     let same : middle + 1 - 1 ≡ middle = omega arith in
-    let most : is_gt (key_cmp (key_of first.row) c.args.key.now) ≡ false = ap is_gt (sym c.compare-compared.ensures.order) ∙ sym c.is_gt.ensures ∙ c.if-is_gt.false in
+    let most : is_gt (key_cmp (key_of first.row) (key_shown c.args.key.now)) ≡ false = ap is_gt (sym c.compare-compared.ensures.order) ∙ sym c.is_gt.ensures ∙ c.if-is_gt.false in
     record {
       sought = c.sought_as-sought.ensures;
       ordered = omega arith;
       within = c.loop-low.invariant.within;
-      below = subst (λ k. AreBelow key_of c.args.key.now (rows_of (entries_of (take k c.args.blocks.now.contents)))) (sym same)
-          (below_first key_of c.args.key.now c.args.blocks.now.contents middle first c.requires.entries.rising c.requires.full (omega arith)
+      below = subst (λ k. AreBelow key_of (key_shown c.args.key.now) (rows_of (entries_of (take k c.args.blocks.now.contents)))) (sym same)
+          (below_first key_of (key_shown c.args.key.now) c.args.blocks.now.contents middle first c.requires.entries.rising c.requires.full (omega arith)
           (λ low e. less_most low _ _ most (subst (λ (x : Entry). key_cmp low (key_of x.row) ≡ Less) (sym read) e)));
       above = c.loop-low.invariant.above;
       low_bound = inr (
@@ -92,5 +93,5 @@ loop-low-preserved g c =
 
 pub returns-clause-shared : goal.returns-clause-shared
 returns-clause-shared g c = λ some.
-    share_in (g.K.Keys.key_of c.args.keys.now) c.args.key.now c.args.blocks.now.contents (c.loop-low.low - 1) c.loop-low.high (c.loop-low.low - 1) c.loop-low.low_shared c.loop-low.high_shared c.fewer-shared-2.result (omega arith)
+    share_in (g.K.Keys.key_of c.args.keys.now) (key_shown c.args.key.now) c.args.blocks.now.contents (c.loop-low.low - 1) c.loop-low.high (c.loop-low.low - 1) c.loop-low.low_shared c.loop-low.high_shared c.fewer-shared-2.result (omega arith)
     (omega (arith, some)) c.fewer-shared-2.ensures.first c.fewer-shared-2.ensures.second c.loop-low.invariant.low_bound c.loop-low.invariant.high_bound

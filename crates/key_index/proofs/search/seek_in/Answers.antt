@@ -1,6 +1,7 @@
 use Rattle.std.proofs.Common.{◌≡◌, ◌-◌, ◌<◌, ◌≤◌, List, length, take, drop, inr, sym, ap, subst, ◌∙◌, arith, Less}
 use Rattle.std.specs.Prelude.{All}
 use Rattle.std.specs.Ordering.{is_gt}
+use Rattle.rows.specs.Key.{key_shown}
 use Rattle.key_index.specs.declared.entries.Entry.{Entry}
 use Rattle.key_index.specs.Order.{key_cmp, AreBelow}
 use Rattle.key_index.specs.Lead.{rows_of}
@@ -25,7 +26,7 @@ count_in-inside-requires-clause-entries g c =
 pub count_in-inside-requires-clause-shared : goal.count_in-inside-requires-clause-shared
 count_in-inside-requires-clause-shared g c =
     let key_of = g.K.Keys.key_of c.args.keys.now in
-    let key = c.args.key.now in
+    let key = key_shown c.args.key.now in
     let blocks = c.args.blocks.now.contents in
     let n = c.len.result - 1 in
     let first = c.first_of.result in
@@ -55,7 +56,7 @@ returns-clause-at g c =
 pub returns-clause-place : goal.returns-clause-place
 returns-clause-place g c =
     let key_of = g.K.Keys.key_of c.args.keys.now in
-    let key = c.args.key.now in
+    let key = key_shown c.args.key.now in
     let count = c.count_in-inside.result.count in
     let slice = c.entries-entries.ensures.is in
     let len = ap (λ (es : List Entry). length es) slice in

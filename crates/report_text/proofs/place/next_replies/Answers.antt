@@ -11,7 +11,7 @@ use Rattle.report_text.proofs.place.next_replies.Goals as goal
 use Rattle.report_text.proofs.place.next_replies.Goals.{After-parts}
 
 abbrev none : Command
-none = record { number = 0; line = 0; kind = Put; key = record { start = 0; len = 0 }; value = record { start = 0; len = 0 }; count = 0 }
+none = record { number = 0; line = 0; kind = Put; table = 0; key = record { start = 0; len = 0 }; value = record { start = 0; len = 0 }; count = 0 }
 
 few : (scan : Bool) (parts n : ℕ) → parts ≡ cond scan n 1 → 1 ≤ n → parts ≤ n
 few true parts n is some = omega (arith, is)

@@ -13,7 +13,7 @@ use Rattle.cache_lemmas.proofs.Laws.{answers_are_read_by_command-count}
 use Rattle.report_text.proofs.stretch.put_stretch.Goals as goal
 
 abbrev none : Command
-none = record { number = 0; line = 0; kind = Put; key = record { start = 0; len = 0 }; value = record { start = 0; len = 0 }; count = 0 }
+none = record { number = 0; line = 0; kind = Put; table = 0; key = record { start = 0; len = 0 }; value = record { start = 0; len = 0 }; count = 0 }
 
 pub put_answer-requires-clause-read : goal.put_answer-requires-clause-read
 put_answer-requires-clause-read g c =

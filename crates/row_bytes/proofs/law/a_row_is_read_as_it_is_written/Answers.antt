@@ -9,7 +9,7 @@ returns-clause-row c = λ content number row holds.
 
 pub returns-clause-lengths : goal.returns-clause-lengths
 returns-clause-lengths c = λ content number row holds.
-    subst (λ bytes. (key_length_in bytes ≡ length row.key) × (value_length_in bytes ≡ length row.value)) (sym holds.bytes)
+    subst (λ bytes. (key_length_in bytes ≡ length row.key.bytes) × (value_length_in bytes ≡ length row.value)) (sym holds.bytes)
     (key_length_of_bytes number holds.links row holds.storable, value_length_of_bytes number holds.links row holds.storable)
 
 pub returns-clause-within : goal.returns-clause-within

@@ -17,7 +17,7 @@ use Rattle.shard_node.proofs.messages.reply.Goals as goal
 -- the bytes begin with the reply to the operation, which was done
 abbrev Replies : ℕ → List ℕ → StoreState → StoreState → JournalState → JournalState → Operations → Type 0
 Replies number bytes old new before after operation =
-    (answer : Reply) × HoldsReply bytes number answer × DoesAbove (floor_of old.pages old.lent) (numbered number operation) answer old new before after
+    (answer : Reply) × HoldsReply bytes number answer × DoesAbove (floor_of old.pages old.lent old.regions) (numbered number operation) answer old new before after
 
 -- they have the size of its block
 abbrev HasSize : List ℕ → List Row → Operations → Type 0
@@ -28,6 +28,12 @@ reply_put-requires-clause-askable c = subst (λ (o : Operations). IsAskable (num
 
 pub reply_put-requires-clause-room : goal.reply_put-requires-clause-room
 reply_put-requires-clause-room c = subst (λ (o : Operations). kind_of o ≡ kinds.Put → HasPlace (key_of o) c.args.store.now) c.in-Put.is c.requires.room refl
+
+pub reply_get-requires-clause-table : goal.reply_get-requires-clause-table
+reply_get-requires-clause-table c = (subst (λ (o : Operations). IsAskable (numbered c.args.number o)) c.in-Get.is c.requires.askable).table
+
+pub reply_erase-requires-clause-table : goal.reply_erase-requires-clause-table
+reply_erase-requires-clause-table c = (subst (λ (o : Operations). IsAskable (numbered c.args.number o)) c.in-Erase.is c.requires.askable).table
 
 pub reply_scan-requires-clause-askable : goal.reply_scan-requires-clause-askable
 reply_scan-requires-clause-askable c = subst (λ (o : Operations). IsAskable (numbered c.args.number o)) c.in-Scan.is c.requires.askable

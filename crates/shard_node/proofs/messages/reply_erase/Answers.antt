@@ -3,6 +3,7 @@ use Rattle.std.proofs.Common.{cond, length, ap, sym, ◌∙◌, subst, arith}
 use Rattle.std.specs.List.{refill}
 use Rattle.rows.specs.Apply.{Erased, Missing, without}
 use Rattle.shard_memory.specs.declared.share.Share.{Share as Shares}
+use Rattle.rows.specs.Key.{key_shown}
 use Rattle.rows.specs.Operations.{erase_of}
 use Rattle.shard_rings.specs.Reply.{HoldsReply}
 use Rattle.shard_store.specs.Works.{floor_of}
@@ -18,12 +19,12 @@ pub note_done-requires : goal.note_done-requires
 note_done-requires c =
     let e = c.lend-block.ensures.evicted in let store = c.args.store.now in let mid = c.lend-block.new.self in
     let left = spare-left c.args.journal.now c.lend-block.new.evictions e.evicted mid.rows store.rows (told-recorded c.args.journal.now c.lend-block.new.evictions e.evicted e.told)
-    (evictions_are_counted-count (floor_of store.pages store.lent) store.rows mid.rows e.evicted e.evicts) c.requires.spare in
+    (evictions_are_counted-count (floor_of store.pages store.lent store.regions) store.rows mid.rows e.evicted e.evicts) c.requires.spare in
     omega (arith, left)
 
 pub returns-clause-replied : goal.returns-clause-replied
 returns-clause-replied c =
-    let block = c.lend-block.result in let mid = c.lend-block.new.self in let did = c.erase-was_there.ensures in let number = c.args.number in let key = c.args.key.now in
+    let block = c.lend-block.result in let mid = c.lend-block.new.self in let did = c.erase-was_there.ensures in let number = c.args.number in let key = key_shown c.args.key in
     let answer = cond c.erase-was_there.result Erased Missing in
     let whole = refill-whole block.piece.bytes c.write_erased.new.into (c.write_erased.auto.into ∙ ap length c.bytes_mut.ensures.value) in (
       answer,

@@ -5,6 +5,7 @@ use Rattle.layout.specs.Sizes.{message_header}
 use Rattle.rows.specs.declared.reply_kind.ReplyKind.TheVariants as replies
 use Rattle.rows.specs.Apply.{Keys, scanned}
 use Rattle.shard_memory.specs.declared.share.Share.{Share as Shares}
+use Rattle.rows.specs.Key.{key_shown}
 use Rattle.rows.specs.Operations.{scan_of}
 use Rattle.shard_rings.specs.Reply.{HoldsReply}
 use Rattle.shard_store.specs.Works.{floor_of}
@@ -18,12 +19,12 @@ pub note_done-requires : goal.note_done-requires
 note_done-requires c =
     let e = c.lend_keys-block.ensures.evicted in let store = c.args.store.now in let mid = c.lend_keys-block.new.self in
     let left = spare-left c.args.journal.now c.lend_keys-block.new.evictions e.evicted mid.rows store.rows (told-recorded c.args.journal.now c.lend_keys-block.new.evictions e.evicted e.told)
-    (evictions_are_counted-count (floor_of store.pages store.lent) store.rows mid.rows e.evicted e.evicts) c.requires.spare in
+    (evictions_are_counted-count (floor_of store.pages store.lent store.regions) store.rows mid.rows e.evicted e.evicts) c.requires.spare in
     omega (arith, left)
 
 pub returns-clause-replied : goal.returns-clause-replied
 returns-clause-replied c =
-    let block = c.lend_keys-block.result.0 in let mid = c.lend_keys-block.new.self in let number = c.args.number in let from = c.args.from.now in let count = c.args.count in let e = c.lend_keys-block.ensures in
+    let block = c.lend_keys-block.result.0 in let mid = c.lend_keys-block.new.self in let number = c.args.number in let from = key_shown c.args.from in let count = c.args.count in let e = c.lend_keys-block.ensures in
     let keys = scanned from count mid.rows in let answer = Keys keys in
     let whole = refill-whole block.piece.bytes c.write_reply_header.new.into (c.write_reply_header.auto.into ∙ ap length c.bytes_mut.ensures.value) in
     let body = ap (λ bytes. take c.lend_keys-block.result.1.bytes (drop message_header bytes)) c.bytes_mut.ensures.value in
@@ -54,7 +55,7 @@ lend_keys-block-requires-clause-most c = let few = c.requires.askable.fields.2 i
 
 pub write_reply_header-requires-clause-keys : goal.write_reply_header-requires-clause-keys
 write_reply_header-requires-clause-keys c =
-    let few = few-scanned c.args.from.now c.args.count c.lend_keys-block.new.self.rows c.requires.askable.fields.2 in
+    let few = few-scanned (key_shown c.args.from) c.args.count c.lend_keys-block.new.self.rows c.requires.askable.fields.2 in
     let count = c.lend_keys-block.ensures.count in
     omega (arith, few, count)
 

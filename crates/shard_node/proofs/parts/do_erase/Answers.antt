@@ -1,5 +1,6 @@
 -- A row goes, or there is none.
 use Rattle.std.proofs.Common.{true, false, sym, ◌∙◌}
+use Rattle.rows.specs.Key.{key_shown}
 use Rattle.rows.specs.Operations.{erase_of}
 use Rattle.shard_node.proofs.OwnParts.QuietParts.{erased, none_came, quiet_does}
 use Rattle.shard_node.proofs.parts.do_erase.Goals as goal
@@ -9,7 +10,7 @@ pub returns : goal.returns
 returns c =
     let rows = c.args.store.now.rows in
     let number = c.args.number in
-    let key = c.args.key.now in
+    let key = key_shown c.args.key in
     let did = c.erase.ensures in
     let came = none_came c.args.store.now _ c.requires.counted did.tickets.0 did.tickets.1 did.tickets.2 did.tickets.3 in
     elim c.if-erase.branch [

@@ -1,4 +1,5 @@
 -- A look-up.
+use Rattle.rows.specs.Key.{key_shown}
 use Rattle.rows.specs.Operations.{get_of}
 use Rattle.shard_node.proofs.OwnParts.QuietParts.{got_none, got_some, quiet_does, same_but_links}
 use Rattle.shard_node.proofs.parts.do_get.Goals as goal
@@ -8,12 +9,12 @@ returns-in-Some c =
     let found = c.in-Some.ensures.value in
     let after = c.get.follows.holds-at-none in
     let same = same_but_links c.args.store.now _ _ after.0 after.1.shape c.requires.counted in
-    quiet_does _ (get_of c.args.number c.args.key.now) _ _ _ _ _ _ _ _ (got_some c.args.number c.args.key.now c.args.store.now.rows found.0 found.1) c.note_done.ensures same.0 same.1 same.2
+    quiet_does _ (get_of c.args.number (key_shown c.args.key)) _ _ _ _ _ _ _ _ (got_some c.args.number (key_shown c.args.key) c.args.store.now.rows found.0 found.1) c.note_done.ensures same.0 same.1 same.2
     (rw found.2 at c.record.ensures.replies) (rw found.2 at c.record.ensures.room)
 
 pub returns-in-None : goal.returns-in-None
 returns-in-None c =
     let after = c.get.follows.holds-at-none in
     let same = same_but_links c.args.store.now _ _ after.0 after.1.shape c.requires.counted in
-    quiet_does _ (get_of c.args.number c.args.key.now) _ _ _ _ _ _ _ _ (got_none c.args.number c.args.key.now c.args.store.now.rows c.in-None.ensures.value) c.note_done.ensures same.0 same.1 same.2
+    quiet_does _ (get_of c.args.number (key_shown c.args.key)) _ _ _ _ _ _ _ _ (got_none c.args.number (key_shown c.args.key) c.args.store.now.rows c.in-None.ensures.value) c.note_done.ensures same.0 same.1 same.2
     c.record-in-None.ensures.replies c.record-in-None.ensures.room

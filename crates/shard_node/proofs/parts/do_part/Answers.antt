@@ -18,6 +18,12 @@ do_put-requires-clause-tables c =
     let store = c.args.store.now in
     subst (λ (o : Operations). kind_of o ≡ kinds.Put → (has (key_of o) store.rows ≡ true) ⊎ (length store.rows < store.room)) c.in-Put.is c.requires.tables refl
 
+pub do_get-requires-clause-table : goal.do_get-requires-clause-table
+do_get-requires-clause-table c = (subst (λ (o : Operations). IsAskable (numbered c.args.number o)) c.in-Get.is c.requires.askable).table
+
+pub do_erase-requires-clause-table : goal.do_erase-requires-clause-table
+do_erase-requires-clause-table c = (subst (λ (o : Operations). IsAskable (numbered c.args.number o)) c.in-Erase.is c.requires.askable).table
+
 pub do_get-requires-clause-fits : goal.do_get-requires-clause-fits
 do_get-requires-clause-fits c =
     subst (λ (o : Operations). length (spelled (apply (numbered c.args.number o) c.args.store.now.rows).1).1 ≤ c.args.log.now.room) c.in-Get.is c.requires.fits

@@ -13,6 +13,7 @@ returns-clause-asked c = rw (c.key.ensures.value, c.value.ensures.value) at (c.w
 pub returns-clause-askable : goal.returns-clause-askable
 returns-clause-askable c =
     rw (c.with_fields.ensures c.args.command.now.number) (record {
+      table = c.key.ensures.lies.table;
       key = record { some = c.key.ensures.some; short = c.key.ensures.most };
       value = c.value.ensures.most;
       fields = with_fields-requires c.before;

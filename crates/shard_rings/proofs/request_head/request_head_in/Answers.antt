@@ -7,7 +7,7 @@ use Rattle.shard_rings.proofs.request_head.request_head_in.Goals as goal
 pub returns-clause-some : goal.returns-clause-some
 returns-clause-some c =
     let bytes = c.args.bytes.now in
-    head_read _ bytes c.if-bytes-lt-HEADER.false refl c.if-bytes-ne0.false
+    head_read _ bytes c.if-bytes-lt-HEADER.false refl refl
     (sym (ap (little_number 4) (take_rest bytes 12)) ∙ sym c.read_u32.ensures ∙ c.if-read_u32-ne0.false)
     (c.read_u16.ensures ∙ ap (little_number 2) (take_rest bytes 2))
     (c.read_u32-2.ensures ∙ ap (little_number 4) (take_rest bytes 4))

@@ -22,16 +22,19 @@ open-requires g c κs =
       (
         c.requires.pages,
         (
-          c.requires.lists.owners c.len-shard.result home home_at,
+          c.requires.tables,
           (
-            last_seat c.args.homes.now c.args.seats.now.items fewer.items c.unwrap-seat.result home c.requires.seats pop (subst (λ j. slice_get c.args.homes.now j ≡ Some home) place home_at),
+            c.requires.lists.owners c.len-shard.result home home_at,
             (
-              value,
+              last_seat c.args.homes.now c.args.seats.now.items fewer.items c.unwrap-seat.result home c.requires.seats pop (subst (λ j. slice_get c.args.homes.now j ≡ Some home) place home_at),
               (
-                omega (arith, place, count, within, value),
+                value,
                 (
-                  c.requires.links ∙ sym value,
-                  λ k d lt. let u = c.requires.unused k (get_or c.args.links.items k d) (slice_get-get_or c.args.links.items k d lt) in record { sent = ap (λ o. o.sent) u.0; received = ap (λ i. i.received) u.1 },
+                  omega (arith, place, count, within, value),
+                  (
+                    c.requires.links ∙ sym value,
+                    λ k d lt. let u = c.requires.unused k (get_or c.args.links.items k d) (slice_get-get_or c.args.links.items k d lt) in record { sent = ap (λ o. o.sent) u.0; received = ap (λ i. i.received) u.1 },
+                  ),
                 ),
               ),
             ),

@@ -31,9 +31,9 @@ returns-clause-given c =
     }
 
 pub returns-clause-consistent : goal.returns-clause-consistent
-returns-clause-consistent c shard pages standing region h =
+returns-clause-consistent c shard pages regions region h =
     let e = c.in_ok-block.ensures in let same = e.same in
-    consistent-same shard pages standing c.args.memory.now c.give_uncleared.new.self region
+    consistent-same shard pages regions c.args.memory.now c.give_uncleared.new.self region
     (ap (λ (s : MemoryState). s.home) same) (ap (λ (s : MemoryState). s.owner) same) (ap (λ (s : MemoryState). s.pages) same) (ap (λ (s : MemoryState). s.blocks) same) (ap (λ (s : MemoryState). s.segments) same)
     (counted-lent c.args.memory.now c.give_uncleared.new.self (ap (λ (s : MemoryState). s.owner) same) (ap (λ (s : MemoryState). s.list) same)
     (ap (λ (l : Tickets). length l) e.lent ∙ length-set c.args.memory.now.lent c.in_ok-block.block.ticket (Some (piece_id_of c.in_ok-block.block.piece))) e.lends e.out (ap (λ (s : MemoryState). s.backs) same)) h

@@ -12,11 +12,11 @@ came c =
     takes-same c.args.memory.now c.take_back.new.self c.trim.new.self (came-back c.args.memory.now c.take_back.new.self c.take_back.result c.take_back.ensures.come)
     (trimmed-same c.take_back.new.self c.trim.new.self c.trim.ensures.same)
 
-consistent : (c : After-give_at_once) (shard pages standing : ℕ) (region : RegionState) → IsConsistent shard pages standing c.args.memory.now region → IsConsistent shard pages standing c.give_at_once.new.memory region
-consistent c shard pages standing region h =
-    c.give_at_once.ensures.consistent shard pages standing region
-    (consistent-trimmed shard pages standing c.take_back.new.self c.trim.new.self region c.trim.ensures.same
-    (consistent-came shard pages standing c.args.memory.now c.take_back.new.self c.take_back.result region c.take_back.ensures.come c.take_back.ensures.tickets h))
+consistent : (c : After-give_at_once) (shard pages regions : ℕ) (region : RegionState) → IsConsistent shard pages regions c.args.memory.now region → IsConsistent shard pages regions c.give_at_once.new.memory region
+consistent c shard pages regions region h =
+    c.give_at_once.ensures.consistent shard pages regions region
+    (consistent-trimmed shard pages regions c.take_back.new.self c.trim.new.self region c.trim.ensures.same
+    (consistent-came shard pages regions c.args.memory.now c.take_back.new.self c.take_back.result region c.take_back.ensures.come c.take_back.ensures.tickets h))
 
 pub returns-in-Ok-clause-given : goal.returns-in-Ok-clause-given
 returns-in-Ok-clause-given c =

@@ -1,4 +1,4 @@
-use Rattle.std.proofs.Common.{◌/◌, ap, sym, ◌∙◌, refl, subst}
+use Rattle.std.proofs.Common.{◌/◌, ap, sym, ◌∙◌, refl, subst, arith}
 use Rattle.layout.specs.Sizes.{segment_pages, ArePages}
 use Rattle.regions.specs.Shapes.{identity}
 use Rattle.shard_memory.specs.Shards.{MemoryState}
@@ -21,6 +21,7 @@ returns-clause-made c _ =
       blocks = ap (λ (s : MemoryState). s.blocks) b.same ∙ m.blocks;
       most = e.most ∙ m.most ∙ ap (λ k. k / segment_pages) (sym pages);
       holds = holds-less c.args.memory.now c.segment_back.new.self (ap (λ (s : MemoryState). s.home) b.same) c.in-Some.piece b.segments b.one_less c.args.cache.now.region c.give_up.new.self.region given.0 given.2 given.3 (e.held refl) m.holds;
-      guards = e.guards;
+      groups = refl;
+      enough = (let same = ap (λ k. k / segment_pages) pages in let groups = e.groups in let enough = m.enough in omega (arith, same, groups, enough));
       counted = counted-same c.args.memory.now c.segment_back.new.self (segments-same c.args.memory.now c.segment_back.new.self b.same) m.counted;
     }

@@ -10,7 +10,7 @@ use Rattle.text_tests.proofs.Logs.{IsFilled, fits_at, logged_when_filled, one_mo
 use Rattle.text_tests.proofs.report_text_tests.log_of.Goals as goal
 
 abbrev none : Command
-none = record { number = 0; line = 0; kind = Put; key = record { start = 0; len = 0 }; value = record { start = 0; len = 0 }; count = 0 }
+none = record { number = 0; line = 0; kind = Put; table = 0; key = record { start = 0; len = 0 }; value = record { start = 0; len = 0 }; count = 0 }
 
 pub loop-part-preserved : goal.loop-part-preserved
 loop-part-preserved g c =

@@ -1,6 +1,7 @@
 -- What the commands count is what their operations count.
 use Rattle.std.proofs.Common.{refl}
 use Rattle.rows.specs.Operation.{is_get, is_scan}
+use Rattle.trace_text.specs.Reading.{version_in}
 use Rattle.trace_text.proofs.Tallies.{count_in, longest_in}
 use Rattle.trace_text.proofs.parts.replies_room.Goals as goal
 
@@ -8,7 +9,7 @@ pub returns : goal.returns
 returns c bytes lie = rw (
   ← count_in bytes (λ o. is_get o.kind) c.args.commands.now,
   ← count_in bytes (λ o. is_scan o.kind) c.args.commands.now,
-  ← longest_in bytes c.args.commands.now lie,
+  ← longest_in (version_in bytes) bytes c.args.commands.now lie,
 ) (rw (
   c.gets-gets.ensures.value,
   c.from.ensures,

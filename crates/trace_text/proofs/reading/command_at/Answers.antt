@@ -8,8 +8,9 @@ returns-clause-found c bytes lies =
     let found = c.in_ok-found.ensures.offsets in
     let key = lies_in_outer bytes c.args.text.now _ c.args.start _ lies found.key in
     let value = lies_in_outer bytes c.args.text.now _ c.args.start _ lies found.value in (
-      rw (key.1, value.1) (line_reading_is c.args.number c.args.line c.args.text.now _ c.requires.few c.in_ok-found.ensures.fields),
+      rw (key.1, value.1) (line_reading_is c.args.version c.args.number c.args.line c.args.text.now _ c.requires.few c.in_ok-found.ensures.fields),
       record {
+        table = found.table;
         key = key.0;
         value = value.0;
         key_some = key-some _ found.is_key;

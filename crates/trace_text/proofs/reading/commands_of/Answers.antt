@@ -10,7 +10,7 @@ loop-rest-preserved c =
     let reads = c.loop-rest.invariant.reads in
     let front = c.cut_line-sound.ensures.front in
     record {
-      reads = reads_more c.args.bytes.now _ _ _ _ c.cut_line-sound.result.0.now _ reads (c.cut_line-sound.ensures.lines c.loop-rest.line)
-          c.cut_line-sound.ensures.rest front (c.cut_line-sound.ensures.progress some) c.in_ok-add_line.ensures.added c.in_ok-add_line.ensures.few;
-      routes = routes_more c.args.shards c.args.bytes.now _ _ _ _ _ _ c.cut_line-sound.result.0.now reads front c.in_ok-add_line.ensures.route c.loop-rest.invariant.routes;
+      reads = reads_more c.args.version c.args.bytes.now _ _ _ _ c.cut_line-sound.result.0.now _ reads
+          (c.cut_line-sound.ensures.lines c.loop-rest.line) c.cut_line-sound.ensures.rest front (c.cut_line-sound.ensures.progress some) c.in_ok-add_line.ensures.added c.in_ok-add_line.ensures.few;
+      routes = routes_more c.args.version c.args.shards c.args.bytes.now _ _ _ _ _ _ c.cut_line-sound.result.0.now reads front c.in_ok-add_line.ensures.route c.loop-rest.invariant.routes;
     }

@@ -7,7 +7,7 @@ use Rattle.trace_text.proofs.reading.commands_of.Given as goal
 
 abbrev pub invariant-loop-rest : goal.invariant-loop-rest
 invariant-loop-rest l = record {
-  reads : Reads l.bytes l.commands l.rest l.line;
+  reads : Reads l.version l.bytes l.commands l.rest l.line;
   routes : l.routes.items ≡ routes l.shards (operations l.bytes l.commands);
 }
 

@@ -1,7 +1,7 @@
 -- The first line is what stands before the first LF.
 use Rattle.std.proofs.Common.{◌≡◌, ◌+◌, ◌∷◌, take, arith, sym, subst}
 use Rattle.std.proofs.lemmas.List.{take_rest}
-use Rattle.trace_text.specs.Reading.{command_lines, lines}
+use Rattle.trace_text.specs.Reading.{lines, lines_from}
 use Rattle.trace_text.proofs.Cuts.{cut_lines}
 use Rattle.trace_text.proofs.PlainText.{plain_cut, plain_front_is}
 use Rattle.trace_text.proofs.reading.cut_line.Goals as goal
@@ -19,7 +19,7 @@ pub returns-then-text-end-eq10-clause-lines : goal.returns-then-text-end-eq10-cl
 returns-then-text-end-eq10-clause-lines c line =
     let text = c.args.text.now in
     let end = c.plain_front-end.result in
-    subst (λ rest. command_lines line (lines text) ≡ command_lines line (take end text ∷ lines rest)) (sym (take_rest text (end + 1)))
+    subst (λ rest. lines_from line (lines text) ≡ lines_from line (take end text ∷ lines rest)) (sym (take_rest text (end + 1)))
     (plain_cut text end (omega arith) c.plain_front-end.ensures.plain (omega arith) line)
 
 pub returns-then-text-end-eq10-clause-sound : goal.returns-then-text-end-eq10-clause-sound

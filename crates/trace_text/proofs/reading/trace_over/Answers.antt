@@ -46,7 +46,7 @@ loop-route-preserved c =
     let number = origin_at bytes commands n i no_command no_operation c.requires.spelled.numbered place.1 in
     record {
       origin = c.origin_after-origin.ensures i from;
-      owned = counted_more (λ o. owner o.key n) ops i no_operation _ _ c.from.result (get_or to i no_route).kind place.0
+      owned = counted_more (λ o. owner o.key.bytes n) ops i no_operation _ _ c.from.result (get_or to i no_route).kind place.0
           c.loop-route.invariant.owned (c.from.ensures ∙ ap (λ route. route.owner) is) (ap (λ route. route.kind) is) c.add.ensures;
       issued = counted_more (λ o. origin o.number n) ops i no_operation _ _ c.loop-route.origin (get_or to i no_route).kind place.0
           c.loop-route.invariant.issued (from ∙ sym number) (ap (λ route. route.kind) is) c.add-in-loop-route.ensures;

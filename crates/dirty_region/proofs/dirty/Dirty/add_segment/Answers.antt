@@ -19,7 +19,7 @@ invariant_of-self c =
     let none = sym c.active.ensures.active ∙ none_of c.active.result (c.is_none.ensures ∙ ap not c.if-is_none.true) in
     let spare = spare_begun s.region c.add_segment.new.self c.next_active.new.self a.added.0 n.activated.0 c.args.piece i.stored.spare a.added.2 a.held a.free none n.activated.2 n.held n.free in (
       record {
-        stored = stored_kept s.ring s.index s.region c.next_active.new.self s.live i.stored (λ p. n.objects p ∙ a.objects p) (n.live_total ∙ a.live_total) spare;
+        stored = stored_kept s.ring s.index s.region c.next_active.new.self i.stored (λ p. n.objects p ∙ a.objects p) (n.live_total ∙ a.live_total) spare;
         out_is = subst (λ ps. IsOut s.out ps) (sym (puts_kept s.ring s.region c.next_active.new.self (λ p. n.objects p ∙ a.objects p))) i.out_is;
       },
       c.self.invariant.1,
@@ -30,7 +30,7 @@ invariant_of-self-else-is_none c =
     let s = c.self.inside in let a = c.add_segment.ensures in let i = c.self.invariant.0 in
     let spare = spare_grown s.region c.add_segment.new.self a.added.0 c.args.piece i.stored.spare a.added.2 a.held a.free in (
       record {
-        stored = stored_kept s.ring s.index s.region c.add_segment.new.self s.live i.stored a.objects a.live_total spare;
+        stored = stored_kept s.ring s.index s.region c.add_segment.new.self i.stored a.objects a.live_total spare;
         out_is = subst (λ ps. IsOut s.out ps) (sym (puts_kept s.ring s.region c.add_segment.new.self a.objects)) i.out_is;
       },
       c.self.invariant.1,

@@ -15,7 +15,7 @@ invariant_of-self c =
     let same = groups_given c.give_up.result r new g.emptied g.given in
     let spare = spare_emptied r new e.stored.spare same.0 same.1 g.free in (
       record {
-        stored = stored_emptied d.ring d.index r new d.live_bytes e.stored e.none g.objects g.live_total spare;
+        stored = stored_emptied d.ring d.index r new e.stored e.none g.objects g.live_total spare;
         out_is = out_none _;
       },
       c.self.invariant.1,

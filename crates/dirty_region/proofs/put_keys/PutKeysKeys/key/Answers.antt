@@ -2,5 +2,5 @@ use Rattle.std.proofs.Common.{ap, ◌∙◌}
 use Rattle.rows.specs.Row.{Row}
 use Rattle.dirty_region.proofs.put_keys.PutKeysKeys.key.Goals as goal
 
-pub returns : goal.returns
-returns c = c.key_in.ensures ∙ ap (λ (x : Row). x.key) c.content_of.ensures.read
+pub returns-clause-key : goal.returns-clause-key
+returns-clause-key c = c.key_of_row.ensures.key ∙ ap (λ (x : Row). x.key) c.content_of.ensures.read

@@ -50,7 +50,7 @@ invariant_of-self c =
     let f = c.self.inside in let i = c.self.invariant in let m = c.add_segment.new.self in let s = c.next_active.new.self in let a = c.add_segment.ensures in let b = c.next_active.ensures in
     let groups = groups_added f.region m a.added.0 _ a.added.2 in let one = i.one in
     let held = b.held ∙ a.held in
-    consistent_more f.tables f.region s f.lengths.items f.segments f.live i i.entries (λ p. b.objects p ∙ a.objects p)
+    consistent_more f.tables f.region s f.lengths.items f.segments i i.entries (λ p. b.objects p ∙ a.objects p)
     (groups_begun m s b.activated.0 b.activated.2 ∙ groups) (most_begun m s b.activated.0 b.activated.2 ∙ most_added f.region m a.added.0 _ a.added.2) held
     (free_begun f.region m s b.activated.0 c.active-active.result i.free c.active-active.ensures.active (c.is_none.ensures ∙ ap not c.if-is_none.true) a.free b.free held
     (active_begun m s b.activated.0 b.activated.2 (omega (arith, groups, one))))
@@ -59,14 +59,14 @@ invariant_of-self c =
 pub invariant_of-self-else-is_none : goal.invariant_of-self-else-is_none
 invariant_of-self-else-is_none c =
     let f = c.self.inside in let i = c.self.invariant in let m = c.add_segment.new.self in let a = c.add_segment.ensures in let more = a.free in
-    consistent_more f.tables f.region m f.lengths.items f.segments f.live i i.entries a.objects (groups_added f.region m a.added.0 _ a.added.2) (most_added f.region m a.added.0 _ a.added.2) a.held (inl (omega (arith, more))) a.live_total
+    consistent_more f.tables f.region m f.lengths.items f.segments i i.entries a.objects (groups_added f.region m a.added.0 _ a.added.2) (most_added f.region m a.added.0 _ a.added.2) a.held (inl (omega (arith, more))) a.live_total
 
 pub returns-then-is_none-clause-values : goal.returns-then-is_none-clause-values
 returns-then-is_none-clause-values c =
     let f = c.self.inside in let a = c.add_segment.ensures in let b = c.next_active.ensures in
-    values_kept f.tables f.region c.next_active.new.self f.lengths.items f.segments f.live c.self.invariant c.self.invariant.entries (λ p. b.objects p ∙ a.objects p) ∙ ap (λ (s : StoreState). values_of s) c.self.view_is
+    values_kept f.tables f.region c.next_active.new.self f.lengths.items f.segments c.self.invariant c.self.invariant.entries (λ p. b.objects p ∙ a.objects p) ∙ ap (λ (s : StoreState). values_of s) c.self.view_is
 
 pub returns-else-is_none-clause-values : goal.returns-else-is_none-clause-values
 returns-else-is_none-clause-values c =
     let f = c.self.inside in let a = c.add_segment.ensures in
-    values_kept f.tables f.region c.add_segment.new.self f.lengths.items f.segments f.live c.self.invariant c.self.invariant.entries a.objects ∙ ap (λ (s : StoreState). values_of s) c.self.view_is
+    values_kept f.tables f.region c.add_segment.new.self f.lengths.items f.segments c.self.invariant c.self.invariant.entries a.objects ∙ ap (λ (s : StoreState). values_of s) c.self.view_is

@@ -1,4 +1,4 @@
-use Rattle.std.proofs.Common.{◌≡◌, ◌≢◌, ℕ, ◌+◌, ◌-◌, ◌<◌, inr, List, [], None, refl, sym, ap, ◌∙◌, arith}
+use Rattle.std.proofs.Common.{◌≡◌, ◌≢◌, ℕ, ◌+◌, ◌<◌, inr, List, [], None, refl, sym, ap, ◌∙◌, arith}
 use Rattle.std.specs.Prelude.{slice_set}
 use Rattle.std.proofs.lemmas.List.{set-get_or}
 use Rattle.regions.specs.Segments.{RegionState}
@@ -22,40 +22,32 @@ size_gone t r s n entries below total hold =
     let same = ap size_of_parts (part_named t r [] n entries (λ e. (omega (arith, e, below)))) ∙ size_if_is (value_of (values_in t r) n) in
     let gone = total all hold in omega (arith, same, gone)
 
-erased : (t u : TableState) (r s : RegionState) (lengths : List ℕ) (segments bytes dropped n : ℕ) → IsConsistent t r lengths segments bytes → AreEntries t → AreEntries u → u.names ≡ t.names → n < t.names
+erased : (t u : TableState) (r s : RegionState) (lengths : List ℕ) (segments n : ℕ) → IsConsistent t r lengths segments → AreEntries t → AreEntries u → u.names ≡ t.names → n < t.names
     → AreChains u (live_at s)
     → ((all fewer : Parts) → HoldParts t (live_at r) all → fewer n ≡ [] → ((e : ℕ) → e ≢ n → fewer e ≡ all e) → HoldParts u (live_at s) fewer)
-    → ((all : Parts) → HoldParts t (live_at r) all → live_total s + size_of_parts (all n) ≡ live_total r) → shape s ≡ shape r → dropped ≡ size_if (value_of (values_in t r) n)
-    → (values_in u s ≡ slice_set (values_in t r) n None) × IsConsistent u s lengths segments (bytes - dropped)
-erased t u r s lengths segments bytes dropped n i entries entries_now names below are parts total same is =
+    → ((all : Parts) → HoldParts t (live_at r) all → live_total s + size_of_parts (all n) ≡ live_total r) → shape s ≡ shape r
+    → (values_in u s ≡ slice_set (values_in t r) n None) × IsConsistent u s lengths segments
+erased t u r s lengths segments n i entries entries_now names below are parts total same =
     let all = all_parts (values_in t r) [] in
-    let gone = size_gone t r s n entries below total i.parts in let counted = i.counted in let within = i.within in
-    consistent_set t u r s lengths lengths segments bytes (bytes - dropped) n None i entries entries_now names below are
+    let gone = size_gone t r s n entries below total i.parts in let within = i.within in
+    consistent_set t u r s lengths lengths segments n None i entries entries_now names below are
     (parts all (all_parts (slice_set (values_in t r) n None) []) i.parts (part_here t r n None entries below) (λ e far. part_set t r n e None entries below far))
     tt refl (lengths_dropped (values_in t r) lengths n (let count = count_is t r entries in omega (arith, count, below)) i.lens)
-    (segments_kept r s same) (inr same) (omega (arith, counted, gone, is)) (omega (arith, gone)) (omega (arith, gone, within))
-
-pub overflow_sub-self : goal.overflow_sub-self
-overflow_sub-self c =
-    let f = c.self.inside in let i = c.self.invariant in
-    let below : c.args.name < f.tables.names = (let test = c.if-name-names.false in let is = c.names.ensures in omega (arith, test, is)) in
-    let gone = size_gone f.tables f.region c.drop_value.new.region c.args.name i.entries below c.drop_value.ensures.live_total i.parts in
-    let counted = i.counted in let size = c.size_of-dropped.ensures.size ∙ ap (λ (s : StoreState). size_if (value_of (values_of s) c.args.name)) (sym c.self.view_is) in
-    omega (arith, gone, counted, size)
+    (segments_kept r s same) (inr same) (omega (arith, gone)) (omega (arith, gone, within))
 
 pub invariant_of-self : goal.invariant_of-self
 invariant_of-self c =
     let f = c.self.inside in let e = c.drop_value.ensures in
     let below : c.args.name < f.tables.names = (let test = c.if-name-names.false in let is = c.names.ensures in omega (arith, test, is)) in
-    (erased f.tables c.drop_value.new.tables f.region c.drop_value.new.region f.lengths.items f.segments f.live c.size_of-dropped.result c.args.name c.self.invariant c.self.invariant.entries e.entries
-    e.names below e.chains e.parts e.live_total e.shape (c.size_of-dropped.ensures.size ∙ ap (λ (s : StoreState). size_if (value_of (values_of s) c.args.name)) (sym c.self.view_is))).1
+    (erased f.tables c.drop_value.new.tables f.region c.drop_value.new.region f.lengths.items f.segments c.args.name c.self.invariant c.self.invariant.entries e.entries
+    e.names below e.chains e.parts e.live_total e.shape).1
 
 pub returns-clause-values : goal.returns-clause-values
 returns-clause-values c =
     let f = c.self.inside in let e = c.drop_value.ensures in
     let below : c.args.name < f.tables.names = (let test = c.if-name-names.false in let is = c.names.ensures in omega (arith, test, is)) in
-    (erased f.tables c.drop_value.new.tables f.region c.drop_value.new.region f.lengths.items f.segments f.live c.size_of-dropped.result c.args.name c.self.invariant c.self.invariant.entries e.entries
-    e.names below e.chains e.parts e.live_total e.shape (c.size_of-dropped.ensures.size ∙ ap (λ (s : StoreState). size_if (value_of (values_of s) c.args.name)) (sym c.self.view_is))).0
+    (erased f.tables c.drop_value.new.tables f.region c.drop_value.new.region f.lengths.items f.segments c.args.name c.self.invariant c.self.invariant.entries e.entries
+    e.names below e.chains e.parts e.live_total e.shape).0
     ∙ ap (λ (s : StoreState). slice_set (values_of s) c.args.name None) c.self.view_is
 
 pub returns-in_default-clause-values : goal.returns-in_default-clause-values

@@ -14,7 +14,7 @@ new-requires c =
     let f = c.self.inside in let t = f.tables in let r = f.region in let n = c.args.name in let i = c.self.invariant in
     let below : n < t.names = (let test = c.if-name-names.false in let is = c.names.ensures in omega (arith, test, is)) in
     let some = sym c.first.ensures.place ∙ c.in_ok-place.was in
-    let leads = leads_from t r i.entries f.lengths.items f.segments f.live n c.in_ok-place.place i below some in
+    let leads = leads_from t r i.entries f.lengths.items f.segments n c.in_ok-place.place i below some in
     let len = c.index.ensures ∙ get_or_default f.lengths.items n c.index.result.now 0 (let many = i.many in omega (arith, many, below)) in
     subst (λ k. Leads (live_at r) (Some c.in_ok-place.place) k) (sym len) (subst (λ o. Leads (live_at r) o (slice_index_or f.lengths.items n 0)) some leads)
 

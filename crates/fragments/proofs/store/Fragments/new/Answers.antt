@@ -17,7 +17,7 @@ abbrev new_tables : ℕ → TableState
 new_tables names = record { names = names; grows = 0; firsts = replicate (names + 1) None; chains = replicate (names + 1) [] }
 
 fresh : (t : TableState) (r : RegionState) (lengths : List ℕ) (names segments : ℕ) → t ≡ new_tables names → r ≡ new_region segments → lengths ≡ replicate names 0 → AreEntries t → segments ≤ 2048
-    → (values_in t r ≡ replicate names None) × IsConsistent t r lengths 0 0
+    → (values_in t r ≡ replicate names None) × IsConsistent t r lengths 0
 fresh t r lengths names segments is there zeros entries few =
     let nothing : (p : Place) → live_at r p ≡ None = λ p. ap (λ (x : RegionState). live_at x p) there ∙ ap (λ o. item_if_live (standing_in o p.at)) (no_segment segments p.segment) in
     let n_is : t.names ≡ names = ap (λ (x : TableState). x.names) is in

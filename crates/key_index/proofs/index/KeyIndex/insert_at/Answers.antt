@@ -89,11 +89,11 @@ returns-then-len-eq0-clause-index g c =
     let key_of = g.K.Keys.key_of c.args.keys.now in
     let entry = c.entry_of-entry.result in
     let P : Entry → Type 0 = λ e. has_row e.row in
-    let Q : Entry → Type 0 = λ e. AreBytes (key_of e.row) in
+    let Q : Entry → Type 0 = λ e. AreBytes (key_of e.row).bytes in
     index_told has_row key_of c.self.inside.room c.begin.new.blocks.contents (subst (AreEntriesOf has_row key_of) (sym c.begin.ensures.entries) (
     record {
       readable = All-cons P entry [] (subst has_row (sym c.entry_of-entry.ensures.row) c.requires.readable) (All-nil P);
-      bytes = All-cons Q entry [] (subst (λ r. AreBytes (key_of r)) (sym c.entry_of-entry.ensures.row) c.entry_of-entry.ensures.bytes) (All-nil Q);
+      bytes = All-cons Q entry [] (subst (λ r. AreBytes (key_of r).bytes) (sym c.entry_of-entry.ensures.row) c.entry_of-entry.ensures.bytes) (All-nil Q);
       leads = All-cons (IsLed key_of) entry [] c.entry_of-entry.ensures.led (All-nil (IsLed key_of));
       rising = (tt, tt);
     }
@@ -123,7 +123,7 @@ returns-clause-index g c =
     let at = c.make_room-place.result.at in
     let entry = c.entry_of-entry.result in
     let P : Entry → Type 0 = λ e. has_row e.row in
-    let Q : Entry → Type 0 = λ e. AreBytes (key_of e.row) in
+    let Q : Entry → Type 0 = λ e. AreBytes (key_of e.row).bytes in
     let R : Entry → Type 0 = IsLed key_of in
     let s = stands_at key_of key c.self.inside.room c.self.inside.blocks.contents c.args.self.now c.args.place c.self.view_is c.requires.place in
     let parts = stand_still key_of key c.self.inside.blocks.contents blocks c.args.place.block c.args.place.at k at s (ap rows_of c.make_room-place.ensures.entries ∙ c.sharpen.ensures.rows)
@@ -134,8 +134,8 @@ returns-clause-index g c =
           (all_same_rows has_row (entries_of c.sharpen.new.self.contents) (entries_of c.self.inside.blocks.contents) c.sharpen.ensures.rows told.readable))
           (subst has_row (sym c.entry_of-entry.ensures.row) c.requires.readable));
       bytes = subst (All Q) (sym c.put.ensures.entries) (all_put Q blocks k at entry (subst (All Q) (sym c.make_room-place.ensures.entries)
-          (all_same_rows (λ r. AreBytes (key_of r)) (entries_of c.sharpen.new.self.contents) (entries_of c.self.inside.blocks.contents) c.sharpen.ensures.rows told.bytes))
-          (subst (λ r. AreBytes (key_of r)) (sym c.entry_of-entry.ensures.row) c.entry_of-entry.ensures.bytes));
+          (all_same_rows (λ r. AreBytes (key_of r).bytes) (entries_of c.sharpen.new.self.contents) (entries_of c.self.inside.blocks.contents) c.sharpen.ensures.rows told.bytes))
+          (subst (λ r. AreBytes (key_of r).bytes) (sym c.entry_of-entry.ensures.row) c.entry_of-entry.ensures.bytes));
       leads = subst (All R) (sym c.put.ensures.entries) (all_put R blocks k at entry (subst (All R) (sym c.make_room-place.ensures.entries) c.sharpen.ensures.leads) c.entry_of-entry.ensures.led);
       rising = subst (AreRising key_of) (sym (ap rows_of c.put.ensures.entries ∙ rows_put blocks k at entry ∙ ap (λ (r : ℕ). front blocks k at ++ r ∷ back blocks k at) c.entry_of-entry.ensures.row))
           (rising_insert key_of (front blocks k at) (back blocks k at) c.args.row

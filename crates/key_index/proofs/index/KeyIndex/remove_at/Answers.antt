@@ -1,10 +1,10 @@
-use Rattle.std.proofs.Common.{◌≡◌, ℕ, ◌∷◌, ◌++◌, refl, sym, ap, subst, ◌∙◌, arith}
+use Rattle.std.proofs.Common.{ℕ, ◌∷◌, ◌++◌, refl, sym, ap, subst, ◌∙◌, arith}
 use Rattle.std.specs.Prelude.{All}
 use Rattle.key_index.specs.declared.entries.Entry.{Entry}
 use Rattle.key_index.specs.Order.{AreRising}
 use Rattle.key_index.specs.Lead.{rows_of, AreBytes, IsLed}
 use Rattle.key_index.specs.Index.{Index, IsOrdered}
-use Rattle.key_index.specs.inside.Blocks.{entries_of, front}
+use Rattle.key_index.specs.inside.Blocks.{front}
 use Rattle.key_index.proofs.RowOrder.{rising_remove}
 use Rattle.key_index.proofs.Leads.{each_from_all, all_from_each}
 use Rattle.key_index.proofs.Changed.{all_taken, rows_taken, cut_taken}
@@ -33,14 +33,14 @@ returns-clause-ordered c = λ key_of is.
     let blocks = c.self.inside.blocks.contents in
     let k = c.args.found.place.block in
     let at = c.args.found.place.at in
-    let Q : Entry → Type 0 = λ e. AreBytes (key_of e.row) in
+    let Q : Entry → Type 0 = λ e. AreBytes (key_of e.row).bytes in
     let blocks_after = c.take_out-ended.new.blocks.contents in
     let now : IsOrdered key_of (meant c.self.inside.room blocks_after) = record {
       beside = refl;
       rising = subst (AreRising key_of) (sym (ap rows_of c.take_out-ended.ensures.entries ∙ rows_taken blocks k at))
           (rising_remove key_of (front blocks k at) (rest blocks k at) entry.0.row (subst (AreRising key_of) (cut_taken blocks k at entry.0 entry.1) old.rising));
-      bytes = each_from_all (λ row. AreBytes (key_of row)) _
-          (subst (All Q) (sym c.take_out-ended.ensures.entries) (all_taken Q blocks k at (all_from_each (λ row. AreBytes (key_of row)) _ old.bytes)));
+      bytes = each_from_all (λ row. AreBytes (key_of row).bytes) _
+          (subst (All Q) (sym c.take_out-ended.ensures.entries) (all_taken Q blocks k at (all_from_each (λ row. AreBytes (key_of row).bytes) _ old.bytes)));
       kept = subst (All (IsLed key_of)) (sym c.take_out-ended.ensures.entries) (all_taken (IsLed key_of) blocks k at old.kept);
     } in
     now

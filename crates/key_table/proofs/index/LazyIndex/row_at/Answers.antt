@@ -11,5 +11,5 @@ returns-clause-there g c =
     let found = c.of.result in
     record {
       has = subst (λ n. 1 ≤ times n (rows_in c.args.self.now)) (sym c.of.ensures.row) c.requires.row;
-      tag = tag_there key_of c.args.self.now.table found c.requires.lazy.keyed.tagged (c.of.ensures.tag ∙ (c.new.ensures ∙ ap tag_of (c.key.ensures ∙ ap key_of (sym c.of.ensures.row))));
+      tag = tag_there key_of c.args.self.now.table found c.requires.lazy.keyed.tagged (c.of.ensures.tag ∙ (c.new.ensures ∙ ap tag_of (c.key-key.ensures.key ∙ ap key_of (sym c.of.ensures.row))));
     }

@@ -5,8 +5,8 @@ use Rattle.key_table.specs.Lazy.{IsLazyOf}
 use Rattle.key_table.proofs.Both.{order_of}
 use Rattle.key_table.proofs.index.LazyIndex.rows_from.Goals as goal
 
-pub rows_from-requires : goal.rows_from-requires
-rows_from-requires g c =
+pub rows_from-requires-clause-index : goal.rows_from-requires-clause-index
+rows_from-requires-clause-index g c =
     let has_row = g.K.Keys.has_row c.args.keys.now in
     let key_of = g.K.Keys.key_of c.args.keys.now in
     let lazy = subst (IsLazyOf has_row key_of) (sym c.self.view_is) c.requires.lazy in

@@ -6,11 +6,11 @@ use Rattle.key_table.proofs.Listed.{listed_at}
 use Rattle.key_table.proofs.Both.{contains_times, order_of, times-append}
 use Rattle.key_table.proofs.index.LazyIndex.standing.Goals as goal
 
-pub key-requires : goal.key-requires
-key-requires g c = c.requires.lazy.readable c.args.found.row c.requires.there.has
+pub key-key-requires : goal.key-key-requires
+key-key-requires g c = c.requires.lazy.readable c.args.found.row c.requires.there.has
 
-pub search-requires : goal.search-requires
-search-requires g c =
+pub search-requires-clause-index : goal.search-requires-clause-index
+search-requires-clause-index g c =
     let has_row = g.K.Keys.has_row c.args.keys.now in
     let key_of = g.K.Keys.key_of c.args.keys.now in
     let lazy = subst (IsLazyOf has_row key_of) (sym c.self.view_is) c.requires.lazy in
@@ -25,7 +25,7 @@ unreachable-requires g c =
     let all = times-append n i.order.rows i.late.numbers in
     let none : times n i.late.numbers ≡ 0 = c.if-has.ensures.other refl in
     let there = listed_at n i.order.rows (omega (arith, here, all, none)) in
-    c.in_default.ensures.1 there.at 0 there.inside (ap key_of there.is ∙ sym c.key.ensures)
+    c.in_default.ensures.1 there.at 0 there.inside (ap key_of there.is ∙ sym c.key-key.ensures.key)
 
 pub returns-clause-standing : goal.returns-clause-standing
 returns-clause-standing g c =
@@ -35,7 +35,7 @@ returns-clause-standing g c =
     let told = c.in-Ok.ensures in
     let there : 1 ≤ times at.row (i.order.rows ++ i.late.numbers) = (let h = contains_times i.order.rows at.row told.1 in let t = times-append at.row i.order.rows i.late.numbers in omega (arith, h, t)) in
     let same : at.row ≡ c.args.found.row =
-    c.requires.lazy.apart at.row c.args.found.row (subst (λ (v : Lazy). Has v at.row) c.self.view_is there) c.requires.there.has (told.2 ∙ c.key.ensures) in
+    c.requires.lazy.apart at.row c.args.found.row (subst (λ (v : Lazy). Has v at.row) c.self.view_is there) c.requires.there.has (told.2 ∙ c.key-key.ensures.key) in
     record {
       there = c.requires.there;
       place = subst (λ (v : Lazy). IsRowAt v.order at.place c.args.found.row) c.self.view_is (subst (λ n. IsRowAt i.order at.place n) same told.0);

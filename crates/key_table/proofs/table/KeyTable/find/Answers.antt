@@ -1,5 +1,6 @@
 use Rattle.std.proofs.Common.{◌≡◌, ◌≢◌, sym, subst}
 use Rattle.std.specs.Prelude.{All, Contains}
+use Rattle.rows.specs.Key.{key_shown}
 use Rattle.key_table.specs.declared.entries.RowAt.{RowAt}
 use Rattle.key_table.specs.Hash.{tag_of}
 use Rattle.key_table.specs.Table.{Table, IsTagged}
@@ -27,5 +28,5 @@ returns-in-Some g c =
 pub returns-in-None : goal.returns-in-None
 returns-in-None g c =
     let key_of = g.K.Keys.key_of c.args.keys.now in
-    let none = all_held (λ (s : RowAt). key_of s.row ≢ c.args.key.now) c.self.inside.slots.items c.in-None.ensures in
-    (c.new-spot.ensures, listed_all (λ n. key_of n ≢ c.args.key.now) c.args.self.now.kept (subst (λ (t : Table). All (λ (s : RowAt). key_of s.row ≢ c.args.key.now) t.kept) c.self.view_is none))
+    let none = all_held (λ (s : RowAt). key_of s.row ≢ key_shown c.args.key.now) c.self.inside.slots.items c.in-None.ensures in
+    (c.new-spot.ensures, listed_all (λ n. key_of n ≢ key_shown c.args.key.now) c.args.self.now.kept (subst (λ (t : Table). All (λ (s : RowAt). key_of s.row ≢ key_shown c.args.key.now) t.kept) c.self.view_is none))

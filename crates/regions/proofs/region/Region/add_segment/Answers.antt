@@ -6,10 +6,11 @@ use Rattle.std.proofs.Math.Seq.{map-set_same}
 use Rattle.regions.specs.Segments.{RegionState, with_segment, fresh}
 use Rattle.regions.specs.inside.Consistent.{states}
 use Rattle.regions.specs.Shapes.{slots_of, slot_of, slot_at, is_held, is_free, free_count, held_count, IsLeastUnused}
-use Rattle.regions.specs.Counts.{used_counts, live_counts, used_in, live_in}
+use Rattle.regions.specs.Counts.{used_counts, live_counts, used_in, live_in, live_in_each}
 use Rattle.regions.specs.Contents.{standing_in, standing_at}
 use Rattle.regions.proofs.Regions.{Fields, added-in, keeps-set, nothing-stands}
 use Rattle.regions.proofs.Members.{counted-change, says-held, held-long, unheld-at}
+use Rattle.regions.proofs.Totals.{total-same}
 use Rattle.regions.proofs.region.Region.add_segment.Goals as goal
 
 -- the number is one of a place without a segment
@@ -20,7 +21,7 @@ record Known (c : goal.After-insert-2) : Type 0 where
 
 known : (c : goal.After-insert-2) → Known c
 known c =
-    let i = c.self.inside in let slots = i.slots.items in let n = c.least_absent_from-number.result in let v = c.self.invariant in let f = c.least_absent_from-number.ensures in
+    let i = c.self.inside in let slots = i.slots.items in let n = c.least_absent_from-number.result in let v = c.self.invariant.0 in let f = c.least_absent_from-number.ensures in
     let long = held-long slots i.held i.free v.held v.free in record {
       inside = omega (arith, long, f.0);
       unheld = sym (says-held slots i.held i.free v.held v.free n) ∙ f.1;
@@ -33,14 +34,18 @@ before c = let i = c.self.inside in record { most = i.most; groups = states i.gr
 pub invariant_of-self : goal.invariant_of-self
 invariant_of-self c =
     let i = c.self.inside in let slots = i.slots.items in let n = c.least_absent_from-number.result in let k = known c in
-    subst (λ h. Fields i.most i.groups.items h c.insert-2.new.self (slice_set slots n (Some c.new.result))) (sym c.insert.ensures)
-    (subst (λ f. Fields i.most i.groups.items (slice_set i.held n true) f (slice_set slots n (Some c.new.result))) (sym c.insert-2.ensures)
-    (subst (λ h. Fields i.most i.groups.items (slice_set i.held n true) (slice_set i.free n true) (slice_set slots n (Some h))) (sym c.new.ensures)
-    (added-in i.most i.groups.items i.held i.free slots c.self.invariant n (fresh c.args.piece) k.inside k.unheld refl refl)))
+    let same : live_in_each (slice_set slots n (Some c.new.result)) ≡ live_in_each slots =
+    ap (λ h. live_in_each (slice_set slots n (Some h))) c.new.ensures ∙ map-set_same live_in slots n (Some (fresh c.args.piece)) None (sym (ap live_in k.none)) in (
+      subst (λ h. Fields i.most i.groups.items h c.insert-2.new.self (slice_set slots n (Some c.new.result))) (sym c.insert.ensures)
+          (subst (λ f. Fields i.most i.groups.items (slice_set i.held n true) f (slice_set slots n (Some c.new.result))) (sym c.insert-2.ensures)
+          (subst (λ h. Fields i.most i.groups.items (slice_set i.held n true) (slice_set i.free n true) (slice_set slots n (Some h))) (sym c.new.ensures)
+          (added-in i.most i.groups.items i.held i.free slots c.self.invariant.0 n (fresh c.args.piece) k.inside k.unheld refl refl))),
+      total-same i.live (live_in_each slots) _ c.self.invariant.1 same,
+    )
 
 pub returns-clause-added : goal.returns-clause-added
 returns-clause-added c =
-    let i = c.self.inside in let slots = i.slots.items in let n = c.least_absent_from-number.result in let v = c.self.invariant in let k = known c in
+    let i = c.self.inside in let slots = i.slots.items in let n = c.least_absent_from-number.result in let v = c.self.invariant.0 in let k = known c in
     let at = says-held slots i.held i.free v.held v.free in let long = length-map slots (λ s. option_map slot_of s) in
     let least : IsLeastUnused (before c) n = (omega (arith, k.inside, long, v.long), (λ h. (let clash : false ≡ true = sym k.unheld ∙ h in cc)), λ m low. sym (at m) ∙ c.least_absent_from-number.ensures.2 m low) in
     (n, subst (λ q. IsLeastUnused q n) c.self.view_is least, ap (λ h. with_segment (before c) n (Some h)) c.new.ensures ∙ ap (λ q. with_segment q n (Some (fresh c.args.piece))) c.self.view_is)

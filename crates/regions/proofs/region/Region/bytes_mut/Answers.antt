@@ -4,12 +4,13 @@ use Rattle.std.specs.List.{sum}
 use Rattle.regions.specs.Segments.{RegionState, with_segment}
 use Rattle.regions.specs.inside.Consistent.{states}
 use Rattle.regions.specs.Shapes.{shape}
-use Rattle.regions.specs.Counts.{used_counts, live_counts}
+use Rattle.regions.specs.Counts.{used_counts, live_counts, live_in_each}
 use Rattle.regions.specs.Contents.{standing_in, standing_at, item_if_live, live_at, rewritten, with_bytes, ChangesIn, ChangesAt}
 use Rattle.regions.specs.Lends.{segment_with, with_content}
 use Rattle.regions.proofs.Updates.{slots-same, used-same, live-same}
 use Rattle.regions.proofs.Written.{whole-content}
 use Rattle.regions.proofs.Regions.{found-there, live-within, kept-in, changes-set}
+use Rattle.regions.proofs.Totals.{total-same}
 use Rattle.regions.proofs.region.Region.bytes_mut.Goals as goal
 
 pub invariant_of-self-lent : goal.invariant_of-self-lent
@@ -17,8 +18,10 @@ invariant_of-self-lent c ws =
     let i = c.self.inside in let slots = i.slots.items in let n = c.args.place.segment in let at = c.args.place.at in let e = c.content_mut.ensures in let h = c.segment_mut.result.now in
     let alive : IsSome (item_if_live (standing_in (get_or slots n None) at)) = subst (λ r. IsSome (live_at r c.args.place)) (sym c.self.view_is) c.requires in
     let inside = live-within slots n at alive in
-    let is = found-there slots n c.index_mut.result.now h inside c.index_mut.ensures.value c.segment_mut.ensures.value in
-    kept-in i.most i.groups.items i.held i.free slots c.self.invariant n h (segment_with at ws h) is (e.slot ws) refl (e.live ws)
+    let is = found-there slots n c.index_mut.result.now h inside c.index_mut.ensures.value c.segment_mut.ensures.value in (
+      kept-in i.most i.groups.items i.held i.free slots c.self.invariant.0 n h (segment_with at ws h) is (e.slot ws) refl (e.live ws),
+      total-same i.live (live_in_each slots) _ c.self.invariant.1 (live-same slots n h (segment_with at ws h) is (e.live ws)),
+    )
 
 pub returns : goal.returns
 unfolding with_content

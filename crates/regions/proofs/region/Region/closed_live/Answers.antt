@@ -16,13 +16,13 @@ index-requires c = let i = c.self.inside in let w = group-in i.most i.groups.ite
 
 pub returns-clause-length : goal.returns-clause-length
 returns-clause-length c =
-    let i = c.self.inside in let slots = i.slots.items in let g = c.args.group in let v = c.self.invariant in let w = group-in i.most i.groups.items slots c.args.self.now g c.self.view_is c.requires in
+    let i = c.self.inside in let slots = i.slots.items in let g = c.args.group in let v = c.self.invariant.0 in let w = group-in i.most i.groups.items slots c.args.self.now g c.self.view_is c.requires in
     let there = group-there i.groups.items g c.index.result.now w c.index.ensures in
     ap length c.closed_live.ensures ∙ ap (λ (f : GroupFields). length f.table) (sym there) ∙ v.tabled g w ∙ ap (λ (q : RegionState). q.most) c.self.view_is
 
 pub returns-clause-closed : goal.returns-clause-closed
 returns-clause-closed c n was =
-    let i = c.self.inside in let slots = i.slots.items in let g = c.args.group in let v = c.self.invariant in let w = group-in i.most i.groups.items slots c.args.self.now g c.self.view_is c.requires in
+    let i = c.self.inside in let slots = i.slots.items in let g = c.args.group in let v = c.self.invariant.0 in let w = group-in i.most i.groups.items slots c.args.self.now g c.self.view_is c.requires in
     let there = group-there i.groups.items g c.index.result.now w c.index.ensures in
     let shut : is_closed_in (states i.groups.items) (slots_of slots) g n ≡ true = subst (λ q. IsClosedIn q g n) (sym c.self.view_is) was in
     let inside = begun-within i.most i.groups.items i.held i.free slots v n (ap is_some (closed-in-parts (states i.groups.items) (slots_of slots) g n shut).0) in
@@ -35,7 +35,7 @@ returns-clause-closed c n was =
 
 pub returns-clause-others : goal.returns-clause-others
 returns-clause-others c n few other =
-    let i = c.self.inside in let slots = i.slots.items in let g = c.args.group in let v = c.self.invariant in let w = group-in i.most i.groups.items slots c.args.self.now g c.self.view_is c.requires in
+    let i = c.self.inside in let slots = i.slots.items in let g = c.args.group in let v = c.self.invariant.0 in let w = group-in i.most i.groups.items slots c.args.self.now g c.self.view_is c.requires in
     let there = group-there i.groups.items g c.index.result.now w c.index.ensures in
     let low : n < i.most = subst (λ (q : RegionState). n < q.most) (sym c.self.view_is) few in
     ap (λ t. slice_index t n) (c.closed_live.ensures ∙ ap (λ (f : GroupFields). f.table) (sym there)) ∙ v.table g n w low

@@ -10,6 +10,7 @@ use Rattle.regions.specs.inside.Consistent.{states, IsConsistent}
 use Rattle.regions.proofs.Tables as tables
 use Rattle.regions.proofs.Updates.{slots-same, used-same, live-same}
 use Rattle.regions.proofs.Regions.{live-within, set-set, kept-in, changes-set, if-some}
+use Rattle.regions.proofs.Totals.{total-same}
 use Rattle.regions.proofs.region.Region.copy.Goals as goal
 
 abbrev before : goal.Joined-index_mut-target → RegionState
@@ -36,9 +37,11 @@ known c =
 
 pub invariant_of-self : goal.invariant_of-self
 invariant_of-self c =
-    let i = c.self.inside in let k = known c in let e = c.copy_into.ensures in
-    subst (λ s. IsConsistent i.most i.groups.items i.held i.free (slots_of s) (used_in_each s) (live_in_each s)) (sym k.left-as)
-    (kept-in i.most i.groups.items i.held i.free i.slots.items c.self.invariant c.args.to.segment c.segment_mut.result.now c.copy_into.new.target k.is e.slot e.used e.live)
+    let i = c.self.inside in let k = known c in let e = c.copy_into.ensures in (
+      subst (λ s. IsConsistent i.most i.groups.items i.held i.free (slots_of s) (used_in_each s) (live_in_each s)) (sym k.left-as)
+          (kept-in i.most i.groups.items i.held i.free i.slots.items c.self.invariant.0 c.args.to.segment c.segment_mut.result.now c.copy_into.new.target k.is e.slot e.used e.live),
+      total-same i.live (live_in_each i.slots.items) _ c.self.invariant.1 (ap live_in_each k.left-as ∙ live-same i.slots.items c.args.to.segment c.segment_mut.result.now c.copy_into.new.target k.is e.live),
+    )
 
 pub returns-clause-used : goal.returns-clause-used
 returns-clause-used c =

@@ -54,12 +54,12 @@ returns-clause-store c = λ bare. stands-itself bare (live_at c.args.self.now)
 
 pub returns-clause-groups : goal.returns-clause-groups
 returns-clause-groups c =
-    let i = c.self.inside in let v = c.self.invariant in let l = length-map i.groups.items (λ (f : GroupFields). f.state) in let some = v.some_group in let few = v.few_groups in
+    let i = c.self.inside in let v = c.self.invariant.0 in let l = length-map i.groups.items (λ (f : GroupFields). f.state) in let some = v.some_group in let few = v.few_groups in
     subst (λ (q : RegionState). (1 ≤ length q.groups) × (length q.groups ≤ 8)) c.self.view_is (omega (arith, l, some), omega (arith, l, few))
 
 pub returns-clause-grouped : goal.returns-clause-grouped
 returns-clause-grouped c = λ p item live.
-    let i = c.self.inside in let slots = i.slots.items in let v = c.self.invariant in let n = p.segment in
+    let i = c.self.inside in let slots = i.slots.items in let v = c.self.invariant.0 in let n = p.segment in
     let was : item_if_live (standing_in (get_or slots n None) p.at) ≡ Some item = subst (λ q. live_at q p ≡ Some item) (sym c.self.view_is) live in
     let t = live-there (get_or slots n None) p.at item was in let h = t.0 in
     let stands : IsSome (standing_in (Some h) p.at) = subst (λ s. IsSome (standing_in s p.at)) t.1 (live-stands (standing_in (get_or slots n None) p.at) (ap is_some was)) in
@@ -73,7 +73,7 @@ returns-clause-grouped c = λ p item live.
 
 pub returns-clause-stands : goal.returns-clause-stands
 returns-clause-stands c = λ p stands.
-    let i = c.self.inside in let slots = i.slots.items in let v = c.self.invariant in let n = p.segment in
+    let i = c.self.inside in let slots = i.slots.items in let v = c.self.invariant.0 in let n = p.segment in
     let was : IsSome (standing_in (get_or slots n None) p.at) = subst (λ q. IsSome (standing_at q p)) (sym c.self.view_is) stands in
     let t = segment-there (get_or slots n None) (standing-held (get_or slots n None) p.at was) in let h = t.0 in
     let g = group-of-standing i.most i.groups.items i.held i.free slots v n p.at h t.1 (subst (λ s. IsSome (standing_in s p.at)) t.1 was) in
@@ -86,13 +86,13 @@ returns-clause-stands c = λ p stands.
 pub returns-clause-closed : goal.returns-clause-closed
 returns-clause-closed c =
     let i = c.self.inside in
-    subst (λ (q : RegionState). (n : ℕ) → IsClosed q n → (g : ℕ) × HasGroup q g × IsClosedIn q g n) c.self.view_is (closed-in-one i.most i.groups.items i.held i.free i.slots.items c.self.invariant)
+    subst (λ (q : RegionState). (n : ℕ) → IsClosed q n → (g : ℕ) × HasGroup q g × IsClosedIn q g n) c.self.view_is (closed-in-one i.most i.groups.items i.held i.free i.slots.items c.self.invariant.0)
 
 pub returns-clause-of : goal.returns-clause-of
-returns-clause-of c = λ g n now. subst (λ q. group_of q n ≡ Some g) c.self.view_is ((c.self.invariant).active g n (subst (λ q. active_of q g ≡ Some n) (sym c.self.view_is) now))
+returns-clause-of c = λ g n now. subst (λ q. group_of q n ≡ Some g) c.self.view_is ((c.self.invariant.0).active g n (subst (λ q. active_of q g ≡ Some n) (sym c.self.view_is) now))
 
 pub returns-clause-active : goal.returns-clause-active
 returns-clause-active c = λ g n shut.
     let i = c.self.inside in let slots = i.slots.items in
     let parts = closed-in-parts (states i.groups.items) (slots_of slots) g n (subst (λ q. IsClosedIn q g n) (sym c.self.view_is) shut) in
-    subst (λ q. IsSome (active_of q g)) c.self.view_is ((c.self.invariant).begins g n parts.0)
+    subst (λ q. IsSome (active_of q g)) c.self.view_is ((c.self.invariant.0).begins g n parts.0)

@@ -16,6 +16,7 @@ use Rattle.regions.proofs.Consistency.{of-within, active-of}
 use Rattle.regions.proofs.Regions.{Fields, held-there, begun-within, group-is, group-known, group-there, frees-in, live-unused, pieces-same, held-same, slot-there, slot-elsewhere, left-same}
 use Rattle.regions.proofs.Members.{counted-change}
 use Rattle.regions.proofs.Sums.{sum-cleared}
+use Rattle.regions.proofs.Totals.{total-same}
 use Rattle.regions.proofs.region.Region.free_closed.Goals as goal
 
 pub group_begun-group-requires : goal.group_begun-group-requires
@@ -24,7 +25,7 @@ group_begun-group-requires c =
     let closed : is_closed (states i.groups.items) (slots_of slots) n ≡ true = subst (λ q. IsClosed q n) (sym c.self.view_is) c.requires.closed in
     let part = closed-parts (states i.groups.items) (slots_of slots) n closed in
     let begun = of-begun (slot_at (slots_of slots) n) part.0 part.1 in
-    let inside = begun-within i.most i.groups.items i.held i.free slots c.self.invariant n begun in
+    let inside = begun-within i.most i.groups.items i.held i.free slots c.self.invariant.0 n begun in
     let at = tables.slot-is slots n c.index.result.now None inside c.index.ensures in
     ap (λ s. is_begun (option_map slot_of s)) (sym at) ∙ ap is_begun (sym (slot-is slots n)) ∙ begun
 
@@ -34,11 +35,11 @@ index_mut-requires-2 c =
     let closed : is_closed (states i.groups.items) (slots_of slots) n ≡ true = subst (λ q. IsClosed q n) (sym c.self.view_is) c.requires.closed in
     let part = closed-parts (states i.groups.items) (slots_of slots) n closed in
     let begun = of-begun (slot_at (slots_of slots) n) part.0 part.1 in
-    let inside = begun-within i.most i.groups.items i.held i.free slots c.self.invariant n begun in
+    let inside = begun-within i.most i.groups.items i.held i.free slots c.self.invariant.0 n begun in
     let at = tables.slot-is slots n c.index.result.now None inside c.index.ensures in
     let of : group_in (slot_at (slots_of slots) n) ≡ Some c.group_begun-group.result = ap group_in (slot-is slots n) ∙ ap (λ s. group_in (option_map slot_of s)) at ∙ c.group_begun-group.ensures in
     let g = c.group_begun-group.result in
-    let w = of-within i.most i.groups.items i.held i.free (slots_of slots) (used_in_each slots) (live_in_each slots) c.self.invariant g n of in
+    let w = of-within i.most i.groups.items i.held i.free (slots_of slots) (used_in_each slots) (live_in_each slots) c.self.invariant.0 g n of in
     search rules
 
 pub unclose-requires-clause-table : goal.unclose-requires-clause-table
@@ -47,14 +48,14 @@ unclose-requires-clause-table c =
     let closed : is_closed (states i.groups.items) (slots_of slots) n ≡ true = subst (λ q. IsClosed q n) (sym c.self.view_is) c.requires.closed in
     let part = closed-parts (states i.groups.items) (slots_of slots) n closed in
     let begun = of-begun (slot_at (slots_of slots) n) part.0 part.1 in
-    let inside = begun-within i.most i.groups.items i.held i.free slots c.self.invariant n begun in
+    let inside = begun-within i.most i.groups.items i.held i.free slots c.self.invariant.0 n begun in
     let at = tables.slot-is slots n c.index.result.now None inside c.index.ensures in
     let of : group_in (slot_at (slots_of slots) n) ≡ Some c.group_begun-group.result = ap group_in (slot-is slots n) ∙ ap (λ s. group_in (option_map slot_of s)) at ∙ c.group_begun-group.ensures in
     let g = c.group_begun-group.result in
-    let w = of-within i.most i.groups.items i.held i.free (slots_of slots) (used_in_each slots) (live_in_each slots) c.self.invariant g n of in
+    let w = of-within i.most i.groups.items i.held i.free (slots_of slots) (used_in_each slots) (live_in_each slots) c.self.invariant.0 g n of in
     let f = c.index_mut-2.result.now in let there = group-there i.groups.items g f w c.index_mut-2.ensures.value in
-    let long : length f.table ≡ i.most = ap (λ (x : GroupFields). length x.table) (sym there) ∙ (c.self.invariant).tabled g w in
-    let l = length-map slots (λ s. option_map slot_of s) in let k = (c.self.invariant).long in omega (arith, inside, l, k, long)
+    let long : length f.table ≡ i.most = ap (λ (x : GroupFields). length x.table) (sym there) ∙ (c.self.invariant.0).tabled g w in
+    let l = length-map slots (λ s. option_map slot_of s) in let k = (c.self.invariant.0).long in omega (arith, inside, l, k, long)
 
 -- the segment was closed, none of its bytes is live, and it is emptied
 record Known (c : goal.After-self-2-1) : Type 0 where
@@ -75,9 +76,9 @@ known c =
     let closed : is_closed (states i.groups.items) (slots_of slots) n ≡ true = subst (λ q. IsClosed q n) (sym c.self.view_is) c.requires.closed in
     let part = closed-parts (states i.groups.items) (slots_of slots) n closed in
     let begun = of-begun (slot_at (slots_of slots) n) part.0 part.1 in
-    let there = held-there i.most i.groups.items i.held i.free slots c.self.invariant n (begun-held (slot_at (slots_of slots) n) begun) in
-    let inside = begun-within i.most i.groups.items i.held i.free slots c.self.invariant n begun in
-    let of : (there.0).group ≡ Some part.0 = sym (group-is i.most i.groups.items i.held i.free slots c.self.invariant n there.0 there.0 there.1) ∙ part.1 in record {
+    let there = held-there i.most i.groups.items i.held i.free slots c.self.invariant.0 n (begun-held (slot_at (slots_of slots) n) begun) in
+    let inside = begun-within i.most i.groups.items i.held i.free slots c.self.invariant.0 n begun in
+    let of : (there.0).group ≡ Some part.0 = sym (group-is i.most i.groups.items i.held i.free slots c.self.invariant.0 n there.0 there.0 there.1) ∙ part.1 in record {
       closed = closed;
       inside = inside;
       was = there.0;
@@ -85,7 +86,7 @@ known c =
       emptied-is = c.clear.ensures.cleared ∙ ap (λ s. option_map emptied s) (sym (tables.slot-is slots n c.index_mut.result.now None inside c.index_mut.ensures.value) ∙ there.1);
       group = part.0;
       of = of;
-      group-there = group-known i.most i.groups.items i.held i.free slots c.self.invariant n there.0 there.0 there.1 part.0 of;
+      group-there = group-known i.most i.groups.items i.held i.free slots c.self.invariant.0 n there.0 there.0 there.1 part.0 of;
       in-it = closed-in-from (states i.groups.items) (slots_of slots) part.0 n part.1 part.2;
       dead = sym (live-is slots n ∙ ap live_in there.1) ∙ subst (λ q. live_bytes_at q n ≡ 0) (sym c.self.view_is) c.requires.dead;
     }
@@ -101,10 +102,14 @@ invariant_of-self c =
     let w : g < length i.groups.items = subst (λ j. j < length i.groups.items) (sym mine) k.group-there in
     let f = c.index_mut-2.result.now in let there = group-there i.groups.items g f w c.index_mut-2.ensures.value in
     let same = states-kept i.groups.items g f c.unclose.new.group there w (ap (λ (x : GroupFields). x.state) c.unclose.ensures.group) in
-    subst (λ x. Fields i.most x i.held c.unclose.new.free (slice_set slots n c.clear.new.slot)) (ap (slice_set i.groups.items g) (sym c.unclose.ensures.group))
-    (subst (λ x. Fields i.most (slice_set i.groups.items g (record f { table = slice_set f.table n not_closed })) i.held x (slice_set slots n c.clear.new.slot)) (sym c.unclose.ensures.free)
-    (subst (λ s. Fields i.most (slice_set i.groups.items g (record f { table = slice_set f.table n not_closed })) i.held (slice_set i.free n true) (slice_set slots n s)) (sym k.emptied-is)
-    (frees-in i.most i.groups.items i.held i.free slots c.self.invariant n k.was (emptied k.was) k.is g f there w (subst (λ j. is_closed_in (states i.groups.items) (slots_of slots) j n ≡ true) (sym mine) k.in-it) k.dead refl refl)))
+    let alive : live_in_each (slice_set slots n c.clear.new.slot) ≡ live_in_each slots =
+    ap (λ s. live_in_each (slice_set slots n s)) k.emptied-is ∙ live-same slots n k.was (emptied k.was) k.is (live-unused (emptied k.was) refl ∙ sym k.dead) in (
+      subst (λ x. Fields i.most x i.held c.unclose.new.free (slice_set slots n c.clear.new.slot)) (ap (slice_set i.groups.items g) (sym c.unclose.ensures.group))
+          (subst (λ x. Fields i.most (slice_set i.groups.items g (record f { table = slice_set f.table n not_closed })) i.held x (slice_set slots n c.clear.new.slot)) (sym c.unclose.ensures.free)
+          (subst (λ s. Fields i.most (slice_set i.groups.items g (record f { table = slice_set f.table n not_closed })) i.held (slice_set i.free n true) (slice_set slots n s)) (sym k.emptied-is)
+          (frees-in i.most i.groups.items i.held i.free slots c.self.invariant.0 n k.was (emptied k.was) k.is g f there w (subst (λ j. is_closed_in (states i.groups.items) (slots_of slots) j n ≡ true) (sym mine) k.in-it) k.dead refl refl))),
+      total-same i.live (live_in_each slots) _ c.self.invariant.1 alive,
+    )
 
 pub returns-clause-is_free : goal.returns-clause-is_free
 returns-clause-is_free c =
@@ -162,7 +167,7 @@ returns-clause-left c h =
     elim (cases_Bool (is_number (active_in gs h) n)) [
       | inl like ↦ absurd (
           let now = number-is (active_in gs h) n like in let parts = closed-in-parts gs (slots_of slots) k.group n k.in-it in
-          let one : h ≡ k.group = active-of i.most i.groups.items i.held i.free (slots_of slots) (used_in_each slots) (live_in_each slots) c.self.invariant k.group h n parts.0 now in
+          let one : h ≡ k.group = active-of i.most i.groups.items i.held i.free (slots_of slots) (used_in_each slots) (live_in_each slots) c.self.invariant.0 k.group h n parts.0 now in
           let clash : false ≡ true = sym parts.1 ∙ subst (λ j. is_number (active_in gs j) n ≡ true) one like in cc)
       | inr unlike ↦ unlike
     ] in

@@ -9,10 +9,11 @@ use Rattle.regions.specs.Counts.{used_counts, live_counts, used_in_each, live_in
 use Rattle.regions.specs.Contents.{standing_at}
 use Rattle.regions.specs.declared.place.Place.{Place}
 use Rattle.regions.proofs.Tables as tables
-use Rattle.regions.proofs.Regions.{Fields, taken-in, nothing-emptied, nothing-less}
+use Rattle.regions.proofs.Regions.{Fields, taken-in, live-taken, nothing-emptied, nothing-less}
 use Rattle.regions.proofs.Members.{counted-change, says-held}
 use Rattle.regions.proofs.Emptied.{emptied-all, emptied-place, emptied-held, emptied-counts, emptied-less, emptied-used-each, emptied-live-each, emptied-long}
 use Rattle.regions.proofs.Sums.{sum-zeros}
+use Rattle.regions.proofs.Totals.{total-same}
 use Rattle.regions.proofs.region.Region.give_up.Goals as goal
 
 -- ---- where no segment is held
@@ -22,12 +23,12 @@ returns-in_err-number-clause-objects c p = subst (λ r. standing_at r p ≡ None
 
 pub returns-in_err-number-clause-used : goal.returns-in_err-number-clause-used
 returns-in_err-number-clause-used c =
-    let long = emptied-long c.args.self.now c.self.inside.slots.items c.self.inside.most (c.self.invariant).long (ap (λ q. q.segments) c.self.view_is) (ap (λ q. q.most) c.self.view_is) in
+    let long = emptied-long c.args.self.now c.self.inside.slots.items c.self.inside.most (c.self.invariant.0).long (ap (λ q. q.segments) c.self.view_is) (ap (λ q. q.most) c.self.view_is) in
     ap used_counts c.empty.ensures ∙ emptied-used-each c.args.self.now.segments ∙ ap (λ k. replicate k 0) long
 
 pub returns-in_err-number-clause-live : goal.returns-in_err-number-clause-live
 returns-in_err-number-clause-live c =
-    let long = emptied-long c.args.self.now c.self.inside.slots.items c.self.inside.most (c.self.invariant).long (ap (λ q. q.segments) c.self.view_is) (ap (λ q. q.most) c.self.view_is) in
+    let long = emptied-long c.args.self.now c.self.inside.slots.items c.self.inside.most (c.self.invariant.0).long (ap (λ q. q.segments) c.self.view_is) (ap (λ q. q.most) c.self.view_is) in
     ap live_counts c.empty.ensures ∙ emptied-live-each c.args.self.now.segments ∙ ap (λ k. replicate k 0) long
 
 pub returns-in_err-number-clause-live_total : goal.returns-in_err-number-clause-live_total
@@ -39,7 +40,7 @@ pub piece_of-requires : goal.piece_of-requires
 piece_of-requires c =
     let was = c.self.inside in let slots = c.self-2.inside.slots.items in let n = c.in_ok-number.number in
     let all : slots ≡ emptied-all was.slots.items = ap (λ q. q.segments) (c.self-2.view_is ∙ c.empty.ensures ∙ ap all_emptied (sym c.self.view_is)) in
-    let place = emptied-place was.slots.items slots was.held n all (c.self.invariant).held c.in_ok-number.ensures.greatest.0 in
+    let place = emptied-place was.slots.items slots was.held n all (c.self.invariant.0).held c.in_ok-number.ensures.greatest.0 in
     ap (λ s. is_free (option_map slot_of s)) (c.replace-taken.ensures.value ∙ sym (tables.slot-is slots n c.index_mut.result.now None place.0 c.index_mut.ensures.value)) ∙ place.1
 
 -- every segment is emptied, and the one with the number is on the piece
@@ -54,12 +55,12 @@ known : (c : goal.After-piece_of) → Known c
 known c =
     let was = c.self.inside in let slots = c.self-2.inside.slots.items in let n = c.in_ok-number.number in
     let all : slots ≡ emptied-all was.slots.items = ap (λ q. q.segments) (c.self-2.view_is ∙ c.empty.ensures ∙ ap all_emptied (sym c.self.view_is)) in
-    let place = emptied-place was.slots.items slots was.held n all (c.self.invariant).held c.in_ok-number.ensures.greatest.0 in record {
+    let place = emptied-place was.slots.items slots was.held n all (c.self.invariant.0).held c.in_ok-number.ensures.greatest.0 in record {
       all = all;
       inside = place.0;
       is = tables.slot-is slots n c.index_mut.result.now None place.0 c.index_mut.ensures.value ∙ sym c.replace-taken.ensures.value ∙ c.piece_of.ensures;
       rest = ap (slice_set slots n) c.replace-taken.ensures.after ∙ ap (λ s. slice_set s n None) all ∙ emptied-less was.slots.items n;
-      long = length-set was.slots.items n None ∙ sym (length-map was.slots.items (λ s. option_map slot_of s)) ∙ (c.self.invariant).long ∙ ap (λ q. q.most) c.self.view_is;
+      long = length-set was.slots.items n None ∙ sym (length-map was.slots.items (λ s. option_map slot_of s)) ∙ (c.self.invariant.0).long ∙ ap (λ q. q.most) c.self.view_is;
     }
 
 abbrev before : goal.After-piece_of → RegionState
@@ -71,14 +72,18 @@ after c = let i = c.self-2.inside in record { most = i.most; groups = states i.g
 pub invariant_of-self : goal.invariant_of-self
 invariant_of-self c =
     let i = c.self-2.inside in let slots = i.slots.items in let n = c.in_ok-number.number in let k = known c in let d = c.replace-taken.new.dest in
-    subst (λ h. Fields i.most i.groups.items h c.remove-2.new.self (slice_set slots n d)) (sym c.remove.ensures)
-    (subst (λ f. Fields i.most i.groups.items (slice_set i.held n false) f (slice_set slots n d)) (sym c.remove-2.ensures)
-    (subst (λ s. Fields i.most i.groups.items (slice_set i.held n false) (slice_set i.free n false) (slice_set slots n s)) (sym c.replace-taken.ensures.after)
-    (taken-in i.most i.groups.items i.held i.free slots c.self-2.invariant n (fresh c.piece_of.result) k.is refl refl)))
+    let same : live_in_each (slice_set slots n d) ≡ live_in_each slots =
+    ap (λ s. live_in_each (slice_set slots n s)) c.replace-taken.ensures.after ∙ live-taken slots n (fresh c.piece_of.result) k.is refl in (
+      subst (λ h. Fields i.most i.groups.items h c.remove-2.new.self (slice_set slots n d)) (sym c.remove.ensures)
+          (subst (λ f. Fields i.most i.groups.items (slice_set i.held n false) f (slice_set slots n d)) (sym c.remove-2.ensures)
+          (subst (λ s. Fields i.most i.groups.items (slice_set i.held n false) (slice_set i.free n false) (slice_set slots n s)) (sym c.replace-taken.ensures.after)
+          (taken-in i.most i.groups.items i.held i.free slots c.self-2.invariant.0 n (fresh c.piece_of.result) k.is refl refl))),
+      total-same i.live (live_in_each slots) _ c.self-2.invariant.1 same,
+    )
 
 pub returns-clause-given : goal.returns-clause-given
 returns-clause-given c =
-    let i = c.self.inside in let slots = i.slots.items in let n = c.in_ok-number.number in let v = c.self.invariant in let f = c.in_ok-number.ensures.greatest in let k = known c in
+    let i = c.self.inside in let slots = i.slots.items in let n = c.in_ok-number.number in let v = c.self.invariant.0 in let f = c.in_ok-number.ensures.greatest in let k = known c in
     let at = says-held slots i.held i.free v.held v.free in
     let greatest : IsGreatestHeld (before c) n = (sym (at n) ∙ f.0, λ m far h. (let clash : false ≡ true = sym (f.1 m far) ∙ at m ∙ h in cc)) in
     let now : after c ≡ all_emptied c.args.self.now = c.self-2.view_is ∙ c.empty.ensures in (

@@ -57,5 +57,5 @@ returns-clause-held c =
     let l = length-map i.groups.items (λ (f : GroupFields). f.state) in
     of-some c.group_in.result (λ g e.
     (let of : group_in (slot_at (slots_of slots) n) ≡ Some g = ap (λ q. group_of q n) c.self.view_is ∙ sym is ∙ e in
-    let w = of-within i.most i.groups.items i.held i.free (slots_of slots) (used_in_each slots) (live_in_each slots) c.self.invariant g n of in
+    let w = of-within i.most i.groups.items i.held i.free (slots_of slots) (used_in_each slots) (live_in_each slots) c.self.invariant.0 g n of in
     subst (λ q. HasGroup q g) c.self.view_is (omega (arith, w, l))))

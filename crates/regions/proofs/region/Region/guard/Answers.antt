@@ -23,9 +23,11 @@ guard-requires c =
 pub invariant_of-self : goal.invariant_of-self
 invariant_of-self c =
     let i = c.self.inside in let slots = i.slots.items in let g = c.args.group in let w = group-in i.most i.groups.items slots c.args.self.now g c.self.view_is c.requires.group in
-    let f = c.index_mut.result.now in let there = group-there i.groups.items g f w c.index_mut.ensures.value in
-    subst (λ x. Fields i.most (slice_set i.groups.items g x) i.held i.free slots) (sym c.guard.ensures)
-    (guarded i.most i.groups.items i.held i.free (slots_of slots) (used_in_each slots) (live_in_each slots) c.self.invariant g (f.state.guards + 1) f there w)
+    let f = c.index_mut.result.now in let there = group-there i.groups.items g f w c.index_mut.ensures.value in (
+      subst (λ x. Fields i.most (slice_set i.groups.items g x) i.held i.free slots) (sym c.guard.ensures)
+          (guarded i.most i.groups.items i.held i.free (slots_of slots) (used_in_each slots) (live_in_each slots) c.self.invariant.0 g (f.state.guards + 1) f there w),
+      c.self.invariant.1,
+    )
 
 pub returns-clause-guards : goal.returns-clause-guards
 returns-clause-guards c =

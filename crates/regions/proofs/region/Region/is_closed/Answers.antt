@@ -19,14 +19,14 @@ none-beyond (s ∷ ss) (suc n) w = none-beyond ss n (omega (arith, w))
 
 pub index-requires : goal.index-requires
 index-requires c =
-    let i = c.self.inside in let slots = i.slots.items in let n = c.args.segment in let v = c.self.invariant in
+    let i = c.self.inside in let slots = i.slots.items in let n = c.args.segment in let v = c.self.invariant.0 in
     let few : n < i.most = omega (arith, c.if-segment-self.false) in
     let k = v.long in let l = length-map slots (λ s. option_map slot_of s) in let inside : n < length slots = omega (arith, few, k, l) in
     search rules
 
 pub index-requires-in-Some : goal.index-requires-in-Some
 index-requires-in-Some c =
-    let i = c.self.inside in let slots = i.slots.items in let n = c.args.segment in let v = c.self.invariant in
+    let i = c.self.inside in let slots = i.slots.items in let n = c.args.segment in let v = c.self.invariant.0 in
     let few : n < i.most = omega (arith, c.if-segment-self.false) in
     let k = v.long in let l = length-map slots (λ s. option_map slot_of s) in let inside : n < length slots = omega (arith, few, k, l) in
     let at = tables.slot-is slots n c.index.result.now None inside c.index.ensures in
@@ -36,7 +36,7 @@ index-requires-in-Some c =
 
 pub returns-in-Some : goal.returns-in-Some
 returns-in-Some c =
-    let i = c.self.inside in let slots = i.slots.items in let n = c.args.segment in let v = c.self.invariant in
+    let i = c.self.inside in let slots = i.slots.items in let n = c.args.segment in let v = c.self.invariant.0 in
     let few : n < i.most = omega (arith, c.if-segment-self.false) in
     let k = v.long in let l = length-map slots (λ s. option_map slot_of s) in let inside : n < length slots = omega (arith, few, k, l) in
     let at = tables.slot-is slots n c.index.result.now None inside c.index.ensures in
@@ -49,7 +49,7 @@ returns-in-Some c =
 
 pub returns-in-None : goal.returns-in-None
 returns-in-None c =
-    let i = c.self.inside in let slots = i.slots.items in let n = c.args.segment in let v = c.self.invariant in
+    let i = c.self.inside in let slots = i.slots.items in let n = c.args.segment in let v = c.self.invariant.0 in
     let few : n < i.most = omega (arith, c.if-segment-self.false) in
     let k = v.long in let l = length-map slots (λ s. option_map slot_of s) in let inside : n < length slots = omega (arith, few, k, l) in
     let at = tables.slot-is slots n c.index.result.now None inside c.index.ensures in
@@ -58,6 +58,6 @@ returns-in-None c =
 
 pub returns-then-segment-self : goal.returns-then-segment-self
 returns-then-segment-self c =
-    let i = c.self.inside in let slots = i.slots.items in let n = c.args.segment in let v = c.self.invariant in let k = v.long in
+    let i = c.self.inside in let slots = i.slots.items in let n = c.args.segment in let v = c.self.invariant.0 in let k = v.long in
     let high : length (slots_of slots) ≤ n = omega (arith, k, c.if-segment-self.true) in
     ap (λ o. is_closed_of (states i.groups.items) o n) (sym (none-beyond (slots_of slots) n high)) ∙ ap (λ q. is_closed (shape q).groups (shape q).slots n) c.self.view_is

@@ -1,4 +1,4 @@
-use Rattle.std.proofs.Common.{rules, ◌≡◌, ◌<◌, length, arith, get_or, sym, ap, ◌∙◌, subst}
+use Rattle.std.proofs.Common.{rules, ◌≡◌, ◌-◌, ◌<◌, length, arith, get_or, sym, ap, ◌∙◌, subst}
 use Rattle.std.specs.Prelude.{None, Some, IsSome, IfSome, option_map, slice_set}
 use Rattle.std.proofs.lemmas.List.{length-map, length-set}
 use Rattle.regions.specs.Segments.{RegionState}
@@ -11,6 +11,7 @@ use Rattle.regions.proofs.Groups.{states-kept, lost-state}
 use Rattle.regions.proofs.Consistency.{enough-active, enough-closed}
 use Rattle.regions.proofs.Regions.{Fields, found-there, live-within, live-enough, begun-group, begun-read, group-is, group-known, group-there, killed-in, size-lost, changes-set}
 use Rattle.regions.proofs.Sums.{sum-lost}
+use Rattle.regions.proofs.Totals.{in-sum, total-less}
 use Rattle.regions.proofs.region.Region.kill.Goals as goal
 
 pub group_begun-group-requires : goal.group_begun-group-requires
@@ -27,7 +28,7 @@ index_mut-requires-2 c =
     let is = found-there slots n c.index_mut.result.now c.segment_mut.result.now (live-within slots n at alive) c.index_mut.ensures.value c.segment_mut.ensures.value in
     let g = c.group_begun-group.result in let h = c.segment_mut.result.now in
     let of : h.group ≡ Some g = begun-group slots n h c.kill-size.new.self c.index.result.now g (live-within slots n at alive) c.index.ensures c.group_begun-group.ensures e.slot in
-    let w = group-known i.most i.groups.items i.held i.free slots c.self.invariant n h h is g of in
+    let w = group-known i.most i.groups.items i.held i.free slots c.self.invariant.0 n h h is g of in
     search rules
 
 pub lose-requires-clause-active : goal.lose-requires-clause-active
@@ -37,10 +38,10 @@ lose-requires-clause-active c =
     let is = found-there slots n c.index_mut.result.now c.segment_mut.result.now (live-within slots n at alive) c.index_mut.ensures.value c.segment_mut.ensures.value in
     let g = c.group_begun-group.result in let h = c.segment_mut.result.now in
     let of : h.group ≡ Some g = begun-group slots n h c.kill-size.new.self c.index.result.now g (live-within slots n at alive) c.index.ensures c.group_begun-group.ensures e.slot in
-    let w = group-known i.most i.groups.items i.held i.free slots c.self.invariant n h h is g of in
+    let w = group-known i.most i.groups.items i.held i.free slots c.self.invariant.0 n h h is g of in
     let f = c.index_mut-2.result.now in let there = group-there i.groups.items g f w c.index_mut-2.ensures.value in
-    λ like. enough-active i.most i.groups.items i.held i.free _ _ (live_in_each slots) c.self.invariant g f there w n c.kill-size.result
-    (live-enough i.most i.groups.items i.held i.free slots c.self.invariant n h c.kill-size.new.self is c.kill-size.result e.live) like
+    λ like. enough-active i.most i.groups.items i.held i.free _ _ (live_in_each slots) c.self.invariant.0 g f there w n c.kill-size.result
+    (live-enough i.most i.groups.items i.held i.free slots c.self.invariant.0 n h c.kill-size.new.self is c.kill-size.result e.live) like
 
 pub lose-requires-clause-closed : goal.lose-requires-clause-closed
 lose-requires-clause-closed c =
@@ -49,11 +50,19 @@ lose-requires-clause-closed c =
     let is = found-there slots n c.index_mut.result.now c.segment_mut.result.now (live-within slots n at alive) c.index_mut.ensures.value c.segment_mut.ensures.value in
     let g = c.group_begun-group.result in let h = c.segment_mut.result.now in
     let of : h.group ≡ Some g = begun-group slots n h c.kill-size.new.self c.index.result.now g (live-within slots n at alive) c.index.ensures c.group_begun-group.ensures e.slot in
-    let w = group-known i.most i.groups.items i.held i.free slots c.self.invariant n h h is g of in
+    let w = group-known i.most i.groups.items i.held i.free slots c.self.invariant.0 n h h is g of in
     let f = c.index_mut-2.result.now in let there = group-there i.groups.items g f w c.index_mut-2.ensures.value in
-    λ unlike. enough-closed i.most i.groups.items i.held i.free _ _ (live_in_each slots) c.self.invariant g f there w n c.kill-size.result
-    (live-enough i.most i.groups.items i.held i.free slots c.self.invariant n h c.kill-size.new.self is c.kill-size.result e.live)
-    (group-is i.most i.groups.items i.held i.free slots c.self.invariant n h h is ∙ of) unlike
+    λ unlike. enough-closed i.most i.groups.items i.held i.free _ _ (live_in_each slots) c.self.invariant.0 g f there w n c.kill-size.result
+    (live-enough i.most i.groups.items i.held i.free slots c.self.invariant.0 n h c.kill-size.new.self is c.kill-size.result e.live)
+    (group-is i.most i.groups.items i.held i.free slots c.self.invariant.0 n h h is ∙ of) unlike
+
+pub overflow_sub-self : goal.overflow_sub-self
+overflow_sub-self c =
+    let i = c.self.inside in let slots = i.slots.items in let n = c.args.place.segment in let at = c.args.place.at in let h = c.segment_mut.result.now in
+    let alive : IsSome (item_if_live (standing_in (get_or slots n None) at)) = subst (λ r. IsSome (live_at r c.args.place)) (sym c.self.view_is) c.requires in
+    let is = found-there slots n c.index_mut.result.now h (live-within slots n at alive) c.index_mut.ensures.value c.segment_mut.ensures.value in
+    let enough = live-enough i.most i.groups.items i.held i.free slots c.self.invariant.0 n h c.kill-size.new.self is c.kill-size.result c.kill-size.ensures.live in
+    let most = in-sum (live_in_each slots) n in let sums = (c.self.invariant.1).summed in let from = c.from.ensures in omega (arith, enough, most, sums, from)
 
 pub invariant_of-self : goal.invariant_of-self
 invariant_of-self c =
@@ -62,10 +71,15 @@ invariant_of-self c =
     let is = found-there slots n c.index_mut.result.now c.segment_mut.result.now (live-within slots n at alive) c.index_mut.ensures.value c.segment_mut.ensures.value in
     let g = c.group_begun-group.result in let h = c.segment_mut.result.now in
     let of : h.group ≡ Some g = begun-group slots n h c.kill-size.new.self c.index.result.now g (live-within slots n at alive) c.index.ensures c.group_begun-group.ensures e.slot in
-    let w = group-known i.most i.groups.items i.held i.free slots c.self.invariant n h h is g of in
+    let w = group-known i.most i.groups.items i.held i.free slots c.self.invariant.0 n h h is g of in
     let f = c.index_mut-2.result.now in let there = group-there i.groups.items g f w c.index_mut-2.ensures.value in
-    subst (λ x. Fields i.most (slice_set i.groups.items g x) i.held i.free (slice_set slots n (Some c.kill-size.new.self))) (sym c.lose.ensures)
-    (killed-in i.most i.groups.items i.held i.free slots c.self.invariant n h c.kill-size.new.self is g c.kill-size.result f there w of e.slot e.used e.live)
+    let after = slice_set slots n (Some c.kill-size.new.self) in
+    let counted : n < length (live_in_each after) = (let l = length-map after live_in in let s = length-set slots n (Some c.kill-size.new.self) in let inside = live-within slots n at alive in omega (arith, l, s, inside)) in (
+      subst (λ x. Fields i.most (slice_set i.groups.items g x) i.held i.free (slice_set slots n (Some c.kill-size.new.self))) (sym c.lose.ensures)
+          (killed-in i.most i.groups.items i.held i.free slots c.self.invariant.0 n h c.kill-size.new.self is g c.kill-size.result f there w of e.slot e.used e.live),
+      total-less i.live (i.live - c.from.result) (live_in_each slots) (live_in_each after) n c.kill-size.result c.self.invariant.1 counted (live-minus slots n h c.kill-size.new.self is c.kill-size.result e.live)
+          (ap (λ k. i.live - k) c.from.ensures),
+    )
 
 pub returns-clause-killed : goal.returns-clause-killed
 returns-clause-killed c =
@@ -77,7 +91,7 @@ returns-clause-killed c =
     subst (λ s. ChangesIn at (option_map dead (standing_in s at)) s (Some c.kill-size.new.self)) (sym is) e.killed in
     let g = c.group_begun-group.result in let h = c.segment_mut.result.now in
     let of : h.group ≡ Some g = begun-group slots n h c.kill-size.new.self c.index.result.now g (live-within slots n at alive) c.index.ensures c.group_begun-group.ensures e.slot in
-    let w = group-known i.most i.groups.items i.held i.free slots c.self.invariant n h h is g of in
+    let w = group-known i.most i.groups.items i.held i.free slots c.self.invariant.0 n h h is g of in
     let f = c.index_mut-2.result.now in let there = group-there i.groups.items g f w c.index_mut-2.ensures.value in
     let same = states-kept i.groups.items g f c.lose.new.self there w (ap (λ (x : GroupFields). x.state) c.lose.ensures ∙ lost-state n c.kill-size.result f) in
     subst (λ q. ChangesAt c.args.place (option_map dead (standing_at q c.args.place)) q (record { most = i.most; groups = states (slice_set i.groups.items g c.lose.new.self); segments = slice_set slots n (Some c.kill-size.new.self) })) c.self.view_is
@@ -109,7 +123,7 @@ returns-clause-shape c =
     let r : RegionState = record { most = i.most; groups = states i.groups.items; segments = slots } in
     let g = c.group_begun-group.result in let h = c.segment_mut.result.now in
     let of : h.group ≡ Some g = begun-group slots n h c.kill-size.new.self c.index.result.now g (live-within slots n at alive) c.index.ensures c.group_begun-group.ensures e.slot in
-    let w = group-known i.most i.groups.items i.held i.free slots c.self.invariant n h h is g of in
+    let w = group-known i.most i.groups.items i.held i.free slots c.self.invariant.0 n h h is g of in
     let f = c.index_mut-2.result.now in let there = group-there i.groups.items g f w c.index_mut-2.ensures.value in
     let same = states-kept i.groups.items g f c.lose.new.self there w (ap (λ (x : GroupFields). x.state) c.lose.ensures ∙ lost-state n c.kill-size.result f) in
     ap (λ gs. shape (record { most = i.most; groups = gs; segments = slice_set slots n (Some c.kill-size.new.self) })) same

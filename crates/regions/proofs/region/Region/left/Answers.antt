@@ -17,11 +17,11 @@ now-active c =
     active-there i.groups.items g c.index.result.now c.active.result (group-there i.groups.items g c.index.result.now w c.index.ensures) c.active.ensures ∙ c.in-Some.is
 
 pub index-requires-2 : goal.index-requires-2
-index-requires-2 c = let i = c.self.inside in let w = active-within i.most i.groups.items i.held i.free i.slots.items c.self.invariant c.args.group c.in-Some.segment (now-active c) in search rules
+index-requires-2 c = let i = c.self.inside in let w = active-within i.most i.groups.items i.held i.free i.slots.items c.self.invariant.0 c.args.group c.in-Some.segment (now-active c) in search rules
 
 pub segment_in-requires : goal.segment_in-requires
 segment_in-requires c =
-    let i = c.self.inside in let slots = i.slots.items in let n = c.in-Some.segment in let v = c.self.invariant in
+    let i = c.self.inside in let slots = i.slots.items in let n = c.in-Some.segment in let v = c.self.invariant.0 in
     let g = c.args.group in let w = group-in i.most i.groups.items slots c.args.self.now g c.self.view_is c.requires in
     let now : active_in (states i.groups.items) g ≡ Some n = active-there i.groups.items g c.index.result.now c.active.result (group-there i.groups.items g c.index.result.now w c.index.ensures) c.active.ensures ∙ c.in-Some.is in
     let inside = active-within i.most i.groups.items i.held i.free slots v g n now in

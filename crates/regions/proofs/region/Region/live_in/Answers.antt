@@ -14,7 +14,7 @@ use Rattle.regions.proofs.region.Region.live_in.Goals as goal
 
 pub index-requires-in-Some : goal.index-requires-in-Some
 index-requires-in-Some c =
-    let i = c.self.inside in let slots = i.slots.items in let n = c.args.segment in let v = c.self.invariant in let g = c.in-Some.group in
+    let i = c.self.inside in let slots = i.slots.items in let n = c.args.segment in let v = c.self.invariant.0 in let g = c.in-Some.group in
     let held-is : is_held (slot_at (slots_of slots) n) ≡ true = subst (λ q. IsHeld q n) (sym c.self.view_is) c.requires in
     let low = held-within (slots_of slots) n held-is in let l = length-map slots (λ s. option_map slot_of s) in
     let inside : n < length slots = omega (arith, low, l) in
@@ -25,7 +25,7 @@ index-requires-in-Some c =
 
 pub live_in-requires : goal.live_in-requires
 live_in-requires c =
-    let i = c.self.inside in let slots = i.slots.items in let n = c.args.segment in let v = c.self.invariant in let g = c.in-Some.group in
+    let i = c.self.inside in let slots = i.slots.items in let n = c.args.segment in let v = c.self.invariant.0 in let g = c.in-Some.group in
     let held-is : is_held (slot_at (slots_of slots) n) ≡ true = subst (λ q. IsHeld q n) (sym c.self.view_is) c.requires in
     let low = held-within (slots_of slots) n held-is in let l = length-map slots (λ s. option_map slot_of s) in
     let inside : n < length slots = omega (arith, low, l) in
@@ -39,7 +39,7 @@ live_in-requires c =
 
 pub returns-in-Some : goal.returns-in-Some
 returns-in-Some c =
-    let i = c.self.inside in let slots = i.slots.items in let n = c.args.segment in let v = c.self.invariant in let g = c.in-Some.group in
+    let i = c.self.inside in let slots = i.slots.items in let n = c.args.segment in let v = c.self.invariant.0 in let g = c.in-Some.group in
     let held-is : is_held (slot_at (slots_of slots) n) ≡ true = subst (λ q. IsHeld q n) (sym c.self.view_is) c.requires in
     let low = held-within (slots_of slots) n held-is in let l = length-map slots (λ s. option_map slot_of s) in
     let inside : n < length slots = omega (arith, low, l) in

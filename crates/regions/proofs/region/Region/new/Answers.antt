@@ -2,9 +2,11 @@ use Rattle.std.proofs.Common.{[], ◌∷◌, ◌++◌, ◌≡◌, ℕ, Bool, fal
 use Rattle.std.specs.Prelude.{Option, None}
 use Rattle.std.proofs.lemmas.Result.{IfOk-from_err}
 use Rattle.regions.specs.Segments.{SegmentState, GroupState, RegionState, idle}
+use Rattle.regions.specs.Counts.{live_in_each}
 use Rattle.regions.specs.inside.Consistent.{states, unused}
 use Rattle.regions.proofs.Regions.{Fields, replicate-more}
 use Rattle.regions.proofs.Unused.{new-fields, new-states}
+use Rattle.regions.proofs.Totals.{none-live, total-zeros}
 use Rattle.regions.proofs.region.Region.new.Goals as goal
 
 all : (n most : ℕ) (items : List (Option SegmentState)) → items ≡ replicate n None → n ≡ most → items ≡ replicate most None
@@ -14,11 +16,14 @@ pub invariant_of-result : goal.invariant_of-result
 invariant_of-result c =
     let ends = c.loop-number.auto._number-end in let most = c.args.most in let groups = c.in_ok-new_groups.field-0 in let held = c.in_ok-new.field-0 in let free = c.in_ok-new-2.field-0 in let none : List Bool = replicate most false in
     let full : c.loop-number._number ≡ most = omega (arith, c.loop-number-test.false, ends) in
-    subst (λ g. Fields most g held free c.loop-number.slots.items) (sym c.in_ok-new_groups.ensures)
-    (subst (λ h. Fields most (replicate c.args.groups (unused most)) h free c.loop-number.slots.items) (sym c.in_ok-new.ensures)
-    (subst (λ f. Fields most (replicate c.args.groups (unused most)) none f c.loop-number.slots.items) (sym c.in_ok-new-2.ensures)
-    (subst (λ l. Fields most (replicate c.args.groups (unused most)) none none l) (sym (all c.loop-number._number most c.loop-number.slots.items c.loop-number.invariant full))
-    (new-fields most c.args.groups c.requires.most c.requires.groups.0 c.requires.groups.1))))
+    let none-in : c.loop-number.slots.items ≡ replicate most None = all c.loop-number._number most c.loop-number.slots.items c.loop-number.invariant full in (
+      subst (λ g. Fields most g held free c.loop-number.slots.items) (sym c.in_ok-new_groups.ensures)
+          (subst (λ h. Fields most (replicate c.args.groups (unused most)) h free c.loop-number.slots.items) (sym c.in_ok-new.ensures)
+          (subst (λ f. Fields most (replicate c.args.groups (unused most)) none f c.loop-number.slots.items) (sym c.in_ok-new-2.ensures)
+          (subst (λ l. Fields most (replicate c.args.groups (unused most)) none none l) (sym none-in)
+          (new-fields most c.args.groups c.requires.most c.requires.groups.0 c.requires.groups.1)))),
+      total-zeros most _ (ap live_in_each none-in ∙ none-live most),
+    )
 
 pub returns-in_err-slots : goal.returns-in_err-slots
 returns-in_err-slots c = IfOk-from_err c.from_residual.result _ c.from_residual.ensures.0

@@ -7,23 +7,24 @@ use Rattle.layout.specs.Sizes.{segment, greatest_object}
 use Rattle.regions.specs.Segments.{GroupState, RegionState, group_at}
 use Rattle.regions.specs.Shapes.{Shape, shape, slots_of, slot_at, group_in, active_in, is_free, is_number, is_closed_in, activated, active_of, IsClosedIn, IsLeastFree, free_count, held_count, pieces}
 use Rattle.regions.specs.inside.Consistent.{GroupFields, states, begun}
-use Rattle.regions.specs.Counts.{used_counts, live_counts, used_in_each, left, left_of}
+use Rattle.regions.specs.Counts.{used_counts, live_counts, used_in_each, live_in_each, left, left_of}
 use Rattle.regions.proofs.Tables as tables
 use Rattle.regions.proofs.Updates.{used-same, live-same}
 use Rattle.regions.proofs.Groups.{counted-as, closed-in-parts, other-number, active-at, states-at, active-here, active-other}
 use Rattle.regions.proofs.Regions.{Fields, activates-in, active-tabled, closed-now, free-group, group-in, group-is, group-there, live-unused, slots-activated, pieces-same, held-same, used-there}
 use Rattle.regions.proofs.Members.{counted-change, says-free, free-in, free-at, free-there}
+use Rattle.regions.proofs.Totals.{total-same}
 use Rattle.regions.proofs.region.Region.next_active.Goals as goal
 
 pub segment_mut-requires : goal.segment_mut-requires
 segment_mut-requires c =
-    let i = c.self.inside in let slots = i.slots.items in let n = c.least_of-number.result in let v = c.self.invariant in let f = c.least_of-number.ensures in
+    let i = c.self.inside in let slots = i.slots.items in let n = c.least_of-number.result in let v = c.self.invariant.0 in let f = c.least_of-number.ensures in
     subst (λ s. IsSome s) (tables.slot-is slots n c.index_mut.result.now None (free-in slots i.held i.free v.held v.free n f.0) c.index_mut.ensures.value)
     (free-there (get_or slots n None) (free-at slots i.held i.free v.held v.free n f.0))
 
 pub begin-requires : goal.begin-requires
 begin-requires c =
-    let i = c.self.inside in let slots = i.slots.items in let n = c.least_of-number.result in let v = c.self.invariant in let f = c.least_of-number.ensures in
+    let i = c.self.inside in let slots = i.slots.items in let n = c.least_of-number.result in let v = c.self.invariant.0 in let f = c.least_of-number.ensures in
     let inside = free-in slots i.held i.free v.held v.free n f.0 in
     free-group (get_or slots n None) c.segment_mut.result.now (tables.slot-is slots n c.index_mut.result.now None inside c.index_mut.ensures.value ∙ c.segment_mut.ensures.value) (free-at slots i.held i.free v.held v.free n f.0)
 
@@ -32,7 +33,7 @@ index_mut-requires-2 c = let i = c.self.inside in let w = group-in i.most i.grou
 
 pub begin-requires-2 : goal.begin-requires-2
 begin-requires-2 c =
-    let i = c.self.inside in let g = c.args.group in let v = c.self.invariant in
+    let i = c.self.inside in let g = c.args.group in let v = c.self.invariant.0 in
     let w = group-in i.most i.groups.items i.slots.items c.args.self.now g c.self.view_is c.requires.group in
     let f = c.index_mut-2.result.now in let there = group-there i.groups.items g f w c.index_mut-2.ensures.value in
     active-tabled i.most i.groups.items i.held i.free i.slots.items v g f there w
@@ -45,7 +46,7 @@ record Known (c : goal.After-self-2-1) : Type 0 where
 
 known : (c : goal.After-self-2-1) → Known c
 known c =
-    let i = c.self.inside in let slots = i.slots.items in let n = c.least_of-number.result in let v = c.self.invariant in let f = c.least_of-number.ensures in
+    let i = c.self.inside in let slots = i.slots.items in let n = c.least_of-number.result in let v = c.self.invariant.0 in let f = c.least_of-number.ensures in
     let inside = free-in slots i.held i.free v.held v.free n f.0 in
     let is : get_or slots n None ≡ Some c.segment_mut.result.now = tables.slot-is slots n c.index_mut.result.now None inside c.index_mut.ensures.value ∙ c.segment_mut.ensures.value in record {
       inside = inside;
@@ -65,9 +66,12 @@ invariant_of-self c =
     let full : IsSome f.state.active → left_of (used_in_each slots) f.state.active < greatest_object =
     subst (λ o. IsSome o → left_of (used_in_each slots) o < greatest_object) (active-at i.groups.items g ∙ ap (λ (x : GroupFields). x.state.active) there)
     (subst (λ q. IsSome (active_of q g) → left q g < greatest_object) (sym c.self.view_is) c.requires.full) in
-    subst (λ x. Fields i.most (slice_set i.groups.items g x) i.held c.remove.new.self (slice_set slots n (Some c.begin.new.self))) (sym c.begin-2.ensures)
-    (subst (λ x. Fields i.most (slice_set i.groups.items g (begun n f)) i.held x (slice_set slots n (Some c.begin.new.self))) (sym c.remove.ensures)
-    (activates-in i.most i.groups.items i.held i.free slots c.self.invariant n h c.begin.new.self k.is g f there w k.was e.slot e.unused.0 e.unused.1 full))
+    let same = live-same slots n h c.begin.new.self k.is (live-unused c.begin.new.self e.unused.1 ∙ sym (live-unused h e.unused.0)) in (
+      subst (λ x. Fields i.most (slice_set i.groups.items g x) i.held c.remove.new.self (slice_set slots n (Some c.begin.new.self))) (sym c.begin-2.ensures)
+          (subst (λ x. Fields i.most (slice_set i.groups.items g (begun n f)) i.held x (slice_set slots n (Some c.begin.new.self))) (sym c.remove.ensures)
+          (activates-in i.most i.groups.items i.held i.free slots c.self.invariant.0 n h c.begin.new.self k.is g f there w k.was e.slot e.unused.0 e.unused.1 full)),
+      total-same i.live (live_in_each slots) _ c.self.invariant.1 same,
+    )
 
 -- the groups afterwards
 abbrev after : goal.After-self-2-1 → List GroupState
@@ -91,7 +95,7 @@ after-here c =
 
 pub returns-clause-activated : goal.returns-clause-activated
 returns-clause-activated c =
-    let i = c.self.inside in let slots = i.slots.items in let n = c.least_of-number.result in let v = c.self.invariant in let f = c.least_of-number.ensures in let k = known c in
+    let i = c.self.inside in let slots = i.slots.items in let n = c.least_of-number.result in let v = c.self.invariant.0 in let f = c.least_of-number.ensures in let k = known c in
     let at = says-free slots i.held i.free v.held v.free in
     let least : IsLeastFree (before c) n = (sym (at n) ∙ f.0, λ m low g. (let clash : false ≡ true = sym (f.1 m low) ∙ at m ∙ g in cc)) in
     let shaped : shape (record { most = i.most; groups = after c; segments = slice_set slots n (Some c.begin.new.self) }) ≡ activated c.args.group n (shape (before c)) =
@@ -107,7 +111,7 @@ closed-after c h m of shut =
     let i = c.self.inside in let slots = i.slots.items in let n = c.least_of-number.result in let k = known c in let e = c.begin.ensures in let g = c.args.group in
     let w = group-in i.most i.groups.items slots c.args.self.now g c.self.view_is c.requires.group in
     let f = c.index_mut-2.result.now in let there = group-there i.groups.items g f w c.index_mut-2.ensures.value in
-    let far : m ≢ n = λ same. (let clash : None ≡ Some h = sym (group-is i.most i.groups.items i.held i.free slots c.self.invariant n c.segment_mut.result.now c.segment_mut.result.now k.is ∙ k.was) ∙ subst (λ j. group_in (slot_at (slots_of slots) j) ≡ Some h) same of in cc) in
+    let far : m ≢ n = λ same. (let clash : None ≡ Some h = sym (group-is i.most i.groups.items i.held i.free slots c.self.invariant.0 n c.segment_mut.result.now c.segment_mut.result.now k.is ∙ k.was) ∙ subst (λ j. group_in (slot_at (slots_of slots) j) ≡ Some h) same of in cc) in
     closed-now slots n c.segment_mut.result.now c.begin.new.self k.is (after c) h m of k.was
     (elim (cases_eq h g) [
       | inl mine ↦ other-number (active_in (after c) h) m n (subst (λ j. active_in (after c) j ≡ Some n) (sym mine) (after-here c)) far
@@ -124,7 +128,7 @@ pub returns-clause-ended : goal.returns-clause-ended
 returns-clause-ended c =
     let i = c.self.inside in let g = c.args.group in
     subst (λ o. IfSome o (λ m. is_closed_in (after c) (slots_of (slice_set i.slots.items c.least_of-number.result (Some c.begin.new.self))) g m ≡ true)) (ap (λ q. active_of q g) c.self.view_is)
-    (of-active (active_in (states i.groups.items) g) (λ m now. closed-after c g m ((c.self.invariant).active g m now) (λ away. absurd (away refl)))) where
+    (of-active (active_in (states i.groups.items) g) (λ m now. closed-after c g m ((c.self.invariant.0).active g m now) (λ away. absurd (away refl)))) where
       of-active : {P : ℕ → Type 0} (o : Option ℕ) → ((m : ℕ) → o ≡ Some m → P m) → IfSome o P
       of-active None all = tt
       of-active (Some m) all = all m refl

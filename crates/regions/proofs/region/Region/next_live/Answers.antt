@@ -19,7 +19,7 @@ the-segment c =
     let i = c.self.inside in let slots = i.slots.items in let n = c.args.segment in
     let shut : is_closed (states i.groups.items) (slots_of slots) n ≡ true = subst (λ q. IsClosed q n) (sym c.self.view_is) c.requires.closed in
     let part = closed-parts (states i.groups.items) (slots_of slots) n shut in
-    let inside = begun-within i.most i.groups.items i.held i.free slots c.self.invariant n (of-begun (slot_at (slots_of slots) n) part.0 part.1) in
+    let inside = begun-within i.most i.groups.items i.held i.free slots c.self.invariant.0 n (of-begun (slot_at (slots_of slots) n) part.0 part.1) in
     tables.slot-is slots n c.index.result.now None inside c.index.ensures ∙ c.segment_in.ensures
 
 pub returns-clause-skipped : goal.returns-clause-skipped

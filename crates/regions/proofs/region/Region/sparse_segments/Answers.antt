@@ -15,4 +15,4 @@ returns-clause-some c more =
     let i = c.self.inside in let slots = i.slots.items in let g = c.args.group in let w = group-in i.most i.groups.items slots c.args.self.now g c.self.view_is c.requires in
     let is = group-there i.groups.items g c.index.result.now w c.index.ensures in
     subst (λ q. (x : ℕ) × IsClosedIn q g x × (live_bytes_at q x ≤ dense)) c.self.view_is
-    (sparse-closed i.most i.groups.items i.held i.free slots c.self.invariant g w (λ e. more (c.sparse.ensures ∙ ap (λ (f : GroupFields). count_by is_sparse f.table) (sym is) ∙ e)))
+    (sparse-closed i.most i.groups.items i.held i.free slots c.self.invariant.0 g w (λ e. more (c.sparse.ensures ∙ ap (λ (f : GroupFields). count_by is_sparse f.table) (sym is) ∙ e)))

@@ -4,15 +4,16 @@ use Rattle.std.specs.List.{sum, count_by}
 use Rattle.regions.specs.Segments.{RegionState, segment_at, with_segment, fresh}
 use Rattle.regions.specs.inside.Consistent.{states}
 use Rattle.regions.specs.Shapes.{slots_of, slot_of, is_held, is_free, free_count, held_count, IsGreatestFree}
-use Rattle.regions.specs.Counts.{used_counts, live_counts}
+use Rattle.regions.specs.Counts.{used_counts, live_counts, live_in_each}
 use Rattle.regions.proofs.Tables as tables
 use Rattle.regions.proofs.Regions.{Fields, taken-in, used-taken, live-taken}
 use Rattle.regions.proofs.Members.{counted-change, says-free, free-in, free-at}
+use Rattle.regions.proofs.Totals.{total-same}
 use Rattle.regions.proofs.region.Region.take_free.Goals as goal
 
 pub piece_of-requires : goal.piece_of-requires
 piece_of-requires c =
-    let i = c.self.inside in let slots = i.slots.items in let n = c.greatest_of-number.result in let v = c.self.invariant in let f = c.greatest_of-number.ensures in
+    let i = c.self.inside in let slots = i.slots.items in let n = c.greatest_of-number.result in let v = c.self.invariant.0 in let f = c.greatest_of-number.ensures in
     let inside = free-in slots i.held i.free v.held v.free n f.0 in
     ap (λ s. is_free (option_map slot_of s)) (c.replace-taken.ensures.value ∙ sym (tables.slot-is slots n c.index_mut.result.now None inside c.index_mut.ensures.value)) ∙ free-at slots i.held i.free v.held v.free n f.0
 
@@ -23,7 +24,7 @@ record Known (c : goal.After-piece_of) : Type 0 where
 
 known : (c : goal.After-piece_of) → Known c
 known c =
-    let i = c.self.inside in let slots = i.slots.items in let n = c.greatest_of-number.result in let v = c.self.invariant in
+    let i = c.self.inside in let slots = i.slots.items in let n = c.greatest_of-number.result in let v = c.self.invariant.0 in
     let inside = free-in slots i.held i.free v.held v.free n c.greatest_of-number.ensures.0 in record {
       inside = inside;
       is = tables.slot-is slots n c.index_mut.result.now None inside c.index_mut.ensures.value ∙ sym c.replace-taken.ensures.value ∙ c.piece_of.ensures;
@@ -35,14 +36,18 @@ before c = let i = c.self.inside in record { most = i.most; groups = states i.gr
 pub invariant_of-self : goal.invariant_of-self
 invariant_of-self c =
     let i = c.self.inside in let slots = i.slots.items in let n = c.greatest_of-number.result in let k = known c in let d = c.replace-taken.new.dest in
-    subst (λ h. Fields i.most i.groups.items h c.remove-2.new.self (slice_set slots n d)) (sym c.remove.ensures)
-    (subst (λ f. Fields i.most i.groups.items (slice_set i.held n false) f (slice_set slots n d)) (sym c.remove-2.ensures)
-    (subst (λ s. Fields i.most i.groups.items (slice_set i.held n false) (slice_set i.free n false) (slice_set slots n s)) (sym c.replace-taken.ensures.after)
-    (taken-in i.most i.groups.items i.held i.free slots c.self.invariant n (fresh c.piece_of.result) k.is refl refl)))
+    let same : live_in_each (slice_set slots n d) ≡ live_in_each slots =
+    ap (λ s. live_in_each (slice_set slots n s)) c.replace-taken.ensures.after ∙ live-taken slots n (fresh c.piece_of.result) k.is refl in (
+      subst (λ h. Fields i.most i.groups.items h c.remove-2.new.self (slice_set slots n d)) (sym c.remove.ensures)
+          (subst (λ f. Fields i.most i.groups.items (slice_set i.held n false) f (slice_set slots n d)) (sym c.remove-2.ensures)
+          (subst (λ s. Fields i.most i.groups.items (slice_set i.held n false) (slice_set i.free n false) (slice_set slots n s)) (sym c.replace-taken.ensures.after)
+          (taken-in i.most i.groups.items i.held i.free slots c.self.invariant.0 n (fresh c.piece_of.result) k.is refl refl))),
+      total-same i.live (live_in_each slots) _ c.self.invariant.1 same,
+    )
 
 pub returns-clause-taken : goal.returns-clause-taken
 returns-clause-taken c =
-    let i = c.self.inside in let slots = i.slots.items in let n = c.greatest_of-number.result in let v = c.self.invariant in let f = c.greatest_of-number.ensures in let k = known c in
+    let i = c.self.inside in let slots = i.slots.items in let n = c.greatest_of-number.result in let v = c.self.invariant.0 in let f = c.greatest_of-number.ensures in let k = known c in
     let at = says-free slots i.held i.free v.held v.free in
     let greatest : IsGreatestFree (before c) n = (sym (at n) ∙ f.0, λ m far g. (let clash : false ≡ true = sym (f.1 m far) ∙ at m ∙ g in cc)) in (
       n,

@@ -1,31 +1,39 @@
-use Rattle.std.proofs.Common.{◌-◌, length, ap, subst, ◌∙◌, arith}
-use Rattle.regions.specs.Shapes.{guards_of}
+use Rattle.std.proofs.Common.{◌-◌, length, sym, ap, subst, ◌∙◌, arith}
+use Rattle.regions.specs.Shapes.{HasGroup, guards_of}
 use Rattle.row_cache.specs.Rows.{CacheState, rows_of, Stay}
 use Rattle.row_cache.proofs.Caches.{cache_kept, keeps_same, kept_reads, stays_kept}
-use Rattle.row_cache.proofs.OneGroup.{groups_guarded, guards_counted, has_group}
+use Rattle.row_cache.proofs.Groups.{groups_guarded, guards_counted, guards_elsewhere}
 use Rattle.row_cache.proofs.cache.RowCache.unguard.Goals as goal
 
 pub invariant_of-self : goal.invariant_of-self
 invariant_of-self c =
-    let r = c.self.inside.region in let s = c.unguard.new.self in
-    cache_kept c.self.inside.tables r s c.self.inside.live c.self.invariant (keeps_same r s (guards_of r 0 - 1) c.unguard.ensures.guards) c.unguard.ensures.live_total
-    (groups_guarded r s (guards_of r 0 - 1) c.unguard.ensures.guards)
+    let r = c.self.inside.region in let s = c.unguard.new.self in let g = c.args.group in
+    cache_kept c.self.inside.tables r s c.self.invariant (keeps_same r s g (guards_of r g - 1) c.unguard.ensures.guards) c.unguard.ensures.live_total
+    (groups_guarded r s g (guards_of r g - 1) c.unguard.ensures.guards)
 
 pub returns-clause-rows : goal.returns-clause-rows
 returns-clause-rows c =
-    let t = c.self.inside.tables in let r = c.self.inside.region in let s = c.unguard.new.self in
-    kept_reads r s (length t.places) t.ends.front (keeps_same r s (guards_of r 0 - 1) c.unguard.ensures.guards) ∙ ap rows_of c.self.view_is
+    let t = c.self.inside.tables in let r = c.self.inside.region in let s = c.unguard.new.self in let g = c.args.group in
+    kept_reads r s (length t.places) t.ends.front (keeps_same r s g (guards_of r g - 1) c.unguard.ensures.guards) ∙ ap rows_of c.self.view_is
 
-pub returns-clause-stay : goal.returns-clause-stay
-returns-clause-stay c =
-    let r = c.self.inside.region in let s = c.unguard.new.self in
-    subst (λ (x : CacheState). Stay x.region s) c.self.view_is (stays_kept r s (keeps_same r s (guards_of r 0 - 1) c.unguard.ensures.guards))
+pub returns-clause-keeps : goal.returns-clause-keeps
+returns-clause-keeps c =
+    let r = c.self.inside.region in let s = c.unguard.new.self in let g = c.args.group in
+    record {
+      room = ap (λ (x : CacheState). x.room) c.self.view_is;
+      stay = subst (λ (x : CacheState). Stay x.region s) c.self.view_is (stays_kept r s (keeps_same r s g (guards_of r g - 1) c.unguard.ensures.guards));
+    }
 
 pub unguard-requires-clause-group : goal.unguard-requires-clause-group
-unguard-requires-clause-group c = has_group c.self.inside.region c.self.invariant.one
+unguard-requires-clause-group c = subst (λ (x : CacheState). HasGroup x.region c.args.group) (sym c.self.view_is) c.requires.group
 
 pub returns-clause-count : goal.returns-clause-count
 returns-clause-count c =
-    let r = c.self.inside.region in
-    let fewer = guards_counted r c.unguard.new.self (guards_of r 0 - 1) c.self.invariant.one c.unguard.ensures.guards in
-    let same = ap (λ (x : CacheState). guards_of x.region 0) c.self.view_is in let some = c.requires in omega (arith, fewer, same, some)
+    let r = c.self.inside.region in let g = c.args.group in
+    let fewer = guards_counted r c.unguard.new.self g (guards_of r g - 1) (subst (λ (x : CacheState). HasGroup x.region g) (sym c.self.view_is) c.requires.group) c.unguard.ensures.guards in
+    let same = ap (λ (x : CacheState). guards_of x.region g) c.self.view_is in let some = c.requires.some in omega (arith, fewer, same, some)
+
+pub returns-clause-others : goal.returns-clause-others
+returns-clause-others c g far =
+    let r = c.self.inside.region in let h = c.args.group in
+    guards_elsewhere r c.unguard.new.self h (guards_of r h - 1) g far c.unguard.ensures.guards ∙ ap (λ (x : CacheState). guards_of x.region g) c.self.view_is

@@ -1,16 +1,15 @@
 use Rattle.std.proofs.Common.{◌≤◌, ◌⊎◌, inl, inr, refl, sym, subst}
 use Rattle.std.specs.Prelude.{IsSome}
-use Rattle.regions.specs.Shapes.{guards_of}
+use Rattle.regions.specs.Shapes.{guards_at}
 use Rattle.regions.specs.Contents.{live_at, standing_at}
 use Rattle.row_cache.specs.Rows.{CacheState}
-use Rattle.row_cache.proofs.OneGroup.{guards_there}
 use Rattle.row_cache.proofs.cache.RowCache.value_at.Goals as goal
 
 pub bytes-requires : goal.bytes-requires
 bytes-requires c =
     let r = c.self.inside.region in let p = c.args.place in let back = sym c.self.view_is in
     let stands : IsSome (standing_at r p) = (let x = c.requires.row in subst (λ (v : CacheState). IsSome (standing_at v.region p)) back (subst (λ o. IsSome o) (sym x.1.1) refl)) in
-    elim (subst (λ (v : CacheState). IsSome (live_at v.region p) ⊎ (1 ≤ guards_of v.region 0)) back c.requires.live) [
+    elim (subst (λ (v : CacheState). IsSome (live_at v.region p) ⊎ (1 ≤ guards_at v.region p.segment)) back c.requires.live) [
       | inl live ↦ inl live
-      | inr some ↦ (let g = c.facts.ensures.stands p stands in inr (subst (λ n. 1 ≤ n) (sym (guards_there r p.segment g.0 c.self.invariant.one g.1 g.2)) some, stands))
+      | inr some ↦ inr (some, stands)
     ]

@@ -1,8 +1,10 @@
-use Rattle.std.proofs.Common.{◌≡◌, ◌+◌, ◌-◌, ◌∷◌, ℕ, List, Some, map, sym, ap, subst, ◌∙◌, arith}
+use Rattle.std.proofs.Common.{◌≡◌, ◌+◌, ◌-◌, ◌∷◌, ℕ, List, Some, map, refl, sym, ap, subst, ◌∙◌, arith}
 use Rattle.std.specs.Prelude.{slice_get}
 use Rattle.common_lemmas.specs.Lists.{delete}
-use Rattle.rows.specs.Row.{Row}
+use Rattle.rows.specs.Row.{Row, size}
 use Rattle.regions.specs.Segments.{RegionState}
+use Rattle.regions.specs.Counts.{live_total}
+use Rattle.regions.specs.Shapes.{HasGroup}
 use Rattle.regions.specs.Contents.{live_at, size_of, Item}
 use Rattle.regions.specs.Stores.{Live}
 use Rattle.regions.specs.declared.place.Place.{Place}
@@ -11,19 +13,20 @@ use Rattle.row_cache.specs.inside.Chained.{IsLinkedBut, place_in}
 use Rattle.row_cache.specs.inside.Consistent.{IsConsistent, IsCounted, rows_with}
 use Rattle.row_bytes.specs.NewRows.{row_of}
 use Rattle.row_cache.specs.inside.Tables.{AreTablesOf, HoldsARow, IsListed, ReplacesRow, TableState}
-use Rattle.row_cache.proofs.Caches.{counted_relinked, counts_more, of_some, relinked_rows, rows_relinked, rows_replaced, consistent_replaced}
+use Rattle.row_cache.proofs.Caches.{counted_relinked, of_some, relinked_rows, rows_relinked, rows_replaced, consistent_replaced}
 use Rattle.row_cache.proofs.Kept.{chain_on, lacks_dead, same_past_both}
 use Rattle.row_cache.proofs.Numbered.{others_lack}
-use Rattle.row_cache.proofs.Relinked.{relinked_lives, relinked_stay, relinked_total, same_rows, stay_again}
+use Rattle.row_cache.proofs.Placed.{stays_same}
+use Rattle.row_cache.proofs.Relinked.{relinked_grouped, relinked_left, relinked_lives, relinked_stay, relinked_total, same_rows, stay_again}
 use Rattle.row_cache.proofs.States.{some_same}
 use Rattle.row_cache.specs.inside.Tables.{SwapsRow}
-use Rattle.row_cache.proofs.OneGroup.{has_group, one_kept}
+use Rattle.row_cache.proofs.Groups.{group_kept, has_group_for, some_kept}
 use Rattle.row_cache.proofs.cache.storing.replace_row.Goals as goal
 
 -- the tables once the row is unlinked
-counted : (t u : TableState) (r s : RegionState) (bytes : ℕ) → IsConsistent t r bytes → AreRelinked r s → AreTablesOf u (live_at s) → u ≡ record t { ends = u.ends } → IsCounted u s bytes
-counted t u r s bytes c same are state =
-    counted_relinked t u r s bytes c.counted same are (ap (λ (x : TableState). x.recency) state) (ap (λ (x : TableState). x.places) state)
+counted : (t u : TableState) (r s : RegionState) → IsConsistent t r → AreRelinked r s → AreTablesOf u (live_at s) → u ≡ record t { ends = u.ends } → IsCounted u s
+counted t u r s c same are state =
+    counted_relinked t u r s c.counted same are (ap (λ (x : TableState). x.recency) state) (ap (λ (x : TableState). x.places) state)
 
 listed_still : (t u : TableState) (n : ℕ) → u ≡ record t { ends = u.ends } → IsListed t n → IsListed u n
 listed_still t u n state l = subst (λ (x : TableState). IsListed x n) (sym state) l
@@ -72,16 +75,12 @@ replace-requires-clause-linked c =
     swapped_chain u (live_at c.unlink.new.region) (live_at c.swap_row.new.region) n c.place.result c.in-Ok.place (row_of c.args.row) e.tables
     (listed_still c.args.tables.now u n e.state c.requires.listed) c.place.ensures c.in-Ok.ensures.swapped e.linked
 
-pub overflow_add-live : goal.overflow_add-live
-overflow_add-live c =
-    let less = counts_more c.args.tables.now c.args.region.now c.args.live.now c.from.result c.args.row c.requires.consistent.counted c.requires.row (c.from.ensures ∙ c.row_size-size.ensures) in omega (arith, less)
-
 pub returns-clause-rows : goal.returns-clause-rows
 returns-clause-rows c =
     let t = c.args.tables.now in let u = c.unlink.new.self in let x = c.replace.new.self in let r = c.args.region.now in let m = c.unlink.new.region in let s = c.swap_row.new.region in
     let n = c.args.number in let e = c.unlink.ensures in let row : Row = row_of c.args.row in
     let made = replaces t u r m n c.place.result c.in-Ok.place row (live_at s) e.same e.state e.tables c.place.ensures c.in-Ok.ensures.swapped c.requires.key in
-    relinked_rows s c.replace.new.region x.places x.recency c.replace.ensures.same
+    relinked_rows s c.replace.new.region x.places x.recency c.replace.ensures.relinks.same
     ∙ (rows_replaced u x n c.in-Ok.place row (live_at m) (live_at s) made (listed_still t u n e.state c.requires.listed) c.replace.ensures.recency c.replace.ensures.places
     ∙ ap (λ (rs : List Row). row ∷ rs) (ap (λ ns. rows_with u m (delete n ns)) (ap (λ (y : TableState). y.recency) e.state)
     ∙ rows_relinked t u r m (delete n t.recency) e.same (ap (λ (y : TableState). y.places) e.state)))
@@ -90,30 +89,50 @@ pub returns-clause-consistent : goal.returns-clause-consistent
 returns-clause-consistent c =
     let t = c.args.tables.now in let u = c.unlink.new.self in let x = c.replace.new.self in let r = c.args.region.now in let m = c.unlink.new.region in let s = c.swap_row.new.region in
     let n = c.args.number in let e = c.unlink.ensures in let row : Row = row_of c.args.row in let did = c.in-Ok in let d = did.ensures in
-    let i = counted t u r m c.args.live.now c.requires.consistent e.same e.tables e.state in
+    let i = counted t u r m c.requires.consistent e.same e.tables e.state in
     let listed = listed_still t u n e.state c.requires.listed in
     let h = i.tables.rows n listed in
     let made = replaces t u r m n c.place.result did.place row (live_at s) e.same e.state e.tables c.place.ensures d.swapped c.requires.key in
     let here : live_at m c.place.result ≡ Some h.item = ap (live_at m) (some_same c.place.ensures h.placed) ∙ h.is_live in
-    let old_size : did.bytes ≡ size_of h.item = of_some (λ (item : Item). did.bytes ≡ size_of item) (live_at m c.place.result) h.item d.bytes here in
-    let rows = relinked_rows s c.replace.new.region x.places x.recency c.replace.ensures.same
+    let total = of_some (λ (item : Item). live_total s + size_of item ≡ live_total m + size c.args.row.key.now c.args.row.value.now) (live_at m c.place.result) h.item d.live here in
+    let rows = relinked_rows s c.replace.new.region x.places x.recency c.replace.ensures.relinks.same
     ∙ rows_replaced u x n did.place row (live_at m) (live_at s) made listed c.replace.ensures.recency c.replace.ensures.places in
-    let total = d.live in let more = relinked_total s c.replace.new.region c.replace.ensures.same in
-    let whole = i.counted in let size = c.row_size-size.ensures in let f1 = c.from.ensures in let f2 = c.from-2.ensures in
+    let more = relinked_total s c.replace.new.region c.replace.ensures.relinks.same in
     record {
-      counted = consistent_replaced u x m c.replace.new.region c.args.live.now (c.args.live.now + c.from.result - c.from-2.result) n row i listed c.replace.ensures.tables
-          rows (omega (arith, total, old_size, more)) (omega (arith, total, old_size, whole, size, f1, f2));
-      chain = c.replace.ensures.linked;
-      one = one_kept r c.replace.new.region (c.replace.ensures.same.shape ∙ (d.shape ∙ e.same.shape)) c.requires.consistent.one;
+      counted = consistent_replaced u x m c.replace.new.region n row i listed c.replace.ensures.relinks.tables
+          rows (omega (arith, total, more));
+      chain = c.replace.ensures.relinks.linked;
+      some = some_kept r c.replace.new.region (c.replace.ensures.relinks.same.shape ∙ (d.shape ∙ e.same.shape)) c.requires.consistent.some;
+      grouped = relinked_grouped s c.replace.new.region c.replace.ensures.relinks.same (d.grouped (relinked_grouped r m e.same c.requires.consistent.grouped));
     }
 
-pub returns-clause-stay : goal.returns-clause-stay
-returns-clause-stay c =
+pub returns-then-left-size-clause-keeps : goal.returns-then-left-size-clause-keeps
+returns-then-left-size-clause-keeps c = (let r = c.args.region.now in record { room = refl; shape = refl; stay = stays_same r r refl })
+
+pub returns-clause-keeps : goal.returns-clause-keeps
+returns-clause-keeps c =
     let r = c.args.region.now in let m = c.unlink.new.region in let s = c.swap_row.new.region in let x = c.replace.new.region in
-    stay_again r s x (stay_again r m s (relinked_stay r m c.unlink.ensures.same) c.in-Ok.ensures.stay) (relinked_stay s x c.replace.ensures.same)
+    let e = c.unlink.ensures in let d = c.in-Ok.ensures in let f = c.replace.ensures in
+    record {
+      room = f.room ∙ ap (λ (y : TableState). y.room) e.state;
+      shape = f.relinks.same.shape ∙ (d.shape ∙ e.same.shape);
+      stay = stay_again r s x (stay_again r m s (relinked_stay r m e.same) d.stay) (relinked_stay s x f.relinks.same);
+    }
 
 pub left-requires : goal.left-requires
-left-requires c = has_group c.args.region.now c.requires.consistent.one
+left-requires c =
+    let r = c.args.region.now in subst (λ g. HasGroup r g) (sym c.requires.group) (has_group_for r c.args.row.table c.requires.consistent.some)
 
-pub swap_row-requires-clause-one : goal.swap_row-requires-clause-one
-swap_row-requires-clause-one c = one_kept c.args.region.now c.unlink.new.region c.unlink.ensures.same.shape c.requires.consistent.one
+pub swap_row-requires-clause-some : goal.swap_row-requires-clause-some
+swap_row-requires-clause-some c = some_kept c.args.region.now c.unlink.new.region c.unlink.ensures.same.shape c.requires.consistent.some
+
+pub swap_row-requires-clause-group : goal.swap_row-requires-clause-group
+swap_row-requires-clause-group c =
+    c.requires.group ∙ sym (group_kept c.args.region.now c.unlink.new.region c.args.row.table c.unlink.ensures.same.shape)
+
+pub returns-clause-left : goal.returns-clause-left
+returns-clause-left c =
+    let before = relinked_left c.args.region.now c.unlink.new.region c.unlink.ensures.same c.args.group in
+    let after = relinked_left c.swap_row.new.region c.replace.new.region c.replace.ensures.relinks.same c.args.group in
+    let did = c.in-Ok.ensures.left in
+    omega (arith, before, after, did)

@@ -1,4 +1,4 @@
-use Rattle.std.proofs.Common.{ℕ, ◌∙◌, None, refl, subst, sym}
+use Rattle.std.proofs.Common.{ℕ, ◌∙◌, None, inl, inr, refl, subst, sym}
 use Rattle.shard_node.specs.declared.shard.Shard.{Shard}
 use Rattle.shard_node.specs.Links.{IsUnused}
 use Rattle.shard_node.proofs.Standing.Opened.{IsOpened, opens-consistent}
@@ -7,6 +7,13 @@ use Rattle.shard_node.proofs.Standing.OpenedStands.{opens-standing}
 use Rattle.shard_node.proofs.shard.Shard.open.Given.{Over}
 use Rattle.cache_lemmas.proofs.Laws.{issued_parts_are_counted-count, issued_parts_are_counted-peer}
 use Rattle.shard_node.proofs.shard.Shard.open.Goals as goal
+
+-- there is one region, or one for each table, for which the pages are enough
+pub open-requires-clause-regions : goal.open-requires-clause-regions
+open-requires-clause-regions g c = elim c.regions-regions.ensures.one_or_tables [
+  | inl one ↦ inl one
+  | inr each ↦ inr (each, c.requires.tables (sym c.regions-regions.ensures.value ∙ each))
+]
 
 -- the shard, of so many
 abbrev made_of : (g : Over) → goal.After-new-2 g → ℕ → Shard g.row.L.Denot g.row.G.Denot
@@ -39,6 +46,7 @@ opened_of g c = record {
   within = c.requires.within;
   of_shard = c.in-Ok-open.ensures.numbers.0;
   pages = c.in-Ok-open.ensures.numbers.1;
+  of_regions = c.in-Ok-open.ensures.regions ∙ c.regions-regions.ensures.value;
   unguarded = c.in-Ok-open.ensures.unguarded;
   longest = c.longest_value.ensures;
   rows = c.in-Ok-open.ensures.rows;

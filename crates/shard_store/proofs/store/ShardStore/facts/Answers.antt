@@ -1,6 +1,7 @@
-use Rattle.std.proofs.Common.{◌≡◌, ◌^◌, ◌<◌, ◌≤◌, length, subst}
+use Rattle.std.proofs.Common.{◌≡◌, ◌^◌, ◌<◌, ◌≤◌, length, refl, subst}
 use Rattle.layout.specs.Sizes.{tickets}
 use Rattle.layout.specs.Counts.{raised}
+use Rattle.regions.specs.Shapes.{group_count}
 use Rattle.shard_memory.specs.Tickets.{tickets_out}
 use Rattle.shard_store.specs.Stores.{StoreState}
 use Rattle.shard_store.proofs.store.ShardStore.facts.Goals as goal
@@ -19,3 +20,6 @@ returns-clause-lends c = subst (λ (s : StoreState). s.lends ≡ raised s.backs 
 
 pub returns-clause-backs : goal.returns-clause-backs
 returns-clause-backs c = subst (λ (s : StoreState). s.backs < 2 ^ 64) c.self.view_is c.self.invariant.made.counted.backs
+
+pub returns-clause-regions : goal.returns-clause-regions
+returns-clause-regions c = subst (λ (s : StoreState). group_count s.region ≡ s.regions) c.self.view_is refl

@@ -10,7 +10,7 @@ use Rattle.shardcache_tests.proofs.trace_run_tests.scheduled.run_into.Goals as g
 pub follow-requires-clause-standing : goal.follow-requires-clause-standing
 follow-requires-clause-standing c =
     subst (All (InStanding traffic_of)) (sym c.as_mut_slice.ensures.value)
-    (all-standing (trace_in c.args.trace.now) c.args.trace.now.shards 1280 c.args.homes.now c.in-Ok.nodes.items c.in-Ok.ensures.opened)
+    (all-standing (trace_in c.args.trace.now) c.args.trace.now.shards 1536 c.args.homes.now c.in-Ok.nodes.items c.in-Ok.ensures.opened)
 
 pub finish_run-requires-clause-driven : goal.finish_run-requires-clause-driven
 finish_run-requires-clause-driven c = (

@@ -8,7 +8,7 @@ use Rattle.trace_text.specs.Parsed.{trace_in}
 use Rattle.rows.specs.Operation.{is_scan}
 use Rattle.trace_text.specs.Parts.{most_shards, own_parts}
 use Rattle.trace_text.specs.PartCounts.{here_parts, reply_bytes}
-use Rattle.trace_text.specs.Reading.{most_replies}
+use Rattle.trace_text.specs.Reading.{most_replies, version_in}
 use Rattle.trace_text.specs.Trace.{trace_with}
 use Rattle.trace_text.specs.inside.Routes.{AreIssued, AreOwned}
 use Rattle.trace_text.specs.inside.ShardCounts.{slot}
@@ -95,7 +95,7 @@ here : (c : goal.After-longest_value)
     → c.other_than_scans-2.result + c.scans-scans.result ≡ here_parts (trace_in c.args.self.now) c.args.shards c.args.shard
 here c =
     let inside = c.self.inside in
-    let trace = trace_with (operations inside.bytes.items inside.commands) in
+    let trace = trace_with (version_in inside.bytes.items) (operations inside.bytes.items inside.commands) in
     let scans = c.scans-scans.ensures.value ∙ count_in inside.bytes.items (λ o. is_scan o.kind) inside.commands in
     rw (c.requires.parsed_for, ← c.self.view_is, c.other_than_scans-2.ensures, scans)
     (here_parts_are trace inside.shards c.args.shard _ c.self.invariant.owned_are)
